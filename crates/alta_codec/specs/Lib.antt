@@ -1,0 +1,4 @@
+pub mod Faults
+pub mod Name
+pub mod Order
+pub mod Rising
