@@ -8,6 +8,8 @@ mod failed;
 mod location;
 mod name;
 mod steps;
+#[cfg(test)]
+mod tests;
 mod text;
 
 pub use bytes::Bytes;
