@@ -1,0 +1,55 @@
+-- Laws of transcripts: what was given and taken in one that goes on.
+use Rattle.std.proofs.Common.{◌≡◌, ℕ, List, [], ◌∷◌, ◌++◌, Option, Some, None, refl, ap, sym, ◌∙◌, append_assoc, append-nil}
+use Rattle.std.specs.Option.{option_map}
+use Rattle.alta_console.specs.declared.event.Event.{Event}
+use Rattle.alta_console.specs.declared.event.Event.TheVariants.{Taken, Ended, Given}
+use Rattle.alta_console.specs.Transcript.{given_in, taken_in, Grows, Consumes}
+
+pub given_in_append : (xs ys : List Event) → given_in (xs ++ ys) ≡ given_in xs ++ given_in ys
+given_in_append [] ys = refl
+given_in_append (Taken piece ∷ xs) ys = given_in_append xs ys
+given_in_append (Ended ∷ xs) ys = given_in_append xs ys
+given_in_append (Given piece ∷ xs) ys = ap (λ (l : List ℕ). piece ++ l) (given_in_append xs ys) ∙ sym (append_assoc piece (given_in xs) (given_in ys))
+
+pub taken_in_append : (xs ys : List Event) → taken_in (xs ++ ys) ≡ taken_in xs ++ taken_in ys
+taken_in_append [] ys = refl
+taken_in_append (Given piece ∷ xs) ys = taken_in_append xs ys
+taken_in_append (Ended ∷ xs) ys = taken_in_append xs ys
+taken_in_append (Taken piece ∷ xs) ys = ap (λ (l : List ℕ). piece ++ l) (taken_in_append xs ys) ∙ sym (append_assoc piece (taken_in xs) (taken_in ys))
+
+-- what one more event adds to what was given, and to what was taken
+pub given_in_given : (run : List Event) (piece : List ℕ) → given_in (run ++ Given piece ∷ []) ≡ given_in run ++ piece
+given_in_given run piece = given_in_append run (Given piece ∷ []) ∙ ap (λ (l : List ℕ). given_in run ++ l) (append-nil piece)
+
+pub given_in_taken : (run : List Event) (piece : List ℕ) → given_in (run ++ Taken piece ∷ []) ≡ given_in run
+given_in_taken run piece = given_in_append run (Taken piece ∷ []) ∙ append-nil (given_in run)
+
+pub given_in_ended : (run : List Event) → given_in (run ++ Ended ∷ []) ≡ given_in run
+given_in_ended run = given_in_append run (Ended ∷ []) ∙ append-nil (given_in run)
+
+pub taken_in_taken : (run : List Event) (piece : List ℕ) → taken_in (run ++ Taken piece ∷ []) ≡ taken_in run ++ piece
+taken_in_taken run piece = taken_in_append run (Taken piece ∷ []) ∙ ap (λ (l : List ℕ). taken_in run ++ l) (append-nil piece)
+
+pub taken_in_given : (run : List Event) (piece : List ℕ) → taken_in (run ++ Given piece ∷ []) ≡ taken_in run
+taken_in_given run piece = taken_in_append run (Given piece ∷ []) ∙ append-nil (taken_in run)
+
+pub taken_in_ended : (run : List Event) → taken_in (run ++ Ended ∷ []) ≡ taken_in run
+taken_in_ended run = taken_in_append run (Ended ∷ []) ∙ append-nil (taken_in run)
+
+-- a transcript goes on by no event, and by two runs
+pub grows_none : (told : Option (List Event)) → Grows told told []
+grows_none None = refl
+grows_none (Some events) = ap Some (sym (append-nil events))
+
+pub grows_on : (a b c : Option (List Event)) (xs ys : List Event) → Grows a b xs → Grows b c ys → Grows a c (xs ++ ys)
+grows_on None b c xs ys p q = q ∙ ap (λ (o : Option (List Event)). option_map (λ (told : List Event). told ++ ys) o) p
+grows_on (Some old) b c xs ys p q = (q ∙ ap (λ (o : Option (List Event)). option_map (λ (told : List Event). told ++ ys) o) p) ∙ ap Some (append_assoc old xs ys)
+
+-- an input is consumed by no byte, and by two pieces
+pub consumes_none : (left : Option (List ℕ)) → Consumes left left []
+consumes_none None = refl
+consumes_none (Some bytes) = refl
+
+pub consumes_on : (a b c : Option (List ℕ)) (xs ys : List ℕ) → Consumes a b xs → Consumes b c ys → Consumes a c (xs ++ ys)
+consumes_on a b None xs ys p q = p ∙ ap (λ (o : Option (List ℕ)). option_map (λ (left : List ℕ). xs ++ left) o) q
+consumes_on a b (Some rest) xs ys p q = (p ∙ ap (λ (o : Option (List ℕ)). option_map (λ (left : List ℕ). xs ++ left) o) q) ∙ ap Some (sym (append_assoc xs ys rest))
