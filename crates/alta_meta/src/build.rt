@@ -1,0 +1,115 @@
+// The cells of a document.
+ghost use Rattle.std.specs.Prelude.{◌≡◌, ◌↔◌, ◌∷◌, [], ◌++◌, map, IfOk, OnOk, Err};
+ghost use Rattle.alta_codec.specs.Name.{IsName};
+ghost use Rattle.alta_meta.specs.Cells.{cells_of, word_cell};
+ghost use Rattle.alta_text.specs.Words.{folded_of, words_of};
+
+use crate::cell::Cell;
+use crate::kinds::{DOCUMENT_END, NAME, START, TITLE_END, WORD, WORD_LIMIT, WRITTEN};
+use alta_codec::{Bytes, name_ok};
+use alta_text::put_folded;
+use std::alloc::{AllocError, Global};
+use unicode_segmentation::UnicodeSegmentation;
+
+/// Why a document has no cells.
+#[derive(Clone, Copy, Debug, PartialEq, Eq)]
+pub enum MetaFault {
+    /// The name isn't one by [`name_ok`].
+    BadName,
+    /// Memory was wanting.
+    Memory,
+}
+
+impl From<AllocError> for MetaFault {
+    ghost use Rattle.alta_meta.specs.declared.build.MetaFault.TheVariants.{Memory};
+
+    ghost from_gives = { λ _ fault. fault ≡ Memory };
+
+    fn from(_: AllocError) -> MetaFault {
+        MetaFault::Memory
+    }
+}
+
+/// The cells of a document with this name, title and body: those of the name, of each word of the title, of the
+/// title's end, of each word of the body, and of the document's end.
+pub fn cells(alloc: Global, name: &str, title: &str, body: &str) -> Result<Vec<Cell>, MetaFault>
+    ensures value { IfOk result (λ all. all.items ≡ cells_of name.now title.now body.now) }
+    ensures bad_name { (result ≡ Err MetaFault.BadName) ↔ ¬ (IsName name.now) }
+{
+    if !name_ok(name.as_bytes()) {
+        return Err(MetaFault::BadName);
+    }
+    Ok(document_cells(alloc, name, title, body)?)
+}
+
+fn document_cells(
+    alloc: Global,
+    name: &str,
+    title: &str,
+    body: &str,
+) -> Result<Vec<Cell>, AllocError>
+    ensures { IfOk result (λ all. all.items ≡ cells_of name.now title.now body.now) }
+{
+    let mut all = Vec::new(alloc);
+    let first = Cell::two(term(alloc, NAME, name)?, term(alloc, START, "")?);
+    all.push(first)?;
+    put_words(alloc, &mut all, title)?;
+    let title_end = Cell::one(term(alloc, TITLE_END, "")?);
+    all.push(title_end)?;
+    put_words(alloc, &mut all, body)?;
+    let document_end = Cell::one(term(alloc, DOCUMENT_END, "")?);
+    all.push(document_end)?;
+    Ok(all)
+}
+
+/// The term of a kind with the rest behind it.
+fn term(alloc: Global, kind: u8, rest: &str) -> Result<Bytes, AllocError>
+    ensures { IfOk result (λ term. term ≡ kind ∷ rest.now) }
+{
+    let mut bytes = Vec::with_capacity(alloc, 1 + rest.len())?;
+    bytes.push(kind)?;
+    bytes.extend_from_slice(rest.as_bytes())?;
+    Ok(Bytes::from_vec(bytes))
+}
+
+/// The term of a word's folding.
+fn folded_term(alloc: Global, written: &str) -> Result<Bytes, AllocError>
+    ensures { IfOk result (λ term. term ≡ WORD ∷ folded_of written.now) }
+{
+    let mut bytes = Vec::with_capacity(alloc, 1 + written.len())?;
+    bytes.push(WORD)?;
+    put_folded(&mut bytes, written)?;
+    Ok(Bytes::from_vec(bytes))
+}
+
+/// Adds a cell for each word of the text.
+fn put_words(alloc: Global, all: &mut Vec<Cell>, text: &str) -> Result<(), AllocError>
+    ensures { OnOk result (all.new.items ≡ all.old.items ++ map word_cell (words_of text.now)) }
+{
+    for written in text.unicode_words() {
+        let cell = cell_of(alloc, written)?;
+        all.push(cell)?;
+    }
+    Ok(())
+}
+
+/// The cell of a word.
+fn cell_of(alloc: Global, written: &str) -> Result<Cell, AllocError>
+    ensures { IfOk result (λ cell. cell ≡ word_cell (written.now, folded_of written.now)) }
+{
+    if written.len() > WORD_LIMIT {
+        return Ok(Cell::empty());
+    }
+    let folding = folded_term(alloc, written)?;
+    let Some((_, folded)) = folding.as_slice().split_first() else {
+        return Ok(Cell::empty());
+    };
+    if folded.len() > WORD_LIMIT {
+        return Ok(Cell::empty());
+    }
+    if written.as_bytes() == folded {
+        return Ok(Cell::one(folding));
+    }
+    let spelling = term(alloc, WRITTEN, written)?;
+    Ok(Cell::two(folding, spelling))
+}

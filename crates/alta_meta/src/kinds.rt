@@ -1,0 +1,22 @@
+//! The kinds of terms, each the first byte of its terms, and how long a word may be.
+
+/// The kind of a word's term: the folding follows.
+pub const WORD: u8 = b'W';
+
+/// The kind of the term of a word as written, where that is not its folding: the spelling follows.
+pub const WRITTEN: u8 = b'X';
+
+/// The kind of the term of a document's name: the name follows.
+pub const NAME: u8 = b'N';
+
+/// The term at a document's first cell.
+pub const START: u8 = b'S';
+
+/// The term at the cell behind the title.
+pub const TITLE_END: u8 = b'T';
+
+/// The term at a document's last cell.
+pub const DOCUMENT_END: u8 = b'D';
+
+/// How many bytes a word may have, as written and as folded. The cell of a longer word is empty.
+pub const WORD_LIMIT: usize = 128;

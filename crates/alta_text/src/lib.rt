@@ -1,0 +1,10 @@
+//! The words of a text, with their spans and their foldings.
+#![tactic(auto)]
+
+mod folding;
+#[cfg(test)]
+mod tests;
+mod word;
+
+pub use folding::{folded, put_folded};
+pub use word::{Word, words};
