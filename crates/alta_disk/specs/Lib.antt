@@ -1,0 +1,10 @@
+pub mod Disk
+pub mod Fuse
+pub mod Images
+pub mod InOrder
+pub mod Media
+pub mod MediaLaws
+pub mod Memory
+pub mod Parts
+pub mod Untold
+pub mod Writes

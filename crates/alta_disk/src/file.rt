@@ -1,0 +1,207 @@
+// A disk over a real file, of which only the counts and the limit are told.
+ghost use Rattle.std.specs.Prelude.{◌≡◌, ◌≤◌, ◌+◌, ◌-◌, ◌^◌, min, length, IfOk, OnOk};
+ghost use Rattle.alta_codec.specs.Faults.{Rose, HasCause};
+ghost use Rattle.alta_disk.specs.Disk.{Same, Passes};
+ghost use Rattle.alta_disk.specs.Untold.{untold, untold_lawful};
+
+use crate::{Disk, Failed};
+use alta_codec::Text;
+use std::fs::{File, OpenOptions};
+use std::io;
+use std::io::ErrorKind;
+use std::os::unix::fs::FileExt;
+use std::path::Path;
+use std::rt::Files;
+
+const FILE_LIMIT: u64 = 1 << 40;
+
+/// A file as a disk, of at most 2^40 bytes. It is opened at the first call, and made where it is missing; its folder
+/// is then synced once, so that a stop does not lose the new file.
+///
+/// A call fails where the file can't be opened, where it is longer than the limit, where a read ends early, where a
+/// write takes nothing, and at each other error of the system. Without a path every call fails.
+#[derive(Drop)]
+pub struct FileDisk<R: Files<File = File> + Drop> {
+    rt: R,
+    path: Option<Text>,
+    file: Option<File>,
+    // the file was made, and its folder is not yet synced
+    made: bool,
+    faults: u64,
+    taken: u64,
+}
+
+impl<R: Files<File = File> + Drop> FileDisk<R> {
+    /// A disk over the file at this path. Nothing is opened yet.
+    pub fn new(rt: R, path: Option<Text>) -> FileDisk<R>
+        ensures faults { (⟦<FileDisk<R> as Disk>⟧.state result).faults ≡ 0 }
+        ensures taken { (⟦<FileDisk<R> as Disk>⟧.state result).taken ≡ 0 }
+    {
+        FileDisk {
+            rt,
+            path,
+            file: None,
+            made: false,
+            faults: 0,
+            taken: 0,
+        }
+    }
+
+    // The open file, which the first call opens.
+    fn open(&mut self) -> io::Result<()>
+        ensures faults { self.new.faults ≡ self.old.faults }
+        ensures taken { self.new.taken ≡ self.old.taken }
+    {
+        if self.file.is_some() {
+            return Ok(());
+        }
+        let Some(path) = &self.path else {
+            return Err(ErrorKind::NotFound.into());
+        };
+        let file = match open_file(&self.rt, path, false) {
+            Err(error) if error.kind() == ErrorKind::NotFound => {
+                let made = open_file(&self.rt, path, true)?;
+                self.made = true;
+                made
+            }
+            opened => opened?,
+        };
+        if self.made {
+            sync_folder(&self.rt, path)?;
+            self.made = false;
+        }
+        length_within(&file)?;
+        self.file = Some(file);
+        Ok(())
+    }
+
+    fn try_len(&mut self) -> io::Result<u64>
+        ensures within { IfOk result (λ n. n ≤ 2 ^ 40) }
+        ensures faults { self.new.faults ≡ self.old.faults }
+        ensures taken { self.new.taken ≡ self.old.taken }
+    {
+        self.open()?;
+        let Some(file) = &self.file else {
+            return Err(ErrorKind::NotFound.into());
+        };
+        length_within(file)
+    }
+
+    fn try_read(&mut self, at: u64, buf: &mut [u8]) -> io::Result<()>
+        ensures faults { self.new.faults ≡ self.old.faults }
+        ensures taken { self.new.taken ≡ self.old.taken }
+    {
+        self.open()?;
+        let Some(file) = &self.file else {
+            return Err(ErrorKind::NotFound.into());
+        };
+        file.read_exact_at(buf, at)
+    }
+
+    fn try_write(&mut self, at: u64, bytes: &[u8]) -> io::Result<()>
+        ensures faults { self.new.faults ≡ self.old.faults }
+        ensures taken { self.new.taken ≡ self.old.taken }
+    {
+        self.open()?;
+        let Some(file) = &self.file else {
+            return Err(ErrorKind::NotFound.into());
+        };
+        file.write_all_at(bytes, at)
+    }
+
+    fn try_sync(&mut self) -> io::Result<()>
+        ensures faults { self.new.faults ≡ self.old.faults }
+        ensures taken { self.new.taken ≡ self.old.taken }
+    {
+        self.open()?;
+        let Some(file) = &self.file else {
+            return Err(ErrorKind::NotFound.into());
+        };
+        file.sync_data()
+    }
+
+    fn count_fault(&mut self) -> Failed
+        ensures rose { Rose self.old.faults self.new.faults }
+        ensures later { self.old.faults ≤ self.new.faults }
+        ensures taken { self.new.taken ≡ self.old.taken }
+    {
+        self.faults = self.faults.saturating_add(1);
+        Failed
+    }
+}
+
+fn open_file<R: Files<File = File>>(rt: &R, path: &Text, create: bool) -> io::Result<File> {
+    OpenOptions::new()
+        .read(true)
+        .write(true)
+        .create(create)
+        .open(rt, path.as_str())
+}
+
+// Makes the name of a new file outlast a stop.
+fn sync_folder<R: Files<File = File>>(rt: &R, path: &Text) -> io::Result<()> {
+    let folder = match Path::new(path.as_str()).parent() {
+        Some(folder) if folder.as_str() != "" => folder,
+        _ => Path::new("."),
+    };
+    File::open(rt, folder)?.sync_all()
+}
+
+// The length of a file that is no longer than the limit.
+fn length_within(file: &File) -> io::Result<u64>
+    ensures { IfOk result (λ n. n ≤ 2 ^ 40) }
+{
+    let n = file.metadata()?.len();
+    if n > FILE_LIMIT {
+        return Err(ErrorKind::FileTooLarge.into());
+    }
+    Ok(n)
+}
+
+impl<R: Files<File = File> + Drop> Disk for FileDisk<R> {
+    ghost tells = { ⊥ };
+
+    ghost state = { λ d. untold d.faults d.taken (2 ^ 40) };
+
+    ghost lawful = { λ d. untold_lawful d.faults d.taken (2 ^ 40) };
+
+    fn len(&mut self) -> Result<u64, Failed> {
+        match self.try_len() {
+            Ok(n) => Ok(n),
+            Err(_) => Err(self.count_fault()),
+        }
+    }
+
+    fn read(&mut self, at: u64, buf: &mut [u8]) -> Result<(), Failed>
+        ensures counted { OnOk result ((⟦<FileDisk<R> as Disk>⟧.state self.new).taken ≡ min ((⟦<FileDisk<R> as Disk>⟧.state self.old).taken + length buf.old) (2 ^ 64 - 1)) }
+        ensures cause { HasCause (⟦<FileDisk<R> as Disk>⟧.state self.old).faults (⟦<FileDisk<R> as Disk>⟧.state self.new).faults result }
+        ensures taken { ((⟦<FileDisk<R> as Disk>⟧.state self.old).taken ≤ (⟦<FileDisk<R> as Disk>⟧.state self.new).taken)
+            × ((⟦<FileDisk<R> as Disk>⟧.state self.new).taken ≤ (⟦<FileDisk<R> as Disk>⟧.state self.old).taken + length buf.old) }
+    {
+        match self.try_read(at, buf) {
+            Ok(()) => {
+                self.taken = self.taken.saturating_add(buf.len() as u64);
+                Ok(())
+            }
+            Err(_) => Err(self.count_fault()),
+        }
+    }
+
+    fn write(&mut self, at: u64, bytes: &[u8]) -> Result<(), Failed> {
+        match self.try_write(at, bytes) {
+            Ok(()) => Ok(()),
+            Err(_) => Err(self.count_fault()),
+        }
+    }
+
+    fn sync(&mut self) -> Result<(), Failed> {
+        match self.try_sync() {
+            Ok(()) => Ok(()),
+            Err(_) => Err(self.count_fault()),
+        }
+    }
+
+    fn limit(&self) -> u64 {
+        FILE_LIMIT
+    }
+}

@@ -1,0 +1,22 @@
+//! The disk as the layers above see it.
+#![tactic(auto)]
+
+mod disk;
+mod event;
+mod file;
+mod fuse;
+mod laws;
+mod memory;
+mod rebuilt;
+mod synced;
+#[cfg(test)]
+mod tests;
+mod written;
+
+pub use alta_codec::Failed;
+pub use disk::Disk;
+pub use file::FileDisk;
+pub use fuse::FuseDisk;
+pub use laws::images_keep_the_firm_bytes;
+pub use memory::MemoryDisk;
+pub use synced::{write_in_order, write_synced};

@@ -1,0 +1,214 @@
+// Images of disks in memory, the fuse, and the file.
+use crate::{
+    Disk, Failed, FileDisk, FuseDisk, MemoryDisk, images_keep_the_firm_bytes, write_in_order,
+};
+use alta_codec::Text;
+use std::alloc::{AllocError, Global};
+use std::fs::File;
+use std::process::Abort;
+use std::test::Fail;
+use std::{env, fs, process};
+
+enum Op {
+    Write(u64, &'static [u8]),
+    Sync,
+}
+
+// What is done to a disk of "abcdef", the numbers of the calls that fail, and the images for picks 0 to 3.
+struct Row {
+    name: &'static str,
+    ops: &'static [Op],
+    fail: &'static [u64],
+    images: [&'static [u8]; 4],
+}
+
+const TORN: &[Op] = &[Op::Write(2, b"XY")];
+
+const GROWN: &[Op] = &[Op::Write(5, b"XYZ")];
+
+const SYNCED: &[Op] = &[Op::Write(0, b"X"), Op::Sync, Op::Write(1, b"Y")];
+
+const OVERLAP: &[Op] = &[
+    Op::Write(6, b"gh"),
+    Op::Write(8, b"ij"),
+    Op::Write(7, b"H"),
+    Op::Sync,
+];
+
+static ROWS: [Row; 9] = [
+    Row {
+        name: "new",
+        ops: &[],
+        fail: &[],
+        images: [b"abcdef", b"abcdef", b"abcdef", b"abcdef"],
+    },
+    Row {
+        name: "torn",
+        ops: TORN,
+        fail: &[],
+        images: [b"abXYef", b"abcdef", b"ab\xA5\xA5ef", b"ab\0\0ef"],
+    },
+    Row {
+        name: "failed",
+        ops: TORN,
+        fail: &[1],
+        images: [b"abcdef", b"abcdef", b"ab\xA5\xA5ef", b"ab\0\0ef"],
+    },
+    Row {
+        name: "grown",
+        ops: GROWN,
+        fail: &[],
+        images: [b"abcdeXYZ", b"abcdef", b"abcde\xA5\xA5\xA5", b"abcde\0\0\0"],
+    },
+    Row {
+        name: "failed to grow",
+        ops: GROWN,
+        fail: &[1],
+        images: [b"abcdef", b"abcdef", b"abcde\xA5", b"abcde\0"],
+    },
+    Row {
+        name: "after a sync",
+        ops: SYNCED,
+        fail: &[],
+        images: [b"XYcdef", b"Xbcdef", b"X\xA5cdef", b"X\0cdef"],
+    },
+    Row {
+        name: "after a failed sync",
+        ops: SYNCED,
+        fail: &[2],
+        images: [b"XYcdef", b"abcdef", b"\xA5\xA5cdef", b"\0\0cdef"],
+    },
+    Row {
+        name: "overlap",
+        ops: OVERLAP,
+        fail: &[4],
+        images: [
+            b"abcdefgHij",
+            b"abcdef",
+            b"abcdef\xA5\xA5\xA5\xA5",
+            b"abcdef\0\0\0\0",
+        ],
+    },
+    Row {
+        name: "overlap and sync",
+        ops: OVERLAP,
+        fail: &[],
+        images: [b"abcdefgHij", b"abcdefgHij", b"abcdefgHij", b"abcdefgHij"],
+    },
+];
+
+fn call(alloc: Global, disk: &mut MemoryDisk, op: &Op) -> Result<(), AllocError> {
+    match op {
+        Op::Sync => {
+            let _ = disk.sync();
+        }
+        Op::Write(at, bytes) => {
+            let content = disk.image(alloc, 0)?;
+            let room = disk.limit().saturating_sub(*at);
+            if *at <= content.len() as u64 && bytes.len() as u64 <= room {
+                let _ = disk.write(*at, bytes);
+            }
+        }
+    }
+    Ok(())
+}
+
+fn check(rt: &impl Abort, alloc: Global, row: &Row) -> Result<(), AllocError> {
+    let content = b"abcdef".to_vec(alloc)?;
+    let fail = row.fail.to_vec(alloc)?;
+    let mut disk = MemoryDisk::new(alloc, content, 16, fail);
+    for op in row.ops {
+        call(alloc, &mut disk, op)?;
+    }
+    for (pick, image) in row.images.iter().enumerate() {
+        let got = disk.image(alloc, pick as u64)?;
+        assert_eq!(rt; got.as_slice(), *image, "{}, pick {pick}", row.name);
+    }
+    Ok(())
+}
+
+#[test]
+fn images(rt: HostRuntime) -> Result<(), Fail> {
+    for row in &ROWS {
+        check(&rt, rt.alloc(), row)?;
+    }
+    Ok(())
+}
+
+#[test]
+fn calls_in_memory(rt: HostRuntime) -> Result<(), Fail> {
+    let alloc = rt.alloc();
+    let content = b"abcdef".to_vec(alloc)?;
+    let mut disk = MemoryDisk::new(alloc, content, 16, Vec::new(alloc));
+    assert_eq!(rt; write_in_order(&mut disk, 6, b"gh", 0, b"A"), Ok(()));
+    images_keep_the_firm_bytes(&disk);
+    let mut fuse = FuseDisk::new(disk, 3);
+    let mut two = [0; 2];
+    assert_eq!(rt; fuse.len(), Ok(8));
+    assert_eq!(rt; fuse.read(6, &mut two), Ok(()));
+    assert_eq!(rt; fuse.write(1, b"B"), Ok(()));
+    assert_eq!(rt; (two, fuse.limit()), (*b"gh", 16));
+    assert_eq!(rt; fuse.write(4, b"EF"), Err(Failed));
+    assert_eq!(rt; (fuse.sync(), fuse.len()), (Err(Failed), Err(Failed)));
+    let disk = fuse.into_inner();
+    let images = (
+        disk.image(alloc, 0)?,
+        disk.image(alloc, 1)?,
+        disk.image(alloc, 2)?,
+        disk.image(alloc, 9)?,
+    );
+    assert_eq!(rt; images.0.as_slice(), b"ABcdefgh".as_slice());
+    assert_eq!(rt; images.1.as_slice(), b"Abcdefgh".as_slice());
+    assert_eq!(rt; images.2.as_slice(), b"A\xA5cd\xA5\xA5gh".as_slice());
+    assert_eq!(rt; images.3.as_slice(), b"A\0cd\0\0gh".as_slice());
+    Ok(())
+}
+
+fn each_call_fails(disk: &mut FileDisk<HostRuntime>) -> bool {
+    let mut three = [0; 3];
+    disk.len().is_err()
+        && disk.read(0, &mut three).is_err()
+        && disk.write(0, b"x").is_err()
+        && disk.sync().is_err()
+}
+
+// The length of a file before "hello" is written, and then its bytes from 1 to 3, where each call is done.
+fn hello(disk: &mut FileDisk<HostRuntime>) -> Result<(u64, [u8; 3]), Failed> {
+    let mut three = [0; 3];
+    let size = disk.len()?;
+    disk.write(0, b"hello")?;
+    disk.sync()?;
+    disk.read(1, &mut three)?;
+    Ok((size, three))
+}
+
+#[test]
+fn calls_on_a_file(rt: HostRuntime) -> Result<(), Fail> {
+    let alloc = rt.alloc();
+    let folder = env::temp_dir(&rt)?;
+    let path = format!(in alloc;
+        "{}/alta_disk_{}",
+        folder.as_str(),
+        process::id(rt.process())
+    )?;
+    let inside = format!(in alloc; "{path}/inside")?;
+    let _ = fs::remove_file(&rt, path.as_str());
+    let mut disk = FileDisk::new(rt.clone()?, Some(Text::from_string(path.clone()?)));
+    let mut three = [0; 3];
+    assert_eq!(rt; hello(&mut disk), Ok((0, *b"ell")));
+    assert_eq!(rt; (disk.len(), disk.limit()), (Ok(5), 1_099_511_627_776));
+    assert_eq!(rt;
+        disk.read(3, &mut three),
+        Err(Failed),
+        "a read that ends early"
+    );
+    let mut lost = FileDisk::new(rt.clone()?, Some(Text::from_string(inside)));
+    assert!(rt; each_call_fails(&mut lost), "a file in place of a folder");
+    let mut none = FileDisk::new(rt.clone()?, None);
+    assert!(rt; each_call_fails(&mut none), "no path");
+    let file = File::options().write(true).open(&rt, path.as_str())?;
+    let longer = file.set_len(1_099_511_627_777).is_err() || disk.len().is_err();
+    assert!(rt; longer, "longer than the limit");
+    fs::remove_file(&rt, path.as_str())?;
+    Ok(())
+}
