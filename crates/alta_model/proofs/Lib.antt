@@ -1,0 +1,4 @@
+pub mod Counts
+pub mod Law
+pub mod Readings
+pub mod Refusals

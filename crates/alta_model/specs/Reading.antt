@@ -1,0 +1,80 @@
+-- The reading of a text step by step. No public clause cites it.
+use Rattle.std.specs.Prelude.{ℕ, ◌+◌, ◌-◌, ◌*◌, Bool, not, ◌&&◌, ◌==◌, nat_le, nat_lt, if◌then◌else◌, List, length, codes, slice_index, Option, Some, None, option_map}
+use Rattle.std.specs.Char.{is_ascii_digit}
+use Rattle.std.specs.List.{list_all, fold, before_first, after_first, position_or_len}
+use Rattle.std.specs.Option.{option_or}
+use Rattle.std.specs.Str.{bytes_eq}
+use Rattle.alta_model.specs.Command.{Command, adds, deletes, searches, counts, explains, opens, fetches, closes, flushes, merges, steps, asks_stats, is_tab}
+use Rattle.alta_model.specs.Faults.{is_space}
+
+abbrev pub value_of : List ℕ → ℕ
+value_of digits = fold (λ n b. n * 10 + (b - 48)) 0 digits
+
+-- a number from 1 to 1,000,000 without leading zeros
+abbrev pub is_count : List ℕ → Bool
+is_count digits =
+    nat_le 1 (length digits) && nat_le (length digits) 7 && list_all is_ascii_digit digits && not (slice_index digits 0 == 48) && nat_le (value_of digits) 1000000
+
+unfoldable pub count_of : List ℕ → Option ℕ
+count_of digits = if is_count digits then Some (value_of digits) else None
+
+-- the parts around the first such byte
+unfoldable pub parted : (ℕ → Bool) → List ℕ → Option (List ℕ × List ℕ)
+parted p text = if nat_lt (position_or_len p text) (length text) then Some (before_first p text, after_first p text) else None
+
+abbrev pub with_body : List ℕ → Option (List ℕ × List ℕ) → Option Command
+with_body name None = None
+with_body name (Some (title, body)) = Some (adds name title body)
+
+abbrev pub with_name : Option (List ℕ × List ℕ) → Option Command
+with_name None = None
+with_name (Some (name, rest)) = with_body name (parted is_tab rest)
+
+unfoldable pub document_of : List ℕ → Option Command
+document_of rest = with_name (parted is_tab rest)
+
+unfoldable pub text_of : List ℕ → List ℕ → Option Command
+text_of word rest =
+    if bytes_eq word (codes "delete") then Some (deletes rest)
+    else (if bytes_eq word (codes "search") then Some (searches rest)
+    else (if bytes_eq word (codes "count") then Some (counts rest)
+    else (if bytes_eq word (codes "explain") then Some (explains rest)
+    else (if bytes_eq word (codes "open") then Some (opens rest)
+    else None))))
+
+abbrev pub with_count : Option ℕ → Option ℕ → Option Command
+with_count None count = None
+with_count (Some cursor) None = None
+with_count (Some cursor) (Some count) = Some (fetches cursor count)
+
+abbrev pub with_cursor : Option (List ℕ × List ℕ) → Option Command
+with_cursor None = None
+with_cursor (Some (cursor, count)) = with_count (count_of cursor) (count_of count)
+
+unfoldable pub fetch_of : List ℕ → Option Command
+fetch_of rest = with_cursor (parted is_space rest)
+
+unfoldable pub number_of : List ℕ → List ℕ → Option Command
+number_of word rest =
+    if bytes_eq word (codes "fetch") then fetch_of rest
+    else (if bytes_eq word (codes "close") then option_map (λ n. closes n) (count_of rest)
+    else (if bytes_eq word (codes "step") then option_map (λ n. steps n) (count_of rest)
+    else None))
+
+unfoldable pub alone : List ℕ → Option Command
+alone word =
+    if bytes_eq word (codes "flush") then Some flushes
+    else (if bytes_eq word (codes "merge") then Some merges
+    else (if bytes_eq word (codes "stats") then Some asks_stats
+    else None))
+
+unfoldable pub with_rest : List ℕ → List ℕ → Option Command
+with_rest word rest =
+    if bytes_eq word (codes "add") then document_of rest else option_or (text_of word rest) (number_of word rest)
+
+abbrev pub in_parts : List ℕ → Option (List ℕ × List ℕ) → Option Command
+in_parts text None = alone text
+in_parts text (Some (word, rest)) = with_rest word rest
+
+unfoldable pub command_in : List ℕ → Option Command
+command_in text = in_parts text (parted is_space text)

@@ -1,0 +1,13 @@
+// What the definitions promise by themselves.
+ghost use Rattle.std.specs.Prelude.{◌≡◌, ◌↔◌, List, ℕ};
+ghost use Rattle.alta_model.specs.Command.{Command, Reads};
+ghost use Rattle.alta_model.specs.Faults.{IsRefused, IsText};
+ghost use Rattle.alta_model.specs.Lines.{Reading, asks, refuses, reading_of};
+ghost use Rattle.alta_model.specs.declared.line.LineFault.{LineFault};
+
+/// A line asks for a command exactly where it is a text that spells the command, and it is refused exactly for the
+/// first of the four causes that applies.
+pub fn a_line_is_read_one_way()
+    ensures asked { (line : List ℕ) (command : Command) → (reading_of line ≡ asks command) ↔ (IsText line × Reads line command) }
+    ensures refused { (line : List ℕ) (fault : LineFault) → (reading_of line ≡ refuses fault) ↔ IsRefused line fault }
+{}

@@ -1,0 +1,219 @@
+// Command lines.
+ghost use Rattle.std.specs.Prelude.{◌≡◌, ◌↔◌, option_map, IfOk, OnOk, Err, if◌then◌else◌};
+ghost use Rattle.std.specs.Str.{IsUtf8};
+ghost use Rattle.alta_model.specs.Command.{Command, Reads, is_tab};
+ghost use Rattle.alta_model.specs.Faults.{IsRefused, IsText, is_space, is_verb, word_of};
+ghost use Rattle.alta_model.specs.Reading.{command_in, parted, alone, with_rest, document_of, text_of, number_of, fetch_of};
+ghost use Rattle.alta_model.specs.Lines.{reading_of, reading_in};
+ghost use Rattle.alta_model.specs.Seen.{command_of};
+
+use crate::number::count;
+use simdutf8::compat::from_utf8;
+
+/// What a line asks for, with its parts as they stand in the line.
+#[derive(Clone, Copy, Debug, Drop)]
+pub enum Line<'a> {
+    Add {
+        name: &'a str,
+        title: &'a str,
+        body: &'a str,
+    },
+    Delete {
+        name: &'a str,
+    },
+    Search {
+        text: &'a str,
+    },
+    Count {
+        text: &'a str,
+    },
+    Explain {
+        text: &'a str,
+    },
+    OpenCursor {
+        text: &'a str,
+    },
+    Fetch {
+        cursor: u64,
+        count: u64,
+    },
+    Close {
+        cursor: u64,
+    },
+    Flush,
+    Merge,
+    Step {
+        count: u64,
+    },
+    Stats,
+}
+
+/// Why a line is refused.
+#[derive(Clone, Copy, Debug, Drop)]
+pub enum LineFault {
+    TooLong,
+    NotUtf8,
+    Unknown,
+    Bad,
+}
+
+/// Reads a line, without its newline, as a command. The parts that a command names are borrowed from the line. It takes
+/// no memory.
+///
+/// It is refused for the first of these that applies: `TooLong` where it has more than 65,535 bytes, `NotUtf8` where it
+/// is not UTF-8, `Unknown` where the bytes up to its first space, or all, are no command's word, `Bad` where the rest
+/// has not the form of that command.
+pub fn read_line(line: &[u8]) -> Result<Line<'_>, LineFault>
+    ensures reading { reading_in result ≡ reading_of line.now }
+    ensures read { IfOk result (λ l. IsText line.now × Reads line.now (command_of l)) }
+    ensures only { (command : Command) → IsText line.now → Reads line.now command → IfOk result (λ l. command_of l ≡ command) }
+    ensures refused { (fault : LineFault) → (result ≡ Err fault) ↔ IsRefused line.now fault }
+{
+    if line.len() > 65_535 {
+        return Err(LineFault::TooLong);
+    }
+    let Ok(text) = from_utf8(line) else {
+        return Err(LineFault::NotUtf8);
+    };
+    match command(text) {
+        Some(line) => Ok(line),
+        None => Err(fault(text)),
+    }
+}
+
+/// Why a text that no command spells is refused.
+fn fault(text: &str) -> LineFault
+    ensures { result ≡ (if is_verb (word_of text.now) then LineFault.Bad else LineFault.Unknown) }
+{
+    if is_verb(word(text)) {
+        LineFault::Bad
+    } else {
+        LineFault::Unknown
+    }
+}
+
+/// The bytes up to the first space, or all.
+fn word(text: &str) -> &str
+    ensures { result.now ≡ word_of text.now }
+{
+    match text.split_once(' ') {
+        Some((word, _)) => word,
+        None => text,
+    }
+}
+
+#[tactic(auto, unfolding(crate::specs::Faults::is_verb))]
+fn is_verb(word: &str) -> bool
+    ensures { result ≡ is_verb word.now }
+{
+    word == "add"
+        || word == "delete"
+        || word == "search"
+        || word == "count"
+        || word == "explain"
+        || word == "open"
+        || word == "fetch"
+        || word == "close"
+        || word == "flush"
+        || word == "merge"
+        || word == "step"
+        || word == "stats"
+}
+
+#[tactic(auto, unfolding(crate::specs::Reading::command_in, crate::specs::Reading::parted))]
+fn command(text: &str) -> Option<Line<'_>>
+    ensures { option_map command_of result ≡ command_in text.now }
+{
+    match text.split_once(' ') {
+        Some((word, rest)) => command_with(word, rest),
+        None => command_alone(text),
+    }
+}
+
+#[tactic(auto, unfolding(crate::specs::Reading::alone))]
+fn command_alone(word: &str) -> Option<Line<'_>>
+    ensures { option_map command_of result ≡ alone word.now }
+{
+    if word == "flush" {
+        return Some(Line::Flush);
+    }
+    if word == "merge" {
+        return Some(Line::Merge);
+    }
+    if word == "stats" {
+        return Some(Line::Stats);
+    }
+    None
+}
+
+#[tactic(auto, unfolding(crate::specs::Reading::with_rest))]
+fn command_with<'a>(word: &str, rest: &'a str) -> Option<Line<'a>>
+    ensures { option_map command_of result ≡ with_rest word.now rest.now }
+{
+    if word == "add" {
+        return document(rest);
+    }
+    match about_text(word, rest) {
+        Some(line) => Some(line),
+        None => about_numbers(word, rest),
+    }
+}
+
+#[tactic(auto, unfolding(crate::specs::Reading::document_of, crate::specs::Reading::parted))]
+fn document(rest: &str) -> Option<Line<'_>>
+    ensures { option_map command_of result ≡ document_of rest.now }
+{
+    let (name, more) = rest.split_once('\t')?;
+    let (title, body) = more.split_once('\t')?;
+    Some(Line::Add { name, title, body })
+}
+
+#[tactic(auto, unfolding(crate::specs::Reading::text_of))]
+fn about_text<'a>(word: &str, rest: &'a str) -> Option<Line<'a>>
+    ensures { option_map command_of result ≡ text_of word.now rest.now }
+{
+    if word == "delete" {
+        return Some(Line::Delete { name: rest });
+    }
+    if word == "search" {
+        return Some(Line::Search { text: rest });
+    }
+    if word == "count" {
+        return Some(Line::Count { text: rest });
+    }
+    if word == "explain" {
+        return Some(Line::Explain { text: rest });
+    }
+    if word == "open" {
+        return Some(Line::OpenCursor { text: rest });
+    }
+    None
+}
+
+#[tactic(auto, unfolding(crate::specs::Reading::number_of))]
+fn about_numbers<'a>(word: &str, rest: &'a str) -> Option<Line<'a>>
+    ensures { option_map command_of result ≡ number_of word.now rest.now }
+{
+    if word == "fetch" {
+        return fetch(rest);
+    }
+    if word == "close" {
+        let cursor = count(rest.as_bytes())?;
+        return Some(Line::Close { cursor });
+    }
+    if word == "step" {
+        let count = count(rest.as_bytes())?;
+        return Some(Line::Step { count });
+    }
+    None
+}
+
+#[tactic(auto, unfolding(crate::specs::Reading::fetch_of, crate::specs::Reading::parted))]
+fn fetch(rest: &str) -> Option<Line<'_>>
+    ensures { option_map command_of result ≡ fetch_of rest.now }
+{
+    let (cursor, number) = rest.split_once(' ')?;
+    let cursor = count(cursor.as_bytes())?;
+    let count = count(number.as_bytes())?;
+    Some(Line::Fetch { cursor, count })
+}
