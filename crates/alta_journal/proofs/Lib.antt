@@ -1,0 +1,10 @@
+pub mod FoundLaws
+pub mod Frames
+pub mod HalfLaws
+pub mod Moments
+pub mod ReadingLaws
+pub mod ReadingSteps
+pub mod Spelling
+pub mod Steps
+pub mod Total
+pub mod Unique

@@ -1,0 +1,8 @@
+pub mod Entry
+pub mod Found
+pub mod Journal
+pub mod OpenFault
+pub mod Placed
+pub mod Places
+pub mod Reading
+pub mod Record

@@ -1,0 +1,101 @@
+// A record is written and synced behind its closed gate, and then the gate is opened and synced.
+ghost use Rattle.std.specs.Prelude.{◌≡◌, ◌+◌, ◌<◌, ◌≤◌, [], ◌∷◌, length, IfOk, IfErr, OnOk, OnErr};
+ghost use Rattle.alta_codec.specs.Faults.{HasCause, Rose};
+ghost use Rattle.alta_disk.specs.Disk.{DiskState, Holds, Stands, Torn, Only, Passes};
+ghost use Rattle.alta_journal.specs.declared.appending.JournalFault.TheVariants.{Disk as DiskFault};
+ghost use Rattle.alta_journal.specs.Places.{start_of, left_behind, HasClosedGate};
+ghost use Rattle.alta_journal.specs.Record.{Record, record_of, body_of};
+ghost use Rattle.alta_journal.specs.Journal.{EndsAt, Appended, Appends};
+
+use crate::places::{GATE_CLOSED, GATE_OPEN, HALF_BYTES, HEAD_BYTES};
+use crate::{Half, Ready, Tail};
+use alta_codec::Failed;
+use alta_disk::{Disk, write_synced};
+
+/// Why a record was not appended.
+#[derive(Clone, Copy, Debug, PartialEq, Eq)]
+pub enum JournalFault {
+    /// The record does not fit in the half, and nothing was called. It needs this many bytes behind its gate, the
+    /// next gate among them, and this many are left there.
+    Full { need: u64, left: u64 },
+    /// A call of the disk failed. The record is there whole or not at all, and the tail may no longer be used.
+    Disk,
+}
+
+impl From<Failed> for JournalFault {
+    ghost from_gives = { λ _ e. e ≡ DiskFault };
+
+    fn from(_: Failed) -> Self {
+        JournalFault::Disk
+    }
+}
+
+/// Appends a record at the tail of its half, by two writes, each with its sync. After `Ok` every image that a stop may
+/// leave has the record, and the tail stands behind it. At each moment before, an image has the records that it had,
+/// with the new one or without, and each byte outside the record and the next gate.
+///
+/// In every image that a stop may leave, a closed gate stands at the tail's place.
+///
+/// # Errors
+///
+/// `Full` exactly where the record and the next gate go past the end of the half; then nothing was called.
+/// `Disk` where a call of the disk failed. After an error the tail is as it was.
+pub fn append<D: Disk>(disk: &mut D, tail: &mut Tail, ready: &Ready) -> Result<(), JournalFault>
+    requires closed { Stands D.tells (D.state disk.old) (HasClosedGate tail.old.place) }
+    requires limit { HEAD_BYTES ≤ (D.state disk.old).limit }
+
+    ensures appended { D.tells → OnOk result (Appended (start_of tail.old.half) tail.old.place ready.now.entry (D.state disk.old).content (D.state disk.new).content) }
+    ensures closed { OnOk result (Stands D.tells (D.state disk.new) (HasClosedGate tail.new.place)) }
+    ensures durable { OnOk result (Only (D.state disk.new).content (D.state disk.new).images) }
+    ensures tail { OnOk result (tail.new.place ≡ tail.old.place + length (record_of ready.now.entry)) }
+    ensures tail_err { OnErr result (tail.new ≡ tail.old) }
+    ensures half { tail.new.half ≡ tail.old.half }
+
+    // At each moment of the call.
+    ensures images { Passes (Appends (start_of tail.old.half) tail.old.place ready.now.entry) (D.state disk.old) (D.state disk.new) }
+
+    ensures full { left_behind (start_of tail.old.half) tail.old.place < length (body_of ready.now.entry)
+        → (result ≡ Err (JournalFault.Full (length (body_of ready.now.entry)) (left_behind (start_of tail.old.half) tail.old.place))) × (disk.new ≡ disk.old) }
+    ensures room { length (body_of ready.now.entry) ≤ left_behind (start_of tail.old.half) tail.old.place → IfErr result (λ e. e ≡ DiskFault) }
+    ensures cause { result ≡ Err JournalFault.Disk → Rose (D.state disk.old).faults (D.state disk.new).faults }
+    ensures faults { (D.state disk.old).faults ≤ (D.state disk.new).faults }
+    ensures taken { (D.state disk.new).taken ≡ (D.state disk.old).taken }
+    ensures same_limit { (D.state disk.new).limit ≡ (D.state disk.old).limit }
+{
+    let bytes = ready.bytes();
+    let need = bytes.len() as u64;
+    let left = tail.half.start() + HALF_BYTES - (tail.place + 1);
+    if need > left {
+        return Err(JournalFault::Full { need, left });
+    }
+    write_synced(disk, tail.place + 1, bytes)?;
+    write_synced(disk, tail.place, &[GATE_OPEN])?;
+    tail.place += need;
+    Ok(())
+}
+
+/// Closes the first gate of a half and syncs. After `Ok` the half has no record, and the answer is its tail. Nothing
+/// but that byte has changed. The disk has at least [`HEAD_BYTES`](crate::HEAD_BYTES).
+///
+/// # Errors
+///
+/// `Failed` where a call of the disk failed. A stop may then leave the gate open or closed.
+pub fn format<D: Disk>(disk: &mut D, half: Half) -> Result<Tail, Failed>
+    requires size { D.tells → HEAD_BYTES ≤ length (D.state disk.old).content }
+    requires limit { HEAD_BYTES ≤ (D.state disk.old).limit }
+    ensures written { D.tells → OnOk result (Holds (D.state disk.old).content (start_of half) (GATE_CLOSED ∷ []) (D.state disk.new).content) }
+    ensures empty { D.tells → OnOk result (EndsAt (start_of half) (start_of half) [] (D.state disk.new).content) }
+    ensures closed { OnOk result (Stands D.tells (D.state disk.new) (HasClosedGate (start_of half))) }
+    ensures durable { OnOk result (Only (D.state disk.new).content (D.state disk.new).images) }
+    ensures tail { IfOk result (λ tail. (tail.half ≡ half) × (tail.place ≡ start_of half)) }
+    ensures images { Passes (Torn (start_of half) 1) (D.state disk.old) (D.state disk.new) }
+    ensures cause { HasCause (D.state disk.old).faults (D.state disk.new).faults result }
+    ensures taken { (D.state disk.new).taken ≡ (D.state disk.old).taken }
+    ensures same_limit { (D.state disk.new).limit ≡ (D.state disk.old).limit }
+{
+    write_synced(disk, half.start(), &[GATE_CLOSED])?;
+    Ok(Tail {
+        half,
+        place: half.start(),
+    })
+}

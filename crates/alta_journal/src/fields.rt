@@ -1,0 +1,151 @@
+// The entry that a payload spells, if its rules are kept.
+ghost use Rattle.std.specs.Prelude.{◌≡◌, ◌↔◌, ◌<◌, ◌≤◌, ℕ, List, Option, IsTrue, IsUtf8, IfOk, MatchOption, length};
+ghost use Rattle.alta_codec.specs.Name.{IsName};
+ghost use Rattle.alta_journal.specs.Entry.{Lacks};
+ghost use Rattle.alta_journal.specs.Found.{IsFound};
+ghost use Rattle.alta_journal.specs.Reading.{cut, name_in, text_in, add_in, delete_in, entry_in};
+ghost use Rattle.alta_journal.specs.declared.entry.Entry.TheVariants.{Add};
+
+use crate::Entry;
+use crate::places::{ADD, DELETE, PAYLOAD_BYTES};
+use alta_codec::{Text, name_ok};
+use std::alloc::{AllocError, Global};
+
+/// The entry that this payload spells. `None` where there is none that keeps the rules of a record.
+#[tactic(auto, unfolding(crate::specs::Reading::entry_in))]
+pub(crate) fn entry_from(alloc: Global, payload: &[u8]) -> Result<Option<Entry>, AllocError>
+    ensures { IfOk result (λ o. IsFound (entry_in payload.now) o) }
+{
+    let [kind, fields @ ..] = payload else {
+        return Ok(None);
+    };
+    match *kind {
+        ADD => add_from(alloc, fields),
+        DELETE => Ok(delete_from(fields)),
+        _ => Ok(None),
+    }
+}
+
+#[tactic(auto, unfolding(crate::specs::Reading::delete_in, crate::specs::Reading::of_eight))]
+fn delete_from(fields: &[u8]) -> Option<Entry>
+    ensures { IsFound (delete_in fields.now) result }
+{
+    let [a, b, c, d, e, f, g, h] = fields else {
+        return None;
+    };
+    Some(Entry::Delete {
+        number: u64::from_be_bytes([*a, *b, *c, *d, *e, *f, *g, *h]),
+    })
+}
+
+fn add_from(alloc: Global, fields: &[u8]) -> Result<Option<Entry>, AllocError>
+    ensures { IfOk result (λ o. IsFound (add_in fields.now) o) }
+{
+    if fields.len() as u64 >= PAYLOAD_BYTES {
+        return Ok(None);
+    }
+    let Some((name, title, body)) = fields_of(fields) else {
+        return Ok(None);
+    };
+    if !lacks(title, b'\t') {
+        return Ok(None);
+    }
+    let Some(name) = name_text(name) else {
+        return Ok(None);
+    };
+    let Some(title) = line(title) else {
+        return Ok(None);
+    };
+    let Some(body) = line(body) else {
+        return Ok(None);
+    };
+    Ok(Some(Entry::Add {
+        name: text(alloc, name)?,
+        title: text(alloc, title)?,
+        body: text(alloc, body)?,
+    }))
+}
+
+// An owned copy of a text.
+fn text(alloc: Global, text: &str) -> Result<Text, AllocError>
+    ensures { IfOk result (λ t. t ≡ text.now) }
+{
+    Ok(Text::from_string(String::from_str(alloc, text)?))
+}
+
+// The bytes as text, where they are a name.
+fn name_text(bytes: &[u8]) -> Option<&str>
+    ensures { MatchOption result (IsName bytes.now → ⊥) (λ s. (s.now ≡ bytes.now) × IsName bytes.now) }
+{
+    if !name_ok(bytes) {
+        return None;
+    }
+    match str::from_utf8(bytes) {
+        Ok(name) => Some(name),
+        Err(_) => None,
+    }
+}
+
+// The bytes as text, where they are UTF-8 without a newline.
+fn line(bytes: &[u8]) -> Option<&str>
+    ensures { MatchOption result (IsUtf8 bytes.now × Lacks 10 bytes.now → ⊥) (λ s. (s.now ≡ bytes.now) × IsUtf8 bytes.now × Lacks 10 bytes.now) }
+{
+    if !lacks(bytes, b'\n') {
+        return None;
+    }
+    str::from_utf8(bytes).ok()
+}
+
+pub(crate) fn lacks(bytes: &[u8], value: u8) -> bool
+    ensures { IsTrue result ↔ Lacks value bytes.now }
+{
+    bytes.iter().all(|byte| *byte != value)
+}
+
+// Name, title and body of an add.
+#[tactic(auto, unfolding(crate::specs::Reading::add_in))]
+fn fields_of(bytes: &[u8]) -> Option<(&[u8], &[u8], &[u8])>
+    ensures { MatchOption result (add_in bytes.now ≡ None) (λ x. add_in bytes.now ≡ Some (Add x.0.now x.1.now x.2.now)) }
+{
+    let (name, rest) = split_name(bytes)?;
+    let (title, rest) = split_text(rest)?;
+    let (body, rest) = split_text(rest)?;
+    if rest.is_empty() {
+        Some((name, title, body))
+    } else {
+        None
+    }
+}
+
+// A name behind its length, and what follows.
+#[tactic(auto, unfolding(crate::specs::Reading::name_in))]
+fn split_name(bytes: &[u8]) -> Option<(&[u8], &[u8])>
+    ensures { MatchOption result (name_in bytes.now ≡ None) (λ x. name_in bytes.now ≡ Some (x.0.now, x.1.now)) }
+{
+    match bytes {
+        [] => None,
+        [len, rest @ ..] => split(rest, *len as usize),
+    }
+}
+
+// A text behind its length, and what follows.
+#[tactic(auto, unfolding(crate::specs::Reading::text_in, crate::specs::Reading::of_four))]
+fn split_text(bytes: &[u8]) -> Option<(&[u8], &[u8])>
+    ensures { MatchOption result (text_in bytes.now ≡ None) (λ x. text_in bytes.now ≡ Some (x.0.now, x.1.now)) }
+{
+    let [a, b, c, d, rest @ ..] = bytes else {
+        return None;
+    };
+    split(rest, u32::from_be_bytes([*a, *b, *c, *d]) as usize)
+}
+
+// The first n bytes and the others, where there are so many.
+#[tactic(auto, unfolding(crate::specs::Reading::cut))]
+fn split(bytes: &[u8], n: usize) -> Option<(&[u8], &[u8])>
+    ensures { MatchOption result (cut n bytes.now ≡ None) (λ x. cut n bytes.now ≡ Some (x.0.now, x.1.now)) }
+{
+    if bytes.len() < n {
+        return None;
+    }
+    Some(bytes.split_at(n))
+}

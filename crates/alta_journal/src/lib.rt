@@ -1,0 +1,25 @@
+//! The journal: entries in records behind gates, each on the disk whole or not at all.
+#![tactic(auto)]
+
+mod appending;
+mod entry;
+mod fields;
+mod half;
+mod laws;
+mod placed;
+mod places;
+mod preparing;
+mod record;
+mod replaying;
+#[cfg(test)]
+mod tests;
+
+pub use appending::{JournalFault, append, format};
+pub use entry::Entry;
+pub use half::{Half, Tail};
+pub use laws::{a_half_is_read_in_one_way, a_half_is_read_or_broken};
+pub use placed::Placed;
+pub use places::{GATE_CLOSED, GATE_OPEN, HALF_BYTES, HEAD_BYTES, PAYLOAD_BYTES, START_A, START_B};
+pub use preparing::ready;
+pub use record::Ready;
+pub use replaying::{OpenFault, replay};

@@ -1,0 +1,75 @@
+// Makes records.
+ghost use Rattle.std.specs.Prelude.{◌≡◌, ◌<◌, ◌^◌, ◌++◌, length, IfOk, OnOk};
+ghost use Rattle.alta_journal.specs.Entry.{KeepsRules, IsTyped, payload_of, measured};
+ghost use Rattle.alta_journal.specs.Record.{Record, body_of};
+
+use crate::places::{ADD, DELETE, GATE_CLOSED};
+use crate::{Entry, Ready};
+use alta_codec::Text;
+use std::alloc::{AllocError, Global};
+
+/// Makes the record of an entry: all that an append writes, so that the append itself takes no memory. The entry
+/// keeps the rules of a record: its name is 1 to 64 graphic ASCII bytes, its title has no tab, title and body have no
+/// newline, and the payload of an add is at most [`PAYLOAD_BYTES`](crate::PAYLOAD_BYTES).
+pub fn ready(alloc: Global, entry: &Entry) -> Result<Ready, AllocError>
+    requires { KeepsRules entry.now }
+    ensures { IfOk result (λ r. r ≡ record { entry = entry.now; bytes = body_of entry.now }) }
+{
+    let payload = payload_len(entry);
+    let mut bytes = Vec::with_capacity(alloc, 5 + payload)?;
+    bytes.extend_from_slice(&(payload as u32).to_be_bytes())?;
+    put_payload(&mut bytes, entry)?;
+    bytes.push(GATE_CLOSED)?;
+    Ok(Ready::of_bytes(bytes))
+}
+
+// How many bytes the payload of an entry has.
+#[tactic(auto, using(crate::proofs::Spelling::lengths))]
+fn payload_len(entry: &Entry) -> usize
+    requires { KeepsRules entry.now }
+    ensures len { result ≡ length (payload_of entry.now) }
+    ensures short { result < 2 ^ 17 }
+    ensures typed { IsTyped entry.now }
+{
+    match entry {
+        Entry::Add { name, title, body } => {
+            10 + name.as_str().len() + title.as_str().len() + body.as_str().len()
+        }
+        Entry::Delete { number } => {
+            let _number = *number;
+            9
+        }
+    }
+}
+
+// Appends the payload of an entry.
+#[tactic(auto, using(crate::proofs::Spelling::lengths), unfolding(crate::specs::Entry::eight_bytes))]
+fn put_payload(bytes: &mut Vec<u8>, entry: &Entry) -> Result<(), AllocError>
+    requires { KeepsRules entry.now }
+    ensures { OnOk result (bytes.new.items ≡ bytes.old.items ++ payload_of entry.now) }
+{
+    match entry {
+        Entry::Add { name, title, body } => {
+            bytes.push(ADD)?;
+            bytes.push(name.as_str().len() as u8)?;
+            bytes.extend_from_slice(name.as_str().as_bytes())?;
+            put_text(bytes, title)?;
+            put_text(bytes, body)
+        }
+        Entry::Delete { number } => {
+            bytes.push(DELETE)?;
+            bytes.extend_from_slice(&number.to_be_bytes())
+        }
+    }
+}
+
+// Appends a text behind its length.
+#[tactic(auto, unfolding(crate::specs::Entry::four_bytes))]
+fn put_text(bytes: &mut Vec<u8>, text: &Text) -> Result<(), AllocError>
+    requires { length text.now < 2 ^ 32 }
+    ensures { OnOk result (bytes.new.items ≡ bytes.old.items ++ measured text.now) }
+{
+    let text = text.as_str();
+    bytes.extend_from_slice(&(text.len() as u32).to_be_bytes())?;
+    bytes.extend_from_slice(text.as_bytes())
+}

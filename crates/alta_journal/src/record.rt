@@ -1,0 +1,45 @@
+// A record that is ready to be written, so that an append takes no memory.
+ghost use Rattle.std.specs.Prelude.{◌≡◌};
+ghost use Rattle.alta_journal.specs.Entry.{IsSound};
+ghost use Rattle.alta_journal.specs.Record.{Record, body_of};
+
+use std::marker::Model;
+
+/// A record that is ready to be written. Contracts see it as its entry and the bytes that are written behind its
+/// gate.
+#[derive(Drop)]
+pub struct Ready {
+    bytes: Vec<u8>,
+}
+
+impl Model for Ready {
+    ghost use Rattle.std.specs.Prelude.{◌≡◌};
+    ghost use Rattle.alta_journal.specs.Entry.{IsSound};
+    ghost use Rattle.alta_journal.specs.Record.{Record, body_of};
+    ghost use Rattle.alta_journal.specs.Reading.{entry_of_body};
+
+    ghost Value = { Record };
+
+    ghost view = { λ r. record { entry = entry_of_body r.bytes.items; bytes = r.bytes.items } };
+
+    ghost invariant = { λ r. IsSound (entry_of_body r.bytes.items) × (r.bytes.items ≡ body_of (entry_of_body r.bytes.items)) };
+}
+
+impl Ready {
+    ghost use Rattle.alta_journal.specs.Reading.{entry_of_body};
+
+    pub(crate) fn of_bytes(bytes: Vec<u8>) -> Ready
+        requires sound { IsSound (entry_of_body bytes.items) }
+        requires spells { bytes.items ≡ body_of (entry_of_body bytes.items) }
+        ensures { result ≡ record { entry = entry_of_body bytes.items; bytes = bytes.items } }
+    {
+        Ready { bytes }
+    }
+
+    pub(crate) fn bytes(&self) -> &[u8]
+        ensures bytes { result.now ≡ body_of self.now.entry }
+        ensures sound { IsSound self.now.entry }
+    {
+        &self.bytes
+    }
+}

@@ -1,0 +1,165 @@
+// The entries of a half, up to the first closed gate.
+ghost use Rattle.std.specs.Prelude.{◌≡◌, ◌⊎◌, ◌≢◌, ℕ, ◌+◌, ◌-◌, ◌<◌, ◌≤◌, List, length, IfOk, IfErr, MatchOption, MatchResult};
+ghost use Rattle.alta_codec.specs.Faults.{Rose};
+ghost use Rattle.alta_disk.specs.Disk.{DiskState, Same, Passes};
+ghost use Rattle.alta_disk.specs.Parts.{part};
+ghost use Rattle.alta_journal.specs.declared.replaying.OpenFault.TheVariants.{Memory, Disk as DiskFault};
+ghost use Rattle.alta_journal.specs.Journal.{EndsAt, IsBroken, IsDamaged};
+ghost use Rattle.alta_journal.specs.OpenFault.{IsNoDamage};
+ghost use Rattle.alta_journal.specs.declared.entry.Entry.{Entry};
+ghost use Rattle.alta_journal.specs.Placed.{placed, IsReplay, IsReading};
+ghost use Rattle.alta_journal.specs.Places.{start_of, half_at, HasClosedGate};
+ghost use Rattle.alta_journal.specs.Reading.{of_four};
+ghost use Rattle.alta_journal.specs.declared.places.TheConstants.{HEAD_BYTES};
+
+use crate::fields::entry_from;
+use crate::places::{GATE_OPEN, HALF_BYTES};
+use crate::{Half, Placed, Tail};
+use alta_codec::Failed;
+use alta_disk::Disk;
+use std::alloc::{AllocError, AllocFailed, Global};
+
+/// Why a half was not read.
+#[derive(Clone, Copy, Debug, PartialEq, Eq)]
+pub enum OpenFault {
+    /// A call of the disk failed.
+    Disk,
+    /// There was no memory.
+    Memory,
+    /// A record breaks a rule. The place on the disk is that behind its gate where its length leaves no room in the
+    /// half for the next gate, and else that of its payload.
+    Damaged(u64),
+}
+
+impl From<Failed> for OpenFault {
+    ghost from_gives = { λ _ e. e ≡ DiskFault };
+
+    fn from(_: Failed) -> Self {
+        OpenFault::Disk
+    }
+}
+
+impl From<AllocError> for OpenFault {
+    ghost from_gives = { λ _ e. e ≡ Memory };
+
+    fn from(_: AllocError) -> Self {
+        OpenFault::Memory
+    }
+}
+
+impl<T: Drop> From<AllocFailed<T>> for OpenFault {
+    ghost from_gives = { λ _ e. e ≡ Memory };
+
+    fn from(_: AllocFailed<T>) -> Self {
+        OpenFault::Memory
+    }
+}
+
+/// Reads the entries of a half, each with the place of its record's gate, and the half's tail, the first closed gate.
+/// The half is read whole, by one read of the disk. The disk has at least [`HEAD_BYTES`](crate::HEAD_BYTES).
+///
+/// # Errors
+///
+/// `Damaged` exactly where a record before the first closed gate breaks a rule, with the place of the first that does.
+/// `Disk` where the read failed, `Memory` where there was no memory for the half and what it says.
+pub fn replay<D: Disk>(
+    alloc: Global,
+    disk: &mut D,
+    half: Half,
+) -> Result<(Vec<Placed>, Tail), OpenFault>
+    requires { D.tells → HEAD_BYTES ≤ length (D.state disk.old).content }
+
+    ensures read { D.tells → IfOk result (λ r. IsReplay (start_of half) r.0.items r.1.place (D.state disk.old).content) }
+    ensures half { IfOk result (λ r. r.1.half ≡ half) }
+    ensures damaged { D.tells → IfErr result (λ e. (place : ℕ) → e ≡ OpenFault.Damaged place → IsBroken (start_of half) place (D.state disk.old).content) }
+
+    // What the half says decides the answer, but for a fault of the disk and want of memory.
+    ensures sound { D.tells → (tail : ℕ) → (entries : List Entry) → EndsAt (start_of half) tail entries (D.state disk.old).content
+        → MatchResult result (λ r. (r.0.items ≡ placed (start_of half) entries) × (r.1.place ≡ tail)) IsNoDamage }
+    ensures broken { D.tells → (place : ℕ) → IsBroken (start_of half) place (D.state disk.old).content
+        → MatchResult result (λ _. ⊥) (λ e. (other : ℕ) → e ≡ OpenFault.Damaged other → other ≡ place) }
+
+    ensures content { D.tells → (D.state disk.new).content ≡ (D.state disk.old).content }
+    ensures images { Passes Same (D.state disk.old) (D.state disk.new) }
+    ensures cause { result ≡ Err OpenFault.Disk → Rose (D.state disk.old).faults (D.state disk.new).faults }
+    ensures faults { (D.state disk.old).faults ≤ (D.state disk.new).faults }
+    ensures taken { ((D.state disk.old).taken ≤ (D.state disk.new).taken) × ((D.state disk.new).taken ≤ (D.state disk.old).taken + HALF_BYTES) }
+    ensures limit { (D.state disk.new).limit ≡ (D.state disk.old).limit }
+{
+    let bytes = read_half(alloc, disk, half)?;
+    read_records(alloc, half, &bytes)
+}
+
+// The bytes of a half.
+fn read_half<D: Disk>(alloc: Global, disk: &mut D, half: Half) -> Result<Vec<u8>, OpenFault>
+    requires { D.tells → HEAD_BYTES ≤ length (D.state disk.old).content }
+    ensures bytes { D.tells → IfOk result (λ v. v.items ≡ half_at (start_of half) (D.state disk.old).content) }
+    ensures length { IfOk result (λ v. length v.items ≡ HALF_BYTES) }
+    ensures damaged { IfErr result (λ e. (e ≡ DiskFault) ⊎ (e ≡ Memory)) }
+    ensures content { D.tells → (D.state disk.new).content ≡ (D.state disk.old).content }
+    ensures images { Passes Same (D.state disk.old) (D.state disk.new) }
+    ensures cause { result ≡ Err OpenFault.Disk → Rose (D.state disk.old).faults (D.state disk.new).faults }
+    ensures faults { (D.state disk.old).faults ≤ (D.state disk.new).faults }
+    ensures taken { ((D.state disk.old).taken ≤ (D.state disk.new).taken) × ((D.state disk.new).taken ≤ (D.state disk.old).taken + HALF_BYTES) }
+    ensures limit { (D.state disk.new).limit ≡ (D.state disk.old).limit }
+{
+    let mut bytes = zeros(alloc, HALF_BYTES as usize)?;
+    disk.read(half.start(), &mut bytes)?;
+    Ok(bytes)
+}
+
+// A buffer of this length. In the caller no list of a million zeros stands.
+fn zeros(alloc: Global, n: usize) -> Result<Vec<u8>, AllocError>
+    ensures { IfOk result (λ v. length v.items ≡ n) }
+{
+    Ok(vec![in alloc; 0u8; n]?)
+}
+
+// The entries in the bytes of a half.
+fn read_records(alloc: Global, half: Half, bytes: &[u8]) -> Result<(Vec<Placed>, Tail), OpenFault>
+    requires { length bytes.now ≡ HALF_BYTES }
+    ensures read { IfOk result (λ r. (start_of half ≤ r.1.place) × IsReading (start_of half) r.0.items (r.1.place - start_of half) bytes.now × HasClosedGate (r.1.place - start_of half) bytes.now) }
+    ensures half { IfOk result (λ r. r.1.half ≡ half) }
+    ensures damaged { IfErr result (λ e. (place : ℕ) → e ≡ OpenFault.Damaged place → (start_of half ≤ place) × IsDamaged (place - start_of half) bytes.now) }
+    ensures disk { IfErr result (λ e. e ≢ DiskFault) }
+{
+    let start = half.start();
+    let mut entries = Vec::new(alloc);
+    let mut at = 0usize;
+    while bytes[at] == GATE_OPEN {
+        let Some(payload) = payload_of(&bytes[at..]) else {
+            return Err(OpenFault::Damaged(start + at as u64 + 1));
+        };
+        let Some(entry) = entry_from(alloc, payload)? else {
+            return Err(OpenFault::Damaged(start + at as u64 + 5));
+        };
+        entries.push(Placed {
+            place: start + at as u64,
+            entry,
+        })?;
+        at += 5 + payload.len();
+    }
+    Ok((
+        entries,
+        Tail {
+            half,
+            place: start + at as u64,
+        },
+    ))
+}
+
+// The payload of the record that begins here, if the next gate is there too.
+#[tactic(auto, unfolding(crate::specs::Reading::of_four))]
+fn payload_of(bytes: &[u8]) -> Option<&[u8]>
+    ensures { MatchOption result (length bytes.now ≤ 5 + of_four (part 1 4 bytes.now)) (λ p. (p.now ≡ part 5 (of_four (part 1 4 bytes.now)) bytes.now) × (length p.now ≡ of_four (part 1 4 bytes.now)) × (5 + length p.now < length bytes.now)) }
+{
+    let [_, a, b, c, d, rest @ ..] = bytes else {
+        return None;
+    };
+    let len = u32::from_be_bytes([*a, *b, *c, *d]) as usize;
+    if len < rest.len() {
+        Some(&rest[..len])
+    } else {
+        None
+    }
+}
