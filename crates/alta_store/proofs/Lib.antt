@@ -1,0 +1,9 @@
+pub mod Additions
+pub mod Agreements
+pub mod Commits
+pub mod EntryLaws
+pub mod Formatted
+pub mod Loads
+pub mod NameLaws
+pub mod OneWay
+pub mod OpeningLaws

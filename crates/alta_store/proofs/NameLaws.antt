@@ -1,0 +1,60 @@
+-- Names in a map and in a state.
+use Rattle.std.proofs.Common.{◌≡◌, ◌≢◌, ℕ, Bool, true, false, cond, List, get_or, refl, sym, ◌∙◌, ap, arith, rules}
+use Rattle.std.specs.Prelude.{◌||◌, ◌==◌, Some, Option, String, is_some}
+use Rattle.std.specs.List.{All}
+use Rattle.std.specs.Str.{bytes_eq}
+use Rattle.std.specs.String.{string_cmp, string_bytes}
+use Rattle.std.specs.BTreeMap.{BTreeMap, UpdatesBy, get_by_text}
+use Rattle.std.specs.Cmp.Lexicographic.{slice_cmp}
+use Rattle.std.specs.Ordering.{nat_cmp}
+use Rattle.std.proofs.lemmas.Bool.{false≢true}
+use Rattle.std.proofs.lemmas.Bool.Decides.{nat_tests}
+use Rattle.std.proofs.lemmas.List.Folds.{list_any-append, list_any_at}
+use Rattle.std.proofs.lemmas.Map.Text.{btree_map_updates_text}
+use Rattle.std.proofs.lemmas.Slice.Eq.{bytes_eq-Decides}
+use Rattle.alta_meta.specs.declared.document.Document.{Document}
+use Rattle.alta_meta.specs.declared.document.State.{State}
+use Rattle.alta_store.specs.States.{has_byte, has_name, with_added}
+
+same_test : (a b : Bool) → (a ≡ true → b ≡ true) → (b ≡ true → a ≡ true) → a ≡ b
+same_test true b there back = sym (there refl)
+same_test false true there back = back refl
+same_test false false there back = refl
+
+bytes_eq-swap : (xs ys : List ℕ) → bytes_eq xs ys ≡ bytes_eq ys xs
+bytes_eq-swap xs ys =
+    same_test (bytes_eq xs ys) (bytes_eq ys xs)
+    (λ e. search (rules, bytes_eq-Decides xs ys, bytes_eq-Decides ys xs))
+    (λ e. search (rules, bytes_eq-Decides xs ys, bytes_eq-Decides ys xs))
+
+found : {X : Type 0} (b : Bool) (v : X) (o : Option X) → is_some (cond b (Some v) o) ≡ (b || is_some o)
+found true v o = refl
+found false v o = refl
+
+-- a name that is put into a map is found there, and so is each that was there
+pub is_some-insert : {Y X : Type 0} (key : String Y) (m n : BTreeMap (String Y) X) (v : X)
+    → UpdatesBy string_cmp (λ k. slice_cmp nat_cmp (string_bytes key) (string_bytes k)) m n (Some v)
+    → (q : List ℕ) → is_some (get_by_text n q) ≡ (bytes_eq q (string_bytes key) || is_some (get_by_text m q))
+is_some-insert key m n v updates q =
+    ap is_some (btree_map_updates_text (string_bytes key) m n (Some v) updates q)
+    ∙ found (bytes_eq (string_bytes key) q) v (get_by_text m q)
+    ∙ ap (λ (b : Bool). b || is_some (get_by_text m q)) (bytes_eq-swap (string_bytes key) q)
+
+or_swap : (a b : Bool) → (a || (b || false)) ≡ (b || a)
+or_swap true true = refl
+or_swap true false = refl
+or_swap false true = refl
+or_swap false false = refl
+
+-- one document more has its name, and the others have theirs
+pub has_name-with_added : (q name title body : List ℕ) (s : State) → has_name q (with_added name title body s) ≡ (bytes_eq q name || has_name q s)
+has_name-with_added q name title body s =
+    list_any-append (λ (d : Document). bytes_eq q d.name) s.documents _
+    ∙ or_swap (has_name q s) (bytes_eq q name)
+
+equal_tests : (a b : ℕ) → a ≡ b → (a == b) ≡ true
+equal_tests a b e = grind (arith, nat_tests)
+
+-- a byte that a text has not is none of its bytes
+pub All-has_byte : (byte : ℕ) (text : List ℕ) → has_byte byte text ≡ false → All (λ b. b ≢ byte) text
+All-has_byte byte text none = λ k d inside is. absurd (false≢true (sym none ∙ list_any_at (λ b. b == byte) text k d inside (equal_tests (get_or text k d) byte is)))

@@ -1,0 +1,29 @@
+use Rattle.std.proofs.Common.{refl}
+use Rattle.alta_store.proofs.Commits.{closed, either, agrees_after}
+use Rattle.alta_store.proofs.store.Store.commit.Goals as goal
+
+pub append-requires-clause-closed : goal.append-requires-clause-closed
+append-requires-clause-closed g c =
+    closed g.D.Disk.tells (g.D.Disk.state c.args.disk.now) (g.met.D.Disk.lawful c.args.disk.now) c.args.self.now c.requires.agrees.0 c.requires.agrees.1
+
+pub returns-in-Ok-append-clause-agrees : goal.returns-in-Ok-append-clause-agrees
+returns-in-Ok-append-clause-agrees g c = λ s agrees.
+    agrees_after g.D.Disk.tells (g.D.Disk.state c.args.disk.now) (g.met.D.Disk.lawful c.args.disk.now) c.args.self.now s agrees
+    c.args.name.now c.args.title.now c.args.body.now c.in-Ok.ready.entry c.in-Ok.ensures c.requires.free c.requires.number
+    (g.D.Disk.state c.append.new.disk) c.in-Ok-append.ensures.images (g.met.D.Disk.lawful c.append.new.disk) c.in-Ok-append.ensures.durable c.in-Ok-append.ensures.appended
+    _ c.in-Ok-append.ensures.tail c.in-Ok-append.ensures.half refl c.in-Ok-note.ensures
+
+pub returns-in-Ok-append-clause-images : goal.returns-in-Ok-append-clause-images
+returns-in-Ok-append-clause-images g c = λ s agrees.
+    either g.D.Disk.tells (g.D.Disk.state c.args.disk.now) (g.met.D.Disk.lawful c.args.disk.now) c.args.self.now s agrees
+    c.args.name.now c.args.title.now c.args.body.now c.in-Ok.ready.entry c.in-Ok.ensures c.requires.free c.requires.number (g.D.Disk.state c.append.new.disk) c.in-Ok-append.ensures.images
+
+pub returns-in-Err-Full-clause-images : goal.returns-in-Err-Full-clause-images
+returns-in-Err-Full-clause-images g c = λ s agrees.
+    either g.D.Disk.tells (g.D.Disk.state c.args.disk.now) (g.met.D.Disk.lawful c.args.disk.now) c.args.self.now s agrees
+    c.args.name.now c.args.title.now c.args.body.now c.in-Ok.ready.entry c.in-Ok.ensures c.requires.free c.requires.number (g.D.Disk.state c.append.new.disk) c.in-Err-Full.ensures.images
+
+pub returns-clause-images : goal.returns-clause-images
+returns-clause-images g c = λ s agrees.
+    either g.D.Disk.tells (g.D.Disk.state c.args.disk.now) (g.met.D.Disk.lawful c.args.disk.now) c.args.self.now s agrees
+    c.args.name.now c.args.title.now c.args.body.now c.in-Ok.ready.entry c.in-Ok.ensures c.requires.free c.requires.number (g.D.Disk.state c.append.new.disk) c.in-Err-Disk.ensures.images

@@ -1,0 +1,55 @@
+use Rattle.std.proofs.Common.{List, ℕ, ◌≡◌, subst, sym}
+use Rattle.std.proofs.lemmas.Result.{IfOk-at_ok}
+use Rattle.alta_disk.proofs.Moments.{only_same}
+use Rattle.alta_journal.specs.declared.half.Half.TheVariants.{A}
+use Rattle.alta_meta.specs.declared.document.State.{State}
+use Rattle.alta_store.specs.Agreement.{Agrees, Holds}
+use Rattle.alta_store.specs.Brokenness.{HasNoIndex, IsBrokenAt}
+use Rattle.alta_store.specs.Meaning.{StandsFor}
+use Rattle.alta_store.specs.declared.store.Store.{Store}
+use Rattle.alta_store.proofs.Loads.{if_ok, only_synced, held_as, outside, rooted, broken_at}
+use Rattle.alta_store.proofs.store.Store.open.Goals as goal
+
+pub returns-clause-agrees : goal.returns-clause-agrees
+returns-clause-agrees g c = λ s stands.
+    if_ok c.load.result (λ (store : Store). Agrees g.D.Disk.tells (g.D.Disk.state c.load.new.disk) store s) (λ store is. record {
+      settled = only_same g.D.Disk.tells (g.D.Disk.state c.sync.new.self) (g.met.D.Disk.lawful c.sync.new.self)
+          (only_synced g.D.Disk.tells (g.D.Disk.state c.args.disk.now) (g.D.Disk.state c.sync.new.self) (g.met.D.Disk.lawful c.sync.new.self) c.in-Ok.ensures.durable c.sync.ensures.content)
+          (g.D.Disk.state c.load.new.disk) c.load.ensures.images c.load.ensures.content;
+      content = λ told. subst (Holds store s) (sym (c.load.ensures.content told))
+          (held_as g.D.Disk.tells (g.D.Disk.state c.sync.new.self).content c.load.result c.load.ensures.loaded c.load.ensures.no_root c.load.ensures.damaged c.load.ensures.only
+          s store (λ told. subst (StandsFor s) (sym (c.sync.ensures.content told)) (stands told)) is told);
+      half = IfOk-at_ok (λ (store : Store). store.tail.half ≡ A) is c.load.ensures.half;
+    })
+
+pub returns-clause-some : goal.returns-clause-some
+returns-clause-some g c =
+    if_ok c.load.result (λ (store : Store). (s : State) × Agrees g.D.Disk.tells (g.D.Disk.state c.load.new.disk) store s) (λ store is.
+    let held = IfOk-at_ok (λ (store : Store). (s : State) × (g.D.Disk.tells → Holds store s (g.D.Disk.state c.sync.new.self).content)) is c.load.ensures.loaded in (
+      held.0,
+      record {
+        settled = only_same g.D.Disk.tells (g.D.Disk.state c.sync.new.self) (g.met.D.Disk.lawful c.sync.new.self)
+            (only_synced g.D.Disk.tells (g.D.Disk.state c.args.disk.now) (g.D.Disk.state c.sync.new.self) (g.met.D.Disk.lawful c.sync.new.self) c.in-Ok.ensures.durable c.sync.ensures.content)
+            (g.D.Disk.state c.load.new.disk) c.load.ensures.images c.load.ensures.content;
+        content = λ told. subst (Holds store held.0) (sym (c.load.ensures.content told)) (held.1 told);
+        half = IfOk-at_ok (λ (store : Store). store.tail.half ≡ A) is c.load.ensures.half;
+      },
+    ))
+
+pub returns-clause-stands : goal.returns-clause-stands
+returns-clause-stands g c = λ s told stands.
+    outside g.D.Disk.tells (g.D.Disk.state c.sync.new.self).content c.load.result c.load.ensures.loaded c.load.ensures.no_root c.load.ensures.damaged c.load.ensures.only
+    s told (subst (StandsFor s) (sym (c.sync.ensures.content told)) stands)
+
+pub returns-clause-rooted : goal.returns-clause-rooted
+returns-clause-rooted g c = λ told none.
+    rooted g.D.Disk.tells (g.D.Disk.state c.sync.new.self).content c.load.result c.load.ensures.loaded c.load.ensures.no_root c.load.ensures.damaged c.load.ensures.only
+    told (subst HasNoIndex (sym (c.sync.ensures.content told)) none)
+
+pub returns-clause-damaged : goal.returns-clause-damaged
+returns-clause-damaged g c = λ place told e. subst (λ (image : List ℕ). IsBrokenAt image place) (c.sync.ensures.content told) (c.load.ensures.damaged told place e)
+
+pub returns-clause-undamaged : goal.returns-clause-undamaged
+returns-clause-undamaged g c = λ place told broken.
+    broken_at g.D.Disk.tells (g.D.Disk.state c.sync.new.self).content c.load.result c.load.ensures.loaded c.load.ensures.no_root c.load.ensures.damaged c.load.ensures.only
+    place told (subst (λ (image : List ℕ). IsBrokenAt image place) (sym (c.sync.ensures.content told)) broken)

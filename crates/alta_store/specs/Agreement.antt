@@ -1,0 +1,43 @@
+-- A store and its disk.
+use Rattle.std.proofs.Common.{Global}
+use Rattle.std.specs.Prelude.{◌≡◌, ℕ, ◌+◌, ◌-◌, ◌≤◌, true, List, Bool, String, is_some}
+use Rattle.std.specs.BTreeMap.{BTreeMap, get_by_text}
+use Rattle.alta_disk.specs.Disk.{DiskState, Only}
+use Rattle.alta_journal.specs.declared.half.Half.TheVariants.{A}
+use Rattle.alta_journal.specs.declared.places.TheConstants.{START_A, HALF_BYTES, HEAD_BYTES}
+use Rattle.alta_meta.specs.declared.document.State.{State}
+use Rattle.alta_store.specs.Meaning.{View, IsView, state_of}
+use Rattle.alta_store.specs.States.{has_name}
+use Rattle.alta_store.specs.declared.store.Store.{Store}
+
+-- This is the next number of the state, and these are the names of its documents.
+pub record Knows (number : ℕ) (known : BTreeMap (String Global) ℕ) (s : State) : Type 0 where
+  pub next : number ≡ s.next
+  pub names : (name : List ℕ) → is_some (get_by_text known name) ≡ has_name name s
+
+-- What the store keeps is what this image says, and it stands for this state.
+pub record Holds (store : Store) (s : State) (image : List ℕ) : Type 0 where
+  pub view : View
+  pub is : IsView store.tail.place view image
+  pub state_is : state_of view ≡ s
+  pub knows : Knows store.next store.names s
+
+-- Store and disk agree on this state: nothing is pending.
+pub record Agrees (tells : Type 0) (disk : DiskState) (store : Store) (s : State) : Type 0 where
+  pub settled : Only disk.content disk.images
+  pub content : tells → Holds store s disk.content
+  pub half : store.tail.half ≡ A
+
+-- how many bytes are left in the journal behind the gate of the next record
+abbrev pub room_of : Store → ℕ
+room_of store = START_A + HALF_BYTES - (store.tail.place + 1)
+
+-- whether the store may be used
+abbrev pub is_sound : Store → Bool
+is_sound store = store.sound
+
+-- Documents may be added: the store may be used, it agrees with its disk on some state, and the disk may be long enough.
+pub record CanAdd (tells : Type 0) (disk : DiskState) (store : Store) : Type 0 where
+  pub sound : is_sound store ≡ true
+  pub agrees : (s : State) × Agrees tells disk store s
+  pub limit : HEAD_BYTES ≤ disk.limit

@@ -1,0 +1,20 @@
+-- Answers that yield to want of memory and to a fault of the disk.
+use Rattle.std.specs.Prelude.{◌≡◌, ◌⊎◌, Result, Err}
+use Rattle.alta_journal.specs.declared.replaying.OpenFault.{OpenFault}
+use Rattle.alta_journal.specs.declared.replaying.OpenFault.TheVariants.{Disk as JournalDisk, Memory as JournalMemory, Damaged as JournalDamaged}
+use Rattle.alta_store.specs.declared.fault.StoreFault.{StoreFault}
+use Rattle.alta_store.specs.declared.fault.StoreFault.TheVariants.{Disk, Memory, Damaged}
+
+-- want of memory, or a fault of the disk, which comes only where its count rose
+abbrev pub IsOutside : StoreFault → Type 0
+IsOutside fault = (fault ≡ Memory) ⊎ (fault ≡ Disk)
+
+-- the answer is this error, or memory was wanting or a call of the disk failed before
+abbrev pub AnswersFault : {T : Type 0} → Result T StoreFault → StoreFault → Type 0
+AnswersFault result fault = (result ≡ Err fault) ⊎ ((result ≡ Err Memory) ⊎ (result ≡ Err Disk))
+
+-- the fault of an opening whose journal was not read
+abbrev pub of_opening : OpenFault → StoreFault
+of_opening JournalDisk = Disk
+of_opening JournalMemory = Memory
+of_opening (JournalDamaged place) = Damaged place

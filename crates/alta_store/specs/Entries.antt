@@ -1,0 +1,42 @@
+-- What the entries of the journal do to a state, one after the other.
+use Rattle.std.specs.Prelude.{◌≡◌, ℕ, ◌+◌, ◌<◌, false, List, [], ◌∷◌, ◌++◌, map}
+use Rattle.alta_journal.specs.declared.entry.Entry.{Entry}
+use Rattle.alta_journal.specs.declared.entry.Entry.TheVariants.{Add, Delete}
+use Rattle.alta_journal.specs.declared.placed.Placed.{Placed}
+use Rattle.alta_meta.specs.declared.document.State.{State}
+use Rattle.alta_store.specs.States.{has_name, with_added}
+
+-- The state allows the entry: a name that no live document has, and a number left for it. No command deletes yet, so
+-- no entry may.
+abbrev pub Allows : State → Entry → Type 0
+Allows s (Add name title body) = (has_name name s ≡ false) × (s.next < 4294967296)
+Allows s (Delete number) = ⊥
+
+-- the state after an entry
+abbrev pub after_entry : State → Entry → State
+after_entry s (Add name title body) = with_added name title body s
+after_entry s (Delete number) = s
+
+-- the state after entries
+abbrev pub after_entries : State → List Entry → State
+after_entries s [] = s
+after_entries s (entry ∷ entries) = after_entries (after_entry s entry) entries
+
+-- each entry is allowed by the state behind those before it
+abbrev pub AllowsAll : State → List Entry → Type 0
+AllowsAll s [] = Unit {0}
+AllowsAll s (entry ∷ entries) = Allows s entry × AllowsAll (after_entry s entry) entries
+
+-- the entries of these, without their places
+abbrev pub entries_in : List Placed → List Entry
+entries_in found = map (λ (p : Placed). p.entry) found
+
+-- The first of these entries that is not allowed where it stands has its record's payload at this place.
+pub record IsRefusedAt (s : State) (found : List Placed) (place : ℕ) : Type 0 where
+  pub before : List Placed
+  pub refused : Placed
+  pub behind : List Placed
+  pub split : found ≡ before ++ refused ∷ behind
+  pub allowed : AllowsAll s (entries_in before)
+  pub not_allowed : Allows (after_entries s (entries_in before)) refused.entry → ⊥
+  pub place_is : place ≡ refused.place + 5

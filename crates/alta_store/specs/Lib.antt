@@ -1,0 +1,7 @@
+pub mod Agreement
+pub mod Answers
+pub mod Brokenness
+pub mod Entries
+pub mod Meaning
+pub mod Roots
+pub mod States

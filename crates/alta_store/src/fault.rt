@@ -1,0 +1,37 @@
+// Why a call of the store was not done.
+ghost use Rattle.std.specs.Prelude.{◌≡◌};
+ghost use Rattle.alta_store.specs.Answers.{of_opening};
+
+use alta_journal::OpenFault;
+
+/// Why a call of the store was not done.
+#[derive(Clone, Copy, Debug, PartialEq, Eq)]
+pub enum StoreFault {
+    /// A call of the disk failed.
+    Disk,
+    /// There was no memory left.
+    Memory,
+    /// The content of the disk breaks a rule of the format, first at this place.
+    Damaged(u64),
+    /// No index is on the disk.
+    NoRoot,
+    /// What has to be written needs this many bytes, and the greatest gap has that many.
+    Full { need: u64, gap: u64 },
+    /// A live document has the name.
+    Taken,
+    /// No live document has the name.
+    Missing,
+    /// No number is left for a document.
+    Numbers,
+}
+
+// The fault of an opening whose journal was not read.
+pub(crate) fn opening_fault(fault: OpenFault) -> StoreFault
+    ensures { result ≡ of_opening fault }
+{
+    match fault {
+        OpenFault::Disk => StoreFault::Disk,
+        OpenFault::Memory => StoreFault::Memory,
+        OpenFault::Damaged(place) => StoreFault::Damaged(place),
+    }
+}

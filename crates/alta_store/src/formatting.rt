@@ -1,0 +1,74 @@
+// A disk without documents.
+ghost use Rattle.std.specs.Prelude.{◌≡◌, ◌≤◌, ◌+◌, ◌↔◌, true, length, IfOk, OnOk};
+ghost use Rattle.alta_codec.specs.Faults.{HasCause};
+ghost use Rattle.alta_disk.specs.Disk.{DiskState, Same, Passes, Stands};
+ghost use Rattle.alta_journal.specs.declared.places.TheConstants.{HEAD_BYTES};
+ghost use Rattle.alta_store.specs.Brokenness.{HasNoIndex};
+ghost use Rattle.alta_store.specs.Meaning.{StandsFor};
+ghost use Rattle.alta_store.specs.Roots.{AreZero, IsClear};
+ghost use Rattle.alta_store.specs.States.{empty};
+
+use alta_codec::Failed;
+use alta_disk::{Disk, write_synced};
+use alta_journal::{GATE_OPEN, HEAD_BYTES};
+
+/// The fields behind the gate of a root without documents: version 1, sequence 0, no levels, next number 1, next
+/// location 1, no deletion list.
+const EMPTY_FIELDS: [u8; 39] = [
+    1, 0, 0, 0, 0, 0, 0, 0, 0, 0, 0, 0, 0, 0, 1, 0, 0, 0, 0, 0, 0, 0, 1, 0, 0, 0, 0, 0, 0, 0, 0, 0,
+    0, 0, 0, 0, 0, 0, 0,
+];
+
+/// Writes an index without documents over what the disk holds: zeros over both slots and both halves of the journal, then
+/// the fields of the first slot, then its gate, each synced before the next. After `Ok` every image that a stop may
+/// leave stands for the empty state. Bytes behind the journal stay as they are.
+///
+/// # Errors
+///
+/// `Failed` where a call of the disk failed. Then nothing is promised of what the disk holds.
+pub fn format<D: Disk>(disk: &mut D) -> Result<(), Failed>
+    requires { HEAD_BYTES ≤ (D.state disk.old).limit }
+    ensures formatted { OnOk result (Stands D.tells (D.state disk.new) (StandsFor empty)) }
+    ensures cause { HasCause (D.state disk.old).faults (D.state disk.new).faults result }
+    ensures taken { (D.state disk.new).taken ≡ (D.state disk.old).taken }
+    ensures same_limit { (D.state disk.new).limit ≡ (D.state disk.old).limit }
+{
+    clear_head(disk)?;
+    disk.sync()?;
+    write_synced(disk, 1, &EMPTY_FIELDS)?;
+    write_synced(disk, 0, &[GATE_OPEN])?;
+    Ok(())
+}
+
+// Writes zeros over the slots and the journal.
+fn clear_head<D: Disk>(disk: &mut D) -> Result<(), Failed>
+    requires { HEAD_BYTES ≤ (D.state disk.old).limit }
+    ensures clear { D.tells → OnOk result (IsClear HEAD_BYTES (D.state disk.new).content) }
+    ensures cause { HasCause (D.state disk.old).faults (D.state disk.new).faults result }
+    ensures taken { (D.state disk.new).taken ≡ (D.state disk.old).taken }
+    ensures same_limit { (D.state disk.new).limit ≡ (D.state disk.old).limit }
+{
+    let zeros = [0u8; 65_536];
+    put_zeros(disk, &zeros)
+}
+
+// Writes zeros over the slots and the journal, as many at once as are given.
+fn put_zeros<D: Disk>(disk: &mut D, zeros: &[u8]) -> Result<(), Failed>
+    requires limit { HEAD_BYTES ≤ (D.state disk.old).limit }
+    requires zeros { AreZero zeros.now }
+    requires some { 1 ≤ length zeros.now }
+    ensures clear { D.tells → OnOk result (IsClear HEAD_BYTES (D.state disk.new).content) }
+    ensures cause { HasCause (D.state disk.old).faults (D.state disk.new).faults result }
+    ensures taken { (D.state disk.new).taken ≡ (D.state disk.old).taken }
+    ensures same_limit { (D.state disk.new).limit ≡ (D.state disk.old).limit }
+{
+    let mut at = 0;
+    while at < HEAD_BYTES {
+        let n = (HEAD_BYTES - at).min(zeros.len() as u64);
+        match disk.write(at, &zeros[..n as usize]) {
+            Ok(()) => at += n,
+            Err(failed) => return Err(failed),
+        }
+    }
+    Ok(())
+}

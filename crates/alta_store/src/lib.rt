@@ -1,0 +1,20 @@
+//! An index on a disk. Each image that a stop may leave stands for the state before a call or after it.
+#![tactic(auto)]
+
+mod fault;
+mod formatting;
+mod laws;
+mod names;
+mod opening;
+mod places;
+mod replaying;
+mod root;
+mod store;
+#[cfg(test)]
+mod tests;
+
+pub use fault::StoreFault;
+pub use formatting::format;
+pub use laws::a_disk_is_read_one_way;
+pub use opening::has_index;
+pub use store::Store;

@@ -1,0 +1,239 @@
+// The store.
+ghost use Rattle.std.specs.BTreeMap.{get_by_text};
+ghost use Rattle.std.specs.Str.{bytes_eq};
+ghost use Rattle.std.specs.Prelude.{◌||◌, ◌≡◌, ◌⊎◌, ◌↔◌, ◌+◌, ◌<◌, ◌≤◌, ◌++◌, ◌∷◌, [], ℕ, List, true, false, length, is_some, Result, Ok, Err, IfOk, IfErr, OnOk, OnErr, IsErr};
+ghost use Rattle.alta_codec.specs.Faults.{Rose};
+ghost use Rattle.alta_disk.specs.Disk.{DiskState, Same, Only, Passes, LeavesOnly};
+ghost use Rattle.alta_journal.specs.Record.{body_of};
+ghost use Rattle.alta_journal.specs.declared.entry.Entry.TheVariants.{Add};
+ghost use Rattle.alta_journal.specs.declared.places.TheConstants.{HALF_BYTES, HEAD_BYTES};
+ghost use Rattle.alta_journal.specs.declared.half.Half.TheVariants.{A};
+ghost use Rattle.alta_meta.specs.declared.document.State.{State};
+ghost use Rattle.alta_store.specs.Agreement.{Agrees, Holds, is_sound, room_of};
+ghost use Rattle.alta_store.specs.Answers.{IsOutside, AnswersFault};
+ghost use Rattle.alta_store.specs.Brokenness.{HasNoIndex, IsBrokenAt};
+ghost use Rattle.alta_store.specs.Meaning.{StandsFor, StandsForEither};
+ghost use Rattle.alta_store.specs.States.{has_name, with_added, IsDocument};
+ghost use Rattle.alta_store.specs.declared.fault.StoreFault.TheVariants.{Disk as DiskFault, Memory, NoRoot, Damaged, Taken, Numbers, Full};
+
+use crate::StoreFault;
+use crate::fault::opening_fault;
+use crate::names::note;
+use crate::opening::read_root;
+use crate::places::LAST_NEXT;
+use crate::replaying::note_entries;
+use alta_codec::Text;
+use alta_disk::Disk;
+use alta_journal::{Entry, Half, JournalFault, Ready, Tail, append, ready, replay};
+use std::alloc::{AllocError, Global};
+use std::collections::BTreeMap;
+
+/// The live documents of an index, and where its journal goes on.
+#[derive(Drop)]
+pub struct Store {
+    alloc: Global,
+    tail: Tail,
+    next: u64,
+    names: BTreeMap<String, u64>,
+    sound: bool,
+}
+
+impl Store {
+    ghost use Rattle.alta_store.specs.Agreement.{Agrees, is_sound, room_of};
+
+    /// Whether the store may be used: false after an error of the disk, of memory, or for want of room.
+    pub fn sound(&self) -> bool
+        ensures { result ≡ is_sound self.now }
+    {
+        self.sound
+    }
+
+    /// Opens the index of a disk: one sync, then the slots, then the journal's records by themselves, then their entries against
+    /// the documents before them. The store then stands for the state that the content stands for, and nothing is pending.
+    ///
+    /// # Errors
+    ///
+    /// `NoRoot` exactly where the content has no index, and `Damaged` exactly where it has one that breaks a rule of the
+    /// format, with the first place in this order: the length of a disk that is too short, 0 for the slots, and the place
+    /// in the journal. Both yield to `Memory`, and to `Disk` where a call of the disk failed.
+    pub fn open<D: Disk>(alloc: Global, disk: &mut D) -> Result<Store, StoreFault>
+        ensures agrees { (s : State) → (D.tells → StandsFor s (D.state disk.old).content) → IfOk result (λ store. Agrees D.tells (D.state disk.new) store s) }
+        ensures some { IfOk result (λ store. (s : State) × Agrees D.tells (D.state disk.new) store s) }
+        ensures sound { IfOk result (λ store. is_sound store ≡ true) }
+        ensures limit { OnOk result (HEAD_BYTES ≤ (D.state disk.new).limit) }
+
+        ensures stands { (s : State) → D.tells → StandsFor s (D.state disk.old).content → IfErr result IsOutside }
+        ensures no_root { D.tells → result ≡ Err NoRoot → HasNoIndex (D.state disk.old).content }
+        ensures rooted { D.tells → HasNoIndex (D.state disk.old).content → AnswersFault result NoRoot }
+        ensures damaged { (place : ℕ) → D.tells → result ≡ Err (Damaged place) → IsBrokenAt (D.state disk.old).content place }
+        ensures undamaged { (place : ℕ) → D.tells → IsBrokenAt (D.state disk.old).content place → AnswersFault result (Damaged place) }
+        ensures only { IfErr result (λ e. IsOutside e ⊎ ((e ≡ NoRoot) ⊎ ((place : ℕ) × (e ≡ Damaged place)))) }
+
+        ensures durable { OnOk result (Only (D.state disk.new).content (D.state disk.new).images) }
+        ensures content { D.tells → (D.state disk.new).content ≡ (D.state disk.old).content }
+        ensures images { Passes Same (D.state disk.old) (D.state disk.new) }
+        ensures cause { result ≡ Err DiskFault → Rose (D.state disk.old).faults (D.state disk.new).faults }
+        ensures faults { (D.state disk.old).faults ≤ (D.state disk.new).faults }
+        ensures read { (D.state disk.new).taken ≤ (D.state disk.old).taken + 8192 + HALF_BYTES }
+        ensures same_limit { (D.state disk.new).limit ≡ (D.state disk.old).limit }
+    {
+        let Ok(()) = disk.sync() else {
+            return Err(StoreFault::Disk);
+        };
+        load(alloc, disk)
+    }
+
+    /// Adds a document, by one record in the journal, and answers its number. The title has no tab, title and body have no
+    /// newline. While it runs, each image that a stop may leave stands for the state before or after; once it has
+    /// answered, each stands for the state after.
+    ///
+    /// # Errors
+    ///
+    /// `Taken` exactly where a live document has the name, else `Numbers` exactly where no number is left; then nothing was
+    /// called and nothing has changed. `Full` where the record does not fit in the journal, `Disk` where a call of the disk
+    /// failed, and `Memory`: then the store may no longer be used.
+    pub fn add<D: Disk>(
+        &mut self,
+        disk: &mut D,
+        name: &str,
+        title: &str,
+        body: &str,
+    ) -> Result<u64, StoreFault>
+        requires document { IsDocument name.now title.now body.now }
+        requires sound { is_sound self.old ≡ true }
+        requires agrees { (s : State) × Agrees D.tells (D.state disk.old) self.old s }
+        requires limit { HEAD_BYTES ≤ (D.state disk.old).limit }
+
+        ensures agrees { (s : State) → Agrees D.tells (D.state disk.old) self.old s → OnOk result (Agrees D.tells (D.state disk.new) self.new (with_added name.now title.now body.now s)) }
+        ensures number { (s : State) → Agrees D.tells (D.state disk.old) self.old s → D.tells → IfOk result (λ n. (n ≡ s.next) × (has_name name.now s ≡ false) × (s.next < 4294967296)) }
+        ensures sound { OnOk result (is_sound self.new ≡ true) }
+        ensures unsound { IfErr result (λ e. ((e ≡ Taken) ⊎ (e ≡ Numbers)) ⊎ (is_sound self.new ≡ false)) }
+
+        // At each moment of the call.
+        ensures images { (s : State) → Agrees D.tells (D.state disk.old) self.old s → LeavesOnly (StandsForEither s (with_added name.now title.now body.now s)) (D.state disk.old) (D.state disk.new) }
+
+        ensures taken { (s : State) → Agrees D.tells (D.state disk.old) self.old s → D.tells → (result ≡ Err Taken) ↔ (has_name name.now s ≡ true) }
+        ensures numbers { (s : State) → Agrees D.tells (D.state disk.old) self.old s → D.tells → (result ≡ Err Numbers) ↔ ((has_name name.now s ≡ false) × (4294967296 ≤ s.next)) }
+        ensures refused { (result ≡ Err Taken) ⊎ (result ≡ Err Numbers) → (disk.new ≡ disk.old) × (self.new ≡ self.old) }
+        ensures full { (need gap : ℕ) → result ≡ Err (Full need gap) → (need ≡ length (body_of (Add name.now title.now body.now))) × (gap ≡ room_of self.old) × (gap < need) }
+        ensures room { OnOk result (room_of self.new + length (body_of (Add name.now title.now body.now)) ≡ room_of self.old) }
+        ensures only { IfErr result (λ e. IsOutside e ⊎ ((e ≡ Taken) ⊎ ((e ≡ Numbers) ⊎ ((need gap : ℕ) × (e ≡ Full need gap))))) }
+        ensures cause { result ≡ Err DiskFault → Rose (D.state disk.old).faults (D.state disk.new).faults }
+        ensures faults { (D.state disk.old).faults ≤ (D.state disk.new).faults }
+        ensures read { (D.state disk.new).taken ≡ (D.state disk.old).taken }
+        ensures same_limit { (D.state disk.new).limit ≡ (D.state disk.old).limit }
+    {
+        if self.names.contains_key(name) {
+            return Err(StoreFault::Taken);
+        }
+        if self.next >= LAST_NEXT {
+            return Err(StoreFault::Numbers);
+        }
+        match self.commit(disk, name, title, body) {
+            Ok(number) => Ok(number),
+            Err(fault) => {
+                self.sound = false;
+                Err(fault)
+            }
+        }
+    }
+
+    // Adds a document whose name is free and for which a number is left. All memory is taken before the first write.
+    fn commit<D: Disk>(
+        &mut self,
+        disk: &mut D,
+        name: &str,
+        title: &str,
+        body: &str,
+    ) -> Result<u64, StoreFault>
+        requires document { IsDocument name.now title.now body.now }
+        requires agrees { (s : State) × Agrees D.tells (D.state disk.old) self.old s }
+        requires free { is_some (get_by_text self.old.names name.now) ≡ false }
+        requires number { self.old.next < 4294967296 }
+        requires limit { HEAD_BYTES ≤ (D.state disk.old).limit }
+
+        ensures agrees { (s : State) → Agrees D.tells (D.state disk.old) self.old s → OnOk result (Agrees D.tells (D.state disk.new) self.new (with_added name.now title.now body.now s)) }
+        ensures number { IfOk result (λ n. n ≡ self.old.next) }
+        ensures sound { is_sound self.new ≡ is_sound self.old }
+        ensures images { (s : State) → Agrees D.tells (D.state disk.old) self.old s → LeavesOnly (StandsForEither s (with_added name.now title.now body.now s)) (D.state disk.old) (D.state disk.new) }
+        ensures full { (need gap : ℕ) → result ≡ Err (Full need gap) → (need ≡ length (body_of (Add name.now title.now body.now))) × (gap ≡ room_of self.old) × (gap < need) }
+        ensures room { OnOk result (room_of self.new + length (body_of (Add name.now title.now body.now)) ≡ room_of self.old) }
+        ensures only { IfErr result (λ e. IsOutside e ⊎ ((need gap : ℕ) × (e ≡ Full need gap))) }
+        ensures cause { result ≡ Err DiskFault → Rose (D.state disk.old).faults (D.state disk.new).faults }
+        ensures faults { (D.state disk.old).faults ≤ (D.state disk.new).faults }
+        ensures read { (D.state disk.new).taken ≡ (D.state disk.old).taken }
+        ensures same_limit { (D.state disk.new).limit ≡ (D.state disk.old).limit }
+    {
+        let number = self.next;
+        let Ok(ready) = record_of_add(self.alloc, name, title, body) else {
+            return Err(StoreFault::Memory);
+        };
+        let Ok(()) = note(self.alloc, &mut self.names, name, number) else {
+            return Err(StoreFault::Memory);
+        };
+        match append(disk, &mut self.tail, &ready) {
+            Ok(()) => {
+                self.next = number + 1;
+                Ok(number)
+            }
+            Err(JournalFault::Full { need, left }) => Err(StoreFault::Full { need, gap: left }),
+            Err(JournalFault::Disk) => Err(StoreFault::Disk),
+        }
+    }
+}
+
+// The record of a document that is added.
+fn record_of_add(alloc: Global, name: &str, title: &str, body: &str) -> Result<Ready, AllocError>
+    requires { IsDocument name.now title.now body.now }
+    ensures { IfOk result (λ r. r.entry ≡ Add name.now title.now body.now) }
+{
+    let entry = Entry::Add {
+        name: text_of(alloc, name)?,
+        title: text_of(alloc, title)?,
+        body: text_of(alloc, body)?,
+    };
+    ready(alloc, &entry)
+}
+
+fn text_of(alloc: Global, text: &str) -> Result<Text, AllocError>
+    ensures { IfOk result (λ t. t ≡ text.now) }
+{
+    Ok(Text::from_string(String::from_str(alloc, text)?))
+}
+
+// Reads the store that a disk holds.
+fn load<D: Disk>(alloc: Global, disk: &mut D) -> Result<Store, StoreFault>
+    ensures loaded { IfOk result (λ store. (s : State) × (D.tells → Holds store s (D.state disk.old).content)) }
+    ensures half { IfOk result (λ store. store.tail.half ≡ A) }
+    ensures sound { IfOk result (λ store. is_sound store ≡ true) }
+    ensures limit { OnOk result (HEAD_BYTES ≤ (D.state disk.old).limit) }
+    ensures no_root { D.tells → result ≡ Err NoRoot → HasNoIndex (D.state disk.old).content }
+    ensures damaged { D.tells → (place : ℕ) → result ≡ Err (Damaged place) → IsBrokenAt (D.state disk.old).content place }
+    ensures only { IfErr result (λ e. IsOutside e ⊎ ((e ≡ NoRoot) ⊎ ((place : ℕ) × (e ≡ Damaged place)))) }
+    ensures content { D.tells → (D.state disk.new).content ≡ (D.state disk.old).content }
+    ensures images { Passes Same (D.state disk.old) (D.state disk.new) }
+    ensures cause { result ≡ Err DiskFault → Rose (D.state disk.old).faults (D.state disk.new).faults }
+    ensures faults { (D.state disk.old).faults ≤ (D.state disk.new).faults }
+    ensures read { (D.state disk.new).taken ≤ (D.state disk.old).taken + 8192 + HALF_BYTES }
+    ensures same_limit { (D.state disk.new).limit ≡ (D.state disk.old).limit }
+{
+    let root = match read_root(disk) {
+        Ok(root) => root,
+        Err(fault) => return Err(fault),
+    };
+    let (found, tail) = match replay(alloc, disk, Half::A) {
+        Ok(read) => read,
+        Err(fault) => return Err(opening_fault(fault)),
+    };
+    let mut names = BTreeMap::new(alloc);
+    match note_entries(alloc, &mut names, root.next, &found) {
+        Ok(next) => Ok(Store {
+            alloc,
+            tail,
+            next,
+            names,
+            sound: true,
+        }),
+        Err(fault) => Err(fault),
+    }
+}
