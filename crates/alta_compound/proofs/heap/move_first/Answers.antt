@@ -1,0 +1,40 @@
+use Rattle.std.proofs.Common.{◌≡◌, [], map, get_or, set, sym, subst, ap, ◌∙◌, arith}
+use Rattle.std.proofs.lemmas.List.{map-set, get_or-map, get_or-set_same}
+use Rattle.std.proofs.lemmas.List.Elements.{All-set}
+use Rattle.std.proofs.lemmas.List.Sorted.{All-permutation}
+use Rattle.alta_codec.specs.Rising.{first_from, pred_of}
+use Rattle.alta_compound.specs.Heap.{IsHeapFrom}
+use Rattle.alta_compound.specs.Unions.{pred_same}
+use Rattle.alta_compound.proofs.Heaps.{heap_but_first, left_after}
+use Rattle.alta_compound.proofs.heap.move_first.Goals as goal
+
+pub sift_down-requires-clause-heap : goal.sift_down-requires-clause-heap
+sift_down-requires-clause-heap g c =
+    let h = g.R.Reader.location in let rs = c.args.readers.now in let r = c.seek.new.self in
+    subst (λ l. IsHeapFrom 1 l) (sym (map-set h rs 0 r)) (heap_but_first (map h rs) (h r) c.requires.heap)
+
+pub returns-clause-sound : goal.returns-clause-sound
+returns-clause-sound g c =
+    let rs = c.args.readers.now in let r = c.seek.new.self in
+    All-permutation g.R.Reader.sound (set rs 0 r) c.sift_down.new.readers c.sift_down.ensures.permutation
+    (All-set g.R.Reader.sound rs 0 r c.seek.ensures.sound c.requires.sound)
+
+pub returns-clause-last : goal.returns-clause-last
+returns-clause-last g c =
+    let f = g.R.Reader.list in let h = g.R.Reader.location in let rs = c.args.readers.now in let r = c.seek.new.self in
+    let same : get_or (map f rs) 0 [] ≡ f (get_or rs 0 c.index-readers-0.result) = get_or-map f rs 0 c.index-readers-0.result [] c.requires.some in
+    c.prev-last.ensures
+    ∙ ap (λ x. pred_of (f x) (h x)) (get_or-set_same rs 0 r c.index-readers-0-2.result c.requires.some)
+    ∙ ap (λ l. pred_of l (h r)) (c.seek.ensures.list ∙ sym same)
+    ∙ pred_same (get_or (map f rs) 0 []) c.args.to (h r) (c.seek.ensures.location ∙ ap (λ l. first_from l c.args.to) (sym same))
+    (omega (arith, c.requires.before)) c.requires.top
+
+pub returns-clause-falls : goal.returns-clause-falls
+returns-clause-falls g c =
+    let left = left_after g.R.Reader.left c.args.readers.now c.sift_down.new.readers c.seek.new.self c.index-readers-0.result c.requires.some c.sift_down.ensures.permutation in
+    omega (arith, left, c.seek.ensures.falls)
+
+pub returns-clause-steps : goal.returns-clause-steps
+returns-clause-steps g c =
+    let left = left_after g.R.Reader.left c.args.readers.now c.sift_down.new.readers c.seek.new.self c.index-readers-0.result c.requires.some c.sift_down.ensures.permutation in
+    omega (arith, left, c.seek.ensures.steps)

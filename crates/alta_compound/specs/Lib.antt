@@ -1,0 +1,9 @@
+pub mod Gathered
+pub mod Heap
+pub mod IsUnion
+pub mod Moves
+pub mod OverReaders
+pub mod Readers
+pub mod Same
+pub mod Union
+pub mod Unions

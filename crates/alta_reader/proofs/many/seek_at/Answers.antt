@@ -1,0 +1,36 @@
+use Rattle.std.proofs.Common.{◌≡◌, [], map, get_or, set, sym, ap, ◌∙◌, arith}
+use Rattle.std.proofs.lemmas.List.{map-set, get_or-map}
+use Rattle.std.proofs.Math.Seq.{map-set_same}
+use Rattle.alta_codec.specs.Rising.{first_from, count_from}
+use Rattle.alta_reader.proofs.many.seek_at.Goals as goal
+
+pub returns-clause-lists : goal.returns-clause-lists
+returns-clause-lists g c =
+    map-set_same g.R.Reader.list c.args.readers.now c.args.j c.seek.new.self c.index-readers-j.result c.seek.ensures.list
+
+pub returns-clause-alls : goal.returns-clause-alls
+returns-clause-alls g c =
+    map-set_same g.R.Reader.all c.args.readers.now c.args.j c.seek.new.self c.index-readers-j.result c.seek.ensures.all
+
+pub returns-clause-places : goal.returns-clause-places
+returns-clause-places g c =
+    map-set g.R.Reader.location c.args.readers.now c.args.j c.seek.new.self
+    ∙ ap (λ p. set (map g.R.Reader.location c.args.readers.now) c.args.j p)
+    (c.seek.ensures.location
+    ∙ ap (λ l. first_from l c.args.to)
+    (sym (get_or-map g.R.Reader.list c.args.readers.now c.args.j c.index-readers-j.result [] c.requires.within)))
+
+pub returns-clause-own : goal.returns-clause-own
+returns-clause-own g c =
+    let rs = c.args.readers.now in let j = c.args.j in let d = c.index-readers-j.result in let within = c.requires.within in
+    let old = get_or rs j d in let new = c.seek.new.self in
+    let members = get_or (map g.R.Reader.all rs) j [] in let list = get_or (map g.R.Reader.list rs) j [] in
+    let after : g.R.Reader.left new ≡ count_from members (first_from list c.args.to) =
+    g.met.R.BackReader.left_is new c.seek.ensures.sound
+    ∙ ap (λ a. count_from a (g.R.Reader.location new)) (c.seek.ensures.all ∙ sym (get_or-map g.R.Reader.all rs j d [] within))
+    ∙ ap (λ x. count_from members x) (c.seek.ensures.location ∙ ap (λ l. first_from l c.args.to) (sym (get_or-map g.R.Reader.list rs j d [] within))) in
+    let before : g.R.Reader.left old ≡ count_from members (get_or (map g.R.Reader.location rs) j 0) =
+    g.met.R.BackReader.left_is old (c.requires.sound j d within)
+    ∙ ap (λ a. count_from a (g.R.Reader.location old)) (sym (get_or-map g.R.Reader.all rs j d [] within))
+    ∙ ap (λ x. count_from members x) (sym (get_or-map g.R.Reader.location rs j d 0 within)) in
+    omega (arith, c.seek.ensures.steps, after, before)

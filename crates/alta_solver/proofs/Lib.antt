@@ -1,0 +1,3 @@
+pub mod Raised
+pub mod Repaired
+pub mod Settling

@@ -1,0 +1,25 @@
+use Rattle.std.proofs.Common.{◌<◌, ◌≤◌, ◌+◌, ◌-◌, map, length, arith}
+use Rattle.std.proofs.lemmas.List.{length-map}
+use Rattle.std.specs.Prelude.{slice_index}
+use Rattle.alta_solver.specs.Inequality.{Inequality}
+use Rattle.alta_solver.specs.Solution.{list_at, low_side}
+use Rattle.alta_solver.proofs.Repaired.{repaired_moved, repaired_stuck}
+use Rattle.alta_solver.proofs.least.repair.Goals as goal
+
+pub returns-then-raise_side-clause-repaired : goal.returns-then-raise_side-clause-repaired
+returns-then-raise_side-clause-repaired g c =
+    let ls = map g.R.Reader.list c.args.readers.now in let xs = map g.R.Reader.location c.args.readers.now in
+    let b : Inequality = record { form = c.args.form; i = c.args.i; j = c.args.j; plus = c.args.plus; minus = c.args.minus } in
+    let within : b.i < length xs = rw length-map c.requires.i_within in
+    let short : (c.low_at.result + b.minus - b.plus) + b.plus ≤ low_side b.form (list_at ls b.i) (slice_index xs b.i) + b.minus =
+    omega (arith, c.low_at.ensures.value) in
+    repaired_moved ls b xs _ (c.low_at.result + b.minus - b.plus) within short c.if-raise_side.ensures.raised
+
+pub returns-else-raise_side-clause-repaired : goal.returns-else-raise_side-clause-repaired
+returns-else-raise_side-clause-repaired g c =
+    let ls = map g.R.Reader.list c.args.readers.now in let xs = map g.R.Reader.location c.args.readers.now in
+    let b : Inequality = record { form = c.args.form; i = c.args.i; j = c.args.j; plus = c.args.plus; minus = c.args.minus } in
+    let within : b.i < length xs = rw length-map c.requires.i_within in
+    let short : (c.low_at.result + b.minus - b.plus) + b.plus ≤ low_side b.form (list_at ls b.i) (slice_index xs b.i) + b.minus =
+    omega (arith, c.low_at.ensures.value) in
+    repaired_stuck ls b xs _ (c.low_at.result + b.minus - b.plus) within short c.if-raise_side.ensures.raised

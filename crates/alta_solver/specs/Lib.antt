@@ -1,0 +1,4 @@
+pub mod Inequality
+pub mod Repair
+pub mod Setting
+pub mod Solution

@@ -1,0 +1,7 @@
+-- What a solver is: its readers, and the bounds between them.
+use Rattle.std.specs.Prelude.{List}
+use Rattle.alta_solver.specs.Inequality.{Inequality}
+
+pub record Setting (R : Type 0) : Type 0 where
+  pub readers : List R
+  pub bounds : List Inequality

@@ -1,0 +1,248 @@
+// The search for the least solution, over a slice of readers.
+ghost use Rattle.std.specs.Prelude.{◌≡◌, ◌↔◌, ◌⊎◌, ℕ, ◌+◌, ◌<◌, ◌≤◌, List, [], map, length, slice_index, slice_index_or, slice_set, All, sum_by, IsTrue, false};
+ghost use Rattle.alta_codec.specs.Rising.{IsRising, IsPlace, first_from, pred_of};
+ghost use Rattle.alta_codec.specs.declared.location.TheConstants.{TOP};
+ghost use Rattle.alta_solver.specs.Solution.{low_side, high_side, list_at, Holds, IsSolution, IsAtLeast, IsLeast, IsRaised};
+ghost use Rattle.alta_solver.specs.Inequality.{IsNamed};
+ghost use Rattle.alta_solver.specs.Repair.{IsRepaired, IsMended};
+
+use crate::bound::Bound;
+use crate::form::Form;
+use alta_codec::{Loc, Steps, TOP};
+use alta_reader::BackReader;
+use alta_reader::many::{place_at, prev_at, seek_at};
+use std::sync::ledger::Ledger;
+
+/// What became of a bound.
+#[derive(Clone, Copy)]
+enum Outcome {
+    /// It held.
+    Settled,
+    /// A reader was moved.
+    Moved,
+    /// No solution is at or above the readers.
+    Stuck,
+}
+
+/// The side that is to be at most the other.
+fn low_at<R: BackReader>(readers: &[R], i: usize, form: Form) -> Loc
+    requires sound { All R.sound readers.now }
+    requires within { i < length readers.now }
+    ensures value { result ≡ low_side form (list_at (map R.list readers.now) i) (slice_index (map R.location readers.now) i) }
+    ensures top { result ≤ TOP }
+{
+    match form {
+        Form::LocLoc | Form::LocPrev => place_at(readers, i),
+        Form::PrevLoc | Form::PrevPrev => prev_at(readers, i),
+    }
+}
+
+/// The side that bounds the other.
+fn high_at<R: BackReader>(readers: &[R], j: usize, form: Form) -> Loc
+    requires sound { All R.sound readers.now }
+    requires within { j < length readers.now }
+    ensures value { result ≡ high_side form (list_at (map R.list readers.now) j) (slice_index (map R.location readers.now) j) }
+    ensures top { result ≤ TOP }
+{
+    match form {
+        Form::LocLoc | Form::PrevLoc => place_at(readers, j),
+        Form::LocPrev | Form::PrevPrev => prev_at(readers, j),
+    }
+}
+
+/// Brings a reader whose previous location is below `to` to the first location at or above `to`.
+fn reach<R: BackReader, L: Ledger>(readers: &mut [R], j: usize, to: Loc, steps: &mut Steps<L>)
+    requires sound { All R.sound readers.old }
+    requires within { j < length readers.old }
+    requires short { pred_of (list_at (map R.list readers.old) j) (slice_index (map R.location readers.old) j) < to }
+    requires top { to ≤ TOP }
+    ensures sound { All R.sound readers.new }
+    ensures lists { map R.list readers.new ≡ map R.list readers.old }
+    ensures alls { map R.all readers.new ≡ map R.all readers.old }
+    ensures places { map R.location readers.new ≡ slice_set (map R.location readers.old) j (first_from (list_at (map R.list readers.old) j) to) }
+    ensures keeps { sum_by R.left readers.new ≤ sum_by R.left readers.old }
+    ensures steps { steps.new + sum_by R.left readers.new ≤ steps.old + sum_by R.left readers.old }
+{
+    if place_at(readers, j) < to {
+        seek_at(readers, j, to, steps);
+    }
+}
+
+/// Brings a reader whose previous location is below `to` behind the first location at or above `to`.
+/// False where there is no such location.
+fn raise_past<R: BackReader, L: Ledger>(
+    readers: &mut [R],
+    j: usize,
+    to: Loc,
+    steps: &mut Steps<L>,
+) -> bool
+    requires sound { All R.sound readers.old }
+    requires within { j < length readers.old }
+    requires short { pred_of (list_at (map R.list readers.old) j) (slice_index (map R.location readers.old) j) < to }
+    requires top { to ≤ TOP }
+    ensures sound { All R.sound readers.new }
+    ensures lists { map R.list readers.new ≡ map R.list readers.old }
+    ensures alls { map R.all readers.new ≡ map R.all readers.old }
+    ensures raised { IsTrue result → map R.location readers.new ≡ slice_set (map R.location readers.old) j (first_from (list_at (map R.list readers.old) j) (first_from (list_at (map R.list readers.old) j) to + 1)) }
+    ensures none { result ≡ false → map R.location readers.new ≡ slice_set (map R.location readers.old) j TOP }
+    ensures which { IsTrue result ↔ (first_from (list_at (map R.list readers.old) j) to < TOP) }
+    ensures falls { IsTrue result → sum_by R.left readers.new < sum_by R.left readers.old }
+    ensures keeps { sum_by R.left readers.new ≤ sum_by R.left readers.old }
+    ensures steps { steps.new + sum_by R.left readers.new ≤ steps.old + sum_by R.left readers.old }
+{
+    reach(readers, j, to, steps);
+    let at = place_at(readers, j);
+    if at == TOP {
+        return false;
+    }
+    seek_at(readers, j, at + 1, steps);
+    true
+}
+
+/// Brings reader `j` to the least place whose side is at least `need`. False where there is none.
+fn raise_side<R: BackReader, L: Ledger>(
+    readers: &mut [R],
+    form: Form,
+    j: usize,
+    need: u64,
+    steps: &mut Steps<L>,
+) -> bool
+    requires sound { All R.sound readers.old }
+    requires within { j < length readers.old }
+    requires short { high_side form (list_at (map R.list readers.old) j) (slice_index (map R.location readers.old) j) < need }
+    ensures sound { All R.sound readers.new }
+    ensures lists { map R.list readers.new ≡ map R.list readers.old }
+    ensures alls { map R.all readers.new ≡ map R.all readers.old }
+    ensures raised { IsRaised (list_at (map R.list readers.old) j) form need (map R.location readers.old) j (map R.location readers.new) result }
+    ensures falls { IsTrue result → sum_by R.left readers.new < sum_by R.left readers.old }
+    ensures keeps { sum_by R.left readers.new ≤ sum_by R.left readers.old }
+    ensures steps { steps.new + sum_by R.left readers.new ≤ steps.old + sum_by R.left readers.old }
+{
+    if need > TOP {
+        return false;
+    }
+    match form {
+        Form::LocLoc | Form::PrevLoc => {
+            seek_at(readers, j, need, steps);
+            true
+        }
+        Form::LocPrev | Form::PrevPrev => raise_past(readers, j, need, steps),
+    }
+}
+
+/// Mends one bound that does not hold by one reader's moves.
+fn repair<R: BackReader, L: Ledger>(
+    readers: &mut [R],
+    form: Form,
+    i: usize,
+    j: usize,
+    plus: u64,
+    minus: u64,
+    steps: &mut Steps<L>,
+) -> Outcome
+    requires sound { All R.sound readers.old }
+    requires i_within { i < length readers.old }
+    requires j_within { j < length readers.old }
+    requires plus_within { plus ≤ 1000000 }
+    requires minus_within { minus ≤ 1000000 }
+    ensures sound { All R.sound readers.new }
+    ensures lists { map R.list readers.new ≡ map R.list readers.old }
+    ensures alls { map R.all readers.new ≡ map R.all readers.old }
+    ensures repaired { IsRepaired (map R.list readers.old) (record { form = form; i = i; j = j; plus = plus; minus = minus }) (map R.location readers.old) (map R.location readers.new) result }
+    ensures falls { result ≡ Outcome.Moved → sum_by R.left readers.new < sum_by R.left readers.old }
+    ensures keeps { sum_by R.left readers.new ≤ sum_by R.left readers.old }
+    ensures steps { steps.new + sum_by R.left readers.new ≤ steps.old + sum_by R.left readers.old }
+{
+    let low = low_at(readers, i, form) + minus;
+    let high = high_at(readers, j, form) + plus;
+    if low <= high {
+        return Outcome::Settled;
+    }
+    if raise_side(readers, form, j, low - plus, steps) {
+        Outcome::Moved
+    } else {
+        Outcome::Stuck
+    }
+}
+
+/// Mends one bound that does not hold, and says that there is no solution where reader 0 has passed its last location.
+fn mend<R: BackReader, L: Ledger>(readers: &mut [R], bound: &Bound, steps: &mut Steps<L>) -> Outcome
+    requires sound { All R.sound readers.old }
+    requires some { 0 < length readers.old }
+    requires i_within { bound.now.i < length readers.old }
+    requires j_within { bound.now.j < length readers.old }
+    requires led { slice_index (map R.location readers.old) 0 < TOP }
+    ensures sound { All R.sound readers.new }
+    ensures lists { map R.list readers.new ≡ map R.list readers.old }
+    ensures alls { map R.all readers.new ≡ map R.all readers.old }
+    ensures mended { IsMended (map R.list readers.old) bound.now (map R.location readers.old) (map R.location readers.new) result }
+    ensures falls { result ≡ Outcome.Moved → sum_by R.left readers.new < sum_by R.left readers.old }
+    ensures keeps { sum_by R.left readers.new ≤ sum_by R.left readers.old }
+    ensures steps { steps.new + sum_by R.left readers.new ≤ steps.old + sum_by R.left readers.old }
+{
+    match repair(
+        readers,
+        bound.form(),
+        bound.i(),
+        bound.j(),
+        bound.plus(),
+        bound.minus(),
+        steps,
+    ) {
+        Outcome::Settled => Outcome::Settled,
+        Outcome::Moved => {
+            if place_at(readers, 0) < TOP {
+                Outcome::Moved
+            } else {
+                Outcome::Stuck
+            }
+        }
+        Outcome::Stuck => Outcome::Stuck,
+    }
+}
+
+/// The index after `at`, from the start again past the last of `n`.
+fn index_after(at: usize, n: usize) -> usize
+    requires { at < n }
+    ensures within { result < n }
+    ensures next { (result ≡ at + 1) ⊎ ((result ≡ 0) × (at + 1 ≡ n)) }
+{
+    if at + 1 == n { 0 } else { at + 1 }
+}
+
+/// Brings the readers to the least solution at or above where they stand. False where there is none.
+///
+/// It goes round the bounds, each raise being one or two seeks, until as many in a row hold as there are bounds. So a
+/// system that is settled costs one test of each bound.
+pub(crate) fn settle<R: BackReader, L: Ledger>(
+    readers: &mut [R],
+    bounds: &[Bound],
+    steps: &mut Steps<L>,
+) -> bool
+    requires sound { All R.sound readers.old }
+    requires some { 0 < length readers.old }
+    requires named { IsNamed (length readers.old) bounds.now }
+    ensures sound { All R.sound readers.new }
+    ensures lists { map R.list readers.new ≡ map R.list readers.old }
+    ensures alls { map R.all readers.new ≡ map R.all readers.old }
+    ensures above { IsAtLeast (map R.location readers.old) (map R.location readers.new) }
+    ensures least { IsTrue result → IsLeast (map R.list readers.old) bounds.now (map R.location readers.old) (map R.location readers.new) }
+    ensures none { result ≡ false → (x : List ℕ) → IsSolution (map R.list readers.old) bounds.now x → IsAtLeast (map R.location readers.old) x → ⊥ }
+    ensures keeps { sum_by R.left readers.new ≤ sum_by R.left readers.old }
+    ensures steps { steps.new + sum_by R.left readers.new ≤ steps.old + sum_by R.left readers.old }
+{
+    if place_at(readers, 0) == TOP {
+        return false;
+    }
+    let mut at = 0;
+    let mut held = 0;
+    'settle: while held < bounds.len() {
+        match mend(readers, &bounds[at], steps) {
+            Outcome::Settled => held += 1,
+            Outcome::Moved => held = 0,
+            Outcome::Stuck => return false,
+        }
+        at = index_after(at, bounds.len());
+    }
+    true
+}

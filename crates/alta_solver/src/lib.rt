@@ -1,0 +1,13 @@
+//! Bounds between the places of readers, and the least solution at or above where the readers stand.
+#![tactic(auto)]
+
+mod bound;
+mod form;
+mod least;
+mod solver;
+mod system;
+
+pub use bound::Bound;
+pub use form::Form;
+pub use solver::Solver;
+pub use system::System;

@@ -1,0 +1,98 @@
+// A leaf in one of its forms.
+ghost use Rattle.std.specs.Prelude.{◌≡◌, refl, ℕ, ◌+◌, ◌<◌, ◌≤◌};
+ghost use Rattle.alta_codec.specs.Rising.{first_from, pred_of, count_from};
+ghost use Rattle.alta_codec.specs.declared.location.TheConstants.{TOP};
+ghost use Rattle.alta_words.specs.Leaf.{leaf_list, leaf_place, IsSoundLeaf, leaf_rises, leaf_stands};
+
+use crate::plain::PlainReader;
+use alta_codec::{Loc, Steps};
+use alta_reader::{BackReader, Reader};
+use std::sync::ledger::Ledger;
+
+/// A reader of one list of locations, in one of its forms.
+#[derive(Drop)]
+pub enum Leaf<'a> {
+    /// Of a plain list in memory.
+    Plain(PlainReader<'a>),
+}
+
+impl<'a> Leaf<'a> {
+    /// The greatest location of the list, 0 where it is empty.
+    pub fn last(&self) -> Loc
+        requires { IsSoundLeaf self.now }
+        ensures { result ≡ pred_of (leaf_list self.now) TOP }
+    {
+        match self {
+            Leaf::Plain(reader) => reader.last(),
+        }
+    }
+}
+
+impl<'a> Reader for Leaf<'a> {
+    ghost sound = { IsSoundLeaf };
+
+    ghost list = { leaf_list };
+
+    ghost location = { leaf_place };
+
+    ghost all = { leaf_list };
+
+    ghost left = { λ s. count_from (leaf_list s) (leaf_place s) };
+
+    fn loc(&self) -> Loc {
+        match self {
+            Leaf::Plain(reader) => reader.loc(),
+        }
+    }
+
+    /// Goes to the next location, or to `TOP` past the last. It adds exactly one step.
+    fn next<L: Ledger>(&mut self, steps: &mut Steps<L>)
+        requires sound { IsSoundLeaf self.old }
+        requires below { leaf_place self.old < TOP }
+        ensures sound { IsSoundLeaf self.new }
+        ensures list { leaf_list self.new ≡ leaf_list self.old }
+        ensures all { leaf_list self.new ≡ leaf_list self.old }
+        ensures location { leaf_place self.new ≡ first_from (leaf_list self.old) (leaf_place self.old + 1) }
+        ensures falls { count_from (leaf_list self.new) (leaf_place self.new) < count_from (leaf_list self.old) (leaf_place self.old) }
+        ensures steps { steps.new + count_from (leaf_list self.new) (leaf_place self.new) ≤ steps.old + count_from (leaf_list self.old) (leaf_place self.old) }
+        ensures one { steps.new ≡ steps.old + 1 }
+    {
+        match self {
+            Leaf::Plain(reader) => reader.next(steps),
+        }
+    }
+
+    /// Goes to the least location at or above `to`, or to `TOP` past the last. It adds exactly one step.
+    fn seek<L: Ledger>(&mut self, to: Loc, steps: &mut Steps<L>)
+        requires sound { IsSoundLeaf self.old }
+        requires above { leaf_place self.old < to }
+        requires top { to ≤ TOP }
+        ensures sound { IsSoundLeaf self.new }
+        ensures list { leaf_list self.new ≡ leaf_list self.old }
+        ensures all { leaf_list self.new ≡ leaf_list self.old }
+        ensures location { leaf_place self.new ≡ first_from (leaf_list self.old) to }
+        ensures falls { count_from (leaf_list self.new) (leaf_place self.new) < count_from (leaf_list self.old) (leaf_place self.old) }
+        ensures steps { steps.new + count_from (leaf_list self.new) (leaf_place self.new) ≤ steps.old + count_from (leaf_list self.old) (leaf_place self.old) }
+        ensures one { steps.new ≡ steps.old + 1 }
+    {
+        match self {
+            Leaf::Plain(reader) => reader.seek(to, steps),
+        }
+    }
+
+    ghost rises = { leaf_rises };
+
+    ghost stands = { leaf_stands };
+}
+
+impl<'a> BackReader for Leaf<'a> {
+    fn prev(&self) -> Loc {
+        match self {
+            Leaf::Plain(reader) => reader.prev(),
+        }
+    }
+
+    ghost members = { λ s h x. (λ m. m, λ m. m) };
+
+    ghost left_is = { λ s h. refl };
+}
