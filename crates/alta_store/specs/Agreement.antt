@@ -3,6 +3,9 @@ use Rattle.std.proofs.Common.{Global}
 use Rattle.std.specs.Prelude.{◌≡◌, ℕ, ◌+◌, ◌-◌, ◌≤◌, true, List, Bool, String, is_some}
 use Rattle.std.specs.BTreeMap.{BTreeMap, get_by_text}
 use Rattle.alta_disk.specs.Disk.{DiskState, Only}
+use Rattle.alta_journal.specs.Journal.{EndsAt}
+use Rattle.alta_journal.specs.Places.{left_behind}
+use Rattle.alta_journal.specs.declared.entry.Entry.{Entry}
 use Rattle.alta_journal.specs.declared.half.Half.TheVariants.{A}
 use Rattle.alta_journal.specs.declared.places.TheConstants.{START_A, HALF_BYTES, HEAD_BYTES}
 use Rattle.alta_meta.specs.declared.document.State.{State}
@@ -27,6 +30,13 @@ pub record Agrees (tells : Type 0) (disk : DiskState) (store : Store) (s : State
   pub settled : Only disk.content disk.images
   pub content : tells → Holds store s disk.content
   pub half : store.tail.half ≡ A
+
+-- The journal of this content has so many bytes left behind the gate of its next record.
+pub record HasRoom (content : List ℕ) (room : ℕ) : Type 0 where
+  pub place : ℕ
+  pub entries : List Entry
+  pub journal : EndsAt START_A place entries content
+  pub room_is : room ≡ left_behind START_A place
 
 -- how many bytes are left in the journal behind the gate of the next record
 abbrev pub room_of : Store → ℕ

@@ -9,7 +9,7 @@ ghost use Rattle.alta_journal.specs.declared.entry.Entry.TheVariants.{Add};
 ghost use Rattle.alta_journal.specs.declared.places.TheConstants.{HALF_BYTES, HEAD_BYTES};
 ghost use Rattle.alta_journal.specs.declared.half.Half.TheVariants.{A};
 ghost use Rattle.alta_meta.specs.declared.document.State.{State};
-ghost use Rattle.alta_store.specs.Agreement.{Agrees, Holds, is_sound, room_of};
+ghost use Rattle.alta_store.specs.Agreement.{Agrees, Holds, HasRoom, is_sound, room_of};
 ghost use Rattle.alta_store.specs.Answers.{IsOutside, AnswersFault};
 ghost use Rattle.alta_store.specs.Brokenness.{HasNoIndex, IsBrokenAt};
 ghost use Rattle.alta_store.specs.Meaning.{StandsFor, StandsForEither};
@@ -116,6 +116,8 @@ impl Store {
         ensures numbers { (s : State) → Agrees D.tells (D.state disk.old) self.old s → D.tells → (result ≡ Err Numbers) ↔ ((has_name name.now s ≡ false) × (4294967296 ≤ s.next)) }
         ensures refused { (result ≡ Err Taken) ⊎ (result ≡ Err Numbers) → (disk.new ≡ disk.old) × (self.new ≡ self.old) }
         ensures full { (need gap : ℕ) → result ≡ Err (Full need gap) → (need ≡ length (body_of (Add name.now title.now body.now))) × (gap ≡ room_of self.old) × (gap < need) }
+        ensures full_kept { (need gap : ℕ) → result ≡ Err (Full need gap) → disk.new ≡ disk.old }
+        ensures full_room { (need gap : ℕ) → D.tells → result ≡ Err (Full need gap) → HasRoom (D.state disk.new).content gap }
         ensures room { OnOk result (room_of self.new + length (body_of (Add name.now title.now body.now)) ≡ room_of self.old) }
         ensures only { IfErr result (λ e. IsOutside e ⊎ ((e ≡ Taken) ⊎ ((e ≡ Numbers) ⊎ ((need gap : ℕ) × (e ≡ Full need gap))))) }
         ensures cause { result ≡ Err DiskFault → Rose (D.state disk.old).faults (D.state disk.new).faults }
@@ -157,6 +159,8 @@ impl Store {
         ensures sound { is_sound self.new ≡ is_sound self.old }
         ensures images { (s : State) → Agrees D.tells (D.state disk.old) self.old s → LeavesOnly (StandsForEither s (with_added name.now title.now body.now s)) (D.state disk.old) (D.state disk.new) }
         ensures full { (need gap : ℕ) → result ≡ Err (Full need gap) → (need ≡ length (body_of (Add name.now title.now body.now))) × (gap ≡ room_of self.old) × (gap < need) }
+        ensures full_kept { (need gap : ℕ) → result ≡ Err (Full need gap) → disk.new ≡ disk.old }
+        ensures full_room { (need gap : ℕ) → D.tells → result ≡ Err (Full need gap) → HasRoom (D.state disk.new).content gap }
         ensures room { OnOk result (room_of self.new + length (body_of (Add name.now title.now body.now)) ≡ room_of self.old) }
         ensures only { IfErr result (λ e. IsOutside e ⊎ ((need gap : ℕ) × (e ≡ Full need gap))) }
         ensures cause { result ≡ Err DiskFault → Rose (D.state disk.old).faults (D.state disk.new).faults }

@@ -1,0 +1,158 @@
+-- Laws of lines that add.
+use Rattle.std.proofs.Common.{◌≡◌, ◌≢◌, ℕ, zero, suc, ◌<◌, ◌≤◌, ◌⊎◌, inl, inr, Bool, true, false, ◌&&◌, ◌||◌, ◌==◌, nat_le, List, [], ◌∷◌, ◌++◌, length, refl, ap, sym, subst, ◌∙◌, arith, codes, decimal, if◌then◌else◌, length-append, slice_index_or}
+use Rattle.std.proofs.lemmas.Bool.{cases_lt}
+use Rattle.std.proofs.lemmas.Grind.{common_steps}
+use Rattle.std.specs.List.{All, list_all, list_any}
+use Rattle.alta_codec.specs.Name.{IsName, IsGraphic}
+use Rattle.alta_console.specs.Lines.{NoNewline}
+use Rattle.alta_disk.specs.Disk.{DiskState, LeavesOnly}
+use Rattle.alta_meta.specs.declared.document.State.{State}
+use Rattle.alta_model.specs.Command.{Reads, adds}
+use Rattle.alta_model.specs.Faults.{IsText}
+use Rattle.alta_session.specs.Machine.{is_name, adding, IsRefusal}
+use Rattle.alta_store.specs.Meaning.{StandsForEither}
+use Rattle.alta_store.specs.States.{has_name, with_added, IsDocument}
+
+-- a name, as a test
+graphic_is : (b : ℕ) → IsGraphic b → (nat_le 33 b && nat_le b 126) ≡ true
+graphic_is b between = let low : 33 ≤ b = between.0 in let high : b ≤ 126 = between.1 in grind (arith, common_steps)
+
+graphic_of : (b : ℕ) → (nat_le 33 b && nat_le b 126) ≡ true → IsGraphic b
+graphic_of b test = (grind (arith, common_steps), grind (arith, common_steps))
+
+all_graphic : (xs : List ℕ) → All IsGraphic xs → list_all (λ b. nat_le 33 b && nat_le b 126) xs ≡ true
+all_graphic [] all = refl
+all_graphic (x ∷ xs) all =
+    let first : (nat_le 33 x && nat_le x 126) ≡ true = graphic_is x (all 0 0 (omega arith)) in
+    let rest : list_all (λ b. nat_le 33 b && nat_le b 126) xs ≡ true = all_graphic xs (λ k d l. all (suc k) d (omega arith)) in
+    ap (λ (t : Bool). t && list_all (λ b. nat_le 33 b && nat_le b 126) xs) first ∙ rest
+
+graphic_at : (x : ℕ) (xs : List ℕ) → IsGraphic x → All IsGraphic xs → (k d : ℕ) → k < length (x ∷ xs) → IsGraphic (slice_index_or (x ∷ xs) k d)
+graphic_at x xs first rest zero d l = first
+graphic_at x xs first rest (suc k) d l = rest k d (omega arith)
+
+all_graphic_of : (xs : List ℕ) → list_all (λ b. nat_le 33 b && nat_le b 126) xs ≡ true → All IsGraphic xs
+all_graphic_of [] test = λ k d l. absurd (omega arith)
+all_graphic_of (x ∷ xs) test =
+    let first : (nat_le 33 x && nat_le x 126) ≡ true = grind (arith, common_steps) in
+    let rest : list_all (λ b. nat_le 33 b && nat_le b 126) xs ≡ true = grind (arith, common_steps) in
+    graphic_at x xs (graphic_of x first) (all_graphic_of xs rest)
+
+name_is : (name : List ℕ) → IsName name → is_name name ≡ true
+unfolding is_name
+name_is name named =
+    let all : list_all (λ b. nat_le 33 b && nat_le b 126) name ≡ true = all_graphic name named.2 in
+    let low : 1 ≤ length name = named.0 in
+    let high : length name ≤ 64 = named.1 in
+    grind (arith, common_steps)
+
+name_of : (name : List ℕ) → is_name name ≡ true → IsName name
+unfolding is_name
+name_of name test = (
+  grind (arith, common_steps),
+  grind (arith, common_steps),
+  all_graphic_of name (let all : list_all (λ b. nat_le 33 b && nat_le b 126) name ≡ true = grind (arith, common_steps) in all),
+)
+
+name_is_not : (name : List ℕ) → (IsName name → ⊥) → (b : Bool) → is_name name ≡ b → b ≡ false
+name_is_not name other true test = absurd (other (name_of name test))
+name_is_not name other false test = refl
+
+-- what adding answers
+pub adding_bad : (name title body : List ℕ) (s : State) → (IsName name → ⊥) → adding name title body s ≡ (s, codes "! bad name\n")
+unfolding adding
+adding_bad name title body s other =
+    ap (λ (b : Bool). if b then (if has_name name s then (s, codes "! name taken\n") else (if nat_le 4294967296 s.next then (s, codes "! no numbers left\n") else (with_added name title body s, codes "added " ++ decimal s.next ++ codes "\n"))) else (s, codes "! bad name\n"))
+    (name_is_not name other (is_name name) refl)
+
+adding_named : (name title body : List ℕ) (s : State) → IsName name
+    → adding name title body s ≡ (if has_name name s then (s, codes "! name taken\n") else (if nat_le 4294967296 s.next then (s, codes "! no numbers left\n") else (with_added name title body s, codes "added " ++ decimal s.next ++ codes "\n")))
+unfolding adding
+adding_named name title body s named =
+    ap (λ (b : Bool). if b then (if has_name name s then (s, codes "! name taken\n") else (if nat_le 4294967296 s.next then (s, codes "! no numbers left\n") else (with_added name title body s, codes "added " ++ decimal s.next ++ codes "\n"))) else (s, codes "! bad name\n"))
+    (name_is name named)
+
+pub adding_taken : (name title body : List ℕ) (s : State) → IsName name → has_name name s ≡ true → adding name title body s ≡ (s, codes "! name taken\n")
+adding_taken name title body s named taken =
+    adding_named name title body s named
+    ∙ ap (λ (b : Bool). if b then (s, codes "! name taken\n") else (if nat_le 4294967296 s.next then (s, codes "! no numbers left\n") else (with_added name title body s, codes "added " ++ decimal s.next ++ codes "\n"))) taken
+
+adding_free : (name title body : List ℕ) (s : State) → IsName name → has_name name s ≡ false
+    → adding name title body s ≡ (if nat_le 4294967296 s.next then (s, codes "! no numbers left\n") else (with_added name title body s, codes "added " ++ decimal s.next ++ codes "\n"))
+adding_free name title body s named free =
+    adding_named name title body s named
+    ∙ ap (λ (b : Bool). if b then (s, codes "! name taken\n") else (if nat_le 4294967296 s.next then (s, codes "! no numbers left\n") else (with_added name title body s, codes "added " ++ decimal s.next ++ codes "\n"))) free
+
+le_true : (a b : ℕ) → a ≤ b → nat_le a b ≡ true
+le_true a b l = grind (arith, common_steps)
+
+le_false : (a b : ℕ) → b < a → nat_le a b ≡ false
+le_false a b l = grind (arith, common_steps)
+
+pub adding_full : (name title body : List ℕ) (s : State) → IsName name → has_name name s ≡ false → 4294967296 ≤ s.next → adding name title body s ≡ (s, codes "! no numbers left\n")
+adding_full name title body s named free full =
+    adding_free name title body s named free
+    ∙ ap (λ (b : Bool). if b then (s, codes "! no numbers left\n") else (with_added name title body s, codes "added " ++ decimal s.next ++ codes "\n")) (le_true 4294967296 s.next full)
+
+pub adding_added : (name title body : List ℕ) (s : State) → IsName name → has_name name s ≡ false → s.next < 4294967296 → adding name title body s ≡ (with_added name title body s, codes "added " ++ decimal s.next ++ codes "\n")
+adding_added name title body s named free room =
+    adding_free name title body s named free
+    ∙ ap (λ (b : Bool). if b then (s, codes "! no numbers left\n") else (with_added name title body s, codes "added " ++ decimal s.next ++ codes "\n")) (le_false 4294967296 s.next room)
+
+-- At no moment was there another image than those of the states before and after, where the disk stays as it is for a
+-- name that is taken and where no number is left.
+pub leaves_adding : (d d_now : DiskState) (name title body : List ℕ) (s : State) → IsName name → LeavesOnly (StandsForEither s (with_added name title body s)) d d_now
+    → ((has_name name s ≡ true) ⊎ ((has_name name s ≡ false) × (4294967296 ≤ s.next)) → LeavesOnly (StandsForEither s s) d d_now) → LeavesOnly (StandsForEither s (adding name title body s).0) d d_now
+leaves_adding d d_now name title body s named leaves same =
+    let P : State → Type 0 = λ t. LeavesOnly (StandsForEither s t) d d_now in
+    let by : (t : State) (reply : List ℕ) → adding name title body s ≡ (t, reply) → P t → P (adding name title body s).0 = λ t reply is here. subst P (sym (ap (λ (p : State × List ℕ). p.0) is)) here in
+    elim (has_name name s) as (λ b. has_name name s ≡ b → P (adding name title body s).0) [
+      | true ↦ λ taken. by s _ (adding_taken name title body s named taken) (same (inl taken))
+      | false ↦ λ free. elim (cases_lt s.next 4294967296) [
+        | inl room ↦ by (with_added name title body s) _ (adding_added name title body s named free room) leaves
+        | inr full ↦ by s _ (adding_full name title body s named free full) (same (inr (free, full)))
+      ]
+    ] refl
+
+-- a refusal comes from a name that is taken, or for want of numbers
+added_is_none : (s : State) → IsRefusal (codes "added " ++ decimal s.next ++ codes "\n") → ⊥
+added_is_none s refusal = cc
+
+pub refused_for : (P : Type 0) (name title body : List ℕ) (s : State) → IsName name → (has_name name s ≡ true → P) → ((has_name name s ≡ false) × (4294967296 ≤ s.next) → P) → IsRefusal (adding name title body s).1 → P
+refused_for P name title body s named taken full refusal =
+    elim (has_name name s) as (λ b. has_name name s ≡ b → P) [
+      | true ↦ taken
+      | false ↦ λ free. elim (cases_lt s.next 4294967296) [
+        | inl room ↦ absurd (added_is_none s (subst (λ (p : State × List ℕ). IsRefusal p.1) (adding_added name title body s named free room) refusal))
+        | inr none ↦ full (free, none)
+      ]
+    ] refl
+
+-- the parts of a line that adds
+free_left : (xs ys : List ℕ) → NoNewline (xs ++ ys) → NoNewline xs
+free_left [] ys free = tt
+free_left (x ∷ xs) ys free = (free.0, free_left xs ys free.1)
+
+free_right : (xs ys : List ℕ) → NoNewline (xs ++ ys) → NoNewline ys
+free_right [] ys free = free
+free_right (x ∷ xs) ys free = free_right xs ys free.1
+
+not_ten : (x : ℕ) → x ≢ 10 → (x == 10) ≡ false
+not_ten x other = grind (arith, common_steps)
+
+free_any : (xs : List ℕ) → NoNewline xs → list_any (λ b. b == 10) xs ≡ false
+free_any [] free = refl
+free_any (x ∷ xs) free = ap (λ (b : Bool). b || list_any (λ b. b == 10) xs) (not_ten x free.0) ∙ free_any xs free.1
+
+pub line_is_document : (line name title body : List ℕ) → NoNewline line → IsText line → Reads line (adds name title body) → IsName name → IsDocument name title body
+line_is_document line name title body free text reads named =
+    let spells : codes "add " ++ (name ++ 9 ∷ (title ++ 9 ∷ body)) ≡ line = reads.spells in
+    let all : NoNewline (codes "add " ++ (name ++ 9 ∷ (title ++ 9 ∷ body))) = subst NoNewline (sym spells) free in
+    let rest : NoNewline (title ++ 9 ∷ body) = (free_right name (9 ∷ (title ++ 9 ∷ body)) (free_right (codes "add ") (name ++ 9 ∷ (title ++ 9 ∷ body)) all)).1 in
+    record {
+      named = named;
+      title_is_a_line = free_any title (free_left title (9 ∷ body) rest);
+      title_is_a_field = reads.fine.1;
+      body_is_a_line = free_any body (free_right title (9 ∷ body) rest).1;
+      short = omega (arith, ap length spells, length-append (codes "add ") (name ++ 9 ∷ (title ++ 9 ∷ body)), length-append name (9 ∷ (title ++ 9 ∷ body)), length-append title (9 ∷ body), text.0);
+    }

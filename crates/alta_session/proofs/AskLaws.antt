@@ -1,0 +1,34 @@
+-- Laws of what a line asks for.
+use Rattle.std.proofs.Common.{◌≡◌, ℕ, List, refl, ap, sym, ◌∙◌, codes, Bor}
+use Rattle.alta_meta.specs.declared.document.State.{State}
+use Rattle.alta_model.specs.Lines.{asks, refuses, reading_of}
+use Rattle.alta_model.specs.Seen.{command_of}
+use Rattle.alta_model.specs.declared.line.Line.{Line}
+use Rattle.alta_model.specs.declared.line.Line.TheVariants.{Add, Delete, Search, Count, Explain, OpenCursor, Fetch, Close, Flush, Merge, Step, Stats}
+use Rattle.alta_model.specs.declared.line.LineFault.{LineFault}
+use Rattle.alta_session.specs.Machine.{step, obeyed, adding, refusal}
+use Rattle.alta_session.proofs.MachineLaws.{step_reads}
+
+-- a line that does not add
+other_line : (l : Line) (s : State) → ((name title body : Bor (List ℕ)) → l ≡ Add name title body → ⊥) → obeyed s (command_of l) ≡ (s, codes "! unknown command\n")
+other_line (Add name title body) s other = absurd (other name title body refl)
+other_line (Delete name) s other = refl
+other_line (Search text) s other = refl
+other_line (Count text) s other = refl
+other_line (Explain text) s other = refl
+other_line (OpenCursor text) s other = refl
+other_line (Fetch cursor count) s other = refl
+other_line (Close cursor) s other = refl
+other_line Flush s other = refl
+other_line Merge s other = refl
+other_line (Step count) s other = refl
+other_line Stats s other = refl
+
+pub step_other : (line : List ℕ) (l : Line) → asks (command_of l) ≡ reading_of line → ((name title body : Bor (List ℕ)) → l ≡ Add name title body → ⊥) → (s : State) → step s line ≡ (s, codes "! unknown command\n")
+step_other line l reading other s = step_reads s line (asks (command_of l)) (sym reading) ∙ other_line l s other
+
+pub step_adds : (line : List ℕ) (l : Line) (name title body : Bor (List ℕ)) → asks (command_of l) ≡ reading_of line → l ≡ Add name title body → (s : State) → step s line ≡ adding name.now title.now body.now s
+step_adds line l name title body reading is s = step_reads s line (asks (command_of l)) (sym reading) ∙ ap (λ (m : Line). obeyed s (command_of m)) is
+
+pub step_refuses : (line : List ℕ) (e fault : LineFault) → refuses e ≡ reading_of line → e ≡ fault → (s : State) → step s line ≡ (s, refusal fault)
+step_refuses line e fault reading is s = step_reads s line (refuses e) (sym reading) ∙ ap (λ (f : LineFault). (s, refusal f)) is

@@ -1,0 +1,151 @@
+-- Laws of lines that were answered.
+use Rattle.std.proofs.Common.{◌≡◌, ℕ, ◌<◌, List, [], ◌∷◌, ◌++◌, Option, length, map, refl, ap, sym, subst, ◌∙◌, append-nil}
+use Rattle.alta_console.specs.Giving.{Gives}
+use Rattle.alta_console.specs.Replies.{joined}
+use Rattle.alta_console.specs.declared.event.Event.{Event}
+use Rattle.alta_console.proofs.GivingLaws.{gives_on, gives_none}
+use Rattle.alta_console.proofs.ReplyLaws.{joined_append}
+use Rattle.alta_disk.specs.Disk.{DiskState, LeavesOnly, IsLawful, Each}
+use Rattle.alta_disk.proofs.Moments.{leaves_start, leaves_then, leaves_as}
+use Rattle.alta_meta.specs.declared.document.State.{State}
+use Rattle.alta_session.specs.Agreement.{AgreesOn}
+use Rattle.alta_session.specs.Fed.{Fed, FedFrom}
+use Rattle.alta_session.specs.Keeping.{clip}
+use Rattle.alta_session.specs.Machine.{step, after, replies}
+use Rattle.alta_session.specs.Progress.{StandsAfterSome, Progress, StopsWithin, StopsWithinFrom}
+use Rattle.alta_session.specs.declared.session.Session.{Session}
+use Rattle.alta_session.proofs.MachineLaws.{after_append, replies_append, replies_same, after_same, reply_some}
+use Rattle.alta_session.proofs.ProgressLaws.{some_none, some_either, some_on, some_more, some_clip, progress_none, progress_stop, progress_on, progress_more, progress_full, progress_clip}
+use Rattle.alta_store.specs.Meaning.{StandsForEither}
+use Rattle.alta_store.proofs.Agreements.{images_stand}
+
+-- each image now is one of those at any moment
+pub leaves_now : (tells : Type 0) (a b : DiskState) (P : List ℕ → Type 0) → IsLawful tells b → LeavesOnly P a b → Each b.images P
+leaves_now tells a b P lawful leaves = λ c here. leaves.each c (lawful.counts_now a.clock c leaves.later here)
+
+-- from one state on, images of lines and then of more
+pub leaves_on : (a b c : DiskState) (s : State) (xs ys : List (List ℕ)) → LeavesOnly (StandsAfterSome s xs) a b → LeavesOnly (StandsAfterSome (after s xs) ys) b c → LeavesOnly (StandsAfterSome s (xs ++ ys)) a c
+leaves_on a b c s xs ys one two =
+    leaves_then a b c (StandsAfterSome s (xs ++ ys)) (leaves_as a b (StandsAfterSome s xs) (StandsAfterSome s (xs ++ ys)) one (λ z here. some_more s xs ys z here))
+    (leaves_as b c (StandsAfterSome (after s xs) ys) (StandsAfterSome s (xs ++ ys)) two (λ z here. some_on s xs ys z here))
+
+pub leaves_none : (tells : Type 0) (d : DiskState) (session : Session) (s : State) (lines : List (List ℕ)) → IsLawful tells d → AgreesOn tells d session s → LeavesOnly (StandsAfterSome s lines) d d
+leaves_none tells d session s lines lawful agrees = leaves_start tells d (StandsAfterSome s lines) lawful (λ c here. some_none s lines c (images_stand tells d session.store s lawful agrees c here))
+
+pub fed_none : (tells : Type 0) (told : Option (List Event)) (d : DiskState) (session : Session) → IsLawful tells d → Fed tells told told d d session session []
+fed_none tells told d session lawful = record {
+  given = [];
+  gave = gives_none told;
+  each = λ s tell agrees. record { given_is = refl; agrees = agrees; images = leaves_none tells d session s [] lawful agrees };
+}
+
+pub fed_clip : (tells : Type 0) (a b : Option (List Event)) (d e : DiskState) (s0 s1 : Session) (xs ys : List (List ℕ)) → map clip xs ≡ map clip ys → Fed tells a b d e s0 s1 xs → Fed tells a b d e s0 s1 ys
+fed_clip tells a b d e s0 s1 xs ys same fed = record {
+  given = fed.given;
+  gave = fed.gave;
+  each = λ s tell agrees. let one : FedFrom tells d e s1 xs fed.given s = fed.each s tell agrees in record {
+    given_is = one.given_is ∙ ap joined (replies_same s xs ys same);
+    agrees = subst (λ (t : State). AgreesOn tells e s1 t) (after_same s xs ys same) one.agrees;
+    images = leaves_as d e (StandsAfterSome s xs) (StandsAfterSome s ys) one.images (λ z here. some_clip s xs ys z same here);
+  };
+}
+
+pub fed_on : (tells : Type 0) (a b c : Option (List Event)) (d e f : DiskState) (s0 s1 s2 : Session) (xs ys : List (List ℕ)) → Fed tells a b d e s0 s1 xs → Fed tells b c e f s1 s2 ys → Fed tells a c d f s0 s2 (xs ++ ys)
+fed_on tells a b c d e f s0 s1 s2 xs ys first then_ = record {
+  given = first.given ++ then_.given;
+  gave = gives_on a b c first.given then_.given first.gave then_.gave;
+  each = λ s tell agrees.
+      let one : FedFrom tells d e s1 xs first.given s = first.each s tell agrees in
+      let two : FedFrom tells e f s2 ys then_.given (after s xs) = then_.each (after s xs) tell one.agrees in
+      record {
+        given_is = ap (λ (l : List ℕ). l ++ then_.given) one.given_is ∙ ap (λ (l : List ℕ). joined (replies s xs) ++ l) two.given_is ∙ sym (joined_append (replies s xs) (replies (after s xs) ys)) ∙ ap joined (sym (replies_append s xs ys));
+        agrees = subst (λ (t : State). AgreesOn tells f s2 t) (sym (after_append s xs ys)) two.agrees;
+        images = leaves_on d e f s xs ys one.images two.images;
+      };
+}
+
+-- it stopped in later lines
+pub stops_on : (tells : Type 0) (a b c : Option (List Event)) (d e f : DiskState) (s0 s1 : Session) (xs ys : List (List ℕ)) → Fed tells a b d e s0 s1 xs → StopsWithin tells b c e f s1 ys → StopsWithin tells a c d f s0 (xs ++ ys)
+stops_on tells a b c d e f s0 s1 xs ys first stops = record {
+  given = first.given ++ stops.given;
+  gave = gives_on a b c first.given stops.given first.gave stops.gave;
+  each = λ s tell agrees.
+      let one : FedFrom tells d e s1 xs first.given s = first.each s tell agrees in
+      let two : StopsWithinFrom e f ys stops.given (after s xs) = stops.each (after s xs) tell one.agrees in
+      record {
+        progress = subst (λ (l : List ℕ). Progress s (xs ++ ys) (l ++ stops.given) f.images) (sym one.given_is) (progress_on s xs ys stops.given f.images two.progress);
+        images = leaves_on d e f s xs ys one.images two.images;
+      };
+}
+
+-- there are more lines
+pub stops_more : (tells : Type 0) (a b : Option (List Event)) (d e : DiskState) (s0 : Session) (xs ys : List (List ℕ)) → StopsWithin tells a b d e s0 xs → StopsWithin tells a b d e s0 (xs ++ ys)
+stops_more tells a b d e s0 xs ys stops = record {
+  given = stops.given;
+  gave = stops.gave;
+  each = λ s tell agrees. let one : StopsWithinFrom d e xs stops.given s = stops.each s tell agrees in record {
+    progress = progress_more s xs ys stops.given e.images one.progress;
+    images = leaves_as d e (StandsAfterSome s xs) (StandsAfterSome s (xs ++ ys)) one.images (λ z here. some_more s xs ys z here);
+  };
+}
+
+pub stops_clip : (tells : Type 0) (a b : Option (List Event)) (d e : DiskState) (s0 : Session) (xs ys : List (List ℕ)) → map clip xs ≡ map clip ys → StopsWithin tells a b d e s0 xs → StopsWithin tells a b d e s0 ys
+stops_clip tells a b d e s0 xs ys same stops = record {
+  given = stops.given;
+  gave = stops.gave;
+  each = λ s tell agrees. let one : StopsWithinFrom d e xs stops.given s = stops.each s tell agrees in record {
+    progress = progress_clip s xs ys stops.given e.images same one.progress;
+    images = leaves_as d e (StandsAfterSome s xs) (StandsAfterSome s ys) one.images (λ z here. some_clip s xs ys z same here);
+  };
+}
+
+-- it stopped before any line
+unfoldable pub stops_none : (tells : Type 0) (told : Option (List Event)) (d : DiskState) (session : Session) (lines : List (List ℕ)) → IsLawful tells d → StopsWithin tells told told d d session lines
+stops_none tells told d session lines lawful = record {
+  given = [];
+  gave = gives_none told;
+  each = λ s tell agrees. record {
+    progress = progress_none s lines d.images (images_stand tells d session.store s lawful agrees);
+    images = leaves_none tells d session s lines lawful agrees;
+  };
+}
+
+-- it stopped behind all lines
+unfoldable pub stops_full : (tells : Type 0) (a b : Option (List Event)) (d e : DiskState) (s0 s1 : Session) (lines : List (List ℕ)) → IsLawful tells e → Fed tells a b d e s0 s1 lines → StopsWithin tells a b d e s0 lines
+stops_full tells a b d e s0 s1 lines lawful fed = record {
+  given = fed.given;
+  gave = fed.gave;
+  each = λ s tell agrees. let one : FedFrom tells d e s1 lines fed.given s = fed.each s tell agrees in record {
+    progress = subst (λ (l : List ℕ). Progress s lines l e.images) (sym one.given_is) (progress_full s lines e.images (images_stand tells e s1.store (after s lines) lawful one.agrees));
+    images = one.images;
+  };
+}
+
+-- a line was answered
+pub fed_line : (tells : Type 0) (a b : Option (List Event)) (d e : DiskState) (s0 s1 : Session) (line reply : List ℕ) → Gives a b reply → ((s : State) → tells → AgreesOn tells d s0 s → reply ≡ (step s line).1)
+    → ((s : State) → tells → AgreesOn tells d s0 s → AgreesOn tells e s1 (step s line).0) → ((s : State) → tells → AgreesOn tells d s0 s → LeavesOnly (StandsForEither s (step s line).0) d e) → Fed tells a b d e s0 s1 (line ∷ [])
+fed_line tells a b d e s0 s1 line reply gave is now leaves = record {
+  given = reply;
+  gave = gave;
+  each = λ s tell agrees. record {
+    given_is = is s tell agrees ∙ sym (append-nil (step s line).1);
+    agrees = now s tell agrees;
+    images = leaves_as d e (StandsForEither s (step s line).0) (StandsAfterSome s (line ∷ [])) (leaves s tell agrees) (λ z here. some_either s line [] z here);
+  };
+}
+
+-- less than its reply was given
+pub stops_line : (tells : Type 0) (a b : Option (List Event)) (d e : DiskState) (s0 : Session) (line part : List ℕ) → IsLawful tells e → Gives a b part → ((s : State) → tells → AgreesOn tells d s0 s → (left : List ℕ) × ((step s line).1 ≡ part ++ left) × (0 < length left))
+    → ((s : State) → tells → AgreesOn tells d s0 s → LeavesOnly (StandsForEither s (step s line).0) d e) → StopsWithin tells a b d e s0 (line ∷ [])
+stops_line tells a b d e s0 line part lawful gave is leaves = record {
+  given = part;
+  gave = gave;
+  each = λ s tell agrees. let rest = is s tell agrees in record {
+    progress = progress_stop s line [] part rest.0 e.images rest.1 rest.2 (leaves_now tells d e (StandsForEither s (step s line).0) lawful (leaves s tell agrees));
+    images = leaves_as d e (StandsForEither s (step s line).0) (StandsAfterSome s (line ∷ [])) (leaves s tell agrees) (λ z here. some_either s line [] z here);
+  };
+}
+
+-- none of it was given
+pub stops_unanswered : (tells : Type 0) (a : Option (List Event)) (d e : DiskState) (s0 : Session) (line : List ℕ) → IsLawful tells e → ((s : State) → tells → AgreesOn tells d s0 s → LeavesOnly (StandsForEither s (step s line).0) d e) → StopsWithin tells a a d e s0 (line ∷ [])
+stops_unanswered tells a d e s0 line lawful leaves = stops_line tells a a d e s0 line [] lawful (gives_none a) (λ s tell agrees. ((step s line).1, refl, reply_some s line)) leaves

@@ -1,0 +1,10 @@
+pub mod AddingLaws
+pub mod AskLaws
+pub mod FedLaws
+pub mod FeedLaws
+pub mod KeepingLaws
+pub mod MachineLaws
+pub mod ProgressLaws
+pub mod RunLaws
+pub mod ServeLaws
+pub mod StatusLaws

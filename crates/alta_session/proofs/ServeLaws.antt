@@ -1,0 +1,75 @@
+-- Laws of runs that open what is on the disk.
+use Rattle.std.proofs.Common.{◌≡◌, ℕ, inl, inr, ⊎_elim, List, [], Option, refl, sym, subst, arith}
+use Rattle.alta_console.specs.Transcript.{lines_in}
+use Rattle.alta_console.specs.declared.event.Event.{Event}
+use Rattle.alta_console.proofs.Laws.{grows_none, consumes_none}
+use Rattle.alta_disk.specs.Disk.{DiskState, Same, Passes, LeavesOnly, IsLawful}
+use Rattle.alta_disk.proofs.Moments.{leaves_then, leaves_by}
+use Rattle.alta_meta.specs.declared.document.State.{State}
+use Rattle.alta_session.specs.Agreement.{AgreesOn}
+use Rattle.alta_session.specs.Progress.{StandsAfterSome}
+use Rattle.alta_session.specs.Run.{Runs, Serves, Keeps}
+use Rattle.alta_session.specs.declared.session.Session.{Session}
+use Rattle.alta_session.specs.declared.status.Status.{Status}
+use Rattle.alta_session.specs.declared.status.Status.TheVariants.{Done, TooLong}
+use Rattle.alta_session.proofs.ProgressLaws.{some_none}
+use Rattle.alta_store.specs.Meaning.{StandsFor}
+
+-- calls that change nothing leave images of the same state
+same_stands : (P : List ℕ → Type 0) (d e : DiskState) → Passes Same d e → ((c : List ℕ) → d.images c → P c) → (c : List ℕ) → e.images c → P c
+same_stands P d e passes stand c here = let from = passes.now c here in subst P (sym from.2) (stand from.0 from.1)
+
+opens_only : (tells : Type 0) (d e : DiskState) (P : List ℕ → Type 0) → IsLawful tells d → Passes Same d e → ((c : List ℕ) → d.images c → P c) → LeavesOnly P d e
+opens_only tells d e P lawful passes stand = leaves_by tells d e P Same lawful passes stand (λ x z here same. subst P (sym same) (stand x here))
+
+-- it was not opened
+pub serves_none : (tells : Type 0) (limit : ℕ) (told : Option (List Event)) (left : Option (List ℕ)) (d e : DiskState) (status : Status) → IsLawful tells d → Passes Same d e → (status ≡ Done → ⊥) → (status ≡ TooLong → ⊥) → Serves tells limit told told left left d e status
+serves_none tells limit told left d e status lawful passes not_done not_long = record {
+  run = [];
+  grew = grows_none told;
+  read = consumes_none left;
+  too_long = (λ long. absurd (not_long long), λ past. absurd (omega arith));
+  replies = λ s tell stands. record { begin = ([], refl); all = λ done. absurd (not_done done); in_time = λ k t. absurd t };
+  keeps = λ s tell stands. record {
+    now = λ c here. record {
+      answered = 0;
+      is_acked = record { within = omega arith; begins = ([], refl); greatest = λ j h begins. h };
+      stands = record { reached = 0; least = omega arith; most = omega arith; within = omega arith; stands = same_stands (StandsFor s) d e passes stands.images c here };
+    };
+    ever = opens_only tells d e (StandsAfterSome s []) lawful passes (λ c here. some_none s [] c (stands.images c here));
+  };
+  reopened = λ s tell stands. inl (record { none = refl; same = passes });
+}
+
+-- at a moment before the calls that opened it there was an image of then
+older : (tells : Type 0) (d m : DiskState) (c : List ℕ) → IsLawful tells d → Passes Same d m → m.since d.clock c → d.images c
+older tells d m c lawful passes here =
+    ⊎_elim (λ old. lawful.only_now c old) (λ from. subst (λ (z : List ℕ). d.images z) (sym from.2) from.1) (passes.between d.clock c (omega arith) here)
+
+-- it was opened, and then it ran
+pub serves_opened : (tells : Type 0) (limit : ℕ) (told told_now : Option (List Event)) (left left_now : Option (List ℕ)) (d m e : DiskState) (session : Session) (status : Status) → IsLawful tells d → Passes Same d m → ((s : State) → tells → StandsFor s d.content → AgreesOn tells m session s)
+    → Runs tells limit told told_now left left_now m e session status → Serves tells limit told told_now left left_now d e status
+serves_opened tells limit told told_now left left_now d m e session status lawful passes agrees runs = record {
+  run = runs.run;
+  grew = runs.grew;
+  read = runs.read;
+  too_long = runs.too_long;
+  replies = λ s tell stands. (runs.each s tell (agrees s tell stands)).replies;
+  keeps = λ s tell stands.
+      let one : Keeps limit s runs.run m e = (runs.each s tell (agrees s tell (stands.content tell))).keeps in
+      let lines : List (List ℕ) = lines_in limit runs.run in
+      record {
+        now = one.now;
+        ever = leaves_then d m e (StandsAfterSome s lines) (opens_only tells d m (StandsAfterSome s lines) lawful passes (λ c here. some_none s lines c (stands.images c here))) one.ever;
+      };
+  reopened = λ s tell stands.
+      let one : Keeps limit s runs.run m e = (runs.each s tell (agrees s tell stands)).keeps in
+      inr (record {
+        moment = m.clock;
+        not_before = passes.later;
+        not_after = one.ever.later;
+        now = one.now;
+        since = one.ever.each;
+        ever = λ c here. ⊎_elim (λ old. inl (older tells d m c lawful passes old)) (λ some. inr some) (one.ever.between d.clock c passes.later here);
+      });
+}

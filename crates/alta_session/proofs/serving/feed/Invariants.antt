@@ -1,0 +1,25 @@
+use Rattle.std.proofs.Common.{◌≡◌, ◌≤◌, ◌-◌, length, take}
+use Rattle.alta_console.specs.Lines.{NoNewline, whole_from, begun_from}
+use Rattle.alta_session.specs.Agreement.{AgreesOnSome, IsSound}
+use Rattle.alta_session.specs.Fed.{Fed}
+use Rattle.alta_session.specs.Keeping.{clip}
+use Rattle.alta_session.proofs.serving.feed.Given as goal
+
+abbrev pub invariant-lines : goal.invariant-lines
+invariant-lines g l = record {
+  within : l.at ≤ length l.piece;
+  fed : Fed g.D.Disk.tells (g.C.Console.told l.fn.console) (g.C.Console.told l.console) (g.D.Disk.state l.fn.disk) (g.D.Disk.state l.disk) l.fn.session l.session (whole_from l.fn.begun.items (take l.at l.piece));
+  begun : clip l.begun.items ≡ clip (begun_from l.fn.begun.items (take l.at l.piece));
+  short : length l.begun.items ≤ 65536;
+  free : NoNewline l.begun.items;
+  some : AgreesOnSome g.D.Disk.tells (g.D.Disk.state l.disk) l.session;
+  sound : IsSound l.session;
+  input_kept : g.C.Console.left l.console ≡ g.C.Console.left l.fn.console;
+  take_count : g.C.Console.take_faults l.fn.console ≤ g.C.Console.take_faults l.console;
+  give_count : g.C.Console.give_faults l.fn.console ≤ g.C.Console.give_faults l.console;
+  disk_count : (g.D.Disk.state l.fn.disk).faults ≤ (g.D.Disk.state l.disk).faults;
+  same_limit : (g.D.Disk.state l.disk).limit ≡ (g.D.Disk.state l.fn.disk).limit;
+}
+
+abbrev pub decreases-lines : goal.decreases-lines
+decreases-lines g l = length l.piece - l.at

@@ -1,0 +1,34 @@
+use Rattle.std.proofs.Common.{◌++◌, length, ap, sym, subst, arith}
+use Rattle.alta_console.specs.Lines.{NoNewline}
+use Rattle.alta_session.proofs.FedLaws.{stops_none}
+use Rattle.alta_session.proofs.FeedLaws.{fed_free, kept_free, fed_ended, kept_ended, stops_ended}
+use Rattle.alta_session.proofs.KeepingLaws.{clip_short, free_clip, free_append, no_newline_found, newline_found}
+use Rattle.alta_session.proofs.serving.feed_line.Goals as goal
+
+pub end_line-requires-clause-rest_free : goal.end_line-requires-clause-rest_free
+end_line-requires-clause-rest_free g c = (newline_found c.in-Some.n c.args.bytes.now c.in-Some.ensures).free
+
+pub returns-in-Ok-clause-ok : goal.returns-in-Ok-clause-ok
+returns-in-Ok-clause-ok g c = fed_free g.D.Disk.tells _ _ _ c.args.begun.now.items c.args.bytes.now (g.met.D.Disk.lawful c.args.disk.now) (no_newline_found c.args.bytes.now c.in-None.ensures)
+
+pub returns-in-Ok-clause-begun : goal.returns-in-Ok-clause-begun
+returns-in-Ok-clause-begun g c = kept_free c.args.begun.now.items c.keep.new.begun.items c.args.bytes.now c.in-Ok.ensures.kept (no_newline_found c.args.bytes.now c.in-None.ensures)
+
+pub returns-in-Ok-clause-short : goal.returns-in-Ok-clause-short
+returns-in-Ok-clause-short g c = omega (arith, ap length c.in-Ok.ensures.kept, clip_short (c.args.begun.now.items ++ c.args.bytes.now))
+
+pub returns-in-Ok-clause-free : goal.returns-in-Ok-clause-free
+returns-in-Ok-clause-free g c =
+    subst NoNewline (sym c.in-Ok.ensures.kept) (free_clip (c.args.begun.now.items ++ c.args.bytes.now) (free_append c.args.begun.now.items c.args.bytes.now c.requires.free (no_newline_found c.args.bytes.now c.in-None.ensures)))
+
+pub returns-in-Err-clause-err : goal.returns-in-Err-clause-err
+returns-in-Err-clause-err g c = stops_none g.D.Disk.tells (g.C.Console.told c.args.console.now) (g.D.Disk.state c.args.disk.now) c.args.session.now _ (g.met.D.Disk.lawful c.args.disk.now)
+
+pub returns-in-Ok-end_line-clause-ok : goal.returns-in-Ok-end_line-clause-ok
+returns-in-Ok-end_line-clause-ok g c = fed_ended g.D.Disk.tells _ _ _ _ _ _ c.args.begun.now.items c.args.bytes.now c.in-Some.n (newline_found c.in-Some.n c.args.bytes.now c.in-Some.ensures) c.in-Ok-end_line.ensures.ok
+
+pub returns-in-Ok-end_line-clause-begun : goal.returns-in-Ok-end_line-clause-begun
+returns-in-Ok-end_line-clause-begun g c = kept_ended c.args.begun.now.items c.end_line.new.begun.items c.args.bytes.now c.in-Some.n c.in-Ok-end_line.ensures.none_begun (newline_found c.in-Some.n c.args.bytes.now c.in-Some.ensures)
+
+pub returns-in-Err-end_line-clause-err : goal.returns-in-Err-end_line-clause-err
+returns-in-Err-end_line-clause-err g c = stops_ended g.D.Disk.tells _ _ _ _ _ c.args.begun.now.items c.args.bytes.now c.in-Some.n (newline_found c.in-Some.n c.args.bytes.now c.in-Some.ensures) c.in-Err-end_line.ensures.err

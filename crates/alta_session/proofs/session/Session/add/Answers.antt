@@ -1,0 +1,133 @@
+use Rattle.std.proofs.Common.{◌≡◌, ◌⊎◌, ◌≤◌, ℕ, true, false, List, ◌++◌, inl, inr, ⊎_elim, ap, sym, subst, ◌∙◌, codes, decimal, Result, Ok, Err, IfOk, OnOk, rules}
+use Rattle.std.proofs.lemmas.Result.{IfOk-weaker}
+use Rattle.alta_disk.specs.Disk.{DiskState, LeavesOnly, IsLawful}
+use Rattle.alta_disk.proofs.Moments.{leaves_start}
+use Rattle.alta_meta.specs.declared.document.State.{State}
+use Rattle.alta_session.specs.Agreement.{AgreesOn}
+use Rattle.alta_session.specs.Machine.{adding}
+use Rattle.alta_store.specs.Agreement.{Agrees}
+use Rattle.alta_store.specs.Meaning.{StandsForEither}
+use Rattle.alta_store.specs.States.{with_added, has_name}
+use Rattle.alta_store.specs.declared.fault.StoreFault.TheVariants.{Taken, Numbers}
+use Rattle.alta_store.specs.declared.store.Store.{Store}
+use Rattle.alta_store.proofs.Agreements.{images_stand}
+use Rattle.alta_session.proofs.AddingLaws.{adding_bad, adding_taken, adding_full, adding_added, leaves_adding, refused_for}
+use Rattle.alta_session.proofs.session.Session.add.Goals as goal
+
+same_reply : {T E : Type 0} (r : Result T E) (x y : T) → x ≡ y → IfOk r (λ t. t ≡ x) → IfOk r (λ t. t ≡ y)
+same_reply r x y is here = IfOk-weaker r (λ t. t ≡ x) (λ t. t ≡ y) (λ t e. e ∙ is) here
+
+if_so : {T E : Type 0} (r : Result T E) (P : Type 0) → P → OnOk r P
+if_so (Ok x) P here = here
+if_so (Err e) P here = tt
+
+second : (p : State × List ℕ) (s : State) (l : List ℕ) → p ≡ (s, l) → l ≡ p.1
+second p s l is = sym (ap (λ (q : State × List ℕ). q.1) is)
+
+first : (p : State × List ℕ) (s : State) (l : List ℕ) → p ≡ (s, l) → s ≡ p.0
+first p s l is = sym (ap (λ (q : State × List ℕ). q.0) is)
+
+pub returns-then-not-name_ok-clause-reply : goal.returns-then-not-name_ok-clause-reply
+returns-then-not-name_ok-clause-reply g c = λ s told agrees.
+    same_reply c.text.result _ _ (second (adding c.args.name.now c.args.title.now c.args.body.now s) s _ (adding_bad c.args.name.now c.args.title.now c.args.body.now s (search rules))) c.text.ensures.reply
+
+pub returns-then-not-name_ok-clause-agrees : goal.returns-then-not-name_ok-clause-agrees
+returns-then-not-name_ok-clause-agrees g c = λ s told agrees.
+    let P : State → Type 0 = λ t. AgreesOn g.D.Disk.tells (g.D.Disk.state c.args.disk.now) c.args.self.now t in
+    if_so c.text.result _ (subst P (first (adding c.args.name.now c.args.title.now c.args.body.now s) s _ (adding_bad c.args.name.now c.args.title.now c.args.body.now s (search rules))) agrees)
+
+pub returns-in-Ok-clause-reply : goal.returns-in-Ok-clause-reply
+returns-in-Ok-clause-reply g c = λ s told agrees.
+    let number = c.in-Ok.ensures.number s agrees told in
+    let is : adding c.args.name.now c.args.title.now c.args.body.now s ≡ (with_added c.args.name.now c.args.title.now c.args.body.now s, codes "added " ++ decimal s.next ++ codes "\n") =
+    adding_added c.args.name.now c.args.title.now c.args.body.now s (search rules) number.1 number.2 in
+    same_reply c.added.result _ _ (ap (λ (n : ℕ). codes "added " ++ decimal n ++ codes "\n") number.0 ∙ second (adding c.args.name.now c.args.title.now c.args.body.now s) _ _ is) c.added.ensures.reply
+
+pub returns-in-Ok-clause-agrees : goal.returns-in-Ok-clause-agrees
+returns-in-Ok-clause-agrees g c = λ s told agrees.
+    let number = c.in-Ok.ensures.number s agrees told in
+    let P : State → Type 0 = λ t. Agrees g.D.Disk.tells (g.D.Disk.state c.add.new.disk) c.add.new.self t in
+    if_so c.added.result _ (subst P (first (adding c.args.name.now c.args.title.now c.args.body.now s) _ _ (adding_added c.args.name.now c.args.title.now c.args.body.now s (search rules) number.1 number.2)) (c.in-Ok.ensures.agrees s agrees))
+
+pub returns-in-Ok-clause-images : goal.returns-in-Ok-clause-images
+returns-in-Ok-clause-images g c = λ s told agrees.
+    let number = c.in-Ok.ensures.number s agrees told in
+    let P : State → Type 0 = λ t. LeavesOnly (StandsForEither s t) (g.D.Disk.state c.args.disk.now) (g.D.Disk.state c.add.new.disk) in
+    subst P (first (adding c.args.name.now c.args.title.now c.args.body.now s) _ _ (adding_added c.args.name.now c.args.title.now c.args.body.now s (search rules) number.1 number.2)) (c.in-Ok.ensures.images s agrees)
+
+pub returns-in-Ok-clause-some : goal.returns-in-Ok-clause-some
+returns-in-Ok-clause-some g c = if_so c.added.result _ (with_added c.args.name.now c.args.title.now c.args.body.now c.requires.agrees.0, c.in-Ok.ensures.agrees c.requires.agrees.0 c.requires.agrees.1)
+
+-- the disk stays as it is
+stays : (tells : Type 0) (d : DiskState) (store : Store) (s : State) → IsLawful tells d → Agrees tells d store s → LeavesOnly (StandsForEither s s) d d
+stays tells d store s lawful agrees = leaves_start tells d (StandsForEither s s) lawful (λ c here. inl (images_stand tells d store s lawful agrees c here))
+
+pub returns-in-Taken-clause-reply : goal.returns-in-Taken-clause-reply
+returns-in-Taken-clause-reply g c = λ s told agrees.
+    let taken : has_name c.args.name.now s ≡ true = (c.add.ensures.taken s agrees told).0 (c.in-Err.is ∙ ap Err c.in-Taken.is) in
+    same_reply c.text-in-Taken.result _ _ (second (adding c.args.name.now c.args.title.now c.args.body.now s) s _ (adding_taken c.args.name.now c.args.title.now c.args.body.now s (search rules) taken)) c.text-in-Taken.ensures.reply
+
+pub returns-in-Taken-clause-agrees : goal.returns-in-Taken-clause-agrees
+returns-in-Taken-clause-agrees g c = λ s told agrees.
+    let is : c.add.result ≡ Err Taken = c.in-Err.is ∙ ap Err c.in-Taken.is in
+    let taken : has_name c.args.name.now s ≡ true = (c.add.ensures.taken s agrees told).0 is in
+    let same = c.add.ensures.refused (inl is) in
+    let now : Agrees g.D.Disk.tells (g.D.Disk.state c.add.new.disk) c.add.new.self s =
+    subst (λ x. Agrees g.D.Disk.tells (g.D.Disk.state x) c.add.new.self s) (sym same.0) (subst (λ x. Agrees g.D.Disk.tells (g.D.Disk.state c.args.disk.now) x s) (sym same.1) agrees) in
+    let P : State → Type 0 = λ t. Agrees g.D.Disk.tells (g.D.Disk.state c.add.new.disk) c.add.new.self t in
+    if_so c.text-in-Taken.result _ (subst P (first (adding c.args.name.now c.args.title.now c.args.body.now s) s _ (adding_taken c.args.name.now c.args.title.now c.args.body.now s (search rules) taken)) now)
+
+pub returns-in-Numbers-clause-reply : goal.returns-in-Numbers-clause-reply
+returns-in-Numbers-clause-reply g c = λ s told agrees.
+    let full : (has_name c.args.name.now s ≡ false) × (4294967296 ≤ s.next) = (c.add.ensures.numbers s agrees told).0 (c.in-Err.is ∙ ap Err c.in-Numbers.is) in
+    same_reply c.text-in-Numbers.result _ _ (second (adding c.args.name.now c.args.title.now c.args.body.now s) s _ (adding_full c.args.name.now c.args.title.now c.args.body.now s (search rules) full.0 full.1)) c.text-in-Numbers.ensures.reply
+
+pub returns-in-Numbers-clause-agrees : goal.returns-in-Numbers-clause-agrees
+returns-in-Numbers-clause-agrees g c = λ s told agrees.
+    let is : c.add.result ≡ Err Numbers = c.in-Err.is ∙ ap Err c.in-Numbers.is in
+    let full : (has_name c.args.name.now s ≡ false) × (4294967296 ≤ s.next) = (c.add.ensures.numbers s agrees told).0 is in
+    let same = c.add.ensures.refused (inr is) in
+    let now : Agrees g.D.Disk.tells (g.D.Disk.state c.add.new.disk) c.add.new.self s =
+    subst (λ x. Agrees g.D.Disk.tells (g.D.Disk.state x) c.add.new.self s) (sym same.0) (subst (λ x. Agrees g.D.Disk.tells (g.D.Disk.state c.args.disk.now) x s) (sym same.1) agrees) in
+    let P : State → Type 0 = λ t. Agrees g.D.Disk.tells (g.D.Disk.state c.add.new.disk) c.add.new.self t in
+    if_so c.text-in-Numbers.result _ (subst P (first (adding c.args.name.now c.args.title.now c.args.body.now s) s _ (adding_full c.args.name.now c.args.title.now c.args.body.now s (search rules) full.0 full.1)) now)
+
+pub returns-in-Taken-clause-images : goal.returns-in-Taken-clause-images
+returns-in-Taken-clause-images g c = λ s told agrees.
+    leaves_adding (g.D.Disk.state c.args.disk.now) (g.D.Disk.state c.add.new.disk) c.args.name.now c.args.title.now c.args.body.now s (search rules) (c.add.ensures.images s agrees)
+    (λ refused. subst (λ x. LeavesOnly (StandsForEither s s) (g.D.Disk.state c.args.disk.now) (g.D.Disk.state x)) (sym (⊎_elim (λ has. (c.add.ensures.refused (inl ((c.add.ensures.taken s agrees told).1 has))).0) (λ full. (c.add.ensures.refused (inr ((c.add.ensures.numbers s agrees told).1 full))).0) refused)) (stays g.D.Disk.tells (g.D.Disk.state c.args.disk.now) c.args.self.now.store s (g.met.D.Disk.lawful c.args.disk.now) agrees))
+
+pub returns-in-Numbers-clause-images : goal.returns-in-Numbers-clause-images
+returns-in-Numbers-clause-images g c = λ s told agrees.
+    leaves_adding (g.D.Disk.state c.args.disk.now) (g.D.Disk.state c.add.new.disk) c.args.name.now c.args.title.now c.args.body.now s (search rules) (c.add.ensures.images s agrees)
+    (λ refused. subst (λ x. LeavesOnly (StandsForEither s s) (g.D.Disk.state c.args.disk.now) (g.D.Disk.state x)) (sym (⊎_elim (λ has. (c.add.ensures.refused (inl ((c.add.ensures.taken s agrees told).1 has))).0) (λ full. (c.add.ensures.refused (inr ((c.add.ensures.numbers s agrees told).1 full))).0) refused)) (stays g.D.Disk.tells (g.D.Disk.state c.args.disk.now) c.args.self.now.store s (g.met.D.Disk.lawful c.args.disk.now) agrees))
+
+pub returns-in_default-clause-images : goal.returns-in_default-clause-images
+returns-in_default-clause-images g c = λ s told agrees.
+    leaves_adding (g.D.Disk.state c.args.disk.now) (g.D.Disk.state c.add.new.disk) c.args.name.now c.args.title.now c.args.body.now s (search rules) (c.add.ensures.images s agrees)
+    (λ refused. subst (λ x. LeavesOnly (StandsForEither s s) (g.D.Disk.state c.args.disk.now) (g.D.Disk.state x)) (sym (⊎_elim (λ has. (c.add.ensures.refused (inl ((c.add.ensures.taken s agrees told).1 has))).0) (λ full. (c.add.ensures.refused (inr ((c.add.ensures.numbers s agrees told).1 full))).0) refused)) (stays g.D.Disk.tells (g.D.Disk.state c.args.disk.now) c.args.self.now.store s (g.met.D.Disk.lawful c.args.disk.now) agrees))
+
+only_left : (A B C D : Type 0) → A ⊎ (B ⊎ (C ⊎ D)) → (B → ⊥) → (C → ⊥) → A ⊎ D
+only_left A B C D (inl a) b c = inl a
+only_left A B C D (inr (inl x)) b c = absurd (b x)
+only_left A B C D (inr (inr (inl x))) b c = absurd (c x)
+only_left A B C D (inr (inr (inr d))) b c = inr d
+
+pub returns-in_default-clause-only : goal.returns-in_default-clause-only
+returns-in_default-clause-only g c = only_left _ _ _ _ c.in-Err.ensures.only c.in_default.not-Taken c.in_default.not-Numbers
+
+pub returns-in-Ok-clause-unchanged : goal.returns-in-Ok-clause-unchanged
+returns-in-Ok-clause-unchanged g c = λ s told agrees refusal.
+    refused_for _ c.args.name.now c.args.title.now c.args.body.now s (search rules) (λ has. (c.add.ensures.refused (inl ((c.add.ensures.taken s agrees told).1 has))).0) (λ full. (c.add.ensures.refused (inr ((c.add.ensures.numbers s agrees told).1 full))).0) refusal
+
+pub returns-in-Taken-clause-unchanged : goal.returns-in-Taken-clause-unchanged
+returns-in-Taken-clause-unchanged g c = λ s told agrees refusal.
+    refused_for _ c.args.name.now c.args.title.now c.args.body.now s (search rules) (λ has. (c.add.ensures.refused (inl ((c.add.ensures.taken s agrees told).1 has))).0) (λ full. (c.add.ensures.refused (inr ((c.add.ensures.numbers s agrees told).1 full))).0) refusal
+
+pub returns-in-Numbers-clause-unchanged : goal.returns-in-Numbers-clause-unchanged
+returns-in-Numbers-clause-unchanged g c = λ s told agrees refusal.
+    refused_for _ c.args.name.now c.args.title.now c.args.body.now s (search rules) (λ has. (c.add.ensures.refused (inl ((c.add.ensures.taken s agrees told).1 has))).0) (λ full. (c.add.ensures.refused (inr ((c.add.ensures.numbers s agrees told).1 full))).0) refusal
+
+pub returns-in_default-clause-unchanged : goal.returns-in_default-clause-unchanged
+returns-in_default-clause-unchanged g c = λ s told agrees refusal.
+    refused_for _ c.args.name.now c.args.title.now c.args.body.now s (search rules) (λ has. (c.add.ensures.refused (inl ((c.add.ensures.taken s agrees told).1 has))).0) (λ full. (c.add.ensures.refused (inr ((c.add.ensures.numbers s agrees told).1 full))).0) refusal

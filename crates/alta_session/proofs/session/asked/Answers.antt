@@ -1,0 +1,31 @@
+use Rattle.std.proofs.Common.{List, ℕ, subst}
+use Rattle.alta_model.specs.Command.{Reads}
+use Rattle.alta_model.specs.Seen.{command_of}
+use Rattle.alta_model.specs.declared.line.Line.{Line}
+use Rattle.alta_model.specs.declared.line.LineFault.TheVariants.{TooLong, NotUtf8, Unknown, Bad}
+use Rattle.alta_session.proofs.AddingLaws.{line_is_document}
+use Rattle.alta_session.proofs.AskLaws.{step_other, step_adds, step_refuses}
+use Rattle.alta_session.proofs.session.asked.Goals as goal
+
+pub returns-in-Add : goal.returns-in-Add
+returns-in-Add c =
+    let line : List ℕ = c.args.bytes.now in
+    let P : Line → Type 0 = λ l. Reads line (command_of l) in (
+      step_adds line c.in-Ok.line c.in-Add.name c.in-Add.title c.in-Add.body c.in-Ok.ensures.reading c.in-Add.is,
+      λ named. line_is_document line c.in-Add.name.now c.in-Add.title.now c.in-Add.body.now c.requires c.in-Ok.ensures.read.0 (subst P c.in-Add.is c.in-Ok.ensures.read.1) named,
+    )
+
+pub returns-in_default : goal.returns-in_default
+returns-in_default c = step_other c.args.bytes.now c.in-Ok.line c.in-Ok.ensures.reading c.in_default.not-Add
+
+pub returns-in-Err-TooLong : goal.returns-in-Err-TooLong
+returns-in-Err-TooLong c = step_refuses c.args.bytes.now c.in-Err-TooLong.field-0 TooLong c.in-Err-TooLong.ensures.reading c.in-Err-TooLong.field-0-is
+
+pub returns-in-Err-NotUtf8 : goal.returns-in-Err-NotUtf8
+returns-in-Err-NotUtf8 c = step_refuses c.args.bytes.now c.in-Err-NotUtf8.field-0 NotUtf8 c.in-Err-NotUtf8.ensures.reading c.in-Err-NotUtf8.field-0-is
+
+pub returns-in-Err-Unknown : goal.returns-in-Err-Unknown
+returns-in-Err-Unknown c = step_refuses c.args.bytes.now c.in-Err-Unknown.field-0 Unknown c.in-Err-Unknown.ensures.reading c.in-Err-Unknown.field-0-is
+
+pub returns-in-Err-Bad : goal.returns-in-Err-Bad
+returns-in-Err-Bad c = step_refuses c.args.bytes.now c.in-Err-Bad.field-0 Bad c.in-Err-Bad.ensures.reading c.in-Err-Bad.field-0-is

@@ -1,0 +1,95 @@
+use Rattle.std.proofs.Common.{◌≡◌, ◌≢◌, ℕ, List, [], ◌∷◌, length, codes, refl, ap, sym, ◌∙◌, rules, arith}
+use Rattle.alta_session.proofs.StatusLaws.{init_opened, init_never}
+use Rattle.alta_session.proofs.top.alta.Goals as goal
+
+abbrev first_length : List (List ℕ) → ℕ
+first_length [] = 0
+first_length (word ∷ words) = length word
+
+two_words : (words : List (List ℕ)) → words ≡ codes "init" ∷ [] → words ≡ codes "run" ∷ [] → ⊥
+two_words words init run = let lengths : first_length (codes "init" ∷ []) ≡ first_length (codes "run" ∷ []) = ap first_length (sym init ∙ run) in omega (arith, lengths)
+
+pub returns-then-is_word : goal.returns-then-is_word
+returns-then-is_word g c =
+    let word : c.args.words.now ≡ codes "init" ∷ [] = search rules in
+    let other : c.args.words.now ≡ codes "run" ∷ [] → ⊥ = two_words c.args.words.now word in
+    let never = init_never c.init.result c.init.ensures.ends in
+    record {
+      usage = λ is. absurd (never.usage is);
+      no_call = λ init run. absurd (init word);
+      init = λ init. (c.init.ensures.ends, refl);
+      made = λ init. c.init.ensures.made;
+      exists = c.init.ensures.exists;
+      found = λ init. c.init.ensures.found;
+      too_small = λ init. c.init.ensures.too_small;
+      small = λ init. c.init.ensures.small;
+      run = λ run. absurd (other run);
+      read_all = λ run is. absurd (other run);
+      never_exists = λ run is. other run;
+      no_root = λ tell is. absurd ((init_opened c.init.result c.init.ensures.ends).rooted is);
+      rooted = λ run tell none. absurd (other run);
+      damaged = λ place tell is. absurd ((init_opened c.init.result c.init.ensures.ends).whole place is);
+      undamaged = λ place run tell broken. absurd (other run);
+      stands = λ s tell stands. init_opened c.init.result c.init.ensures.ends;
+      full = λ need gap run tell is. absurd (other run);
+      complete = λ s run tell stands takes gives disk. absurd (other run);
+      take_fault = λ is. absurd (never.take is);
+      give_fault = λ is. absurd (never.give is);
+      disk_fault = c.init.ensures.disk_fault;
+    }
+
+pub returns-then-is_word-2 : goal.returns-then-is_word-2
+returns-then-is_word-2 g c =
+    let word : c.args.words.now ≡ codes "run" ∷ [] = search rules in
+    let other : c.args.words.now ≡ codes "init" ∷ [] → ⊥ = λ init. two_words c.args.words.now init word in
+    record {
+      usage = λ is. absurd (c.serve.ensures.never.0 is);
+      no_call = λ init run. absurd (run word);
+      init = λ init. absurd (other init);
+      made = λ init is. absurd (other init);
+      exists = λ tell is. absurd (c.serve.ensures.never.1 is);
+      found = λ init tell none. absurd (other init);
+      too_small = λ init need gap is. absurd (other init);
+      small = λ init less. absurd (other init);
+      run = λ run. c.serve.ensures.run;
+      read_all = λ run. c.serve.ensures.read_all;
+      never_exists = λ run. c.serve.ensures.never.1;
+      no_root = c.serve.ensures.no_root;
+      rooted = λ run. c.serve.ensures.rooted;
+      damaged = c.serve.ensures.damaged;
+      undamaged = λ place run. c.serve.ensures.undamaged place;
+      stands = c.serve.ensures.stands;
+      full = λ need gap run. c.serve.ensures.full need gap;
+      complete = λ s run. c.serve.ensures.complete s;
+      take_fault = c.serve.ensures.take_fault;
+      give_fault = c.serve.ensures.give_fault;
+      disk_fault = c.serve.ensures.disk_fault;
+    }
+
+pub returns : goal.returns
+returns g c =
+    let init_not : c.args.words.now ≢ codes "init" ∷ [] = search rules in
+    let run_not : c.args.words.now ≢ codes "run" ∷ [] = search rules in
+    record {
+      usage = λ is. (init_not, run_not);
+      no_call = λ init run. (refl, refl, refl);
+      init = λ init. absurd (init_not init);
+      made = λ init is. absurd (init_not init);
+      exists = λ tell is. absurd cc;
+      found = λ init tell none. absurd (init_not init);
+      too_small = λ init need gap is. absurd (init_not init);
+      small = λ init less. absurd (init_not init);
+      run = λ run. absurd (run_not run);
+      read_all = λ run is. absurd (run_not run);
+      never_exists = λ run is. run_not run;
+      no_root = λ tell is. absurd cc;
+      rooted = λ run tell none. absurd (run_not run);
+      damaged = λ place tell is. absurd cc;
+      undamaged = λ place run tell broken. absurd (run_not run);
+      stands = λ s tell stands. record { rooted = λ is. cc; whole = λ place is. cc };
+      full = λ need gap run tell is. absurd (run_not run);
+      complete = λ s run tell stands takes gives disk. absurd (run_not run);
+      take_fault = λ is. absurd cc;
+      give_fault = λ is. absurd cc;
+      disk_fault = λ is. absurd cc;
+    }

@@ -1,0 +1,10 @@
+pub mod Agreement
+pub mod Asking
+pub mod Fed
+pub mod Fullness
+pub mod Going
+pub mod Keeping
+pub mod Machine
+pub mod Progress
+pub mod Run
+pub mod Status

@@ -1,0 +1,16 @@
+//! Command lines and their replies, over any console and any disk.
+#![tactic(auto)]
+
+mod giving;
+mod serving;
+mod session;
+mod status;
+mod top;
+
+pub use serving::serve;
+pub use session::Session;
+pub use status::{Status, status_line};
+pub use top::alta;
+
+#[cfg(test)]
+mod tests;

@@ -1,0 +1,341 @@
+// Lines in, replies out.
+ghost use Rattle.std.specs.Prelude.{◌≡◌, ◌≢◌, ◌⊎◌, ◌+◌, ◌<◌, ◌≤◌, ◌^◌, ◌++◌, [], ◌∷◌, ℕ, length, take, Err, OnOk, OnErr, IfOk, IfErr, IfSome};
+ghost use Rattle.alta_codec.specs.Faults.{Rose};
+ghost use Rattle.alta_console.specs.Lines.{NoNewline, whole_from, begun_from, last_piece};
+ghost use Rattle.alta_disk.specs.Disk.{DiskState};
+ghost use Rattle.alta_meta.specs.declared.document.State.{State};
+ghost use Rattle.alta_session.specs.Agreement.{AgreesOnSome, IsSound};
+ghost use Rattle.alta_session.specs.Fed.{Fed};
+ghost use Rattle.alta_session.specs.Keeping.{clip};
+ghost use Rattle.alta_session.specs.Fullness.{IsFull};
+ghost use Rattle.alta_session.specs.Progress.{StopsWithin};
+ghost use Rattle.alta_session.specs.Run.{Runs, Serves};
+ghost use Rattle.alta_session.specs.Status.{EndsLine, EndsRunning, IsOpened, Completes, Yields};
+ghost use Rattle.alta_store.specs.Brokenness.{HasNoIndex, IsBrokenAt};
+ghost use Rattle.alta_store.specs.Meaning.{StandsFor};
+
+use crate::giving::give_all;
+use crate::status::status_of;
+use crate::{Session, Status};
+use alta_console::Console;
+use alta_disk::Disk;
+use memchr::memchr;
+use std::alloc::Global;
+
+// A line of more bytes than this is refused, and no more of it is kept.
+const KEPT: usize = 65_536;
+
+// How many bytes a take asks for.
+const PIECE: usize = 65_536;
+
+// Answers a line, and gives the reply whole. After an error the run ends with that status.
+fn answer<C: Console, D: Disk>(
+    alloc: Global,
+    session: &mut Session,
+    console: &mut C,
+    disk: &mut D,
+    line: &[u8],
+) -> Result<(), Status>
+    requires one_line { NoNewline line.now }
+    requires sound { IsSound session.old }
+    requires agrees { AgreesOnSome D.tells (D.state disk.old) session.old }
+    requires limit { 2105344 ≤ (D.state disk.old).limit }
+    ensures ok { OnOk result (Fed D.tells (C.told console.old) (C.told console.new) (D.state disk.old) (D.state disk.new) session.old session.new (line.now ∷ [])) }
+    ensures err { OnErr result (StopsWithin D.tells (C.told console.old) (C.told console.new) (D.state disk.old) (D.state disk.new) session.old (line.now ∷ [])) }
+    ensures some { OnOk result (AgreesOnSome D.tells (D.state disk.new) session.new) }
+    ensures sound { OnOk result (IsSound session.new) }
+    ensures ends { IfErr result EndsLine }
+    ensures full { (need gap : ℕ) → D.tells → result ≡ Err (Status.Full need gap) → IsFull (D.state disk.new).content need gap }
+    ensures give_fault { result ≡ Err Status.GiveFault → Rose (C.give_faults console.old) (C.give_faults console.new) }
+    ensures disk_fault { result ≡ Err Status.DiskFault → Rose (D.state disk.old).faults (D.state disk.new).faults }
+    ensures input_kept { C.left console.new ≡ C.left console.old }
+    ensures take_count { C.take_faults console.old ≤ C.take_faults console.new }
+    ensures give_count { C.give_faults console.old ≤ C.give_faults console.new }
+    ensures disk_count { (D.state disk.old).faults ≤ (D.state disk.new).faults }
+    ensures same_limit { (D.state disk.new).limit ≡ (D.state disk.old).limit }
+{
+    let reply = match session.line(alloc, disk, line) {
+        Ok(reply) => reply,
+        Err(fault) => return Err(status_of(fault)),
+    };
+    match give_all(console, reply.as_str().as_bytes()) {
+        Ok(()) => Ok(()),
+        Err(_) => Err(Status::GiveFault),
+    }
+}
+
+// Keeps more of a line that has begun, as far as it may still be answered.
+fn keep(begun: &mut Vec<u8>, bytes: &[u8]) -> Result<(), Status>
+    requires { length begun.old.items ≤ 65536 }
+    ensures kept { OnOk result (begun.new.items ≡ clip (begun.old.items ++ bytes.now)) }
+    ensures memory { IfErr result (λ status. status ≡ Status.Memory) }
+{
+    let room = (KEPT - begun.len()).min(bytes.len());
+    match begun.extend_from_slice(&bytes[..room]) {
+        Ok(()) => Ok(()),
+        Err(_) => Err(Status::Memory),
+    }
+}
+
+// Answers a line that ends here, of which `begun` was kept and `rest` came last.
+fn end_line<C: Console, D: Disk>(
+    alloc: Global,
+    session: &mut Session,
+    console: &mut C,
+    disk: &mut D,
+    begun: &mut Vec<u8>,
+    rest: &[u8],
+) -> Result<(), Status>
+    requires short { length begun.old.items ≤ 65536 }
+    requires begun_free { NoNewline begun.old.items }
+    requires rest_free { NoNewline rest.now }
+    requires sound { IsSound session.old }
+    requires agrees { AgreesOnSome D.tells (D.state disk.old) session.old }
+    requires limit { 2105344 ≤ (D.state disk.old).limit }
+    ensures ok { OnOk result (Fed D.tells (C.told console.old) (C.told console.new) (D.state disk.old) (D.state disk.new) session.old session.new ((begun.old.items ++ rest.now) ∷ [])) }
+    ensures err { OnErr result (StopsWithin D.tells (C.told console.old) (C.told console.new) (D.state disk.old) (D.state disk.new) session.old ((begun.old.items ++ rest.now) ∷ [])) }
+    ensures none_begun { OnOk result (begun.new.items ≡ []) }
+    ensures some { OnOk result (AgreesOnSome D.tells (D.state disk.new) session.new) }
+    ensures sound { OnOk result (IsSound session.new) }
+    ensures ends { IfErr result EndsLine }
+    ensures full { (need gap : ℕ) → D.tells → result ≡ Err (Status.Full need gap) → IsFull (D.state disk.new).content need gap }
+    ensures give_fault { result ≡ Err Status.GiveFault → Rose (C.give_faults console.old) (C.give_faults console.new) }
+    ensures disk_fault { result ≡ Err Status.DiskFault → Rose (D.state disk.old).faults (D.state disk.new).faults }
+    ensures input_kept { C.left console.new ≡ C.left console.old }
+    ensures take_count { C.take_faults console.old ≤ C.take_faults console.new }
+    ensures give_count { C.give_faults console.old ≤ C.give_faults console.new }
+    ensures disk_count { (D.state disk.old).faults ≤ (D.state disk.new).faults }
+    ensures same_limit { (D.state disk.new).limit ≡ (D.state disk.old).limit }
+{
+    if begun.is_empty() {
+        return answer(alloc, session, console, disk, rest);
+    }
+    match keep(begun, rest) {
+        Ok(()) => {}
+        Err(status) => return Err(status),
+    }
+    match answer(alloc, session, console, disk, begun) {
+        Ok(()) => {
+            begun.clear();
+            Ok(())
+        }
+        Err(status) => Err(status),
+    }
+}
+
+// Goes on by the bytes up to the first newline, where a line ends and is answered, or by all where there is none.
+// Answers by how many.
+fn feed_line<C: Console, D: Disk>(
+    alloc: Global,
+    session: &mut Session,
+    console: &mut C,
+    disk: &mut D,
+    begun: &mut Vec<u8>,
+    bytes: &[u8],
+) -> Result<usize, Status>
+    requires some_bytes { 0 < length bytes.now }
+    requires short { length begun.old.items ≤ 65536 }
+    requires free { NoNewline begun.old.items }
+    requires sound { IsSound session.old }
+    requires agrees { AgreesOnSome D.tells (D.state disk.old) session.old }
+    requires limit { 2105344 ≤ (D.state disk.old).limit }
+    ensures within { IfOk result (λ n. n ≤ length bytes.now) }
+    ensures more { IfOk result (λ n. 0 < n) }
+    ensures ok { IfOk result (λ n. Fed D.tells (C.told console.old) (C.told console.new) (D.state disk.old) (D.state disk.new) session.old session.new (whole_from begun.old.items (take n bytes.now))) }
+    ensures begun { IfOk result (λ n. clip begun.new.items ≡ clip (begun_from begun.old.items (take n bytes.now))) }
+    ensures err { OnErr result (StopsWithin D.tells (C.told console.old) (C.told console.new) (D.state disk.old) (D.state disk.new) session.old (whole_from begun.old.items bytes.now)) }
+    ensures short { OnOk result (length begun.new.items ≤ 65536) }
+    ensures free { OnOk result (NoNewline begun.new.items) }
+    ensures some { OnOk result (AgreesOnSome D.tells (D.state disk.new) session.new) }
+    ensures sound { OnOk result (IsSound session.new) }
+    ensures ends { IfErr result EndsLine }
+    ensures full { (need gap : ℕ) → D.tells → result ≡ Err (Status.Full need gap) → IsFull (D.state disk.new).content need gap }
+    ensures give_fault { result ≡ Err Status.GiveFault → Rose (C.give_faults console.old) (C.give_faults console.new) }
+    ensures disk_fault { result ≡ Err Status.DiskFault → Rose (D.state disk.old).faults (D.state disk.new).faults }
+    ensures input_kept { C.left console.new ≡ C.left console.old }
+    ensures take_count { C.take_faults console.old ≤ C.take_faults console.new }
+    ensures give_count { C.give_faults console.old ≤ C.give_faults console.new }
+    ensures disk_count { (D.state disk.old).faults ≤ (D.state disk.new).faults }
+    ensures same_limit { (D.state disk.new).limit ≡ (D.state disk.old).limit }
+{
+    match memchr(b'\n', bytes) {
+        None => match keep(begun, bytes) {
+            Ok(()) => Ok(bytes.len()),
+            Err(status) => Err(status),
+        },
+        Some(n) => match end_line(alloc, session, console, disk, begun, &bytes[..n]) {
+            Ok(()) => Ok(n + 1),
+            Err(status) => Err(status),
+        },
+    }
+}
+
+// Answers the lines that end in a piece, each before the next. `begun` is kept of the line that has begun.
+fn feed<C: Console, D: Disk>(
+    alloc: Global,
+    session: &mut Session,
+    console: &mut C,
+    disk: &mut D,
+    begun: &mut Vec<u8>,
+    piece: &[u8],
+) -> Result<(), Status>
+    requires short { length begun.old.items ≤ 65536 }
+    requires free { NoNewline begun.old.items }
+    requires sound { IsSound session.old }
+    requires agrees { AgreesOnSome D.tells (D.state disk.old) session.old }
+    requires limit { 2105344 ≤ (D.state disk.old).limit }
+    ensures ok { OnOk result (Fed D.tells (C.told console.old) (C.told console.new) (D.state disk.old) (D.state disk.new) session.old session.new (whole_from begun.old.items piece.now)) }
+    ensures begun { OnOk result (clip begun.new.items ≡ clip (begun_from begun.old.items piece.now)) }
+    ensures err { OnErr result (StopsWithin D.tells (C.told console.old) (C.told console.new) (D.state disk.old) (D.state disk.new) session.old (whole_from begun.old.items piece.now)) }
+    ensures short { OnOk result (length begun.new.items ≤ 65536) }
+    ensures free { OnOk result (NoNewline begun.new.items) }
+    ensures some { OnOk result (AgreesOnSome D.tells (D.state disk.new) session.new) }
+    ensures sound { OnOk result (IsSound session.new) }
+    ensures ends { IfErr result EndsLine }
+    ensures full { (need gap : ℕ) → D.tells → result ≡ Err (Status.Full need gap) → IsFull (D.state disk.new).content need gap }
+    ensures give_fault { result ≡ Err Status.GiveFault → Rose (C.give_faults console.old) (C.give_faults console.new) }
+    ensures disk_fault { result ≡ Err Status.DiskFault → Rose (D.state disk.old).faults (D.state disk.new).faults }
+    ensures input_kept { C.left console.new ≡ C.left console.old }
+    ensures take_count { C.take_faults console.old ≤ C.take_faults console.new }
+    ensures give_count { C.give_faults console.old ≤ C.give_faults console.new }
+    ensures disk_count { (D.state disk.old).faults ≤ (D.state disk.new).faults }
+    ensures same_limit { (D.state disk.new).limit ≡ (D.state disk.old).limit }
+{
+    let mut at = 0;
+    'lines: while at < piece.len() {
+        match feed_line(alloc, session, console, disk, begun, &piece[at..]) {
+            Ok(n) => at += n,
+            Err(status) => return Err(status),
+        }
+    }
+    Ok(())
+}
+
+// Answers a last line that has begun, at the end of the input.
+fn finish<C: Console, D: Disk>(
+    alloc: Global,
+    session: &mut Session,
+    console: &mut C,
+    disk: &mut D,
+    begun: &[u8],
+) -> Result<(), Status>
+    requires free { NoNewline begun.now }
+    requires sound { IsSound session.old }
+    requires agrees { AgreesOnSome D.tells (D.state disk.old) session.old }
+    requires limit { 2105344 ≤ (D.state disk.old).limit }
+    ensures ok { OnOk result (Fed D.tells (C.told console.old) (C.told console.new) (D.state disk.old) (D.state disk.new) session.old session.new (last_piece begun.now)) }
+    ensures err { OnErr result (StopsWithin D.tells (C.told console.old) (C.told console.new) (D.state disk.old) (D.state disk.new) session.old (last_piece begun.now)) }
+    ensures ends { IfErr result EndsLine }
+    ensures full { (need gap : ℕ) → D.tells → result ≡ Err (Status.Full need gap) → IsFull (D.state disk.new).content need gap }
+    ensures give_fault { result ≡ Err Status.GiveFault → Rose (C.give_faults console.old) (C.give_faults console.new) }
+    ensures disk_fault { result ≡ Err Status.DiskFault → Rose (D.state disk.old).faults (D.state disk.new).faults }
+    ensures input_kept { C.left console.new ≡ C.left console.old }
+    ensures take_count { C.take_faults console.old ≤ C.take_faults console.new }
+    ensures give_count { C.give_faults console.old ≤ C.give_faults console.new }
+    ensures disk_count { (D.state disk.old).faults ≤ (D.state disk.new).faults }
+    ensures same_limit { (D.state disk.new).limit ≡ (D.state disk.old).limit }
+{
+    if begun.is_empty() {
+        return Ok(());
+    }
+    answer(alloc, session, console, disk, begun)
+}
+
+// Answers the lines of a console, whose pieces are taken into a buffer.
+fn answer_lines<C: Console, D: Disk>(
+    alloc: Global,
+    session: &mut Session,
+    console: &mut C,
+    disk: &mut D,
+    limit: u64,
+    buffer: &mut [u8],
+) -> Status
+    requires room { 0 < length buffer.old }
+    requires sound { IsSound session.old }
+    requires agrees { AgreesOnSome D.tells (D.state disk.old) session.old }
+    requires limit { 2105344 ≤ (D.state disk.old).limit }
+    ensures run { Runs D.tells limit (C.told console.old) (C.told console.new) (C.left console.old) (C.left console.new) (D.state disk.old) (D.state disk.new) session.old result }
+    ensures ends { EndsRunning result }
+    ensures full { (need gap : ℕ) → D.tells → result ≡ Status.Full need gap → IsFull (D.state disk.new).content need gap }
+    ensures read_all { result ≡ Status.Done → IfSome (C.left console.new) (λ bytes. bytes ≡ []) }
+    ensures take_fault { result ≡ Status.TakeFault → Rose (C.take_faults console.old) (C.take_faults console.new) }
+    ensures give_fault { result ≡ Status.GiveFault → Rose (C.give_faults console.old) (C.give_faults console.new) }
+    ensures disk_fault { result ≡ Status.DiskFault → Rose (D.state disk.old).faults (D.state disk.new).faults }
+    ensures take_count { C.take_faults console.old ≤ C.take_faults console.new }
+    ensures give_count { C.give_faults console.old ≤ C.give_faults console.new }
+    ensures disk_count { (D.state disk.old).faults ≤ (D.state disk.new).faults }
+    ensures same_limit { (D.state disk.new).limit ≡ (D.state disk.old).limit }
+{
+    let mut begun = Vec::new(alloc);
+    let mut taken: u64 = 0;
+    'takes: loop {
+        let n = match console.take(buffer) {
+            Ok(n) => n,
+            Err(_) => return Status::TakeFault,
+        };
+        if n == 0 {
+            match finish(alloc, session, console, disk, &begun) {
+                Ok(()) => return Status::Done,
+                Err(status) => return status,
+            }
+        }
+        if n as u64 > limit - taken {
+            return Status::TooLong;
+        }
+        taken += n as u64;
+        match feed(alloc, session, console, disk, &mut begun, &buffer[..n]) {
+            Ok(()) => {}
+            Err(status) => return status,
+        }
+    }
+}
+
+/// Opens the index of a disk, and answers the command lines of a console until its input ends. No more than `limit`
+/// bytes of input are read, up to 2 to the 40th: the piece that passes the limit ends the run and is not looked at.
+///
+/// Each line is answered before the next piece is taken, with the reply of the abstract machine. However the run
+/// ends, what the disk may then hold stands for the state after a prefix of the lines that holds each line whose
+/// reply was given whole, and at most one more; and so it did at each moment, for some prefix.
+///
+/// It ends with `Done` where the input was read to its end and every reply was given, `TooLong` where more bytes were
+/// taken than the limit, `DiskFault`, `TakeFault` or `GiveFault` where such a call failed, `Memory` where there was no
+/// memory, `NoRoot` where the disk has no index, `Damaged` where the index breaks a rule of the format, with the first
+/// place that shows it, and `Full` where what a line has to write does not fit on the disk.
+pub fn serve<C: Console, D: Disk>(
+    alloc: Global,
+    console: &mut C,
+    disk: &mut D,
+    limit: u64,
+) -> Status
+    requires { limit ≤ 2 ^ 40 }
+    ensures run { Serves D.tells limit (C.told console.old) (C.told console.new) (C.left console.old) (C.left console.new) (D.state disk.old) (D.state disk.new) result }
+    ensures read_all { result ≡ Status.Done → IfSome (C.left console.new) (λ bytes. bytes ≡ []) }
+
+    ensures no_root { D.tells → result ≡ Status.NoRoot → HasNoIndex (D.state disk.old).content }
+    ensures rooted { D.tells → HasNoIndex (D.state disk.old).content → (result ≡ Status.NoRoot) ⊎ Yields result }
+    ensures damaged { (place : ℕ) → D.tells → result ≡ Status.Damaged place → IsBrokenAt (D.state disk.old).content place }
+    ensures undamaged { (place : ℕ) → D.tells → IsBrokenAt (D.state disk.old).content place → (result ≡ Status.Damaged place) ⊎ Yields result }
+    // Where the content stands for a state, it is opened.
+    ensures stands { (s : State) → D.tells → StandsFor s (D.state disk.old).content → IsOpened result }
+    ensures never { (result ≢ Status.Usage) × (result ≢ Status.Exists) }
+    ensures full { (need gap : ℕ) → D.tells → result ≡ Status.Full need gap → IsFull (D.state disk.new).content need gap }
+    ensures complete { (s : State) → D.tells → StandsFor s (D.state disk.old).content → ¬ (Rose (C.take_faults console.old) (C.take_faults console.new)) → ¬ (Rose (C.give_faults console.old) (C.give_faults console.new)) → ¬ (Rose (D.state disk.old).faults (D.state disk.new).faults) → Completes result }
+
+    ensures take_fault { result ≡ Status.TakeFault → Rose (C.take_faults console.old) (C.take_faults console.new) }
+    ensures give_fault { result ≡ Status.GiveFault → Rose (C.give_faults console.old) (C.give_faults console.new) }
+    ensures disk_fault { result ≡ Status.DiskFault → Rose (D.state disk.old).faults (D.state disk.new).faults }
+    ensures take_count { C.take_faults console.old ≤ C.take_faults console.new }
+    ensures give_count { C.give_faults console.old ≤ C.give_faults console.new }
+    ensures disk_count { (D.state disk.old).faults ≤ (D.state disk.new).faults }
+    ensures same_limit { (D.state disk.new).limit ≡ (D.state disk.old).limit }
+{
+    let mut buffer = match vec![in alloc; 0; PIECE] {
+        Ok(buffer) => buffer,
+        Err(_) => return Status::Memory,
+    };
+    let mut session = match Session::start(alloc, disk) {
+        Ok(session) => session,
+        Err(fault) => return status_of(fault),
+    };
+    answer_lines(alloc, &mut session, console, disk, limit, &mut buffer)
+}

@@ -1,0 +1,225 @@
+// A session: a line changes the state, and has a reply.
+ghost use Rattle.std.specs.Prelude.{◌≡◌, ◌⊎◌, ◌≤◌, ◌++◌, ℕ, codes, decimal, Result, Ok, Err, IfOk, IfErr, OnOk, OnErr, IsTrue, ◌↔◌};
+ghost use Rattle.alta_codec.specs.Faults.{Rose};
+ghost use Rattle.alta_codec.specs.Name.{IsName};
+ghost use Rattle.alta_console.specs.Lines.{NoNewline};
+ghost use Rattle.alta_disk.specs.Disk.{DiskState, Same, Passes, LeavesOnly};
+ghost use Rattle.alta_meta.specs.declared.document.State.{State};
+ghost use Rattle.alta_session.specs.Agreement.{AgreesOn, AgreesOnSome, IsSound};
+ghost use Rattle.alta_session.specs.Asking.{Asks};
+ghost use Rattle.alta_session.specs.Fullness.{IsFull};
+ghost use Rattle.alta_session.specs.Machine.{step, adding, IsRefusal};
+ghost use Rattle.alta_store.specs.Answers.{IsOutside, AnswersFault};
+ghost use Rattle.alta_store.specs.Brokenness.{HasNoIndex, IsBrokenAt};
+ghost use Rattle.alta_store.specs.Meaning.{StandsFor, StandsForEither};
+ghost use Rattle.alta_store.specs.States.{IsDocument};
+
+use alta_codec::{Text, name_ok};
+use alta_disk::Disk;
+use alta_model::{Line, LineFault, read_line};
+use alta_store::{Store, StoreFault};
+use std::alloc::Global;
+
+/// An open index that answers command lines.
+#[derive(Drop)]
+pub struct Session {
+    store: Store,
+    sound: bool,
+}
+
+impl Session {
+    /// Opens the index of a disk.
+    ///
+    /// # Errors
+    ///
+    /// `Disk` where a call of the disk failed. `Memory` where there is no memory. `NoRoot` where the disk has no
+    /// index. `Damaged` where the content breaks a rule of the format, with the first place that shows it.
+    pub fn start<D: Disk>(alloc: Global, disk: &mut D) -> Result<Session, StoreFault>
+        ensures agrees { (s : State) → (D.tells → StandsFor s (D.state disk.old).content) → IfOk result (λ session. AgreesOn D.tells (D.state disk.new) session s) }
+        ensures some { IfOk result (λ session. AgreesOnSome D.tells (D.state disk.new) session) }
+        ensures sound { IfOk result (λ session. IsSound session) }
+        ensures limit { OnOk result (2105344 ≤ (D.state disk.new).limit) }
+
+        ensures stands { (s : State) → D.tells → StandsFor s (D.state disk.old).content → IfErr result IsOutside }
+        ensures no_root { D.tells → result ≡ Err StoreFault.NoRoot → HasNoIndex (D.state disk.old).content }
+        ensures rooted { D.tells → HasNoIndex (D.state disk.old).content → AnswersFault result StoreFault.NoRoot }
+        ensures damaged { (place : ℕ) → D.tells → result ≡ Err (StoreFault.Damaged place) → IsBrokenAt (D.state disk.old).content place }
+        ensures undamaged { (place : ℕ) → D.tells → IsBrokenAt (D.state disk.old).content place → AnswersFault result (StoreFault.Damaged place) }
+        ensures only { IfErr result (λ e. IsOutside e ⊎ ((e ≡ StoreFault.NoRoot) ⊎ ((place : ℕ) × (e ≡ StoreFault.Damaged place)))) }
+
+        ensures content { D.tells → (D.state disk.new).content ≡ (D.state disk.old).content }
+        ensures images { Passes Same (D.state disk.old) (D.state disk.new) }
+        ensures cause { result ≡ Err StoreFault.Disk → Rose (D.state disk.old).faults (D.state disk.new).faults }
+        ensures faults { (D.state disk.old).faults ≤ (D.state disk.new).faults }
+        ensures same_limit { (D.state disk.new).limit ≡ (D.state disk.old).limit }
+    {
+        match Store::open(alloc, disk) {
+            Ok(store) => Ok(Session { store, sound: true }),
+            Err(fault) => Err(fault),
+        }
+    }
+
+    /// Whether lines may be answered: false once one was not.
+    pub fn sound(&self) -> bool
+        ensures { IsTrue result ↔ IsSound self.now }
+    {
+        self.sound && self.store.sound()
+    }
+
+    /// Answers a line, without its newline: changes the index, and gives the reply, which ends with a newline.
+    ///
+    /// # Errors
+    ///
+    /// `Disk` where a call of the disk failed. `Memory` where there is no memory. `Full` where what has to be written
+    /// does not fit on the disk. Then the index is as before the line or as after it, and the session is not sound.
+    pub fn line<D: Disk>(
+        &mut self,
+        alloc: Global,
+        disk: &mut D,
+        line: &[u8],
+    ) -> Result<Text, StoreFault>
+        requires one_line { NoNewline line.now }
+        requires sound { IsSound self.old }
+        requires agrees { AgreesOnSome D.tells (D.state disk.old) self.old }
+        requires limit { 2105344 ≤ (D.state disk.old).limit }
+        ensures reply { (s : State) → D.tells → AgreesOn D.tells (D.state disk.old) self.old s → IfOk result (λ reply. reply ≡ (step s line.now).1) }
+        ensures agrees { (s : State) → D.tells → AgreesOn D.tells (D.state disk.old) self.old s → OnOk result (AgreesOn D.tells (D.state disk.new) self.new (step s line.now).0) }
+        ensures images { (s : State) → D.tells → AgreesOn D.tells (D.state disk.old) self.old s → LeavesOnly (StandsForEither s (step s line.now).0) (D.state disk.old) (D.state disk.new) }
+        ensures some { OnOk result (AgreesOnSome D.tells (D.state disk.new) self.new) }
+        ensures sound { OnOk result (IsSound self.new) }
+        ensures not_sound { OnErr result (¬ (IsSound self.new)) }
+        ensures refused { IfOk result (λ reply. IsRefusal reply → (disk.new ≡ disk.old) × (self.new ≡ self.old)) }
+        ensures unchanged { (s : State) → D.tells → AgreesOn D.tells (D.state disk.old) self.old s → IsRefusal (step s line.now).1 → disk.new ≡ disk.old }
+        ensures only { IfErr result (λ e. IsOutside e ⊎ ((need gap : ℕ) × (e ≡ StoreFault.Full need gap))) }
+        ensures full { (need gap : ℕ) → D.tells → result ≡ Err (StoreFault.Full need gap) → IsFull (D.state disk.new).content need gap }
+        ensures cause { result ≡ Err StoreFault.Disk → Rose (D.state disk.old).faults (D.state disk.new).faults }
+        ensures faults { (D.state disk.old).faults ≤ (D.state disk.new).faults }
+        ensures same_limit { (D.state disk.new).limit ≡ (D.state disk.old).limit }
+    {
+        match self.reply(alloc, disk, line) {
+            Ok(reply) => Ok(reply),
+            Err(fault) => {
+                self.sound = false;
+                Err(fault)
+            }
+        }
+    }
+
+    // Answers a line.
+    fn reply<D: Disk>(
+        &mut self,
+        alloc: Global,
+        disk: &mut D,
+        line: &[u8],
+    ) -> Result<Text, StoreFault>
+        requires one_line { NoNewline line.now }
+        requires sound { IsSound self.old }
+        requires agrees { AgreesOnSome D.tells (D.state disk.old) self.old }
+        requires limit { 2105344 ≤ (D.state disk.old).limit }
+        ensures reply { (s : State) → D.tells → AgreesOn D.tells (D.state disk.old) self.old s → IfOk result (λ reply. reply ≡ (step s line.now).1) }
+        ensures agrees { (s : State) → D.tells → AgreesOn D.tells (D.state disk.old) self.old s → OnOk result (AgreesOn D.tells (D.state disk.new) self.new (step s line.now).0) }
+        ensures images { (s : State) → D.tells → AgreesOn D.tells (D.state disk.old) self.old s → LeavesOnly (StandsForEither s (step s line.now).0) (D.state disk.old) (D.state disk.new) }
+        ensures some { OnOk result (AgreesOnSome D.tells (D.state disk.new) self.new) }
+        ensures sound { OnOk result (IsSound self.new) }
+        ensures refused { IfOk result (λ reply. IsRefusal reply → (disk.new ≡ disk.old) × (self.new ≡ self.old)) }
+        ensures unchanged { (s : State) → D.tells → AgreesOn D.tells (D.state disk.old) self.old s → IsRefusal (step s line.now).1 → disk.new ≡ disk.old }
+        ensures only { IfErr result (λ e. IsOutside e ⊎ ((need gap : ℕ) × (e ≡ StoreFault.Full need gap))) }
+        ensures full { (need gap : ℕ) → D.tells → result ≡ Err (StoreFault.Full need gap) → IsFull (D.state disk.new).content need gap }
+        ensures cause { result ≡ Err StoreFault.Disk → Rose (D.state disk.old).faults (D.state disk.new).faults }
+        ensures faults { (D.state disk.old).faults ≤ (D.state disk.new).faults }
+        ensures same_limit { (D.state disk.new).limit ≡ (D.state disk.old).limit }
+    {
+        match asked(line) {
+            Ask::Add { name, title, body } => self.add(alloc, disk, name, title, body),
+            Ask::Refused(reply) => text(alloc, reply),
+        }
+    }
+
+    // Adds a document.
+    fn add<D: Disk>(
+        &mut self,
+        alloc: Global,
+        disk: &mut D,
+        name: &str,
+        title: &str,
+        body: &str,
+    ) -> Result<Text, StoreFault>
+        requires document { IsName name.now → IsDocument name.now title.now body.now }
+        requires sound { IsSound self.old }
+        requires agrees { AgreesOnSome D.tells (D.state disk.old) self.old }
+        requires limit { 2105344 ≤ (D.state disk.old).limit }
+        ensures reply { (s : State) → D.tells → AgreesOn D.tells (D.state disk.old) self.old s → IfOk result (λ reply. reply ≡ (adding name.now title.now body.now s).1) }
+        ensures agrees { (s : State) → D.tells → AgreesOn D.tells (D.state disk.old) self.old s → OnOk result (AgreesOn D.tells (D.state disk.new) self.new (adding name.now title.now body.now s).0) }
+        ensures images { (s : State) → D.tells → AgreesOn D.tells (D.state disk.old) self.old s → LeavesOnly (StandsForEither s (adding name.now title.now body.now s).0) (D.state disk.old) (D.state disk.new) }
+        ensures some { OnOk result (AgreesOnSome D.tells (D.state disk.new) self.new) }
+        ensures sound { OnOk result (IsSound self.new) }
+        ensures refused { IfOk result (λ reply. IsRefusal reply → (disk.new ≡ disk.old) × (self.new ≡ self.old)) }
+        ensures unchanged { (s : State) → D.tells → AgreesOn D.tells (D.state disk.old) self.old s → IsRefusal (adding name.now title.now body.now s).1 → disk.new ≡ disk.old }
+        ensures only { IfErr result (λ e. IsOutside e ⊎ ((need gap : ℕ) × (e ≡ StoreFault.Full need gap))) }
+        ensures full { (need gap : ℕ) → D.tells → result ≡ Err (StoreFault.Full need gap) → IsFull (D.state disk.new).content need gap }
+        ensures cause { result ≡ Err StoreFault.Disk → Rose (D.state disk.old).faults (D.state disk.new).faults }
+        ensures faults { (D.state disk.old).faults ≤ (D.state disk.new).faults }
+        ensures same_limit { (D.state disk.new).limit ≡ (D.state disk.old).limit }
+    {
+        if !name_ok(name.as_bytes()) {
+            return text(alloc, "! bad name\n");
+        }
+        match self.store.add(disk, name, title, body) {
+            Ok(number) => added(alloc, number),
+            Err(fault) => match fault {
+                StoreFault::Taken => text(alloc, "! name taken\n"),
+                StoreFault::Numbers => text(alloc, "! no numbers left\n"),
+                fault => Err(fault),
+            },
+        }
+    }
+}
+
+// What a line asks for: a document to be added, or a reply that refuses it.
+enum Ask<'a> {
+    Add {
+        name: &'a str,
+        title: &'a str,
+        body: &'a str,
+    },
+    Refused(&'static str),
+}
+
+// Reads a line.
+fn asked(bytes: &[u8]) -> Ask<'_>
+    requires { NoNewline bytes.now }
+    ensures { Asks bytes.now result }
+{
+    match read_line(bytes) {
+        Ok(line) => match line {
+            Line::Add { name, title, body } => Ask::Add { name, title, body },
+            _ => Ask::Refused("! unknown command\n"),
+        },
+        Err(LineFault::TooLong) => Ask::Refused("! line too long\n"),
+        Err(LineFault::NotUtf8) => Ask::Refused("! not UTF-8\n"),
+        Err(LineFault::Unknown) => Ask::Refused("! unknown command\n"),
+        Err(LineFault::Bad) => Ask::Refused("! bad line\n"),
+    }
+}
+
+// The reply to a line that is added.
+fn added(alloc: Global, number: u64) -> Result<Text, StoreFault>
+    ensures reply { IfOk result (λ reply. reply ≡ codes "added " ++ decimal number ++ codes "\n") }
+    ensures memory { IfErr result (λ e. e ≡ StoreFault.Memory) }
+{
+    match format!(in alloc; "added {number}\n") {
+        Ok(reply) => Ok(Text::from_string(reply)),
+        Err(_) => Err(StoreFault::Memory),
+    }
+}
+
+// A reply that refuses a line.
+fn text(alloc: Global, reply: &str) -> Result<Text, StoreFault>
+    ensures reply { IfOk result (λ text. text ≡ reply.now) }
+    ensures memory { IfErr result (λ e. e ≡ StoreFault.Memory) }
+{
+    match String::from_str(alloc, reply) {
+        Ok(text) => Ok(Text::from_string(text)),
+        Err(_) => Err(StoreFault::Memory),
+    }
+}

@@ -1,0 +1,295 @@
+// What no clause says: each call once, and examples from outside.
+ghost use Rattle.std.specs.Prelude.{◌≡◌, ◌≤◌};
+ghost use Rattle.alta_disk.specs.Memory.{memory_state};
+
+use crate::*;
+use alta_codec::Text;
+use alta_console::MemoryConsole;
+use alta_disk::{Disk, FuseDisk, MemoryDisk};
+use std::alloc::{AllocError, Global};
+use std::test::Fail;
+
+const LIMIT: u64 = 1 << 40;
+
+const FIRST: &[u8] = b"add a\tRed Fox\tthe quick red fox\n";
+
+const BOTH: &[u8] = b"add a\tRed Fox\tthe quick red fox\nadd b\tFox\tquick brown dog\n";
+
+fn words(alloc: Global, word: &str) -> Result<Vec<Text>, AllocError> {
+    let mut words = Vec::new(alloc);
+    words.push(Text::from_string(String::from_str(alloc, word)?))?;
+    Ok(words)
+}
+
+// Calls the program with one word: the status, and what was given.
+fn call<D: Disk>(
+    alloc: Global,
+    disk: &mut D,
+    word: &str,
+    input: &[u8],
+    pieces: &[usize],
+    fail: &[u64],
+) -> Result<(Status, Vec<u8>), Fail> {
+    let mut console = MemoryConsole::new(
+        alloc,
+        input.to_vec(alloc)?,
+        pieces.to_vec(alloc)?,
+        fail.to_vec(alloc)?,
+    );
+    let words = words(alloc, word)?;
+    let status = alta(alloc, &words, &mut console, disk);
+    Ok((status, console.given().to_vec(alloc)?))
+}
+
+// A disk with an index without documents.
+fn made(alloc: Global) -> Result<MemoryDisk, Fail> {
+    let mut disk = MemoryDisk::new(alloc, Vec::new(alloc), LIMIT, Vec::new(alloc));
+    match call(alloc, &mut disk, "init", b"x\n", &[], &[])?.0 {
+        Status::Done => Ok(disk),
+        _ => Err("no index was made".into()),
+    }
+}
+
+// A disk with this content and nothing pending.
+fn disk_of(alloc: Global, content: Vec<u8>) -> Result<MemoryDisk, Fail> {
+    if content.len() as u64 > LIMIT {
+        return Err("the content is too long".into());
+    }
+    Ok(MemoryDisk::new(alloc, content, LIMIT, Vec::new(alloc)))
+}
+
+#[test]
+fn lines_are_answered_in_order(rt: HostRuntime) -> Result<(), Fail> {
+    let alloc = rt.alloc();
+    let rows: [(&[u8], &[u8]); 12] = [
+        (b"", b""),
+        (BOTH, b"added 1\nadded 2\n"),
+        (b"add a\tx\ty", b"added 1\n"),
+        (b"add a\tx\ty\nadd a\tx\ty\n", b"added 1\n! name taken\n"),
+        (
+            b"add a\tx\ty\nadd b\t\t\nadd a\t\t\nadd c\t\t",
+            b"added 1\nadded 2\n! name taken\nadded 3\n",
+        ),
+        (b"add a\t\ty\tz\r\n", b"added 1\n"),
+        (b"add a b\tx\ty\n", b"! bad name\n"),
+        (b"add a\tx\n", b"! bad line\n"),
+        (b"search \xff\n", b"! not UTF-8\n"),
+        (b"find fox\n\n", b"! unknown command\n! unknown command\n"),
+        (b"flush now\n", b"! bad line\n"),
+        (b"\nadd a\t\t", b"! unknown command\nadded 1\n"),
+    ];
+    for (input, want) in rows {
+        for pieces in [[0, 0, 0, 0, 0], [1, 1, 9, 2, 1], [99, 3, 1, 1, 7]] {
+            let mut disk = made(alloc)?;
+            let (status, given) = call(alloc, &mut disk, "run", input, &pieces, &[])?;
+            assert_eq!(rt; status, Status::Done);
+            assert_eq!(rt; given.as_slice(), want);
+        }
+    }
+    Ok(())
+}
+
+// A line that adds a document, with a body of this many letters.
+fn long_line(alloc: Global, name: u8, body: usize) -> Result<Vec<u8>, AllocError> {
+    let mut line = b"add ".to_vec(alloc)?;
+    line.push(name)?;
+    line.extend_from_slice(b"\t\t")?;
+    for _ in 0..body {
+        line.push(b'x')?;
+    }
+    line.push(b'\n')?;
+    Ok(line)
+}
+
+#[test]
+fn a_line_has_at_most_65535_bytes(rt: HostRuntime) -> Result<(), Fail> {
+    let alloc = rt.alloc();
+    let rows: [(usize, &[u8]); 3] = [
+        (65_528, b"added 1\nadded 2\n"),
+        (65_529, b"! line too long\nadded 1\n"),
+        (150_000, b"! line too long\nadded 1\n"),
+    ];
+    for (body, want) in rows {
+        let mut input = long_line(alloc, b'a', body)?;
+        input.extend_from_slice(b"add b\t\t\n")?;
+        let mut disk = made(alloc)?;
+        let (status, given) = call(alloc, &mut disk, "run", &input, &[70_000], &[])?;
+        assert_eq!(rt; status, Status::Done);
+        assert_eq!(rt; given.as_slice(), want);
+    }
+    Ok(())
+}
+
+#[test]
+fn the_journal_holds_fifteen_long_lines(rt: HostRuntime) -> Result<(), Fail> {
+    let alloc = rt.alloc();
+    let mut input = Vec::new(alloc);
+    for name in b'a'..=b'p' {
+        input.extend_from_slice(&long_line(alloc, name, 65_528)?)?;
+    }
+    let mut disk = made(alloc)?;
+    let (status, given) = call(alloc, &mut disk, "run", &input, &[], &[])?;
+    assert_eq!(rt;
+        status,
+        Status::Full {
+            need: 65_544,
+            gap: 65_415
+        }
+    );
+    assert!(rt; given.as_slice().ends_with(b"added 14\nadded 15\n"));
+    let (status, given) = call(alloc, &mut disk, "run", b"add q\t\t\nadd o\t\t\n", &[], &[])?;
+    assert_eq!(rt; status, Status::Done);
+    assert_eq!(rt; given.as_slice(), b"added 16\n! name taken\n".as_slice());
+    Ok(())
+}
+
+#[test]
+fn each_fault_has_its_status(rt: HostRuntime) -> Result<(), Fail> {
+    let alloc = rt.alloc();
+    let rows: [(&[u64], Status, &[u8]); 3] = [
+        (&[1], Status::TakeFault, b""),
+        (&[2], Status::GiveFault, b""),
+        (&[3], Status::GiveFault, b"added 1\n"),
+    ];
+    for (fail, want, out) in rows {
+        let mut disk = made(alloc)?;
+        let (status, given) = call(alloc, &mut disk, "run", BOTH, &[], fail)?;
+        assert_eq!(rt; status, want);
+        assert_eq!(rt; given.as_slice(), out);
+    }
+    for (limit, want) in [(2, Status::Done), (1, Status::TooLong)] {
+        let mut disk = made(alloc)?;
+        let mut console = MemoryConsole::new(
+            alloc,
+            b"x\n".to_vec(alloc)?,
+            Vec::new(alloc),
+            Vec::new(alloc),
+        );
+        assert_eq!(rt; serve(alloc, &mut console, &mut disk, limit), want);
+    }
+    Ok(())
+}
+
+// How many of the lines of a text are this one.
+fn count(text: &[u8], line: &[u8]) -> usize {
+    let mut n: usize = 0;
+    for part in text.split(|byte| *byte == b'\n') {
+        if part == line {
+            n = n.saturating_add(1);
+        }
+    }
+    n
+}
+
+#[test]
+fn each_stop_keeps_what_was_answered(rt: HostRuntime) -> Result<(), Fail> {
+    let alloc = rt.alloc();
+    let input = b"add a\tx\ty\nadd b\tx\ty\nadd c\tx\ty\n";
+    let content = made(alloc)?.image(alloc, 0)?;
+    for calls in [0, 5, 6, 7, 8, 9, 10, 11, 12, 13, 14, 15, 16, 17, 18, 30] {
+        let mut disk = FuseDisk::new(disk_of(alloc, content.to_vec(alloc)?)?, calls);
+        let (status, given) = call(alloc, &mut disk, "run", input, &[], &[])?;
+        let acked = given
+            .as_slice()
+            .split(|byte| *byte == b'\n')
+            .count()
+            .saturating_sub(1);
+        assert!(rt; acked == 3 || status == Status::DiskFault);
+        let inner = disk.into_inner();
+        for pick in 1..4 {
+            let mut again = disk_of(alloc, inner.image(alloc, pick)?)?;
+            let (status, given) = call(alloc, &mut again, "run", input, &[], &[])?;
+            assert_eq!(rt; status, Status::Done);
+            let kept = count(&given, b"! name taken");
+            assert!(rt; acked <= kept && kept <= acked.saturating_add(1));
+        }
+    }
+    Ok(())
+}
+
+#[test]
+fn words_and_contents_have_their_status(rt: HostRuntime) -> Result<(), Fail> {
+    let alloc = rt.alloc();
+    let mut disk = made(alloc)?;
+    assert_eq!(rt;
+        call(alloc, &mut disk, "init", b"", &[], &[])?.0,
+        Status::Exists
+    );
+    assert_eq!(rt;
+        call(alloc, &mut disk, "go", b"", &[], &[])?.0,
+        Status::Usage
+    );
+    let mut console = MemoryConsole::new(alloc, Vec::new(alloc), Vec::new(alloc), Vec::new(alloc));
+    assert_eq!(rt; alta(alloc, &[], &mut console, &mut disk), Status::Usage);
+
+    let mut content = disk.image(alloc, 0)?;
+    for (at, byte) in [
+        (8192, 0xa5),
+        (8193, 0xff),
+        (8194, 0xff),
+        (8195, 0xff),
+        (8196, 0xff),
+    ] {
+        if let Some(place) = content.get_mut(at) {
+            *place = byte;
+        }
+    }
+    let mut damaged = disk_of(alloc, content)?;
+    let (status, _) = call(alloc, &mut damaged, "run", FIRST, &[], &[])?;
+    assert_eq!(rt; status, Status::Damaged { place: 8193 });
+
+    let mut zeros = disk_of(alloc, [0; 100].to_vec(alloc)?)?;
+    assert_eq!(rt;
+        call(alloc, &mut zeros, "run", FIRST, &[], &[])?.0,
+        Status::NoRoot
+    );
+
+    let mut enough = MemoryDisk::new(alloc, Vec::new(alloc), 2_105_344, Vec::new(alloc));
+    assert_eq!(rt;
+        call(alloc, &mut enough, "init", b"", &[], &[])?.0,
+        Status::Done
+    );
+    assert_eq!(rt;
+        call(alloc, &mut enough, "run", FIRST, &[], &[])?
+            .1
+            .as_slice(),
+        b"added 1\n".as_slice()
+    );
+    let mut small = MemoryDisk::new(alloc, Vec::new(alloc), 2_105_343, Vec::new(alloc));
+    let want = Status::Full {
+        need: 2_105_344,
+        gap: 2_105_343,
+    };
+    assert_eq!(rt; call(alloc, &mut small, "init", b"", &[], &[])?.0, want);
+    Ok(())
+}
+
+#[test]
+fn a_status_has_its_code_and_line(rt: HostRuntime) -> Result<(), Fail> {
+    let rows = [
+        (Status::Done, 0, ""),
+        (
+            Status::Usage,
+            1,
+            "alta: usage: alta_cli PATH init | run | demo N",
+        ),
+        (Status::DiskFault, 2, "alta: disk fault"),
+        (Status::TakeFault, 3, "alta: input fault"),
+        (Status::GiveFault, 4, "alta: output fault"),
+        (Status::Memory, 5, "alta: out of memory"),
+        (Status::Damaged { place: 8193 }, 6, "alta: damaged at 8193"),
+        (Status::NoRoot, 7, "alta: no index"),
+        (
+            Status::Full { need: 126, gap: 0 },
+            8,
+            "alta: full, need 126, greatest gap 0",
+        ),
+        (Status::TooLong, 9, "alta: input too long"),
+        (Status::Exists, 10, "alta: index exists"),
+    ];
+    for (status, code, line) in rows {
+        assert_eq!(rt; status.code(), code);
+        assert_eq!(rt; status_line(rt.alloc(), &status)?.as_str(), line);
+    }
+    Ok(())
+}

@@ -1,0 +1,108 @@
+// The top call.
+ghost use Rattle.std.specs.Prelude.{◌≡◌, ◌≢◌, ◌⊎◌, ◌↔◌, ◌^◌, ◌<◌, ◌≤◌, [], ◌∷◌, ℕ, true, codes, IsTrue, IfSome};
+ghost use Rattle.alta_codec.specs.Faults.{Rose};
+ghost use Rattle.alta_disk.specs.Disk.{DiskState, Stands};
+ghost use Rattle.alta_meta.specs.declared.document.State.{State};
+ghost use Rattle.alta_session.specs.Fullness.{IsFull};
+ghost use Rattle.alta_session.specs.Run.{Serves};
+ghost use Rattle.alta_session.specs.Status.{IsOpened, Completes, Yields, EndsInit};
+ghost use Rattle.alta_store.specs.Brokenness.{HasNoIndex, IsBrokenAt};
+ghost use Rattle.alta_store.specs.Meaning.{StandsFor};
+ghost use Rattle.alta_store.specs.States.{empty};
+
+use crate::{Status, serve};
+use alta_codec::Text;
+use alta_console::Console;
+use alta_disk::Disk;
+use alta_store::{format, has_index};
+use std::alloc::Global;
+
+// The most bytes of input that a run reads.
+const INPUT_LIMIT: u64 = 1 << 40;
+
+// How many bytes the smallest index takes.
+const INDEX_SIZE: u64 = 2_105_344;
+
+/// Does what the words of the command line ask: `init` makes an index without documents, `run` opens the index and
+/// answers the command lines of the console, as [`serve`] with an input limit of 2 to the 40th. For every other list
+/// of words it answers `Usage` and calls nothing.
+///
+/// `init` ends with `Done` where the index was made, `Exists` where there is one already, `Full` where the disk is too
+/// small for one, and `DiskFault` where a call of the disk failed. It takes and gives nothing.
+pub fn alta<C: Console, D: Disk>(
+    alloc: Global,
+    words: &[Text],
+    console: &mut C,
+    disk: &mut D,
+) -> Status
+    ensures usage { result ≡ Status.Usage → (words.now ≢ codes "init" ∷ []) × (words.now ≢ codes "run" ∷ []) }
+    ensures no_call { words.now ≢ codes "init" ∷ [] → words.now ≢ codes "run" ∷ [] → (result ≡ Status.Usage) × (console.new ≡ console.old) × (disk.new ≡ disk.old) }
+
+    ensures init { words.now ≡ codes "init" ∷ [] → EndsInit result × (console.new ≡ console.old) }
+    ensures made { words.now ≡ codes "init" ∷ [] → result ≡ Status.Done → Stands D.tells (D.state disk.new) (StandsFor empty) }
+    ensures exists { D.tells → result ≡ Status.Exists → ¬ (HasNoIndex (D.state disk.old).content) }
+    ensures found { words.now ≡ codes "init" ∷ [] → D.tells → ¬ (HasNoIndex (D.state disk.old).content) → (result ≡ Status.Exists) ⊎ (result ≡ Status.DiskFault) }
+    ensures too_small { words.now ≡ codes "init" ∷ [] → (need gap : ℕ) → result ≡ Status.Full need gap → (need ≡ 2105344) × (gap ≡ (D.state disk.old).limit) × ((D.state disk.old).limit < 2105344) }
+    ensures small { words.now ≡ codes "init" ∷ [] → (D.state disk.old).limit < 2105344 → (result ≡ Status.Exists) ⊎ ((result ≡ Status.Full 2105344 (D.state disk.old).limit) ⊎ (result ≡ Status.DiskFault)) }
+
+    ensures run { words.now ≡ codes "run" ∷ [] → Serves D.tells (2 ^ 40) (C.told console.old) (C.told console.new) (C.left console.old) (C.left console.new) (D.state disk.old) (D.state disk.new) result }
+    ensures read_all { words.now ≡ codes "run" ∷ [] → result ≡ Status.Done → IfSome (C.left console.new) (λ bytes. bytes ≡ []) }
+    ensures never_exists { words.now ≡ codes "run" ∷ [] → result ≢ Status.Exists }
+    ensures no_root { D.tells → result ≡ Status.NoRoot → HasNoIndex (D.state disk.old).content }
+    ensures rooted { words.now ≡ codes "run" ∷ [] → D.tells → HasNoIndex (D.state disk.old).content → (result ≡ Status.NoRoot) ⊎ Yields result }
+    ensures damaged { (place : ℕ) → D.tells → result ≡ Status.Damaged place → IsBrokenAt (D.state disk.old).content place }
+    ensures undamaged { (place : ℕ) → words.now ≡ codes "run" ∷ [] → D.tells → IsBrokenAt (D.state disk.old).content place → (result ≡ Status.Damaged place) ⊎ Yields result }
+    ensures stands { (s : State) → D.tells → StandsFor s (D.state disk.old).content → IsOpened result }
+    ensures full { (need gap : ℕ) → words.now ≡ codes "run" ∷ [] → D.tells → result ≡ Status.Full need gap → IsFull (D.state disk.new).content need gap }
+    ensures complete { (s : State) → words.now ≡ codes "run" ∷ [] → D.tells → StandsFor s (D.state disk.old).content → ¬ (Rose (C.take_faults console.old) (C.take_faults console.new)) → ¬ (Rose (C.give_faults console.old) (C.give_faults console.new)) → ¬ (Rose (D.state disk.old).faults (D.state disk.new).faults) → Completes result }
+
+    ensures take_fault { result ≡ Status.TakeFault → Rose (C.take_faults console.old) (C.take_faults console.new) }
+    ensures give_fault { result ≡ Status.GiveFault → Rose (C.give_faults console.old) (C.give_faults console.new) }
+    ensures disk_fault { result ≡ Status.DiskFault → Rose (D.state disk.old).faults (D.state disk.new).faults }
+{
+    if is_word(words, "init") {
+        return init(disk);
+    }
+    if is_word(words, "run") {
+        return serve(alloc, console, disk, INPUT_LIMIT);
+    }
+    Status::Usage
+}
+
+// Whether there is one word, and it is this one.
+fn is_word(words: &[Text], word: &str) -> bool
+    ensures { IsTrue result ↔ (words.now ≡ word.now ∷ []) }
+{
+    match words {
+        [only] => only.as_str() == word,
+        _ => false,
+    }
+}
+
+// Makes an index without documents.
+fn init<D: Disk>(disk: &mut D) -> Status
+    ensures ends { EndsInit result }
+    ensures made { result ≡ Status.Done → Stands D.tells (D.state disk.new) (StandsFor empty) }
+    ensures exists { D.tells → result ≡ Status.Exists → ¬ (HasNoIndex (D.state disk.old).content) }
+    ensures found { D.tells → ¬ (HasNoIndex (D.state disk.old).content) → (result ≡ Status.Exists) ⊎ (result ≡ Status.DiskFault) }
+    ensures too_small { (need gap : ℕ) → result ≡ Status.Full need gap → (need ≡ 2105344) × (gap ≡ (D.state disk.old).limit) × ((D.state disk.old).limit < 2105344) }
+    ensures small { (D.state disk.old).limit < 2105344 → (result ≡ Status.Exists) ⊎ ((result ≡ Status.Full 2105344 (D.state disk.old).limit) ⊎ (result ≡ Status.DiskFault)) }
+    ensures disk_fault { result ≡ Status.DiskFault → Rose (D.state disk.old).faults (D.state disk.new).faults }
+{
+    match has_index(disk) {
+        Ok(true) => return Status::Exists,
+        Ok(false) => {}
+        Err(_) => return Status::DiskFault,
+    }
+    let limit = disk.limit();
+    if limit < INDEX_SIZE {
+        return Status::Full {
+            need: INDEX_SIZE,
+            gap: limit,
+        };
+    }
+    match format(disk) {
+        Ok(()) => Status::Done,
+        Err(_) => Status::DiskFault,
+    }
+}
