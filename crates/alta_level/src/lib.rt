@@ -1,0 +1,8 @@
+//! The content of a level: its document rows, and for each term the rising list of the locations that hold it.
+#![tactic(auto)]
+
+mod content;
+mod lists;
+
+pub use content::{Content, DocRow, TermList};
+pub use lists::{DocRows, Locations, TermLists};

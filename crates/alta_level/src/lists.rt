@@ -1,0 +1,217 @@
+// Lists of rows, of locations and of terms, which contracts see as the lists of their members.
+ghost use Rattle.std.specs.Prelude.{◌≡◌, ◌∷◌, ◌++◌, [], length, slice_get, OnOk, OnErr};
+ghost use Rattle.std.specs.Option.{option_copied};
+
+use crate::content::{DocRow, TermList};
+use alta_codec::Loc;
+use std::alloc::{AllocError, Global};
+use std::marker::Model;
+
+/// Document rows.
+#[derive(Drop)]
+pub struct DocRows {
+    items: Vec<DocRow>,
+}
+
+impl Model for DocRows {
+    ghost use Rattle.std.specs.Prelude.{List};
+    ghost use Rattle.alta_level.specs.declared.content.DocRow.{DocRow};
+
+    ghost Value = { List DocRow };
+
+    ghost view = { λ a. a.items.items };
+}
+
+impl DocRows {
+    /// No rows.
+    pub fn new(alloc: Global) -> DocRows
+        ensures { result ≡ [] }
+    {
+        DocRows {
+            items: Vec::new(alloc),
+        }
+    }
+
+    /// These rows, without a copy.
+    pub fn from_vec(items: Vec<DocRow>) -> DocRows
+        ensures { result ≡ items.items }
+    {
+        DocRows { items }
+    }
+
+    /// The vector that holds the rows, without a copy.
+    pub fn into_vec(self) -> Vec<DocRow>
+        ensures { result.items ≡ self }
+    {
+        self.items
+    }
+
+    /// Adds a row at the end. Where memory is wanting the list stays.
+    pub fn push(&mut self, item: DocRow) -> Result<(), AllocError>
+        ensures pushed { OnOk result (self.new ≡ self.old ++ item ∷ []) }
+        ensures kept { OnErr result (self.new ≡ self.old) }
+    {
+        self.items.push(item)?;
+        Ok(())
+    }
+
+    /// How many rows there are.
+    pub fn len(&self) -> usize
+        ensures { result ≡ length self.now }
+    {
+        self.items.len()
+    }
+
+    /// The row at an index, None past the end.
+    pub fn get(&self, i: usize) -> Option<&DocRow>
+        ensures { option_copied result ≡ slice_get self.now i }
+    {
+        self.items.get(i)
+    }
+
+    /// The rows, borrowed.
+    pub fn as_slice(&self) -> &[DocRow]
+        ensures { result.now ≡ self.now }
+    {
+        &self.items
+    }
+}
+
+/// Locations, as those of a term.
+#[derive(Drop)]
+pub struct Locations {
+    items: Vec<Loc>,
+}
+
+impl Model for Locations {
+    ghost use Rattle.std.specs.Prelude.{List, ℕ};
+
+    ghost Value = { List ℕ };
+
+    ghost view = { λ a. a.items.items };
+}
+
+impl Locations {
+    /// No locations.
+    pub fn new(alloc: Global) -> Locations
+        ensures { result ≡ [] }
+    {
+        Locations {
+            items: Vec::new(alloc),
+        }
+    }
+
+    /// These locations, without a copy.
+    pub fn from_vec(items: Vec<Loc>) -> Locations
+        ensures { result ≡ items.items }
+    {
+        Locations { items }
+    }
+
+    /// The vector that holds the locations, without a copy.
+    pub fn into_vec(self) -> Vec<Loc>
+        ensures { result.items ≡ self }
+    {
+        self.items
+    }
+
+    /// Adds a location at the end. Where memory is wanting the list stays.
+    pub fn push(&mut self, item: Loc) -> Result<(), AllocError>
+        ensures pushed { OnOk result (self.new ≡ self.old ++ item ∷ []) }
+        ensures kept { OnErr result (self.new ≡ self.old) }
+    {
+        self.items.push(item)?;
+        Ok(())
+    }
+
+    /// How many locations there are.
+    pub fn len(&self) -> usize
+        ensures { result ≡ length self.now }
+    {
+        self.items.len()
+    }
+
+    /// The location at an index, None past the end.
+    pub fn get(&self, i: usize) -> Option<&Loc>
+        ensures { option_copied result ≡ slice_get self.now i }
+    {
+        self.items.get(i)
+    }
+
+    /// The locations, borrowed.
+    pub fn as_slice(&self) -> &[Loc]
+        ensures { result.now ≡ self.now }
+    {
+        &self.items
+    }
+}
+
+/// Terms with their locations.
+#[derive(Drop)]
+pub struct TermLists {
+    items: Vec<TermList>,
+}
+
+impl Model for TermLists {
+    ghost use Rattle.std.specs.Prelude.{List};
+    ghost use Rattle.alta_level.specs.declared.content.TermList.{TermList};
+
+    ghost Value = { List TermList };
+
+    ghost view = { λ a. a.items.items };
+}
+
+impl TermLists {
+    /// No terms.
+    pub fn new(alloc: Global) -> TermLists
+        ensures { result ≡ [] }
+    {
+        TermLists {
+            items: Vec::new(alloc),
+        }
+    }
+
+    /// These terms, without a copy.
+    pub fn from_vec(items: Vec<TermList>) -> TermLists
+        ensures { result ≡ items.items }
+    {
+        TermLists { items }
+    }
+
+    /// The vector that holds the terms, without a copy.
+    pub fn into_vec(self) -> Vec<TermList>
+        ensures { result.items ≡ self }
+    {
+        self.items
+    }
+
+    /// Adds a term at the end. Where memory is wanting the list stays.
+    pub fn push(&mut self, item: TermList) -> Result<(), AllocError>
+        ensures pushed { OnOk result (self.new ≡ self.old ++ item ∷ []) }
+        ensures kept { OnErr result (self.new ≡ self.old) }
+    {
+        self.items.push(item)?;
+        Ok(())
+    }
+
+    /// How many terms there are.
+    pub fn len(&self) -> usize
+        ensures { result ≡ length self.now }
+    {
+        self.items.len()
+    }
+
+    /// The term at an index, None past the end.
+    pub fn get(&self, i: usize) -> Option<&TermList>
+        ensures { option_copied result ≡ slice_get self.now i }
+    {
+        self.items.get(i)
+    }
+
+    /// The terms, borrowed.
+    pub fn as_slice(&self) -> &[TermList]
+        ensures { result.now ≡ self.now }
+    {
+        &self.items
+    }
+}

@@ -1,0 +1,18 @@
+use Rattle.std.proofs.Common.{◌≡◌, ◌∷◌, [], ◌++◌, ap, ◌∙◌, arith, length, ◌<◌}
+use Rattle.std.proofs.lemmas.Map.Views.{All-values-insert_entry}
+use Rattle.alta_memlevel.proofs.Keyed.{order, list_at-updates}
+use Rattle.alta_memlevel.specs.Lists.{list_at}
+use Rattle.alta_memlevel.proofs.lists.put_first.Goals as goal
+
+pub returns-clause-none_empty : goal.returns-clause-none_empty
+returns-clause-none_empty c =
+    let one : 0 < length c.in_ok-list.list.items = rw c.in_ok-list.ensures.items (omega arith) in
+    rw c.in_ok-insert.ensures.entries
+    (All-values-insert_entry order c.in_ok-key.key c.in_ok-list.list (λ xs. 0 < length xs.items) c.args.lists.now.entries c.requires.none_empty one)
+
+pub returns-clause-added : goal.returns-clause-added
+returns-clause-added c =
+    let e : c.in_ok-key.key.items ≡ c.args.term.now = c.in_ok-key.ensures.items in
+    let at : list_at c.args.lists.now c.in_ok-key.key.items ≡ [] = ap (λ t. list_at c.args.lists.now t) e ∙ c.requires.new in
+    let grown : c.in_ok-list.list.items ≡ list_at c.args.lists.now c.in_ok-key.key.items ++ c.args.location ∷ [] = rw at c.in_ok-list.ensures.items in
+    λ other. rw (← e) (list_at-updates c.in_ok-key.key.items c.args.lists.now c.insert.new.self c.in_ok-list.list c.args.location c.in_ok-insert.ensures.updates grown other)

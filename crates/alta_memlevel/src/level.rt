@@ -1,0 +1,108 @@
+// The level in memory: the documents that were added, and the locations of their terms.
+ghost use Rattle.std.specs.Prelude.{◌≡◌, ℕ, ◌<◌, ◌≤◌, ◌∷◌, ◌++◌, [], List, length, false, nat_eq, IsTrue, IfOk, OnOk, OnErr};
+ghost use Rattle.std.specs.List.{All, filter, starts_with};
+ghost use Rattle.std.specs.List.Sorted.{IsStrictlySortedBy};
+ghost use Rattle.std.specs.Ordering.{nat_cmp};
+ghost use Rattle.std.specs.Cmp.Lexicographic.{slice_cmp};
+ghost use Rattle.alta_codec.specs.Rising.{IsRising};
+ghost use Rattle.alta_codec.specs.declared.location.TheConstants.{TOP};
+ghost use Rattle.alta_level.specs.Contents.{end_of, locations_of, terms_of};
+ghost use Rattle.alta_memlevel.specs.Added.{Added, HasContent};
+
+use crate::lists::{Lists, put_cells, terms_from};
+use alta_codec::{Bytes, Loc};
+use alta_level::{DocRow, DocRows};
+use alta_meta::Cell;
+use std::alloc::{AllocError, Global};
+use std::collections::BTreeMap;
+use std::marker::Model;
+
+/// The newest documents as an inverted index in memory. Contracts see the content of the documents that were added,
+/// and whether the level is sound.
+#[derive(Drop)]
+pub struct MemLevel {
+    rows: DocRows,
+    lists: Lists,
+    whole: bool,
+    alloc: Global,
+}
+
+impl Model for MemLevel {
+    ghost use Rattle.std.specs.Prelude.{IsTrue};
+    ghost use Rattle.alta_memlevel.specs.Added.{Level};
+    ghost use Rattle.alta_memlevel.specs.Lists.{NoneEmpty, term_lists};
+
+    ghost Value = { Level };
+
+    ghost view = { λ m. record { sound = m.whole; content = record { documents = m.rows; lists = term_lists m.lists.entries } } };
+
+    ghost invariant = { λ m. IsTrue m.whole → NoneEmpty m.lists };
+}
+
+impl MemLevel {
+    /// A level of no documents. What it takes in memory comes from the allocator.
+    pub fn new(alloc: Global) -> MemLevel
+        ensures sound { IsTrue result.sound }
+        ensures empty { HasContent [] result.content }
+        ensures documents { result.content.documents ≡ [] }
+    {
+        MemLevel {
+            rows: DocRows::new(alloc),
+            lists: BTreeMap::new(alloc),
+            whole: true,
+            alloc,
+        }
+    }
+
+    /// Whether the level can be used: false from an `add` on that wanted memory.
+    pub fn sound(&self) -> bool
+        ensures { result ≡ self.now.sound }
+    {
+        self.whole
+    }
+
+    /// Adds a document by its row and its cells, which stand one behind the other from the row's first location.
+    /// Where memory is wanting the level is no longer sound.
+    pub fn add(&mut self, row: DocRow, cells: &[Cell]) -> Result<(), AllocError>
+        requires sound { IsTrue self.old.sound }
+        requires number { All (λ r. r.number < row.number) self.old.content.documents }
+        requires place { All (λ r. end_of r < row.first) self.old.content.documents }
+        requires first { 1 ≤ row.first }
+        requires some { 1 ≤ row.cells }
+        requires counted { row.cells ≡ length cells.now }
+        requires below { end_of row < TOP }
+        ensures sound { OnOk result (IsTrue self.new.sound) }
+        ensures unsound { OnErr result (self.new.sound ≡ false) }
+        ensures documents { OnOk result (self.new.content.documents ≡ self.old.content.documents ++ row ∷ []) }
+        ensures added { OnOk result ((added : List Added) → HasContent added self.old.content → HasContent (added ++ record { row = row; cells = cells.now } ∷ []) self.new.content) }
+    {
+        self.whole = false;
+        put_cells(self.alloc, &mut self.lists, row.first, cells)?;
+        self.rows.push(row)?;
+        self.whole = true;
+        Ok(())
+    }
+
+    /// The locations of a term, rising, without a copy: none where no cell holds it.
+    pub fn get(&self, term: &[u8]) -> &[Loc]
+        requires { IsTrue self.now.sound }
+        ensures value { result.now ≡ locations_of self.now.content.lists term.now }
+        ensures rising { (added : List Added) → HasContent added self.now.content → IsRising result.now }
+    {
+        match self.lists.get(term) {
+            Some(list) => list.as_slice(),
+            None => &[],
+        }
+    }
+
+    /// The terms that begin so, in collating order. Only these, and the one behind them, are visited. Where memory
+    /// is wanting, the level stays sound.
+    pub fn prefixed(&self, prefix: &[u8]) -> Result<Vec<Bytes>, AllocError>
+        requires { IsTrue self.now.sound }
+        ensures terms { IfOk result (λ found. found.items ≡ filter (λ t. starts_with nat_eq t prefix.now) (terms_of self.now.content.lists)) }
+        ensures rising { IfOk result (λ found. IsStrictlySortedBy (slice_cmp nat_cmp) found.items) }
+    {
+        let found = terms_from(self.alloc, &self.lists, prefix)?;
+        Ok(found)
+    }
+}

@@ -1,0 +1,9 @@
+//! The newest documents as an inverted index in memory.
+#![tactic(auto)]
+
+mod level;
+mod lists;
+#[cfg(test)]
+mod tests;
+
+pub use level::MemLevel;
