@@ -1,0 +1,38 @@
+use Rattle.std.proofs.Common.{false, length, get_or, ◌∙◌, sym, ap, arith, rules}
+use Rattle.alta_query.specs.Spots.{is_blank, spots, spots_from}
+use Rattle.alta_query.specs.Kept.{state_of}
+use Rattle.std.proofs.lemmas.Str.{IsCharBoundary-start, IsCharBoundary-after_ascii, IsCharBoundary-from_rest}
+use Rattle.alta_query.proofs.Seen.{run_seen, seen_start}
+use Rattle.alta_query.proofs.Places.{spots_token, spots_blank, blank_low, rest_within, step_kept}
+use Rattle.alta_query.proofs.reading.read.Goals as goal
+
+pub loop-at-init : goal.loop-at-init
+unfolding spots
+loop-at-init c = record {
+  within = omega arith;
+  boundary = IsCharBoundary-start c.args.text.now c.utf8.text;
+  few = omega (arith, ap (λ s. s.words) c.new-machine.ensures);
+  same = ap (λ s. run_seen false s (spots_from 0 0 c.args.text.now) (length c.args.text.now)) c.new-machine.ensures ∙ seen_start _ _;
+}
+
+pub loop-at-preserved : goal.loop-at-preserved
+loop-at-preserved c =
+    let solid = sym (ap is_blank (ap (λ bytes. get_or bytes c.loop-at.at 0) c.as_bytes.ensures.value)) ∙ sym c.blank.ensures ∙ c.if-blank.false in
+    let front = spots_token c.args.text.now c.loop-at.at c.in_ok-piece.piece.len _ c.loop-at-test.true solid c.in_ok-piece.ensures.positive (rw c.range_from.ensures.value at c.in_ok-piece.ensures.len) (rw c.range_from.ensures.value at c.in_ok-piece.ensures.token) in
+    let kept = step_kept _ _ _ _ _ _ _ _ _ c.loop-at.invariant.same front (sym c.cause.ensures ∙ search rules) c.in_ok-step.ensures in
+    record {
+      within = rest_within _ _ _ c.loop-at-test.true (rw c.range_from.ensures.value at c.in_ok-piece.ensures.within);
+      boundary = IsCharBoundary-from_rest _ _ _ c.loop-at.invariant.within (rw c.range_from.ensures.value at c.in_ok-piece.ensures.boundary);
+      few = kept.0;
+      same = kept.1;
+    }
+
+pub loop-at-preserved-then-blank : goal.loop-at-preserved-then-blank
+loop-at-preserved-then-blank c =
+    let blank = sym (ap is_blank (ap (λ bytes. get_or bytes c.loop-at.at 0) c.as_bytes.ensures.value)) ∙ sym c.blank.ensures ∙ c.if-blank.true in
+    record {
+      within = omega (arith, c.loop-at-test.true);
+      boundary = IsCharBoundary-after_ascii c.args.text.now c.loop-at.at c.utf8.text c.loop-at-test.true (blank_low _ blank);
+      few = c.loop-at.invariant.few;
+      same = sym (ap (λ ts. run_seen c.loop-at.seen (state_of c.loop-at.machine) ts (length c.args.text.now)) (spots_blank c.args.text.now c.loop-at.at c.loop-at-test.true blank)) ∙ c.loop-at.invariant.same;
+    }

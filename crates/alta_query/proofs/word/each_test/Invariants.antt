@@ -1,0 +1,7 @@
+use Rattle.std.proofs.Common.{◌≡◌, ◌++◌, drop, map}
+use Rattle.alta_text.specs.Words.{pair_of}
+use Rattle.alta_query.specs.Words.{word_test}
+use Rattle.alta_query.proofs.word.each_test.Given as goal
+
+abbrev pub invariant-loop-word : goal.invariant-loop-word
+invariant-loop-word l = l.tests.items ++ map word_test (map pair_of (drop l.word-index l.found)) ≡ map word_test (map pair_of l.found)

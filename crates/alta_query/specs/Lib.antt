@@ -1,0 +1,16 @@
+pub mod Words
+pub mod Shape
+pub mod Token
+pub mod Grammar
+pub mod Faults
+pub mod Machine
+pub mod Laws
+pub mod Spots
+pub mod Pieces
+pub mod View
+pub mod Kept
+pub mod Answer
+pub mod Canon
+pub mod Spelling
+pub mod Patterns
+pub mod Matches

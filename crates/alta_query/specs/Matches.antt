@@ -1,0 +1,27 @@
+-- Which cells a query matches.
+use Rattle.std.specs.Prelude.{◌⊎◌, ℕ, List}
+use Rattle.alta_query.specs.Shape.{Shape, Shapes, atom, all, any, negated, none, more}
+use Rattle.alta_query.specs.Patterns.{Satisfies, pattern_of}
+use Rattle.alta_query.specs.Token.{tokens_of}
+use Rattle.alta_query.specs.Spots.{spots}
+use Rattle.alta_query.specs.Grammar.{Reads}
+
+-- the cells of a document match: an atom where they satisfy its pattern, the others by truth
+abbrev mutual
+  pub Matches : List (List (List ℕ)) → Shape → Type 0
+  Matches cells (atom a) = Satisfies cells (pattern_of a)
+  Matches cells (all qs) = AllMatch cells qs
+  Matches cells (any qs) = AnyMatches cells qs
+  Matches cells (negated q) = ¬ (Matches cells q)
+
+  pub AllMatch : List (List (List ℕ)) → Shapes → Type 0
+  AllMatch cells none = Unit {0}
+  AllMatch cells (more q qs) = Matches cells q × AllMatch cells qs
+
+  pub AnyMatches : List (List (List ℕ)) → Shapes → Type 0
+  AnyMatches cells none = ⊥
+  AnyMatches cells (more q qs) = Matches cells q ⊎ AnyMatches cells qs
+
+-- some text is read as this query
+abbrev pub IsWellFormed : Shape → Type 0
+IsWellFormed q = (text : List ℕ) × Reads (tokens_of (spots text)) q

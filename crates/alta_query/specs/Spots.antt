@@ -1,0 +1,106 @@
+-- How a text is cut into tokens.
+use Rattle.std.specs.Prelude.{ℕ, zero, suc, ◌+◌, ◌-◌, ◌*◌, List, [], ◌∷◌, length, take, drop, Bool, true, false, not, ◌||◌, ◌&&◌, ◌==◌, nat_lt, nat_le, nat_eq, if◌then◌else◌, codes, slice_index}
+use Rattle.std.specs.List.{prefix_len, take_while, position_or_len, before_first, starts_with, ends_with, list_all, fold}
+use Rattle.std.specs.Char.{is_ascii_digit}
+use Rattle.std.specs.Str.{bytes_eq}
+use Rattle.alta_query.specs.Shape.{words, prefix, name}
+use Rattle.alta_query.specs.Words.{has_words, tests_of, is_stem, stem_test}
+use Rattle.alta_query.specs.Token.{Token, open_paren, close_paren, and_word, or_word, not_word, near_word, operand, faulty, Spot, at}
+use Rattle.alta_query.specs.declared.fault.Cause.TheVariants as cause
+
+-- a space or a tab
+abbrev pub is_blank : ℕ → Bool
+is_blank b = b == 32 || b == 9
+
+abbrev pub is_solid : ℕ → Bool
+is_solid b = not (is_blank b)
+
+abbrev pub is_quote : ℕ → Bool
+is_quote b = b == 34
+
+-- a run goes up to the next blank, parenthesis or quote
+abbrev pub is_run : ℕ → Bool
+is_run b = not (is_blank b || b == 40 || b == 41 || is_quote b)
+
+-- a name has 1 to 64 of these
+abbrev pub is_graphic : ℕ → Bool
+is_graphic b = nat_le 33 b && nat_le b 126
+
+-- a words atom
+unfoldable pub words_token : Bool → List ℕ → Token
+words_token title text = if has_words text then operand (words title text (tests_of text)) else faulty cause.Word
+
+-- a prefix atom
+unfoldable pub prefix_token : Bool → List ℕ → Token
+prefix_token title stem = if is_stem stem then operand (prefix title stem (stem_test stem)) else faulty cause.Prefix
+
+unfoldable pub plain_token : Bool → List ℕ → Token
+plain_token title text = if ends_with nat_eq text (codes "*") then prefix_token title (take (length text - 1) text) else words_token title text
+
+unfoldable pub is_name : List ℕ → Bool
+is_name text = nat_le 1 (length text) && nat_le (length text) 64 && list_all is_graphic text
+
+unfoldable pub name_token : List ℕ → Token
+name_token text = if is_name text then operand (name text) else faulty cause.Name
+
+-- the number that digits spell
+abbrev pub value_of : List ℕ → ℕ
+value_of digits = fold (λ n b. n * 10 + (b - 48)) 0 digits
+
+-- a number from 1 to 1,000 without leading zeros
+unfoldable pub near_token : List ℕ → Token
+near_token digits =
+    if nat_le 1 (length digits) && nat_le (length digits) 4 && list_all is_ascii_digit digits && not (slice_index digits 0 == 48) && nat_le (value_of digits) 1000 then near_word (value_of digits)
+    else faulty cause.Near
+
+unfoldable pub run_token : List ℕ → Token
+run_token text =
+    if bytes_eq text (codes "AND") then and_word
+    else (if bytes_eq text (codes "OR") then or_word
+    else (if bytes_eq text (codes "NOT") then not_word
+    else (if starts_with nat_eq text (codes "NEAR/") then near_token (drop 5 text)
+    else (if starts_with nat_eq text (codes "title:") then plain_token true (drop 6 text)
+    else plain_token false text))))
+
+-- a quoted piece, behind its first quote
+unfoldable pub quoted_token : Bool → List ℕ → Token
+quoted_token title rest =
+    if nat_lt (position_or_len is_quote rest) (length rest) then words_token title (before_first is_quote rest) else faulty cause.Quote
+
+unfoldable pub quoted_len : List ℕ → ℕ
+quoted_len rest = if nat_lt (position_or_len is_quote rest) (length rest) then position_or_len is_quote rest + 1 else length rest
+
+-- `title:` and at once a quoted piece
+unfoldable pub is_quoted_title : List ℕ → Bool
+is_quoted_title text = starts_with nat_eq text (codes "title:\"")
+
+-- the token at the front, which is no blank, and how many bytes it takes
+abbrev pub first_token : List ℕ → Token
+first_token [] = faulty cause.Empty
+first_token (b ∷ bs) =
+    if b == 40 then open_paren
+    else (if b == 41 then close_paren
+    else (if is_quote b then quoted_token false bs
+    else (if starts_with nat_eq (b ∷ bs) (codes "name:") then name_token (take_while is_solid (drop 5 (b ∷ bs)))
+    else (if is_quoted_title (b ∷ bs) then quoted_token true (drop 7 (b ∷ bs))
+    else run_token (take_while is_run (b ∷ bs))))))
+
+abbrev pub first_len : List ℕ → ℕ
+first_len [] = 0
+first_len (b ∷ bs) =
+    if b == 40 || b == 41 then 1
+    else (if is_quote b then 1 + quoted_len bs
+    else (if starts_with nat_eq (b ∷ bs) (codes "name:") then 5 + prefix_len is_solid (drop 5 (b ∷ bs))
+    else (if is_quoted_title (b ∷ bs) then 7 + quoted_len (drop 7 (b ∷ bs))
+    else prefix_len is_run (b ∷ bs))))
+
+-- the tokens of a text that begins at a place, behind so many bytes of a token that has begun
+abbrev pub spots_from : ℕ → ℕ → List ℕ → List Spot
+spots_from p k [] = []
+spots_from p (suc k) (b ∷ bs) = spots_from (p + 1) k bs
+spots_from p zero (b ∷ bs) =
+    if is_blank b then spots_from (p + 1) 0 bs
+    else at p (first_token (b ∷ bs)) ∷ spots_from (p + 1) (first_len (b ∷ bs) - 1) bs
+
+unfoldable pub spots : List ℕ → List Spot
+spots text = spots_from 0 0 text

@@ -1,0 +1,19 @@
+//! The query language: from text to query and back.
+#![tactic(auto)]
+
+mod fault;
+mod machine;
+mod printing;
+mod query;
+mod reading;
+mod scan;
+mod test;
+#[cfg(test)]
+mod tests;
+mod word;
+
+pub use fault::{Cause, QueryFault};
+pub use printing::{print, reads_back};
+pub use query::{Atom, Queries, Query, Side};
+pub use reading::{one_or_other, parse};
+pub use test::{Test, Tests};

@@ -1,0 +1,77 @@
+// From text to query.
+
+ghost use Rattle.std.specs.Prelude.{◌≡◌, ◌⊎◌, ℕ, List, length, Some, IfOk, IfErr, MatchResult};
+ghost use Rattle.alta_query.specs.Shape.{Shape};
+ghost use Rattle.alta_query.specs.View.{shape};
+ghost use Rattle.alta_query.specs.Grammar.{Reads};
+ghost use Rattle.alta_query.specs.Faults.{Fault, fault_of};
+ghost use Rattle.alta_query.specs.Laws.{IsDecided};
+ghost use Rattle.alta_query.specs.Spots.{spots};
+ghost use Rattle.alta_query.specs.Token.{tokens_of};
+ghost use Rattle.alta_query.specs.Machine.{parse_of};
+ghost use Rattle.alta_query.specs.Answer.{Gives, IsMemory, fault_in};
+
+use crate::fault::{Cause, QueryFault};
+use crate::machine::Machine;
+use crate::query::Query;
+use crate::scan::{blank, first_piece};
+use std::alloc::Global;
+
+/// One pass over the text.
+fn read(alloc: Global, text: &str) -> Result<Query, QueryFault>
+    ensures { Gives result (parse_of (spots text.now) (length text.now)) }
+{
+    let mut machine = Machine::new(alloc);
+    let mut seen = false;
+    let mut at = 0;
+    while at < text.len() {
+        if blank(text.as_bytes()[at]) {
+            at += 1;
+        } else {
+            let piece = first_piece(alloc, &text[at..])?;
+            if let Some(cause) = machine.cause(piece.kind) {
+                return Err(QueryFault { place: at, cause });
+            }
+            machine.step(alloc, piece.kind)?;
+            seen = true;
+            at += piece.len;
+        }
+    }
+    if !seen {
+        return Err(QueryFault {
+            place: 0,
+            cause: Cause::Empty,
+        });
+    }
+    machine.finish(text.len())
+}
+
+/// The query that a text spells.
+///
+/// Tokens are cut from left to right. A blank is a space or a tab. `(` and `)` are tokens of their own; a quoted piece
+/// ends at the next quote; what begins with `name:` goes up to the next blank, and any other run up to the next blank,
+/// parenthesis or quote. `AND`, `OR`, `NOT` and `NEAR/k` are operators. A run that ends with `*` is a prefix, and any
+/// other run or quoted piece stands for its words, one behind the other. `title:` before a run or a quoted piece asks
+/// for the title. NOT binds first, then AND, which may be left out, then OR.
+///
+/// Else the answer is the first fault by its place in bytes, with its cause: at one token its own cause, then that it
+/// may not stand there, then [`Cause::Deep`], then [`Cause::Many`]. [`Cause::Memory`] comes for want of memory alone.
+/// The time is linear in the text.
+pub fn parse(alloc: Global, text: &str) -> Result<Query, QueryFault>
+    // What is read is in the grammar.
+    ensures found { IfOk result (λ q. Reads (tokens_of (spots text.now)) (shape q)) }
+    // What is in the grammar is read, unless memory runs out.
+    ensures only { (q : Shape) → Reads (tokens_of (spots text.now)) q → MatchResult result (λ r. shape r ≡ q) IsMemory }
+    // A fault is the first one, unless memory runs out.
+    ensures first { IfErr result (λ e. IsMemory e ⊎ (fault_of (spots text.now) (length text.now) ≡ Some (fault_in e))) }
+    // The first fault is answered, unless memory runs out.
+    ensures answered { (f : Fault) → fault_of (spots text.now) (length text.now) ≡ Some f → MatchResult result (λ q. ⊥) (λ e. IsMemory e ⊎ (fault_in e ≡ f)) }
+{
+    read(alloc, text)
+}
+
+/// A law, and nothing to run: of each text either exactly one query is read and there is no fault, or there is a fault
+/// and nothing is read.
+pub fn one_or_other()
+    ensures { (text : List ℕ) → IsDecided (spots text) (length text) }
+{}
