@@ -3,6 +3,8 @@
 
 mod content;
 mod lists;
+#[cfg(test)]
+mod tests;
 
 pub use content::{Content, DocRow, TermList};
 pub use lists::{DocRows, Locations, TermLists};
