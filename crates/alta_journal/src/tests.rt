@@ -112,8 +112,8 @@ fn replayed(alloc: Global, image: Vec<u8>, half: Half) -> Result<(usize, u64), O
     }
 }
 
-// The record of line D1, its gate open, and the next gate.
-const D1: &[u8] = b"\xa5\0\0\0\x23\x01\x01a\0\0\0\x07Red Fox\0\0\0\x11the quick red fox\0";
+// The record that adds document 1, `a`, about a red fox, its gate open, and the next gate.
+const RED_FOX: &[u8] = b"\xa5\0\0\0\x23\x01\x01a\0\0\0\x07Red Fox\0\0\0\x11the quick red fox\0";
 
 #[test]
 fn records_are_written_and_read_back(rt: HostRuntime) -> Result<(), Fail> {
@@ -129,7 +129,7 @@ fn records_are_written_and_read_back(rt: HostRuntime) -> Result<(), Fail> {
     append(&mut disk, &mut tail, &first).expect(&rt, "an append");
     assert_eq!(rt; tail.place, 8_232);
     let image = disk.image(alloc, 1)?;
-    assert_eq!(rt; image.get(8_192..8_233), Some(D1));
+    assert_eq!(rt; image.get(8_192..8_233), Some(RED_FOX));
     append(&mut disk, &mut tail, &second).expect(&rt, "an append");
     assert_eq!(rt; tail.place, 8_246);
     let image = disk.image(alloc, 1)?;
@@ -139,7 +139,7 @@ fn records_are_written_and_read_back(rt: HostRuntime) -> Result<(), Fail> {
     );
     let mut again = MemoryDisk::new(
         alloc,
-        head_with(alloc, 8_192, D1)?,
+        head_with(alloc, 8_192, RED_FOX)?,
         3_000_000,
         Vec::new(alloc),
     );
@@ -172,7 +172,7 @@ fn damage_is_at_the_first_broken_rule(rt: HostRuntime) -> Result<(), Fail> {
             b"\xa4\xff\xff\xff\xff",
             Ok((0, 8_192)),
         ),
-        ("one", 8_192, D1, Ok((1, 8_232))),
+        ("one", 8_192, RED_FOX, Ok((1, 8_232))),
         (
             "no room",
             8_192,
