@@ -58,7 +58,7 @@ def bare_loop(path, records):
 
 
 def run(command, data):
-    """The seconds, the processor seconds and the peak memory of a command, which has to answer each line."""
+    """The seconds of a command that has to end with status 0, and what it printed."""
     begun = time.perf_counter()
     process = subprocess.Popen(command, stdin=subprocess.PIPE, stdout=subprocess.PIPE)
     out, _ = process.communicate(data)

@@ -133,6 +133,8 @@ def main():
                 check.all_there()
                 check.new_file()
         check.all_there()
+    if not check.killed:
+        raise SystemExit("kill: no run was killed while it added, so nothing was tried")
     print(
         f"kill: {rounds} rounds, {check.killed} killed while adding, {check.answered} documents answered, none lost; "
         f"{check.unanswered} lines were not answered and their documents were there (seed {seed})"
