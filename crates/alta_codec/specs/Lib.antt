@@ -1,4 +1,5 @@
 pub mod Faults
 pub mod Name
+pub mod Numbers
 pub mod Order
 pub mod Rising

@@ -1,5 +1,5 @@
-//! What all layers share: locations, owned bytes and text, names, extents, the answer of a failed call, and the
-//! counter of steps.
+//! What all layers share: locations, numbers in bytes, owned bytes and text, names, extents, the answer of a failed
+//! call, and the counter of steps.
 #![tactic(auto)]
 
 mod bytes;
@@ -7,6 +7,7 @@ mod extent;
 mod failed;
 mod location;
 mod name;
+mod number;
 mod steps;
 #[cfg(test)]
 mod tests;
@@ -17,5 +18,6 @@ pub use extent::Extent;
 pub use failed::Failed;
 pub use location::{DocNumber, Loc, TOP};
 pub use name::name_ok;
+pub use number::{CodeFault, get_number, numbers_read_back, put_number};
 pub use steps::Steps;
 pub use text::Text;

@@ -55,3 +55,64 @@ fn ticks<L: Ledger>(blank: Blank)
 fn steps_are_counted_at_a_ledger() {
     ticks::<Brand>(Blank::new(1));
 }
+
+#[test]
+fn numbers_are_spelled_in_1_to_10_bytes(rt: HostRuntime) -> Result<(), Fail> {
+    let rows: [(u64, &[u8]); 14] = [
+        (0, b"\x00"),
+        (127, b"\x7f"),
+        (128, b"\x80\x01"),
+        (129, b"\x81\x01"),
+        (300, b"\xac\x02"),
+        (16_384, b"\x80\x80\x01"),
+        (1 << 21, b"\x80\x80\x80\x01"),
+        (1 << 28, b"\x80\x80\x80\x80\x01"),
+        (1 << 35, b"\x80\x80\x80\x80\x80\x01"),
+        (1 << 42, b"\x80\x80\x80\x80\x80\x80\x01"),
+        (1 << 49, b"\x80\x80\x80\x80\x80\x80\x80\x01"),
+        (1 << 56, b"\x80\x80\x80\x80\x80\x80\x80\x80\x01"),
+        (1 << 63, b"\x80\x80\x80\x80\x80\x80\x80\x80\x80\x01"),
+        (u64::MAX, b"\xff\xff\xff\xff\xff\xff\xff\xff\xff\x01"),
+    ];
+    for (n, want) in rows {
+        let mut bytes = Vec::new(rt.alloc());
+        put_number(&mut bytes, n)?;
+        assert_eq!(rt; bytes.as_slice(), want);
+        assert_eq!(rt; get_number(&bytes, 0), Ok((n, want.len())), "at {n}");
+    }
+    Ok(())
+}
+
+#[test]
+fn each_fault_of_a_number_names_its_byte(rt: HostRuntime) {
+    let rows: [(&[u8], usize, CodeFault); 9] = [
+        (b"", 0, CodeFault::Cut(0)),
+        (b"\x80", 0, CodeFault::Cut(1)),
+        (b"\x05\x80\x80", 1, CodeFault::Cut(3)),
+        (b"\x80\x00", 0, CodeFault::Long(1)),
+        (b"\x05\x81\x80\x00\x05", 1, CodeFault::Long(3)),
+        (
+            b"\xff\xff\xff\xff\xff\xff\xff\xff\xff\x00",
+            0,
+            CodeFault::Long(9),
+        ),
+        (
+            b"\xff\xff\xff\xff\xff\xff\xff\xff\xff\x02",
+            0,
+            CodeFault::Wide(9),
+        ),
+        (
+            b"\x05\xff\xff\xff\xff\xff\xff\xff\xff\xff\x81\x00",
+            1,
+            CodeFault::Wide(10),
+        ),
+        (
+            b"\xff\xff\xff\xff\xff\xff\xff\xff\xff",
+            0,
+            CodeFault::Cut(9),
+        ),
+    ];
+    for (bytes, from, want) in rows {
+        assert_eq!(rt; get_number(bytes, from), Err(want), "at {bytes:?}");
+    }
+}
