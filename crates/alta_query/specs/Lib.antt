@@ -14,3 +14,4 @@ pub mod Canon
 pub mod Spelling
 pub mod Patterns
 pub mod Matches
+pub mod Reading

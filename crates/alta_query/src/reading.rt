@@ -1,6 +1,6 @@
 // From text to query.
 
-ghost use Rattle.std.specs.Prelude.{◌≡◌, ◌⊎◌, ℕ, List, length, Some, IfOk, IfErr, MatchResult};
+ghost use Rattle.std.specs.Prelude.{◌≡◌, ◌⊎◌, ◌↔◌, ℕ, List, length, Some, Ok, Err, IfOk, IfErr, MatchResult};
 ghost use Rattle.alta_query.specs.Shape.{Shape};
 ghost use Rattle.alta_query.specs.View.{shape};
 ghost use Rattle.alta_query.specs.Grammar.{Reads};
@@ -9,6 +9,7 @@ ghost use Rattle.alta_query.specs.Laws.{IsDecided};
 ghost use Rattle.alta_query.specs.Spots.{spots};
 ghost use Rattle.alta_query.specs.Token.{tokens_of};
 ghost use Rattle.alta_query.specs.Machine.{parse_of};
+ghost use Rattle.alta_query.specs.Reading.{query_of};
 ghost use Rattle.alta_query.specs.Answer.{Gives, IsMemory, fault_in};
 
 use crate::fault::{Cause, QueryFault};
@@ -58,6 +59,7 @@ fn read(alloc: Global, text: &str) -> Result<Query, QueryFault>
 /// may not stand there, then [`Cause::Deep`], then [`Cause::Many`]. [`Cause::Memory`] comes for want of memory alone.
 /// The time is linear in the text.
 pub fn parse(alloc: Global, text: &str) -> Result<Query, QueryFault>
+    ensures reading { Gives result (query_of text.now) }
     // What is read is in the grammar.
     ensures found { IfOk result (λ q. Reads (tokens_of (spots text.now)) (shape q)) }
     // What is in the grammar is read, unless memory runs out.
@@ -74,4 +76,11 @@ pub fn parse(alloc: Global, text: &str) -> Result<Query, QueryFault>
 /// and nothing is read.
 pub fn one_or_other()
     ensures { (text : List ℕ) → IsDecided (spots text) (length text) }
+{}
+
+/// A law, and nothing to run: a text is read as a query exactly where it spells that query, and with a fault exactly where
+/// that is its first fault.
+pub fn a_query_is_read_one_way()
+    ensures read { (text : List ℕ) (q : Shape) → (query_of text ≡ Ok q) ↔ Reads (tokens_of (spots text)) q }
+    ensures refused { (text : List ℕ) (f : Fault) → (query_of text ≡ Err f) ↔ (fault_of (spots text) (length text) ≡ Some f) }
 {}

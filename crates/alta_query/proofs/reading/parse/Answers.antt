@@ -1,7 +1,12 @@
 use Rattle.std.proofs.Common.{length}
+use Rattle.alta_query.specs.Reading.{query_of}
 use Rattle.alta_query.specs.Spots.{spots}
 use Rattle.alta_query.proofs.Answers.{found, only, first, answered}
 use Rattle.alta_query.proofs.reading.parse.Goals as goal
+
+pub returns-clause-reading : goal.returns-clause-reading
+unfolding query_of
+returns-clause-reading c = c.read.ensures
 
 pub returns-clause-found : goal.returns-clause-found
 returns-clause-found c =
