@@ -1,5 +1,9 @@
 // What no clause says: each call once, and examples from outside.
 use crate::*;
+use alta_codec::Text;
+use alta_meta::{Cells, Document, cells};
+use alta_query::parse;
+use std::alloc::Global;
 use std::test::Fail;
 
 #[test]
@@ -49,5 +53,111 @@ fn lines_are_read_or_refused(rt: HostRuntime) -> Result<(), Fail> {
     long.push(b'x')?;
     let seen = format!(in alloc; "{:?}", read_line(&long))?;
     assert_eq!(rt; seen.as_str(), "Err(TooLong)");
+    Ok(())
+}
+
+fn document(alloc: Global, name: &str, title: &str, body: &str) -> Result<Document, Fail> {
+    match cells(alloc, name, title, body) {
+        Ok(all) => Ok(Document {
+            number: 1,
+            name: Text::from_string(String::from_str(alloc, name)?),
+            cells: Cells::from_vec(all),
+        }),
+        Err(_) => Err(Fail::new("no cells")),
+    }
+}
+
+// Whether a document matches a query.
+fn answer(alloc: Global, text: &str, document: &Document) -> Result<bool, Fail> {
+    match parse(alloc, text) {
+        Ok(query) => Ok(matches(&query, document)),
+        Err(_) => Err(Fail::new("no query")),
+    }
+}
+
+#[test]
+fn queries_match_documents(rt: HostRuntime) -> Result<(), Fail> {
+    let alloc = rt.alloc();
+    let a = document(alloc, "a", "Red Fox", "the quick red fox")?;
+    let b = document(alloc, "b", "Fox", "quick brown dog")?;
+    // A query, and whether each of the two matches it.
+    let rows = [
+        ("fox", true, true),
+        ("quick", true, true),
+        ("dog", false, true),
+        ("zebra", false, false),
+        ("\"fox quick\"", false, false),
+        ("\"fox the\"", false, false),
+        ("\"red fox\" NOT brown", true, false),
+        ("red-fox", true, false),
+        ("NOT zebra", true, true),
+        ("NOT (red fox)", false, true),
+        ("qui* OR dog", true, true),
+        ("br* OR the", true, true),
+        ("zeb* OR dog", false, true),
+        ("title:quick", false, false),
+        ("title:fox", true, true),
+        ("title:\"red fox\"", true, false),
+        ("title:qu*", false, false),
+        ("title:re*", true, false),
+        ("title:\"fox quick\"", false, false),
+        ("name:b", false, true),
+        ("name:fox", false, false),
+        ("red NEAR/1 red", true, false),
+        ("the NEAR/3 fox", true, false),
+        ("the NEAR/2 quick", true, false),
+        ("dog NEAR/1 quick", false, false),
+        ("dog NEAR/2 quick", false, true),
+        ("Red", true, false),
+        ("RED", false, false),
+        ("quick NOT red", false, true),
+        ("fox AND (dog OR quick) AND NOT brown", true, false),
+    ];
+    for (query, for_a, for_b) in rows {
+        assert_eq!(rt; answer(alloc, query, &a)?, for_a, "{query} in a");
+        assert_eq!(rt; answer(alloc, query, &b)?, for_b, "{query} in b");
+    }
+    Ok(())
+}
+
+#[test]
+fn other_documents_match(rt: HostRuntime) -> Result<(), Fail> {
+    let alloc = rt.alloc();
+    let home = "Don't miss version 2.0, released in 1996!";
+    // A title, a body, a query, and whether they match.
+    let rows = [
+        ("", "Straße", "strasse", true),
+        ("", "Straße", "Straße", true),
+        ("", "STRASSE", "Straße", false),
+        (
+            "AltaVista: Main Page",
+            home,
+            "altavista \"version 2.0\"",
+            true,
+        ),
+        ("AltaVista: Main Page", home, "don't", true),
+        ("AltaVista: Main Page", home, "\"page don't\"", false),
+        ("", "", "NOT x", true),
+        ("", "x", "title:x", false),
+        ("x y", "x z x y y", "\"x y y\"", true),
+        ("x y", "x z x y y", "\"x y z\"", false),
+        ("x", "y x x y", "\"x x\" title:x", true),
+        ("x", "y z z y", "x NEAR/2 y", true),
+        ("x", "y z z y", "x NEAR/1 y", false),
+    ];
+    for (title, body, query, want) in rows {
+        let document = document(alloc, "d", title, body)?;
+        assert_eq!(rt; answer(alloc, query, &document)?, want, "{query}");
+    }
+    let mut words = String::new(alloc);
+    for _ in 0..32 {
+        words.push_str("x y ")?;
+    }
+    let phrase = format!(in alloc; "\"{words}\"")?;
+    let long = format!(in alloc; "y {words}z")?;
+    let document = document(alloc, "d", "", long.as_str())?;
+    assert_eq!(rt; answer(alloc, phrase.as_str(), &document)?, true);
+    let phrase = format!(in alloc; "\"{}z\"", &words.as_str()[2..])?;
+    assert_eq!(rt; answer(alloc, phrase.as_str(), &document)?, true);
     Ok(())
 }
