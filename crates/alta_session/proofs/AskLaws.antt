@@ -1,6 +1,10 @@
 -- Laws of what a line asks for.
-use Rattle.std.proofs.Common.{◌≡◌, ℕ, List, refl, ap, sym, ◌∙◌, codes, Bor}
+use Rattle.std.proofs.Common.{◌≡◌, ℕ, ◌+◌, List, ◌∷◌, ◌++◌, length, refl, ap, sym, ◌∙◌, codes, Bor, length-append, arith}
+use Rattle.alta_journal.specs.Record.{body_of}
+use Rattle.alta_journal.specs.declared.entry.Entry.TheVariants.{Add as AddEntry}
+use Rattle.alta_journal.proofs.Spelling.{body_long, add_long}
 use Rattle.alta_meta.specs.declared.document.State.{State}
+use Rattle.alta_model.specs.Command.{Reads, adds}
 use Rattle.alta_model.specs.Lines.{asks, refuses, reading_of}
 use Rattle.alta_model.specs.Seen.{command_of}
 use Rattle.alta_model.specs.declared.line.Line.{Line}
@@ -29,6 +33,11 @@ step_other line l reading other s = step_reads s line (asks (command_of l)) (sym
 
 pub step_adds : (line : List ℕ) (l : Line) (name title body : Bor (List ℕ)) → asks (command_of l) ≡ reading_of line → l ≡ Add name title body → (s : State) → step s line ≡ adding name.now title.now body.now s
 step_adds line l name title body reading is s = step_reads s line (asks (command_of l)) (sym reading) ∙ ap (λ (m : Line). obeyed s (command_of m)) is
+
+-- the record of a line that adds has nine bytes more than the line
+pub record_of_line : (line name title body : List ℕ) → Reads line (adds name title body) → length (body_of (AddEntry name title body)) ≡ length line + 9
+record_of_line line name title body reads =
+    omega (arith, ap length reads.spells, body_long (AddEntry name title body), add_long name title body, length-append (codes "add ") (name ++ 9 ∷ (title ++ 9 ∷ body)), length-append name (9 ∷ (title ++ 9 ∷ body)), length-append title (9 ∷ body))
 
 pub step_refuses : (line : List ℕ) (e fault : LineFault) → refuses e ≡ reading_of line → e ≡ fault → (s : State) → step s line ≡ (s, refusal fault)
 step_refuses line e fault reading is s = step_reads s line (refuses e) (sym reading) ∙ ap (λ (f : LineFault). (s, refusal f)) is

@@ -1,5 +1,5 @@
 -- Laws of lines that were answered.
-use Rattle.std.proofs.Common.{◌≡◌, ℕ, ◌<◌, List, [], ◌∷◌, ◌++◌, Option, length, map, refl, ap, sym, subst, ◌∙◌, append-nil}
+use Rattle.std.proofs.Common.{◌≡◌, ℕ, ◌+◌, ◌<◌, List, [], ◌∷◌, ◌++◌, Option, length, map, refl, ap, sym, subst, ◌∙◌, append-nil, arith}
 use Rattle.alta_console.specs.Giving.{Gives}
 use Rattle.alta_console.specs.Replies.{joined}
 use Rattle.alta_console.specs.declared.event.Event.{Event}
@@ -8,12 +8,16 @@ use Rattle.alta_console.proofs.ReplyLaws.{joined_append}
 use Rattle.alta_disk.specs.Disk.{DiskState, LeavesOnly, IsLawful, Each}
 use Rattle.alta_disk.proofs.Moments.{leaves_start, leaves_then, leaves_as}
 use Rattle.alta_meta.specs.declared.document.State.{State}
-use Rattle.alta_session.specs.Agreement.{AgreesOn}
+use Rattle.alta_session.specs.Agreement.{AgreesOn, room_in}
 use Rattle.alta_session.specs.Fed.{Fed, FedFrom}
+use Rattle.alta_session.specs.Fullness.{record_bytes, IsFullOnly}
 use Rattle.alta_session.specs.Keeping.{clip}
 use Rattle.alta_session.specs.Machine.{step, after, replies}
 use Rattle.alta_session.specs.Progress.{StandsAfterSome, Progress, StopsWithin, StopsWithinFrom}
 use Rattle.alta_session.specs.declared.session.Session.{Session}
+use Rattle.alta_session.specs.declared.status.Status.{Status}
+use Rattle.alta_session.specs.declared.status.Status.TheVariants.{Full}
+use Rattle.alta_session.proofs.FullnessLaws.{records_append, records_same, full_on, full_more, full_clip, over_first}
 use Rattle.alta_session.proofs.MachineLaws.{after_append, replies_append, replies_same, after_same, reply_some}
 use Rattle.alta_session.proofs.ProgressLaws.{some_none, some_either, some_on, some_more, some_clip, progress_none, progress_stop, progress_on, progress_more, progress_full, progress_clip}
 use Rattle.alta_store.specs.Meaning.{StandsForEither}
@@ -36,17 +40,18 @@ pub fed_none : (tells : Type 0) (told : Option (List Event)) (d : DiskState) (se
 fed_none tells told d session lawful = record {
   given = [];
   gave = gives_none told;
-  each = λ s tell agrees. record { given_is = refl; agrees = agrees; images = leaves_none tells d session s [] lawful agrees };
+  each = λ s tell agrees. record { given_is = refl; agrees = agrees; images = leaves_none tells d session s [] lawful agrees; room = omega arith };
 }
 
 pub fed_clip : (tells : Type 0) (a b : Option (List Event)) (d e : DiskState) (s0 s1 : Session) (xs ys : List (List ℕ)) → map clip xs ≡ map clip ys → Fed tells a b d e s0 s1 xs → Fed tells a b d e s0 s1 ys
 fed_clip tells a b d e s0 s1 xs ys same fed = record {
   given = fed.given;
   gave = fed.gave;
-  each = λ s tell agrees. let one : FedFrom tells d e s1 xs fed.given s = fed.each s tell agrees in record {
+  each = λ s tell agrees. let one : FedFrom tells d e s0 s1 xs fed.given s = fed.each s tell agrees in record {
     given_is = one.given_is ∙ ap joined (replies_same s xs ys same);
     agrees = subst (λ (t : State). AgreesOn tells e s1 t) (after_same s xs ys same) one.agrees;
     images = leaves_as d e (StandsAfterSome s xs) (StandsAfterSome s ys) one.images (λ z here. some_clip s xs ys z same here);
+    room = omega (arith, one.room, records_same s xs ys same);
   };
 }
 
@@ -55,97 +60,110 @@ fed_on tells a b c d e f s0 s1 s2 xs ys first then_ = record {
   given = first.given ++ then_.given;
   gave = gives_on a b c first.given then_.given first.gave then_.gave;
   each = λ s tell agrees.
-      let one : FedFrom tells d e s1 xs first.given s = first.each s tell agrees in
-      let two : FedFrom tells e f s2 ys then_.given (after s xs) = then_.each (after s xs) tell one.agrees in
+      let one : FedFrom tells d e s0 s1 xs first.given s = first.each s tell agrees in
+      let two : FedFrom tells e f s1 s2 ys then_.given (after s xs) = then_.each (after s xs) tell one.agrees in
       record {
         given_is = ap (λ (l : List ℕ). l ++ then_.given) one.given_is ∙ ap (λ (l : List ℕ). joined (replies s xs) ++ l) two.given_is ∙ sym (joined_append (replies s xs) (replies (after s xs) ys)) ∙ ap joined (sym (replies_append s xs ys));
         agrees = subst (λ (t : State). AgreesOn tells f s2 t) (sym (after_append s xs ys)) two.agrees;
         images = leaves_on d e f s xs ys one.images two.images;
+        room = omega (arith, one.room, two.room, records_append s xs ys);
       };
 }
 
 -- it stopped in later lines
-pub stops_on : (tells : Type 0) (a b c : Option (List Event)) (d e f : DiskState) (s0 s1 : Session) (xs ys : List (List ℕ)) → Fed tells a b d e s0 s1 xs → StopsWithin tells b c e f s1 ys → StopsWithin tells a c d f s0 (xs ++ ys)
-stops_on tells a b c d e f s0 s1 xs ys first stops = record {
+pub stops_on : (tells : Type 0) (a b c : Option (List Event)) (d e f : DiskState) (s0 s1 : Session) (xs ys : List (List ℕ)) (status : Status) → Fed tells a b d e s0 s1 xs → StopsWithin tells b c e f s1 ys status → StopsWithin tells a c d f s0 (xs ++ ys) status
+stops_on tells a b c d e f s0 s1 xs ys status first stops = record {
   given = first.given ++ stops.given;
   gave = gives_on a b c first.given stops.given first.gave stops.gave;
   each = λ s tell agrees.
-      let one : FedFrom tells d e s1 xs first.given s = first.each s tell agrees in
-      let two : StopsWithinFrom e f ys stops.given (after s xs) = stops.each (after s xs) tell one.agrees in
+      let one : FedFrom tells d e s0 s1 xs first.given s = first.each s tell agrees in
+      let two : StopsWithinFrom e f s1 ys stops.given status (after s xs) = stops.each (after s xs) tell one.agrees in
       record {
         progress = subst (λ (l : List ℕ). Progress s (xs ++ ys) (l ++ stops.given) f.images) (sym one.given_is) (progress_on s xs ys stops.given f.images two.progress);
         images = leaves_on d e f s xs ys one.images two.images;
+        full = subst (λ (l : List ℕ). IsFullOnly (room_in s0) s (xs ++ ys) (l ++ stops.given) status) (sym one.given_is) (full_on (room_in s0) (room_in s1) s xs ys stops.given status one.room two.full);
       };
 }
 
 -- there are more lines
-pub stops_more : (tells : Type 0) (a b : Option (List Event)) (d e : DiskState) (s0 : Session) (xs ys : List (List ℕ)) → StopsWithin tells a b d e s0 xs → StopsWithin tells a b d e s0 (xs ++ ys)
-stops_more tells a b d e s0 xs ys stops = record {
+pub stops_more : (tells : Type 0) (a b : Option (List Event)) (d e : DiskState) (s0 : Session) (xs ys : List (List ℕ)) (status : Status) → StopsWithin tells a b d e s0 xs status → StopsWithin tells a b d e s0 (xs ++ ys) status
+stops_more tells a b d e s0 xs ys status stops = record {
   given = stops.given;
   gave = stops.gave;
-  each = λ s tell agrees. let one : StopsWithinFrom d e xs stops.given s = stops.each s tell agrees in record {
+  each = λ s tell agrees. let one : StopsWithinFrom d e s0 xs stops.given status s = stops.each s tell agrees in record {
     progress = progress_more s xs ys stops.given e.images one.progress;
     images = leaves_as d e (StandsAfterSome s xs) (StandsAfterSome s (xs ++ ys)) one.images (λ z here. some_more s xs ys z here);
+    full = full_more (room_in s0) s xs ys stops.given status one.full;
   };
 }
 
-pub stops_clip : (tells : Type 0) (a b : Option (List Event)) (d e : DiskState) (s0 : Session) (xs ys : List (List ℕ)) → map clip xs ≡ map clip ys → StopsWithin tells a b d e s0 xs → StopsWithin tells a b d e s0 ys
-stops_clip tells a b d e s0 xs ys same stops = record {
+pub stops_clip : (tells : Type 0) (a b : Option (List Event)) (d e : DiskState) (s0 : Session) (xs ys : List (List ℕ)) (status : Status) → map clip xs ≡ map clip ys → StopsWithin tells a b d e s0 xs status → StopsWithin tells a b d e s0 ys status
+stops_clip tells a b d e s0 xs ys status same stops = record {
   given = stops.given;
   gave = stops.gave;
-  each = λ s tell agrees. let one : StopsWithinFrom d e xs stops.given s = stops.each s tell agrees in record {
+  each = λ s tell agrees. let one : StopsWithinFrom d e s0 xs stops.given status s = stops.each s tell agrees in record {
     progress = progress_clip s xs ys stops.given e.images same one.progress;
     images = leaves_as d e (StandsAfterSome s xs) (StandsAfterSome s ys) one.images (λ z here. some_clip s xs ys z same here);
+    full = full_clip (room_in s0) s xs ys stops.given status same one.full;
   };
 }
 
 -- it stopped before any line
-unfoldable pub stops_none : (tells : Type 0) (told : Option (List Event)) (d : DiskState) (session : Session) (lines : List (List ℕ)) → IsLawful tells d → StopsWithin tells told told d d session lines
-stops_none tells told d session lines lawful = record {
+unfoldable pub stops_none : (tells : Type 0) (told : Option (List Event)) (d : DiskState) (session : Session) (lines : List (List ℕ)) (status : Status) → IsLawful tells d → ((need gap : ℕ) → status ≡ Full need gap → ⊥) → StopsWithin tells told told d d session lines status
+stops_none tells told d session lines status lawful not_full = record {
   given = [];
   gave = gives_none told;
   each = λ s tell agrees. record {
     progress = progress_none s lines d.images (images_stand tells d session.store s lawful agrees);
     images = leaves_none tells d session s lines lawful agrees;
+    full = λ need gap is. absurd (not_full need gap is);
   };
 }
 
 -- it stopped behind all lines
-unfoldable pub stops_full : (tells : Type 0) (a b : Option (List Event)) (d e : DiskState) (s0 s1 : Session) (lines : List (List ℕ)) → IsLawful tells e → Fed tells a b d e s0 s1 lines → StopsWithin tells a b d e s0 lines
-stops_full tells a b d e s0 s1 lines lawful fed = record {
+unfoldable pub stops_full : (tells : Type 0) (a b : Option (List Event)) (d e : DiskState) (s0 s1 : Session) (lines : List (List ℕ)) (status : Status) → IsLawful tells e → ((need gap : ℕ) → status ≡ Full need gap → ⊥) → Fed tells a b d e s0 s1 lines → StopsWithin tells a b d e s0 lines status
+stops_full tells a b d e s0 s1 lines status lawful not_full fed = record {
   given = fed.given;
   gave = fed.gave;
-  each = λ s tell agrees. let one : FedFrom tells d e s1 lines fed.given s = fed.each s tell agrees in record {
+  each = λ s tell agrees. let one : FedFrom tells d e s0 s1 lines fed.given s = fed.each s tell agrees in record {
     progress = subst (λ (l : List ℕ). Progress s lines l e.images) (sym one.given_is) (progress_full s lines e.images (images_stand tells e s1.store (after s lines) lawful one.agrees));
     images = one.images;
+    full = λ need gap is. absurd (not_full need gap is);
   };
 }
 
 -- a line was answered
 pub fed_line : (tells : Type 0) (a b : Option (List Event)) (d e : DiskState) (s0 s1 : Session) (line reply : List ℕ) → Gives a b reply → ((s : State) → tells → AgreesOn tells d s0 s → reply ≡ (step s line).1)
-    → ((s : State) → tells → AgreesOn tells d s0 s → AgreesOn tells e s1 (step s line).0) → ((s : State) → tells → AgreesOn tells d s0 s → LeavesOnly (StandsForEither s (step s line).0) d e) → Fed tells a b d e s0 s1 (line ∷ [])
-fed_line tells a b d e s0 s1 line reply gave is now leaves = record {
+    → ((s : State) → tells → AgreesOn tells d s0 s → AgreesOn tells e s1 (step s line).0) → ((s : State) → tells → AgreesOn tells d s0 s → LeavesOnly (StandsForEither s (step s line).0) d e)
+    → ((s : State) → tells → AgreesOn tells d s0 s → room_in s1 + record_bytes s line ≡ room_in s0) → Fed tells a b d e s0 s1 (line ∷ [])
+fed_line tells a b d e s0 s1 line reply gave is now leaves room = record {
   given = reply;
   gave = gave;
   each = λ s tell agrees. record {
     given_is = is s tell agrees ∙ sym (append-nil (step s line).1);
     agrees = now s tell agrees;
     images = leaves_as d e (StandsForEither s (step s line).0) (StandsAfterSome s (line ∷ [])) (leaves s tell agrees) (λ z here. some_either s line [] z here);
+    room = omega (arith, room s tell agrees);
   };
 }
 
 -- less than its reply was given
-pub stops_line : (tells : Type 0) (a b : Option (List Event)) (d e : DiskState) (s0 : Session) (line part : List ℕ) → IsLawful tells e → Gives a b part → ((s : State) → tells → AgreesOn tells d s0 s → (left : List ℕ) × ((step s line).1 ≡ part ++ left) × (0 < length left))
-    → ((s : State) → tells → AgreesOn tells d s0 s → LeavesOnly (StandsForEither s (step s line).0) d e) → StopsWithin tells a b d e s0 (line ∷ [])
-stops_line tells a b d e s0 line part lawful gave is leaves = record {
+pub stops_line : (tells : Type 0) (a b : Option (List Event)) (d e : DiskState) (s0 : Session) (line part : List ℕ) (status : Status) → IsLawful tells e → Gives a b part → ((s : State) → tells → AgreesOn tells d s0 s → (left : List ℕ) × ((step s line).1 ≡ part ++ left) × (0 < length left))
+    → ((s : State) → tells → AgreesOn tells d s0 s → LeavesOnly (StandsForEither s (step s line).0) d e)
+    → ((s : State) → tells → AgreesOn tells d s0 s → IsFullOnly (room_in s0) s (line ∷ []) part status) → StopsWithin tells a b d e s0 (line ∷ []) status
+stops_line tells a b d e s0 line part status lawful gave is leaves full = record {
   given = part;
   gave = gave;
   each = λ s tell agrees. let rest = is s tell agrees in record {
     progress = progress_stop s line [] part rest.0 e.images rest.1 rest.2 (leaves_now tells d e (StandsForEither s (step s line).0) lawful (leaves s tell agrees));
     images = leaves_as d e (StandsForEither s (step s line).0) (StandsAfterSome s (line ∷ [])) (leaves s tell agrees) (λ z here. some_either s line [] z here);
+    full = full s tell agrees;
   };
 }
 
 -- none of it was given
-pub stops_unanswered : (tells : Type 0) (a : Option (List Event)) (d e : DiskState) (s0 : Session) (line : List ℕ) → IsLawful tells e → ((s : State) → tells → AgreesOn tells d s0 s → LeavesOnly (StandsForEither s (step s line).0) d e) → StopsWithin tells a a d e s0 (line ∷ [])
-stops_unanswered tells a d e s0 line lawful leaves = stops_line tells a a d e s0 line [] lawful (gives_none a) (λ s tell agrees. ((step s line).1, refl, reply_some s line)) leaves
+pub stops_unanswered : (tells : Type 0) (a : Option (List Event)) (d e : DiskState) (s0 : Session) (line : List ℕ) (status : Status) → IsLawful tells e → ((s : State) → tells → AgreesOn tells d s0 s → LeavesOnly (StandsForEither s (step s line).0) d e)
+    → ((s : State) (need gap : ℕ) → tells → AgreesOn tells d s0 s → status ≡ Full need gap → (need ≡ record_bytes s line) × (gap ≡ room_in s0) × (gap < need)) → StopsWithin tells a a d e s0 (line ∷ []) status
+stops_unanswered tells a d e s0 line status lawful leaves full =
+    stops_line tells a a d e s0 line [] status lawful (gives_none a) (λ s tell agrees. ((step s line).1, refl, reply_some s line)) leaves
+    (λ s tell agrees need gap is. let found = full s need gap tell agrees is in (0, over_first (room_in s0) s line need gap found.0 found.1 found.2, refl))

@@ -2,6 +2,7 @@ pub mod AddingLaws
 pub mod AskLaws
 pub mod FedLaws
 pub mod FeedLaws
+pub mod FullnessLaws
 pub mod KeepingLaws
 pub mod MachineLaws
 pub mod ProgressLaws

@@ -1,7 +1,7 @@
 -- Laws of the machine.
 use Rattle.std.proofs.Common.{◌≡◌, ℕ, ◌<◌, inl, inr, List, [], ◌∷◌, ◌++◌, length, take, suc, lit<, refl, ap, sym, ◌∙◌, arith, map}
 use Rattle.std.proofs.lemmas.Grind.{common_steps}
-use Rattle.std.proofs.lemmas.List.{length-take, take_all}
+use Rattle.std.proofs.lemmas.List.{length-take, take_all, take-map}
 use Rattle.std.proofs.lemmas.Bool.{cases_lt}
 use Rattle.alta_meta.specs.declared.document.State.{State}
 use Rattle.alta_model.specs.Command.{Command, adds, deletes, searches, counts, explains, opens, fetches, closes, flushes, merges, steps, asks_stats}
@@ -66,6 +66,10 @@ reading_long : (line : List ℕ) → 65535 < length line → reading_of line ≡
 unfolding reading_of
 reading_long line l = grind (arith, common_steps)
 
+-- a line that is too long is refused
+pub step_long : (s : State) (line : List ℕ) → 65535 < length line → (reply : List ℕ) × (step s line ≡ (s, reply))
+step_long s line l = (refusal TooLong, step_reads s line (refuses TooLong) (reading_long line l))
+
 reading_take : (n : ℕ) (line : List ℕ) → 65535 < n → reading_of (take n line) ≡ reading_of line
 reading_take n line l =
     elim (cases_lt n (length line)) [
@@ -96,3 +100,11 @@ replies_same s xs ys same = sym (replies_clip s xs) ∙ ap (λ (l : List (List �
 
 pub after_same : (s : State) (xs ys : List (List ℕ)) → map clip xs ≡ map clip ys → after s xs ≡ after s ys
 after_same s xs ys same = sym (after_clip s xs) ∙ ap (λ (l : List (List ℕ)). after s l) same ∙ after_clip s ys
+
+-- the states after the first of lines that are the same up to a clip
+pub after_take : (s : State) (k : ℕ) (xs ys : List (List ℕ)) → map clip xs ≡ map clip ys → after s (take k xs) ≡ after s (take k ys)
+after_take s k xs ys same =
+    sym (after_clip s (take k xs)) ∙ ap (λ (l : List (List ℕ)). after s l) (sym (take-map clip k xs) ∙ ap (λ (l : List (List ℕ)). take k l) same ∙ take-map clip k ys) ∙ after_clip s (take k ys)
+
+pub length_same : (s : State) (xs ys : List (List ℕ)) → map clip xs ≡ map clip ys → length xs ≡ length ys
+length_same s xs ys same = sym (length_replies s xs) ∙ ap length (sym (replies_clip s xs) ∙ ap (λ (l : List (List ℕ)). replies s l) same ∙ replies_clip s ys) ∙ length_replies s ys

@@ -1,6 +1,6 @@
 -- Laws of how far lines were answered.
 use Rattle.std.proofs.Common.{◌≡◌, ℕ, ◌+◌, ◌<◌, ◌≤◌, inl, inr, List, [], ◌∷◌, ◌++◌, length, take, drop, map, refl, ap, sym, subst, ◌∙◌, append_assoc, append-nil, length-append, arith}
-use Rattle.std.proofs.lemmas.List.{take-map, take-append-le, drop-append-le}
+use Rattle.std.proofs.lemmas.List.{take-append-le, drop-append-le}
 use Rattle.std.proofs.Math.Seq.{take-append-add, drop-append-add}
 use Rattle.alta_console.specs.Replies.{joined, IsPrefix, IsAcked, IsPartOfFirst}
 use Rattle.alta_console.proofs.ReplyLaws.{joined_append, joined_parts, part_begins, acked_part}
@@ -8,7 +8,7 @@ use Rattle.alta_meta.specs.declared.document.State.{State}
 use Rattle.alta_session.specs.Keeping.{clip}
 use Rattle.alta_session.specs.Machine.{step, after, replies}
 use Rattle.alta_session.specs.Progress.{StandsAfterSome, StandsAfter, Progress}
-use Rattle.alta_session.proofs.MachineLaws.{after_append, replies_append, length_replies, reply_some, replies_clip, after_clip}
+use Rattle.alta_session.proofs.MachineLaws.{after_append, replies_append, length_replies, reply_some, replies_clip, after_take, length_same}
 use Rattle.alta_store.specs.Meaning.{StandsFor, StandsForEither}
 
 -- an image that stands for the state after this many lines stands for one after some
@@ -40,14 +40,7 @@ some_more s xs ys image some = record {
   stands = subst (λ (l : List (List ℕ)). StandsFor (after s l) image) (sym (take-append-le some.reached xs ys some.within)) some.stands;
 }
 
--- the states after the first of lines that are the same up to a clip
-after_take : (s : State) (k : ℕ) (xs ys : List (List ℕ)) → map clip xs ≡ map clip ys → after s (take k xs) ≡ after s (take k ys)
-after_take s k xs ys same =
-    sym (after_clip s (take k xs)) ∙ ap (λ (l : List (List ℕ)). after s l) (sym (take-map clip k xs) ∙ ap (λ (l : List (List ℕ)). take k l) same ∙ take-map clip k ys) ∙ after_clip s (take k ys)
-
-length_same : (s : State) (xs ys : List (List ℕ)) → map clip xs ≡ map clip ys → length xs ≡ length ys
-length_same s xs ys same = sym (length_replies s xs) ∙ ap length (sym (replies_clip s xs) ∙ ap (λ (l : List (List ℕ)). replies s l) same ∙ replies_clip s ys) ∙ length_replies s ys
-
+-- of lines that are the same up to a clip
 pub some_clip : (s : State) (xs ys : List (List ℕ)) (image : List ℕ) → map clip xs ≡ map clip ys → StandsAfterSome s xs image → StandsAfterSome s ys image
 some_clip s xs ys image same some = record {
   reached = some.reached;

@@ -1,5 +1,5 @@
 -- Laws of whole runs.
-use Rattle.std.proofs.Common.{◌≡◌, ℕ, zero, suc, ◌+◌, ◌<◌, ◌≤◌, inl, inr, true, List, [], ◌∷◌, ◌++◌, Option, length, take, map, refl, ap, sym, subst, ◌∙◌, append-nil, length-append, arith}
+use Rattle.std.proofs.Common.{◌≡◌, ◌⊎◌, ℕ, zero, suc, ◌+◌, ◌<◌, ◌≤◌, inl, inr, true, List, [], ◌∷◌, ◌++◌, Option, length, take, map, refl, ap, sym, subst, ◌∙◌, append-nil, length-append, arith}
 use Rattle.alta_console.specs.Giving.{AllGiven}
 use Rattle.alta_console.specs.Lines.{whole, whole_from, begun, begun_from, last_piece}
 use Rattle.alta_console.specs.Replies.{joined}
@@ -12,20 +12,24 @@ use Rattle.alta_console.proofs.ReplyLaws.{joined_append}
 use Rattle.alta_console.proofs.RunLaws.{given_takes_none, given_ends_none, given_takes_at, ended_append, takes_in, takes_later, within_all, open_lines, ended_lines, lines_past, taken_on}
 use Rattle.alta_disk.specs.Disk.{DiskState, LeavesOnly, IsLawful}
 use Rattle.alta_meta.specs.declared.document.State.{State}
-use Rattle.alta_session.specs.Agreement.{AgreesOn}
+use Rattle.alta_session.specs.Agreement.{AgreesOn, room_in}
 use Rattle.alta_session.specs.Fed.{Fed, FedFrom}
+use Rattle.alta_session.specs.Fullness.{records_bytes, IsFullOnly, IsFullExactly}
 use Rattle.alta_session.specs.Going.{Goes, GoingFrom}
 use Rattle.alta_session.specs.Keeping.{clip}
 use Rattle.alta_session.specs.Machine.{after, replies}
 use Rattle.alta_session.specs.Progress.{StandsAfterSome, Progress, StopsWithin, StopsWithinFrom}
 use Rattle.alta_session.specs.Run.{AnswersInTime, Runs, RunsFrom}
+use Rattle.alta_session.specs.Status.{EndsLine}
 use Rattle.alta_session.specs.declared.session.Session.{Session}
 use Rattle.alta_session.specs.declared.status.Status.{Status}
-use Rattle.alta_session.specs.declared.status.Status.TheVariants.{Done, TooLong}
+use Rattle.alta_session.specs.declared.status.Status.TheVariants.{Done, Full, TooLong}
 use Rattle.alta_session.proofs.FedLaws.{leaves_on, leaves_none, fed_clip, stops_clip, stops_none, stops_full}
+use Rattle.alta_session.proofs.FullnessLaws.{records_append, full_on, full_exactly}
 use Rattle.alta_session.proofs.KeepingLaws.{whole_from_clip, begun_from_clip, last_piece_clip}
 use Rattle.alta_session.proofs.MachineLaws.{after_append, replies_append}
 use Rattle.alta_session.proofs.ProgressLaws.{progress_begins, progress_acked, progress_on, progress_full}
+use Rattle.alta_session.proofs.StatusLaws.{ends_not_done, ends_not_long}
 use Rattle.alta_store.proofs.Agreements.{images_stand}
 
 -- A run that was in time goes on by a take, and then by gives: it is in time where all was answered before the take.
@@ -41,9 +45,10 @@ in_time_on s run event gives before now given k t =
     at_event (suc j) t = absurd (given_takes_at gives j given (takes_later event gives j t))
 
 -- what a run from a state keeps
-runs_from : (limit : ℕ) (d e : DiskState) (run : List Event) (status : Status) (s : State) → AnswersInTime s run → Progress s (lines_in limit run) (given_in run) e.images
-    → (status ≡ Done → (has_ended run ≡ true) × (given_in run ≡ joined (replies s (lines_in limit run)))) → LeavesOnly (StandsAfterSome s (lines_in limit run)) d e → RunsFrom limit d e run status s
-runs_from limit d e run status s time p done leaves = record {
+runs_from : (limit : ℕ) (d e : DiskState) (session : Session) (run : List Event) (status : Status) (s : State) → AnswersInTime s run → Progress s (lines_in limit run) (given_in run) e.images
+    → (status ≡ Done → (has_ended run ≡ true) × (given_in run ≡ joined (replies s (lines_in limit run)))) → LeavesOnly (StandsAfterSome s (lines_in limit run)) d e
+    → IsFullExactly (room_in session) s (lines_in limit run) (given_in run) status → RunsFrom limit d e session run status s
+runs_from limit d e session run status s time p done leaves full = record {
   replies = record {
     begin = progress_begins s (lines_in limit run) (given_in run) e.images p;
     all = done;
@@ -57,27 +62,38 @@ runs_from limit d e run status s time p done leaves = record {
     };
     ever = leaves;
   };
+  full = full;
 }
+
+-- it ended in answering a line, or all that came before fitted too
+ends_on : (room later : ℕ) (s : State) (xs ys : List (List ℕ)) (status : Status) → later + records_bytes s xs ≡ room → EndsLine status ⊎ (records_bytes (after s xs) ys ≤ later) → EndsLine status ⊎ (records_bytes s (xs ++ ys) ≤ room)
+ends_on room later s xs ys status fit (inl ends) = inl ends
+ends_on room later s xs ys status fit (inr more) = inr (omega (arith, fit, more, records_append s xs ys))
 
 -- a run that goes on, then a take, and then gives
 given_on : (run gives : List Event) (event : Event) (given : List ℕ) → given_in (event ∷ []) ≡ [] → given_in gives ≡ given → given_in (run ++ event ∷ gives) ≡ given_in run ++ given
 given_on run gives event given none is =
     given_in_append run (event ∷ gives) ∙ ap (λ (l : List ℕ). given_in run ++ l) (given_in_append (event ∷ []) gives ∙ ap (λ (l : List ℕ). l ++ given_in gives) none ∙ is)
 
-after_from : (tells : Type 0) (limit : ℕ) (d e f : DiskState) (s1 : Session) (run gives : List Event) (event : Event) (given : List ℕ) (later : List (List ℕ)) (status : Status) (s : State) → GoingFrom tells d e s1 run s
-    → StopsWithinFrom e f later given (after s (whole (taken_in run))) → AllGiven gives → given_in gives ≡ given → given_in (event ∷ []) ≡ [] → lines_in limit (run ++ event ∷ gives) ≡ whole (taken_in run) ++ later
-    → (status ≡ Done → (has_ended (run ++ event ∷ gives) ≡ true) × (given ≡ joined (replies (after s (whole (taken_in run))) later))) → RunsFrom limit d f (run ++ event ∷ gives) status s
-after_from tells limit d e f s1 run gives event given later status s going stops all_given gave none lines done =
+after_from : (tells : Type 0) (limit : ℕ) (d e f : DiskState) (s0 s1 : Session) (run gives : List Event) (event : Event) (given : List ℕ) (later : List (List ℕ)) (status : Status) (s : State) → GoingFrom tells d e s0 s1 run s
+    → StopsWithinFrom e f s1 later given status (after s (whole (taken_in run))) → AllGiven gives → given_in gives ≡ given → given_in (event ∷ []) ≡ [] → lines_in limit (run ++ event ∷ gives) ≡ whole (taken_in run) ++ later
+    → (status ≡ Done → (has_ended (run ++ event ∷ gives) ≡ true) × (given ≡ joined (replies (after s (whole (taken_in run))) later)))
+    → EndsLine status ⊎ (records_bytes (after s (whole (taken_in run))) later ≤ room_in s1) → RunsFrom limit d f s0 (run ++ event ∷ gives) status s
+after_from tells limit d e f s0 s1 run gives event given later status s going stops all_given gave none lines done ends =
     let before : List (List ℕ) = whole (taken_in run) in
     let now : List Event = run ++ event ∷ gives in
     let given_is : given_in now ≡ joined (replies s before) ++ given = given_on run gives event given none gave ∙ ap (λ (l : List ℕ). l ++ given) going.given_is in
     let P : List (List ℕ) → Type 0 = λ l. Progress s l (given_in now) f.images in
     let Q : List ℕ → Type 0 = λ l. Progress s (before ++ later) l f.images in
     let R : List (List ℕ) → Type 0 = λ l. LeavesOnly (StandsAfterSome s l) d f in
-    runs_from limit d f now status s (in_time_on s run event gives going.in_time going.given_is all_given)
+    let F : List (List ℕ) → Type 0 = λ l. IsFullExactly (room_in s0) s l (given_in now) status in
+    let G : List ℕ → Type 0 = λ l. IsFullOnly (room_in s0) s (before ++ later) l status in
+    runs_from limit d f s0 now status s (in_time_on s run event gives going.in_time going.given_is all_given)
     (subst P (sym lines) (subst Q (sym given_is) (progress_on s before later given f.images stops.progress)))
     (λ is. ((done is).0, given_is ∙ ap (λ (l : List ℕ). joined (replies s before) ++ l) (done is).1 ∙ sym (joined_append (replies s before) (replies (after s before) later)) ∙ ap joined (sym (replies_append s before later) ∙ ap (λ (l : List (List ℕ)). replies s l) (sym lines))))
     (subst R (sym lines) (leaves_on d e f s before later going.images stops.images))
+    (subst F (sym lines) (full_exactly (room_in s0) s (before ++ later) (given_in now) status
+    (subst G (sym given_is) (full_on (room_in s0) (room_in s1) s before later given status going.room stops.full)) (ends_on (room_in s0) (room_in s1) s before later status going.room ends)))
 
 -- at the start
 pub goes_none : (tells : Type 0) (limit : ℕ) (told : Option (List Event)) (left : Option (List ℕ)) (d : DiskState) (session : Session) → IsLawful tells d → Goes tells limit told told left left d d session session [] 0
@@ -89,7 +105,7 @@ goes_none tells limit told left d session lawful = record {
   within = omega arith;
   kept_is = refl;
   not_ended = refl;
-  each = λ s tell agrees. record { given_is = refl; in_time = λ k t. absurd t; agrees = agrees; images = leaves_none tells d session s [] lawful agrees };
+  each = λ s tell agrees. record { given_is = refl; in_time = λ k t. absurd t; agrees = agrees; images = leaves_none tells d session s [] lawful agrees; room = omega arith };
 }
 
 same_whole : (kept bytes piece : List ℕ) → clip kept ≡ clip (begun bytes) → map clip (whole_from kept piece) ≡ map clip (whole_from (begun bytes) piece)
@@ -129,8 +145,8 @@ goes_on tells limit a b c d la lb lc ld e f h s0 s1 s2 kept kept_now taken piece
       kept_is = kept_is ∙ begun_from_clip kept (begun bytes) piece goes.kept_is ∙ ap clip (sym (ap begun taken_now ∙ begun_from_append [] bytes piece));
       not_ended = ended_append run (Taken piece ∷ gives) goes.not_ended ∙ given_ends_none gives fed_now.gave.2;
       each = λ s tell agrees.
-          let one : GoingFrom tells e f s1 run s = goes.each s tell agrees in
-          let two : FedFrom tells f h s2 later fed_now.given (after s (whole bytes)) = fed_now.each (after s (whole bytes)) tell one.agrees in
+          let one : GoingFrom tells e f s0 s1 run s = goes.each s tell agrees in
+          let two : FedFrom tells f h s1 s2 later fed_now.given (after s (whole bytes)) = fed_now.each (after s (whole bytes)) tell one.agrees in
           record {
             given_is = given_on run gives (Taken piece) fed_now.given refl fed_now.gave.3 ∙ ap (λ (l : List ℕ). l ++ fed_now.given) one.given_is
                 ∙ ap (λ (l : List ℕ). joined (replies s (whole bytes)) ++ l) two.given_is ∙ sym (joined_append (replies s (whole bytes)) (replies (after s (whole bytes)) later))
@@ -138,17 +154,18 @@ goes_on tells limit a b c d la lb lc ld e f h s0 s1 s2 kept kept_now taken piece
             in_time = in_time_on s run (Taken piece) gives one.in_time one.given_is fed_now.gave.2;
             agrees = subst (λ (t : State). AgreesOn tells h s2 t) (sym (after_append s (whole bytes) later) ∙ ap (λ (l : List (List ℕ)). after s l) (sym lines)) two.agrees;
             images = subst (λ (l : List (List ℕ)). LeavesOnly (StandsAfterSome s l) e h) (sym lines) (leaves_on e f h s (whole bytes) later one.images two.images);
+            room = omega (arith, one.room, two.room, records_append s (whole bytes) later, ap (λ (l : List (List ℕ)). records_bytes s l) lines);
           };
     }
 
 -- and of them some were answered
 pub runs_stopped : (tells : Type 0) (limit : ℕ) (a b c d : Option (List Event)) (la lb lc ld : Option (List ℕ)) (e f h : DiskState) (s0 s1 : Session) (kept : List ℕ) (taken : ℕ) (piece : List ℕ) (status : Status) → Goes tells limit a b la lb e f s0 s1 kept taken → Grows b c (Taken piece ∷ []) → Consumes lb lc piece
-    → StopsWithin tells c d f h s1 (whole_from kept piece) → ld ≡ lc → taken + length piece ≤ limit → (status ≡ Done → ⊥) → (status ≡ TooLong → ⊥) → Runs tells limit a d la ld e h s0 status
-runs_stopped tells limit a b c d la lb lc ld e f h s0 s1 kept taken piece status goes took more stops_kept same fits not_done not_long =
+    → StopsWithin tells c d f h s1 (whole_from kept piece) status → ld ≡ lc → taken + length piece ≤ limit → EndsLine status → Runs tells limit a d la ld e h s0 status
+runs_stopped tells limit a b c d la lb lc ld e f h s0 s1 kept taken piece status goes took more stops_kept same fits ends =
     let run : List Event = goes.run in
     let bytes : List ℕ = taken_in run in
     let later : List (List ℕ) = whole_from (begun bytes) piece in
-    let stops : StopsWithin tells c d f h s1 later = stops_clip tells c d f h s1 (whole_from kept piece) later (same_whole kept bytes piece goes.kept_is) stops_kept in
+    let stops : StopsWithin tells c d f h s1 later status = stops_clip tells c d f h s1 (whole_from kept piece) later status (same_whole kept bytes piece goes.kept_is) stops_kept in
     let gives : List Event = stops.gave.0 in
     let now : List Event = run ++ Taken piece ∷ gives in
     let taken_now : taken_in now ≡ bytes ++ piece = taken_on run gives piece stops.gave.2 in
@@ -159,9 +176,9 @@ runs_stopped tells limit a b c d la lb lc ld e f h s0 s1 kept taken piece status
       run = now;
       grew = grew_on a b c d run gives (Taken piece) goes.grew took stops.gave.1;
       read = read_on la lb lc ld run gives (Taken piece) piece goes.read more same taken_now;
-      too_long = (λ long. absurd (not_long long), λ past. absurd (omega arith));
-      each = λ s tell agrees. let one : GoingFrom tells e f s1 run s = goes.each s tell agrees in
-          after_from tells limit e f h s1 run gives (Taken piece) stops.given later status s one (stops.each (after s (whole bytes)) tell one.agrees) stops.gave.2 stops.gave.3 refl lines (λ done. absurd (not_done done));
+      too_long = (λ long. absurd (ends_not_long status ends long), λ past. absurd (omega arith));
+      each = λ s tell agrees. let one : GoingFrom tells e f s0 s1 run s = goes.each s tell agrees in
+          after_from tells limit e f h s0 s1 run gives (Taken piece) stops.given later status s one (stops.each (after s (whole bytes)) tell one.agrees) stops.gave.2 stops.gave.3 refl lines (λ done. absurd (ends_not_done status ends done)) (inl ends);
     }
 
 -- a piece passed the limit
@@ -172,7 +189,7 @@ runs_past tells limit a b c la lb lc e f s0 s1 kept taken piece lawful goes took
     let run : List Event = goes.run in
     let bytes : List ℕ = taken_in run in
     let now : List Event = run ++ Taken piece ∷ [] in
-    let stops : StopsWithin tells c c f f s1 [] = stops_none tells c f s1 [] lawful in
+    let stops : StopsWithin tells c c f f s1 [] TooLong = stops_none tells c f s1 [] TooLong lawful (λ need gap is. cc) in
     let taken_now : taken_in now ≡ bytes ++ piece = taken_on run [] piece tt in
     let lines : lines_in limit now ≡ whole bytes ++ [] =
     lines_past limit run piece goes.not_ended goes.within (omega (arith, goes.taken_is)) ∙ open_lines limit run bytes goes.not_ended (within_all limit run goes.within) ∙ sym (append-nil (whole bytes)) in
@@ -181,8 +198,8 @@ runs_past tells limit a b c la lb lc e f s0 s1 kept taken piece lawful goes took
       grew = grew_on a b c c run [] (Taken piece) goes.grew took (grows_none c);
       read = read_on la lb lc lc run [] (Taken piece) piece goes.read more refl taken_now;
       too_long = (λ long. omega (arith, goes.taken_is, ap length taken_now, length-append bytes piece), λ over. refl);
-      each = λ s tell agrees. let one : GoingFrom tells e f s1 run s = goes.each s tell agrees in
-          after_from tells limit e f f s1 run [] (Taken piece) stops.given [] TooLong s one (stops.each (after s (whole bytes)) tell one.agrees) tt refl refl lines (λ done. absurd cc);
+      each = λ s tell agrees. let one : GoingFrom tells e f s0 s1 run s = goes.each s tell agrees in
+          after_from tells limit e f f s0 s1 run [] (Taken piece) stops.given [] TooLong s one (stops.each (after s (whole bytes)) tell one.agrees) tt refl refl lines (λ done. absurd cc) (inr (omega arith));
     }
 
 ended_on : (run gives : List Event) → AllGiven gives → taken_in (run ++ Ended ∷ gives) ≡ taken_in run ++ []
@@ -190,8 +207,9 @@ ended_on run gives given = taken_in_append run (Ended ∷ gives) ∙ ap (λ (l :
 
 -- the input ended, and of a last line some was answered
 ended_with : (tells : Type 0) (limit : ℕ) (a b c d : Option (List Event)) (la lb lc ld : Option (List ℕ)) (e f h : DiskState) (s0 s1 : Session) (kept : List ℕ) (taken : ℕ) (status : Status) (goes : Goes tells limit a b la lb e f s0 s1 kept taken) → Grows b c (Ended ∷ []) → Consumes lb lc []
-    → (stops : StopsWithin tells c d f h s1 (last_piece (begun (taken_in goes.run)))) → ld ≡ lc → ((s : State) → tells → AgreesOn tells f s1 s → status ≡ Done → stops.given ≡ joined (replies s (last_piece (begun (taken_in goes.run))))) → (status ≡ TooLong → ⊥) → Runs tells limit a d la ld e h s0 status
-ended_with tells limit a b c d la lb lc ld e f h s0 s1 kept taken status goes took more stops same all not_long =
+    → (stops : StopsWithin tells c d f h s1 (last_piece (begun (taken_in goes.run))) status) → ld ≡ lc → ((s : State) → tells → AgreesOn tells f s1 s → status ≡ Done → stops.given ≡ joined (replies s (last_piece (begun (taken_in goes.run))))) → (status ≡ TooLong → ⊥)
+    → ((s : State) → tells → AgreesOn tells f s1 s → EndsLine status ⊎ (records_bytes s (last_piece (begun (taken_in goes.run))) ≤ room_in s1)) → Runs tells limit a d la ld e h s0 status
+ended_with tells limit a b c d la lb lc ld e f h s0 s1 kept taken status goes took more stops same all not_long ends =
     let run : List Event = goes.run in
     let bytes : List ℕ = taken_in run in
     let later : List (List ℕ) = last_piece (begun bytes) in
@@ -207,16 +225,17 @@ ended_with tells limit a b c d la lb lc ld e f h s0 s1 kept taken status goes to
       grew = grew_on a b c d run gives Ended goes.grew took stops.gave.1;
       read = read_on la lb lc ld run gives Ended [] goes.read more same taken_now;
       too_long = (λ long. absurd (not_long long), λ past. absurd (omega arith));
-      each = λ s tell agrees. let one : GoingFrom tells e f s1 run s = goes.each s tell agrees in
-          after_from tells limit e f h s1 run gives Ended stops.given later status s one (stops.each (after s (whole bytes)) tell one.agrees) stops.gave.2 stops.gave.3 refl lines (λ done. (ended, all (after s (whole bytes)) tell one.agrees done));
+      each = λ s tell agrees. let one : GoingFrom tells e f s0 s1 run s = goes.each s tell agrees in
+          after_from tells limit e f h s0 s1 run gives Ended stops.given later status s one (stops.each (after s (whole bytes)) tell one.agrees) stops.gave.2 stops.gave.3 refl lines (λ done. (ended, all (after s (whole bytes)) tell one.agrees done))
+          (ends (after s (whole bytes)) tell one.agrees);
     }
 
 pub runs_ended : (tells : Type 0) (limit : ℕ) (a b c d : Option (List Event)) (la lb lc ld : Option (List ℕ)) (e f h : DiskState) (s0 s1 : Session) (kept : List ℕ) (taken : ℕ) (status : Status) → Goes tells limit a b la lb e f s0 s1 kept taken → Grows b c (Ended ∷ []) → Consumes lb lc []
-    → StopsWithin tells c d f h s1 (last_piece kept) → ld ≡ lc → (status ≡ Done → ⊥) → (status ≡ TooLong → ⊥) → Runs tells limit a d la ld e h s0 status
-runs_ended tells limit a b c d la lb lc ld e f h s0 s1 kept taken status goes took more stops same not_done not_long =
+    → StopsWithin tells c d f h s1 (last_piece kept) status → ld ≡ lc → EndsLine status → Runs tells limit a d la ld e h s0 status
+runs_ended tells limit a b c d la lb lc ld e f h s0 s1 kept taken status goes took more stops same ends =
     let line : List ℕ = begun (taken_in goes.run) in
-    ended_with tells limit a b c d la lb lc ld e f h s0 s1 kept taken status goes took more (stops_clip tells c d f h s1 (last_piece kept) (last_piece line) (last_same kept line goes.kept_is) stops) same
-    (λ s tell agrees done. absurd (not_done done)) not_long
+    ended_with tells limit a b c d la lb lc ld e f h s0 s1 kept taken status goes took more (stops_clip tells c d f h s1 (last_piece kept) (last_piece line) status (last_same kept line goes.kept_is) stops) same
+    (λ s tell agrees done. absurd (ends_not_done status ends done)) (ends_not_long status ends) (λ s tell agrees. inl ends)
 
 -- and all of it
 pub runs_done : (tells : Type 0) (limit : ℕ) (a b c d : Option (List Event)) (la lb lc ld : Option (List ℕ)) (e f h : DiskState) (s0 s1 s2 : Session) (kept : List ℕ) (taken : ℕ) → IsLawful tells h → Goes tells limit a b la lb e f s0 s1 kept taken → Grows b c (Ended ∷ []) → Consumes lb lc []
@@ -225,13 +244,13 @@ unfolding stops_full
 runs_done tells limit a b c d la lb lc ld e f h s0 s1 s2 kept taken lawful goes took more fed same =
     let line : List ℕ = begun (taken_in goes.run) in
     let fed_now : Fed tells c d f h s1 s2 (last_piece line) = fed_clip tells c d f h s1 s2 (last_piece kept) (last_piece line) (last_same kept line goes.kept_is) fed in
-    ended_with tells limit a b c d la lb lc ld e f h s0 s1 kept taken Done goes took more (stops_full tells c d f h s1 s2 (last_piece line) lawful fed_now) same
-    (λ s tell agrees done. (fed_now.each s tell agrees).given_is) (λ long. cc)
+    ended_with tells limit a b c d la lb lc ld e f h s0 s1 kept taken Done goes took more (stops_full tells c d f h s1 s2 (last_piece line) Done lawful (λ need gap is. cc) fed_now) same
+    (λ s tell agrees done. (fed_now.each s tell agrees).given_is) (λ long. cc) (λ s tell agrees. inr (omega (arith, (fed_now.each s tell agrees).room)))
 
 -- a take failed
-pub runs_failed : (tells : Type 0) (limit : ℕ) (a b c : Option (List Event)) (la lb lc : Option (List ℕ)) (e f : DiskState) (s0 s1 : Session) (kept : List ℕ) (taken : ℕ) (status : Status) → IsLawful tells f → Goes tells limit a b la lb e f s0 s1 kept taken → c ≡ b → lc ≡ lb → (status ≡ Done → ⊥) → (status ≡ TooLong → ⊥)
+pub runs_failed : (tells : Type 0) (limit : ℕ) (a b c : Option (List Event)) (la lb lc : Option (List ℕ)) (e f : DiskState) (s0 s1 : Session) (kept : List ℕ) (taken : ℕ) (status : Status) → IsLawful tells f → Goes tells limit a b la lb e f s0 s1 kept taken → c ≡ b → lc ≡ lb → (status ≡ Done → ⊥) → (status ≡ TooLong → ⊥) → ((need gap : ℕ) → status ≡ Full need gap → ⊥)
     → Runs tells limit a c la lc e f s0 status
-runs_failed tells limit a b c la lb lc e f s0 s1 kept taken status lawful goes same kept_input not_done not_long =
+runs_failed tells limit a b c la lb lc e f s0 s1 kept taken status lawful goes same kept_input not_done not_long not_full =
     let run : List Event = goes.run in
     let bytes : List ℕ = taken_in run in
     let lines : lines_in limit run ≡ whole bytes = open_lines limit run bytes goes.not_ended (within_all limit run goes.within) in
@@ -240,8 +259,9 @@ runs_failed tells limit a b c la lb lc e f s0 s1 kept taken status lawful goes s
       grew = subst (λ (t : Option (List Event)). Grows a t run) (sym same) goes.grew;
       read = subst (λ (l : Option (List ℕ)). Consumes la l bytes) (sym kept_input) goes.read;
       too_long = (λ long. absurd (not_long long), λ past. absurd (omega (arith, goes.within)));
-      each = λ s tell agrees. let one : GoingFrom tells e f s1 run s = goes.each s tell agrees in
-          runs_from limit e f run status s one.in_time
+      each = λ s tell agrees. let one : GoingFrom tells e f s0 s1 run s = goes.each s tell agrees in
+          runs_from limit e f s0 run status s one.in_time
           (subst (λ (l : List (List ℕ)). Progress s l (given_in run) f.images) (sym lines) (subst (λ (l : List ℕ). Progress s (whole bytes) l f.images) (sym one.given_is) (progress_full s (whole bytes) f.images (images_stand tells f s1.store (after s (whole bytes)) lawful one.agrees))))
-          (λ done. absurd (not_done done)) (subst (λ (l : List (List ℕ)). LeavesOnly (StandsAfterSome s l) e f) (sym lines) one.images);
+          (λ done. absurd (not_done done)) (subst (λ (l : List (List ℕ)). LeavesOnly (StandsAfterSome s l) e f) (sym lines) one.images)
+          (full_exactly (room_in s0) s (lines_in limit run) (given_in run) status (λ need gap is. absurd (not_full need gap is)) (inr (omega (arith, one.room, ap (λ (l : List (List ℕ)). records_bytes s l) lines))));
     }

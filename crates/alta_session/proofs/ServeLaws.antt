@@ -1,18 +1,24 @@
 -- Laws of runs that open what is on the disk.
-use Rattle.std.proofs.Common.{◌≡◌, ℕ, inl, inr, ⊎_elim, List, [], Option, refl, sym, subst, arith}
-use Rattle.alta_console.specs.Transcript.{lines_in}
+use Rattle.std.proofs.Common.{◌≡◌, ℕ, inl, inr, ⊎_elim, List, [], Option, refl, ap, sym, subst, ◌∙◌, arith}
+use Rattle.alta_console.specs.Transcript.{given_in, lines_in}
 use Rattle.alta_console.specs.declared.event.Event.{Event}
 use Rattle.alta_console.proofs.Laws.{grows_none, consumes_none}
 use Rattle.alta_disk.specs.Disk.{DiskState, Same, Passes, LeavesOnly, IsLawful}
 use Rattle.alta_disk.proofs.Moments.{leaves_then, leaves_by}
+use Rattle.alta_journal.specs.Places.{left_behind}
+use Rattle.alta_journal.specs.declared.places.TheConstants.{START_A}
+use Rattle.alta_journal.proofs.Unique.{one_reading}
 use Rattle.alta_meta.specs.declared.document.State.{State}
-use Rattle.alta_session.specs.Agreement.{AgreesOn}
+use Rattle.alta_session.specs.Agreement.{AgreesOn, room_in}
+use Rattle.alta_session.specs.Fullness.{IsFullExactly}
 use Rattle.alta_session.specs.Progress.{StandsAfterSome}
 use Rattle.alta_session.specs.Run.{Runs, Serves, Keeps}
 use Rattle.alta_session.specs.declared.session.Session.{Session}
 use Rattle.alta_session.specs.declared.status.Status.{Status}
-use Rattle.alta_session.specs.declared.status.Status.TheVariants.{Done, TooLong}
+use Rattle.alta_session.specs.declared.status.Status.TheVariants.{Done, Full, TooLong}
+use Rattle.alta_session.proofs.FullnessLaws.{full_exactly}
 use Rattle.alta_session.proofs.ProgressLaws.{some_none}
+use Rattle.alta_store.specs.Agreement.{HasRoom}
 use Rattle.alta_store.specs.Meaning.{StandsFor}
 
 -- calls that change nothing leave images of the same state
@@ -23,13 +29,14 @@ opens_only : (tells : Type 0) (d e : DiskState) (P : List ℕ → Type 0) → Is
 opens_only tells d e P lawful passes stand = leaves_by tells d e P Same lawful passes stand (λ x z here same. subst P (sym same) (stand x here))
 
 -- it was not opened
-pub serves_none : (tells : Type 0) (limit : ℕ) (told : Option (List Event)) (left : Option (List ℕ)) (d e : DiskState) (status : Status) → IsLawful tells d → Passes Same d e → (status ≡ Done → ⊥) → (status ≡ TooLong → ⊥) → Serves tells limit told told left left d e status
-serves_none tells limit told left d e status lawful passes not_done not_long = record {
+pub serves_none : (tells : Type 0) (limit : ℕ) (told : Option (List Event)) (left : Option (List ℕ)) (d e : DiskState) (status : Status) → IsLawful tells d → Passes Same d e → (status ≡ Done → ⊥) → (status ≡ TooLong → ⊥) → ((need gap : ℕ) → status ≡ Full need gap → ⊥) → Serves tells limit told told left left d e status
+serves_none tells limit told left d e status lawful passes not_done not_long not_full = record {
   run = [];
   grew = grows_none told;
   read = consumes_none left;
   too_long = (λ long. absurd (not_long long), λ past. absurd (omega arith));
   replies = λ s tell stands. record { begin = ([], refl); all = λ done. absurd (not_done done); in_time = λ k t. absurd t };
+  full = λ s room tell stands left. full_exactly room s [] [] status (λ need gap is. absurd (not_full need gap is)) (inr (omega arith));
   keeps = λ s tell stands. record {
     now = λ c here. record {
       answered = 0;
@@ -46,15 +53,24 @@ older : (tells : Type 0) (d m : DiskState) (c : List ℕ) → IsLawful tells d �
 older tells d m c lawful passes here =
     ⊎_elim (λ old. lawful.only_now c old) (λ from. subst (λ (z : List ℕ). d.images z) (sym from.2) from.1) (passes.between d.clock c (omega arith) here)
 
+-- the room of a session is what the journal of its disk has left
+room_is : (tells : Type 0) (d : DiskState) (session : Session) (s : State) (room : ℕ) → tells → AgreesOn tells d session s → HasRoom d.content room → room_in session ≡ room
+room_is tells d session s room tell agrees left =
+    let held = agrees.content tell in
+    ap (λ (place : ℕ). left_behind START_A place) (one_reading START_A session.store.tail.place left.place held.view.entries left.entries d.content held.is.journal left.journal).0 ∙ sym left.room_is
+
 -- it was opened, and then it ran
-pub serves_opened : (tells : Type 0) (limit : ℕ) (told told_now : Option (List Event)) (left left_now : Option (List ℕ)) (d m e : DiskState) (session : Session) (status : Status) → IsLawful tells d → Passes Same d m → ((s : State) → tells → StandsFor s d.content → AgreesOn tells m session s)
+pub serves_opened : (tells : Type 0) (limit : ℕ) (told told_now : Option (List Event)) (left left_now : Option (List ℕ)) (d m e : DiskState) (session : Session) (status : Status) → IsLawful tells d → Passes Same d m → ((s : State) → tells → StandsFor s d.content → AgreesOn tells m session s) → (tells → m.content ≡ d.content)
     → Runs tells limit told told_now left left_now m e session status → Serves tells limit told told_now left left_now d e status
-serves_opened tells limit told told_now left left_now d m e session status lawful passes agrees runs = record {
+serves_opened tells limit told told_now left left_now d m e session status lawful passes agrees same runs = record {
   run = runs.run;
   grew = runs.grew;
   read = runs.read;
   too_long = runs.too_long;
   replies = λ s tell stands. (runs.each s tell (agrees s tell stands)).replies;
+  full = λ s room tell stands left.
+      let P : ℕ → Type 0 = λ n. IsFullExactly n s (lines_in limit runs.run) (given_in runs.run) status in
+      subst P (room_is tells m session s room tell (agrees s tell stands) (subst (λ (c : List ℕ). HasRoom c room) (sym (same tell)) left)) (runs.each s tell (agrees s tell stands)).full;
   keeps = λ s tell stands.
       let one : Keeps limit s runs.run m e = (runs.each s tell (agrees s tell (stands.content tell))).keeps in
       let lines : List (List ℕ) = lines_in limit runs.run in

@@ -152,6 +152,16 @@ disk Taken same = absurd cc
 disk Missing same = absurd cc
 disk Numbers same = absurd cc
 
+full : (e : StoreFault) (need gap : ℕ) → status_for e ≡ Full need gap → e ≡ StoreFull need gap
+full StoreDisk need gap same = absurd cc
+full StoreMemory need gap same = absurd cc
+full (StoreDamaged place) need gap same = absurd cc
+full StoreNoRoot need gap same = absurd cc
+full (StoreFull n g) need gap same = cc
+full Taken need gap same = absurd cc
+full Missing need gap same = absurd cc
+full Numbers need gap same = absurd cc
+
 -- a status that comes from no fault of the store
 abbrev pub IsOther : Status → Type 0
 IsOther Done = Unit {0}
@@ -179,6 +189,9 @@ status_damaged r e place is same = damaged e place (sym is ∙ same)
 
 pub status_disk : (r : Status) (e : StoreFault) → r ≡ status_for e → r ≡ DiskFault → e ≡ StoreDisk
 status_disk r e is same = disk e (sym is ∙ same)
+
+pub status_full : (r : Status) (e : StoreFault) (need gap : ℕ) → r ≡ status_for e → r ≡ Full need gap → e ≡ StoreFull need gap
+status_full r e need gap is same = full e need gap (sym is ∙ same)
 
 -- the answer to a content that can't be opened yields to memory and to faults of the disk
 pub answers_status : {T : Type 0} (r : Status) (e fault : StoreFault) → r ≡ status_for e → (result : Result T StoreFault) → result ≡ Err e → AnswersFault result fault → (r ≡ status_for fault) ⊎ Yields r

@@ -1,16 +1,48 @@
--- A document that the journal has no room for.
-use Rattle.std.specs.Prelude.{◌≡◌, ℕ, ◌<◌, List, length}
-use Rattle.alta_journal.specs.Record.{body_of}
-use Rattle.alta_journal.specs.declared.entry.Entry.TheVariants.{Add}
+-- The bytes that lines take in the journal, and the first line that finds too few.
+use Rattle.std.specs.Prelude.{◌≡◌, ◌⊎◌, ℕ, ◌+◌, ◌<◌, List, [], ◌∷◌, length, take, get_or, if◌then◌else◌, nat_lt}
+use Rattle.alta_console.specs.Replies.{joined}
+use Rattle.alta_meta.specs.declared.document.State.{State}
+use Rattle.alta_session.specs.Machine.{step, after, replies}
+use Rattle.alta_session.specs.declared.status.Status.{Status}
+use Rattle.alta_session.specs.declared.status.Status.TheVariants.{DiskFault, GiveFault, Memory, Full}
 use Rattle.alta_store.specs.Agreement.{HasRoom}
-use Rattle.alta_store.specs.States.{IsDocument}
 
--- The record of a document takes `need` bytes behind its gate, and the journal of this content has only `gap` left there.
+-- the bytes of a record, where a document was added, which raises the next number, and else none
+abbrev pub bytes_if_added : ℕ → State → State → ℕ
+bytes_if_added bytes before now = if nat_lt before.next now.next then bytes else 0
+
+-- how many bytes the record of a line takes in the journal: as many as the line and nine more, where it adds a document
+unfoldable pub record_bytes : State → List ℕ → ℕ
+record_bytes s line = bytes_if_added (length line + 9) s (step s line).0
+
+-- how many the records of these lines take
+abbrev pub records_bytes : State → List (List ℕ) → ℕ
+records_bytes s [] = 0
+records_bytes s (line ∷ lines) = record_bytes s line + records_bytes (step s line).0 lines
+
+-- Of the room, the records of the first `answered` lines leave `gap` bytes, and that of the next line needs `need`,
+-- which is more.
+pub record Overflows (room : ℕ) (start : State) (lines : List (List ℕ)) (answered need gap : ℕ) : Type 0 where
+  pub within : answered < length lines
+  pub left : records_bytes start (take answered lines) + gap ≡ room
+  pub need_is : need ≡ record_bytes (after start (take answered lines)) (get_or lines answered [])
+  pub short : gap < need
+
+-- It ended with `Full` only where a line's record did not fit. The lines before were answered, and no more was given.
+abbrev pub IsFullOnly : ℕ → State → List (List ℕ) → List ℕ → Status → Type 0
+IsFullOnly room start lines given status =
+    (need gap : ℕ) → status ≡ Full need gap → (answered : ℕ) × Overflows room start lines answered need gap × (given ≡ joined (take answered (replies start lines)))
+
+-- want of memory, or a fault of the disk or of giving, which is counted
+abbrev pub IsInterrupted : Status → Type 0
+IsInterrupted status = (status ≡ Memory) ⊎ ((status ≡ DiskFault) ⊎ (status ≡ GiveFault))
+
+-- It ended with `Full` exactly where a line's record did not fit, or it was interrupted before.
+pub record IsFullExactly (room : ℕ) (start : State) (lines : List (List ℕ)) (given : List ℕ) (status : Status) : Type 0 where
+  pub only : IsFullOnly room start lines given status
+  pub always : (answered need gap : ℕ) → Overflows room start lines answered need gap → (status ≡ Full need gap) ⊎ IsInterrupted status
+
+-- The journal of this content has `gap` bytes left, which is less than `need`.
 pub record IsFull (content : List ℕ) (need gap : ℕ) : Type 0 where
-  pub name : List ℕ
-  pub title : List ℕ
-  pub body : List ℕ
-  pub document : IsDocument name title body
-  pub need_is : need ≡ length (body_of (Add name title body))
   pub room : HasRoom content gap
   pub short : gap < need

@@ -5,9 +5,11 @@ use Rattle.alta_console.specs.Replies.{joined, IsPartOfFirst}
 use Rattle.alta_console.specs.declared.event.Event.{Event}
 use Rattle.alta_disk.specs.Disk.{DiskState, LeavesOnly}
 use Rattle.alta_meta.specs.declared.document.State.{State}
-use Rattle.alta_session.specs.Agreement.{AgreesOn}
+use Rattle.alta_session.specs.Agreement.{AgreesOn, room_in}
+use Rattle.alta_session.specs.Fullness.{IsFullOnly}
 use Rattle.alta_session.specs.Machine.{after, replies}
 use Rattle.alta_session.specs.declared.session.Session.{Session}
+use Rattle.alta_session.specs.declared.status.Status.{Status}
 use Rattle.alta_store.specs.Meaning.{StandsFor}
 
 -- the image stands for the state after some of the lines, in order from the first
@@ -34,12 +36,13 @@ pub record Progress (start : State) (lines : List (List ℕ)) (given : List ℕ)
   pub started : IsPartOfFirst (drop answered (replies start lines)) part
   pub stand : (image : List ℕ) → images image → StandsAfter answered start lines image
 
--- Of lines some were answered.
-pub record StopsWithinFrom (disk disk_now : DiskState) (lines : List (List ℕ)) (given : List ℕ) (s : State) : Type 0 where
+-- Of lines some were answered, and it ended with this status.
+pub record StopsWithinFrom (disk disk_now : DiskState) (session : Session) (lines : List (List ℕ)) (given : List ℕ) (status : Status) (s : State) : Type 0 where
   pub progress : Progress s lines given disk_now.images
   pub images : LeavesOnly (StandsAfterSome s lines) disk disk_now
+  pub full : IsFullOnly (room_in session) s lines given status
 
-pub record StopsWithin (tells : Type 0) (told told_now : Option (List Event)) (disk disk_now : DiskState) (session : Session) (lines : List (List ℕ)) : Type 0 where
+pub record StopsWithin (tells : Type 0) (told told_now : Option (List Event)) (disk disk_now : DiskState) (session : Session) (lines : List (List ℕ)) (status : Status) : Type 0 where
   pub given : List ℕ
   pub gave : Gives told told_now given
-  pub each : (s : State) → tells → AgreesOn tells disk session s → StopsWithinFrom disk disk_now lines given s
+  pub each : (s : State) → tells → AgreesOn tells disk session s → StopsWithinFrom disk disk_now session lines given status s

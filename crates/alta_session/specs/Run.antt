@@ -6,12 +6,14 @@ use Rattle.alta_console.specs.Transcript.{given_in, taken_in, has_ended, lines_i
 use Rattle.alta_console.specs.declared.event.Event.{Event}
 use Rattle.alta_disk.specs.Disk.{DiskState, Each, Same, Stands, Passes, LeavesOnly}
 use Rattle.alta_meta.specs.declared.document.State.{State}
-use Rattle.alta_session.specs.Agreement.{AgreesOn}
+use Rattle.alta_session.specs.Agreement.{AgreesOn, room_in}
+use Rattle.alta_session.specs.Fullness.{IsFullExactly}
 use Rattle.alta_session.specs.Machine.{replies}
 use Rattle.alta_session.specs.Progress.{StandsAfterSome, StandsAfter}
 use Rattle.alta_session.specs.declared.session.Session.{Session}
 use Rattle.alta_session.specs.declared.status.Status.{Status}
 use Rattle.alta_session.specs.declared.status.Status.TheVariants.{Done, TooLong}
+use Rattle.alta_store.specs.Agreement.{HasRoom}
 use Rattle.alta_store.specs.Meaning.{StandsFor}
 
 -- At each take, what was given so far is the replies to the whole lines taken so far.
@@ -37,16 +39,17 @@ pub record Keeps (limit : ℕ) (start : State) (run : List Event) (disk disk_now
   pub ever : LeavesOnly (StandsAfterSome start (lines_in limit run)) disk disk_now
 
 -- The run of an open session.
-pub record RunsFrom (limit : ℕ) (disk disk_now : DiskState) (run : List Event) (status : Status) (s : State) : Type 0 where
+pub record RunsFrom (limit : ℕ) (disk disk_now : DiskState) (session : Session) (run : List Event) (status : Status) (s : State) : Type 0 where
   pub replies : Replies limit s run status
   pub keeps : Keeps limit s run disk disk_now
+  pub full : IsFullExactly (room_in session) s (lines_in limit run) (given_in run) status
 
 pub record Runs (tells : Type 0) (limit : ℕ) (told told_now : Option (List Event)) (left left_now : Option (List ℕ)) (disk disk_now : DiskState) (session : Session) (status : Status) : Type 0 where
   pub run : List Event
   pub grew : Grows told told_now run
   pub read : Consumes left left_now (taken_in run)
   pub too_long : (status ≡ TooLong) ↔ (limit < length (taken_in run))
-  pub each : (s : State) → tells → AgreesOn tells disk session s → RunsFrom limit disk disk_now run status s
+  pub each : (s : State) → tells → AgreesOn tells disk session s → RunsFrom limit disk disk_now session run status s
 
 -- no line was taken, and what the disk may hold now it might have held before
 pub record NotOpened (disk disk_now : DiskState) (run : List Event) : Type 0 where
@@ -71,6 +74,8 @@ pub record Serves (tells : Type 0) (limit : ℕ) (told told_now : Option (List E
   pub too_long : (status ≡ TooLong) ↔ (limit < length (taken_in run))
   -- where the content stands for a state
   pub replies : (s : State) → tells → StandsFor s disk.content → Replies limit s run status
+  -- and its journal has this room
+  pub full : (s : State) (room : ℕ) → tells → StandsFor s disk.content → HasRoom disk.content room → IsFullExactly room s (lines_in limit run) (given_in run) status
   -- where each image stands for a state
   pub keeps : (s : State) → tells → Stands tells disk (StandsFor s) → Keeps limit s run disk disk_now
   -- where the content does, whatever was pending

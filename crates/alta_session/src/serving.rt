@@ -41,7 +41,7 @@ fn answer<C: Console, D: Disk>(
     requires agrees { AgreesOnSome D.tells (D.state disk.old) session.old }
     requires limit { 2105344 ≤ (D.state disk.old).limit }
     ensures ok { OnOk result (Fed D.tells (C.told console.old) (C.told console.new) (D.state disk.old) (D.state disk.new) session.old session.new (line.now ∷ [])) }
-    ensures err { OnErr result (StopsWithin D.tells (C.told console.old) (C.told console.new) (D.state disk.old) (D.state disk.new) session.old (line.now ∷ [])) }
+    ensures err { IfErr result (StopsWithin D.tells (C.told console.old) (C.told console.new) (D.state disk.old) (D.state disk.new) session.old (line.now ∷ [])) }
     ensures some { OnOk result (AgreesOnSome D.tells (D.state disk.new) session.new) }
     ensures sound { OnOk result (IsSound session.new) }
     ensures ends { IfErr result EndsLine }
@@ -93,7 +93,7 @@ fn end_line<C: Console, D: Disk>(
     requires agrees { AgreesOnSome D.tells (D.state disk.old) session.old }
     requires limit { 2105344 ≤ (D.state disk.old).limit }
     ensures ok { OnOk result (Fed D.tells (C.told console.old) (C.told console.new) (D.state disk.old) (D.state disk.new) session.old session.new ((begun.old.items ++ rest.now) ∷ [])) }
-    ensures err { OnErr result (StopsWithin D.tells (C.told console.old) (C.told console.new) (D.state disk.old) (D.state disk.new) session.old ((begun.old.items ++ rest.now) ∷ [])) }
+    ensures err { IfErr result (StopsWithin D.tells (C.told console.old) (C.told console.new) (D.state disk.old) (D.state disk.new) session.old ((begun.old.items ++ rest.now) ∷ [])) }
     ensures none_begun { OnOk result (begun.new.items ≡ []) }
     ensures some { OnOk result (AgreesOnSome D.tells (D.state disk.new) session.new) }
     ensures sound { OnOk result (IsSound session.new) }
@@ -143,7 +143,7 @@ fn feed_line<C: Console, D: Disk>(
     ensures more { IfOk result (λ n. 0 < n) }
     ensures ok { IfOk result (λ n. Fed D.tells (C.told console.old) (C.told console.new) (D.state disk.old) (D.state disk.new) session.old session.new (whole_from begun.old.items (take n bytes.now))) }
     ensures begun { IfOk result (λ n. clip begun.new.items ≡ clip (begun_from begun.old.items (take n bytes.now))) }
-    ensures err { OnErr result (StopsWithin D.tells (C.told console.old) (C.told console.new) (D.state disk.old) (D.state disk.new) session.old (whole_from begun.old.items bytes.now)) }
+    ensures err { IfErr result (StopsWithin D.tells (C.told console.old) (C.told console.new) (D.state disk.old) (D.state disk.new) session.old (whole_from begun.old.items bytes.now)) }
     ensures short { OnOk result (length begun.new.items ≤ 65536) }
     ensures free { OnOk result (NoNewline begun.new.items) }
     ensures some { OnOk result (AgreesOnSome D.tells (D.state disk.new) session.new) }
@@ -186,7 +186,7 @@ fn feed<C: Console, D: Disk>(
     requires limit { 2105344 ≤ (D.state disk.old).limit }
     ensures ok { OnOk result (Fed D.tells (C.told console.old) (C.told console.new) (D.state disk.old) (D.state disk.new) session.old session.new (whole_from begun.old.items piece.now)) }
     ensures begun { OnOk result (clip begun.new.items ≡ clip (begun_from begun.old.items piece.now)) }
-    ensures err { OnErr result (StopsWithin D.tells (C.told console.old) (C.told console.new) (D.state disk.old) (D.state disk.new) session.old (whole_from begun.old.items piece.now)) }
+    ensures err { IfErr result (StopsWithin D.tells (C.told console.old) (C.told console.new) (D.state disk.old) (D.state disk.new) session.old (whole_from begun.old.items piece.now)) }
     ensures short { OnOk result (length begun.new.items ≤ 65536) }
     ensures free { OnOk result (NoNewline begun.new.items) }
     ensures some { OnOk result (AgreesOnSome D.tells (D.state disk.new) session.new) }
@@ -224,7 +224,7 @@ fn finish<C: Console, D: Disk>(
     requires agrees { AgreesOnSome D.tells (D.state disk.old) session.old }
     requires limit { 2105344 ≤ (D.state disk.old).limit }
     ensures ok { OnOk result (Fed D.tells (C.told console.old) (C.told console.new) (D.state disk.old) (D.state disk.new) session.old session.new (last_piece begun.now)) }
-    ensures err { OnErr result (StopsWithin D.tells (C.told console.old) (C.told console.new) (D.state disk.old) (D.state disk.new) session.old (last_piece begun.now)) }
+    ensures err { IfErr result (StopsWithin D.tells (C.told console.old) (C.told console.new) (D.state disk.old) (D.state disk.new) session.old (last_piece begun.now)) }
     ensures ends { IfErr result EndsLine }
     ensures full { (need gap : ℕ) → D.tells → result ≡ Err (Status.Full need gap) → IsFull (D.state disk.new).content need gap }
     ensures give_fault { result ≡ Err Status.GiveFault → Rose (C.give_faults console.old) (C.give_faults console.new) }
@@ -300,7 +300,8 @@ fn answer_lines<C: Console, D: Disk>(
 /// It ends with `Done` where the input was read to its end and every reply was given, `TooLong` where more bytes were
 /// taken than the limit, `DiskFault`, `TakeFault` or `GiveFault` where such a call failed, `Memory` where there was no
 /// memory, `NoRoot` where the disk has no index, `Damaged` where the index breaks a rule of the format, with the first
-/// place that shows it, and `Full` where what a line has to write does not fit on the disk.
+/// place that shows it, and `Full` where the record of a line that adds a document does not fit in what the journal has
+/// left behind the lines before it: with the bytes of that record, which are the line's and nine more, and those left.
 pub fn serve<C: Console, D: Disk>(
     alloc: Global,
     console: &mut C,

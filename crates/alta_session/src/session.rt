@@ -1,13 +1,15 @@
 // A session: a line changes the state, and has a reply.
-ghost use Rattle.std.specs.Prelude.{◌≡◌, ◌⊎◌, ◌≤◌, ◌++◌, ℕ, codes, decimal, Result, Ok, Err, IfOk, IfErr, OnOk, OnErr, IsTrue, ◌↔◌};
+ghost use Rattle.std.specs.Prelude.{◌≡◌, ◌⊎◌, ◌+◌, ◌≤◌, ◌++◌, ℕ, length, codes, decimal, Result, Ok, Err, IfOk, IfErr, OnOk, OnErr, IsTrue, ◌↔◌};
 ghost use Rattle.alta_codec.specs.Faults.{Rose};
 ghost use Rattle.alta_codec.specs.Name.{IsName};
 ghost use Rattle.alta_console.specs.Lines.{NoNewline};
 ghost use Rattle.alta_disk.specs.Disk.{DiskState, Same, Passes, LeavesOnly};
+ghost use Rattle.alta_journal.specs.Record.{body_of};
+ghost use Rattle.alta_journal.specs.declared.entry.Entry.TheVariants.{Add};
 ghost use Rattle.alta_meta.specs.declared.document.State.{State};
-ghost use Rattle.alta_session.specs.Agreement.{AgreesOn, AgreesOnSome, IsSound};
+ghost use Rattle.alta_session.specs.Agreement.{AgreesOn, AgreesOnSome, IsSound, room_in};
 ghost use Rattle.alta_session.specs.Asking.{Asks};
-ghost use Rattle.alta_session.specs.Fullness.{IsFull};
+ghost use Rattle.alta_session.specs.Fullness.{IsFull, bytes_if_added, record_bytes};
 ghost use Rattle.alta_session.specs.Machine.{step, adding, IsRefusal};
 ghost use Rattle.alta_store.specs.Answers.{IsOutside, AnswersFault};
 ghost use Rattle.alta_store.specs.Brokenness.{HasNoIndex, IsBrokenAt};
@@ -70,8 +72,9 @@ impl Session {
     ///
     /// # Errors
     ///
-    /// `Disk` where a call of the disk failed. `Memory` where there is no memory. `Full` where what has to be written
-    /// does not fit on the disk. Then the index is as before the line or as after it, and the session is not sound.
+    /// `Disk` where a call of the disk failed. `Memory` where there is no memory. `Full` where the record of the line does
+    /// not fit in the journal: with the bytes of that record, which are the line's and nine more, and those left. Then the
+    /// index is as before the line or as after it, and the session is not sound.
     pub fn line<D: Disk>(
         &mut self,
         alloc: Global,
@@ -92,6 +95,8 @@ impl Session {
         ensures unchanged { (s : State) → D.tells → AgreesOn D.tells (D.state disk.old) self.old s → IsRefusal (step s line.now).1 → disk.new ≡ disk.old }
         ensures only { IfErr result (λ e. IsOutside e ⊎ ((need gap : ℕ) × (e ≡ StoreFault.Full need gap))) }
         ensures full { (need gap : ℕ) → D.tells → result ≡ Err (StoreFault.Full need gap) → IsFull (D.state disk.new).content need gap }
+        ensures need { (s : State) → (need gap : ℕ) → D.tells → AgreesOn D.tells (D.state disk.old) self.old s → result ≡ Err (StoreFault.Full need gap) → (need ≡ record_bytes s line.now) × (gap ≡ room_in self.old) }
+        ensures room { (s : State) → D.tells → AgreesOn D.tells (D.state disk.old) self.old s → OnOk result (room_in self.new + record_bytes s line.now ≡ room_in self.old) }
         ensures cause { result ≡ Err StoreFault.Disk → Rose (D.state disk.old).faults (D.state disk.new).faults }
         ensures faults { (D.state disk.old).faults ≤ (D.state disk.new).faults }
         ensures same_limit { (D.state disk.new).limit ≡ (D.state disk.old).limit }
@@ -125,6 +130,8 @@ impl Session {
         ensures unchanged { (s : State) → D.tells → AgreesOn D.tells (D.state disk.old) self.old s → IsRefusal (step s line.now).1 → disk.new ≡ disk.old }
         ensures only { IfErr result (λ e. IsOutside e ⊎ ((need gap : ℕ) × (e ≡ StoreFault.Full need gap))) }
         ensures full { (need gap : ℕ) → D.tells → result ≡ Err (StoreFault.Full need gap) → IsFull (D.state disk.new).content need gap }
+        ensures need { (s : State) → (need gap : ℕ) → D.tells → AgreesOn D.tells (D.state disk.old) self.old s → result ≡ Err (StoreFault.Full need gap) → (need ≡ record_bytes s line.now) × (gap ≡ room_in self.old) }
+        ensures room { (s : State) → D.tells → AgreesOn D.tells (D.state disk.old) self.old s → OnOk result (room_in self.new + record_bytes s line.now ≡ room_in self.old) }
         ensures cause { result ≡ Err StoreFault.Disk → Rose (D.state disk.old).faults (D.state disk.new).faults }
         ensures faults { (D.state disk.old).faults ≤ (D.state disk.new).faults }
         ensures same_limit { (D.state disk.new).limit ≡ (D.state disk.old).limit }
@@ -157,6 +164,8 @@ impl Session {
         ensures unchanged { (s : State) → D.tells → AgreesOn D.tells (D.state disk.old) self.old s → IsRefusal (adding name.now title.now body.now s).1 → disk.new ≡ disk.old }
         ensures only { IfErr result (λ e. IsOutside e ⊎ ((need gap : ℕ) × (e ≡ StoreFault.Full need gap))) }
         ensures full { (need gap : ℕ) → D.tells → result ≡ Err (StoreFault.Full need gap) → IsFull (D.state disk.new).content need gap }
+        ensures need { (s : State) → (need gap : ℕ) → D.tells → AgreesOn D.tells (D.state disk.old) self.old s → result ≡ Err (StoreFault.Full need gap) → (need ≡ bytes_if_added (length (body_of (Add name.now title.now body.now))) s (adding name.now title.now body.now s).0) × (gap ≡ room_in self.old) }
+        ensures room { (s : State) → D.tells → AgreesOn D.tells (D.state disk.old) self.old s → OnOk result (room_in self.new + bytes_if_added (length (body_of (Add name.now title.now body.now))) s (adding name.now title.now body.now s).0 ≡ room_in self.old) }
         ensures cause { result ≡ Err StoreFault.Disk → Rose (D.state disk.old).faults (D.state disk.new).faults }
         ensures faults { (D.state disk.old).faults ≤ (D.state disk.new).faults }
         ensures same_limit { (D.state disk.new).limit ≡ (D.state disk.old).limit }

@@ -1,4 +1,4 @@
-use Rattle.std.proofs.Common.{◌≡◌, ◌≤◌, ◌+◌, List, ℕ, Option, [], length, take, sym, subst, rules, arith}
+use Rattle.std.proofs.Common.{◌≡◌, ◌≤◌, ◌+◌, ◌∙◌, List, ℕ, Option, [], length, take, ap, sym, subst, Err, rules, arith}
 use Rattle.std.proofs.lemmas.List.{length-take}
 use Rattle.alta_console.specs.Lines.{last_piece}
 use Rattle.alta_console.specs.Transcript.{Consumes}
@@ -6,7 +6,6 @@ use Rattle.alta_session.specs.Fed.{Fed}
 use Rattle.alta_session.specs.Going.{Goes}
 use Rattle.alta_session.specs.Progress.{StopsWithin}
 use Rattle.alta_session.proofs.RunLaws.{goes_none, goes_on, runs_stopped, runs_failed, runs_past, runs_done, runs_ended}
-use Rattle.alta_session.proofs.StatusLaws.{ends_not_done, ends_not_long}
 use Rattle.alta_session.proofs.serving.answer_lines.Goals as goal
 
 long : (n : ℕ) (bytes : List ℕ) → n ≤ length bytes → length (take n bytes) ≡ n
@@ -33,7 +32,7 @@ takes-init g c =
 
 pub returns-in-Err-clause-run : goal.returns-in-Err-clause-run
 returns-in-Err-clause-run g c =
-    runs_failed g.D.Disk.tells c.args.limit _ _ _ _ _ _ _ _ _ c.takes.session c.takes.begun.items c.takes.taken _ (g.met.D.Disk.lawful c.takes.disk) c.takes.invariant.goes c.in-Err.ensures.not_told c.in-Err.ensures.input_kept (λ same. cc) (λ same. cc)
+    runs_failed g.D.Disk.tells c.args.limit _ _ _ _ _ _ _ _ _ c.takes.session c.takes.begun.items c.takes.taken _ (g.met.D.Disk.lawful c.takes.disk) c.takes.invariant.goes c.in-Err.ensures.not_told c.in-Err.ensures.input_kept (λ same. cc) (λ same. cc) (λ need gap same. cc)
 
 pub returns-in-Ok-finish-clause-run : goal.returns-in-Ok-finish-clause-run
 returns-in-Ok-finish-clause-run g c =
@@ -43,9 +42,9 @@ returns-in-Ok-finish-clause-run g c =
 
 pub returns-in-Err-finish-clause-run : goal.returns-in-Err-finish-clause-run
 returns-in-Err-finish-clause-run g c =
-    let P : List ℕ → Type 0 = λ line. StopsWithin g.D.Disk.tells (g.C.Console.told c.take.new.self) (g.C.Console.told c.finish.new.console) (g.D.Disk.state c.takes.disk) (g.D.Disk.state c.finish.new.disk) c.takes.session (last_piece line) in
+    let P : List ℕ → Type 0 = λ line. StopsWithin g.D.Disk.tells (g.C.Console.told c.take.new.self) (g.C.Console.told c.finish.new.console) (g.D.Disk.state c.takes.disk) (g.D.Disk.state c.finish.new.disk) c.takes.session (last_piece line) c.in-Err-finish.status in
     runs_ended g.D.Disk.tells c.args.limit _ _ _ _ _ _ _ _ _ _ _ _ c.takes.session c.takes.begun.items c.takes.taken c.in-Err-finish.status c.takes.invariant.goes (c.in-Ok.ensures.ended c.if-n-eq0.true)
-    (none _ _ c.in-Ok.n c.take.new.buf c.if-n-eq0.true c.in-Ok.ensures.input) (subst P c.deref.ensures.value c.in-Err-finish.ensures.err) c.finish.ensures.input_kept (ends_not_done c.in-Err-finish.status c.in-Err-finish.ensures.ends) (ends_not_long c.in-Err-finish.status c.in-Err-finish.ensures.ends)
+    (none _ _ c.in-Ok.n c.take.new.buf c.if-n-eq0.true c.in-Ok.ensures.input) (subst P c.deref.ensures.value c.in-Err-finish.ensures.err) c.finish.ensures.input_kept c.in-Err-finish.ensures.ends
 
 pub returns-then-n-limit-clause-run : goal.returns-then-n-limit-clause-run
 returns-then-n-limit-clause-run g c =
@@ -79,4 +78,10 @@ returns-in-Err-feed-clause-run g c =
     let piece : List ℕ = take c.in-Ok.n buffer in
     let is : length piece ≡ c.in-Ok.n = long c.in-Ok.n buffer c.in-Ok.ensures.within in
     runs_stopped g.D.Disk.tells c.args.limit _ _ _ _ _ _ _ _ _ _ _ _ c.takes.session c.takes.begun.items c.takes.taken piece c.in-Err-feed.status c.takes.invariant.goes (c.in-Ok.ensures.taken (omega arith)) c.in-Ok.ensures.input
-    c.in-Err-feed.ensures.err c.feed.ensures.input_kept (omega arith) (ends_not_done c.in-Err-feed.status c.in-Err-feed.ensures.ends) (ends_not_long c.in-Err-feed.status c.in-Err-feed.ensures.ends)
+    c.in-Err-feed.ensures.err c.feed.ensures.input_kept (omega arith) c.in-Err-feed.ensures.ends
+
+pub returns-in-Err-finish-clause-full : goal.returns-in-Err-finish-clause-full
+returns-in-Err-finish-clause-full g c = λ need gap tell is. c.finish.ensures.full need gap tell (c.in-Err-finish.is ∙ ap Err is)
+
+pub returns-in-Err-feed-clause-full : goal.returns-in-Err-feed-clause-full
+returns-in-Err-feed-clause-full g c = λ need gap tell is. c.feed.ensures.full need gap tell (c.in-Err-feed.is ∙ ap Err is)

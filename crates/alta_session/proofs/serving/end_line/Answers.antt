@@ -1,12 +1,13 @@
-use Rattle.std.proofs.Common.{List, ℕ, [], ◌∷◌, ◌++◌, ap, sym, subst, ◌∙◌}
+use Rattle.std.proofs.Common.{◌≡◌, List, ℕ, [], ◌∷◌, ◌++◌, ap, sym, subst, ◌∙◌}
 use Rattle.alta_console.specs.Lines.{NoNewline}
 use Rattle.alta_session.specs.Keeping.{clip}
+use Rattle.alta_session.specs.declared.status.Status.TheVariants.{Memory}
 use Rattle.alta_session.proofs.FedLaws.{fed_clip, stops_clip, stops_none}
 use Rattle.alta_session.proofs.KeepingLaws.{clip_clip, free_clip, free_append}
 use Rattle.alta_session.proofs.serving.end_line.Goals as goal
 
 pub returns-in-Err-clause-err : goal.returns-in-Err-clause-err
-returns-in-Err-clause-err g c = stops_none g.D.Disk.tells (g.C.Console.told c.args.console.now) (g.D.Disk.state c.args.disk.now) c.args.session.now _ (g.met.D.Disk.lawful c.args.disk.now)
+returns-in-Err-clause-err g c = stops_none g.D.Disk.tells (g.C.Console.told c.args.console.now) (g.D.Disk.state c.args.disk.now) c.args.session.now _ c.in-Err.status (g.met.D.Disk.lawful c.args.disk.now) (λ need gap is. let memory : c.in-Err.status ≡ Memory = c.in-Err.ensures.memory in cc)
 
 pub answer-requires-2-clause-one_line : goal.answer-requires-2-clause-one_line
 answer-requires-2-clause-one_line g c =
@@ -20,4 +21,4 @@ returns-in-Ok-answer-clause-ok g c =
 pub returns-in-Err-answer-clause-err : goal.returns-in-Err-answer-clause-err
 returns-in-Err-answer-clause-err g c =
     let line : List ℕ = c.args.begun.now.items ++ c.args.rest.now in
-    stops_clip g.D.Disk.tells _ _ _ _ _ (c.deref.result.now ∷ []) (line ∷ []) (ap (λ (l : List ℕ). l ∷ []) (ap clip (c.deref.ensures.value ∙ c.in-Ok.ensures.kept) ∙ clip_clip line)) c.in-Err-answer.ensures.err
+    stops_clip g.D.Disk.tells _ _ _ _ _ (c.deref.result.now ∷ []) (line ∷ []) c.in-Err-answer.status (ap (λ (l : List ℕ). l ∷ []) (ap clip (c.deref.ensures.value ∙ c.in-Ok.ensures.kept) ∙ clip_clip line)) c.in-Err-answer.ensures.err

@@ -1,4 +1,5 @@
-use Rattle.std.proofs.Common.{refl, rules, arith}
+use Rattle.std.proofs.Common.{◌≡◌, ◌∙◌, refl, ap, Err, rules, arith}
+use Rattle.alta_session.specs.declared.status.Status.TheVariants.{Full}
 use Rattle.alta_session.proofs.FedLaws.{fed_none}
 use Rattle.alta_session.proofs.FeedLaws.{feed_on, kept_on, feed_stops}
 use Rattle.alta_session.proofs.serving.feed.Goals as goal
@@ -36,4 +37,9 @@ lines-preserved g c = record {
 }
 
 pub returns-in-Err-clause-err : goal.returns-in-Err-clause-err
-returns-in-Err-clause-err g c = feed_stops g.D.Disk.tells _ _ _ _ _ _ _ _ c.args.begun.now.items c.lines.begun.items c.args.piece.now c.lines.at c.lines.invariant.fed c.lines.invariant.begun c.in-Err.ensures.err
+returns-in-Err-clause-err g c = feed_stops g.D.Disk.tells _ _ _ _ _ _ _ _ c.args.begun.now.items c.lines.begun.items c.args.piece.now c.lines.at c.in-Err.status c.lines.invariant.fed c.lines.invariant.begun c.in-Err.ensures.err
+
+pub returns-in-Err-clause-full : goal.returns-in-Err-clause-full
+returns-in-Err-clause-full g c = λ need gap tell is.
+    let same : c.in-Err.status ≡ Full need gap = cc in
+    c.feed_line.ensures.full need gap tell (c.in-Err.is ∙ ap Err same)

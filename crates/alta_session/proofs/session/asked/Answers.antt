@@ -4,7 +4,7 @@ use Rattle.alta_model.specs.Seen.{command_of}
 use Rattle.alta_model.specs.declared.line.Line.{Line}
 use Rattle.alta_model.specs.declared.line.LineFault.TheVariants.{TooLong, NotUtf8, Unknown, Bad}
 use Rattle.alta_session.proofs.AddingLaws.{line_is_document}
-use Rattle.alta_session.proofs.AskLaws.{step_other, step_adds, step_refuses}
+use Rattle.alta_session.proofs.AskLaws.{step_other, step_adds, step_refuses, record_of_line}
 use Rattle.alta_session.proofs.session.asked.Goals as goal
 
 pub returns-in-Add : goal.returns-in-Add
@@ -13,6 +13,7 @@ returns-in-Add c =
     let P : Line → Type 0 = λ l. Reads line (command_of l) in (
       step_adds line c.in-Ok.line c.in-Add.name c.in-Add.title c.in-Add.body c.in-Ok.ensures.reading c.in-Add.is,
       λ named. line_is_document line c.in-Add.name.now c.in-Add.title.now c.in-Add.body.now c.requires c.in-Ok.ensures.read.0 (subst P c.in-Add.is c.in-Ok.ensures.read.1) named,
+      record_of_line line c.in-Add.name.now c.in-Add.title.now c.in-Add.body.now (subst P c.in-Add.is c.in-Ok.ensures.read.1),
     )
 
 pub returns-in_default : goal.returns-in_default

@@ -1,17 +1,19 @@
-use Rattle.std.proofs.Common.{◌≡◌, ◌⊎◌, ◌≤◌, ℕ, true, false, List, ◌++◌, inl, inr, ⊎_elim, ap, sym, subst, ◌∙◌, codes, decimal, Result, Ok, Err, IfOk, OnOk, rules}
+use Rattle.std.proofs.Common.{◌≡◌, ◌⊎◌, ◌+◌, ◌≤◌, ℕ, true, false, List, ◌++◌, inl, inr, ⊎_elim, refl, ap, sym, subst, ◌∙◌, codes, decimal, Result, Ok, Err, IfOk, OnOk, rules, arith}
 use Rattle.std.proofs.lemmas.Result.{IfOk-weaker}
 use Rattle.alta_disk.specs.Disk.{DiskState, LeavesOnly, IsLawful}
 use Rattle.alta_disk.proofs.Moments.{leaves_start}
 use Rattle.alta_meta.specs.declared.document.State.{State}
 use Rattle.alta_session.specs.Agreement.{AgreesOn}
+use Rattle.alta_session.specs.Fullness.{bytes_if_added}
 use Rattle.alta_session.specs.Machine.{adding}
-use Rattle.alta_store.specs.Agreement.{Agrees}
+use Rattle.alta_store.specs.Agreement.{Agrees, room_of}
 use Rattle.alta_store.specs.Meaning.{StandsForEither}
 use Rattle.alta_store.specs.States.{with_added, has_name}
-use Rattle.alta_store.specs.declared.fault.StoreFault.TheVariants.{Taken, Numbers}
+use Rattle.alta_store.specs.declared.fault.StoreFault.TheVariants.{Taken, Numbers, Full}
 use Rattle.alta_store.specs.declared.store.Store.{Store}
 use Rattle.alta_store.proofs.Agreements.{images_stand}
-use Rattle.alta_session.proofs.AddingLaws.{adding_bad, adding_taken, adding_full, adding_added, leaves_adding, refused_for}
+use Rattle.alta_session.proofs.AddingLaws.{adding_bad, adding_taken, adding_full, adding_added, added_where, leaves_adding, refused_for}
+use Rattle.alta_session.proofs.FullnessLaws.{bytes_same, bytes_more}
 use Rattle.alta_session.proofs.session.Session.add.Goals as goal
 
 same_reply : {T E : Type 0} (r : Result T E) (x y : T) → x ≡ y → IfOk r (λ t. t ≡ x) → IfOk r (λ t. t ≡ y)
@@ -131,3 +133,40 @@ returns-in-Numbers-clause-unchanged g c = λ s told agrees refusal.
 pub returns-in_default-clause-unchanged : goal.returns-in_default-clause-unchanged
 returns-in_default-clause-unchanged g c = λ s told agrees refusal.
     refused_for _ c.args.name.now c.args.title.now c.args.body.now s (search rules) (λ has. (c.add.ensures.refused (inl ((c.add.ensures.taken s agrees told).1 has))).0) (λ full. (c.add.ensures.refused (inr ((c.add.ensures.numbers s agrees told).1 full))).0) refusal
+
+-- the room that is left: as before where it was refused, and less by the record where it was added
+room_same : (now old bytes : ℕ) (s : State) (p : State × List ℕ) (reply : List ℕ) → now ≡ old → p ≡ (s, reply) → now + bytes_if_added bytes s p.0 ≡ old
+room_same now old bytes s p reply same is = omega (arith, same, bytes_same bytes s p reply is)
+
+room_less : (now old bytes : ℕ) (name title body : List ℕ) (s : State) (p : State × List ℕ) (reply : List ℕ) → now + bytes ≡ old → p ≡ (with_added name title body s, reply) → now + bytes_if_added bytes s p.0 ≡ old
+room_less now old bytes name title body s p reply less is = omega (arith, less, bytes_more bytes name title body s p reply is)
+
+pub returns-then-not-name_ok-clause-room : goal.returns-then-not-name_ok-clause-room
+returns-then-not-name_ok-clause-room g c = λ s told agrees.
+    if_so c.text.result _ (room_same _ _ _ s _ _ refl (adding_bad c.args.name.now c.args.title.now c.args.body.now s (search rules)))
+
+pub returns-in-Ok-clause-room : goal.returns-in-Ok-clause-room
+returns-in-Ok-clause-room g c = λ s told agrees.
+    let number = c.in-Ok.ensures.number s agrees told in
+    if_so c.added.result _ (room_less _ _ _ c.args.name.now c.args.title.now c.args.body.now s _ _ c.in-Ok.ensures.room (adding_added c.args.name.now c.args.title.now c.args.body.now s (search rules) number.1 number.2))
+
+pub returns-in-Taken-clause-room : goal.returns-in-Taken-clause-room
+returns-in-Taken-clause-room g c = λ s told agrees.
+    let is : c.add.result ≡ Err Taken = c.in-Err.is ∙ ap Err c.in-Taken.is in
+    if_so c.text-in-Taken.result _ (room_same _ _ _ s _ _ (ap room_of (c.add.ensures.refused (inl is)).1) (adding_taken c.args.name.now c.args.title.now c.args.body.now s (search rules) ((c.add.ensures.taken s agrees told).0 is)))
+
+pub returns-in-Numbers-clause-room : goal.returns-in-Numbers-clause-room
+returns-in-Numbers-clause-room g c = λ s told agrees.
+    let is : c.add.result ≡ Err Numbers = c.in-Err.is ∙ ap Err c.in-Numbers.is in
+    let full = (c.add.ensures.numbers s agrees told).0 is in
+    if_so c.text-in-Numbers.result _ (room_same _ _ _ s _ _ (ap room_of (c.add.ensures.refused (inr is)).1) (adding_full c.args.name.now c.args.title.now c.args.body.now s (search rules) full.0 full.1))
+
+-- where its record does not fit, nothing else refuses it
+pub returns-in_default-clause-need : goal.returns-in_default-clause-need
+returns-in_default-clause-need g c = λ s need gap told agrees is.
+    let same : c.in-Err.fault ≡ Full need gap = cc in
+    let full : c.add.result ≡ Err (Full need gap) = c.in-Err.is ∙ ap Err same in
+    let found = c.add.ensures.full need gap full in
+    let adds : adding c.args.name.now c.args.title.now c.args.body.now s ≡ (with_added c.args.name.now c.args.title.now c.args.body.now s, codes "added " ++ decimal s.next ++ codes "\n") =
+    added_where c.args.name.now c.args.title.now c.args.body.now s (search rules) (λ taken. let no : c.add.result ≡ Err Taken = (c.add.ensures.taken s agrees told).1 taken in cc) (λ none. let no : c.add.result ≡ Err Numbers = (c.add.ensures.numbers s agrees told).1 none in cc) in
+    (found.0 ∙ sym (bytes_more _ c.args.name.now c.args.title.now c.args.body.now s _ _ adds), found.1)
