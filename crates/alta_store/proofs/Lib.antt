@@ -1,9 +1,14 @@
 pub mod Additions
 pub mod Agreements
 pub mod Commits
+pub mod DocumentLaws
 pub mod EntryLaws
 pub mod Formatted
+pub mod KnowledgeLaws
 pub mod Loads
 pub mod NameLaws
 pub mod OneWay
 pub mod OpeningLaws
+pub mod ReplayLaws
+pub mod SlotLaws
+pub mod WordCounts

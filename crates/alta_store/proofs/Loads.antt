@@ -1,11 +1,7 @@
 -- What was loaded from a disk is what its content says.
 use Rattle.std.proofs.Common.{◌≡◌, ◌⊎◌, inl, inr, ⊎_elim, ℕ, suc, zero, ◌+◌, ◌-◌, ◌<◌, ◌≤◌, Global, List, [], ◌∷◌, length, get_or, refl, sym, ◌∙◌, ap, subst, arith, length-append}
-use Rattle.std.specs.Prelude.{String, is_some, Result, Ok, Err, IfOk, IfErr}
-use Rattle.std.specs.BTreeMap.{BTreeMap, IsEmpty, is_at}
-use Rattle.std.specs.Cmp.Lexicographic.{slice_cmp}
-use Rattle.std.specs.Map.{lookup}
-use Rattle.std.specs.Ordering.{nat_cmp}
-use Rattle.std.specs.String.{string_bytes}
+use Rattle.std.specs.Prelude.{String, Result, Ok, Err, IfOk, IfErr}
+use Rattle.std.specs.BTreeMap.{BTreeMap}
 use Rattle.std.specs.List.{All, flat_map}
 use Rattle.std.proofs.lemmas.List.{length-take-le}
 use Rattle.std.proofs.lemmas.Result.{IfOk-at_ok, IfErr-at_err}
@@ -18,6 +14,8 @@ use Rattle.alta_journal.specs.declared.entry.Entry.{Entry}
 use Rattle.alta_journal.specs.declared.placed.Placed.{Placed}
 use Rattle.alta_journal.specs.declared.places.TheConstants.{START_A, HALF_BYTES}
 use Rattle.alta_journal.proofs.Frames.{ends_inside}
+use Rattle.alta_journal.specs.declared.half.Tail.{Tail}
+use Rattle.alta_meta.specs.declared.document.Document.{Document}
 use Rattle.alta_meta.specs.declared.document.State.{State}
 use Rattle.alta_store.specs.Agreement.{Holds, Knows}
 use Rattle.alta_journal.specs.declared.replaying.OpenFault.{OpenFault}
@@ -26,15 +24,13 @@ use Rattle.alta_store.specs.Answers.{IsOutside, AnswersFault, of_opening}
 use Rattle.alta_store.specs.Brokenness.{HasNoIndex, HasRoot, IsBrokenAt}
 use Rattle.alta_store.specs.Entries.{AllowsAll, after_entries, entries_in, IsRefusedAt}
 use Rattle.alta_store.specs.Meaning.{StandsFor, start_at}
+use Rattle.alta_store.specs.Replaying.{Follows, Keeps}
+use Rattle.alta_store.specs.declared.replaying.Replay.{Replay}
 use Rattle.alta_store.specs.declared.fault.StoreFault.{StoreFault}
 use Rattle.alta_store.specs.declared.fault.StoreFault.TheVariants.{NoRoot, Damaged}
 use Rattle.alta_store.specs.declared.store.Store.{Store}
 use Rattle.alta_store.proofs.Agreements.{stands_of}
 use Rattle.alta_store.proofs.OneWay.{entries_in-placed, one_state, one_place, stands_indexed, stands_unbroken}
-
--- no document was added to a root's state
-pub knows_none : (n : ℕ) (names : BTreeMap (String Global) ℕ) → IsEmpty names → Knows n names (start_at n)
-knows_none n names empty = record { next = refl; names = λ q. ap (λ (es : List (String Global × ℕ)). is_some (lookup (is_at (λ (k : String Global). slice_cmp nat_cmp q (string_bytes k))) es)) empty }
 
 -- places rise from the first, by the bytes of the records
 placed_below : (place limit : ℕ) (entries : List Entry) → place + length (flat_map record_of entries) ≤ limit → (k : ℕ) (d : Placed) → k < length (placed place entries) → (λ (p : Placed). p.place ≤ limit) (get_or (placed place entries) k d)
@@ -51,9 +47,20 @@ small_places found tail content (entries, is, ends) =
     subst (λ (xs : List Placed). All (λ p. p.place < 4294967296) xs) (sym is)
     (λ k d within. omega (arith, placed_below START_A (START_A + HALF_BYTES) entries (omega (arith, bytes)) k d within))
 
+-- what is kept of a replay
+pub kept_tail : (r : Result Store StoreFault) (tail : Tail) (left : Replay) (store : Store) → IfOk r (λ store. Keeps store tail left) → r ≡ Ok store → store.tail ≡ tail
+kept_tail r tail left store kept is = (IfOk-at_ok (λ (store : Store). Keeps store tail left) is kept).0
+
+pub kept_knows : (r : Result Store StoreFault) (tail : Tail) (left : Replay) (store : Store) (s : State) → IfOk r (λ store. Keeps store tail left) → r ≡ Ok store → Follows left s → Knows store.next store.names store.documents s
+kept_knows r tail left store s kept is follows =
+    let same = IfOk-at_ok (λ (store : Store). Keeps store tail left) is kept in
+    subst (λ (n : ℕ). Knows n store.names store.documents s) (sym same.1)
+    (subst (λ (known : BTreeMap (String Global) ℕ). Knows left.next known store.documents s) (sym same.2)
+    (subst (λ (ds : List Document). Knows left.next left.names ds s) (sym same.3) follows.knows))
+
 module _ (content : List ℕ) (n l : ℕ) (found : List Placed) (root : HasRoot n l content) where
   pub loads : (store : Store) → IsReplay START_A found store.tail.place content
-      → AllowsAll (start_at n) (entries_in found) × Knows store.next store.names (after_entries (start_at n) (entries_in found)) → Holds store (after_entries (start_at n) (entries_in found)) content
+      → AllowsAll (start_at n) (entries_in found) × Knows store.next store.names store.documents (after_entries (start_at n) (entries_in found)) → Holds store (after_entries (start_at n) (entries_in found)) content
   loads store (entries, is, ends) (allowed, knows) =
       let same : entries_in found ≡ entries = ap entries_in is ∙ entries_in-placed START_A entries in
       record {

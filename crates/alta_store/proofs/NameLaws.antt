@@ -3,14 +3,11 @@ use Rattle.std.proofs.Common.{◌≡◌, ◌≢◌, ℕ, Bool, true, false, cond
 use Rattle.std.specs.Prelude.{◌||◌, ◌==◌, Some, Option, String, is_some}
 use Rattle.std.specs.List.{All}
 use Rattle.std.specs.Str.{bytes_eq}
-use Rattle.std.specs.String.{string_cmp, string_bytes}
-use Rattle.std.specs.BTreeMap.{BTreeMap, UpdatesBy, get_by_text}
-use Rattle.std.specs.Cmp.Lexicographic.{slice_cmp}
-use Rattle.std.specs.Ordering.{nat_cmp}
+use Rattle.std.specs.BTreeMap.{BTreeMap, get_by_text}
+use Rattle.std.specs.Map.{update}
 use Rattle.std.proofs.lemmas.Bool.{false≢true}
 use Rattle.std.proofs.lemmas.Bool.Decides.{nat_tests}
 use Rattle.std.proofs.lemmas.List.Folds.{list_any-append, list_any_at}
-use Rattle.std.proofs.lemmas.Map.Text.{btree_map_updates_text}
 use Rattle.std.proofs.lemmas.Slice.Eq.{bytes_eq-Decides}
 use Rattle.alta_meta.specs.declared.document.Document.{Document}
 use Rattle.alta_meta.specs.declared.document.State.{State}
@@ -31,14 +28,11 @@ found : {X : Type 0} (b : Bool) (v : X) (o : Option X) → is_some (cond b (Some
 found true v o = refl
 found false v o = refl
 
--- a name that is put into a map is found there, and so is each that was there
-pub is_some-insert : {Y X : Type 0} (key : String Y) (m n : BTreeMap (String Y) X) (v : X)
-    → UpdatesBy string_cmp (λ k. slice_cmp nat_cmp (string_bytes key) (string_bytes k)) m n (Some v)
-    → (q : List ℕ) → is_some (get_by_text n q) ≡ (bytes_eq q (string_bytes key) || is_some (get_by_text m q))
-is_some-insert key m n v updates q =
-    ap is_some (btree_map_updates_text (string_bytes key) m n (Some v) updates q)
-    ∙ found (bytes_eq (string_bytes key) q) v (get_by_text m q)
-    ∙ ap (λ (b : Bool). b || is_some (get_by_text m q)) (bytes_eq-swap (string_bytes key) q)
+-- a name that is noted is found, and so is each that was
+pub is_some-noted : {Y : Type 0} (m n : BTreeMap (String Y) ℕ) (key : List ℕ) (v : ℕ) → ((q : List ℕ) → get_by_text n q ≡ update bytes_eq (get_by_text m) key (Some v) q)
+    → (q : List ℕ) → is_some (get_by_text n q) ≡ (bytes_eq q key || is_some (get_by_text m q))
+is_some-noted m n key v noted q =
+    ap is_some (noted q) ∙ found (bytes_eq key q) v (get_by_text m q) ∙ ap (λ (b : Bool). b || is_some (get_by_text m q)) (bytes_eq-swap key q)
 
 or_swap : (a b : Bool) → (a || (b || false)) ≡ (b || a)
 or_swap true true = refl

@@ -1,21 +1,21 @@
 -- What the entries of the journal do to a state, one after the other.
-use Rattle.std.specs.Prelude.{◌≡◌, ℕ, ◌+◌, ◌<◌, false, List, [], ◌∷◌, ◌++◌, map}
+use Rattle.std.specs.Prelude.{◌≡◌, ℕ, ◌+◌, ◌<◌, true, false, List, [], ◌∷◌, ◌++◌, map}
 use Rattle.alta_journal.specs.declared.entry.Entry.{Entry}
 use Rattle.alta_journal.specs.declared.entry.Entry.TheVariants.{Add, Delete}
 use Rattle.alta_journal.specs.declared.placed.Placed.{Placed}
 use Rattle.alta_meta.specs.declared.document.State.{State}
-use Rattle.alta_store.specs.States.{has_name, with_added}
+use Rattle.alta_store.specs.States.{has_name, has_number, with_added, without}
 
--- The state allows the entry: a name that no live document has, and a number left for it. No command deletes yet, so
--- no entry may.
+-- The state allows the entry: one that adds has a name that no live document has, and a number left for it; one that
+-- deletes has the number of a live document.
 abbrev pub Allows : State → Entry → Type 0
 Allows s (Add name title body) = (has_name name s ≡ false) × (s.next < 4294967296)
-Allows s (Delete number) = ⊥
+Allows s (Delete number) = has_number number s ≡ true
 
 -- the state after an entry
 abbrev pub after_entry : State → Entry → State
 after_entry s (Add name title body) = with_added name title body s
-after_entry s (Delete number) = s
+after_entry s (Delete number) = without number s
 
 -- the state after entries
 abbrev pub after_entries : State → List Entry → State

@@ -1,30 +1,33 @@
 // The store.
 ghost use Rattle.std.specs.BTreeMap.{get_by_text};
 ghost use Rattle.std.specs.Str.{bytes_eq};
-ghost use Rattle.std.specs.Prelude.{◌||◌, ◌≡◌, ◌⊎◌, ◌↔◌, ◌+◌, ◌<◌, ◌≤◌, ◌++◌, ◌∷◌, [], ℕ, List, true, false, length, is_some, Result, Ok, Err, IfOk, IfErr, OnOk, OnErr, IsErr};
+ghost use Rattle.std.specs.Prelude.{◌||◌, ◌≡◌, ◌⊎◌, ◌↔◌, ◌+◌, ◌<◌, ◌≤◌, ◌++◌, ◌∷◌, [], ℕ, List, true, false, length, is_some, Result, Ok, Err, Some, IfOk, IfErr, OnOk, OnErr, IsErr, HoldsAt, MatchOption};
 ghost use Rattle.alta_codec.specs.Faults.{Rose};
 ghost use Rattle.alta_disk.specs.Disk.{DiskState, Same, Only, Passes, LeavesOnly};
 ghost use Rattle.alta_journal.specs.Record.{body_of};
-ghost use Rattle.alta_journal.specs.declared.entry.Entry.TheVariants.{Add};
+ghost use Rattle.alta_journal.specs.declared.entry.Entry.TheVariants.{Add, Delete};
 ghost use Rattle.alta_journal.specs.declared.places.TheConstants.{HALF_BYTES, HEAD_BYTES};
 ghost use Rattle.alta_journal.specs.declared.half.Half.TheVariants.{A};
 ghost use Rattle.alta_meta.specs.declared.document.State.{State};
-ghost use Rattle.alta_store.specs.Agreement.{Agrees, Holds, HasRoom, is_sound, room_of};
+ghost use Rattle.alta_store.specs.Agreement.{Agrees, Holds, Knows, HasRoom, is_sound, room_of};
 ghost use Rattle.alta_store.specs.Answers.{IsOutside, AnswersFault};
 ghost use Rattle.alta_store.specs.Brokenness.{HasNoIndex, IsBrokenAt};
 ghost use Rattle.alta_store.specs.Meaning.{StandsFor, StandsForEither};
-ghost use Rattle.alta_store.specs.States.{has_name, with_added, IsDocument};
-ghost use Rattle.alta_store.specs.declared.fault.StoreFault.TheVariants.{Disk as DiskFault, Memory, NoRoot, Damaged, Taken, Numbers, Full};
+ghost use Rattle.alta_store.specs.Replaying.{Keeps};
+ghost use Rattle.alta_store.specs.States.{has_name, number_of, words_in, with_added, with_deleted, without, IsDocument};
+ghost use Rattle.alta_store.specs.declared.fault.StoreFault.TheVariants.{Disk as DiskFault, Memory, NoRoot, Damaged, Taken, Missing, Numbers, Full};
 
 use crate::StoreFault;
+use crate::documents::{document_of, index_of, remove_at, words_of};
 use crate::fault::opening_fault;
-use crate::names::note;
+use crate::names::{forget, note};
 use crate::opening::read_root;
 use crate::places::LAST_NEXT;
-use crate::replaying::note_entries;
+use crate::replaying::{Replay, apply_entries, documents_in};
 use alta_codec::Text;
 use alta_disk::Disk;
 use alta_journal::{Entry, Half, JournalFault, Ready, Tail, append, ready, replay};
+use alta_meta::Documents;
 use std::alloc::{AllocError, Global};
 use std::collections::BTreeMap;
 
@@ -35,6 +38,7 @@ pub struct Store {
     tail: Tail,
     next: u64,
     names: BTreeMap<String, u64>,
+    documents: Documents,
     sound: bool,
 }
 
@@ -46,6 +50,30 @@ impl Store {
         ensures { result ≡ is_sound self.now }
     {
         self.sound
+    }
+
+    /// The live documents, in rising order of number.
+    pub fn documents(&self) -> &Documents
+        ensures { (s : State) (image : List ℕ) → Holds self.now s image → result.now ≡ s.documents }
+    {
+        &self.documents
+    }
+
+    /// How many live documents there are, how many words they have in all, and the number that the next document gets.
+    pub fn counts(&self) -> (u64, u64, u64)
+        ensures { (s : State) (image : List ℕ) → Holds self.now s image → result ≡ (length s.documents, words_in s, s.next) }
+    {
+        let documents = self.documents.as_slice();
+        (documents.len() as u64, words_of(documents), self.next)
+    }
+
+    // The store may no longer be used.
+    fn failed(&mut self, fault: StoreFault) -> StoreFault
+        ensures fault { result ≡ fault }
+        ensures unsound { is_sound self.new ≡ false }
+    {
+        self.sound = false;
+        fault
     }
 
     /// Opens the index of a disk: one sync, then the slots, then the journal's records by themselves, then their entries against
@@ -133,10 +161,7 @@ impl Store {
         }
         match self.commit(disk, name, title, body) {
             Ok(number) => Ok(number),
-            Err(fault) => {
-                self.sound = false;
-                Err(fault)
-            }
+            Err(fault) => Err(self.failed(fault)),
         }
     }
 
@@ -172,13 +197,115 @@ impl Store {
         let Ok(ready) = record_of_add(self.alloc, name, title, body) else {
             return Err(StoreFault::Memory);
         };
+        let Ok(document) = document_of(self.alloc, number, name, title, body) else {
+            return Err(StoreFault::Memory);
+        };
         let Ok(()) = note(self.alloc, &mut self.names, name, number) else {
+            return Err(StoreFault::Memory);
+        };
+        let Ok(()) = self.documents.push(document) else {
             return Err(StoreFault::Memory);
         };
         match append(disk, &mut self.tail, &ready) {
             Ok(()) => {
                 self.next = number + 1;
                 Ok(number)
+            }
+            Err(JournalFault::Full { need, left }) => Err(StoreFault::Full { need, gap: left }),
+            Err(JournalFault::Disk) => Err(StoreFault::Disk),
+        }
+    }
+
+    /// Deletes the live document with this name, by one record in the journal, and answers its number. While it runs, each image
+    /// that a stop may leave stands for the state before or after; once it has answered, each stands for the state after.
+    ///
+    /// # Errors
+    ///
+    /// `Missing` exactly where no live document has the name; then nothing was called and nothing has changed. `Full` where the
+    /// record does not fit in the journal, `Disk` where a call of the disk failed, and `Memory`: then the store may no longer be
+    /// used.
+    pub fn delete<D: Disk>(&mut self, disk: &mut D, name: &str) -> Result<u64, StoreFault>
+        requires sound { is_sound self.old ≡ true }
+        requires agrees { (s : State) × Agrees D.tells (D.state disk.old) self.old s }
+        requires limit { HEAD_BYTES ≤ (D.state disk.old).limit }
+
+        ensures agrees { (s : State) → Agrees D.tells (D.state disk.old) self.old s → OnOk result (Agrees D.tells (D.state disk.new) self.new (with_deleted name.now s)) }
+        ensures number { (s : State) → Agrees D.tells (D.state disk.old) self.old s → D.tells → IfOk result (λ n. number_of name.now s ≡ Some n) }
+        ensures sound { OnOk result (is_sound self.new ≡ true) }
+        ensures unsound { IfErr result (λ e. (e ≡ Missing) ⊎ (is_sound self.new ≡ false)) }
+
+        // At each moment of the call.
+        ensures images { (s : State) → Agrees D.tells (D.state disk.old) self.old s → LeavesOnly (StandsForEither s (with_deleted name.now s)) (D.state disk.old) (D.state disk.new) }
+
+        ensures missing { (s : State) → Agrees D.tells (D.state disk.old) self.old s → D.tells → (result ≡ Err Missing) ↔ (has_name name.now s ≡ false) }
+        ensures refused { result ≡ Err Missing → (disk.new ≡ disk.old) × (self.new ≡ self.old) }
+
+        // The record of each number is as long.
+        ensures full { (need gap number : ℕ) → result ≡ Err (Full need gap) → (need ≡ length (body_of (Delete number))) × (gap ≡ room_of self.old) × (gap < need) }
+        ensures full_kept { (need gap : ℕ) → result ≡ Err (Full need gap) → disk.new ≡ disk.old }
+        ensures full_room { (need gap : ℕ) → D.tells → result ≡ Err (Full need gap) → HasRoom (D.state disk.new).content gap }
+        ensures room { IfOk result (λ n. room_of self.new + length (body_of (Delete n)) ≡ room_of self.old) }
+        ensures only { IfErr result (λ e. IsOutside e ⊎ ((e ≡ Missing) ⊎ ((need gap : ℕ) × (e ≡ Full need gap)))) }
+        ensures cause { result ≡ Err DiskFault → Rose (D.state disk.old).faults (D.state disk.new).faults }
+        ensures faults { (D.state disk.old).faults ≤ (D.state disk.new).faults }
+        ensures read { (D.state disk.new).taken ≡ (D.state disk.old).taken }
+        ensures same_limit { (D.state disk.new).limit ≡ (D.state disk.old).limit }
+    {
+        let Some((number, index)) = self.find(name) else {
+            return Err(StoreFault::Missing);
+        };
+        match self.remove(disk, name, number, index) {
+            Ok(()) => Ok(number),
+            Err(fault) => Err(self.failed(fault)),
+        }
+    }
+
+    // The number of the document with this name, and where it stands.
+    fn find(&self, name: &str) -> Option<(u64, usize)>
+        ensures { MatchOption result
+            ((s : State) → Knows self.now.next self.now.names self.now.documents s → has_name name.now s ≡ false)
+            (λ p. (get_by_text self.now.names name.now ≡ Some p.0) × (p.1 < length self.now.documents) × HoldsAt (λ d. d.number ≡ p.0) self.now.documents p.1) }
+    {
+        let number = *self.names.get(name)?;
+        let index = index_of(self.documents.as_slice(), number)?;
+        Some((number, index))
+    }
+
+    // Deletes a document that was found. All memory is taken before the first write.
+    fn remove<D: Disk>(
+        &mut self,
+        disk: &mut D,
+        name: &str,
+        number: u64,
+        index: usize,
+    ) -> Result<(), StoreFault>
+        requires agrees { (s : State) × Agrees D.tells (D.state disk.old) self.old s }
+        requires named { get_by_text self.old.names name.now ≡ Some number }
+        requires inside { index < length self.old.documents }
+        requires at { HoldsAt (λ d. d.number ≡ number) self.old.documents index }
+        requires limit { HEAD_BYTES ≤ (D.state disk.old).limit }
+
+        ensures agrees { (s : State) → Agrees D.tells (D.state disk.old) self.old s → OnOk result (Agrees D.tells (D.state disk.new) self.new (with_deleted name.now s)) }
+        ensures sound { is_sound self.new ≡ is_sound self.old }
+        ensures images { (s : State) → Agrees D.tells (D.state disk.old) self.old s → LeavesOnly (StandsForEither s (with_deleted name.now s)) (D.state disk.old) (D.state disk.new) }
+        ensures full { (need gap : ℕ) → result ≡ Err (Full need gap) → (need ≡ length (body_of (Delete number))) × (gap ≡ room_of self.old) × (gap < need) }
+        ensures full_kept { (need gap : ℕ) → result ≡ Err (Full need gap) → disk.new ≡ disk.old }
+        ensures full_room { (need gap : ℕ) → D.tells → result ≡ Err (Full need gap) → HasRoom (D.state disk.new).content gap }
+        ensures room { OnOk result (room_of self.new + length (body_of (Delete number)) ≡ room_of self.old) }
+        ensures only { IfErr result (λ e. IsOutside e ⊎ ((need gap : ℕ) × (e ≡ Full need gap))) }
+        ensures cause { result ≡ Err DiskFault → Rose (D.state disk.old).faults (D.state disk.new).faults }
+        ensures faults { (D.state disk.old).faults ≤ (D.state disk.new).faults }
+        ensures read { (D.state disk.new).taken ≡ (D.state disk.old).taken }
+        ensures same_limit { (D.state disk.new).limit ≡ (D.state disk.old).limit }
+    {
+        let Ok(ready) = ready(self.alloc, &Entry::Delete { number }) else {
+            return Err(StoreFault::Memory);
+        };
+        match append(disk, &mut self.tail, &ready) {
+            Ok(()) => {
+                forget(&mut self.names, name);
+                remove_at(self.alloc, &mut self.documents, index);
+                Ok(())
             }
             Err(JournalFault::Full { need, left }) => Err(StoreFault::Full { need, gap: left }),
             Err(JournalFault::Disk) => Err(StoreFault::Disk),
@@ -229,15 +356,27 @@ fn load<D: Disk>(alloc: Global, disk: &mut D) -> Result<Store, StoreFault>
         Ok(read) => read,
         Err(fault) => return Err(opening_fault(fault)),
     };
-    let mut names = BTreeMap::new(alloc);
-    match note_entries(alloc, &mut names, root.next, &found) {
-        Ok(next) => Ok(Store {
+    let mut left = Replay::new(alloc, root.next);
+    match apply_entries(alloc, &mut left, &found) {
+        Ok(()) => kept(alloc, tail, left),
+        Err(fault) => Err(fault),
+    }
+}
+
+// The store of what a replay left.
+fn kept(alloc: Global, tail: Tail, left: Replay) -> Result<Store, StoreFault>
+    ensures kept { IfOk result (λ store. Keeps store tail left) }
+    ensures only { IfErr result (λ e. e ≡ Memory) }
+{
+    match documents_in(alloc, left.slots) {
+        Ok(documents) => Ok(Store {
             alloc,
             tail,
-            next,
-            names,
+            next: left.next,
+            names: left.names,
+            documents,
             sound: true,
         }),
-        Err(fault) => Err(fault),
+        Err(_) => Err(StoreFault::Memory),
     }
 }

@@ -4,9 +4,13 @@ use Rattle.alta_journal.specs.Journal.{IsBroken}
 use Rattle.alta_journal.specs.Placed.{IsReplay}
 use Rattle.alta_journal.specs.declared.placed.Placed.{Placed}
 use Rattle.alta_journal.specs.declared.places.TheConstants.{START_A}
+use Rattle.alta_journal.specs.declared.half.Tail.{Tail}
+use Rattle.alta_meta.specs.declared.document.State.{State}
+use Rattle.alta_store.specs.Agreement.{Holds}
 use Rattle.alta_store.specs.Entries.{after_entries, entries_in}
 use Rattle.alta_store.specs.Meaning.{start_at}
-use Rattle.alta_store.proofs.Loads.{knows_none, small_places, loads, damaged_record, refused_entry, of_damaged, same_error}
+use Rattle.alta_store.specs.declared.store.Store.{Store}
+use Rattle.alta_store.proofs.Loads.{if_ok, kept_tail, kept_knows, small_places, loads, damaged_record, refused_entry, of_damaged, same_error}
 use Rattle.alta_store.proofs.store.load.Goals as goal
 
 pub returns-in-Err-replay-clause-damaged : goal.returns-in-Err-replay-clause-damaged
@@ -15,16 +19,20 @@ returns-in-Err-replay-clause-damaged g c = λ told place e.
     (subst (λ (image : List ℕ). IsBroken START_A place image) (c.read_root.ensures.content told)
     (c.in-Err-replay.ensures.damaged told place (of_damaged c.in-Err-replay.fault place (sym c.opening_fault.ensures ∙ same_error _ _ e))))
 
-pub returns-in-Ok-note_entries-clause-loaded : goal.returns-in-Ok-note_entries-clause-loaded
-returns-in-Ok-note_entries-clause-loaded g c =
+pub returns-in-Ok-apply_entries-clause-loaded : goal.returns-in-Ok-apply_entries-clause-loaded
+returns-in-Ok-apply_entries-clause-loaded g c =
     let n = c.in-Ok.root.next in
-    let found = c.deref.result.now in (
+    let found = c.deref.result.now in
+    if_ok c.kept.result (λ (store : Store). (s : State) × (g.D.Disk.tells → Holds store s (g.D.Disk.state c.args.disk.now).content)) (λ store is. (
       after_entries (start_at n) (entries_in found),
-      λ told. loads (g.D.Disk.state c.args.disk.now).content n c.in-Ok.root.location found (c.in-Ok.ensures.root told) _
+      λ told.
+          let applied = c.in-Ok-apply_entries.ensures.applied (start_at n) c.new-left.ensures in
+          loads (g.D.Disk.state c.args.disk.now).content n c.in-Ok.root.location found (c.in-Ok.ensures.root told) store
+          (subst (λ (place : ℕ). IsReplay START_A found place (g.D.Disk.state c.args.disk.now).content) (sym (ap (λ (t : Tail). t.place) (kept_tail c.kept.result c.in-Ok-replay.read.1 c.apply_entries.new.replay store c.kept.ensures.kept is)))
           (subst (λ (image : List ℕ). IsReplay START_A found c.in-Ok-replay.read.1.place image) (c.read_root.ensures.content told)
-          (subst (λ (xs : List Placed). IsReplay START_A xs c.in-Ok-replay.read.1.place (g.D.Disk.state c.read_root.new.disk).content) (sym c.deref.ensures.value) (c.in-Ok-replay.ensures.read told)))
-          (c.in-Ok-note_entries.ensures.noted (start_at n) (knows_none n c.new-names.result c.new-names.ensures.empty)),
-    )
+          (subst (λ (xs : List Placed). IsReplay START_A xs c.in-Ok-replay.read.1.place (g.D.Disk.state c.read_root.new.disk).content) (sym c.deref.ensures.value) (c.in-Ok-replay.ensures.read told))))
+          (applied.0, kept_knows c.kept.result c.in-Ok-replay.read.1 c.apply_entries.new.replay store (after_entries (start_at n) (entries_in found)) c.kept.ensures.kept is applied.1),
+    ))
 
 pub returns-clause-damaged : goal.returns-clause-damaged
 returns-clause-damaged g c = λ told place e.
@@ -35,5 +43,5 @@ returns-clause-damaged g c = λ told place e.
     subst (λ (image : List ℕ). IsReplay START_A found c.in-Ok-replay.read.1.place image) (c.read_root.ensures.content told)
     (subst (λ (xs : List Placed). IsReplay START_A xs c.in-Ok-replay.read.1.place (g.D.Disk.state c.read_root.new.disk).content) (sym c.deref.ensures.value) (c.in-Ok-replay.ensures.read told)) in
     refused_entry content n c.in-Ok.root.location found (c.in-Ok.ensures.root told) place c.in-Ok-replay.read.1.place (c.in-Ok.ensures.indexed told) replay
-    (c.in-Err-note_entries.ensures.damaged (start_at n) (knows_none n c.new-names.result c.new-names.ensures.empty)
+    (c.in-Err-apply_entries.ensures.damaged (start_at n) c.new-left.ensures
     (small_places found c.in-Ok-replay.read.1.place content replay) place (ap Err (same_error _ _ e)))

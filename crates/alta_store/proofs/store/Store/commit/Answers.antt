@@ -1,5 +1,6 @@
-use Rattle.std.proofs.Common.{refl}
-use Rattle.alta_store.proofs.Commits.{closed, either, agrees_after}
+use Rattle.alta_store.specs.States.{with_added}
+use Rattle.alta_store.proofs.Commits.{closed, either, agrees_after, add_allowed, added_is}
+use Rattle.alta_store.proofs.KnowledgeLaws.{knows_more}
 use Rattle.alta_store.proofs.store.Store.commit.Goals as goal
 
 pub append-requires-clause-closed : goal.append-requires-clause-closed
@@ -9,21 +10,34 @@ append-requires-clause-closed g c =
 pub returns-in-Ok-append-clause-agrees : goal.returns-in-Ok-append-clause-agrees
 returns-in-Ok-append-clause-agrees g c = λ s agrees.
     agrees_after g.D.Disk.tells (g.D.Disk.state c.args.disk.now) (g.met.D.Disk.lawful c.args.disk.now) c.args.self.now s agrees
-    c.args.name.now c.args.title.now c.args.body.now c.in-Ok.ready.entry c.in-Ok.ensures c.requires.free c.requires.number
+    c.in-Ok.ready.entry (with_added c.args.name.now c.args.title.now c.args.body.now s)
+    (added_is g.D.Disk.tells (g.D.Disk.state c.args.disk.now) (g.met.D.Disk.lawful c.args.disk.now) c.args.self.now s agrees c.args.name.now c.args.title.now c.args.body.now c.in-Ok.ready.entry c.in-Ok.ensures)
+    (add_allowed g.D.Disk.tells (g.D.Disk.state c.args.disk.now) (g.met.D.Disk.lawful c.args.disk.now) c.args.self.now s agrees c.args.name.now c.args.title.now c.args.body.now c.in-Ok.ready.entry c.in-Ok.ensures c.requires.free c.requires.number)
     (g.D.Disk.state c.append.new.disk) c.in-Ok-append.ensures.images (g.met.D.Disk.lawful c.append.new.disk) c.in-Ok-append.ensures.durable c.in-Ok-append.ensures.appended
-    _ c.in-Ok-append.ensures.tail c.in-Ok-append.ensures.half refl c.in-Ok-note.ensures
+    _ c.in-Ok-append.ensures.tail c.in-Ok-append.ensures.half
+    (λ told. knows_more c.args.self.now.next c.args.self.now.names c.args.self.now.documents s (agrees.content told).knows _ c.args.name.now c.args.title.now c.args.body.now c.requires.free c.in-Ok-note.ensures
+    c.in-Ok-document_of.document c.in-Ok-document_of.ensures _ c.in-Ok-push.ensures.pushed)
 
 pub returns-in-Ok-append-clause-images : goal.returns-in-Ok-append-clause-images
 returns-in-Ok-append-clause-images g c = λ s agrees.
     either g.D.Disk.tells (g.D.Disk.state c.args.disk.now) (g.met.D.Disk.lawful c.args.disk.now) c.args.self.now s agrees
-    c.args.name.now c.args.title.now c.args.body.now c.in-Ok.ready.entry c.in-Ok.ensures c.requires.free c.requires.number (g.D.Disk.state c.append.new.disk) c.in-Ok-append.ensures.images
+    c.in-Ok.ready.entry (with_added c.args.name.now c.args.title.now c.args.body.now s)
+    (added_is g.D.Disk.tells (g.D.Disk.state c.args.disk.now) (g.met.D.Disk.lawful c.args.disk.now) c.args.self.now s agrees c.args.name.now c.args.title.now c.args.body.now c.in-Ok.ready.entry c.in-Ok.ensures)
+    (add_allowed g.D.Disk.tells (g.D.Disk.state c.args.disk.now) (g.met.D.Disk.lawful c.args.disk.now) c.args.self.now s agrees c.args.name.now c.args.title.now c.args.body.now c.in-Ok.ready.entry c.in-Ok.ensures c.requires.free c.requires.number)
+    (g.D.Disk.state c.append.new.disk) c.in-Ok-append.ensures.images
 
 pub returns-in-Err-Full-clause-images : goal.returns-in-Err-Full-clause-images
 returns-in-Err-Full-clause-images g c = λ s agrees.
     either g.D.Disk.tells (g.D.Disk.state c.args.disk.now) (g.met.D.Disk.lawful c.args.disk.now) c.args.self.now s agrees
-    c.args.name.now c.args.title.now c.args.body.now c.in-Ok.ready.entry c.in-Ok.ensures c.requires.free c.requires.number (g.D.Disk.state c.append.new.disk) c.in-Err-Full.ensures.images
+    c.in-Ok.ready.entry (with_added c.args.name.now c.args.title.now c.args.body.now s)
+    (added_is g.D.Disk.tells (g.D.Disk.state c.args.disk.now) (g.met.D.Disk.lawful c.args.disk.now) c.args.self.now s agrees c.args.name.now c.args.title.now c.args.body.now c.in-Ok.ready.entry c.in-Ok.ensures)
+    (add_allowed g.D.Disk.tells (g.D.Disk.state c.args.disk.now) (g.met.D.Disk.lawful c.args.disk.now) c.args.self.now s agrees c.args.name.now c.args.title.now c.args.body.now c.in-Ok.ready.entry c.in-Ok.ensures c.requires.free c.requires.number)
+    (g.D.Disk.state c.append.new.disk) c.in-Err-Full.ensures.images
 
 pub returns-clause-images : goal.returns-clause-images
 returns-clause-images g c = λ s agrees.
     either g.D.Disk.tells (g.D.Disk.state c.args.disk.now) (g.met.D.Disk.lawful c.args.disk.now) c.args.self.now s agrees
-    c.args.name.now c.args.title.now c.args.body.now c.in-Ok.ready.entry c.in-Ok.ensures c.requires.free c.requires.number (g.D.Disk.state c.append.new.disk) c.in-Err-Disk.ensures.images
+    c.in-Ok.ready.entry (with_added c.args.name.now c.args.title.now c.args.body.now s)
+    (added_is g.D.Disk.tells (g.D.Disk.state c.args.disk.now) (g.met.D.Disk.lawful c.args.disk.now) c.args.self.now s agrees c.args.name.now c.args.title.now c.args.body.now c.in-Ok.ready.entry c.in-Ok.ensures)
+    (add_allowed g.D.Disk.tells (g.D.Disk.state c.args.disk.now) (g.met.D.Disk.lawful c.args.disk.now) c.args.self.now s agrees c.args.name.now c.args.title.now c.args.body.now c.in-Ok.ready.entry c.in-Ok.ensures c.requires.free c.requires.number)
+    (g.D.Disk.state c.append.new.disk) c.in-Err-Disk.ensures.images

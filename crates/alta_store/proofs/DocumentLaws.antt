@@ -1,0 +1,246 @@
+-- Lists of documents: their numbers rise, and each is found by its name.
+use Rattle.std.proofs.Common.{◌≡◌, ◌≢◌, ℕ, suc, zero, ◌+◌, ◌<◌, ◌≤◌, Bool, true, false, cond, not, ⊎_elim, Global, List, [], ◌∷◌, ◌++◌, length, get_or, refl, sym, ◌∙◌, ap, subst, arith, rules}
+use Rattle.std.specs.Prelude.{◌||◌, ◌==◌, Option, Some, None, Result, Ok, Err, IfSome, HoldsAt, String, is_some, option_map, remove}
+use Rattle.std.specs.List.{list_any, find, filter}
+use Rattle.std.specs.List.Sorted.{IsBinarySearchResult, IsNonDecreasingBy}
+use Rattle.std.specs.Ordering.{nat_cmp, ordering_index}
+use Rattle.std.specs.Result.{result_ok}
+use Rattle.std.specs.Map.{update}
+use Rattle.std.specs.Str.{bytes_eq}
+use Rattle.std.specs.BTreeMap.{BTreeMap, get_by_text}
+use Rattle.std.proofs.lemmas.Bool.{cases_lt, false≢true}
+use Rattle.std.proofs.lemmas.Bool.Decides.{nat_tests}
+use Rattle.std.proofs.lemmas.Cmp.{ranked}
+use Rattle.std.proofs.lemmas.List.Folds.{list_any_none}
+use Rattle.std.proofs.lemmas.Slice.Eq.{bytes_eq-Decides}
+use Rattle.alta_meta.specs.declared.document.Document.{Document}
+use Rattle.alta_store.specs.Agreement.{AreFound, RiseWithin}
+use Rattle.alta_store.specs.States.{has_number_in}
+
+-- one case for each answer of a test
+pub by_test : {P : Type 0} (b : Bool) → (b ≡ true → P) → (b ≡ false → P) → P
+by_test true if_true if_false = if_true refl
+by_test false if_true if_false = if_false refl
+
+pub equal_test : (a b : ℕ) → a ≡ b → (a == b) ≡ true
+equal_test a b e = grind (arith, nat_tests)
+
+pub equal_from : (a b : ℕ) → (a == b) ≡ true → a ≡ b
+equal_from a b e = grind (arith, nat_tests)
+
+pub apart_test : (a b : ℕ) → a ≢ b → (a == b) ≡ false
+apart_test a b e = by_test (a == b) (λ holds. absurd (e (equal_from a b holds))) (λ fails. fails)
+
+pub bytes_from : (xs ys : List ℕ) → bytes_eq xs ys ≡ true → xs ≡ ys
+bytes_from xs ys e = search (rules, bytes_eq-Decides xs ys)
+
+pub bytes_same : (xs : List ℕ) → bytes_eq xs xs ≡ true
+bytes_same xs = search (rules, bytes_eq-Decides xs xs)
+
+or_right : (a b : Bool) → b ≡ true → (a || b) ≡ true
+or_right true b e = refl
+or_right false b e = e
+
+or_left : (a b : Bool) → (a || b) ≡ true → b ≡ false → a ≡ true
+or_left true b e fails = refl
+or_left false b e fails = absurd (false≢true (sym fails ∙ e))
+
+-- an element that passes is kept, and another is dropped
+pub filter_keep : {X : Type 0} (p : X → Bool) (x : X) (xs : List X) → p x ≡ true → filter p (x ∷ xs) ≡ x ∷ filter p xs
+filter_keep p x xs e = ap (λ (b : Bool). cond b (x ∷ filter p xs) (filter p xs)) e
+
+pub filter_drop : {X : Type 0} (p : X → Bool) (x : X) (xs : List X) → p x ≡ false → filter p (x ∷ xs) ≡ filter p xs
+filter_drop p x xs e = ap (λ (b : Bool). cond b (x ∷ filter p xs) (filter p xs)) e
+
+-- where none passes all others are kept
+pub none_left : {X : Type 0} (p : X → Bool) (xs : List X) → list_any p xs ≡ false → filter (λ x. not (p x)) xs ≡ xs
+none_left p [] e = refl
+none_left {X} p (x ∷ xs) e =
+    by_test (p x) (λ holds. absurd (false≢true (sym e ∙ ap (λ (b : Bool). b || list_any p xs) holds)))
+    (λ fails. filter_keep (λ y. not (p y)) x xs (ap not fails) ∙ ap (λ (ys : List X). x ∷ ys) (none_left p xs (sym (ap (λ (b : Bool). b || list_any p xs) fails) ∙ e)))
+
+-- one of these documents has this name
+abbrev pub has_name_in : List ℕ → List Document → Bool
+has_name_in name ds = list_any (λ (d : Document). bytes_eq name d.name) ds
+
+-- the numbers rise
+
+pub rise_bound : (low : ℕ) (ds : List Document) (next : ℕ) → RiseWithin low ds next → low ≤ next
+rise_bound low [] next rise = rise
+rise_bound low (d ∷ ds) next rise = omega (arith, rise.0, rise_bound (d.number + 1) ds next rise.1)
+
+pub rise_from : (low lower : ℕ) (ds : List Document) (next : ℕ) → lower ≤ low → RiseWithin low ds next → RiseWithin lower ds next
+rise_from low lower [] next le rise = omega (arith, le, rise)
+rise_from low lower (d ∷ ds) next le rise = (omega (arith, le, rise.0), rise.1)
+
+pub rise_more : (low : ℕ) (ds : List Document) (next : ℕ) (d : Document) → d.number ≡ next → RiseWithin low ds next → RiseWithin low (ds ++ d ∷ []) (next + 1)
+rise_more low [] next d e rise = (omega (arith, e, rise), omega (arith, e))
+rise_more low (c ∷ ds) next d e rise = (rise.0, rise_more (c.number + 1) ds next d e rise.1)
+
+pub rise_left : (p : Document → Bool) (low : ℕ) (ds : List Document) (next : ℕ) → RiseWithin low ds next → RiseWithin low (filter p ds) next
+rise_left p low [] next rise = rise
+rise_left p low (d ∷ ds) next rise =
+    by_test (p d)
+    (λ holds. subst (λ (xs : List Document). RiseWithin low xs next) (sym (filter_keep p d ds holds)) (rise.0, rise_left p (d.number + 1) ds next rise.1))
+    (λ fails. subst (λ (xs : List Document). RiseWithin low xs next) (sym (filter_drop p d ds fails)) (rise_from (d.number + 1) low (filter p ds) next (omega (arith, rise.0)) (rise_left p (d.number + 1) ds next rise.1)))
+
+pub none_below : (m low : ℕ) (ds : List Document) (next : ℕ) → RiseWithin low ds next → m < low → has_number_in m ds ≡ false
+none_below m low [] next rise less = refl
+none_below m low (d ∷ ds) next rise less =
+    ap (λ (b : Bool). b || has_number_in m ds) (apart_test d.number m (λ e. absurd (omega (arith, e, less, rise.0))))
+    ∙ none_below m (d.number + 1) ds next rise.1 (omega (arith, less, rise.0))
+
+pub none_above : (m low : ℕ) (ds : List Document) (next : ℕ) → RiseWithin low ds next → next ≤ m → has_number_in m ds ≡ false
+none_above m low [] next rise less = refl
+none_above m low (d ∷ ds) next rise less =
+    ap (λ (b : Bool). b || has_number_in m ds) (apart_test d.number m (λ e. absurd (omega (arith, e, less, rise_bound (d.number + 1) ds next rise.1))))
+    ∙ none_above m (d.number + 1) ds next rise.1 less
+
+-- the document with a number is the one at its place
+pub left_at : (m low : ℕ) (ds : List Document) (next : ℕ) → RiseWithin low ds next → (i : ℕ) → i < length ds → ((d : Document) → (get_or ds i d).number ≡ m)
+    → filter (λ (d : Document). not (d.number == m)) ds ≡ remove ds i
+left_at m low [] next rise i inside at = absurd (omega (arith, inside))
+left_at m low (d ∷ ds) next rise zero inside at =
+    filter_drop (λ (d : Document). not (d.number == m)) d ds (ap not (equal_test d.number m (at d)))
+    ∙ none_left (λ (d : Document). d.number == m) ds (none_below m (d.number + 1) ds next rise.1 (omega (arith, at d)))
+left_at m low (d ∷ ds) next rise (suc i) inside at =
+    filter_keep (λ (d : Document). not (d.number == m)) d ds
+    (ap not (apart_test d.number m (λ e. absurd (false≢true (sym (none_below m (d.number + 1) ds next rise.1 (omega (arith, e))) ∙ has_at m ds i (omega (arith, inside)) at)))))
+    ∙ ap (λ (xs : List Document). d ∷ xs) (left_at m (d.number + 1) ds next rise.1 i (omega (arith, inside)) at)
+  where
+    has_at : (m : ℕ) (ds : List Document) (i : ℕ) → i < length ds → ((d : Document) → (get_or ds i d).number ≡ m) → has_number_in m ds ≡ true
+    has_at m [] i inside at = absurd (omega (arith, inside))
+    has_at m (d ∷ ds) zero inside at = ap (λ (b : Bool). b || has_number_in m ds) (equal_test d.number m (at d))
+    has_at m (d ∷ ds) (suc i) inside at = or_right (d.number == m) (has_number_in m ds) (has_at m ds i (omega (arith, inside)) at)
+
+-- each number is found by its name
+
+number_in : Option ℕ → ℕ
+number_in (Some n) = n
+number_in None = 0
+
+same_number : (m n : ℕ) → Some m ≡ Some n → m ≡ n
+unfolding number_in
+same_number m n e = ap number_in e
+
+-- a document whose name stands for a number has that number
+pub number_here : (known : BTreeMap (String Global) ℕ) (q : List ℕ) (n : ℕ) (d : Document) → get_by_text known d.name ≡ Some d.number → get_by_text known q ≡ Some n → bytes_eq q d.name ≡ true → d.number ≡ n
+number_here known q n d here is same = same_number d.number n (sym here ∙ ap (λ (x : List ℕ). get_by_text known x) (sym (bytes_from q d.name same)) ∙ is)
+
+has_tail : (q : List ℕ) (d : Document) (ds : List Document) → bytes_eq q d.name ≡ false → has_name_in q (d ∷ ds) ≡ true → has_name_in q ds ≡ true
+has_tail q d ds fails has = sym (ap (λ (b : Bool). b || has_name_in q ds) fails) ∙ has
+
+-- a name that stands for a number is that of a document with the number
+pub numbered_as : (known : BTreeMap (String Global) ℕ) (q : List ℕ) (n : ℕ) (ds : List Document) → AreFound known ds → get_by_text known q ≡ Some n → has_name_in q ds ≡ true → has_number_in n ds ≡ true
+numbered_as known q n [] found is has = absurd (false≢true has)
+numbered_as known q n (d ∷ ds) found is has =
+    by_test (bytes_eq q d.name)
+    (λ holds. ap (λ (b : Bool). b || has_number_in n ds) (equal_test d.number n (number_here known q n d found.0 is holds)))
+    (λ fails. or_right (d.number == n) (has_number_in n ds) (numbered_as known q n ds found.1 is (has_tail q d ds fails has)))
+
+-- the number of the document with a name is what the name stands for
+pub number_found : (known : BTreeMap (String Global) ℕ) (q : List ℕ) (ds : List Document) → AreFound known ds → has_name_in q ds ≡ true
+    → option_map (λ (d : Document). d.number) (find (λ (d : Document). bytes_eq q d.name) ds) ≡ get_by_text known q
+number_found known q [] found has = absurd (false≢true has)
+number_found known q (d ∷ ds) found has =
+    by_test (bytes_eq q d.name)
+    (λ holds. ap (λ (b : Bool). option_map (λ (d : Document). d.number) (cond b (Some d) (find (λ (d : Document). bytes_eq q d.name) ds))) holds
+    ∙ sym found.0 ∙ ap (λ (x : List ℕ). get_by_text known x) (sym (bytes_from q d.name holds)))
+    (λ fails. ap (λ (b : Bool). option_map (λ (d : Document). d.number) (cond b (Some d) (find (λ (d : Document). bytes_eq q d.name) ds))) fails
+    ∙ number_found known q ds found.1 (has_tail q d ds fails has))
+
+-- to leave out a name is to leave out its number
+pub same_left : (known : BTreeMap (String Global) ℕ) (q : List ℕ) (n low : ℕ) (ds : List Document) (next : ℕ) → RiseWithin low ds next → AreFound known ds → get_by_text known q ≡ Some n → has_name_in q ds ≡ true
+    → filter (λ (d : Document). not (bytes_eq q d.name)) ds ≡ filter (λ (d : Document). not (d.number == n)) ds
+same_left known q n low [] next rise found is has = refl
+same_left known q n low (d ∷ ds) next rise found is has =
+    by_test (d.number == n)
+    (λ holds.
+    let none : has_number_in n ds ≡ false = none_below n (d.number + 1) ds next rise.1 (omega (arith, equal_from d.number n holds)) in
+    let no_name : has_name_in q ds ≡ false = by_test (has_name_in q ds) (λ some. absurd (false≢true (sym none ∙ numbered_as known q n ds found.1 is some))) (λ fails. fails) in
+    filter_drop (λ (d : Document). not (bytes_eq q d.name)) d ds (ap not (or_left (bytes_eq q d.name) (has_name_in q ds) has no_name))
+    ∙ none_left (λ (d : Document). bytes_eq q d.name) ds no_name
+    ∙ sym (filter_drop (λ (d : Document). not (d.number == n)) d ds (ap not holds) ∙ none_left (λ (d : Document). d.number == n) ds none))
+    (λ fails.
+    let other : bytes_eq q d.name ≡ false = by_test (bytes_eq q d.name) (λ same. absurd (false≢true (sym fails ∙ equal_test d.number n (number_here known q n d found.0 is same)))) (λ fails. fails) in
+    filter_keep (λ (d : Document). not (bytes_eq q d.name)) d ds (ap not other)
+    ∙ ap (λ (xs : List Document). d ∷ xs) (same_left known q n (d.number + 1) ds next rise.1 found.1 is (has_tail q d ds other has))
+    ∙ sym (filter_keep (λ (d : Document). not (d.number == n)) d ds (ap not fails)))
+
+-- a name that was left out is gone
+pub name_gone : (q : List ℕ) (ds : List Document) → has_name_in q (filter (λ (d : Document). not (bytes_eq q d.name)) ds) ≡ false
+name_gone q [] = refl
+name_gone q (d ∷ ds) =
+    by_test (bytes_eq q d.name)
+    (λ holds. ap (has_name_in q) (filter_drop (λ (d : Document). not (bytes_eq q d.name)) d ds (ap not holds)) ∙ name_gone q ds)
+    (λ fails. ap (has_name_in q) (filter_keep (λ (d : Document). not (bytes_eq q d.name)) d ds (ap not fails)) ∙ ap (λ (b : Bool). b || has_name_in q (filter (λ (d : Document). not (bytes_eq q d.name)) ds)) fails ∙ name_gone q ds)
+
+-- and another stays
+pub name_stays : (q x : List ℕ) (ds : List Document) → bytes_eq q x ≡ false → has_name_in x (filter (λ (d : Document). not (bytes_eq q d.name)) ds) ≡ has_name_in x ds
+name_stays q x [] other = refl
+name_stays q x (d ∷ ds) other =
+    by_test (bytes_eq q d.name)
+    (λ holds. ap (has_name_in x) (filter_drop (λ (d : Document). not (bytes_eq q d.name)) d ds (ap not holds)) ∙ name_stays q x ds other
+    ∙ sym (ap (λ (b : Bool). b || has_name_in x ds) (by_test (bytes_eq x d.name)
+    (λ same. absurd (false≢true (sym other ∙ subst (λ (y : List ℕ). bytes_eq q y ≡ true) (sym (bytes_from x d.name same)) holds))) (λ fails. fails))))
+    (λ fails. ap (has_name_in x) (filter_keep (λ (d : Document). not (bytes_eq q d.name)) d ds (ap not fails)) ∙ ap (λ (b : Bool). bytes_eq x d.name || b) (name_stays q x ds other))
+
+-- what is found still is, once a name is forgotten
+pub found_left : (old new : BTreeMap (String Global) ℕ) (q : List ℕ) (ds : List Document) → ((x : List ℕ) → get_by_text new x ≡ update bytes_eq (get_by_text old) q None x) → AreFound old ds
+    → AreFound new (filter (λ (d : Document). not (bytes_eq q d.name)) ds)
+found_left old new q [] forgot found = tt
+found_left old new q (d ∷ ds) forgot found =
+    by_test (bytes_eq q d.name)
+    (λ holds. subst (AreFound new) (sym (filter_drop (λ (d : Document). not (bytes_eq q d.name)) d ds (ap not holds))) (found_left old new q ds forgot found.1))
+    (λ fails. subst (AreFound new) (sym (filter_keep (λ (d : Document). not (bytes_eq q d.name)) d ds (ap not fails)))
+    (forgot d.name ∙ ap (λ (b : Bool). cond b None (get_by_text old d.name)) fails ∙ found.0, found_left old new q ds forgot found.1))
+
+-- and once a name that was free is noted
+found_here : (old new : BTreeMap (String Global) ℕ) (q : List ℕ) (n : ℕ) → ((x : List ℕ) → get_by_text new x ≡ update bytes_eq (get_by_text old) q (Some n) x) → is_some (get_by_text old q) ≡ false
+    → (x : List ℕ) (m : ℕ) → get_by_text old x ≡ Some m → get_by_text new x ≡ Some m
+found_here old new q n noted free x m is =
+    noted x ∙ ap (λ (b : Bool). cond b (Some n) (get_by_text old x)) (by_test (bytes_eq q x)
+    (λ same. absurd (false≢true (sym free ∙ ap (λ (y : List ℕ). is_some (get_by_text old y)) (bytes_from q x same) ∙ ap is_some is))) (λ fails. fails)) ∙ is
+
+pub found_more : (old new : BTreeMap (String Global) ℕ) (ds : List Document) (d : Document) → ((x : List ℕ) → get_by_text new x ≡ update bytes_eq (get_by_text old) d.name (Some d.number) x)
+    → is_some (get_by_text old d.name) ≡ false → AreFound old ds → AreFound new (ds ++ d ∷ [])
+found_more old new [] d noted free found = (noted d.name ∙ ap (λ (b : Bool). cond b (Some d.number) (get_by_text old d.name)) (bytes_same d.name), tt)
+found_more old new (c ∷ ds) d noted free found = (found_here old new d.name d.number noted free c.name c.number found.0, found_more old new ds d noted free found.1)
+
+-- a binary search by number
+
+at_least : (low : ℕ) (ds : List Document) (next : ℕ) → RiseWithin low ds next → (j : ℕ) (e : Document) → j < length ds → low ≤ (get_or ds j e).number
+at_least low [] next rise j e inside = absurd (omega (arith, inside))
+at_least low (d ∷ ds) next rise zero e inside = rise.0
+at_least low (d ∷ ds) next rise (suc j) e inside = omega (arith, rise.0, at_least (d.number + 1) ds next rise.1 j e (omega (arith, inside)))
+
+numbers_rise : (low : ℕ) (ds : List Document) (next : ℕ) → RiseWithin low ds next → (i j : ℕ) (e : Document) → i ≤ j → j < length ds → (get_or ds i e).number ≤ (get_or ds j e).number
+numbers_rise low [] next rise i j e le inside = absurd (omega (arith, inside))
+numbers_rise low (d ∷ ds) next rise zero zero e le inside = omega arith
+numbers_rise low (d ∷ ds) next rise zero (suc j) e le inside = omega (arith, at_least (d.number + 1) ds next rise.1 j e (omega (arith, inside)))
+numbers_rise low (d ∷ ds) next rise (suc i) zero e le inside = absurd (omega (arith, le))
+numbers_rise low (d ∷ ds) next rise (suc i) (suc j) e le inside = numbers_rise (d.number + 1) ds next rise.1 i j e (omega (arith, le)) (omega (arith, inside))
+
+comparisons_rise : (n low : ℕ) (ds : List Document) (next : ℕ) → RiseWithin low ds next → IsNonDecreasingBy (λ (d : Document). ordering_index (nat_cmp d.number n)) ds
+comparisons_rise n low ds next rise i j e le inside =
+    let rises = numbers_rise low ds next rise i j e le inside in
+    grind (arith, nat_tests)
+
+pub found_number : (n : ℕ) (ds : List Document) (r : Result ℕ ℕ) → IsBinarySearchResult (λ (d : Document). nat_cmp d.number n) ds r → IfSome (result_ok r) (HoldsAt (λ (d : Document). d.number ≡ n) ds)
+found_number n ds (Ok i) equal = λ d. ranked (get_or ds i d).number n _ (sym (equal d))
+found_number n ds (Err i) parted = tt
+
+is_none : {X : Type 0} → Option X → Bool
+is_none (Some x) = false
+is_none None = true
+
+pub no_number : (n low : ℕ) (ds : List Document) (next : ℕ) → RiseWithin low ds next → (r : Result ℕ ℕ) → IsBinarySearchResult (λ (d : Document). nat_cmp d.number n) ds r → result_ok r ≡ None → has_number_in n ds ≡ false
+unfolding is_none
+no_number n low ds next rise (Ok i) equal none = absurd (false≢true (ap is_none none))
+no_number n low ds next rise (Err i) parted none =
+    let split = parted (comparisons_rise n low ds next rise) in
+    list_any_none (λ (d : Document). d.number == n) ds (λ j d inside. apart_test (get_or ds j d).number n
+    (λ e. ⊎_elim
+    (λ before. let less : (get_or ds j d).number < n = ranked (get_or ds j d).number n _ (sym (split.0 j d (omega arith) before)) in absurd (omega (arith, less, e)))
+    (λ behind. let more : n < (get_or ds j d).number = ranked (get_or ds j d).number n _ (sym (split.1 j d behind inside)) in absurd (omega (arith, more, e)))
+    (cases_lt j i)))

@@ -1,0 +1,49 @@
+use Rattle.std.proofs.Common.{ap}
+use Rattle.alta_journal.specs.Record.{Record}
+use Rattle.alta_store.specs.States.{with_deleted}
+use Rattle.alta_store.proofs.Commits.{closed, either, agrees_after, delete_allowed, deleted_after}
+use Rattle.alta_store.proofs.KnowledgeLaws.{knows_gone}
+use Rattle.alta_store.proofs.store.Store.remove.Goals as goal
+
+pub append-requires-clause-closed : goal.append-requires-clause-closed
+append-requires-clause-closed g c =
+    closed g.D.Disk.tells (g.D.Disk.state c.args.disk.now) (g.met.D.Disk.lawful c.args.disk.now) c.args.self.now c.requires.agrees.0 c.requires.agrees.1
+
+pub returns-in-Ok-append-clause-agrees : goal.returns-in-Ok-append-clause-agrees
+returns-in-Ok-append-clause-agrees g c = λ s agrees.
+    let entry_is = ap (λ (r : Record). r.entry) c.in-Ok.ensures in
+    agrees_after g.D.Disk.tells (g.D.Disk.state c.args.disk.now) (g.met.D.Disk.lawful c.args.disk.now) c.args.self.now s agrees
+    c.in-Ok.ready.entry (with_deleted c.args.name.now s)
+    (deleted_after g.D.Disk.tells (g.D.Disk.state c.args.disk.now) (g.met.D.Disk.lawful c.args.disk.now) c.args.self.now s agrees c.args.name.now c.args.number c.in-Ok.ready.entry entry_is c.requires.named)
+    (delete_allowed g.D.Disk.tells (g.D.Disk.state c.args.disk.now) (g.met.D.Disk.lawful c.args.disk.now) c.args.self.now s agrees c.args.name.now c.args.number c.in-Ok.ready.entry entry_is c.requires.named)
+    (g.D.Disk.state c.append.new.disk) c.in-Ok-append.ensures.images (g.met.D.Disk.lawful c.append.new.disk) c.in-Ok-append.ensures.durable c.in-Ok-append.ensures.appended
+    _ c.in-Ok-append.ensures.tail c.in-Ok-append.ensures.half
+    (λ told. knows_gone c.args.self.now.next c.args.self.now.names c.args.self.now.documents s (agrees.content told).knows c.forget.new.names c.args.name.now c.args.number c.requires.named c.forget.ensures
+    _ c.args.index c.requires.inside c.requires.at c.remove_at.ensures)
+
+pub returns-in-Ok-append-clause-images : goal.returns-in-Ok-append-clause-images
+returns-in-Ok-append-clause-images g c = λ s agrees.
+    let entry_is = ap (λ (r : Record). r.entry) c.in-Ok.ensures in
+    either g.D.Disk.tells (g.D.Disk.state c.args.disk.now) (g.met.D.Disk.lawful c.args.disk.now) c.args.self.now s agrees
+    c.in-Ok.ready.entry (with_deleted c.args.name.now s)
+    (deleted_after g.D.Disk.tells (g.D.Disk.state c.args.disk.now) (g.met.D.Disk.lawful c.args.disk.now) c.args.self.now s agrees c.args.name.now c.args.number c.in-Ok.ready.entry entry_is c.requires.named)
+    (delete_allowed g.D.Disk.tells (g.D.Disk.state c.args.disk.now) (g.met.D.Disk.lawful c.args.disk.now) c.args.self.now s agrees c.args.name.now c.args.number c.in-Ok.ready.entry entry_is c.requires.named)
+    (g.D.Disk.state c.append.new.disk) c.in-Ok-append.ensures.images
+
+pub returns-in-Err-Full-clause-images : goal.returns-in-Err-Full-clause-images
+returns-in-Err-Full-clause-images g c = λ s agrees.
+    let entry_is = ap (λ (r : Record). r.entry) c.in-Ok.ensures in
+    either g.D.Disk.tells (g.D.Disk.state c.args.disk.now) (g.met.D.Disk.lawful c.args.disk.now) c.args.self.now s agrees
+    c.in-Ok.ready.entry (with_deleted c.args.name.now s)
+    (deleted_after g.D.Disk.tells (g.D.Disk.state c.args.disk.now) (g.met.D.Disk.lawful c.args.disk.now) c.args.self.now s agrees c.args.name.now c.args.number c.in-Ok.ready.entry entry_is c.requires.named)
+    (delete_allowed g.D.Disk.tells (g.D.Disk.state c.args.disk.now) (g.met.D.Disk.lawful c.args.disk.now) c.args.self.now s agrees c.args.name.now c.args.number c.in-Ok.ready.entry entry_is c.requires.named)
+    (g.D.Disk.state c.append.new.disk) c.in-Err-Full.ensures.images
+
+pub returns-clause-images : goal.returns-clause-images
+returns-clause-images g c = λ s agrees.
+    let entry_is = ap (λ (r : Record). r.entry) c.in-Ok.ensures in
+    either g.D.Disk.tells (g.D.Disk.state c.args.disk.now) (g.met.D.Disk.lawful c.args.disk.now) c.args.self.now s agrees
+    c.in-Ok.ready.entry (with_deleted c.args.name.now s)
+    (deleted_after g.D.Disk.tells (g.D.Disk.state c.args.disk.now) (g.met.D.Disk.lawful c.args.disk.now) c.args.self.now s agrees c.args.name.now c.args.number c.in-Ok.ready.entry entry_is c.requires.named)
+    (delete_allowed g.D.Disk.tells (g.D.Disk.state c.args.disk.now) (g.met.D.Disk.lawful c.args.disk.now) c.args.self.now s agrees c.args.name.now c.args.number c.in-Ok.ready.entry entry_is c.requires.named)
+    (g.D.Disk.state c.append.new.disk) c.in-Err-Disk.ensures.images
