@@ -1,12 +1,16 @@
 -- The content of added documents: one document more, and that the locations of a term rise.
 use Rattle.std.proofs.Common.{◌≡◌, ℕ, zero, suc, ◌+◌, ◌<◌, ◌≤◌, Bool, true, false, cond, List, [], ◌∷◌, ◌++◌, length, map, get_or, refl, sym, ap, subst, ◌∙◌, append-nil, append_assoc, arith, lit≤}
+use Rattle.std.specs.Cmp.Lexicographic.{slice_cmp}
 use Rattle.std.specs.List.{All}
+use Rattle.std.specs.List.Sorted.{IsStrictlySortedBy}
+use Rattle.std.specs.Ordering.{nat_cmp}
 use Rattle.std.specs.Map.{values_of}
 use Rattle.std.specs.Str.{bytes_eq}
 use Rattle.std.proofs.lemmas.List.Elements.{All-nil, All-cons, All-head, All-tail, All-push, All-weaker}
 use Rattle.alta_codec.specs.declared.location.TheConstants.{TOP}
 use Rattle.alta_codec.specs.Rising.{IsRising}
 use Rattle.alta_level.specs.declared.content.Content.{Content}
+use Rattle.alta_level.specs.declared.content.DocRow.{DocRow}
 use Rattle.alta_level.specs.Contents.{end_of, locations_of, terms_of}
 use Rattle.alta_meta.specs.Cells.{cell_holds}
 use Rattle.alta_memlevel.specs.Added.{Added, places_of, list_of, IsDocument, IsSpace, HasContent}
@@ -26,6 +30,17 @@ some-term_lists (e ∷ es) h =
     All-cons (λ l. 0 < length l.locations) (record { term = e.0.items; locations = e.1.items }) (term_lists es)
     (All-head (λ xs. 0 < length xs.items) e.1 (values_of es) h)
     (some-term_lists es (All-tail (λ xs. 0 < length xs.items) e.1 (values_of es) h))
+
+-- ---- no documents
+pub content-empty : (rows : List DocRow) (es : List (Numbers × Numbers)) → rows ≡ [] → es ≡ [] → HasContent [] record { documents = rows; lists = term_lists es }
+unfolding IsStrictlySortedBy
+content-empty rows es r e = rw (r, e) record {
+  space = tt;
+  documents = refl;
+  lists = λ t. refl;
+  some = All-nil (λ l. 0 < length l.locations);
+  sorted = tt;
+}
 
 -- ---- one document more
 pub rows-push : (added : List Added) (a : Added) → map (λ b. b.row) (added ++ a ∷ []) ≡ map (λ b. b.row) added ++ a.row ∷ []
@@ -55,12 +70,14 @@ pub content-push : (added : List Added) (a : Added) (old new : Content) → HasC
     → new.documents ≡ old.documents ++ a.row ∷ []
     → ((t : List ℕ) → locations_of new.lists t ≡ locations_of old.lists t ++ places_of a.row.first t a.cells)
     → All (λ l. 0 < length l.locations) new.lists
+    → IsStrictlySortedBy (slice_cmp nat_cmp) (terms_of new.lists)
     → HasContent (added ++ a ∷ []) new
-content-push added a old new h d n p documents lists some = record {
+content-push added a old new h d n p documents lists some sorted = record {
   space = space-push added a h.space d (subst (λ rs. All (λ r. r.number < a.row.number) rs) h.documents n) (subst (λ rs. All (λ r. end_of r < a.row.first) rs) h.documents p);
   documents = documents ∙ ap (λ rs. rs ++ a.row ∷ []) h.documents ∙ sym (rows-push added a);
   lists = λ t. lists t ∙ ap (λ l. l ++ places_of a.row.first t a.cells) (h.lists t) ∙ sym (list_of-push added a t);
   some = some;
+  sorted = sorted;
 }
 
 -- ---- the locations rise

@@ -15,15 +15,11 @@ use Rattle.std.proofs.lemmas.Bool.{cases_Bool, cond-true, cond-false}
 use Rattle.std.proofs.lemmas.Map.Text.{is_eq-slice_cmp}
 use Rattle.alta_meta.specs.Cells.{cell_holds}
 use Rattle.alta_memlevel.specs.Added.{places_of}
-use Rattle.alta_memlevel.specs.Lists.{Numbers, list_in, list_at}
+use Rattle.alta_memlevel.specs.Lists.{Numbers, list_in, list_at, order}
 
 -- how a term's bytes compare to a key
 abbrev pub compare_to : List ℕ → Numbers → Ordering
 compare_to term k = slice_cmp nat_cmp term k.items
-
--- the order of the keys
-abbrev pub order : Numbers → Numbers → Ordering
-order x y = slice_cmp nat_cmp x.items y.items
 
 -- the list that a look-up found: none where it found nothing
 abbrev pub items_of : Option Numbers → List ℕ

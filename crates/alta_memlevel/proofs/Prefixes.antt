@@ -12,8 +12,7 @@ use Rattle.std.specs.BTreeMap.Range.{range_contains, entries_between}
 use Rattle.std.specs.Map.{keys_of}
 use Rattle.std.proofs.lemmas.Bool.{cases_Bool, cond-false}
 use Rattle.std.proofs.lemmas.Cmp.{ranked}
-use Rattle.alta_memlevel.proofs.Keyed.{order}
-use Rattle.alta_memlevel.specs.Lists.{Numbers, keys_in}
+use Rattle.alta_memlevel.specs.Lists.{Numbers, keys_in, order}
 
 -- whether the term begins so
 abbrev pub begins : List ℕ → List ℕ → Bool

@@ -1,6 +1,9 @@
 -- The terms with their locations, as the level keeps them.
 use Rattle.std.specs.Prelude.{◌≡◌, ℕ, ◌+◌, ◌<◌, List, [], ◌∷◌, ◌++◌, cond, Vec, length, take, map}
-use Rattle.std.specs.BTreeMap.{BTreeMap, values}
+use Rattle.std.specs.BTreeMap.{BTreeMap, values, IsOrdered}
+use Rattle.std.specs.Cmp.Lexicographic.{slice_cmp}
+use Rattle.std.specs.Ordering.{nat_cmp}
+use Rattle.std.specs.declared.cmp.Ordering.{Ordering}
 use Rattle.std.specs.Str.{bytes_eq}
 use Rattle.std.specs.List.{All}
 use Rattle.alta_level.specs.declared.content.TermList.{TermList}
@@ -28,9 +31,14 @@ keys_in es = map (λ e. e.0.items) es
 abbrev pub term_lists : List (Numbers × Numbers) → List TermList
 term_lists es = map (λ e. record { term = e.0.items; locations = e.1.items }) es
 
--- each term has a location
-abbrev pub NoneEmpty : BTreeMap Numbers Numbers → Type 0
-NoneEmpty m = All (λ xs. 0 < length xs.items) (values m)
+-- the collating order of the keys
+abbrev pub order : Numbers → Numbers → Ordering
+order x y = slice_cmp nat_cmp x.items y.items
+
+-- the terms are in order, and each has a location
+pub record IsIndex (m : BTreeMap Numbers Numbers) : Type 0 where
+  pub ordered : IsOrdered order m
+  pub none_empty : All (λ xs. 0 < length xs.items) (values m)
 
 -- lists that have the location at the terms of the cell before the index, and no more than others had, have it at the term of the index too
 abbrev pub AddsOnce : List (List ℕ) → ℕ → ℕ → BTreeMap Numbers Numbers → BTreeMap Numbers Numbers → Type 0

@@ -7,15 +7,17 @@ ghost use Rattle.std.specs.Cmp.Lexicographic.{slice_cmp};
 ghost use Rattle.alta_codec.specs.Rising.{IsRising};
 ghost use Rattle.alta_codec.specs.declared.location.TheConstants.{TOP};
 ghost use Rattle.alta_level.specs.Contents.{end_of, locations_of, terms_of};
-ghost use Rattle.alta_memlevel.specs.Added.{Added, HasContent};
+ghost use Rattle.alta_memlevel.specs.Added.{Added, HasContent, live_of};
 
 use crate::lists::{Lists, put_cells, terms_from};
+use crate::spans::{keep_rows, move_lists, spans_of};
 use alta_codec::{Bytes, Loc};
-use alta_level::{DocRow, DocRows};
+use alta_level::{Content, DocRow, DocRows, TermLists};
 use alta_meta::Cell;
 use std::alloc::{AllocError, Global};
 use std::collections::BTreeMap;
 use std::marker::Model;
+use std::mem;
 
 /// The newest documents as an inverted index in memory. Contracts see the content of the documents that were added,
 /// and whether the level is sound.
@@ -30,13 +32,14 @@ pub struct MemLevel {
 impl Model for MemLevel {
     ghost use Rattle.std.specs.Prelude.{IsTrue};
     ghost use Rattle.alta_memlevel.specs.Added.{Level};
-    ghost use Rattle.alta_memlevel.specs.Lists.{NoneEmpty, term_lists};
+    ghost use Rattle.alta_memlevel.specs.Lists.{IsIndex, term_lists};
+    ghost use Rattle.alta_memlevel.specs.Spans.{RowsRise};
 
     ghost Value = { Level };
 
     ghost view = { λ m. record { sound = m.whole; content = record { documents = m.rows; lists = term_lists m.lists.entries } } };
 
-    ghost invariant = { λ m. IsTrue m.whole → NoneEmpty m.lists };
+    ghost invariant = { λ m. IsTrue m.whole → IsIndex m.lists × RowsRise m.rows };
 }
 
 impl MemLevel {
@@ -104,5 +107,27 @@ impl MemLevel {
     {
         let found = terms_from(self.alloc, &self.lists, prefix)?;
         Ok(found)
+    }
+    /// Takes the content out without the documents whose end is deleted, and leaves a level of no documents. The ends
+    /// may stand in any order, and may be ends of no document. A term that no other document has is left out; the
+    /// lists move, and a list of which no location falls away is not written. Where memory is wanting, the level
+    /// stays as it was.
+    pub fn drain_content(&mut self, deleted: &[Loc]) -> Result<Content, AllocError>
+        requires { IsTrue self.old.sound }
+        ensures sound { IsTrue self.new.sound }
+        ensures content { IfOk result (λ content. (added : List Added) → HasContent added self.old.content → HasContent (live_of deleted.now added) content) }
+        ensures empty { OnOk result (HasContent [] self.new.content) }
+        ensures documents { OnOk result (self.new.content.documents ≡ []) }
+        ensures kept { OnErr result (self.new ≡ self.old) }
+    {
+        let spans = spans_of(self.alloc, self.rows.as_slice(), deleted)?;
+        let room = Vec::with_capacity(self.alloc, self.lists.len())?;
+        let lists = mem::replace(&mut self.lists, BTreeMap::new(self.alloc));
+        let mut rows = mem::replace(&mut self.rows, DocRows::new(self.alloc)).into_vec();
+        keep_rows(&mut rows, &spans);
+        Ok(Content {
+            documents: DocRows::from_vec(rows),
+            lists: TermLists::from_vec(move_lists(room, lists, &spans)),
+        })
     }
 }

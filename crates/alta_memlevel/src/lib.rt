@@ -3,6 +3,7 @@
 
 mod level;
 mod lists;
+mod spans;
 #[cfg(test)]
 mod tests;
 

@@ -8,7 +8,7 @@ ghost use Rattle.std.specs.Str.{bytes_eq};
 ghost use Rattle.alta_codec.specs.declared.location.TheConstants.{TOP};
 ghost use Rattle.alta_meta.specs.Cells.{cell_holds};
 ghost use Rattle.alta_memlevel.specs.Added.{places_of};
-ghost use Rattle.alta_memlevel.specs.Lists.{keys_in, list_at, NoneEmpty, AddsOnce};
+ghost use Rattle.alta_memlevel.specs.Lists.{keys_in, list_at, IsIndex, AddsOnce};
 
 use alta_codec::{Bytes, Loc};
 use alta_meta::Cell;
@@ -20,8 +20,8 @@ pub type Lists = BTreeMap<Vec<u8>, Vec<Loc>>;
 
 /// Adds a location at the end of the term's.
 pub fn put(alloc: Global, lists: &mut Lists, term: &[u8], location: Loc) -> Result<(), AllocError>
-    requires { NoneEmpty lists.old }
-    ensures none_empty { OnOk result (NoneEmpty lists.new) }
+    requires { IsIndex lists.old }
+    ensures index { OnOk result (IsIndex lists.new) }
     ensures added { OnOk result ((other : List ℕ) → list_at lists.new other ≡ list_at lists.old other ++ (cond (bytes_eq term.now other) (location ∷ []) [])) }
 {
     if let Some(list) = lists.get_mut(term) {
@@ -33,9 +33,9 @@ pub fn put(alloc: Global, lists: &mut Lists, term: &[u8], location: Loc) -> Resu
 
 /// Adds a term that is not among them, with its first location.
 fn put_first(alloc: Global, lists: &mut Lists, term: &[u8], location: Loc) -> Result<(), AllocError>
-    requires none_empty { NoneEmpty lists.old }
+    requires index { IsIndex lists.old }
     requires new { list_at lists.old term.now ≡ [] }
-    ensures none_empty { OnOk result (NoneEmpty lists.new) }
+    ensures index { OnOk result (IsIndex lists.new) }
     ensures added { OnOk result ((other : List ℕ) → list_at lists.new other ≡ list_at lists.old other ++ (cond (bytes_eq term.now other) (location ∷ []) [])) }
 {
     let key = Vec::from_slice(alloc, term)?;
@@ -69,8 +69,8 @@ fn holds_before(cell: &Cell, end: usize, term: &[u8]) -> bool
 
 /// Adds a location to each term of the cell, once.
 fn put_cell(alloc: Global, lists: &mut Lists, cell: &Cell, location: Loc) -> Result<(), AllocError>
-    requires { NoneEmpty lists.old }
-    ensures none_empty { OnOk result (NoneEmpty lists.new) }
+    requires { IsIndex lists.old }
+    ensures index { OnOk result (IsIndex lists.new) }
     ensures added { OnOk result ((other : List ℕ) → list_at lists.new other ≡ list_at lists.old other ++ (cond (cell_holds other cell.now) (location ∷ []) [])) }
 {
     for i in 0..cell.len() {
@@ -88,8 +88,8 @@ fn put_once(
     location: Loc,
 ) -> Result<(), AllocError>
     requires within { i < length cell.now }
-    requires none_empty { NoneEmpty lists.old }
-    ensures none_empty { OnOk result (NoneEmpty lists.new) }
+    requires index { IsIndex lists.old }
+    ensures index { OnOk result (IsIndex lists.new) }
     ensures added { OnOk result (AddsOnce cell.now i location lists.old lists.new) }
 {
     let Some(term) = cell.get(i) else {
@@ -109,9 +109,9 @@ pub fn put_cells(
     first: Loc,
     cells: &[Cell],
 ) -> Result<(), AllocError>
-    requires none_empty { NoneEmpty lists.old }
+    requires index { IsIndex lists.old }
     requires below { first + length cells.now < TOP + 1 }
-    ensures none_empty { OnOk result (NoneEmpty lists.new) }
+    ensures index { OnOk result (IsIndex lists.new) }
     ensures added { OnOk result ((other : List ℕ) → list_at lists.new other ≡ list_at lists.old other ++ places_of first other cells.now) }
 {
     let mut location = first;

@@ -3,7 +3,7 @@ ghost use Rattle.std.specs.Prelude.{◌≡◌, length, IfOk, IsTrue};
 
 use crate::MemLevel;
 use alta_codec::Text;
-use alta_level::DocRow;
+use alta_level::{Content, DocRow};
 use alta_meta::{Cell, cells};
 use std::alloc::{AllocError, Global};
 use std::test::Fail;
@@ -100,5 +100,61 @@ fn the_content_is_that_of_the_documents(rt: HostRuntime) -> Result<(), Fail> {
     let nine = made(alloc, "a", "Red Fox", "the quick red fox");
     let seven = made(alloc, "b", "Fox", "quick brown dog");
     assert!(rt; has_their_content(alloc, &nine, &seven)?);
+    Ok(())
+}
+
+/// Whether the content has exactly the second document's row and lists.
+fn is_the_second(content: &Content) -> bool {
+    let lists: [(&[u8], &[u64]); 9] = [
+        (b"D", &[16]),
+        (b"Nb", &[10]),
+        (b"S", &[10]),
+        (b"T", &[12]),
+        (b"Wbrown", &[14]),
+        (b"Wdog", &[15]),
+        (b"Wfox", &[11]),
+        (b"Wquick", &[13]),
+        (b"XFox", &[11]),
+    ];
+    for i in 0..lists.len() {
+        let Some(list) = content.lists.get(i) else {
+            return false;
+        };
+        if list.term.as_slice() != lists[i].0 || list.locations.as_slice() != lists[i].1 {
+            return false;
+        }
+    }
+    let first = content.documents.get(0).map(|row| row.first);
+    content.lists.len() == lists.len() && content.documents.len() == 1 && first == Some(10)
+}
+
+/// Whether the level, drained without the first document, gives the second one, and has after a further add of a
+/// document of seven cells that one alone.
+fn drains(
+    alloc: Global,
+    nine: &[Cell],
+    seven: &[Cell],
+    again: &[Cell],
+) -> Result<bool, AllocError> {
+    if nine.len() != 9 || seven.len() != 7 || again.len() != 7 {
+        return Ok(false);
+    }
+    let mut level = two_documents(alloc, nine, seven)?;
+    let content = level.drain_content(&[40, 9, 3])?;
+    let emptied = level.get(b"D").is_empty() && level.prefixed(b"")?.is_empty();
+    let third = row(alloc, 3, 17, 7, "c")?;
+    level.add(third, again)?;
+    let added = level.get(b"D") == [23].as_slice() && level.get(b"Wfox") == [18].as_slice();
+    let rest = level.drain_content(&[])?;
+    Ok(is_the_second(&content) && emptied && added && rest.documents.len() == 1)
+}
+
+#[test]
+fn a_level_is_drained_and_added_to(rt: HostRuntime) -> Result<(), Fail> {
+    let alloc = rt.alloc();
+    let nine = made(alloc, "a", "Red Fox", "the quick red fox");
+    let seven = made(alloc, "b", "Fox", "quick brown dog");
+    let again = made(alloc, "c", "Fox", "quick brown dog");
+    assert!(rt; drains(alloc, &nine, &seven, &again)?);
     Ok(())
 }

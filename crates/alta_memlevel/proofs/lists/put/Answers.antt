@@ -5,12 +5,15 @@ use Rattle.alta_memlevel.proofs.Keyed.{compare_to, list_at-updates, list_at-foun
 use Rattle.alta_memlevel.specs.Lists.{list_at}
 use Rattle.alta_memlevel.proofs.lists.put.Goals as goal
 
-pub returns-in-Some-clause-none_empty : goal.returns-in-Some-clause-none_empty
-returns-in-Some-clause-none_empty c =
+pub returns-in-Some-clause-index : goal.returns-in-Some-clause-index
+returns-in-Some-clause-index c =
     let v = c.push.new.self in
     let one : 0 < length v.items = rw c.in_ok-push.ensures.items (grind arith) in
-    rw (c.get_mut.follows.holds v).0
-    (All-values-set_value (is_at (compare_to c.args.term.now)) (λ xs. 0 < length xs.items) c.args.lists.now.entries v c.requires one)
+    record {
+      ordered = (c.get_mut.follows.holds v).4;
+      none_empty = rw (c.get_mut.follows.holds v).0
+          (All-values-set_value (is_at (compare_to c.args.term.now)) (λ xs. 0 < length xs.items) c.args.lists.now.entries v c.requires.none_empty one);
+    }
 
 pub returns-in-Some-clause-added : goal.returns-in-Some-clause-added
 returns-in-Some-clause-added c =

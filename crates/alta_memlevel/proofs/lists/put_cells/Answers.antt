@@ -11,7 +11,7 @@ loop-cell-preserved c =
     let i = c.loop-cell.cell-index in
     let at : get_or c.args.cells.now i [] ≡ c.cell-item.result = get_or_default c.args.cells.now i [] c.cell-item.result c.loop-cell-test.true ∙ sym c.cell-item.is in
     let place : c.args.first + i ≡ c.loop-cell.location = sym c.loop-cell.invariant.1 in (
-      c.in_ok-put_cell.ensures.none_empty,
+      c.in_ok-put_cell.ensures.index,
       omega (arith, c.loop-cell.invariant.1),
       λ other.
           let more : places_of c.args.first other (take (i + 1) c.args.cells.now) ≡ places_of c.args.first other (take i c.args.cells.now) ++ cond (cell_holds other c.cell-item.result) (c.loop-cell.location ∷ []) [] =

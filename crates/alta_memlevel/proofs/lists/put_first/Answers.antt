@@ -1,14 +1,17 @@
 use Rattle.std.proofs.Common.{◌≡◌, ◌∷◌, [], ◌++◌, ap, ◌∙◌, arith, length, ◌<◌}
 use Rattle.std.proofs.lemmas.Map.Views.{All-values-insert_entry}
-use Rattle.alta_memlevel.proofs.Keyed.{order, list_at-updates}
-use Rattle.alta_memlevel.specs.Lists.{list_at}
+use Rattle.alta_memlevel.proofs.Keyed.{list_at-updates}
+use Rattle.alta_memlevel.specs.Lists.{list_at, order}
 use Rattle.alta_memlevel.proofs.lists.put_first.Goals as goal
 
-pub returns-clause-none_empty : goal.returns-clause-none_empty
-returns-clause-none_empty c =
+pub returns-clause-index : goal.returns-clause-index
+returns-clause-index c =
     let one : 0 < length c.in_ok-list.list.items = rw c.in_ok-list.ensures.items (omega arith) in
-    rw c.in_ok-insert.ensures.entries
-    (All-values-insert_entry order c.in_ok-key.key c.in_ok-list.list (λ xs. 0 < length xs.items) c.args.lists.now.entries c.requires.none_empty one)
+    record {
+      ordered = c.in_ok-insert.ensures.ordered;
+      none_empty = rw c.in_ok-insert.ensures.entries
+          (All-values-insert_entry order c.in_ok-key.key c.in_ok-list.list (λ xs. 0 < length xs.items) c.args.lists.now.entries c.requires.index.none_empty one);
+    }
 
 pub returns-clause-added : goal.returns-clause-added
 returns-clause-added c =

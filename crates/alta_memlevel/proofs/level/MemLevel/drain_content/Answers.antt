@@ -1,0 +1,49 @@
+use Rattle.std.proofs.Common.{◌≡◌, not, sym, ap, subst, ◌∙◌, IsTrue}
+use Rattle.std.specs.List.{filter}
+use Rattle.alta_level.specs.declared.content.Content.{Content}
+use Rattle.alta_memlevel.specs.Added.{HasContent, live_of}
+use Rattle.alta_memlevel.specs.Lists.{term_lists}
+use Rattle.alta_memlevel.specs.Spans.{RowsRise, SpansRise, is_within, deleted_spans, lists_outside}
+use Rattle.alta_memlevel.proofs.Contents.{content-empty}
+use Rattle.alta_memlevel.proofs.Drained.{spans_rise, content_live}
+use Rattle.alta_memlevel.proofs.level.MemLevel.drain_content.Goals as goal
+
+pub spans_of-requires : goal.spans_of-requires
+spans_of-requires c =
+    let whole : IsTrue c.self.inside.whole = subst (λ v. IsTrue v.sound) (sym c.self.view_is) c.requires in
+    subst RowsRise (sym c.as_slice.ensures) (c.self.invariant whole).1
+
+pub keep_rows-requires : goal.keep_rows-requires
+keep_rows-requires c =
+    let whole : IsTrue c.self.inside.whole = subst (λ v. IsTrue v.sound) (sym c.self.view_is) c.requires in
+    let rise : RowsRise c.as_slice.result.now = subst RowsRise (sym c.as_slice.ensures) (c.self.invariant whole).1 in
+    subst SpansRise (sym (c.deref.ensures.value ∙ c.in_ok-spans.ensures)) (spans_rise c.args.deleted.now c.as_slice.result.now rise)
+
+pub move_lists-requires-clause-rising : goal.move_lists-requires-clause-rising
+move_lists-requires-clause-rising c =
+    let whole : IsTrue c.self.inside.whole = subst (λ v. IsTrue v.sound) (sym c.self.view_is) c.requires in
+    let rise : RowsRise c.as_slice.result.now = subst RowsRise (sym c.as_slice.ensures) (c.self.invariant whole).1 in
+    subst SpansRise (sym (c.deref-2.ensures.value ∙ c.in_ok-spans.ensures)) (spans_rise c.args.deleted.now c.as_slice.result.now rise)
+
+pub returns-clause-content : goal.returns-clause-content
+returns-clause-content c =
+    let whole : IsTrue c.self.inside.whole = subst (λ v. IsTrue v.sound) (sym c.self.view_is) c.requires in
+    let rise : RowsRise c.self.inside.rows = (c.self.invariant whole).1 in
+    let old : Content = record { documents = c.self.inside.rows; lists = term_lists c.self.inside.lists.entries } in
+    let new : Content = record { documents = c.from_vec.result; lists = c.from_vec-2.result } in
+    let spans : c.in_ok-spans.spans.items ≡ deleted_spans c.args.deleted.now old.documents =
+    c.in_ok-spans.ensures ∙ ap (deleted_spans c.args.deleted.now) c.as_slice.ensures in
+    let documents : new.documents ≡ filter (λ r. not (is_within (deleted_spans c.args.deleted.now old.documents) r.first)) old.documents =
+    c.from_vec.ensures ∙ c.keep_rows.ensures
+    ∙ ap (λ s. filter (λ r. not (is_within s r.first)) c.into_vec-rows.result.items) (c.deref.ensures.value ∙ spans)
+    ∙ ap (filter (λ r. not (is_within (deleted_spans c.args.deleted.now old.documents) r.first))) (c.into_vec-rows.ensures ∙ c.replace.ensures.value) in
+    let lists : new.lists ≡ lists_outside (deleted_spans c.args.deleted.now old.documents) old.lists =
+    c.from_vec-2.ensures ∙ c.move_lists.ensures
+    ∙ ap (λ s. lists_outside s (term_lists c.replace-lists.result.entries)) (c.deref-2.ensures.value ∙ spans)
+    ∙ ap (λ m. lists_outside (deleted_spans c.args.deleted.now old.documents) (term_lists m.entries)) c.replace-lists.ensures.value in
+    λ added h. content_live c.args.deleted.now added old new (subst (λ v. HasContent added v.content) (sym c.self.view_is) h) rise documents lists
+
+pub returns-clause-empty : goal.returns-clause-empty
+returns-clause-empty c =
+    content-empty c.replace.new.dest c.replace-lists.new.dest.entries
+    (c.replace.ensures.after ∙ c.new-2.ensures) (ap (λ m. m.entries) c.replace-lists.ensures.after ∙ c.new.ensures.empty)

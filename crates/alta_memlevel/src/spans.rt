@@ -1,0 +1,104 @@
+// The spans of the deleted documents, and what stands outside of them.
+ghost use Rattle.std.specs.Prelude.{◌≡◌, ◌+◌, ◌≤◌, [], length, nat_eq, not, IfOk};
+ghost use Rattle.std.specs.List.{filter, list_any};
+ghost use Rattle.std.specs.List.Sorted.{IsSorted};
+ghost use Rattle.std.specs.Ordering.{nat_cmp};
+ghost use Rattle.std.specs.Vec.{vec_capacity, vec_len};
+ghost use Rattle.alta_memlevel.specs.Lists.{term_lists};
+ghost use Rattle.alta_memlevel.specs.Spans.{RowsRise, SpansRise, is_within, deleted_spans, outside_of, lists_outside};
+
+use crate::lists::Lists;
+use alta_codec::{Bytes, Loc};
+use alta_level::{DocRow, Locations, TermList};
+use std::alloc::{AllocError, Global};
+
+/// The locations of a document, from the first to the last.
+#[derive(Clone, Copy)]
+pub struct Span {
+    pub first: Loc,
+    pub last: Loc,
+}
+
+/// The spans of the rows whose end is deleted, in the order of the rows.
+pub fn spans_of(alloc: Global, rows: &[DocRow], deleted: &[Loc]) -> Result<Vec<Span>, AllocError>
+    requires { RowsRise rows.now }
+    ensures { IfOk result (λ spans. spans.items ≡ deleted_spans deleted.now rows.now) }
+{
+    let mut ends = Vec::from_slice(alloc, deleted)?;
+    ends.sort_unstable();
+    let mut spans = Vec::new(alloc);
+    for row in rows {
+        let last = row.first + row.cells - 1;
+        if has(&ends, last) {
+            let first = row.first;
+            spans.push(Span { first, last })?;
+        }
+    }
+    Ok(spans)
+}
+
+/// Whether the location is one of these, which are sorted.
+fn has(sorted: &[Loc], location: Loc) -> bool
+    requires { IsSorted nat_cmp sorted.now }
+    ensures { result ≡ list_any (λ x. nat_eq x location) sorted.now }
+{
+    sorted.binary_search(&location).is_ok()
+}
+
+/// Whether the location is in one of the spans.
+fn within(spans: &[Span], location: Loc) -> bool
+    requires { SpansRise spans.now }
+    ensures { result ≡ is_within spans.now location }
+{
+    let i = spans.partition_point(|span| span.last < location);
+    match spans.get(i) {
+        Some(span) => span.first <= location,
+        None => false,
+    }
+}
+
+/// Leaves the rows that begin outside of the spans.
+pub fn keep_rows(rows: &mut Vec<DocRow>, spans: &[Span])
+    requires { SpansRise spans.now }
+    ensures { rows.new.items ≡ filter (λ r. not (is_within spans.now r.first)) rows.old.items }
+{
+    if spans.is_empty() {
+        return;
+    }
+    rows.retain(|row| !within(spans, row.first));
+}
+
+/// Leaves the locations outside of the spans.
+fn keep_locations(locations: &mut Vec<Loc>, spans: &[Span])
+    requires { SpansRise spans.now }
+    ensures { locations.new.items ≡ outside_of spans.now locations.old.items }
+{
+    if spans.is_empty() {
+        return;
+    }
+    locations.retain(|location| !within(spans, *location));
+}
+
+/// Moves the terms that have a location outside of the spans, each with these locations, behind one another into
+/// the empty vector, which has room for all of them.
+pub fn move_lists(room: Vec<TermList>, lists: Lists, spans: &[Span]) -> Vec<TermList>
+    requires empty { room.items ≡ [] }
+    requires room { vec_len room + length lists.entries ≤ vec_capacity room }
+    requires rising { SpansRise spans.now }
+    ensures { result.items ≡ lists_outside spans.now (term_lists lists.entries) }
+{
+    let mut kept = room;
+    for (term, list) in lists {
+        let mut locations = list;
+        keep_locations(&mut locations, spans);
+        if locations.is_empty() {
+            continue;
+        }
+        let term = Bytes::from_vec(term);
+        let locations = Locations::from_vec(locations);
+        let Ok(()) = kept.push(TermList { term, locations }) else {
+            unreachable!()
+        };
+    }
+    kept
+}
