@@ -1,14 +1,13 @@
 -- The content without the documents whose end is deleted.
-use Rattle.std.proofs.Common.{◌≡◌, ⊎_elim, ℕ, zero, suc, ◌+◌, ◌<◌, ◌≤◌, Bool, true, false, ◌&&◌, ◌||◌, not, cond, List, [], ◌∷◌, ◌++◌, length, map, get_or, refl, sym, ap, subst, ◌∙◌, arith}
-use mathlib.Core.Bool.{false≢true}
+use Rattle.std.proofs.Common.{◌≡◌, ⊎_elim, ℕ, zero, suc, ◌+◌, ◌<◌, ◌≤◌, Bool, true, false, not, cond, List, [], ◌∷◌, ◌++◌, length, map, get_or, refl, sym, ap, subst, ◌∙◌, arith}
 use Rattle.std.specs.Prelude.{nat_le, nat_lt}
 use Rattle.std.specs.Cmp.Lexicographic.{slice_cmp, bytes_decides}
-use Rattle.std.specs.List.{All, AllByRecursion, filter, list_any}
+use Rattle.std.specs.List.{All, AllByRecursion, filter}
 use Rattle.std.specs.List.Sorted.{IsStrictlySortedBy, IsNonDecreasingBy}
 use Rattle.std.specs.Ordering.{nat_cmp, is_eq}
 use Rattle.std.specs.declared.cmp.Ordering.TheVariants.{Less}
 use Rattle.std.specs.Str.{bytes_eq}
-use Rattle.std.proofs.lemmas.Bool.{cases_Bool, cond-true, cond-false, le-leb, lt-leb, leb-true, leb-false, and_left, and_right, or_from, ltb-true, ltb-false, le-ltb}
+use Rattle.std.proofs.lemmas.Bool.{cases_Bool, le-leb, lt-leb, leb-true, and_left, and_right, or_from, ltb-true, ltb-false}
 use Rattle.std.proofs.lemmas.List.Elements.{All-nil, All-cons, All-head, All-tail, All-push, All-filter, All-weaker, filter-append, filter_passes}
 use Rattle.std.proofs.lemmas.Map.Text.{is_eq-slice_cmp}
 use Rattle.alta_level.specs.declared.content.Content.{Content}
@@ -16,7 +15,7 @@ use Rattle.alta_level.specs.declared.content.DocRow.{DocRow}
 use Rattle.alta_level.specs.declared.content.TermList.{TermList}
 use Rattle.alta_level.specs.Contents.{end_of, locations_of, terms_of}
 use Rattle.alta_meta.specs.Cells.{cell_holds}
-use Rattle.alta_memlevel.specs.Added.{Added, places_of, list_of, IsDocument, IsSpace, HasContent, ends_among, live_of}
+use Rattle.alta_memlevel.specs.Added.{Added, places_of, list_of, IsSpace, HasContent, ends_among, live_of}
 use Rattle.alta_memlevel.specs.Spans.{IsPlaced, RowsRise, SpansRise, span_has, is_within, span_of, deleted_spans, outside_of, lists_outside}
 use Rattle.alta_memlevel.specs.declared.spans.Span.{Span}
 

@@ -1,9 +1,9 @@
 -- What the loops over the rows and over the lists leave.
-use Rattle.std.proofs.Common.{◌≡◌, ⊎_elim, ℕ, ◌+◌, ◌<◌, ◌≤◌, ◌==◌, zero, suc, Bool, true, false, not, cond, nat_eq, List, [], ◌∷◌, ◌++◌, length, map, take, get_or, refl, sym, ap, subst, ◌∙◌, append-nil, append_assoc, arith, Vec}
+use Rattle.std.proofs.Common.{◌≡◌, ⊎_elim, ℕ, ◌+◌, ◌<◌, ◌≤◌, ◌==◌, zero, suc, true, false, not, cond, nat_eq, List, [], ◌∷◌, ◌++◌, length, map, take, get_or, refl, sym, ap, subst, ◌∙◌, append-nil, append_assoc, arith, Vec}
 use mathlib.Core.Bool.{true≢false}
 use Rattle.std.specs.Prelude.{nat_lt}
 use Rattle.std.specs.declared.result.Result.{Result}
-use Rattle.std.specs.List.{All, filter, list_any}
+use Rattle.std.specs.List.{filter, list_any}
 use Rattle.std.specs.List.Sorted.{IsSorted, IsBinarySearchResult}
 use Rattle.std.specs.Ordering.{nat_cmp}
 use Rattle.std.specs.Result.{MatchResult, is_ok}
@@ -11,8 +11,8 @@ use Rattle.std.specs.declared.result.Result.TheVariants.{Ok, Err}
 use Rattle.std.specs.Vec.{vec_len, vec_capacity}
 use Rattle.std.specs.declared.alloc.Global.{Global}
 use Rattle.std.proofs.lemmas.Bool.{cases_Bool, eq-eqb, ne_eqb, eqb-true, cases_lt, le-ltb, lt-ltb}
-use Rattle.std.proofs.lemmas.List.{take_more, get_or_default, map-append}
-use Rattle.std.proofs.lemmas.List.Elements.{filter-append, filter_more}
+use Rattle.std.proofs.lemmas.List.{get_or_default, map-append}
+use Rattle.std.proofs.lemmas.List.Elements.{filter_more}
 use Rattle.std.proofs.lemmas.List.Folds.{list_any_at, list_any_none}
 use Rattle.std.proofs.lemmas.List.Sorted.{searched, IsNonDecreasingBy-from_sort}
 use Rattle.alta_level.specs.declared.content.DocRow.{DocRow}

@@ -1,7 +1,7 @@
 use Rattle.std.proofs.Common.{◌≡◌, not, sym, ap, subst, ◌∙◌, IsTrue}
 use Rattle.std.specs.List.{filter}
 use Rattle.alta_level.specs.declared.content.Content.{Content}
-use Rattle.alta_memlevel.specs.Added.{HasContent, live_of}
+use Rattle.alta_memlevel.specs.Added.{HasContent}
 use Rattle.alta_memlevel.specs.Lists.{term_lists}
 use Rattle.alta_memlevel.specs.Spans.{RowsRise, SpansRise, is_within, deleted_spans, lists_outside}
 use Rattle.alta_memlevel.proofs.Contents.{content-empty}
