@@ -20,9 +20,9 @@ pub locations_of-term_lists : (es : List (Numbers × Numbers)) (t : List ℕ) �
 locations_of-term_lists [] t = refl
 locations_of-term_lists (e ∷ es) t = ap (λ l. cond (bytes_eq t e.0.items) e.1.items l) (locations_of-term_lists es t)
 
-pub terms_of-term_lists : (es : List (Numbers × Numbers)) → terms_of (term_lists es) ≡ keys_in es
-terms_of-term_lists [] = refl
-terms_of-term_lists (e ∷ es) = ap (λ l. e.0.items ∷ l) (terms_of-term_lists es)
+pub terms_of_term_lists : (es : List (Numbers × Numbers)) → terms_of (term_lists es) ≡ keys_in es
+terms_of_term_lists [] = refl
+terms_of_term_lists (e ∷ es) = ap (λ l. e.0.items ∷ l) (terms_of_term_lists es)
 
 pub some-term_lists : (es : List (Numbers × Numbers)) → All (λ xs. 0 < length xs.items) (values_of es) → All (λ l. 0 < length l.locations) (term_lists es)
 some-term_lists [] h = All-nil (λ l. 0 < length l.locations)
@@ -32,9 +32,9 @@ some-term_lists (e ∷ es) h =
     (some-term_lists es (All-tail (λ xs. 0 < length xs.items) e.1 (values_of es) h))
 
 -- ---- no documents
-pub content-empty : (rows : List DocRow) (es : List (Numbers × Numbers)) → rows ≡ [] → es ≡ [] → HasContent [] record { documents = rows; lists = term_lists es }
+pub content_empty : (rows : List DocRow) (es : List (Numbers × Numbers)) → rows ≡ [] → es ≡ [] → HasContent [] record { documents = rows; lists = term_lists es }
 unfolding IsStrictlySortedBy
-content-empty rows es r e = rw (r, e) record {
+content_empty rows es r e = rw (r, e) record {
   space = tt;
   documents = refl;
   lists = λ t. refl;
@@ -132,11 +132,15 @@ first-positive : (added : List Added) → IsSpace added → All (λ b. 1 ≤ b.r
 first-positive [] s = All-nil (λ b. 1 ≤ b.row.first)
 first-positive (a ∷ more) s = All-cons (λ b. 1 ≤ b.row.first) a more s.0.positive (first-positive more s.3)
 
-pub list_of-rises : (added : List Added) (t : List ℕ) → IsSpace added → IsRising (list_of added t)
-list_of-rises added t s =
+pub list_of_rises : (added : List Added) (t : List ℕ) → IsSpace added → IsRising (list_of added t)
+list_of_rises added t s =
     let r : RisesIn 1 TOP (list_of added t) = rises-documents 1 added t (lit≤ tt) s (first-positive added s) in
     record {
       rising = λ i j l m. rises-index 1 TOP (list_of added t) i j r l m;
       positive = λ i l. let q = rises-at 1 TOP (list_of added t) i r l in omega (arith, q.0);
       below = λ i l. (rises-at 1 TOP (list_of added t) i r l).1;
     }
+
+-- the locations of each term of a content rise
+pub content_rises : (added : List Added) (content : Content) (t xs : List ℕ) → HasContent added content → xs ≡ locations_of content.lists t → IsRising xs
+content_rises added content t xs h e = subst IsRising (sym (e ∙ h.lists t)) (list_of_rises added t h.space)

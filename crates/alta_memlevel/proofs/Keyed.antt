@@ -15,7 +15,9 @@ use Rattle.std.proofs.lemmas.Bool.{cases_Bool, cond-true, cond-false}
 use Rattle.std.proofs.lemmas.Map.Text.{is_eq-slice_cmp}
 use Rattle.alta_meta.specs.Cells.{cell_holds}
 use Rattle.alta_memlevel.specs.Added.{places_of}
-use Rattle.alta_memlevel.specs.Lists.{Numbers, list_in, list_at, order}
+use Rattle.alta_memlevel.specs.Lists.{Numbers, list_in, list_at, order, term_lists}
+use Rattle.alta_level.specs.Contents.{locations_of}
+use Rattle.alta_memlevel.proofs.Contents.{locations_of-term_lists}
 
 -- how a term's bytes compare to a key
 abbrev pub compare_to : List ℕ → Numbers → Ordering
@@ -76,6 +78,13 @@ list_at-updates bs m n v x h e cs =
 -- the list of a term that a look-up found, or not
 pub list_at-found : (bs : List ℕ) (m : BTreeMap Numbers Numbers) (o : Option Numbers) → o ≡ get_by (compare_to bs) m → list_at m bs ≡ items_of o
 list_at-found bs m o e = list_in-lookup bs m.entries ∙ ap items_of (sym e)
+
+-- where a term stands, by what a look-up found
+pub located : (bs : List ℕ) (m : BTreeMap Numbers Numbers) (v : Numbers) → Some v ≡ get_by (compare_to bs) m → v.items ≡ locations_of (term_lists m.entries) bs
+located bs m v e = sym (locations_of-term_lists m.entries bs ∙ list_at-found bs m (Some v) e)
+
+pub not_located : (bs : List ℕ) (m : BTreeMap Numbers Numbers) → None ≡ get_by (compare_to bs) m → [] ≡ locations_of (term_lists m.entries) bs
+not_located bs m e = sym (locations_of-term_lists m.entries bs ∙ list_at-found bs m None e)
 
 or_false : (b : Bool) → (b || false) ≡ b
 or_false true = refl

@@ -44,6 +44,7 @@ impl Model for MemLevel {
 
 impl MemLevel {
     /// A level of no documents. What it takes in memory comes from the allocator.
+    #[tactic(auto, using(crate::proofs::Contents::content_empty))]
     pub fn new(alloc: Global) -> MemLevel
         ensures sound { IsTrue result.sound }
         ensures empty { HasContent [] result.content }
@@ -87,6 +88,7 @@ impl MemLevel {
     }
 
     /// The locations of a term, rising, without a copy: none where no cell holds it.
+    #[tactic(auto, using(crate::proofs::Keyed::located, crate::proofs::Keyed::not_located))]
     pub fn get(&self, term: &[u8]) -> &[Loc]
         requires { IsTrue self.now.sound }
         ensures value { result.now ≡ locations_of self.now.content.lists term.now }
@@ -100,6 +102,7 @@ impl MemLevel {
 
     /// The terms that begin so, in collating order. Only these, and the one behind them, are visited. Where memory
     /// is wanting, the level stays sound.
+    #[tactic(auto, using(crate::proofs::Contents::terms_of_term_lists))]
     pub fn prefixed(&self, prefix: &[u8]) -> Result<Vec<Bytes>, AllocError>
         requires { IsTrue self.now.sound }
         ensures terms { IfOk result (λ found. found.items ≡ filter (λ t. starts_with nat_eq t prefix.now) (terms_of self.now.content.lists)) }
@@ -112,6 +115,7 @@ impl MemLevel {
     /// may stand in any order, and may be ends of no document. A term that no other document has is left out; the
     /// lists move, and a list of which no location falls away is not written. Where memory is wanting, the level
     /// stays as it was.
+    #[tactic(auto, using(crate::proofs::Contents::content_empty))]
     pub fn drain_content(&mut self, deleted: &[Loc]) -> Result<Content, AllocError>
         requires { IsTrue self.old.sound }
         ensures sound { IsTrue self.new.sound }

@@ -5,7 +5,7 @@ ghost use Rattle.std.specs.List.Sorted.{IsSorted};
 ghost use Rattle.std.specs.Ordering.{nat_cmp};
 ghost use Rattle.std.specs.Vec.{vec_capacity, vec_len};
 ghost use Rattle.alta_memlevel.specs.Lists.{term_lists};
-ghost use Rattle.alta_memlevel.specs.Spans.{RowsRise, SpansRise, is_within, deleted_spans, outside_of, lists_outside};
+ghost use Rattle.alta_memlevel.specs.Spans.{IsPlaced, RowsRise, SpansRise, span_of, is_within, deleted_spans, outside_of, lists_outside};
 
 use crate::lists::Lists;
 use alta_codec::{Bytes, Loc};
@@ -19,6 +19,19 @@ pub struct Span {
     pub last: Loc,
 }
 
+impl Span {
+    /// The locations of the row's document.
+    fn of(row: &DocRow) -> Span
+        requires { IsPlaced row.now }
+        ensures { result ≡ span_of row.now }
+    {
+        Span {
+            first: row.first,
+            last: row.first + row.cells - 1,
+        }
+    }
+}
+
 /// The spans of the rows whose end is deleted, in the order of the rows.
 pub fn spans_of(alloc: Global, rows: &[DocRow], deleted: &[Loc]) -> Result<Vec<Span>, AllocError>
     requires { RowsRise rows.now }
@@ -28,10 +41,9 @@ pub fn spans_of(alloc: Global, rows: &[DocRow], deleted: &[Loc]) -> Result<Vec<S
     ends.sort_unstable();
     let mut spans = Vec::new(alloc);
     for row in rows {
-        let last = row.first + row.cells - 1;
-        if has(&ends, last) {
-            let first = row.first;
-            spans.push(Span { first, last })?;
+        let span = Span::of(row);
+        if has(&ends, span.last) {
+            spans.push(span)?;
         }
     }
     Ok(spans)

@@ -4,7 +4,6 @@ use Rattle.alta_level.specs.declared.content.Content.{Content}
 use Rattle.alta_memlevel.specs.Added.{HasContent}
 use Rattle.alta_memlevel.specs.Lists.{term_lists}
 use Rattle.alta_memlevel.specs.Spans.{RowsRise, SpansRise, is_within, deleted_spans, lists_outside}
-use Rattle.alta_memlevel.proofs.Contents.{content-empty}
 use Rattle.alta_memlevel.proofs.Drained.{spans_rise, content_live}
 use Rattle.alta_memlevel.proofs.level.MemLevel.drain_content.Goals as goal
 
@@ -42,8 +41,3 @@ returns-clause-content c =
     ∙ ap (λ s. lists_outside s (term_lists c.replace-lists.result.entries)) (c.deref-2.ensures.value ∙ spans)
     ∙ ap (λ m. lists_outside (deleted_spans c.args.deleted.now old.documents) (term_lists m.entries)) c.replace-lists.ensures.value in
     λ added h. content_live c.args.deleted.now added old new (subst (λ v. HasContent added v.content) (sym c.self.view_is) h) rise documents lists
-
-pub returns-clause-empty : goal.returns-clause-empty
-returns-clause-empty c =
-    content-empty c.replace.new.dest c.replace-lists.new.dest.entries
-    (c.replace.ensures.after ∙ c.new-2.ensures) (ap (λ m. m.entries) c.replace-lists.ensures.after ∙ c.new.ensures.empty)
