@@ -111,6 +111,7 @@ impl MemLevel {
         let found = terms_from(self.alloc, &self.lists, prefix)?;
         Ok(found)
     }
+
     /// Takes the content out without the documents whose end is deleted, and leaves a level of no documents. The ends
     /// may stand in any order, and may be ends of no document. A term that no other document has is left out; the
     /// lists move, and a list of which no location falls away is not written. Where memory is wanting, the level
