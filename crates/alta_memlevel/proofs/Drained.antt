@@ -1,15 +1,16 @@
 -- The content without the documents whose end is deleted.
 use Rattle.std.proofs.Common.{◌≡◌, ⊎_elim, ℕ, zero, suc, ◌+◌, ◌<◌, ◌≤◌, Bool, true, false, not, cond, List, [], ◌∷◌, ◌++◌, length, map, get_or, refl, sym, ap, subst, ◌∙◌, arith}
 use Rattle.std.specs.Prelude.{nat_le, nat_lt}
-use Rattle.std.specs.Cmp.Lexicographic.{slice_cmp, bytes_decides}
+use Rattle.std.specs.Cmp.Lexicographic.{nat_list_eq_equiv, slice_cmp, bytes_decides}
 use Rattle.std.specs.List.{All, AllByRecursion, filter}
 use Rattle.std.specs.List.Sorted.{IsStrictlySortedBy, IsNonDecreasingBy}
 use Rattle.std.specs.Ordering.{nat_cmp, is_eq}
 use Rattle.std.specs.declared.cmp.Ordering.TheVariants.{Less}
 use Rattle.std.specs.Str.{bytes_eq}
-use Rattle.std.proofs.lemmas.Bool.{cases_Bool, le-leb, lt-leb, leb-true, and_left, and_right, or_from, ltb-true, ltb-false}
+use Rattle.std.proofs.lemmas.Bool.{cases_Bool, cond-true, cond-false, le-leb, lt-leb, leb-true, and_left, and_right, or_from, ltb-true, ltb-false}
 use Rattle.std.proofs.lemmas.List.Elements.{All-nil, All-cons, All-head, All-tail, All-push, All-filter, All-weaker, filter-append, filter_passes}
 use Rattle.std.proofs.lemmas.Map.Text.{is_eq-slice_cmp}
+use Rattle.alta_codec.specs.Rising.{IsRising}
 use Rattle.alta_level.specs.declared.content.Content.{Content}
 use Rattle.alta_level.specs.declared.content.DocRow.{DocRow}
 use Rattle.alta_level.specs.declared.content.TermList.{TermList}
@@ -18,6 +19,7 @@ use Rattle.alta_meta.specs.Cells.{cell_holds}
 use Rattle.alta_memlevel.specs.Added.{Added, places_of, list_of, IsSpace, HasContent, ends_among, live_of}
 use Rattle.alta_memlevel.specs.Spans.{IsPlaced, RowsRise, SpansRise, span_has, is_within, span_of, deleted_spans, outside_of, lists_outside}
 use Rattle.alta_memlevel.specs.declared.spans.Span.{Span}
+use Rattle.alta_memlevel.proofs.Contents.{list_of_rises}
 
 -- ---- spans of rows
 later_spans : (deleted : List ℕ) (x : ℕ) (rows : List DocRow) → All (λ r. x < r.first) rows → All (λ s. x < s.first) (deleted_spans deleted rows)
@@ -292,3 +294,27 @@ rows_push (r ∷ rs) row h p later = (
 pub rows_placed : (rows : List DocRow) → RowsRise rows → All IsPlaced rows
 rows_placed [] h = All-nil IsPlaced
 rows_placed (r ∷ rs) h = All-cons IsPlaced r rs h.0 (rows_placed rs h.2)
+
+-- ---- each list of a content
+after_each : (t : List ℕ) (lists : List TermList) → TermsAfter t lists → All (λ l. slice_cmp nat_cmp t l.term ≡ Less) lists
+after_each t [] h = All-nil (λ l. slice_cmp nat_cmp t l.term ≡ Less)
+after_each t (l ∷ ls) h = All-cons (λ l. slice_cmp nat_cmp t l.term ≡ Less) l ls h.0 (after_each t ls h.1)
+
+-- the locations at a list's own term are the list's
+own_locations : (lists : List TermList) → IsStrictlySortedBy (slice_cmp nat_cmp) (terms_of lists) → All (λ l. locations_of lists l.term ≡ l.locations) lists
+unfolding IsStrictlySortedBy
+own_locations [] s = All-nil (λ l. locations_of [] l.term ≡ l.locations)
+own_locations (l ∷ ls) s =
+    let rest = own_locations ls s.1 in
+    All-cons (λ k. locations_of (l ∷ ls) k.term ≡ k.locations) l ls
+    (cond-true (bytes_eq l.term l.term) l.locations (locations_of ls l.term) ((bytes_decides l.term l.term).1 refl))
+    (λ k d m.
+    let other = get_or ls k d in
+    let apart : bytes_eq other.term l.term ≡ false =
+    nat_list_eq_equiv.symm other.term l.term ∙ sym (is_eq-slice_cmp l.term other.term) ∙ ap is_eq (after_each l.term ls s.0 k d m) in
+    cond-false (bytes_eq other.term l.term) l.locations (locations_of ls other.term) apart ∙ rest k d m)
+
+pub lists_rise : (added : List Added) (content : Content) → HasContent added content → All (λ l. IsRising l.locations) content.lists
+lists_rise added content h = λ k d m.
+    let l = get_or content.lists k d in
+    subst IsRising (sym (h.lists l.term) ∙ own_locations content.lists h.sorted k d m) (list_of_rises added l.term h.space)

@@ -121,6 +121,7 @@ impl MemLevel {
         requires { IsTrue self.old.sound }
         ensures sound { IsTrue self.new.sound }
         ensures content { IfOk result (λ content. (added : List Added) → HasContent added self.old.content → HasContent (live_of deleted.now added) content) }
+        ensures rising { IfOk result (λ content. (added : List Added) → HasContent added self.old.content → All (λ l. IsRising l.locations) content.lists) }
         ensures empty { OnOk result (HasContent [] self.new.content) }
         ensures documents { OnOk result (self.new.content.documents ≡ []) }
         ensures kept { OnErr result (self.new ≡ self.old) }

@@ -1,10 +1,10 @@
 use Rattle.std.proofs.Common.{◌≡◌, not, sym, ap, subst, ◌∙◌, IsTrue}
 use Rattle.std.specs.List.{filter}
 use Rattle.alta_level.specs.declared.content.Content.{Content}
-use Rattle.alta_memlevel.specs.Added.{HasContent}
+use Rattle.alta_memlevel.specs.Added.{HasContent, live_of}
 use Rattle.alta_memlevel.specs.Lists.{term_lists}
 use Rattle.alta_memlevel.specs.Spans.{RowsRise, SpansRise, is_within, deleted_spans, lists_outside}
-use Rattle.alta_memlevel.proofs.Drained.{spans_rise, content_live}
+use Rattle.alta_memlevel.proofs.Drained.{spans_rise, content_live, lists_rise}
 use Rattle.alta_memlevel.proofs.level.MemLevel.drain_content.Goals as goal
 
 pub spans_of-requires : goal.spans_of-requires
@@ -41,3 +41,7 @@ returns-clause-content c =
     ∙ ap (λ s. lists_outside s (term_lists c.replace-lists.result.entries)) (c.deref-2.ensures.value ∙ spans)
     ∙ ap (λ m. lists_outside (deleted_spans c.args.deleted.now old.documents) (term_lists m.entries)) c.replace-lists.ensures.value in
     λ added h. content_live c.args.deleted.now added old new (subst (λ v. HasContent added v.content) (sym c.self.view_is) h) rise documents lists
+
+pub returns-clause-rising : goal.returns-clause-rising
+returns-clause-rising c =
+    λ added h. lists_rise (live_of c.args.deleted.now added) (record { documents = c.from_vec.result; lists = c.from_vec-2.result }) (returns-clause-content c added h)
