@@ -1,8 +1,7 @@
--- Whether cells match a query, by trying every place, and the documents of a state that do.
+-- Whether cells match a query, by trying every place, and which of some documents do.
 use Rattle.std.specs.Prelude.{ℕ, ◌+◌, Bool, true, false, not, ◌&&◌, ◌||◌, nat_le, List, [], ◌∷◌, ◌++◌, length, get_or}
 use Rattle.std.specs.List.{list_all, list_any, filter, range_with_len}
 use Rattle.alta_meta.specs.declared.document.Document.{Document}
-use Rattle.alta_meta.specs.declared.document.State.{State}
 use Rattle.alta_query.specs.Patterns.{Bound, Pattern, meets, pattern_of}
 use Rattle.alta_query.specs.Shape.{Shape, Shapes, atom, all, any, negated, none, more}
 use Rattle.alta_query.specs.declared.test.Test.{Test}
@@ -31,6 +30,6 @@ abbrev mutual
   any_matches cells none = false
   any_matches cells (more q qs) = is_match cells q || any_matches cells qs
 
--- the documents that match, in order
-abbrev pub answers : State → Shape → List Document
-answers s q = filter (λ (d : Document). is_match d.cells q) s.documents
+-- those of the documents that match, in order
+abbrev pub answers : List Document → Shape → List Document
+answers documents q = filter (λ (d : Document). is_match d.cells q) documents

@@ -38,7 +38,7 @@ all_graphic_of (x ∷ xs) test =
     let rest : list_all (λ b. nat_le 33 b && nat_le b 126) xs ≡ true = grind (arith, common_steps) in
     graphic_at x xs (graphic_of x first) (all_graphic_of xs rest)
 
-name_is : (name : List ℕ) → IsName name → is_name name ≡ true
+pub name_is : (name : List ℕ) → IsName name → is_name name ≡ true
 unfolding is_name
 name_is name named =
     let all : list_all (λ b. nat_le 33 b && nat_le b 126) name ≡ true = all_graphic name named.2 in
@@ -54,7 +54,7 @@ name_of name test = (
   all_graphic_of name (let all : list_all (λ b. nat_le 33 b && nat_le b 126) name ≡ true = grind (arith, common_steps) in all),
 )
 
-name_is_not : (name : List ℕ) → (IsName name → ⊥) → (b : Bool) → is_name name ≡ b → b ≡ false
+pub name_is_not : (name : List ℕ) → (IsName name → ⊥) → (b : Bool) → is_name name ≡ b → b ≡ false
 name_is_not name other true test = absurd (other (name_of name test))
 name_is_not name other false test = refl
 

@@ -10,15 +10,22 @@ use Rattle.alta_model.specs.Seen.{command_of}
 use Rattle.alta_model.specs.declared.line.Line.{Line}
 use Rattle.alta_model.specs.declared.line.Line.TheVariants.{Add, Delete, Search, Count, Explain, OpenCursor, Fetch, Close, Flush, Merge, Step, Stats}
 use Rattle.alta_model.specs.declared.line.LineFault.{LineFault}
-use Rattle.alta_session.specs.Machine.{step, obeyed, adding, refusal}
+use Rattle.alta_session.specs.Machine.{step, obeyed, refusal}
 use Rattle.alta_session.proofs.MachineLaws.{step_reads}
 
--- a line that does not add
-other_line : (l : Line) (s : State) → ((name title body : Bor (List ℕ)) → l ≡ Add name title body → ⊥) → obeyed s (command_of l) ≡ (s, codes "! unknown command\n")
-other_line (Add name title body) s other = absurd (other name title body refl)
-other_line (Delete name) s other = refl
-other_line (Search text) s other = refl
-other_line (Count text) s other = refl
+-- a command that is not built
+pub record IsOther (l : Line) : Type 0 where
+  pub adds : (name title body : Bor (List ℕ)) → l ≡ Add name title body → ⊥
+  pub deletes : (name : Bor (List ℕ)) → l ≡ Delete name → ⊥
+  pub searches : (text : Bor (List ℕ)) → l ≡ Search text → ⊥
+  pub counts : (text : Bor (List ℕ)) → l ≡ Count text → ⊥
+  pub asks_stats : l ≡ Stats → ⊥
+
+other_line : (l : Line) (s : State) → IsOther l → obeyed s (command_of l) ≡ (s, codes "! unknown command\n")
+other_line (Add name title body) s other = absurd (other.adds name title body refl)
+other_line (Delete name) s other = absurd (other.deletes name refl)
+other_line (Search text) s other = absurd (other.searches text refl)
+other_line (Count text) s other = absurd (other.counts text refl)
 other_line (Explain text) s other = refl
 other_line (OpenCursor text) s other = refl
 other_line (Fetch cursor count) s other = refl
@@ -26,13 +33,14 @@ other_line (Close cursor) s other = refl
 other_line Flush s other = refl
 other_line Merge s other = refl
 other_line (Step count) s other = refl
-other_line Stats s other = refl
+other_line Stats s other = absurd (other.asks_stats refl)
 
-pub step_other : (line : List ℕ) (l : Line) → asks (command_of l) ≡ reading_of line → ((name title body : Bor (List ℕ)) → l ≡ Add name title body → ⊥) → (s : State) → step s line ≡ (s, codes "! unknown command\n")
+pub step_other : (line : List ℕ) (l : Line) → asks (command_of l) ≡ reading_of line → IsOther l → (s : State) → step s line ≡ (s, codes "! unknown command\n")
 step_other line l reading other s = step_reads s line (asks (command_of l)) (sym reading) ∙ other_line l s other
 
-pub step_adds : (line : List ℕ) (l : Line) (name title body : Bor (List ℕ)) → asks (command_of l) ≡ reading_of line → l ≡ Add name title body → (s : State) → step s line ≡ adding name.now title.now body.now s
-step_adds line l name title body reading is s = step_reads s line (asks (command_of l)) (sym reading) ∙ ap (λ (m : Line). obeyed s (command_of m)) is
+-- a command that is built
+pub step_asks : (line : List ℕ) (l m : Line) → asks (command_of l) ≡ reading_of line → l ≡ m → (s : State) → step s line ≡ obeyed s (command_of m)
+step_asks line l m reading is s = step_reads s line (asks (command_of l)) (sym reading) ∙ ap (λ (m : Line). obeyed s (command_of m)) is
 
 -- the record of a line that adds has nine bytes more than the line
 pub record_of_line : (line name title body : List ℕ) → Reads line (adds name title body) → length (body_of (AddEntry name title body)) ≡ length line + 9

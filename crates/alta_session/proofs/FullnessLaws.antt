@@ -7,45 +7,63 @@ use Rattle.std.proofs.Math.Seq.{take-add, take-append-add}
 use Rattle.alta_console.specs.Replies.{joined}
 use Rattle.alta_console.proofs.ReplyLaws.{joined_append}
 use Rattle.alta_meta.specs.declared.document.State.{State}
-use Rattle.alta_session.specs.Fullness.{bytes_if_added, record_bytes, records_bytes, Overflows, IsFullOnly, IsInterrupted, IsFullExactly}
+use Rattle.alta_session.specs.Fullness.{bytes_of_change, record_bytes, records_bytes, Overflows, IsFullOnly, IsInterrupted, IsFullExactly}
 use Rattle.alta_session.specs.Keeping.{clip}
 use Rattle.alta_session.specs.Machine.{step, adding, after, replies}
 use Rattle.alta_session.specs.Status.{EndsLine}
 use Rattle.alta_session.specs.declared.status.Status.{Status}
 use Rattle.alta_session.specs.declared.status.Status.TheVariants.{Full}
 use Rattle.alta_session.proofs.MachineLaws.{replies_append, length_replies, step_clip, step_long, replies_same, length_same}
-use Rattle.alta_store.specs.States.{with_added}
+use Rattle.alta_store.specs.States.{with_added, with_deleted}
 
 -- nothing was added
 not_less : (n : ℕ) → nat_lt n n ≡ false
 not_less n = grind (arith, common_steps)
 
-pub none_added : (bytes : ℕ) (s : State) → bytes_if_added bytes s s ≡ 0
-none_added bytes s = ap (λ (b : Bool). if b then bytes else 0) (not_less s.next)
+pub none_added : (bytes : ℕ) (s : State) → bytes_of_change bytes s s ≡ 0
+none_added bytes s =
+    ap (λ (b : Bool). if b then bytes else (if nat_lt (length s.documents) (length s.documents) then 14 else 0)) (not_less s.next)
+    ∙ ap (λ (b : Bool). if b then 14 else 0) (not_less (length s.documents))
 
-pub bytes_same : (bytes : ℕ) (s : State) (p : State × List ℕ) (reply : List ℕ) → p ≡ (s, reply) → bytes_if_added bytes s p.0 ≡ 0
-bytes_same bytes s p reply is = ap (λ (q : State × List ℕ). bytes_if_added bytes s q.0) is ∙ none_added bytes s
+pub bytes_same : (bytes : ℕ) (s : State) (p : State × List ℕ) (reply : List ℕ) → p ≡ (s, reply) → bytes_of_change bytes s p.0 ≡ 0
+bytes_same bytes s p reply is = ap (λ (q : State × List ℕ). bytes_of_change bytes s q.0) is ∙ none_added bytes s
+
+less_is : (m n : ℕ) → m < n → nat_lt m n ≡ true
+less_is m n l = grind (arith, common_steps)
 
 -- a document was added
 less_next : (n : ℕ) → nat_lt n (n + 1) ≡ true
 less_next n = grind (arith, common_steps)
 
-pub bytes_more : (bytes : ℕ) (name title body : List ℕ) (s : State) (p : State × List ℕ) (reply : List ℕ) → p ≡ (with_added name title body s, reply) → bytes_if_added bytes s p.0 ≡ bytes
+pub bytes_more : (bytes : ℕ) (name title body : List ℕ) (s : State) (p : State × List ℕ) (reply : List ℕ) → p ≡ (with_added name title body s, reply) → bytes_of_change bytes s p.0 ≡ bytes
 bytes_more bytes name title body s p reply is =
-    ap (λ (q : State × List ℕ). bytes_if_added bytes s q.0) is ∙ ap (λ (b : Bool). if b then bytes else 0) (less_next s.next)
+    ap (λ (q : State × List ℕ). bytes_of_change bytes s q.0) is
+    ∙ ap (λ (b : Bool). if b then bytes else (if nat_lt (length (with_added name title body s).documents) (length s.documents) then 14 else 0)) (less_next s.next)
+
+-- a document was deleted
+pub bytes_fewer : (bytes : ℕ) (name : List ℕ) (s : State) (p : State × List ℕ) (reply : List ℕ) → p ≡ (with_deleted name s, reply)
+    → length (with_deleted name s).documents < length s.documents → bytes_of_change bytes s p.0 ≡ 14
+bytes_fewer bytes name s p reply is fewer =
+    ap (λ (q : State × List ℕ). bytes_of_change bytes s q.0) is
+    ∙ ap (λ (b : Bool). if b then bytes else (if nat_lt (length (with_deleted name s).documents) (length s.documents) then 14 else 0)) (not_less s.next)
+    ∙ ap (λ (b : Bool). if b then 14 else 0) (less_is (length (with_deleted name s).documents) (length s.documents) fewer)
 
 -- of a line
-pub record_is : (s : State) (line : List ℕ) → record_bytes s line ≡ bytes_if_added (length line + 9) s (step s line).0
+pub record_is : (s : State) (line : List ℕ) → record_bytes s line ≡ bytes_of_change (length line + 9) s (step s line).0
 unfolding record_bytes
 record_is s line = refl
 
 pub record_none : (s : State) (line reply : List ℕ) → step s line ≡ (s, reply) → record_bytes s line ≡ 0
-record_none s line reply is = record_is s line ∙ ap (λ (p : State × List ℕ). bytes_if_added (length line + 9) s p.0) is ∙ none_added (length line + 9) s
+record_none s line reply is = record_is s line ∙ ap (λ (p : State × List ℕ). bytes_of_change (length line + 9) s p.0) is ∙ none_added (length line + 9) s
 
 -- of a line that adds, and is nine bytes shorter than the record
-pub record_adds : (line name title body : List ℕ) (bytes : ℕ) (s : State) → step s line ≡ adding name title body s → bytes ≡ length line + 9 → bytes_if_added bytes s (adding name title body s).0 ≡ record_bytes s line
+pub record_adds : (line name title body : List ℕ) (bytes : ℕ) (s : State) → step s line ≡ adding name title body s → bytes ≡ length line + 9 → bytes_of_change bytes s (adding name title body s).0 ≡ record_bytes s line
 record_adds line name title body bytes s is long =
-    ap (λ (n : ℕ). bytes_if_added n s (adding name title body s).0) long ∙ ap (λ (p : State × List ℕ). bytes_if_added (length line + 9) s p.0) (sym is) ∙ sym (record_is s line)
+    ap (λ (n : ℕ). bytes_of_change n s (adding name title body s).0) long ∙ ap (λ (p : State × List ℕ). bytes_of_change (length line + 9) s p.0) (sym is) ∙ sym (record_is s line)
+
+-- of a line that changes the state in another way
+pub record_changes : (s : State) (line : List ℕ) (p : State × List ℕ) → step s line ≡ p → bytes_of_change (length line + 9) s p.0 ≡ record_bytes s line
+record_changes s line p is = ap (λ (q : State × List ℕ). bytes_of_change (length line + 9) s q.0) (sym is) ∙ sym (record_is s line)
 
 -- lines, and then more
 pub records_append : (s : State) (xs ys : List (List ℕ)) → records_bytes s (xs ++ ys) ≡ records_bytes s xs + records_bytes (after s xs) ys

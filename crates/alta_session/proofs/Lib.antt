@@ -1,5 +1,6 @@
 pub mod AddingLaws
 pub mod AskLaws
+pub mod DeletingLaws
 pub mod FedLaws
 pub mod FeedLaws
 pub mod FullnessLaws
@@ -7,5 +8,6 @@ pub mod KeepingLaws
 pub mod MachineLaws
 pub mod ProgressLaws
 pub mod RunLaws
+pub mod SearchLaws
 pub mod ServeLaws
 pub mod StatusLaws

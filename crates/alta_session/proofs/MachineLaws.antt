@@ -10,6 +10,8 @@ use Rattle.alta_model.specs.declared.line.LineFault.{LineFault}
 use Rattle.alta_model.specs.declared.line.LineFault.TheVariants.{TooLong, NotUtf8, Unknown, Bad}
 use Rattle.alta_session.specs.Keeping.{clip}
 use Rattle.alta_session.specs.Machine.{refusal, adding, obeyed, answered, step, after, replies}
+use Rattle.alta_session.proofs.DeletingLaws.{deleting_some, stats_some}
+use Rattle.alta_session.proofs.SearchLaws.{searching_some, counting_some}
 
 pub after_append : (s : State) (xs ys : List (List ℕ)) → after s (xs ++ ys) ≡ after (after s xs) ys
 after_append s [] ys = refl
@@ -41,9 +43,9 @@ adding_some name title body s = grind (arith, common_steps)
 
 obeyed_some : (s : State) (command : Command) → 0 < length (obeyed s command).1
 obeyed_some s (adds name title body) = adding_some name title body s
-obeyed_some s (deletes name) = lit< tt
-obeyed_some s (searches query) = lit< tt
-obeyed_some s (counts query) = lit< tt
+obeyed_some s (deletes name) = deleting_some name s
+obeyed_some s (searches query) = searching_some query s.documents
+obeyed_some s (counts query) = counting_some query s.documents
 obeyed_some s (explains query) = lit< tt
 obeyed_some s (opens query) = lit< tt
 obeyed_some s (fetches cursor count) = lit< tt
@@ -51,7 +53,7 @@ obeyed_some s (closes cursor) = lit< tt
 obeyed_some s flushes = lit< tt
 obeyed_some s merges = lit< tt
 obeyed_some s (steps count) = lit< tt
-obeyed_some s asks_stats = lit< tt
+obeyed_some s asks_stats = stats_some s
 
 answered_some : (s : State) (reading : Reading) → 0 < length (answered s reading).1
 answered_some s (asks command) = obeyed_some s command

@@ -7,13 +7,16 @@ use Rattle.alta_session.specs.declared.status.Status.{Status}
 use Rattle.alta_session.specs.declared.status.Status.TheVariants.{DiskFault, GiveFault, Memory, Full}
 use Rattle.alta_store.specs.Agreement.{HasRoom}
 
--- the bytes of a record, where a document was added, which raises the next number, and else none
-abbrev pub bytes_if_added : ℕ → State → State → ℕ
-bytes_if_added bytes before now = if nat_lt before.next now.next then bytes else 0
+-- the bytes of the record that led from one state to another: those given where a document was added, which raises the
+-- next number, 14 where one was deleted, and else none
+abbrev pub bytes_of_change : ℕ → State → State → ℕ
+bytes_of_change bytes before now =
+    if nat_lt before.next now.next then bytes else (if nat_lt (length now.documents) (length before.documents) then 14 else 0)
 
--- how many bytes the record of a line takes in the journal: as many as the line and nine more, where it adds a document
+-- how many bytes the record of a line takes in the journal: as many as the line and nine more where it adds a document,
+-- and 14 where it deletes one
 unfoldable pub record_bytes : State → List ℕ → ℕ
-record_bytes s line = bytes_if_added (length line + 9) s (step s line).0
+record_bytes s line = bytes_of_change (length line + 9) s (step s line).0
 
 -- how many the records of these lines take
 abbrev pub records_bytes : State → List (List ℕ) → ℕ

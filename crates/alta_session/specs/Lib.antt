@@ -7,4 +7,5 @@ pub mod Keeping
 pub mod Machine
 pub mod Progress
 pub mod Run
+pub mod Searching
 pub mod Status

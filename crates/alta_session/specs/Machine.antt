@@ -1,12 +1,13 @@
 -- The abstract machine: what each line answers, and the state after it.
-use Rattle.std.specs.Prelude.{◌≡◌, ℕ, Bool, true, ◌&&◌, List, [], ◌∷◌, ◌++◌, length, if◌then◌else◌, nat_le, nat_eq, codes, decimal}
+use Rattle.std.specs.Prelude.{◌≡◌, ℕ, Bool, true, ◌&&◌, List, [], ◌∷◌, ◌++◌, length, if◌then◌else◌, nat_le, nat_eq, codes, decimal, Option, Some, None}
 use Rattle.std.specs.List.{list_all, starts_with}
 use Rattle.alta_meta.specs.declared.document.State.{State}
-use Rattle.alta_model.specs.Command.{Command, adds}
+use Rattle.alta_model.specs.Command.{Command, adds, deletes, searches, counts, asks_stats}
 use Rattle.alta_model.specs.Lines.{Reading, asks, refuses, reading_of}
 use Rattle.alta_model.specs.declared.line.LineFault.{LineFault}
 use Rattle.alta_model.specs.declared.line.LineFault.TheVariants.{TooLong, NotUtf8, Unknown, Bad}
-use Rattle.alta_store.specs.States.{has_name, with_added}
+use Rattle.alta_session.specs.Searching.{searching, counting}
+use Rattle.alta_store.specs.States.{has_name, number_of, words_in, with_added, with_deleted}
 
 -- 1 to 64 graphic ASCII bytes
 unfoldable pub is_name : List ℕ → Bool
@@ -28,9 +29,27 @@ adding name title body s =
     else (with_added name title body s, codes "added " ++ decimal s.next ++ codes "\n")))
     else (s, codes "! bad name\n")
 
+-- the document with this name is deleted, where it has a number
+abbrev pub deleted_as : Option ℕ → List ℕ → State → State × List ℕ
+deleted_as None name s = (s, codes "! no such document\n")
+deleted_as (Some n) name s = (with_deleted name s, codes "deleted " ++ decimal n ++ codes "\n")
+
+-- a document is deleted, where its name can be one and a live document has it
+unfoldable pub deleting : List ℕ → State → State × List ℕ
+deleting name s = if is_name name then deleted_as (number_of name s) name s else (s, codes "! bad name\n")
+
+-- how many documents there are, how many words they have, and the next number
+unfoldable pub stats_of : State → List ℕ
+stats_of s =
+    codes "documents " ++ decimal (length s.documents) ++ codes " words " ++ decimal (words_in s) ++ codes " next " ++ decimal s.next ++ codes "\n"
+
 -- the state after a command, and the reply
 abbrev pub obeyed : State → Command → State × List ℕ
 obeyed s (adds name title body) = adding name title body s
+obeyed s (deletes name) = deleting name s
+obeyed s (searches text) = (s, searching text s.documents)
+obeyed s (counts text) = (s, counting text s.documents)
+obeyed s asks_stats = (s, stats_of s)
 obeyed s _ = (s, codes "! unknown command\n")
 
 abbrev pub answered : State → Reading → State × List ℕ

@@ -2,6 +2,7 @@
 #![tactic(auto)]
 
 mod giving;
+mod searching;
 mod serving;
 mod session;
 mod status;

@@ -9,13 +9,14 @@ ghost use Rattle.alta_journal.specs.declared.entry.Entry.TheVariants.{Add};
 ghost use Rattle.alta_meta.specs.declared.document.State.{State};
 ghost use Rattle.alta_session.specs.Agreement.{AgreesOn, AgreesOnSome, IsSound, room_in};
 ghost use Rattle.alta_session.specs.Asking.{Asks};
-ghost use Rattle.alta_session.specs.Fullness.{IsFull, bytes_if_added, record_bytes};
-ghost use Rattle.alta_session.specs.Machine.{step, adding, IsRefusal};
+ghost use Rattle.alta_session.specs.Fullness.{IsFull, bytes_of_change, record_bytes};
+ghost use Rattle.alta_session.specs.Machine.{step, adding, deleting, IsRefusal};
 ghost use Rattle.alta_store.specs.Answers.{IsOutside, AnswersFault};
 ghost use Rattle.alta_store.specs.Brokenness.{HasNoIndex, IsBrokenAt};
 ghost use Rattle.alta_store.specs.Meaning.{StandsFor, StandsForEither};
 ghost use Rattle.alta_store.specs.States.{IsDocument};
 
+use crate::searching::{count, search};
 use alta_codec::{Text, name_ok};
 use alta_disk::Disk;
 use alta_model::{Line, LineFault, read_line};
@@ -73,8 +74,9 @@ impl Session {
     /// # Errors
     ///
     /// `Disk` where a call of the disk failed. `Memory` where there is no memory. `Full` where the record of the line does
-    /// not fit in the journal: with the bytes of that record, which are the line's and nine more, and those left. Then the
-    /// index is as before the line or as after it, and the session is not sound.
+    /// not fit in the journal: with the bytes of that record, which are the line's and nine more where it adds and 14
+    /// where it deletes, and those left. Then the index is as before the line or as after it, and the session is not
+    /// sound.
     pub fn line<D: Disk>(
         &mut self,
         alloc: Global,
@@ -138,6 +140,10 @@ impl Session {
     {
         match asked(line) {
             Ask::Add { name, title, body } => self.add(alloc, disk, name, title, body),
+            Ask::Delete(name) => self.delete(alloc, disk, name),
+            Ask::Search(text) => search(alloc, self.store.documents(), text),
+            Ask::Count(text) => count(alloc, self.store.documents(), text),
+            Ask::Stats => stats(alloc, self.store.counts()),
             Ask::Refused(reply) => text(alloc, reply),
         }
     }
@@ -164,8 +170,8 @@ impl Session {
         ensures unchanged { (s : State) → D.tells → AgreesOn D.tells (D.state disk.old) self.old s → IsRefusal (adding name.now title.now body.now s).1 → disk.new ≡ disk.old }
         ensures only { IfErr result (λ e. IsOutside e ⊎ ((need gap : ℕ) × (e ≡ StoreFault.Full need gap))) }
         ensures full { (need gap : ℕ) → D.tells → result ≡ Err (StoreFault.Full need gap) → IsFull (D.state disk.new).content need gap }
-        ensures need { (s : State) → (need gap : ℕ) → D.tells → AgreesOn D.tells (D.state disk.old) self.old s → result ≡ Err (StoreFault.Full need gap) → (need ≡ bytes_if_added (length (body_of (Add name.now title.now body.now))) s (adding name.now title.now body.now s).0) × (gap ≡ room_in self.old) }
-        ensures room { (s : State) → D.tells → AgreesOn D.tells (D.state disk.old) self.old s → OnOk result (room_in self.new + bytes_if_added (length (body_of (Add name.now title.now body.now))) s (adding name.now title.now body.now s).0 ≡ room_in self.old) }
+        ensures need { (s : State) → (need gap : ℕ) → D.tells → AgreesOn D.tells (D.state disk.old) self.old s → result ≡ Err (StoreFault.Full need gap) → (need ≡ bytes_of_change (length (body_of (Add name.now title.now body.now))) s (adding name.now title.now body.now s).0) × (gap ≡ room_in self.old) }
+        ensures room { (s : State) → D.tells → AgreesOn D.tells (D.state disk.old) self.old s → OnOk result (room_in self.new + bytes_of_change (length (body_of (Add name.now title.now body.now))) s (adding name.now title.now body.now s).0 ≡ room_in self.old) }
         ensures cause { result ≡ Err StoreFault.Disk → Rose (D.state disk.old).faults (D.state disk.new).faults }
         ensures faults { (D.state disk.old).faults ≤ (D.state disk.new).faults }
         ensures same_limit { (D.state disk.new).limit ≡ (D.state disk.old).limit }
@@ -182,15 +188,57 @@ impl Session {
             },
         }
     }
+
+    // Deletes a document.
+    fn delete<D: Disk>(
+        &mut self,
+        alloc: Global,
+        disk: &mut D,
+        name: &str,
+    ) -> Result<Text, StoreFault>
+        requires sound { IsSound self.old }
+        requires agrees { AgreesOnSome D.tells (D.state disk.old) self.old }
+        requires limit { 2105344 ≤ (D.state disk.old).limit }
+        ensures reply { (s : State) → D.tells → AgreesOn D.tells (D.state disk.old) self.old s → IfOk result (λ reply. reply ≡ (deleting name.now s).1) }
+        ensures agrees { (s : State) → D.tells → AgreesOn D.tells (D.state disk.old) self.old s → OnOk result (AgreesOn D.tells (D.state disk.new) self.new (deleting name.now s).0) }
+        ensures images { (s : State) → D.tells → AgreesOn D.tells (D.state disk.old) self.old s → LeavesOnly (StandsForEither s (deleting name.now s).0) (D.state disk.old) (D.state disk.new) }
+        ensures some { OnOk result (AgreesOnSome D.tells (D.state disk.new) self.new) }
+        ensures sound { OnOk result (IsSound self.new) }
+        ensures refused { IfOk result (λ reply. IsRefusal reply → (disk.new ≡ disk.old) × (self.new ≡ self.old)) }
+        ensures unchanged { (s : State) → D.tells → AgreesOn D.tells (D.state disk.old) self.old s → IsRefusal (deleting name.now s).1 → disk.new ≡ disk.old }
+        ensures only { IfErr result (λ e. IsOutside e ⊎ ((need gap : ℕ) × (e ≡ StoreFault.Full need gap))) }
+        ensures full { (need gap : ℕ) → D.tells → result ≡ Err (StoreFault.Full need gap) → IsFull (D.state disk.new).content need gap }
+        ensures need { (bytes : ℕ) → (s : State) → (need gap : ℕ) → D.tells → AgreesOn D.tells (D.state disk.old) self.old s → result ≡ Err (StoreFault.Full need gap) → (need ≡ bytes_of_change bytes s (deleting name.now s).0) × (gap ≡ room_in self.old) }
+        ensures room { (bytes : ℕ) → (s : State) → D.tells → AgreesOn D.tells (D.state disk.old) self.old s → OnOk result (room_in self.new + bytes_of_change bytes s (deleting name.now s).0 ≡ room_in self.old) }
+        ensures cause { result ≡ Err StoreFault.Disk → Rose (D.state disk.old).faults (D.state disk.new).faults }
+        ensures faults { (D.state disk.old).faults ≤ (D.state disk.new).faults }
+        ensures same_limit { (D.state disk.new).limit ≡ (D.state disk.old).limit }
+    {
+        if !name_ok(name.as_bytes()) {
+            return text(alloc, "! bad name\n");
+        }
+        match self.store.delete(disk, name) {
+            Ok(number) => deleted(alloc, number),
+            Err(fault) => match fault {
+                StoreFault::Missing => text(alloc, "! no such document\n"),
+                fault => Err(fault),
+            },
+        }
+    }
 }
 
-// What a line asks for: a document to be added, or a reply that refuses it.
+// What a line asks for: a document to be added or deleted, a query or the counts to be answered, or a reply that
+// refuses it.
 enum Ask<'a> {
     Add {
         name: &'a str,
         title: &'a str,
         body: &'a str,
     },
+    Delete(&'a str),
+    Search(&'a str),
+    Count(&'a str),
+    Stats,
     Refused(&'static str),
 }
 
@@ -202,6 +250,10 @@ fn asked(bytes: &[u8]) -> Ask<'_>
     match read_line(bytes) {
         Ok(line) => match line {
             Line::Add { name, title, body } => Ask::Add { name, title, body },
+            Line::Delete { name } => Ask::Delete(name),
+            Line::Search { text } => Ask::Search(text),
+            Line::Count { text } => Ask::Count(text),
+            Line::Stats => Ask::Stats,
             _ => Ask::Refused("! unknown command\n"),
         },
         Err(LineFault::TooLong) => Ask::Refused("! line too long\n"),
@@ -211,12 +263,35 @@ fn asked(bytes: &[u8]) -> Ask<'_>
     }
 }
 
-// The reply to a line that is added.
+// The reply to a line that adds.
 fn added(alloc: Global, number: u64) -> Result<Text, StoreFault>
     ensures reply { IfOk result (λ reply. reply ≡ codes "added " ++ decimal number ++ codes "\n") }
     ensures memory { IfErr result (λ e. e ≡ StoreFault.Memory) }
 {
     match format!(in alloc; "added {number}\n") {
+        Ok(reply) => Ok(Text::from_string(reply)),
+        Err(_) => Err(StoreFault::Memory),
+    }
+}
+
+// The reply to a line that deletes.
+fn deleted(alloc: Global, number: u64) -> Result<Text, StoreFault>
+    ensures reply { IfOk result (λ reply. reply ≡ codes "deleted " ++ decimal number ++ codes "\n") }
+    ensures memory { IfErr result (λ e. e ≡ StoreFault.Memory) }
+{
+    match format!(in alloc; "deleted {number}\n") {
+        Ok(reply) => Ok(Text::from_string(reply)),
+        Err(_) => Err(StoreFault::Memory),
+    }
+}
+
+// The reply with the counts of documents and words, and the next number.
+fn stats(alloc: Global, counts: (u64, u64, u64)) -> Result<Text, StoreFault>
+    ensures reply { IfOk result (λ reply. reply ≡ codes "documents " ++ decimal counts.0 ++ codes " words " ++ decimal counts.1 ++ codes " next " ++ decimal counts.2 ++ codes "\n") }
+    ensures memory { IfErr result (λ e. e ≡ StoreFault.Memory) }
+{
+    let (documents, words, next) = counts;
+    match format!(in alloc; "documents {documents} words {words} next {next}\n") {
         Ok(reply) => Ok(Text::from_string(reply)),
         Err(_) => Err(StoreFault::Memory),
     }

@@ -2,22 +2,42 @@ use Rattle.std.proofs.Common.{List, ℕ, subst}
 use Rattle.alta_model.specs.Command.{Reads}
 use Rattle.alta_model.specs.Seen.{command_of}
 use Rattle.alta_model.specs.declared.line.Line.{Line}
+use Rattle.alta_model.specs.declared.line.Line.TheVariants.{Add, Delete, Search, Count, Stats}
 use Rattle.alta_model.specs.declared.line.LineFault.TheVariants.{TooLong, NotUtf8, Unknown, Bad}
 use Rattle.alta_session.proofs.AddingLaws.{line_is_document}
-use Rattle.alta_session.proofs.AskLaws.{step_other, step_adds, step_refuses, record_of_line}
+use Rattle.alta_session.proofs.AskLaws.{step_other, step_asks, step_refuses, record_of_line}
 use Rattle.alta_session.proofs.session.asked.Goals as goal
 
 pub returns-in-Add : goal.returns-in-Add
 returns-in-Add c =
     let line : List ℕ = c.args.bytes.now in
     let P : Line → Type 0 = λ l. Reads line (command_of l) in (
-      step_adds line c.in-Ok.line c.in-Add.name c.in-Add.title c.in-Add.body c.in-Ok.ensures.reading c.in-Add.is,
+      step_asks line c.in-Ok.line (Add c.in-Add.name c.in-Add.title c.in-Add.body) c.in-Ok.ensures.reading c.in-Add.is,
       λ named. line_is_document line c.in-Add.name.now c.in-Add.title.now c.in-Add.body.now c.requires c.in-Ok.ensures.read.0 (subst P c.in-Add.is c.in-Ok.ensures.read.1) named,
       record_of_line line c.in-Add.name.now c.in-Add.title.now c.in-Add.body.now (subst P c.in-Add.is c.in-Ok.ensures.read.1),
     )
 
+pub returns-in-Delete : goal.returns-in-Delete
+returns-in-Delete c = step_asks c.args.bytes.now c.in-Ok.line (Delete c.in-Delete.name) c.in-Ok.ensures.reading c.in-Delete.is
+
+pub returns-in-Search : goal.returns-in-Search
+returns-in-Search c = step_asks c.args.bytes.now c.in-Ok.line (Search c.in-Search.text) c.in-Ok.ensures.reading c.in-Search.is
+
+pub returns-in-Count : goal.returns-in-Count
+returns-in-Count c = step_asks c.args.bytes.now c.in-Ok.line (Count c.in-Count.text) c.in-Ok.ensures.reading c.in-Count.is
+
+pub returns-in-Stats : goal.returns-in-Stats
+returns-in-Stats c = step_asks c.args.bytes.now c.in-Ok.line Stats c.in-Ok.ensures.reading c.in-Stats.is
+
 pub returns-in_default : goal.returns-in_default
-returns-in_default c = step_other c.args.bytes.now c.in-Ok.line c.in-Ok.ensures.reading c.in_default.not-Add
+returns-in_default c =
+    step_other c.args.bytes.now c.in-Ok.line c.in-Ok.ensures.reading (record {
+      adds = c.in_default.not-Add;
+      deletes = c.in_default.not-Delete;
+      searches = c.in_default.not-Search;
+      counts = c.in_default.not-Count;
+      asks_stats = c.in_default.not-Stats;
+    })
 
 pub returns-in-Err-TooLong : goal.returns-in-Err-TooLong
 returns-in-Err-TooLong c = step_refuses c.args.bytes.now c.in-Err-TooLong.field-0 TooLong c.in-Err-TooLong.ensures.reading c.in-Err-TooLong.field-0-is

@@ -4,7 +4,7 @@ use Rattle.alta_disk.specs.Disk.{DiskState, LeavesOnly, IsLawful}
 use Rattle.alta_disk.proofs.Moments.{leaves_start}
 use Rattle.alta_meta.specs.declared.document.State.{State}
 use Rattle.alta_session.specs.Agreement.{AgreesOn}
-use Rattle.alta_session.specs.Fullness.{bytes_if_added}
+use Rattle.alta_session.specs.Fullness.{bytes_of_change}
 use Rattle.alta_session.specs.Machine.{adding}
 use Rattle.alta_store.specs.Agreement.{Agrees, room_of}
 use Rattle.alta_store.specs.Meaning.{StandsForEither}
@@ -135,10 +135,10 @@ returns-in_default-clause-unchanged g c = λ s told agrees refusal.
     refused_for _ c.args.name.now c.args.title.now c.args.body.now s (search rules) (λ has. (c.add.ensures.refused (inl ((c.add.ensures.taken s agrees told).1 has))).0) (λ full. (c.add.ensures.refused (inr ((c.add.ensures.numbers s agrees told).1 full))).0) refusal
 
 -- the room that is left: as before where it was refused, and less by the record where it was added
-room_same : (now old bytes : ℕ) (s : State) (p : State × List ℕ) (reply : List ℕ) → now ≡ old → p ≡ (s, reply) → now + bytes_if_added bytes s p.0 ≡ old
+room_same : (now old bytes : ℕ) (s : State) (p : State × List ℕ) (reply : List ℕ) → now ≡ old → p ≡ (s, reply) → now + bytes_of_change bytes s p.0 ≡ old
 room_same now old bytes s p reply same is = omega (arith, same, bytes_same bytes s p reply is)
 
-room_less : (now old bytes : ℕ) (name title body : List ℕ) (s : State) (p : State × List ℕ) (reply : List ℕ) → now + bytes ≡ old → p ≡ (with_added name title body s, reply) → now + bytes_if_added bytes s p.0 ≡ old
+room_less : (now old bytes : ℕ) (name title body : List ℕ) (s : State) (p : State × List ℕ) (reply : List ℕ) → now + bytes ≡ old → p ≡ (with_added name title body s, reply) → now + bytes_of_change bytes s p.0 ≡ old
 room_less now old bytes name title body s p reply less is = omega (arith, less, bytes_more bytes name title body s p reply is)
 
 pub returns-then-not-name_ok-clause-room : goal.returns-then-not-name_ok-clause-room

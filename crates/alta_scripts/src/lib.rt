@@ -1,0 +1,5 @@
+//! Scripts of lines and their replies, over a disk and a console in memory: tests alone.
+#![tactic(auto)]
+
+#[cfg(test)]
+mod tests;

@@ -1,0 +1,177 @@
+// Whole runs: the replies to scripts of lines, on a new index and on one that an earlier run left.
+ghost use Rattle.std.specs.Prelude.{◌≡◌, ◌≤◌};
+
+use alta_codec::Text;
+use alta_console::MemoryConsole;
+use alta_disk::MemoryDisk;
+use alta_session::{Status, alta};
+use std::alloc::Global;
+use std::test::Fail;
+
+const LIMIT: u64 = 1 << 40;
+
+// Two documents, at places 1 to 9 and 10 to 16 of the space of all words.
+const BOTH: &str = "add a\tRed Fox\tthe quick red fox\nadd b\tFox\tquick brown dog\n";
+
+// Calls the program with one word: the status, and what was given.
+fn call(alloc: Global, disk: &mut MemoryDisk, word: &str, input: &str) -> Result<(Status, Vec<u8>), Fail> {
+    let mut console = MemoryConsole::new(
+        alloc,
+        Vec::from_slice(alloc, input.as_bytes())?,
+        Vec::new(alloc),
+        Vec::new(alloc),
+    );
+    let mut words = Vec::new(alloc);
+    words.push(Text::from_string(String::from_str(alloc, word)?))?;
+    let status = alta(alloc, &words, &mut console, disk);
+    Ok((status, console.given().to_vec(alloc)?))
+}
+
+// A disk with an index without documents.
+fn made(alloc: Global) -> Result<MemoryDisk, Fail> {
+    let mut disk = MemoryDisk::new(alloc, Vec::new(alloc), LIMIT, Vec::new(alloc));
+    match call(alloc, &mut disk, "init", "")?.0 {
+        Status::Done => Ok(disk),
+        _ => Err("no index was made".into()),
+    }
+}
+
+// The replies to lines on a disk, whose run has to end with status 0.
+fn replies(alloc: Global, disk: &mut MemoryDisk, input: &str) -> Result<Vec<u8>, Fail> {
+    match call(alloc, disk, "run", input)? {
+        (Status::Done, given) => Ok(given),
+        _ => Err("the run did not end with status 0".into()),
+    }
+}
+
+#[test]
+fn queries_are_answered(rt: HostRuntime) -> Result<(), Fail> {
+    let alloc = rt.alloc();
+    let mut disk = made(alloc)?;
+    assert_eq!(rt; replies(alloc, &mut disk, BOTH)?.as_slice(), b"added 1\nadded 2\n".as_slice());
+    // Each row is a run of its own over the index that the first run left.
+    let rows = [
+        ("search quick", "1 a\n2 b\nfound 2\n"),
+        ("search dog", "2 b\nfound 1\n"),
+        ("search fox", "1 a\n2 b\nfound 2\n"),
+        ("search \"fox quick\"", "found 0\n"),
+        ("search \"red fox\" NOT brown", "1 a\nfound 1\n"),
+        ("search red-fox", "1 a\nfound 1\n"),
+        ("search NOT zebra", "1 a\n2 b\nfound 2\n"),
+        ("count qui* OR dog", "found 2\n"),
+        ("search title:quick", "found 0\n"),
+        ("search title:fox", "1 a\n2 b\nfound 2\n"),
+        ("search name:b", "2 b\nfound 1\n"),
+        ("search red NEAR/1 red", "1 a\nfound 1\n"),
+        ("search Red", "1 a\nfound 1\n"),
+        ("search RED", "found 0\n"),
+        ("count zebra", "found 0\n"),
+        ("search (fox", "! query 4 Paren\n"),
+        ("search fox OR", "! query 6 Operand\n"),
+        ("search", "! bad line\n"),
+        ("search ", "! query 0 Empty\n"),
+        ("count ", "! query 0 Empty\n"),
+        ("count", "! bad line\n"),
+        ("search fox !!", "! query 4 Word\n"),
+        ("search q*", "! query 0 Prefix\n"),
+        ("search red NEAR/0 fox", "! query 4 Near\n"),
+        ("search \"red fox\" NEAR/2 a", "! query 10 Near\n"),
+        ("search name:", "! query 0 Name\n"),
+        ("search red \"fox", "! query 4 Quote\n"),
+        ("search red)", "! query 3 Paren\n"),
+        ("search ()", "! query 1 Operand\n"),
+        ("explain fox", "! unknown command\n"),
+        ("stats", "documents 2 words 10 next 3\n"),
+    ];
+    for (line, want) in rows {
+        let given = replies(alloc, &mut disk, line)?;
+        assert_eq!(rt; given.as_slice(), want.as_bytes(), "{line}");
+    }
+    Ok(())
+}
+
+#[test]
+fn queries_have_limits(rt: HostRuntime) -> Result<(), Fail> {
+    let alloc = rt.alloc();
+    // What is written so often before an `a`, and the reply.
+    let rows = [
+        ("NOT ", 32, "found 0\n"),
+        ("NOT ", 33, "! query 128 Deep\n"),
+        ("a ", 63, "found 0\n"),
+        ("a ", 64, "! query 128 Many\n"),
+    ];
+    for (part, times, want) in rows {
+        let mut disk = made(alloc)?;
+        let mut line = String::from_str(alloc, "search ")?;
+        for _ in 0..times {
+            line.push_str(part)?;
+        }
+        line.push_str("a")?;
+        assert_eq!(rt; replies(alloc, &mut disk, line.as_str())?.as_slice(), want.as_bytes());
+    }
+    Ok(())
+}
+
+#[test]
+fn scripts_are_answered(rt: HostRuntime) -> Result<(), Fail> {
+    let alloc = rt.alloc();
+    // The lines of two runs on one index, and the replies of each.
+    let rows = [
+        (
+            "delete zz\nadd a\tRed Fox\tthe quick red fox\nadd a\tRed Fox\tthe quick red fox\nstats\n",
+            "! no such document\nadded 1\n! name taken\ndocuments 1 words 6 next 2\n",
+            "count fox",
+            "found 1\n",
+        ),
+        (
+            "add a\tRed Fox\tthe quick red fox\nadd b\tFox\tquick brown dog\ndelete a\nsearch quick NOT red\n",
+            "added 1\nadded 2\ndeleted 1\n2 b\nfound 1\n",
+            "add a\tRed Fox\tthe quick red fox\nsearch quick\nstats",
+            "added 3\n2 b\n3 a\nfound 2\ndocuments 2 words 10 next 4\n",
+        ),
+        (
+            "add a\tRed Fox\tthe quick red fox\nadd b\tFox\tquick brown dog\n",
+            "added 1\nadded 2\n",
+            "delete a\nstats\ndelete a\nsearch NOT x",
+            "deleted 1\ndocuments 1 words 4 next 3\n! no such document\n2 b\nfound 1\n",
+        ),
+        (
+            "add a\t\tx\nadd b\t\tx\nadd c\t\tx\ndelete b\ndelete c\nadd b\t\ty\n",
+            "added 1\nadded 2\nadded 3\ndeleted 2\ndeleted 3\nadded 4\n",
+            "search x OR y\ndelete b\ndelete a\nsearch x OR y\nstats",
+            "1 a\n4 b\nfound 2\ndeleted 4\ndeleted 1\nfound 0\ndocuments 0 words 0 next 5\n",
+        ),
+        (
+            "add s\t\tStraße\nsearch strasse\nsearch Straße\ndelete a b\n",
+            "added 1\n1 s\nfound 1\n1 s\nfound 1\n! bad name\n",
+            "delete \nstats now\ndelete",
+            "! bad name\n! bad line\n! bad line\n",
+        ),
+        (
+            "add home\tAltaVista: Main Page\tDon't miss version 2.0, released in 1996!\nsearch altavista \"version 2.0\"\n",
+            "added 1\n1 home\nfound 1\n",
+            "search don't\nstats\nsearch \"page don't\"",
+            "1 home\nfound 1\ndocuments 1 words 10 next 2\nfound 0\n",
+        ),
+    ];
+    for (first, wanted, second, wanted_then) in rows {
+        let mut disk = made(alloc)?;
+        assert_eq!(rt; replies(alloc, &mut disk, first)?.as_slice(), wanted.as_bytes());
+        assert_eq!(rt; replies(alloc, &mut disk, second)?.as_slice(), wanted_then.as_bytes());
+    }
+    Ok(())
+}
+
+#[test]
+fn the_longest_document_is_counted(rt: HostRuntime) -> Result<(), Fail> {
+    let alloc = rt.alloc();
+    let mut disk = made(alloc)?;
+    let mut input = String::from_str(alloc, "add a\t\t")?;
+    for _ in 0..32_764 {
+        input.push_str("x ")?;
+    }
+    let longer = format!(in alloc; "{input}\n{input}x\nstats\ncount x NEAR/1 x")?;
+    let want = "added 1\n! line too long\ndocuments 1 words 32764 next 2\nfound 1\n";
+    assert_eq!(rt; replies(alloc, &mut disk, longer.as_str())?.as_slice(), want.as_bytes());
+    Ok(())
+}

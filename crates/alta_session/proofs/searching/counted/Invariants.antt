@@ -1,0 +1,10 @@
+use Rattle.std.proofs.Common.{◌≡◌, length, ◌+◌, ◌≤◌, drop}
+use Rattle.alta_model.specs.Deciding.{answers}
+use Rattle.alta_query.specs.View.{shape}
+use Rattle.alta_session.proofs.searching.counted.Given as goal
+
+abbrev pub invariant-loop-document : goal.invariant-loop-document
+invariant-loop-document l = record {
+  counted : l.count + length (answers (drop l.document-index l.document-items) (shape l.query)) ≡ length (answers l.documents (shape l.query));
+  small : l.count ≤ l.document-index;
+}

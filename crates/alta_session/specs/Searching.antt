@@ -1,0 +1,52 @@
+-- What queries are answered.
+use Rattle.std.specs.Prelude.{ℕ, List, [], ◌∷◌, ◌++◌, length, Result, Ok, Err, codes, decimal}
+use Rattle.alta_meta.specs.declared.document.Document.{Document}
+use Rattle.alta_model.specs.Deciding.{answers}
+use Rattle.alta_query.specs.Faults.{Fault, fault}
+use Rattle.alta_query.specs.Reading.{query_of}
+use Rattle.alta_query.specs.Shape.{Shape}
+use Rattle.alta_query.specs.declared.fault.Cause.{Cause}
+use Rattle.alta_query.specs.declared.fault.Cause.TheVariants as cause
+
+-- a line for each document, with its number and its name
+abbrev pub answer_lines : List Document → List ℕ
+answer_lines [] = []
+answer_lines (d ∷ ds) = decimal d.number ++ codes " " ++ d.name ++ codes "\n" ++ answer_lines ds
+
+abbrev pub found_line : ℕ → List ℕ
+found_line count = codes "found " ++ decimal count ++ codes "\n"
+
+abbrev pub cause_name : Cause → List ℕ
+cause_name cause.Empty = codes "Empty"
+cause_name cause.Word = codes "Word"
+cause_name cause.Prefix = codes "Prefix"
+cause_name cause.Near = codes "Near"
+cause_name cause.Name = codes "Name"
+cause_name cause.Quote = codes "Quote"
+cause_name cause.Paren = codes "Paren"
+cause_name cause.Operand = codes "Operand"
+cause_name cause.Deep = codes "Deep"
+cause_name cause.Many = codes "Many"
+cause_name cause.Memory = codes "Memory"
+
+-- the reply to a text that is no query
+abbrev pub query_refusal : Fault → List ℕ
+query_refusal (fault place cause) = codes "! query " ++ decimal place ++ codes " " ++ cause_name cause ++ codes "\n"
+
+-- the answers of a query, then how many they are
+abbrev pub found_by : List Document → Result Shape Fault → List ℕ
+found_by documents (Ok q) = answer_lines (answers documents q) ++ found_line (length (answers documents q))
+found_by documents (Err f) = query_refusal f
+
+-- how many answers a query has
+abbrev pub counted_by : List Document → Result Shape Fault → List ℕ
+counted_by documents (Ok q) = found_line (length (answers documents q))
+counted_by documents (Err f) = query_refusal f
+
+-- the reply to a search for a text
+unfoldable pub searching : List ℕ → List Document → List ℕ
+searching text documents = found_by documents (query_of text)
+
+-- the reply to a count of a text
+unfoldable pub counting : List ℕ → List Document → List ℕ
+counting text documents = counted_by documents (query_of text)
