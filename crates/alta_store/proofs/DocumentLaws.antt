@@ -244,3 +244,12 @@ no_number n low ds next rise (Err i) parted none =
     (λ before. let less : (get_or ds j d).number < n = ranked (get_or ds j d).number n _ (sym (split.0 j d (omega arith) before)) in absurd (omega (arith, less, e)))
     (λ behind. let more : n < (get_or ds j d).number = ranked (get_or ds j d).number n _ (sym (split.1 j d behind inside)) in absurd (omega (arith, more, e)))
     (cases_lt j i)))
+
+-- a name that no document has stands for no number
+pub no_number_of : (q : List ℕ) (ds : List Document) → has_name_in q ds ≡ false → option_map (λ (d : Document). d.number) (find (λ (d : Document). bytes_eq q d.name) ds) ≡ None
+no_number_of q [] none = refl
+no_number_of q (d ∷ ds) none =
+    by_test (bytes_eq q d.name)
+    (λ holds. absurd (false≢true (sym none ∙ ap (λ (b : Bool). b || has_name_in q ds) holds)))
+    (λ fails. ap (λ (b : Bool). option_map (λ (d : Document). d.number) (cond b (Some d) (find (λ (d : Document). bytes_eq q d.name) ds))) fails
+    ∙ no_number_of q ds (sym (ap (λ (b : Bool). b || has_name_in q ds) fails) ∙ none))

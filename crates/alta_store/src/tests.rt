@@ -1,5 +1,5 @@
 // Disks that are opened, damaged, added to and stopped.
-ghost use Rattle.std.specs.Prelude.{◌≡◌, ◌≤◌, true, OnSome};
+ghost use Rattle.std.specs.Prelude.{◌≡◌, ◌≤◌, true, OnOk};
 ghost use Rattle.alta_codec.specs.Name.{IsName};
 ghost use Rattle.alta_disk.specs.Disk.{DiskState};
 ghost use Rattle.alta_journal.specs.declared.places.TheConstants.{HEAD_BYTES};
@@ -16,6 +16,11 @@ const LIMIT: u64 = 1 << 40;
 
 // The record of `add a<T>Red Fox<T>the quick red fox`, and the closed gate of the next.
 const RECORD: &[u8] = b"\xa5\0\0\0\x23\x01\x01a\0\0\0\x07Red Fox\0\0\0\x11the quick red fox\0";
+
+// The records of deletes, with the closed gate of the next.
+const DELETE_1: &[u8] = b"\xa5\0\0\0\x09\x02\0\0\0\0\0\0\0\x01\0";
+
+const DELETE_2: &[u8] = b"\xa5\0\0\0\x09\x02\0\0\0\0\0\0\0\x02\0";
 
 // The content of a disk that was just formatted.
 fn formatted(alloc: Global) -> Result<Vec<u8>, Fail> {
@@ -44,42 +49,95 @@ fn put(content: &mut [u8], at: usize, bytes: &[u8]) {
     }
 }
 
-// Adds a document: whether its name was free, and nothing after a fault.
-fn add_one<D: Disk>(store: &mut Store, disk: &mut D, name: &str) -> Option<bool>
+// Adds a document: its number, or nothing where it is refused.
+fn add_one<D: Disk>(store: &mut Store, disk: &mut D, name: &str) -> Result<Option<u64>, StoreFault>
     requires name { IsName name.now }
     requires sound { is_sound store.old ≡ true }
     requires agrees { (s : State) × Agrees D.tells (D.state disk.old) store.old s }
     requires limit { HEAD_BYTES ≤ (D.state disk.old).limit }
-    ensures { OnSome result (CanAdd D.tells (D.state disk.new) store.new) }
+    ensures { OnOk result (CanAdd D.tells (D.state disk.new) store.new) }
 {
     match store.add(disk, name, "Red Fox", "the quick red fox") {
-        Ok(_) => Some(true),
-        Err(StoreFault::Taken) => Some(false),
-        Err(_) => None,
+        Ok(number) => Ok(Some(number)),
+        Err(StoreFault::Taken) => Ok(None),
+        Err(StoreFault::Numbers) => Ok(None),
+        Err(fault) => Err(fault),
     }
 }
 
-// Opens a store, and adds a document of each of these names in turn, up to a fault: how many were added, and how many
-// were taken.
-fn add_each<D: Disk>(
+// Deletes a document: its number, or nothing where it is refused.
+fn delete_one<D: Disk>(
+    store: &mut Store,
+    disk: &mut D,
+    name: &str,
+) -> Result<Option<u64>, StoreFault>
+    requires sound { is_sound store.old ≡ true }
+    requires agrees { (s : State) × Agrees D.tells (D.state disk.old) store.old s }
+    requires limit { HEAD_BYTES ≤ (D.state disk.old).limit }
+    ensures { OnOk result (CanAdd D.tells (D.state disk.new) store.new) }
+{
+    match store.delete(disk, name) {
+        Ok(number) => Ok(Some(number)),
+        Err(StoreFault::Missing) => Ok(None),
+        Err(fault) => Err(fault),
+    }
+}
+
+// What a store answers, and its counts at the end.
+type Answers = (Vec<Option<u64>>, (u64, u64, u64));
+
+// Opens a store, and deletes (true) or adds (false) a document of each of these names in turn, up to a fault.
+fn answers<D: Disk>(
     alloc: Global,
     disk: &mut D,
-    names: &[&str],
-) -> Result<(u64, u64), StoreFault> {
+    steps: &[(bool, &str)],
+) -> Result<Answers, StoreFault> {
     let mut store = Store::open(alloc, disk)?;
-    let mut added: u64 = 0;
-    let mut taken: u64 = 0;
-    for name in names {
+    let mut numbers = Vec::new(alloc);
+    for (deletes, name) in steps {
         if !name_ok(name.as_bytes()) {
-            return Ok((added, taken));
+            return Ok((numbers, store.counts()));
         }
-        let Some(is_new) = add_one(&mut store, disk, name) else {
-            return Ok((added, taken));
+        let Ok(number) = act(&mut store, disk, *deletes, name) else {
+            return Ok((numbers, store.counts()));
         };
-        added = added.saturating_add(u64::from(is_new));
-        taken = taken.saturating_add(u64::from(!is_new));
+        let Ok(()) = numbers.push(number) else {
+            return Err(StoreFault::Memory);
+        };
     }
-    Ok((added, taken))
+    Ok((numbers, store.counts()))
+}
+
+fn act<D: Disk>(
+    store: &mut Store,
+    disk: &mut D,
+    deletes: bool,
+    name: &str,
+) -> Result<Option<u64>, StoreFault>
+    requires name { IsName name.now }
+    requires sound { is_sound store.old ≡ true }
+    requires agrees { (s : State) × Agrees D.tells (D.state disk.old) store.old s }
+    requires limit { HEAD_BYTES ≤ (D.state disk.old).limit }
+    ensures { OnOk result (CanAdd D.tells (D.state disk.new) store.new) }
+{
+    if deletes {
+        delete_one(store, disk, name)
+    } else {
+        add_one(store, disk, name)
+    }
+}
+
+// The same over a disk of this content.
+fn answers_on(
+    alloc: Global,
+    content: Vec<u8>,
+    steps: &[(bool, &str)],
+) -> Result<Answers, StoreFault> {
+    if content.len() as u64 > LIMIT {
+        return Err(StoreFault::NoRoot);
+    }
+    let mut disk = MemoryDisk::new(alloc, content, LIMIT, Vec::new(alloc));
+    answers(alloc, &mut disk, steps)
 }
 
 #[test]
@@ -128,10 +186,6 @@ fn a_broken_rule_has_its_place(rt: HostRuntime) -> Result<(), Fail> {
         put(&mut content, at, bytes);
         assert_eq!(rt; opened(alloc, content), want, "at {at}");
     }
-    let mut twice = fresh.clone()?;
-    put(&mut twice, 8_192, RECORD);
-    put(&mut twice, 8_192 + 40, RECORD);
-    assert_eq!(rt; opened(alloc, twice), Some(StoreFault::Damaged(8_237)));
     for (len, want) in [
         (2_105_344, None),
         (2_105_343, Some(StoreFault::Damaged(2_105_343))),
@@ -147,30 +201,95 @@ fn a_broken_rule_has_its_place(rt: HostRuntime) -> Result<(), Fail> {
 }
 
 #[test]
+fn an_entry_that_is_not_allowed_has_its_place(rt: HostRuntime) -> Result<(), Fail> {
+    let alloc = rt.alloc();
+    let fresh = formatted(alloc)?;
+    // What is written from 8,192 on: records of 40 and 14 bytes, one behind the other.
+    let rows: [(&[&[u8]], Option<StoreFault>); 8] = [
+        (&[DELETE_1], Some(StoreFault::Damaged(8_197))),
+        (&[RECORD, DELETE_1], None),
+        (&[RECORD, DELETE_2], Some(StoreFault::Damaged(8_237))),
+        (&[RECORD, RECORD], Some(StoreFault::Damaged(8_237))),
+        (
+            &[RECORD, DELETE_1, DELETE_1],
+            Some(StoreFault::Damaged(8_251)),
+        ),
+        (&[RECORD, DELETE_1, RECORD], None),
+        (
+            &[RECORD, DELETE_1, RECORD, RECORD],
+            Some(StoreFault::Damaged(8_291)),
+        ),
+        (&[RECORD, DELETE_1, RECORD, DELETE_2], None),
+    ];
+    for (records, want) in rows {
+        let mut content = fresh.clone()?;
+        let mut at: usize = 8_192;
+        for record in records {
+            put(&mut content, at, record);
+            at = at.saturating_add(record.len()).saturating_sub(1);
+        }
+        assert_eq!(rt; opened(alloc, content), want, "records to {at}");
+    }
+    let mut full = fresh.clone()?;
+    put(&mut full, 8, b"\0\0\0\x01\0\0\0\0");
+    put(&mut full, 8_192, RECORD);
+    assert_eq!(rt; opened(alloc, full), Some(StoreFault::Damaged(8_197)));
+    Ok(())
+}
+
+#[test]
+fn names_and_numbers_are_as_the_state_has_them(rt: HostRuntime) -> Result<(), Fail> {
+    let alloc = rt.alloc();
+    let fresh = formatted(alloc)?;
+    let steps = [
+        (true, "zz"),
+        (false, "a"),
+        (false, "a"),
+        (false, "b"),
+        (true, "a"),
+        (true, "a"),
+        (false, "a"),
+    ];
+    let (numbers, counts) = answers_on(alloc, fresh.clone()?, &steps).or(Err("the disk failed"))?;
+    assert_eq!(rt;
+        numbers.as_slice(),
+        [None, Some(1), None, Some(2), Some(1), None, Some(3)].as_slice()
+    );
+    assert_eq!(rt; counts, (2, 12, 4));
+    let mut last = fresh.clone()?;
+    put(&mut last, 8, b"\0\0\0\0\xff\xff\xff\xff");
+    let steps = [(false, "a"), (false, "b")];
+    let (numbers, counts) = answers_on(alloc, last, &steps).or(Err("the disk failed"))?;
+    assert_eq!(rt; numbers.as_slice(), [Some(4_294_967_295), None].as_slice());
+    assert_eq!(rt; counts, (1, 6, 4_294_967_296));
+    Ok(())
+}
+
+#[test]
 fn a_stop_at_any_call_keeps_what_was_answered(rt: HostRuntime) -> Result<(), Fail> {
     let alloc = rt.alloc();
     let fresh = formatted(alloc)?;
     assert!(rt; fresh.len() as u64 <= LIMIT);
-    let names = ["a", "b"];
-    for calls in 0..15 {
+    let steps = [(false, "a"), (false, "b"), (true, "a")];
+    // The counts after so many steps.
+    let after: [(u64, u64, u64); 5] = [(0, 0, 1), (1, 6, 2), (2, 12, 3), (1, 6, 3), (1, 6, 3)];
+    // Opening makes five calls, and each step four.
+    for calls in 4..18 {
         let inner = MemoryDisk::new(alloc, fresh.clone()?, LIMIT, Vec::new(alloc));
         let mut disk = FuseDisk::new(inner, calls);
-        let (answered, _) = add_each(alloc, &mut disk, &names).unwrap_or((0, 0));
+        let answered = match answers(alloc, &mut disk, &steps) {
+            Ok((numbers, _)) => numbers.len(),
+            Err(_) => 0,
+        };
         let stopped = disk.into_inner();
         for pick in 0..4 {
             let image = stopped.image(alloc, pick)?;
-            assert!(rt; image.len() as u64 <= LIMIT);
-            // What is there is taken, and what is not is added.
-            let mut disk = MemoryDisk::new(alloc, image, LIMIT, Vec::new(alloc));
-            let (added, taken) = add_each(alloc, &mut disk, &names).or(Err(
+            let (_, counts) = answers_on(alloc, image, &[]).or(Err(
                 "the image stands for no state",
             ))?;
             assert!(rt;
-                taken == answered || taken == answered.saturating_add(1),
-                "{calls} calls, image {pick}"
-            );
-            assert!(rt;
-                added.saturating_add(taken) == 2,
+                after.get(answered) == Some(&counts)
+                    || after.get(answered.saturating_add(1)) == Some(&counts),
                 "{calls} calls, image {pick}"
             );
         }
