@@ -1,0 +1,3 @@
+pub mod Above
+pub mod Encoding
+pub mod Reading

@@ -1,0 +1,18 @@
+use Rattle.std.proofs.Common.{refl, ◌∙◌, arith}
+use Rattle.alta_postings.specs.Deltas.{first_fault}
+use Rattle.alta_postings.proofs.Reading.{no_list, spelling_reads, reading_spells, fault_end}
+use Rattle.alta_postings.proofs.stream.Stream.open.Goals as goal
+
+pub whole-init : goal.whole-init
+unfolding first_fault
+whole-init c = record { same = refl; low = omega arith; within = omega arith }
+
+pub invariant_of-result : goal.invariant_of-result
+invariant_of-result c =
+    record { spelled = reading_spells c.args.bytes.now (λ i l. omega (arith, c.type_inv.bytes i)) (c.whole.invariant.same ∙ fault_end c.args.bytes.now c.whole.at c.whole.before (omega arith)) }
+
+pub returns-clause-never : goal.returns-clause-never
+returns-clause-never c = λ xs s. (refl, (spelling_reads c.args.bytes.now xs s).1)
+
+pub returns-in-Err-clause-never : goal.returns-in-Err-clause-never
+returns-in-Err-clause-never c = λ xs s. absurd (no_list c.args.bytes.now xs c.in-Err.fault (c.whole.invariant.same ∙ c.in-Err.ensures.fault) s)

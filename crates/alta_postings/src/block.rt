@@ -1,0 +1,73 @@
+// One block of a stream.
+ghost use Rattle.std.specs.Prelude.{◌≡◌, ◌<◌, ◌≤◌, length, take, drop, Some, None, IfOk, IfErr};
+ghost use Rattle.alta_codec.specs.declared.location.TheConstants.{TOP};
+ghost use Rattle.alta_postings.specs.Deltas.{fault_from, list_from, IsBlockRead};
+
+use crate::fault::StreamFault;
+use crate::step::{next_location, read_location};
+use alta_codec::TOP;
+use arrayvec::ArrayVec;
+
+/// What was read of one block.
+#[derive(Clone, Copy, Debug, PartialEq, Eq, Drop)]
+pub struct BlockSpan {
+    /// Its first location.
+    pub first: u64,
+    /// Its last location.
+    pub last: u64,
+    /// How many locations it has, 1 to 64.
+    pub count: usize,
+    /// The place behind it.
+    pub next: usize,
+}
+
+/// Reads the block that begins at the place `at`, behind the location `before`, and keeps none of its locations. At a
+/// fault, the first number of the block that shows it. It takes no memory.
+pub fn scan_block(bytes: &[u8], at: usize, before: u64) -> Result<BlockSpan, StreamFault>
+    requires within { at < length bytes.now }
+    requires low { before < TOP }
+    ensures read { IfOk result (λ span. IsBlockRead bytes.now at before span.first span.last span.count span.next) }
+    ensures fault { IfErr result (λ fault. fault_from at 0 before (drop at bytes.now) ≡ Some fault) }
+{
+    let (first, second) = match read_location(bytes, at, before) {
+        Ok(step) => step,
+        Err(fault) => return Err(fault),
+    };
+    let mut last = first;
+    let mut next = second;
+    let mut count: usize = 1;
+    'numbers: while next < bytes.len() && count < 64 {
+        match read_location(bytes, next, last) {
+            Ok((location, after)) => {
+                last = location;
+                next = after;
+                count += 1;
+            }
+            Err(fault) => return Err(fault),
+        }
+    }
+    Ok(BlockSpan {
+        first,
+        last,
+        count,
+        next,
+    })
+}
+
+/// Fills `out` with the locations from a place of a stream on, at most 64.
+pub fn read_block(bytes: &[u8], place: usize, before: u64, out: &mut ArrayVec<u64, 64>)
+    requires within { place ≤ length bytes.now }
+    requires low { before < TOP }
+    requires spelled { fault_from place 0 before (drop place bytes.now) ≡ None }
+    ensures { out.new.items ≡ take 64 (list_from place 0 before (drop place bytes.now)) }
+{
+    out.clear();
+    let mut at = place;
+    let mut last = before;
+    'numbers: while at < bytes.len() && out.len() < 64 {
+        let (location, next) = next_location(bytes, at, last);
+        out.push(location);
+        last = location;
+        at = next;
+    }
+}

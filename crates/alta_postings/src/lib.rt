@@ -1,0 +1,17 @@
+//! Rising lists of locations as bytes: the first location, then each difference from the one before, in blocks of 64.
+#![tactic(auto)]
+
+mod block;
+mod coding;
+mod fault;
+mod places;
+mod step;
+mod stream;
+#[cfg(test)]
+mod tests;
+
+pub use block::{BlockSpan, scan_block};
+pub use coding::{Coded, encode};
+pub use fault::{StreamCause, StreamFault};
+pub use places::Places;
+pub use stream::Stream;

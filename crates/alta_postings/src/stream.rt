@@ -1,0 +1,100 @@
+// A stream of locations: opened, and read block by block or whole.
+ghost use Rattle.std.specs.Prelude.{◌≡◌, ℕ, ◌+◌, ◌*◌, ◌<◌, List, take, drop, Some, None, IfOk, IfErr, IsOk};
+ghost use Rattle.alta_codec.specs.declared.location.TheConstants.{TOP};
+ghost use Rattle.alta_postings.specs.Deltas.{Spells, fault_from, list_from, first_fault, locations_of, BeginsBlock};
+
+use crate::block::{read_block, scan_block};
+use crate::fault::StreamFault;
+use crate::step::next_location;
+use alta_codec::{Steps, TOP};
+use arrayvec::ArrayVec;
+use std::alloc::{AllocError, Global};
+use std::sync::ledger::Ledger;
+
+/// Bytes that spell a list of locations.
+#[derive(Clone, Copy, Drop)]
+pub struct Stream<'a> {
+    bytes: &'a [u8],
+    ghost spelled: { Spells bytes.now (locations_of bytes.now) },
+}
+
+impl<'a> Stream<'a> {
+    /// Reads the whole once, and takes no memory. A fault comes exactly where the bytes spell no list, at the first
+    /// number that shows it, with the place of that number's first byte: `Cut`, `Long` and `Wide` where it is misspelt,
+    /// `Zero` where it is 0, `Top` where it leads to a location at or above `TOP`.
+    pub fn open(bytes: &'a [u8]) -> Result<Stream<'a>, StreamFault>
+        ensures found { IfOk result (λ stream. (stream.bytes.now ≡ bytes.now) × Spells bytes.now (locations_of bytes.now)) }
+        ensures never { (list : List ℕ) → Spells bytes.now list → IsOk result × (locations_of bytes.now ≡ list) }
+        ensures first { IfErr result (λ fault. first_fault bytes.now ≡ Some fault) }
+    {
+        let mut at = 0;
+        let mut before: u64 = 0;
+        'whole: while at < bytes.len() {
+            match scan_block(bytes, at, before) {
+                Ok(span) => {
+                    at = span.next;
+                    before = span.last;
+                }
+                Err(fault) => return Err(fault),
+            }
+        }
+        Ok(Stream { bytes })
+    }
+
+    /// Bytes that are known to spell a list. They are not read.
+    pub fn of(bytes: &'a [u8]) -> Stream<'a>
+        requires { (list : List ℕ) × Spells bytes.now list }
+        ensures { result.bytes.now ≡ bytes.now }
+    {
+        Stream { bytes }
+    }
+
+    /// The bytes that spell the list.
+    pub fn bytes(&self) -> &[u8]
+        ensures { result.now ≡ self.now.bytes.now }
+    {
+        self.bytes
+    }
+
+    /// Fills `out` with the block that begins at `place`, at most 64 locations. `before` is the location before the
+    /// block, 0 where there is none. It adds one step and takes no memory.
+    pub fn block<L: Ledger>(
+        &self,
+        place: usize,
+        before: u64,
+        out: &mut ArrayVec<u64, 64>,
+        steps: &mut Steps<L>,
+    )
+        requires begins { (i : ℕ) × BeginsBlock (locations_of self.now.bytes.now) i place before }
+        ensures block { (i : ℕ) → BeginsBlock (locations_of self.now.bytes.now) i place before
+            → out.new.items ≡ take 64 (drop (64 * i) (locations_of self.now.bytes.now)) }
+        ensures steps { steps.new ≡ steps.old + 1 }
+    {
+        steps.tick();
+        read_block(self.bytes, place, before, out);
+    }
+
+    /// The whole list.
+    pub fn locations(&self, alloc: Global) -> Result<Vec<u64>, AllocError>
+        ensures { IfOk result (λ list. list.items ≡ locations_of self.now.bytes.now) }
+    {
+        read_all(alloc, self.bytes)
+    }
+}
+
+// The whole list of a stream.
+fn read_all(alloc: Global, bytes: &[u8]) -> Result<Vec<u64>, AllocError>
+    requires spelled { fault_from 0 0 0 bytes.now ≡ None }
+    ensures { IfOk result (λ list. list.items ≡ list_from 0 0 0 bytes.now) }
+{
+    let mut list = Vec::new(alloc);
+    let mut at = 0;
+    let mut last: u64 = 0;
+    'numbers: while at < bytes.len() {
+        let (location, next) = next_location(bytes, at, last);
+        list.push(location)?;
+        last = location;
+        at = next;
+    }
+    Ok(list)
+}
