@@ -1,3 +1,6 @@
 pub mod Chain
+pub mod Fault
+pub mod Held
 pub mod Leaf
 pub mod Leaves
+pub mod Word

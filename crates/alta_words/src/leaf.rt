@@ -5,6 +5,7 @@ ghost use Rattle.alta_codec.specs.declared.location.TheConstants.{TOP};
 ghost use Rattle.alta_words.specs.Leaf.{leaf_list, leaf_place, IsSoundLeaf, leaf_rises, leaf_stands};
 
 use crate::plain::PlainReader;
+use crate::word::WordReader;
 use alta_codec::{Loc, Steps};
 use alta_reader::{BackReader, Reader};
 use std::sync::ledger::Ledger;
@@ -12,6 +13,8 @@ use std::sync::ledger::Ledger;
 /// A reader of one list of locations, in one of its forms.
 #[derive(Drop)]
 pub enum Leaf<'a> {
+    /// Of a coded list.
+    Coded(WordReader<'a>),
     /// Of a plain list in memory.
     Plain(PlainReader<'a>),
 }
@@ -23,6 +26,7 @@ impl<'a> Leaf<'a> {
         ensures { result ≡ pred_of (leaf_list self.now) TOP }
     {
         match self {
+            Leaf::Coded(reader) => reader.last(),
             Leaf::Plain(reader) => reader.last(),
         }
     }
@@ -41,6 +45,7 @@ impl<'a> Reader for Leaf<'a> {
 
     fn loc(&self) -> Loc {
         match self {
+            Leaf::Coded(reader) => reader.loc(),
             Leaf::Plain(reader) => reader.loc(),
         }
     }
@@ -58,6 +63,7 @@ impl<'a> Reader for Leaf<'a> {
         ensures one { steps.new ≡ steps.old + 1 }
     {
         match self {
+            Leaf::Coded(reader) => reader.next(steps),
             Leaf::Plain(reader) => reader.next(steps),
         }
     }
@@ -76,6 +82,7 @@ impl<'a> Reader for Leaf<'a> {
         ensures one { steps.new ≡ steps.old + 1 }
     {
         match self {
+            Leaf::Coded(reader) => reader.seek(to, steps),
             Leaf::Plain(reader) => reader.seek(to, steps),
         }
     }
@@ -88,6 +95,7 @@ impl<'a> Reader for Leaf<'a> {
 impl<'a> BackReader for Leaf<'a> {
     fn prev(&self) -> Loc {
         match self {
+            Leaf::Coded(reader) => reader.prev(),
             Leaf::Plain(reader) => reader.prev(),
         }
     }

@@ -2,12 +2,20 @@
 #![tactic(auto)]
 
 mod chain;
+mod checking;
+#[cfg(test)]
+mod coded_tests;
 mod gallop;
 mod leaf;
 mod plain;
+mod posting;
 #[cfg(test)]
 mod tests;
+mod word;
 
 pub use chain::ChainReader;
+pub use checking::PostingFault;
 pub use leaf::Leaf;
 pub use plain::PlainReader;
+pub use posting::Posting;
+pub use word::WordReader;

@@ -1,0 +1,89 @@
+// A coded list that readers may borrow.
+ghost use Rattle.std.specs.Prelude.{◌≡◌, ℕ, ◌+◌, length, slice_index, IfOk, IfErr, IsOk};
+ghost use Rattle.alta_codec.specs.Rising.{first_from, pred_of};
+ghost use Rattle.alta_codec.specs.declared.location.TheConstants.{TOP};
+ghost use Rattle.alta_postings.specs.Deltas.{locations_of};
+ghost use Rattle.alta_words.specs.Fault.{IsPostingFault};
+ghost use Rattle.alta_words.specs.Held.{IsSoundWord, word_list, word_place};
+ghost use Rattle.alta_words.specs.Word.{IsPosting, HasBounds};
+
+use crate::checking::{PostingFault, check};
+use crate::word::WordReader;
+use alta_codec::{Steps, TOP};
+use alta_postings::Stream;
+use alta_summary::Summary;
+use std::sync::ledger::Ledger;
+
+/// A stream and the summary that belongs to it. The type keeps that they agree.
+#[derive(Drop)]
+pub struct Posting {
+    stream: Vec<u8>,
+    summary: Vec<u8>,
+    rows: usize,
+    count: u64,
+    first: u64,
+    last: u64,
+    ghost agrees: { IsPosting stream.items summary.items rows },
+    ghost bounded: { HasBounds (locations_of stream.items) count first last },
+}
+
+impl Posting {
+    /// Takes a stream and its summary, each read once; it takes no memory. A fault is `Stream`, with the place of the
+    /// stream's own fault, exactly where the stream spells no list; else `Summary`, with the place of the summary's own
+    /// fault, exactly where the summary is no table; else `Differ`, exactly where rows and blocks disagree, with the
+    /// least number at which the row is not the block, or one of the two is missing. A stream of at most one block
+    /// agrees with the empty summary.
+    pub fn check(stream: Vec<u8>, summary: Vec<u8>) -> Result<Posting, PostingFault>
+        ensures stream { IfOk result (λ posting. posting.stream.items ≡ stream.items) }
+        ensures summary { IfOk result (λ posting. posting.summary.items ≡ summary.items) }
+        ensures agrees { IfOk result (λ posting. IsPosting stream.items summary.items posting.rows) }
+        ensures never { (b : ℕ) → IsPosting stream.items summary.items b → IsOk result }
+        ensures fault { IfErr result (λ fault. IsPostingFault stream.items summary.items fault) }
+    {
+        match check(&stream, &summary) {
+            Ok(bounds) => Ok(Posting {
+                stream,
+                summary,
+                rows: bounds.rows,
+                count: bounds.count,
+                first: bounds.first,
+                last: bounds.last,
+            }),
+            Err(fault) => Err(fault),
+        }
+    }
+
+    /// How many locations the list has.
+    pub fn list_len(&self) -> u64
+        ensures { result ≡ length (locations_of self.now.stream.items) }
+    {
+        self.count
+    }
+
+    /// The first location, 0 for the empty list.
+    pub fn first(&self) -> u64
+        ensures { result ≡ slice_index (locations_of self.now.stream.items) 0 }
+    {
+        self.first
+    }
+
+    /// The last location, 0 for the empty list.
+    pub fn last(&self) -> u64
+        ensures { result ≡ pred_of (locations_of self.now.stream.items) TOP }
+    {
+        self.last
+    }
+
+    /// A reader that borrows the bytes and stands at the first location, or at `TOP` where the list is empty. It adds
+    /// one step.
+    pub fn reader<L: Ledger>(&self, steps: &mut Steps<L>) -> WordReader<'_>
+        ensures sound { IsSoundWord result }
+        ensures list { word_list result ≡ locations_of self.now.stream.items }
+        ensures unmoved { word_place result ≡ first_from (locations_of self.now.stream.items) 0 }
+        ensures steps { steps.new ≡ steps.old + 1 }
+    {
+        let stream = Stream::of(&self.stream);
+        let summary = Summary::of(&self.summary);
+        WordReader::new(stream, summary, steps)
+    }
+}

@@ -1,0 +1,240 @@
+// A reader of a coded list, which holds one block.
+ghost use Rattle.std.specs.Prelude.{◌≡◌, refl, ℕ, ◌+◌, ◌-◌, ◌*◌, ◌<◌, ◌≤◌, List, ◌∷◌, length, slice_index, slice_index_or};
+ghost use Rattle.alta_codec.specs.Rising.{IsRising, first_from, pred_of, count_from};
+ghost use Rattle.alta_codec.proofs.ByIndex.{at_place};
+ghost use Rattle.alta_codec.specs.declared.location.TheConstants.{TOP};
+ghost use Rattle.alta_postings.specs.Deltas.{locations_of};
+ghost use Rattle.alta_summary.specs.Table.{field_at};
+ghost use Rattle.alta_words.specs.Held.{IsSoundWord, word_list, word_place};
+ghost use Rattle.alta_words.specs.Word.{IsPosting, HoldsBlock};
+
+use crate::gallop::index_from;
+use alta_codec::{Loc, Steps, TOP};
+use alta_postings::Stream;
+use alta_reader::{BackReader, Reader};
+use alta_summary::Summary;
+use arrayvec::ArrayVec;
+use std::sync::ledger::Ledger;
+
+/// A reader of a coded list, whose bytes it borrows. It holds the block in which it stands, and the location before
+/// that block.
+#[derive(Drop)]
+pub struct WordReader<'a> {
+    stream: Stream<'a>,
+    summary: Summary<'a>,
+    block: ArrayVec<u64, 64>,
+    row: usize,
+    index: usize,
+    before: u64,
+}
+
+/// The first block of a list, none where the list is empty. It adds one step.
+fn first_block<L: Ledger>(stream: &Stream<'_>, steps: &mut Steps<L>) -> ArrayVec<u64, 64>
+    ensures holds { HoldsBlock (locations_of stream.now.bytes.now) result.items 0 0 0 }
+    ensures steps { steps.new ≡ steps.old + 1 }
+{
+    let mut block = ArrayVec::new();
+    if stream.bytes().len() == 0 {
+        steps.tick();
+        return block;
+    }
+    stream.block(0, 0, &mut block, steps);
+    block
+}
+
+/// The location before a block, 0 before the first.
+fn before_row(summary: &Summary<'_>, row: usize) -> u64
+    requires { row ≤ summary.now.count }
+    ensures first { row ≡ 0 → result ≡ 0 }
+    ensures later { 0 < row → result ≡ field_at summary.now.bytes.now (3 * (row - 1) + 1) }
+{
+    if row == 0 {
+        return 0;
+    }
+    summary.row(row - 1).last
+}
+
+impl<'a> WordReader<'a> {
+    /// A reader at the first location. It adds one step.
+    pub fn new<L: Ledger>(
+        stream: Stream<'a>,
+        summary: Summary<'a>,
+        steps: &mut Steps<L>,
+    ) -> WordReader<'a>
+        requires { IsPosting stream.bytes.now summary.bytes.now summary.count }
+        ensures sound { ⟦<WordReader<'a> as Reader>⟧.sound result }
+        ensures list { ⟦<WordReader<'a> as Reader>⟧.list result ≡ locations_of stream.entry.bytes.now }
+        ensures unmoved { ⟦<WordReader<'a> as Reader>⟧.location result ≡ first_from (locations_of stream.entry.bytes.now) 0 }
+        ensures steps { steps.new ≡ steps.old + 1 }
+    {
+        let block = first_block(&stream, steps);
+        WordReader {
+            stream,
+            summary,
+            block,
+            row: 0,
+            index: 0,
+            before: 0,
+        }
+    }
+
+    /// The greatest location of the list, 0 where it is empty.
+    pub fn last(&self) -> Loc
+        requires { IsSoundWord self.now }
+        ensures { result ≡ pred_of (word_list self.now) TOP }
+    {
+        let rows = self.summary.rows();
+        if rows > 0 {
+            return self.summary.row(rows - 1).last;
+        }
+        let held = self.block.len();
+        if held == 0 {
+            return 0;
+        }
+        self.block.as_slice()[held - 1]
+    }
+
+    /// Holds another block, and stands at its first location. It adds one step.
+    fn load<L: Ledger>(&mut self, row: usize, steps: &mut Steps<L>)
+        requires posting { IsPosting self.old.stream.bytes.now self.old.summary.bytes.now self.old.summary.count }
+        requires within { row < self.old.summary.count }
+        ensures stream { self.new.stream ≡ self.old.stream }
+        ensures summary { self.new.summary ≡ self.old.summary }
+        ensures row { self.new.row ≡ row }
+        ensures index { self.new.index ≡ 0 }
+        ensures holds { HoldsBlock (locations_of self.old.stream.bytes.now) self.new.block.items row 0 self.new.before }
+        ensures steps { steps.new ≡ steps.old + 1 }
+    {
+        let place = self.summary.row(row).place as usize;
+        let before = before_row(&self.summary, row);
+        self.stream.block(place, before, &mut self.block, steps);
+        self.row = row;
+        self.index = 0;
+        self.before = before;
+    }
+
+    /// Goes one location on. It adds one step.
+    fn go_next<L: Ledger>(&mut self, steps: &mut Steps<L>)
+        requires posting { IsPosting self.old.stream.bytes.now self.old.summary.bytes.now self.old.summary.count }
+        requires holds { HoldsBlock (locations_of self.old.stream.bytes.now) self.old.block.items self.old.row self.old.index self.old.before }
+        requires below { slice_index_or (locations_of self.old.stream.bytes.now) (64 * self.old.row + self.old.index) TOP < TOP }
+        ensures stream { self.new.stream ≡ self.old.stream }
+        ensures summary { self.new.summary ≡ self.old.summary }
+        ensures holds { HoldsBlock (locations_of self.old.stream.bytes.now) self.new.block.items self.new.row self.new.index self.new.before }
+        ensures place { 64 * self.new.row + self.new.index ≡ 64 * self.old.row + self.old.index + 1 }
+        ensures steps { steps.new ≡ steps.old + 1 }
+    {
+        if self.index + 1 < self.block.len() || self.row + 1 >= self.summary.rows() {
+            steps.tick();
+            self.index += 1;
+            return;
+        }
+        self.load(self.row + 1, steps);
+    }
+
+    /// Goes on to the first location at or above `to`. It adds one step.
+    fn go_seek<L: Ledger>(&mut self, to: Loc, steps: &mut Steps<L>)
+        requires posting { IsPosting self.old.stream.bytes.now self.old.summary.bytes.now self.old.summary.count }
+        requires holds { HoldsBlock (locations_of self.old.stream.bytes.now) self.old.block.items self.old.row self.old.index self.old.before }
+        requires above { slice_index_or (locations_of self.old.stream.bytes.now) (64 * self.old.row + self.old.index) TOP < to }
+        requires top { to ≤ TOP }
+        ensures stream { self.new.stream ≡ self.old.stream }
+        ensures summary { self.new.summary ≡ self.old.summary }
+        ensures holds { HoldsBlock (locations_of self.old.stream.bytes.now) self.new.block.items self.new.row self.new.index self.new.before }
+        ensures place { slice_index_or (locations_of self.old.stream.bytes.now) (64 * self.new.row + self.new.index) TOP ≡ first_from (locations_of self.old.stream.bytes.now) to }
+        ensures steps { steps.new ≡ steps.old + 1 }
+    {
+        let held = self.block.len();
+        if self.block.as_slice()[held - 1] >= to {
+            steps.tick();
+            self.index = index_from(self.block.as_slice(), self.index, to);
+            return;
+        }
+        let rows = self.summary.rows();
+        if self.row + 1 >= rows {
+            steps.tick();
+            self.index = held;
+            return;
+        }
+        if self.summary.row(rows - 1).last < to {
+            self.load(rows - 1, steps);
+            self.index = self.block.len();
+            return;
+        }
+        let row = self.summary.find(to);
+        self.load(row, steps);
+        self.index = index_from(self.block.as_slice(), 0, to);
+    }
+}
+
+impl<'a> Reader for WordReader<'a> {
+    ghost sound = { IsSoundWord };
+
+    ghost list = { word_list };
+
+    ghost location = { word_place };
+
+    ghost all = { word_list };
+
+    ghost left = { λ s. count_from (word_list s) (word_place s) };
+
+    fn loc(&self) -> Loc {
+        if self.index < self.block.len() {
+            self.block.as_slice()[self.index]
+        } else {
+            TOP
+        }
+    }
+
+    /// Goes to the next location, or to `TOP` past the last. It adds exactly one step, and reads a block where it leaves
+    /// the one that it holds.
+    fn next<L: Ledger>(&mut self, steps: &mut Steps<L>)
+        requires sound { ⟦<WordReader<'a> as Reader>⟧.sound self.old }
+        requires below { ⟦<WordReader<'a> as Reader>⟧.location self.old < TOP }
+        ensures sound { ⟦<WordReader<'a> as Reader>⟧.sound self.new }
+        ensures list { ⟦<WordReader<'a> as Reader>⟧.list self.new ≡ ⟦<WordReader<'a> as Reader>⟧.list self.old }
+        ensures all { ⟦<WordReader<'a> as Reader>⟧.all self.new ≡ ⟦<WordReader<'a> as Reader>⟧.all self.old }
+        ensures location { ⟦<WordReader<'a> as Reader>⟧.location self.new ≡ first_from (⟦<WordReader<'a> as Reader>⟧.list self.old) (⟦<WordReader<'a> as Reader>⟧.location self.old + 1) }
+        ensures falls { ⟦<WordReader<'a> as Reader>⟧.left self.new < ⟦<WordReader<'a> as Reader>⟧.left self.old }
+        ensures steps { steps.new + ⟦<WordReader<'a> as Reader>⟧.left self.new ≤ steps.old + ⟦<WordReader<'a> as Reader>⟧.left self.old }
+        ensures one { steps.new ≡ steps.old + 1 }
+    {
+        self.go_next(steps);
+    }
+
+    /// Goes to the least location at or above `to`, or to `TOP` past the last. It adds exactly one step. Outside the block
+    /// that it holds, it finds the row that reaches `to` in the summary, by halving groups and then rows, and reads that
+    /// block alone.
+    fn seek<L: Ledger>(&mut self, to: Loc, steps: &mut Steps<L>)
+        requires sound { ⟦<WordReader<'a> as Reader>⟧.sound self.old }
+        requires above { ⟦<WordReader<'a> as Reader>⟧.location self.old < to }
+        requires top { to ≤ TOP }
+        ensures sound { ⟦<WordReader<'a> as Reader>⟧.sound self.new }
+        ensures list { ⟦<WordReader<'a> as Reader>⟧.list self.new ≡ ⟦<WordReader<'a> as Reader>⟧.list self.old }
+        ensures all { ⟦<WordReader<'a> as Reader>⟧.all self.new ≡ ⟦<WordReader<'a> as Reader>⟧.all self.old }
+        ensures location { ⟦<WordReader<'a> as Reader>⟧.location self.new ≡ first_from (⟦<WordReader<'a> as Reader>⟧.list self.old) to }
+        ensures falls { ⟦<WordReader<'a> as Reader>⟧.left self.new < ⟦<WordReader<'a> as Reader>⟧.left self.old }
+        ensures steps { steps.new + ⟦<WordReader<'a> as Reader>⟧.left self.new ≤ steps.old + ⟦<WordReader<'a> as Reader>⟧.left self.old }
+        ensures one { steps.new ≡ steps.old + 1 }
+    {
+        self.go_seek(to, steps);
+    }
+
+    ghost rises = { λ s h. h.1.rising };
+
+    ghost stands = { λ s h. (at_place (word_list s) (64 * s.row + s.index) h.1.rising).0 };
+}
+
+impl<'a> BackReader for WordReader<'a> {
+    fn prev(&self) -> Loc {
+        if self.index == 0 {
+            self.before
+        } else {
+            self.block.as_slice()[self.index - 1]
+        }
+    }
+
+    ghost members = { λ s h x. (λ m. m, λ m. m) };
+
+    ghost left_is = { λ s h. refl };
+}
