@@ -1,5 +1,5 @@
 // One location of a stream.
-ghost use Rattle.std.specs.Prelude.{◌≡◌, ◌<◌, length, drop, Some, None, IfOk, IfErr};
+ghost use Rattle.std.specs.Prelude.{◌≡◌, ◌<◌, ◌≤◌, length, drop, Some, None, IfOk, IfErr};
 ghost use Rattle.alta_codec.specs.declared.location.TheConstants.{TOP};
 ghost use Rattle.alta_codec.specs.Numbers.{number_from};
 ghost use Rattle.alta_postings.specs.Deltas.{fault_from, IsStep};
@@ -7,7 +7,17 @@ ghost use Rattle.alta_postings.specs.Deltas.{fault_from, IsStep};
 use crate::fault::{StreamCause, StreamFault, cause};
 use alta_codec::{CodeFault, TOP, get_number};
 
+// A number of more than two bytes, apart from the short way.
+#[inline(never)]
+fn long_number(bytes: &[u8], at: usize) -> Result<(u64, usize), CodeFault>
+    requires { at ≤ length bytes.now }
+    ensures { result ≡ number_from 9 at (drop at bytes.now) }
+{
+    get_number(bytes, at)
+}
+
 // The number that is spelled at a place, with a short way for one and for two bytes.
+#[inline(always)]
 fn number_at(bytes: &[u8], at: usize) -> Result<(u64, usize), CodeFault>
     requires { at < length bytes.now }
     ensures { result ≡ number_from 9 at (drop at bytes.now) }
@@ -22,11 +32,12 @@ fn number_at(bytes: &[u8], at: usize) -> Result<(u64, usize), CodeFault>
             return Ok((u64::from(first - 128) + 128 * u64::from(second), at + 2));
         }
     }
-    get_number(bytes, at)
+    long_number(bytes, at)
 }
 
 /// The location that is spelled at a place, behind the location `before`, and the place after it; or the fault that
 /// this number shows.
+#[inline(always)]
 pub fn read_location(bytes: &[u8], at: usize, before: u64) -> Result<(u64, usize), StreamFault>
     requires within { at < length bytes.now }
     requires low { before < TOP }
@@ -57,6 +68,7 @@ pub fn read_location(bytes: &[u8], at: usize, before: u64) -> Result<(u64, usize
 }
 
 /// The location that is spelled at a place of a stream, behind the location `before`, and the place after it.
+#[inline(always)]
 pub fn next_location(bytes: &[u8], at: usize, before: u64) -> (u64, usize)
     requires within { at < length bytes.now }
     requires low { before < TOP }
