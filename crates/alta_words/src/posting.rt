@@ -4,13 +4,13 @@ ghost use Rattle.alta_codec.specs.Rising.{first_from, pred_of};
 ghost use Rattle.alta_codec.specs.declared.location.TheConstants.{TOP};
 ghost use Rattle.alta_postings.specs.Deltas.{locations_of};
 ghost use Rattle.alta_words.specs.Fault.{IsPostingFault};
-ghost use Rattle.alta_words.specs.Held.{IsSoundWord, word_list, word_place};
 ghost use Rattle.alta_words.specs.Word.{IsPosting, HasBounds};
 
 use crate::checking::{PostingFault, check};
 use crate::word::WordReader;
 use alta_codec::{Steps, TOP};
 use alta_postings::Stream;
+use alta_reader::Reader;
 use alta_summary::Summary;
 use std::sync::ledger::Ledger;
 
@@ -76,10 +76,12 @@ impl Posting {
 
     /// A reader that borrows the bytes and stands at the first location, or at `TOP` where the list is empty. It adds
     /// one step.
-    pub fn reader<L: Ledger>(&self, steps: &mut Steps<L>) -> WordReader<'_>
-        ensures sound { IsSoundWord result }
-        ensures list { word_list result ≡ locations_of self.now.stream.items }
-        ensures unmoved { word_place result ≡ first_from (locations_of self.now.stream.items) 0 }
+    pub fn reader<'a, L: Ledger>(&'a self, steps: &mut Steps<L>) -> WordReader<'a>
+        ensures sound { ⟦<WordReader<'a> as Reader>⟧.sound result }
+        ensures list { ⟦<WordReader<'a> as Reader>⟧.list result ≡ locations_of self.now.stream.items }
+        ensures all { ⟦<WordReader<'a> as Reader>⟧.all result ≡ locations_of self.now.stream.items }
+        ensures unmoved { ⟦<WordReader<'a> as Reader>⟧.location result ≡ first_from (locations_of self.now.stream.items) 0 }
+        ensures left { ⟦<WordReader<'a> as Reader>⟧.left result ≡ length (locations_of self.now.stream.items) }
         ensures steps { steps.new ≡ steps.old + 1 }
     {
         let stream = Stream::of(&self.stream);

@@ -64,7 +64,9 @@ impl<'a> WordReader<'a> {
         requires { IsPosting stream.bytes.now summary.bytes.now summary.count }
         ensures sound { ⟦<WordReader<'a> as Reader>⟧.sound result }
         ensures list { ⟦<WordReader<'a> as Reader>⟧.list result ≡ locations_of stream.entry.bytes.now }
+        ensures all { ⟦<WordReader<'a> as Reader>⟧.all result ≡ locations_of stream.entry.bytes.now }
         ensures unmoved { ⟦<WordReader<'a> as Reader>⟧.location result ≡ first_from (locations_of stream.entry.bytes.now) 0 }
+        ensures left { ⟦<WordReader<'a> as Reader>⟧.left result ≡ length (locations_of stream.entry.bytes.now) }
         ensures steps { steps.new ≡ steps.old + 1 }
     {
         let block = first_block(&stream, steps);
