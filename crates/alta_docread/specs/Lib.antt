@@ -1,0 +1,5 @@
+pub mod FoundView
+pub mod Kept
+pub mod KeptLaws
+pub mod SolutionLaws
+pub mod Solutions
