@@ -1,5 +1,9 @@
 pub mod FoundView
 pub mod Kept
 pub mod KeptLaws
+pub mod Moves
 pub mod SolutionLaws
 pub mod Solutions
+pub mod Tree
+pub mod TreeLaws
+pub mod View

@@ -87,6 +87,13 @@ impl<R: BackReader> Found<R> {
         Found { solver, at: 0 }
     }
 
+    /// Where it stands: nowhere, at 0, until its first move.
+    pub(crate) fn place(&self) -> Loc
+        ensures { result ≡ self.now.at }
+    {
+        self.at
+    }
+
     /// Goes on to the first place at or above `to`.
     pub(crate) fn go<L: Ledger>(&mut self, to: Loc, steps: &mut Steps<L>)
         requires sound { IsSoundWalk (walk_of R.list R.all R.location R.left self.old) }

@@ -1,0 +1,120 @@
+-- Several trees as a list of trees, and what a move of one of them keeps.
+use Rattle.std.proofs.Common.{◌≡◌, ℕ, zero, suc, ◌+◌, ◌<◌, ◌≤◌, max, List, [], ◌∷◌, ◌++◌, map, length, get_or, set, refl, sym, subst, ap, ◌∙◌, arith}
+use Rattle.std.specs.Prelude.{All, Contains, sum_by}
+use Rattle.std.specs.List.{concat}
+use Rattle.std.proofs.Math.Seq.{map-set_same}
+use Rattle.std.proofs.lemmas.List.{get_or-map, length-map}
+use Rattle.std.proofs.lemmas.List.Elements.{All-nil, All-cons, All-head, All-tail, All-set}
+use Rattle.std.proofs.lemmas.List.Sums.{sum_by-cons, sum_by-set}
+use Rattle.alta_codec.specs.declared.location.TheConstants.{TOP}
+use Rattle.alta_codec.proofs.Places.{first_from-is}
+use Rattle.alta_compound.specs.Union.{least_of}
+use Rattle.alta_docread.specs.Moves.{IsKept}
+use Rattle.alta_docread.specs.Tree.{Tree, trees_of, tree_list, lists_of, tree_place, places_of, tree_all, all_in, tree_left, left_in, tree_depth, depth_in, IsAhead, AreAhead, IsSound, AreSound, IsMoved}
+use Rattle.alta_docread.specs.TreeLaws.{tree_stands, tree_top}
+
+-- what holds of each list holds of what is read at each tree, and the other way round
+pub of_each : {N : Type 0} {A : Type 0} (f : N → A) (P : A → Type 0) (ns : List N) → All (λ n. P (f n)) ns → All (λ a. P a) (map f ns)
+of_each f P [] h = All-nil (λ a. P a)
+of_each f P (n ∷ ns) h = All-cons (λ a. P a) (f n) (map f ns) (All-head (λ n. P (f n)) n ns h) (of_each f P ns (All-tail (λ n. P (f n)) n ns h))
+
+pub at_each : {N : Type 0} {A : Type 0} (f : N → A) (P : A → Type 0) (ns : List N) → All (λ a. P a) (map f ns) → All (λ n. P (f n)) ns
+at_each f P [] h = All-nil (λ n. P (f n))
+at_each f P (n ∷ ns) h = All-cons (λ n. P (f n)) n ns (All-head (λ a. P a) (f n) (map f ns) h) (at_each f P ns (All-tail (λ a. P a) (f n) (map f ns) h))
+
+module _ {N : Type 0} (tree : N → Tree) where
+  pub sound_each : (ns : List N) → AreSound (trees_of (map tree ns)) → All (λ n. IsSound (tree n)) ns
+  sound_each [] h = All-nil (λ n. IsSound (tree n))
+  sound_each (n ∷ ns) (h, r) = All-cons (λ n. IsSound (tree n)) n ns h (sound_each ns r)
+
+  pub each_sound : (ns : List N) → All (λ n. IsSound (tree n)) ns → AreSound (trees_of (map tree ns))
+  each_sound [] h = tt
+  each_sound (n ∷ ns) h = (All-head (λ n. IsSound (tree n)) n ns h, each_sound ns (All-tail (λ n. IsSound (tree n)) n ns h))
+
+  pub ahead_each : (at : ℕ) (ns : List N) → AreAhead at (trees_of (map tree ns)) → All (λ n. IsAhead at (tree_list (tree n)) (tree_place (tree n))) ns
+  ahead_each at [] h = All-nil (λ n. IsAhead at (tree_list (tree n)) (tree_place (tree n)))
+  ahead_each at (n ∷ ns) (h, r) = All-cons (λ n. IsAhead at (tree_list (tree n)) (tree_place (tree n))) n ns h (ahead_each at ns r)
+
+  pub each_ahead : (at : ℕ) (ns : List N) → All (λ n. IsAhead at (tree_list (tree n)) (tree_place (tree n))) ns → AreAhead at (trees_of (map tree ns))
+  each_ahead at [] h = tt
+  each_ahead at (n ∷ ns) h = (
+    All-head (λ n. IsAhead at (tree_list (tree n)) (tree_place (tree n))) n ns h,
+    each_ahead at ns (All-tail (λ n. IsAhead at (tree_list (tree n)) (tree_place (tree n))) n ns h),
+  )
+
+  pub lists_each : (ns : List N) → lists_of (trees_of (map tree ns)) ≡ map (λ n. tree_list (tree n)) ns
+  lists_each [] = refl
+  lists_each (n ∷ ns) = ap (λ l. tree_list (tree n) ∷ l) (lists_each ns)
+
+  pub places_each : (ns : List N) → places_of (trees_of (map tree ns)) ≡ map (λ n. tree_place (tree n)) ns
+  places_each [] = refl
+  places_each (n ∷ ns) = ap (λ l. tree_place (tree n) ∷ l) (places_each ns)
+
+  pub all_each : (ns : List N) → all_in (trees_of (map tree ns)) ≡ concat (map (λ n. tree_all (tree n)) ns)
+  all_each [] = refl
+  all_each (n ∷ ns) = ap (λ l. tree_all (tree n) ++ l) (all_each ns)
+
+  pub left_each : (ns : List N) → left_in (trees_of (map tree ns)) ≡ sum_by (λ n. tree_left (tree n)) ns
+  left_each [] = refl
+  left_each (n ∷ ns) = omega (arith, left_each ns, sum_by-cons (λ n. tree_left (tree n)) n ns)
+
+  -- one tree in the place of another as deep
+  depth_set : (ns : List N) (k : ℕ) (x d : N) → k < length ns → tree_depth (tree x) ≡ tree_depth (tree (get_or ns k d))
+      → depth_in (trees_of (map tree (set ns k x))) ≡ depth_in (trees_of (map tree ns))
+  depth_set [] k x d l e = absurd (omega arith)
+  depth_set (n ∷ ns) zero x d l e = ap (λ m. max m (depth_in (trees_of (map tree ns)))) e
+  depth_set (n ∷ ns) (suc k) x d l e = ap (λ m. max (tree_depth (tree n)) m) (depth_set ns k x d (omega arith) e)
+
+  pub depth_at : (ns : List N) (k : ℕ) (d : N) → k < length ns → tree_depth (tree (get_or ns k d)) ≤ depth_in (trees_of (map tree ns))
+  depth_at [] k d l = absurd (omega arith)
+  depth_at (n ∷ ns) zero d l = omega arith
+  depth_at (n ∷ ns) (suc k) d l = omega (arith, depth_at ns k d (omega arith))
+
+  pub kept_start : (ns : List N) (steps : ℕ) → All (λ n. IsSound (tree n)) ns → IsKept tree ns ns steps steps
+  kept_start ns steps s = record { sound = s; lists = refl; alls = refl; depth = refl; left = omega arith; steps = omega arith }
+
+  pub kept_on : (os ms ns : List N) (before mid after : ℕ) → IsKept tree os ms before mid → IsKept tree ms ns mid after → IsKept tree os ns before after
+  kept_on os ms ns before mid after a b =
+      record {
+        sound = b.sound;
+        lists = b.lists ∙ a.lists;
+        alls = b.alls ∙ a.alls;
+        depth = b.depth ∙ a.depth;
+        left = omega (arith, a.left, b.left);
+        steps = omega (arith, a.steps, b.steps);
+      }
+
+  pub left_set : (ns : List N) (i : ℕ) (r d : N) → i < length ns → d ≡ get_or ns i d
+      → sum_by (λ n. tree_left (tree n)) (set ns i r) + tree_left (tree d) ≡ sum_by (λ n. tree_left (tree n)) ns + tree_left (tree r)
+  left_set ns i r d w e = omega (arith, sum_by-set (λ n. tree_left (tree n)) ns i r d w, ap (λ n. tree_left (tree n)) e)
+
+  pub kept_set : (ns : List N) (i : ℕ) (r d : N) (to before after : ℕ) → i < length ns → d ≡ get_or ns i d → All (λ n. IsSound (tree n)) ns
+      → IsMoved (tree d) (tree r) to before after → IsKept tree ns (set ns i r) before after
+  kept_set ns i r d to before after w e s m =
+      record {
+        sound = All-set (λ n. IsSound (tree n)) ns i r m.sound s;
+        lists = map-set_same (λ n. tree_list (tree n)) ns i r d (m.list ∙ ap (λ n. tree_list (tree n)) e);
+        alls = map-set_same (λ n. tree_all (tree n)) ns i r d (m.all ∙ ap (λ n. tree_all (tree n)) e);
+        depth = depth_set ns i r d w (m.depth ∙ ap (λ n. tree_depth (tree n)) e);
+        left = omega (arith, left_set ns i r d w e, m.left);
+        steps = omega (arith, left_set ns i r d w e, m.steps);
+      }
+
+  pub kept_length : (os ns : List N) (before after : ℕ) → IsKept tree os ns before after → length ns ≡ length os
+  kept_length os ns before after k =
+      omega (arith, ap length k.lists, length-map os (λ n. tree_list (tree n)), length-map ns (λ n. tree_list (tree n)))
+
+-- a tree that stands at or above `to` and passed nothing there has moved to it
+pub moved_still : (t : Tree) (to steps : ℕ) → IsSound t → IsAhead to (tree_list t) (tree_place t) → 0 < to → to ≤ tree_place t → IsMoved t t to steps steps
+moved_still t to steps s ahead some le =
+    record {
+      sound = s;
+      list = refl;
+      all = refl;
+      depth = refl;
+      one = λ o. o;
+      place = first_from-is (tree_list t) to (tree_place t) (tree_stands t s (omega (arith, some, le))) (tree_top t s) le ahead;
+      left = omega arith;
+      falls = λ b lt. absurd (omega (arith, lt, le));
+      steps = omega arith;
+    }

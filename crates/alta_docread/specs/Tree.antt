@@ -1,0 +1,166 @@
+-- What a tree of document readers is: plain lists and places, and what it means.
+use Rattle.std.specs.Prelude.{◌≡◌, ℕ, ◌+◌, ◌<◌, ◌≤◌, max, List, [], ◌∷◌, ◌++◌, map, length, Contains, All}
+use Rattle.alta_codec.specs.declared.location.TheConstants.{TOP}
+use Rattle.alta_codec.specs.Rising.{IsRising, IsPlace, first_from}
+use Rattle.alta_compound.specs.Union.{union_of, least_of}
+use Rattle.alta_solver.specs.Solution.{list_at}
+use Rattle.alta_docread.specs.Kept.{less, common}
+use Rattle.alta_docread.specs.Solutions.{Walk, walk_list, walk_all, IsHeld, IsSoundWalk}
+
+-- one reader: what it reads, all that its leaves have, where it stands, and what is left of it
+pub record Reading : Type 0 where
+  pub list : List ℕ
+  pub all : List ℕ
+  pub place : ℕ
+  pub left : ℕ
+
+mutual
+  -- each node but a walk is with the place where it stands, 0 before its first move
+  pub data Tree : Type 0 where
+    found : Walk → Tree
+    all_of : ℕ → Trees → Tree
+    any_of : ℕ → Trees → Tree
+    without : ℕ → Reading → Tree → Tree
+
+  pub data Trees : Type 0 where
+    none : Trees
+    more : Tree → Trees → Trees
+
+abbrev pub trees_of : List Tree → Trees
+trees_of [] = none
+trees_of (t ∷ ts) = more t (trees_of ts)
+
+abbrev mutual
+  -- the list that a tree reads
+  pub tree_list : Tree → List ℕ
+  tree_list (found w) = walk_list w
+  tree_list (all_of at ts) = common (lists_of ts)
+  tree_list (any_of at ts) = union_of (lists_of ts)
+  tree_list (without at r t) = less r.list (tree_list t)
+
+  pub lists_of : Trees → List (List ℕ)
+  lists_of none = []
+  lists_of (more t ts) = tree_list t ∷ lists_of ts
+
+-- where a tree stands
+abbrev pub tree_place : Tree → ℕ
+tree_place (found w) = w.at
+tree_place (all_of at ts) = at
+tree_place (any_of at ts) = at
+tree_place (without at r t) = at
+
+abbrev pub places_of : Trees → List ℕ
+places_of none = []
+places_of (more t ts) = tree_place t ∷ places_of ts
+
+abbrev mutual
+  -- the elements of all leaves below
+  pub tree_all : Tree → List ℕ
+  tree_all (found w) = walk_all w
+  tree_all (all_of at ts) = all_in ts
+  tree_all (any_of at ts) = all_in ts
+  tree_all (without at r t) = r.all ++ tree_all t
+
+  pub all_in : Trees → List ℕ
+  all_in none = []
+  all_in (more t ts) = tree_all t ++ all_in ts
+
+abbrev mutual
+  -- what is left of all leaves below
+  pub tree_left : Tree → ℕ
+  tree_left (found w) = w.left
+  tree_left (all_of at ts) = left_in ts
+  tree_left (any_of at ts) = left_in ts
+  tree_left (without at r t) = r.left + tree_left t
+
+  pub left_in : Trees → ℕ
+  left_in none = 0
+  left_in (more t ts) = tree_left t + left_in ts
+
+abbrev mutual
+  -- how deep a tree is
+  pub tree_depth : Tree → ℕ
+  tree_depth (found w) = 1
+  tree_depth (all_of at ts) = 1 + depth_in ts
+  tree_depth (any_of at ts) = 1 + depth_in ts
+  tree_depth (without at r t) = 1 + tree_depth t
+
+  pub depth_in : Trees → ℕ
+  depth_in none = 0
+  depth_in (more t ts) = max (tree_depth t) (depth_in ts)
+
+-- the tree is one Found
+abbrev pub IsOneFound : Tree → Type 0
+IsOneFound (found w) = Unit {0}
+IsOneFound (all_of at ts) = ⊥
+IsOneFound (any_of at ts) = ⊥
+IsOneFound (without at r t) = ⊥
+
+-- a place from which on no element of the list was passed
+abbrev pub IsAhead : ℕ → List ℕ → ℕ → Type 0
+IsAhead at list place = (z : ℕ) → Contains list z → at ≤ z → place ≤ z
+
+abbrev pub AreAhead : ℕ → Trees → Type 0
+AreAhead at none = Unit {0}
+AreAhead at (more t ts) = IsAhead at (tree_list t) (tree_place t) × AreAhead at ts
+
+-- a node that has begun stands at an element of its list, or at TOP
+pub record IsStanding (list : List ℕ) (at : ℕ) : Type 0 where
+  pub stands : 0 < at → IsPlace list at
+  pub top : at ≤ TOP
+
+-- Below TOP the trees of an intersection stand where it does.
+pub record IsAgreed (ts : Trees) (at : ℕ) : Type 0 where
+  pub some : 0 < length (lists_of ts)
+  pub standing : IsStanding (common (lists_of ts)) at
+  pub same : at < TOP → All (λ p. p ≡ at) (places_of ts)
+
+-- A union stands at the least place of its trees, and none has passed an element from there on.
+pub record IsUnited (ts : Trees) (at : ℕ) : Type 0 where
+  pub standing : IsStanding (union_of (lists_of ts)) at
+  pub least : 0 < at → at ≡ least_of (places_of ts)
+  pub ahead : AreAhead at ts
+
+-- A difference stands at its end, and neither the ends nor the tree have passed an element from there on.
+pub record IsApart (r : Reading) (t : Tree) (at : ℕ) : Type 0 where
+  pub standing : IsStanding (less r.list (tree_list t)) at
+  pub rising : IsRising r.list
+  pub first : r.place ≡ first_from r.list at
+  pub here : 0 < at → r.place ≡ at
+  pub ahead : IsAhead at (tree_list t) (tree_place t)
+
+abbrev mutual
+  -- what each tree keeps from its making on
+  pub IsSound : Tree → Type 0
+  IsSound (found w) = IsSoundWalk w
+  IsSound (all_of at ts) = AreSound ts × IsAgreed ts at
+  IsSound (any_of at ts) = AreSound ts × IsUnited ts at
+  IsSound (without at r t) = IsSound t × IsApart r t at
+
+  pub AreSound : Trees → Type 0
+  AreSound none = Unit {0}
+  AreSound (more t ts) = IsSound t × AreSound ts
+
+-- the tree went on to the first place of its list at or above `to`, with the counter of steps before and after
+pub record IsMoved (old new : Tree) (to before after : ℕ) : Type 0 where
+  pub sound : IsSound new
+  pub list : tree_list new ≡ tree_list old
+  pub all : tree_all new ≡ tree_all old
+  pub depth : tree_depth new ≡ tree_depth old
+  pub one : IsOneFound old → IsOneFound new
+  pub place : tree_place new ≡ first_from (tree_list old) to
+  pub left : tree_left new ≤ tree_left old
+  pub falls : 0 < tree_place old → tree_place old < to → tree_left new < tree_left old
+  pub steps : after + tree_left new ≤ before + tree_left old
+
+abbrev mutual
+  -- no reader was moved, and each intersection has a tree
+  pub IsUnmoved : Tree → Type 0
+  IsUnmoved (found w) = (w.at ≡ 0) × (w.places ≡ map (λ l. first_from l 0) w.lists) × (0 < length w.lists) × IsRising (list_at w.lists 0) × IsHeld (length w.lists) w.bounds
+  IsUnmoved (all_of at ts) = (at ≡ 0) × (0 < length (lists_of ts)) × AreUnmoved ts
+  IsUnmoved (any_of at ts) = (at ≡ 0) × AreUnmoved ts
+  IsUnmoved (without at r t) = (at ≡ 0) × IsUnmoved t × (r.place ≡ first_from r.list 0) × IsRising r.list
+
+  pub AreUnmoved : Trees → Type 0
+  AreUnmoved none = Unit {0}
+  AreUnmoved (more t ts) = IsUnmoved t × AreUnmoved ts

@@ -1,0 +1,99 @@
+// Trees of document readers.
+ghost use Rattle.std.specs.Prelude.{◌≡◌};
+ghost use Rattle.alta_docread.specs.FoundView.{walk_of};
+ghost use Rattle.alta_docread.specs.Tree.{tree_place, found, all_of, any_of, without};
+ghost use Rattle.alta_docread.specs.View.{reading_of, tree_of, trees_in, apart_of};
+
+use crate::ends::Ends;
+use crate::found::Found;
+use alta_codec::Loc;
+use alta_compound::EndReader;
+use alta_reader::{BackReader, Reader};
+
+/// A tree of document readers over readers `R`, which a plan gives. Its depth is the plan's, which the query bounds, and
+/// the recursion over it goes no deeper.
+#[cycle(node)]
+#[derive(Drop)]
+pub enum Node<R: BackReader> {
+    /// The ends of the documents that have a solution.
+    Found(Box<Found<R>>),
+    /// The ends that each tree has.
+    AllOf(Children<R>),
+    /// The ends that some tree has.
+    AnyOf(Children<R>),
+    /// The ends that a tree does not have.
+    Without(Box<Without<R>>),
+}
+
+/// Several trees, and where they stand together: nowhere, at 0, until their first move.
+#[cycle(node)]
+#[derive(Drop)]
+pub struct Children<R: BackReader> {
+    pub(crate) nodes: Vec<Node<R>>,
+    pub(crate) at: Loc,
+}
+
+/// A reader of the ends that a tree does not have. It stands nowhere, at 0, until its first move.
+#[cycle(node)]
+#[derive(Drop)]
+pub struct Without<R: BackReader> {
+    pub(crate) ends: Ends<R>,
+    pub(crate) child: Node<R>,
+    pub(crate) at: Loc,
+}
+
+impl<R: BackReader> Without<R> {
+    /// The reader of the ends that are not in the list of `child`.
+    pub fn new(ends: EndReader<R>, child: Node<R>) -> Without<R>
+        requires { ⟦<EndReader<R> as Reader>⟧.sound ends }
+        ensures { apart_of R.list R.all R.location R.left result ≡ without 0 (reading_of R.list R.all R.location R.left ends) (tree_of R.list R.all R.location R.left child) }
+    {
+        Without {
+            ends: Ends::new(ends),
+            child,
+            at: 0,
+        }
+    }
+}
+
+impl<R: BackReader> Node<R> {
+    /// The tree of one `Found`.
+    pub fn found(reader: Box<Found<R>>) -> Node<R>
+        ensures { tree_of R.list R.all R.location R.left result ≡ found (walk_of R.list R.all R.location R.left reader.value) }
+    {
+        Node::Found(reader)
+    }
+
+    /// The intersection of the trees.
+    pub fn all_of(nodes: Vec<Node<R>>) -> Node<R>
+        ensures { tree_of R.list R.all R.location R.left result ≡ all_of 0 (trees_in R.list R.all R.location R.left nodes.items) }
+    {
+        Node::AllOf(Children { nodes, at: 0 })
+    }
+
+    /// The union of the trees.
+    pub fn any_of(nodes: Vec<Node<R>>) -> Node<R>
+        ensures { tree_of R.list R.all R.location R.left result ≡ any_of 0 (trees_in R.list R.all R.location R.left nodes.items) }
+    {
+        Node::AnyOf(Children { nodes, at: 0 })
+    }
+
+    /// The ends that a tree does not have.
+    pub fn without(reader: Box<Without<R>>) -> Node<R>
+        ensures { tree_of R.list R.all R.location R.left result ≡ apart_of R.list R.all R.location R.left reader.value }
+    {
+        Node::Without(reader)
+    }
+
+    /// Where the tree stands: nowhere, at 0, until its first move.
+    pub(crate) fn place(&self) -> Loc
+        ensures { result ≡ tree_place (tree_of R.list R.all R.location R.left self.now) }
+    {
+        match self {
+            Node::Found(found) => found.place(),
+            Node::AllOf(children) => children.at,
+            Node::AnyOf(children) => children.at,
+            Node::Without(without) => without.at,
+        }
+    }
+}
