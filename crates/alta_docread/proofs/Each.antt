@@ -7,7 +7,7 @@ use Rattle.std.proofs.lemmas.List.{get_or-map, length-map}
 use Rattle.std.proofs.lemmas.List.Elements.{All-nil, All-cons, All-head, All-tail, All-set}
 use Rattle.std.proofs.lemmas.List.Sums.{sum_by-cons, sum_by-set}
 use Rattle.alta_codec.specs.declared.location.TheConstants.{TOP}
-use Rattle.alta_codec.proofs.Places.{first_from-is}
+use Rattle.alta_codec.proofs.Places.{first_from-is, first_from-above}
 use Rattle.alta_compound.specs.Union.{least_of}
 use Rattle.alta_docread.specs.Moves.{IsKept}
 use Rattle.alta_docread.specs.Tree.{Tree, trees_of, tree_list, lists_of, tree_place, places_of, tree_all, all_in, tree_left, left_in, tree_depth, depth_in, IsAhead, AreAhead, IsSound, AreSound, IsMoved}
@@ -118,3 +118,6 @@ moved_still t to steps s ahead some le =
       falls = λ b lt. absurd (omega (arith, lt, le));
       steps = omega arith;
     }
+
+pub moved_begun : (old new : Tree) (to before after : ℕ) → IsMoved old new to before after → 0 < to → to ≤ TOP → IsSound new × (0 < tree_place new)
+moved_begun old new to before after m some top = (m.sound, omega (arith, m.place, first_from-above (tree_list old) to top, some))

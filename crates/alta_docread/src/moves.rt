@@ -155,7 +155,21 @@ fn seek_without<R: BackReader, L: Ledger>(
     requires top { to ≤ TOP }
     ensures { IsMoved (apart_of R.list R.all R.location R.left reader.old.value) (apart_of R.list R.all R.location R.left reader.new.value) to steps.old steps.new }
 {
-    let reader = &mut **reader;
+    go_without(reader, to, steps)
+}
+
+/// The same, without the box.
+#[cycle(moves)]
+pub(crate) fn go_without<R: BackReader, L: Ledger>(
+    reader: &mut Without<R>,
+    to: Loc,
+    steps: &mut Steps<L>,
+)
+    requires sound { IsSound (apart_of R.list R.all R.location R.left reader.old) }
+    requires above { reader.old.at < to }
+    requires top { to ≤ TOP }
+    ensures { IsMoved (apart_of R.list R.all R.location R.left reader.old) (apart_of R.list R.all R.location R.left reader.new) to steps.old steps.new }
+{
     reader.at = skip(&mut reader.ends, &mut reader.child, to, steps);
 }
 

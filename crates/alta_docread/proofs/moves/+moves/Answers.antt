@@ -209,15 +209,12 @@ pass-returns g t c =
     (omega (arith, c.requires.nodes, inv.unvisited.0)) (omega (arith, inv.unvisited.0)) inv.passing
 
 -- differences
-pub seek_without-skip-reader-requires : goal.seek_without-skip-reader-requires
-seek_without-skip-reader-requires g t c κs within =
+pub go_without-skip-reader-requires : goal.go_without-skip-reader-requires
+go_without-skip-reader-requires g t c κs within =
     let tree : Node g.row.R.Denot → Tree = tree_of g.R.Reader.list g.R.Reader.all g.R.Reader.location g.R.Reader.left in
-    let apart : Without g.row.R.Denot → Tree = apart_of g.R.Reader.list g.R.Reader.all g.R.Reader.location g.R.Reader.left in
     let reading = reading_of g.R.Reader.list g.R.Reader.all g.R.Reader.location g.R.Reader.left in
-    let w = c.deref_mut-reader.result.now in let value = c.deref_mut-reader.ensures.value in
-    let s : IsSound (apart w) = subst (λ v. IsSound (apart v)) (sym value) c.requires.sound in
-    let above : w.at < c.args.to = omega (arith, ap (λ (v : Without g.row.R.Denot). v.at) value, c.requires.above) in (
-      omega (arith, ap (λ (v : Without g.row.R.Denot). tree_depth (tree v.child)) value),
+    let w = c.args.reader.now in let s = c.requires.sound in let above = c.requires.above in (
+      omega arith,
       (
         within.0,
         (
@@ -233,16 +230,13 @@ seek_without-skip-reader-requires g t c κs within =
       ),
     )
 
-pub seek_without-returns : goal.seek_without-returns
-seek_without-returns g t c =
+pub go_without-returns : goal.go_without-returns
+go_without-returns g t c =
     let tree : Node g.row.R.Denot → Tree = tree_of g.R.Reader.list g.R.Reader.all g.R.Reader.location g.R.Reader.left in
-    let apart : Without g.row.R.Denot → Tree = apart_of g.R.Reader.list g.R.Reader.all g.R.Reader.location g.R.Reader.left in
     let reading = reading_of g.R.Reader.list g.R.Reader.all g.R.Reader.location g.R.Reader.left in
-    let w = c.deref_mut-reader.result.now in let value = c.deref_mut-reader.ensures.value in
-    let s : IsSound (apart w) = subst (λ v. IsSound (apart v)) (sym value) c.requires.sound in
-    subst (λ v. IsMoved (apart v) (without c.skip-reader.result (reading c.skip-reader.new.ends) (tree c.skip-reader.new.child)) c.args.to c.args.steps.now c.skip-reader.new.steps) value
-    (moved_without (reading w.ends) (reading c.skip-reader.new.ends) (tree w.child) (tree c.skip-reader.new.child) w.at c.args.to c.skip-reader.result
-    c.args.steps.now c.skip-reader.new.steps s c.skip-reader.ensures)
+    let w = c.args.reader.now in
+    moved_without (reading w.ends) (reading c.skip-reader.new.ends) (tree w.child) (tree c.skip-reader.new.child) w.at c.args.to c.skip-reader.result
+    c.args.steps.now c.skip-reader.new.steps c.requires.sound c.skip-reader.ensures
 
 pub skip-ends-init : goal.skip-ends-init
 skip-ends-init g t c =

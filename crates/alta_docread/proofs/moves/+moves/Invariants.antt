@@ -42,31 +42,34 @@ abbrev pub decreases-skip-ends : goal.decreases-skip-ends
 decreases-skip-ends g l = g.R.Reader.left l.ends.inner
 
 abbrev pub decreases-seek : goal.decreases-seek
-decreases-seek g l = 8 * tree_depth (tree_of g.R.Reader.list g.R.Reader.all g.R.Reader.location g.R.Reader.left l.node.now) + 1
+decreases-seek g l = 9 * tree_depth (tree_of g.R.Reader.list g.R.Reader.all g.R.Reader.location g.R.Reader.left l.node.now) + 1
 
 abbrev pub decreases-advance : goal.decreases-advance
-decreases-advance g l = 8 * tree_depth (tree_of g.R.Reader.list g.R.Reader.all g.R.Reader.location g.R.Reader.left l.node.now)
+decreases-advance g l = 9 * tree_depth (tree_of g.R.Reader.list g.R.Reader.all g.R.Reader.location g.R.Reader.left l.node.now)
 
 abbrev pub decreases-seek_any : goal.decreases-seek_any
-decreases-seek_any g l = 8 * depth_in (trees_of (map (tree_of g.R.Reader.list g.R.Reader.all g.R.Reader.location g.R.Reader.left) l.children.now.nodes.items)) + 7
+decreases-seek_any g l = 9 * depth_in (trees_of (map (tree_of g.R.Reader.list g.R.Reader.all g.R.Reader.location g.R.Reader.left) l.children.now.nodes.items)) + 7
 
 abbrev pub decreases-seek_each : goal.decreases-seek_each
-decreases-seek_each g l = 8 * depth_in (trees_of (map (tree_of g.R.Reader.list g.R.Reader.all g.R.Reader.location g.R.Reader.left) l.nodes.now.items)) + 5
+decreases-seek_each g l = 9 * depth_in (trees_of (map (tree_of g.R.Reader.list g.R.Reader.all g.R.Reader.location g.R.Reader.left) l.nodes.now.items)) + 5
 
 abbrev pub decreases-seek_all : goal.decreases-seek_all
-decreases-seek_all g l = 8 * depth_in (trees_of (map (tree_of g.R.Reader.list g.R.Reader.all g.R.Reader.location g.R.Reader.left) l.children.now.nodes.items)) + 7
+decreases-seek_all g l = 9 * depth_in (trees_of (map (tree_of g.R.Reader.list g.R.Reader.all g.R.Reader.location g.R.Reader.left) l.children.now.nodes.items)) + 7
 
 abbrev pub decreases-agree : goal.decreases-agree
-decreases-agree g l = 8 * depth_in (trees_of (map (tree_of g.R.Reader.list g.R.Reader.all g.R.Reader.location g.R.Reader.left) l.nodes.now.items)) + 6
+decreases-agree g l = 9 * depth_in (trees_of (map (tree_of g.R.Reader.list g.R.Reader.all g.R.Reader.location g.R.Reader.left) l.nodes.now.items)) + 6
 
 abbrev pub decreases-pass : goal.decreases-pass
-decreases-pass g l = 8 * depth_in (trees_of (map (tree_of g.R.Reader.list g.R.Reader.all g.R.Reader.location g.R.Reader.left) l.nodes.now.items)) + 5
+decreases-pass g l = 9 * depth_in (trees_of (map (tree_of g.R.Reader.list g.R.Reader.all g.R.Reader.location g.R.Reader.left) l.nodes.now.items)) + 5
 
 abbrev pub decreases-seek_without : goal.decreases-seek_without
-decreases-seek_without g l = 8 * tree_depth (tree_of g.R.Reader.list g.R.Reader.all g.R.Reader.location g.R.Reader.left l.reader.now.value.child) + 7
+decreases-seek_without g l = 9 * tree_depth (tree_of g.R.Reader.list g.R.Reader.all g.R.Reader.location g.R.Reader.left l.reader.now.value.child) + 8
+
+abbrev pub decreases-go_without : goal.decreases-go_without
+decreases-go_without g l = 9 * tree_depth (tree_of g.R.Reader.list g.R.Reader.all g.R.Reader.location g.R.Reader.left l.reader.now.child) + 7
 
 abbrev pub decreases-skip : goal.decreases-skip
-decreases-skip g l = 8 * tree_depth (tree_of g.R.Reader.list g.R.Reader.all g.R.Reader.location g.R.Reader.left l.child.now) + 6
+decreases-skip g l = 9 * tree_depth (tree_of g.R.Reader.list g.R.Reader.all g.R.Reader.location g.R.Reader.left l.child.now) + 6
 
 abbrev pub decreases-has : goal.decreases-has
-decreases-has g l = 8 * tree_depth (tree_of g.R.Reader.list g.R.Reader.all g.R.Reader.location g.R.Reader.left l.child.now) + 5
+decreases-has g l = 9 * tree_depth (tree_of g.R.Reader.list g.R.Reader.all g.R.Reader.location g.R.Reader.left l.child.now) + 5

@@ -1,0 +1,97 @@
+// A tree of document readers as one reader.
+ghost use Rattle.std.specs.Prelude.{◌≡◌, ℕ, ◌+◌, ◌<◌, ◌≤◌};
+ghost use Rattle.alta_codec.specs.Rising.{IsPlace, first_from, count_from};
+ghost use Rattle.alta_codec.specs.declared.location.TheConstants.{TOP};
+ghost use Rattle.alta_docread.specs.Tree.{tree_place, tree_list, tree_all, tree_left, IsOneFound, IsSound, IsUnmoved};
+ghost use Rattle.alta_docread.specs.TreeLaws.{tree_rises, tree_stands};
+ghost use Rattle.alta_docread.specs.View.{tree_of};
+
+use crate::moves::seek;
+use crate::node::Node;
+use alta_codec::{Loc, Steps, TOP};
+use alta_reader::{BackReader, Reader};
+use std::sync::ledger::Ledger;
+
+/// A reader of the ends of the documents that a tree matches. Neither its making nor a move takes memory.
+#[derive(Drop)]
+pub struct DocReader<R: BackReader> {
+    node: Node<R>,
+}
+
+impl<R: BackReader> DocReader<R> {
+    /// The reader of the tree, which stands at the first end. No reader of the tree was moved, and each intersection has
+    /// a tree. The steps that it adds are at most what is left of the readers falls.
+    pub fn new<L: Ledger>(node: Node<R>, steps: &mut Steps<L>) -> DocReader<R>
+        requires { IsUnmoved (tree_of R.list R.all R.location R.left node) }
+        ensures sound { ⟦<DocReader<R> as Reader>⟧.sound result }
+        ensures list { ⟦<DocReader<R> as Reader>⟧.list result ≡ tree_list (tree_of R.list R.all R.location R.left node) }
+        ensures all { ⟦<DocReader<R> as Reader>⟧.all result ≡ tree_all (tree_of R.list R.all R.location R.left node) }
+        ensures location { ⟦<DocReader<R> as Reader>⟧.location result ≡ first_from (tree_list (tree_of R.list R.all R.location R.left node)) 1 }
+        ensures one_found { IsOneFound (tree_of R.list R.all R.location R.left node) → IsOneFound (tree_of R.list R.all R.location R.left result.node) }
+        ensures left { ⟦<DocReader<R> as Reader>⟧.left result ≤ tree_left (tree_of R.list R.all R.location R.left node) }
+        ensures steps { steps.new + ⟦<DocReader<R> as Reader>⟧.left result ≤ steps.old + tree_left (tree_of R.list R.all R.location R.left node) }
+    {
+        let mut node = node;
+        seek(&mut node, 1, steps);
+        DocReader { node }
+    }
+}
+
+impl<R: BackReader> Reader for DocReader<R> {
+    ghost sound = { λ s. IsSound (tree_of R.list R.all R.location R.left s.node) × (0 < tree_place (tree_of R.list R.all R.location R.left s.node)) };
+
+    ghost list = { λ s. tree_list (tree_of R.list R.all R.location R.left s.node) };
+
+    ghost location = { λ s. tree_place (tree_of R.list R.all R.location R.left s.node) };
+
+    ghost all = { λ s. tree_all (tree_of R.list R.all R.location R.left s.node) };
+
+    ghost left = { λ s. tree_left (tree_of R.list R.all R.location R.left s.node) };
+
+    /// Where it stands. Over one `Found` and below `TOP`, no element of the leaves at or above there was passed.
+    fn loc(&self) -> Loc
+        requires { ⟦<DocReader<R> as Reader>⟧.sound self.now }
+        ensures location { result ≡ ⟦<DocReader<R> as Reader>⟧.location self.now }
+        ensures place { IsPlace (⟦<DocReader<R> as Reader>⟧.list self.now) result }
+        ensures unpassed { IsOneFound (tree_of R.list R.all R.location R.left self.now.node) → result < TOP
+            → count_from (⟦<DocReader<R> as Reader>⟧.all self.now) result ≤ ⟦<DocReader<R> as Reader>⟧.left self.now }
+    {
+        self.node.place()
+    }
+
+    /// Goes to the next end, or to `TOP` past the last.
+    fn next<L: Ledger>(&mut self, steps: &mut Steps<L>)
+        requires sound { ⟦<DocReader<R> as Reader>⟧.sound self.old }
+        requires below { ⟦<DocReader<R> as Reader>⟧.location self.old < TOP }
+        ensures sound { ⟦<DocReader<R> as Reader>⟧.sound self.new }
+        ensures list { ⟦<DocReader<R> as Reader>⟧.list self.new ≡ ⟦<DocReader<R> as Reader>⟧.list self.old }
+        ensures all { ⟦<DocReader<R> as Reader>⟧.all self.new ≡ ⟦<DocReader<R> as Reader>⟧.all self.old }
+        ensures location { ⟦<DocReader<R> as Reader>⟧.location self.new ≡ first_from (⟦<DocReader<R> as Reader>⟧.list self.old) (⟦<DocReader<R> as Reader>⟧.location self.old + 1) }
+        ensures falls { ⟦<DocReader<R> as Reader>⟧.left self.new < ⟦<DocReader<R> as Reader>⟧.left self.old }
+        ensures steps { steps.new + ⟦<DocReader<R> as Reader>⟧.left self.new ≤ steps.old + ⟦<DocReader<R> as Reader>⟧.left self.old }
+        ensures one_found { IsOneFound (tree_of R.list R.all R.location R.left self.old.node) → IsOneFound (tree_of R.list R.all R.location R.left self.new.node) }
+    {
+        let to = self.node.place() + 1;
+        seek(&mut self.node, to, steps);
+    }
+
+    /// Goes to the least end at or above `to`, or to `TOP` past the last.
+    fn seek<L: Ledger>(&mut self, to: Loc, steps: &mut Steps<L>)
+        requires sound { ⟦<DocReader<R> as Reader>⟧.sound self.old }
+        requires above { ⟦<DocReader<R> as Reader>⟧.location self.old < to }
+        requires top { to ≤ TOP }
+        ensures sound { ⟦<DocReader<R> as Reader>⟧.sound self.new }
+        ensures list { ⟦<DocReader<R> as Reader>⟧.list self.new ≡ ⟦<DocReader<R> as Reader>⟧.list self.old }
+        ensures all { ⟦<DocReader<R> as Reader>⟧.all self.new ≡ ⟦<DocReader<R> as Reader>⟧.all self.old }
+        ensures location { ⟦<DocReader<R> as Reader>⟧.location self.new ≡ first_from (⟦<DocReader<R> as Reader>⟧.list self.old) to }
+        ensures falls { ⟦<DocReader<R> as Reader>⟧.left self.new < ⟦<DocReader<R> as Reader>⟧.left self.old }
+        ensures steps { steps.new + ⟦<DocReader<R> as Reader>⟧.left self.new ≤ steps.old + ⟦<DocReader<R> as Reader>⟧.left self.old }
+        ensures one_found { IsOneFound (tree_of R.list R.all R.location R.left self.old.node) → IsOneFound (tree_of R.list R.all R.location R.left self.new.node) }
+    {
+        seek(&mut self.node, to, steps);
+    }
+
+    ghost rises = { λ s h. tree_rises (tree_of R.list R.all R.location R.left s.node) h.0 };
+
+    ghost stands = { λ s h. tree_stands (tree_of R.list R.all R.location R.left s.node) h.0 h.1 };
+}
