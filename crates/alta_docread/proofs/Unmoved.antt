@@ -1,8 +1,8 @@
 -- A tree whose readers were not moved is sound, and stands nowhere.
-use Rattle.std.proofs.Common.{◌≡◌, ℕ, ◌<◌, List, [], ◌∷◌, map, length, get_or, sym, subst, ap, ◌∙◌, arith}
+use Rattle.std.proofs.Common.{◌≡◌, ℕ, ◌<◌, List, [], ◌∷◌, map, length, get_or, refl, sym, subst, ap, ◌∙◌, arith}
 use Rattle.std.specs.Prelude.{All, slice_index}
 use Rattle.std.proofs.lemmas.List.{get_or-map, length-map}
-use Rattle.std.proofs.lemmas.List.Elements.{All-nil, All-cons}
+use Rattle.std.proofs.lemmas.List.Elements.{All-nil, All-cons, All-head, All-tail}
 use Rattle.alta_codec.specs.declared.location.TheConstants.{TOP}
 use Rattle.alta_codec.specs.Rising.{first_from}
 use Rattle.alta_solver.specs.Inequality.{Inequality}
@@ -76,3 +76,11 @@ mutual
   unmoved_ahead : (at : ℕ) (ts : Trees) → AreUnmoved ts → AreAhead at ts
   unmoved_ahead at none u = tt
   unmoved_ahead at (more t ts) (u, us) = (ahead_nowhere at (tree_list t) (tree_place t) (unmoved_sound t u).1, unmoved_ahead at ts us)
+
+-- readers that each stand at their first element
+pub places_first : {R : Type 0} (list : R → List ℕ) (location : R → ℕ) (rs : List R) → All (λ r. location r ≡ first_from (list r) 0) rs
+    → map location rs ≡ map (λ l. first_from l 0) (map list rs)
+places_first list location [] h = refl
+places_first list location (r ∷ rs) h =
+    ap (λ x. x ∷ map location rs) (All-head (λ r. location r ≡ first_from (list r) 0) r rs h)
+    ∙ ap (λ l. first_from (list r) 0 ∷ l) (places_first list location rs (All-tail (λ r. location r ≡ first_from (list r) 0) r rs h))

@@ -1,6 +1,6 @@
 // A difference of ends as a reader.
 ghost use Rattle.std.specs.Prelude.{◌<◌};
-ghost use Rattle.alta_docread.specs.Tree.{tree_list, tree_all, tree_left, IsSound};
+ghost use Rattle.alta_docread.specs.Tree.{tree_list, tree_all, tree_left, IsSound, IsMoved, IsUnmoved};
 ghost use Rattle.alta_docread.specs.TreeLaws.{tree_rises, tree_stands};
 ghost use Rattle.alta_docread.specs.View.{apart_of};
 
@@ -9,6 +9,17 @@ use crate::node::Without;
 use alta_codec::{Loc, Steps};
 use alta_reader::{BackReader, Reader};
 use std::sync::ledger::Ledger;
+
+impl<R: BackReader> Without<R> {
+    /// Goes to its first end. No reader was moved.
+    pub fn begin<L: Ledger>(&mut self, steps: &mut Steps<L>)
+        requires { IsUnmoved (apart_of R.list R.all R.location R.left self.old) }
+        ensures sound { ⟦<Without<R> as Reader>⟧.sound self.new }
+        ensures moved { IsMoved (apart_of R.list R.all R.location R.left self.old) (apart_of R.list R.all R.location R.left self.new) 1 steps.old steps.new }
+    {
+        go_without(self, 1, steps);
+    }
+}
 
 impl<R: BackReader> Reader for Without<R> {
     ghost sound = { λ s. IsSound (apart_of R.list R.all R.location R.left s) × (0 < s.at) };

@@ -1,11 +1,12 @@
 // A reader of the first places of all solutions.
-ghost use Rattle.std.specs.Prelude.{◌≡◌, ℕ, ◌+◌, ◌<◌, ◌≤◌, List, map, length, slice_index, slice_set, sum_by, Contains, ◌↔◌};
+ghost use Rattle.std.specs.Prelude.{◌≡◌, ℕ, ◌+◌, ◌<◌, ◌≤◌, List, map, length, slice_index, slice_set, sum_by, All, Contains, ◌↔◌};
 ghost use Rattle.std.specs.List.{concat};
 ghost use Rattle.alta_codec.specs.Rising.{IsRising, IsPlace, first_from, count_from};
 ghost use Rattle.alta_solver.specs.Solution.{list_at, IsSolution, IsAtLeast};
 ghost use Rattle.alta_docread.specs.FoundView.{walk_of};
 ghost use Rattle.alta_docread.specs.Solutions.{found_list, walk_list, walk_all, Leads, IsHeld, IsWalking, IsSoundWalk, IsWalked};
 ghost use Rattle.alta_docread.specs.SolutionLaws.{walk_rises, walk_place};
+ghost use Rattle.alta_docread.specs.Tree.{found, IsUnmoved};
 
 use alta_codec::{Loc, Steps, TOP};
 use alta_reader::{BackReader, Reader};
@@ -77,14 +78,24 @@ impl<R: BackReader> Found<R> {
     /// first and the element before the first.
     pub fn new(solver: Solver<R>) -> Found<R>
         requires { IsHeld (length solver.readers) solver.bounds }
-        ensures solver { result.solver ≡ solver }
-        ensures at { result.at ≡ 0 }
         ensures list { ⟦<Found<R> as Reader>⟧.list result ≡ found_list (map R.list solver.readers) solver.bounds }
-        ensures solutions { 0 < length solver.readers → (e : ℕ) → Contains (⟦<Found<R> as Reader>⟧.list result) e ↔ Leads (map R.list solver.readers) solver.bounds e }
+        ensures solutions { (e : ℕ) → Contains (⟦<Found<R> as Reader>⟧.list result) e ↔ Leads (map R.list solver.readers) solver.bounds e }
         ensures all { ⟦<Found<R> as Reader>⟧.all result ≡ concat (map R.all solver.readers) }
         ensures left { ⟦<Found<R> as Reader>⟧.left result ≡ sum_by R.left solver.readers }
+        ensures unmoved { All (λ r. R.location r ≡ first_from (R.list r) 0) solver.readers → IsUnmoved (found (walk_of R.list R.all R.location R.left result)) }
     {
+        // Its answer says that there is a first reader, and that its list rises.
+        let _first = solver.first();
         Found { solver, at: 0 }
+    }
+
+    /// Goes to the first place of its list. No reader was moved.
+    pub fn begin<L: Ledger>(&mut self, steps: &mut Steps<L>)
+        requires { IsUnmoved (found (walk_of R.list R.all R.location R.left self.old)) }
+        ensures sound { ⟦<Found<R> as Reader>⟧.sound self.new }
+        ensures walked { IsWalked (walk_of R.list R.all R.location R.left self.old) (walk_of R.list R.all R.location R.left self.new) 1 steps.old steps.new }
+    {
+        self.go(1, steps);
     }
 
     /// Where it stands: nowhere, at 0, until its first move.

@@ -1,7 +1,8 @@
 // Trees of document readers.
-ghost use Rattle.std.specs.Prelude.{◌≡◌};
+ghost use Rattle.std.specs.Prelude.{◌≡◌, ◌↔◌, ℕ, ◌<◌, length, Contains, All, Any};
+ghost use Rattle.alta_codec.specs.Rising.{first_from};
 ghost use Rattle.alta_docread.specs.FoundView.{walk_of};
-ghost use Rattle.alta_docread.specs.Tree.{tree_place, found, all_of, any_of, without};
+ghost use Rattle.alta_docread.specs.Tree.{tree_place, tree_list, IsUnmoved, found, all_of, any_of, without};
 ghost use Rattle.alta_docread.specs.View.{reading_of, tree_of, trees_in, apart_of};
 
 use crate::ends::Ends;
@@ -46,7 +47,11 @@ impl<R: BackReader> Without<R> {
     /// The reader of the ends that are not in the list of `child`.
     pub fn new(ends: EndReader<R>, child: Node<R>) -> Without<R>
         requires { ⟦<EndReader<R> as Reader>⟧.sound ends }
-        ensures { apart_of R.list R.all R.location R.left result ≡ without 0 (reading_of R.list R.all R.location R.left ends) (tree_of R.list R.all R.location R.left child) }
+        ensures members { (z : ℕ) → Contains (tree_list (apart_of R.list R.all R.location R.left result)) z
+            ↔ (Contains (⟦<EndReader<R> as Reader>⟧.list ends) z × (Contains (tree_list (tree_of R.list R.all R.location R.left child)) z → ⊥)) }
+        ensures unmoved { ⟦<EndReader<R> as Reader>⟧.location ends ≡ first_from (⟦<EndReader<R> as Reader>⟧.list ends) 0
+            → IsUnmoved (tree_of R.list R.all R.location R.left child) → IsUnmoved (apart_of R.list R.all R.location R.left result) }
+        ensures tree { apart_of R.list R.all R.location R.left result ≡ without 0 (reading_of R.list R.all R.location R.left ends) (tree_of R.list R.all R.location R.left child) }
     {
         Without {
             ends: Ends::new(ends),
@@ -54,6 +59,20 @@ impl<R: BackReader> Without<R> {
             at: 0,
         }
     }
+}
+
+/// The node of an intersection.
+fn joint<R: BackReader>(nodes: Vec<Node<R>>) -> Node<R>
+    ensures { tree_of R.list R.all R.location R.left result ≡ all_of 0 (trees_in R.list R.all R.location R.left nodes.items) }
+{
+    Node::AllOf(Children { nodes, at: 0 })
+}
+
+/// The node of a union.
+fn united<R: BackReader>(nodes: Vec<Node<R>>) -> Node<R>
+    ensures { tree_of R.list R.all R.location R.left result ≡ any_of 0 (trees_in R.list R.all R.location R.left nodes.items) }
+{
+    Node::AnyOf(Children { nodes, at: 0 })
 }
 
 impl<R: BackReader> Node<R> {
@@ -66,16 +85,23 @@ impl<R: BackReader> Node<R> {
 
     /// The intersection of the trees.
     pub fn all_of(nodes: Vec<Node<R>>) -> Node<R>
-        ensures { tree_of R.list R.all R.location R.left result ≡ all_of 0 (trees_in R.list R.all R.location R.left nodes.items) }
+        ensures members { (z : ℕ) → Contains (tree_list (tree_of R.list R.all R.location R.left result)) z
+            ↔ ((0 < length nodes.items) × All (λ n. Contains (tree_list (tree_of R.list R.all R.location R.left n)) z) nodes.items) }
+        ensures unmoved { 0 < length nodes.items → All (λ n. IsUnmoved (tree_of R.list R.all R.location R.left n)) nodes.items
+            → IsUnmoved (tree_of R.list R.all R.location R.left result) }
+        ensures tree { tree_of R.list R.all R.location R.left result ≡ all_of 0 (trees_in R.list R.all R.location R.left nodes.items) }
     {
-        Node::AllOf(Children { nodes, at: 0 })
+        joint(nodes)
     }
 
     /// The union of the trees.
     pub fn any_of(nodes: Vec<Node<R>>) -> Node<R>
-        ensures { tree_of R.list R.all R.location R.left result ≡ any_of 0 (trees_in R.list R.all R.location R.left nodes.items) }
+        ensures members { (z : ℕ) → Contains (tree_list (tree_of R.list R.all R.location R.left result)) z
+            ↔ Any (λ n. Contains (tree_list (tree_of R.list R.all R.location R.left n)) z) nodes.items }
+        ensures unmoved { All (λ n. IsUnmoved (tree_of R.list R.all R.location R.left n)) nodes.items → IsUnmoved (tree_of R.list R.all R.location R.left result) }
+        ensures tree { tree_of R.list R.all R.location R.left result ≡ any_of 0 (trees_in R.list R.all R.location R.left nodes.items) }
     {
-        Node::AnyOf(Children { nodes, at: 0 })
+        united(nodes)
     }
 
     /// The ends that a tree does not have.
