@@ -1,0 +1,418 @@
+// Small trees over four documents, against what each document has.
+ghost use Rattle.std.specs.Prelude.{◌≡◌, ◌<◌, IfOk, IfSome};
+ghost use Rattle.alta_codec.specs.Rising.{IsRising, first_from};
+ghost use Rattle.alta_docread.specs.Solutions.{IsUpper, IsLower};
+ghost use Rattle.alta_docread.specs.Tree.{IsUnmoved};
+ghost use Rattle.alta_docread.specs.View.{tree_of};
+
+use crate::{DocReader, Found, Node, Without};
+use alta_codec::{Steps, TOP};
+use alta_compound::EndReader;
+use alta_reader::{BackReader, Reader};
+use alta_solver::{Bound, Form, Solver, System};
+use alta_words::PlainReader;
+use std::alloc::{AllocError, Global};
+use std::marker::Brand;
+use std::sync::ledger::{Blank, Ledger};
+use std::test::Fail;
+
+/// The bounds that hold reader 1 to one document of reader 0.
+fn held() -> Option<(Bound, Bound)>
+    ensures { IfSome result (λ b. IsUpper 1 b.0 × IsLower 1 b.1) }
+{
+    match (
+        Bound::new(Form::LocLoc, 1, 0, 0),
+        Bound::new(Form::PrevLoc, 0, 1, -1),
+    ) {
+        (Some(upper), Some(lower)) => Some((upper, lower)),
+        _ => None,
+    }
+}
+
+/// The documents of `ends` that have a location of `word`.
+fn found<R: BackReader + Drop>(
+    alloc: Global,
+    ends: R,
+    word: R,
+    upper: Bound,
+    lower: Bound,
+) -> Result<Option<Node<R>>, AllocError>
+    requires ends_sound { R.sound ends }
+    requires word_sound { R.sound word }
+    requires ends_unmoved { R.location ends ≡ first_from (R.list ends) 0 }
+    requires word_unmoved { R.location word ≡ first_from (R.list word) 0 }
+    requires upper { IsUpper 1 upper }
+    requires lower { IsLower 1 lower }
+    ensures { IfOk result (λ o. IfSome o (λ n. IsUnmoved (tree_of R.list R.all R.location R.left n))) }
+{
+    let mut readers = Vec::new(alloc);
+    readers.push(ends)?;
+    readers.push(word)?;
+    let mut bounds = Vec::new(alloc);
+    bounds.push(upper)?;
+    bounds.push(lower)?;
+    match Solver::new(readers, System::new(bounds)) {
+        Ok(solver) => Ok(Some(Node::found(Box::new(alloc, Found::new(solver))?))),
+        Err(_) => Ok(None),
+    }
+}
+
+/// What both trees have.
+fn both<R: BackReader + Drop>(
+    alloc: Global,
+    first: Node<R>,
+    second: Node<R>,
+) -> Result<Node<R>, AllocError>
+    requires first { IsUnmoved (tree_of R.list R.all R.location R.left first) }
+    requires second { IsUnmoved (tree_of R.list R.all R.location R.left second) }
+    ensures { IfOk result (λ n. IsUnmoved (tree_of R.list R.all R.location R.left n)) }
+{
+    let mut nodes = Vec::new(alloc);
+    nodes.push(first)?;
+    nodes.push(second)?;
+    Ok(Node::all_of(nodes))
+}
+
+/// What one of the trees has.
+fn either<R: BackReader + Drop>(
+    alloc: Global,
+    first: Node<R>,
+    second: Node<R>,
+) -> Result<Node<R>, AllocError>
+    requires first { IsUnmoved (tree_of R.list R.all R.location R.left first) }
+    requires second { IsUnmoved (tree_of R.list R.all R.location R.left second) }
+    ensures { IfOk result (λ n. IsUnmoved (tree_of R.list R.all R.location R.left n)) }
+{
+    let mut nodes = Vec::new(alloc);
+    nodes.push(first)?;
+    nodes.push(second)?;
+    Ok(Node::any_of(nodes))
+}
+
+/// The ends that the tree does not have.
+fn except<R: BackReader + Drop>(
+    alloc: Global,
+    ends: R,
+    child: Node<R>,
+) -> Result<Node<R>, AllocError>
+    requires sound { R.sound ends }
+    requires unmoved { R.location ends ≡ first_from (R.list ends) 0 }
+    requires child { IsUnmoved (tree_of R.list R.all R.location R.left child) }
+    ensures { IfOk result (λ n. IsUnmoved (tree_of R.list R.all R.location R.left n)) }
+{
+    let reader = Without::new(EndReader::new(ends), child);
+    Ok(Node::without(Box::new(alloc, reader)?))
+}
+
+/// All places of the tree's list, by `next`.
+fn walk<R: BackReader + Drop, L: Ledger>(
+    alloc: Global,
+    node: Node<R>,
+    steps: &mut Steps<L>,
+) -> Result<Vec<u64>, AllocError>
+    requires { IsUnmoved (tree_of R.list R.all R.location R.left node) }
+{
+    let mut reader = DocReader::new(node, steps);
+    let mut places = Vec::new(alloc);
+    'walk: while reader.loc() < TOP {
+        places.push(reader.loc())?;
+        reader.next(steps);
+    }
+    Ok(places)
+}
+
+/// The first place of the tree's list at or above `to`, by one seek.
+fn first_at<R: BackReader + Drop, L: Ledger>(node: Node<R>, to: u64, steps: &mut Steps<L>) -> u64
+    requires { IsUnmoved (tree_of R.list R.all R.location R.left node) }
+{
+    let mut reader = DocReader::new(node, steps);
+    if reader.loc() < to && to <= TOP {
+        reader.seek(to, steps);
+    }
+    reader.loc()
+}
+
+/// The ends of four documents.
+fn ends() -> &'static [u64]
+    ensures { IsRising result.now }
+{
+    &[4, 8, 12, 16]
+}
+
+/// One of seven words.
+fn word(k: u8) -> &'static [u64]
+    ensures { IsRising result.now }
+{
+    match k {
+        0 => &[],
+        1 => &[1],
+        2 => &[6, 7],
+        3 => &[2, 3, 13],
+        4 => &[5, 9, 15],
+        5 => &[1, 5, 9],
+        _ => &[3, 7, 11, 14, 15],
+    }
+}
+
+/// Whether the word stands in the document of this end.
+fn stands(list: &[u64], end: u64) -> bool {
+    list.iter().any(|x| *x < end && x.saturating_add(4) > end)
+}
+
+/// A way to put two words together.
+#[derive(Clone, Copy)]
+enum Shape {
+    One,
+    Both,
+    Either,
+    Neither,
+    FirstAlone,
+}
+
+/// Whether a document with or without each word is wanted.
+fn is_wanted(shape: Shape, first: bool, second: bool) -> bool {
+    match shape {
+        Shape::One => first,
+        Shape::Both => first && second,
+        Shape::Either => first || second,
+        Shape::Neither => !first && !second,
+        Shape::FirstAlone => first && !second,
+    }
+}
+
+/// The tree of one word.
+fn leaf<L: Ledger>(
+    alloc: Global,
+    k: u8,
+    bounds: (Bound, Bound),
+    steps: &mut Steps<L>,
+) -> Result<Option<Node<PlainReader<'static>>>, AllocError>
+    requires upper { IsUpper 1 bounds.0 }
+    requires lower { IsLower 1 bounds.1 }
+    ensures { IfOk result (λ o. IfSome o (λ n. IsUnmoved (tree_of ⟦<PlainReader<'static> as Reader>⟧.list ⟦<PlainReader<'static> as Reader>⟧.all ⟦<PlainReader<'static> as Reader>⟧.location ⟦<PlainReader<'static> as Reader>⟧.left n))) }
+{
+    let documents = PlainReader::new(ends(), steps);
+    let word = PlainReader::new(word(k), steps);
+    found(alloc, documents, word, bounds.0, bounds.1)
+}
+
+/// The tree of a shape over two words.
+fn tree<L: Ledger>(
+    alloc: Global,
+    shape: Shape,
+    words: (u8, u8),
+    bounds: (Bound, Bound),
+    steps: &mut Steps<L>,
+) -> Result<Option<Node<PlainReader<'static>>>, AllocError>
+    requires upper { IsUpper 1 bounds.0 }
+    requires lower { IsLower 1 bounds.1 }
+    ensures { IfOk result (λ o. IfSome o (λ n. IsUnmoved (tree_of ⟦<PlainReader<'static> as Reader>⟧.list ⟦<PlainReader<'static> as Reader>⟧.all ⟦<PlainReader<'static> as Reader>⟧.location ⟦<PlainReader<'static> as Reader>⟧.left n))) }
+{
+    let first = match leaf(alloc, words.0, (bounds.0, bounds.1), steps)? {
+        Some(node) => node,
+        None => return Ok(None),
+    };
+    let second = match leaf(alloc, words.1, (bounds.0, bounds.1), steps)? {
+        Some(node) => node,
+        None => return Ok(None),
+    };
+    match shape {
+        Shape::One => Ok(Some(first)),
+        Shape::Both => Ok(Some(both(alloc, first, second)?)),
+        Shape::Either => Ok(Some(either(alloc, first, second)?)),
+        Shape::Neither => {
+            let some = either(alloc, first, second)?;
+            Ok(Some(except(alloc, PlainReader::new(ends(), steps), some)?))
+        }
+        Shape::FirstAlone => {
+            let others = except(alloc, PlainReader::new(ends(), steps), second)?;
+            Ok(Some(both(alloc, first, others)?))
+        }
+    }
+}
+
+/// The tree of the documents that have exactly one of the words.
+fn exactly_one<L: Ledger>(
+    alloc: Global,
+    words: (u8, u8),
+    bounds: (Bound, Bound),
+    steps: &mut Steps<L>,
+) -> Result<Option<Node<PlainReader<'static>>>, AllocError>
+    requires upper { IsUpper 1 bounds.0 }
+    requires lower { IsLower 1 bounds.1 }
+    ensures { IfOk result (λ o. IfSome o (λ n. IsUnmoved (tree_of ⟦<PlainReader<'static> as Reader>⟧.list ⟦<PlainReader<'static> as Reader>⟧.all ⟦<PlainReader<'static> as Reader>⟧.location ⟦<PlainReader<'static> as Reader>⟧.left n))) }
+{
+    let first = match tree(
+        alloc,
+        Shape::FirstAlone,
+        (words.0, words.1),
+        (bounds.0, bounds.1),
+        steps,
+    )? {
+        Some(node) => node,
+        None => return Ok(None),
+    };
+    let second = match tree(
+        alloc,
+        Shape::FirstAlone,
+        (words.1, words.0),
+        (bounds.0, bounds.1),
+        steps,
+    )? {
+        Some(node) => node,
+        None => return Ok(None),
+    };
+    Ok(Some(either(alloc, first, second)?))
+}
+
+/// The ends of the documents that are wanted.
+fn wanted(alloc: Global, shape: Shape, words: (u8, u8)) -> Result<Vec<u64>, AllocError> {
+    let mut list = Vec::new(alloc);
+    for end in ends() {
+        if is_wanted(
+            shape,
+            stands(word(words.0), *end),
+            stands(word(words.1), *end),
+        ) {
+            list.push(*end)?;
+        }
+    }
+    Ok(list)
+}
+
+/// The ends of the documents that have exactly one of the words.
+fn wanted_once(alloc: Global, words: (u8, u8)) -> Result<Vec<u64>, AllocError> {
+    let mut list = Vec::new(alloc);
+    for end in ends() {
+        if stands(word(words.0), *end) != stands(word(words.1), *end) {
+            list.push(*end)?;
+        }
+    }
+    Ok(list)
+}
+
+/// The first of the ends at or above `to`.
+fn first_of(list: &[u64], to: u64) -> u64 {
+    for end in list {
+        if *end >= to {
+            return *end;
+        }
+    }
+    TOP
+}
+
+/// Whether a tree's walk is the list.
+fn walks<R: BackReader + Drop, L: Ledger>(
+    alloc: Global,
+    node: Option<Node<R>>,
+    want: &[u64],
+    steps: &mut Steps<L>,
+) -> Result<bool, AllocError>
+    requires { IfSome node (λ n. IsUnmoved (tree_of R.list R.all R.location R.left n)) }
+{
+    match node {
+        Some(node) => Ok(walk(alloc, node, steps)?.as_slice() == want),
+        None => Ok(false),
+    }
+}
+
+/// Whether a tree's seek ends at the place.
+fn seeks<R: BackReader + Drop, L: Ledger>(
+    node: Option<Node<R>>,
+    to: u64,
+    want: u64,
+    steps: &mut Steps<L>,
+) -> bool
+    requires { IfSome node (λ n. IsUnmoved (tree_of R.list R.all R.location R.left n)) }
+{
+    match node {
+        Some(node) => first_at(node, to, steps) == want,
+        None => false,
+    }
+}
+
+/// Whether all trees over the two words have the lists that they are to have, by walks and by seeks.
+fn is_right<L: Ledger>(
+    alloc: Global,
+    words: (u8, u8),
+    bounds: (Bound, Bound),
+    steps: &mut Steps<L>,
+) -> Result<bool, AllocError>
+    requires upper { IsUpper 1 bounds.0 }
+    requires lower { IsLower 1 bounds.1 }
+{
+    let mut right = true;
+    for shape in [
+        Shape::One,
+        Shape::Both,
+        Shape::Either,
+        Shape::Neither,
+        Shape::FirstAlone,
+    ] {
+        let want = wanted(alloc, shape, (words.0, words.1))?;
+        let node = tree(
+            alloc,
+            shape,
+            (words.0, words.1),
+            (bounds.0, bounds.1),
+            steps,
+        )?;
+        right = walks(alloc, node, &want, steps)? && right;
+        for to in [2, 4, 5, 9, 13, 16, 17] {
+            let node = tree(
+                alloc,
+                shape,
+                (words.0, words.1),
+                (bounds.0, bounds.1),
+                steps,
+            )?;
+            right = seeks(node, to, first_of(&want, to), steps) && right;
+        }
+    }
+    let want = wanted_once(alloc, (words.0, words.1))?;
+    let node = exactly_one(alloc, (words.0, words.1), (bounds.0, bounds.1), steps)?;
+    Ok(walks(alloc, node, &want, steps)? && right)
+}
+
+/// How many pairs of words have a tree that is wrong, and a `Without` over the ends 9 and 16 and a tree with 9 alone.
+fn rows<L: Ledger>(alloc: Global, blank: Blank) -> Result<(u64, Vec<u64>), AllocError>
+    requires name { blank.name ≡ L.name }
+    requires parts { blank.parts ≡ L.parts }
+    requires shared { 0 < L.parts }
+{
+    let mut steps = Steps::<L>::new(blank);
+    let (upper, lower) = match held() {
+        Some(bounds) => bounds,
+        None => return Ok((99, Vec::new(alloc))),
+    };
+    let mut wrong = 0u64;
+    for first in 0..7 {
+        for second in 0..7 {
+            if !is_right(alloc, (first, second), (upper, lower), &mut steps)? {
+                wrong = wrong.wrapping_add(1);
+            }
+        }
+    }
+    let documents = PlainReader::new(&[9, 16], &mut steps);
+    let word = PlainReader::new(&[7], &mut steps);
+    match found(alloc, documents, word, upper, lower)? {
+        Some(node) => {
+            let rest = except(alloc, PlainReader::new(&[9, 16], &mut steps), node)?;
+            Ok((wrong, walk(alloc, rest, &mut steps)?))
+        }
+        None => Ok((98, Vec::new(alloc))),
+    }
+}
+
+/// The same, where nobody counts.
+fn uncounted_rows(alloc: Global) -> Result<(u64, Vec<u64>), AllocError> {
+    rows::<Brand>(alloc, Blank::new(1))
+}
+
+#[test]
+fn small_trees(rt: HostRuntime) -> Result<(), Fail> {
+    let (wrong, rest) = uncounted_rows(rt.alloc())?;
+    assert_eq!(rt; wrong, 0);
+    assert_eq!(rt; rest.as_slice(), [16].as_slice());
+    Ok(())
+}
