@@ -1,14 +1,13 @@
 -- Several trees as a list of trees, and what a move of one of them keeps.
-use Rattle.std.proofs.Common.{◌≡◌, ℕ, zero, suc, ◌+◌, ◌<◌, ◌≤◌, max, List, [], ◌∷◌, ◌++◌, map, length, get_or, set, refl, sym, subst, ap, ◌∙◌, arith}
-use Rattle.std.specs.Prelude.{All, Contains, sum_by}
+use Rattle.std.proofs.Common.{◌≡◌, ℕ, zero, suc, ◌+◌, ◌<◌, ◌≤◌, max, List, [], ◌∷◌, ◌++◌, map, length, get_or, set, refl, ap, ◌∙◌, arith}
+use Rattle.std.specs.Prelude.{All, sum_by}
 use Rattle.std.specs.List.{concat}
 use Rattle.std.proofs.Math.Seq.{map-set_same}
-use Rattle.std.proofs.lemmas.List.{get_or-map, length-map}
+use Rattle.std.proofs.lemmas.List.{length-map}
 use Rattle.std.proofs.lemmas.List.Elements.{All-nil, All-cons, All-head, All-tail, All-set}
 use Rattle.std.proofs.lemmas.List.Sums.{sum_by-cons, sum_by-set}
 use Rattle.alta_codec.specs.declared.location.TheConstants.{TOP}
 use Rattle.alta_codec.proofs.Places.{first_from-is, first_from-above}
-use Rattle.alta_compound.specs.Union.{least_of}
 use Rattle.alta_docread.specs.Moves.{IsKept}
 use Rattle.alta_docread.specs.Tree.{Tree, trees_of, tree_list, lists_of, tree_place, places_of, tree_all, all_in, tree_left, left_in, tree_depth, depth_in, IsAhead, AreAhead, IsSound, AreSound, IsMoved}
 use Rattle.alta_docread.specs.TreeLaws.{tree_stands, tree_top}

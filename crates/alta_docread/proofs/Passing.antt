@@ -1,17 +1,17 @@
 -- The trees of an intersection, which go on in turn until they stand at one place.
-use Rattle.std.proofs.Common.{◌≡◌, ◌⊎◌, ⊎_elim, inl, inr, ℕ, zero, suc, ◌+◌, ◌<◌, ◌≤◌, List, [], ◌∷◌, map, length, get_or, set, take, refl, sym, subst, ap, ◌∙◌, arith}
+use Rattle.std.proofs.Common.{◌≡◌, ◌⊎◌, ⊎_elim, inl, inr, ℕ, ◌+◌, ◌<◌, ◌≤◌, List, [], map, length, get_or, set, take, refl, sym, subst, ap, ◌∙◌, arith}
 use Rattle.std.specs.Prelude.{All, Contains, sum_by}
 use Rattle.std.specs.List.{concat}
 use Rattle.std.proofs.lemmas.Bool.{cases_lt}
 use Rattle.std.proofs.lemmas.List.{take_more_set, take_all, get_or-map, length-map}
-use Rattle.std.proofs.lemmas.List.Elements.{All-set, All-push, All-more}
+use Rattle.std.proofs.lemmas.List.Elements.{All-set, All-push}
 use Rattle.alta_codec.specs.declared.location.TheConstants.{TOP}
 use Rattle.alta_codec.specs.Rising.{IsPlace, first_from}
 use Rattle.alta_codec.proofs.Places.{first_from-is, first_from-above, first_from-least, first_from-place, first_from-le_top}
 use Rattle.alta_docread.specs.Kept.{common}
 use Rattle.alta_docread.specs.KeptLaws.{common-has, common-keeps}
 use Rattle.alta_docread.specs.Moves.{IsKept, IsPassed, IsJoined}
-use Rattle.alta_docread.specs.Tree.{Tree, trees_of, all_of, tree_list, lists_of, tree_place, places_of, tree_all, tree_left, IsSound, IsAgreed, IsMoved}
+use Rattle.alta_docread.specs.Tree.{Tree, trees_of, all_of, tree_list, lists_of, tree_place, tree_left, IsSound, IsAgreed, IsMoved}
 use Rattle.alta_docread.specs.TreeLaws.{tree_stands}
 use Rattle.alta_docread.proofs.Each.{of_each, at_each, each_sound, lists_each, places_each, all_each, left_each, kept_start, kept_on, kept_set, left_set}
 

@@ -11,8 +11,8 @@ use Rattle.alta_codec.proofs.Places.{first_from-above, first_from-least, first_f
 use Rattle.alta_compound.specs.Union.{union_of, least_of}
 use Rattle.alta_compound.specs.OverReaders.{in_step_after, least_of-le, has_place}
 use Rattle.alta_docread.specs.Moves.{IsKept, IsReached}
-use Rattle.alta_docread.specs.Tree.{Tree, trees_of, any_of, tree_list, lists_of, tree_place, places_of, tree_all, tree_left, IsAhead, IsSound, IsUnited, IsMoved}
-use Rattle.alta_docread.proofs.Each.{of_each, sound_each, each_sound, ahead_each, each_ahead, lists_each, places_each, all_each, left_each, kept_start, kept_on, kept_set, left_set}
+use Rattle.alta_docread.specs.Tree.{Tree, trees_of, any_of, tree_list, lists_of, tree_place, tree_left, IsAhead, IsSound, IsMoved}
+use Rattle.alta_docread.proofs.Each.{of_each, each_sound, each_ahead, lists_each, places_each, all_each, left_each, kept_start, kept_on, kept_set, left_set}
 
 least_of-push : (xs : List ℕ) (x : ℕ) → least_of (xs ++ x ∷ []) ≡ min (least_of xs) x
 least_of-push [] x = omega arith

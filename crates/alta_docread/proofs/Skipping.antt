@@ -1,5 +1,5 @@
 -- The ends of a difference, which go on past those that the tree's list has.
-use Rattle.std.proofs.Common.{◌≡◌, ⊎_elim, inl, inr, ℕ, ◌+◌, ◌<◌, ◌≤◌, nat_eq, Bool, true, false, List, ◌++◌, length, refl, sym, subst, ap, ◌∙◌, arith}
+use Rattle.std.proofs.Common.{◌≡◌, ⊎_elim, inl, inr, ℕ, ◌+◌, ◌<◌, ◌≤◌, nat_eq, Bool, true, false, List, ◌++◌, refl, sym, subst, ap, ◌∙◌, arith}
 use Rattle.std.specs.Prelude.{Contains, IsTrue, ◌↔◌}
 use Rattle.std.proofs.lemmas.List.{get_or_default}
 use Rattle.std.proofs.lemmas.Bool.{cases_lt}
@@ -10,7 +10,7 @@ use Rattle.alta_docread.specs.Kept.{less}
 use Rattle.alta_docread.specs.KeptLaws.{less-has}
 use Rattle.alta_docread.specs.Moves.{IsAsked, IsSkipped}
 use Rattle.alta_docread.specs.Tree.{Reading, Tree, without, tree_list, tree_place, tree_all, tree_left, tree_depth, IsAhead, IsApart, IsSound, IsMoved}
-use Rattle.alta_docread.specs.TreeLaws.{tree_rises, tree_stands, tree_top}
+use Rattle.alta_docread.specs.TreeLaws.{tree_rises}
 
 -- The ends have gone on to some end at or above `to`, and each below it from `to` on is in the tree's list.
 pub record IsSkipping (r s : Reading) (old new : Tree) (to before after : ℕ) : Type 0 where

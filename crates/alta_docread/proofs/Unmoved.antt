@@ -3,13 +3,12 @@ use Rattle.std.proofs.Common.{◌≡◌, ℕ, ◌<◌, List, [], ◌∷◌, map,
 use Rattle.std.specs.Prelude.{All, slice_index}
 use Rattle.std.proofs.lemmas.List.{get_or-map, length-map}
 use Rattle.std.proofs.lemmas.List.Elements.{All-nil, All-cons, All-head, All-tail}
-use Rattle.alta_codec.specs.declared.location.TheConstants.{TOP}
 use Rattle.alta_codec.specs.Rising.{first_from}
 use Rattle.alta_solver.specs.Inequality.{Inequality}
 use Rattle.alta_solver.specs.Solution.{list_at}
 use Rattle.alta_solver.proofs.Raised.{first_from-le_place}
 use Rattle.alta_docread.specs.Solutions.{IsWalking}
-use Rattle.alta_docread.specs.Tree.{Tree, Trees, found, all_of, any_of, without, none, more, tree_list, lists_of, tree_place, places_of, IsAhead, AreAhead, IsStanding, IsSound, AreSound, IsUnmoved, AreUnmoved}
+use Rattle.alta_docread.specs.Tree.{Tree, Trees, found, all_of, any_of, without, none, more, tree_list, tree_place, places_of, IsAhead, AreAhead, IsStanding, IsSound, AreSound, IsUnmoved, AreUnmoved}
 
 -- no solution lies below the first places
 walking_first : (lists : List (List ℕ)) (bounds : List Inequality) (places : List ℕ) (at : ℕ) → at ≡ 0 → places ≡ map (λ l. first_from l 0) lists

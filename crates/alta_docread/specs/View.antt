@@ -1,11 +1,10 @@
 -- A tree of document readers as a tree of plain lists.
-use Rattle.std.specs.Prelude.{ℕ, List, [], ◌∷◌, map, sum_by}
+use Rattle.std.specs.Prelude.{ℕ, List, map}
 use Rattle.alta_compound.specs.declared.end.EndReader.{EndReader}
 use Rattle.alta_docread.specs.FoundView.{walk_of}
 use Rattle.alta_docread.specs.Tree.{Reading, Tree, Trees, found, all_of, any_of, without, trees_of}
 use Rattle.alta_docread.specs.declared.node.Node.{Node}
 use Rattle.alta_docread.specs.declared.node.Without.{Without}
-use Rattle.alta_docread.specs.declared.node.Children.{Children}
 use Rattle.alta_docread.specs.declared.node.Node.TheFolds.{fold-Node}
 use Rattle.alta_docread.specs.declared.node.Node.TheOpen.{Node-F, Without-F, Children-F}
 

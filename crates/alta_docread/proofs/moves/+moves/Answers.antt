@@ -1,14 +1,12 @@
-use Rattle.std.proofs.Common.{◌≡◌, ◌⊎◌, inl, inr, ℕ, ◌+◌, ◌<◌, ◌≤◌, min, true, false, List, map, length, get_or, set, refl, sym, subst, ap, ◌∙◌, arith}
-use Rattle.std.specs.Prelude.{All}
+use Rattle.std.proofs.Common.{◌≡◌, ◌⊎◌, inl, inr, ◌+◌, ◌<◌, min, true, false, length, set, refl, sym, subst, ap, ◌∙◌, arith}
 use Rattle.std.proofs.lemmas.List.{get_or-set_other, length-set}
 use Rattle.alta_codec.specs.declared.location.TheConstants.{TOP}
 use Rattle.alta_codec.specs.Rising.{first_from}
 use Rattle.alta_compound.specs.OverReaders.{place-positive}
 use Rattle.alta_docread.specs.Moves.{IsAsked, IsSkipped}
-use Rattle.alta_docread.specs.Tree.{Tree, without, tree_place, tree_list, tree_depth, IsAhead, IsSound, IsMoved}
-use Rattle.alta_docread.specs.View.{reading_of, tree_of, apart_of}
+use Rattle.alta_docread.specs.Tree.{Tree, tree_place, tree_list, tree_depth, IsAhead, IsSound}
+use Rattle.alta_docread.specs.View.{reading_of, tree_of}
 use Rattle.alta_docread.specs.declared.node.Node.{Node}
-use Rattle.alta_docread.specs.declared.node.Without.{Without}
 use Rattle.alta_docread.proofs.Each.{sound_each, ahead_each, depth_at, kept_length, moved_still}
 use Rattle.alta_docread.proofs.Passing.{IsPassing, passing_step, passing_stop, passing_end, agreeing_on, agreed, agreed_some, agreed_below, moved_all}
 use Rattle.alta_docread.proofs.Reaching.{IsReaching, reaching_step, reaching_end, moved_any}

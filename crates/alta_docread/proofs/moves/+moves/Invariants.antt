@@ -1,7 +1,6 @@
-use Rattle.std.proofs.Common.{ℕ, ◌≡◌, ◌+◌, ◌-◌, ◌*◌, ◌<◌, ◌≤◌, length, map}
-use Rattle.std.specs.Prelude.{All}
+use Rattle.std.proofs.Common.{◌+◌, ◌-◌, ◌*◌, map}
 use Rattle.alta_codec.specs.declared.location.TheConstants.{TOP}
-use Rattle.alta_docread.specs.Tree.{Tree, trees_of, tree_depth, depth_in}
+use Rattle.alta_docread.specs.Tree.{trees_of, tree_depth, depth_in}
 use Rattle.alta_docread.specs.View.{reading_of, tree_of}
 use Rattle.alta_docread.proofs.Passing.{IsPassing, IsAgreeing}
 use Rattle.alta_docread.proofs.Reaching.{IsReaching}

@@ -1,4 +1,4 @@
-use Rattle.std.proofs.Common.{sym, subst, arith}
+use Rattle.std.proofs.Common.{subst, arith}
 use Rattle.alta_codec.specs.Rising.{IsPlace}
 use Rattle.alta_codec.proofs.Places.{first_from-is}
 use Rattle.alta_docread.proofs.ends.Ends.reach.Goals as goal

@@ -1,4 +1,4 @@
-use Rattle.std.proofs.Common.{map, length, refl, sym, subst, arith}
+use Rattle.std.proofs.Common.{map, refl, sym, subst, arith}
 use Rattle.std.proofs.lemmas.List.{length-map}
 use Rattle.alta_docread.specs.Solutions.{IsHeld}
 use Rattle.alta_docread.specs.SolutionLaws.{found-is}

@@ -1,5 +1,5 @@
 use Rattle.std.proofs.Common.{◌<◌, length, sym, subst}
-use Rattle.std.specs.Prelude.{All, Any, Contains, ◌↔◌}
+use Rattle.std.specs.Prelude.{All, Contains, ◌↔◌}
 use Rattle.alta_docread.specs.Tree.{Tree, tree_list, IsUnmoved}
 use Rattle.alta_docread.specs.View.{tree_of}
 use Rattle.alta_docread.specs.declared.node.Node.{Node}
