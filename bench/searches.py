@@ -1,0 +1,92 @@
+#!/usr/bin/env python3
+"""Measures counts of queries beside SQLite's full-text index over the same documents, in the same run.
+
+usage: bench/searches.py [--program PATH] [--lines FILE] [--count N] [--repeat N]
+
+FILE has `add` lines, as the scripts of examples/ write them. As many of its first N documents as fit in one journal half go
+into a new index of the program and into a new FTS5 table of Python's sqlite3, whose words are cut by its `unicode61`. Each
+query is asked so many times in one run of the program, and as often of SQLite; the time of the same run without it is
+taken off. Prints the milliseconds a query of both, and what both count; the counts differ where the two cut words in
+other ways.
+"""
+
+import argparse
+import itertools
+import os
+import sqlite3
+import subprocess
+import sys
+import tempfile
+import time
+
+JOURNAL_BYTES = 1_048_576
+
+# The same question for the program and for FTS5.
+QUERIES = [
+    ("library", "library"),
+    ("zymurgy", "zymurgy"),
+    ('"shared library"', '"shared library"'),
+    ("python AND library", "python AND library"),
+    ("python NOT library", "python NOT library"),
+    ("data NEAR/5 library", "NEAR(data library, 4)"),
+    ("lib*", "lib*"),
+    ("title:library", "title: library"),
+]
+
+
+def fitting(lines):
+    """As many of the lines as one journal half has room for: a record has 10 bytes more than its line."""
+    sizes = itertools.accumulate(len(line) + 10 for line in lines)
+    return [line for line, size in zip(lines, sizes) if size < JOURNAL_BYTES - 1]
+
+
+def run(program, path, data):
+    """The seconds of a run that has to end with status 0, and what it printed."""
+    begun = time.perf_counter()
+    done = subprocess.run([program, path, "run"], input=data, stdout=subprocess.PIPE, check=True)
+    return time.perf_counter() - begun, done.stdout
+
+
+def table_of(lines):
+    base = sqlite3.connect(":memory:")
+    base.execute("create virtual table mail using fts5(title, body, tokenize = 'unicode61 remove_diacritics 0')")
+    for line in lines:
+        _, title, body = line[4:].rstrip(b"\n").decode().split("\t", 2)
+        base.execute("insert into mail values (?, ?)", (title, body))
+    base.commit()
+    return base
+
+
+def main():
+    top = os.path.dirname(os.path.dirname(os.path.abspath(__file__)))
+    parser = argparse.ArgumentParser(description=__doc__, formatter_class=argparse.RawDescriptionHelpFormatter)
+    parser.add_argument("--program", default=os.path.join(top, "crates", "alta_cli", "out", "alta_cli"))
+    parser.add_argument("--lines", required=True)
+    parser.add_argument("--count", type=int, default=10000)
+    parser.add_argument("--repeat", type=int, default=100)
+    options = parser.parse_args()
+    with open(options.lines, "rb") as file:
+        lines = fitting(file.readlines()[: options.count])
+    print(f"{len(lines)} documents, {sum(map(len, lines))} bytes of input")
+    with tempfile.TemporaryDirectory() as folder:
+        path = os.path.join(folder, "x.alta")
+        subprocess.run([options.program, path, "init"], check=True)
+        run(options.program, path, b"".join(lines))
+        opening = min(run(options.program, path, b"")[0] for _ in range(5))
+        print(f"opening {opening * 1e3:.1f} ms")
+        base = table_of(lines)
+        for ours, theirs in QUERIES:
+            seconds, out = run(options.program, path, f"count {ours}\n".encode() * options.repeat)
+            ask = "select count(*) from mail where mail match ?"
+            begun = time.perf_counter()
+            for _ in range(options.repeat):
+                (found,) = base.execute(ask, (theirs,)).fetchone()
+            peer = time.perf_counter() - begun
+            mine = (seconds - opening) / options.repeat
+            counted = out.split(b"\n")[0].decode()
+            print(f"{ours}: {mine * 1e3:.3f} ms ({counted}), FTS5 {peer / options.repeat * 1e3:.3f} ms (found {found})")
+    return 0
+
+
+if __name__ == "__main__":
+    sys.exit(main())
