@@ -300,8 +300,9 @@ fn answer_lines<C: Console, D: Disk>(
 /// It ends with `Done` where the input was read to its end and every reply was given, `TooLong` where more bytes were
 /// taken than the limit, `DiskFault`, `TakeFault` or `GiveFault` where such a call failed, `Memory` where there was no
 /// memory, `NoRoot` where the disk has no index, `Damaged` where the index breaks a rule of the format, with the first
-/// place that shows it, and `Full` where the record of a line that adds a document does not fit in what the journal has
-/// left behind the lines before it: with the bytes of that record, which are the line's and nine more, and those left.
+/// place that shows it, and `Full` where the record of a line that adds or deletes a document does not fit in what the
+/// journal has left behind the lines before it: with the bytes of that record, which are the line's and nine more where it
+/// adds and 14 where it deletes, and those left.
 pub fn serve<C: Console, D: Disk>(
     alloc: Global,
     console: &mut C,
