@@ -7,8 +7,6 @@ mod found;
 mod moves;
 mod node;
 mod reader;
-#[cfg(test)]
-mod tests;
 
 pub use found::Found;
 pub use node::{Children, Node, Without};

@@ -5,9 +5,9 @@ ghost use Rattle.alta_docread.specs.Solutions.{IsUpper, IsLower};
 ghost use Rattle.alta_docread.specs.Tree.{IsUnmoved};
 ghost use Rattle.alta_docread.specs.View.{tree_of};
 
-use crate::{DocReader, Found, Node, Without};
 use alta_codec::{Steps, TOP};
 use alta_compound::EndReader;
+use alta_docread::{DocReader, Found, Node, Without};
 use alta_reader::{BackReader, Reader};
 use alta_solver::{Bound, Form, Solver, System};
 use alta_words::PlainReader;
