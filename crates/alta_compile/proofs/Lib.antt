@@ -1,0 +1,5 @@
+pub mod Joins
+pub mod Meaning
+pub mod Parts
+pub mod Solved
+pub mod Spaces

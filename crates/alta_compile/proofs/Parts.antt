@@ -1,0 +1,50 @@
+-- The laws of a plan's nodes in std's words.
+use Rattle.std.proofs.Common.{◌⊎◌, ⊎_elim, inl, inr, ℕ, zero, suc, List, [], ◌∷◌, refl, sym, subst, arith}
+use Rattle.std.specs.Prelude.{Contains, All, Any, ◌↔◌}
+use Rattle.std.proofs.lemmas.List.Elements.{All-nil, All-cons, All-head, All-tail}
+use Rattle.alta_codec.proofs.Places.{not-Contains-nil}
+use Rattle.alta_compound.specs.Union.{union_of}
+use Rattle.alta_compound.specs.Unions.{union-has, union-keeps}
+use Rattle.alta_docread.specs.Kept.{common, has}
+use Rattle.alta_docread.specs.KeptLaws.{common-one, common-more, kept-has, kept-keeps, has-Contains, Contains-has}
+
+pub common-both : (l m : List ℕ) (ls : List (List ℕ)) (z : ℕ) → Contains (common (l ∷ m ∷ ls)) z ↔ (Contains l z × Contains (common (m ∷ ls)) z)
+common-both l m ls z = (
+  λ h. let r = kept-has (λ x. has (common (m ∷ ls)) x) l z (subst (λ x. Contains x z) (common-more l m ls) h) in (r.0, has-Contains (common (m ∷ ls)) z r.1),
+  λ (h, k). subst (λ x. Contains x z) (sym (common-more l m ls)) (kept-keeps (λ x. has (common (m ∷ ls)) x) l z h (Contains-has (common (m ∷ ls)) z k)),
+)
+
+pub common-all : (l : List ℕ) (ls : List (List ℕ)) (z : ℕ) → Contains (common (l ∷ ls)) z ↔ All (λ m. Contains m z) (l ∷ ls)
+common-all l [] z = (
+  λ h. All-cons (λ m. Contains m z) l [] (subst (λ x. Contains x z) (common-one l) h) (All-nil (λ m. Contains m z)),
+  λ h. subst (λ x. Contains x z) (sym (common-one l)) (All-head (λ m. Contains m z) l [] h),
+)
+common-all l (m ∷ ls) z =
+    let both = common-both l m ls z in let rest = common-all m ls z in (
+      λ h. let (a, b) = both.0 h in All-cons (λ k. Contains k z) l (m ∷ ls) a (rest.0 b),
+      λ h. both.1 (All-head (λ k. Contains k z) l (m ∷ ls) h, rest.1 (All-tail (λ k. Contains k z) l (m ∷ ls) h)),
+    )
+
+pub union-nil : (z : ℕ) → Contains (union_of []) z → ⊥
+unfolding union_of
+union-nil z h = not-Contains-nil z h
+
+pub union-both : (l : List ℕ) (ls : List (List ℕ)) (z : ℕ) → Contains (union_of (l ∷ ls)) z ↔ (Contains l z ⊎ Contains (union_of ls) z)
+unfolding union_of
+union-both l ls z = (λ h. union-has l (union_of ls) z h, λ h. union-keeps l (union_of ls) z h)
+
+any-front : (P : List ℕ → Type 0) (l : List ℕ) (ls : List (List ℕ)) → Any P (l ∷ ls) → P l ⊎ Any P ls
+any-front P l ls (zero, x, i, e, p) = inl (subst P (sym e) p)
+any-front P l ls (suc k, x, i, e, p) = inr (k, x, omega (arith, i), e, p)
+
+any-cons : (P : List ℕ → Type 0) (l : List ℕ) (ls : List (List ℕ)) → Any P (l ∷ ls) ↔ (P l ⊎ Any P ls)
+any-cons P l ls =
+    (any-front P l ls, λ h. ⊎_elim (λ p. (zero, l, omega arith, refl, p)) (λ (k, x, i, e, p). (suc k, x, omega (arith, i), e, p)) h)
+
+pub union-any : (ls : List (List ℕ)) (z : ℕ) → Contains (union_of ls) z ↔ Any (λ m. Contains m z) ls
+union-any [] z = (λ h. absurd (union-nil z h), λ (k, x, i, e, p). absurd (omega (arith, i)))
+union-any (l ∷ ls) z =
+    let both = union-both l ls z in let rest = union-any ls z in let step = any-cons (λ m. Contains m z) l ls in (
+      λ h. step.1 (⊎_elim (λ a. inl a) (λ b. inr (rest.0 b)) (both.0 h)),
+      λ h. both.1 (⊎_elim (λ a. inl a) (λ b. inr (rest.1 b)) (step.0 h)),
+    )

@@ -1,0 +1,6 @@
+pub mod Explained
+pub mod Joined
+pub mod PlanOf
+pub mod Space
+pub mod Tree
+pub mod View

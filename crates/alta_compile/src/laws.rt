@@ -1,0 +1,47 @@
+// What the plan of a query finds. Each function is a law, and has nothing to run.
+ghost use Rattle.std.specs.Prelude.{◌≡◌, ◌↔◌, ℕ, List, ◌∷◌, map, All, Any, Contains};
+ghost use Rattle.alta_compound.specs.Union.{union_of};
+ghost use Rattle.alta_docread.specs.Kept.{common};
+ghost use Rattle.alta_query.specs.Matches.{Matches};
+ghost use Rattle.alta_query.specs.Patterns.{Satisfies, pattern_of};
+ghost use Rattle.alta_query.specs.Shape.{Atom, Shape};
+ghost use Rattle.alta_compile.specs.Joined.{joined, SatisfiesEach};
+ghost use Rattle.alta_compile.specs.PlanOf.{found_of, plan_of};
+ghost use Rattle.alta_compile.specs.Space.{Placed, IsSpace, end_of};
+ghost use Rattle.alta_compile.specs.Tree.{Tree, found, without, plan_list};
+
+/// One atom: a document's end is in the list of its bounds exactly where the document satisfies the atom's pattern. The
+/// two bounds of each variable place all of them in one document.
+pub fn one_atom()
+    ensures { (space : List Placed) (d : Placed) (a : Atom) → IsSpace space → Contains space d
+        → Contains (plan_list space (found (found_of (pattern_of a)))) (end_of d) ↔ Satisfies d.cells (pattern_of a) }
+{}
+
+/// A list of atoms: the bounds of all of them together find exactly the documents that satisfy each.
+pub fn atoms_as_one()
+    ensures { (space : List Placed) (d : Placed) (atoms : List Atom) → IsSpace space → Contains space d
+        → Contains (plan_list space (found (found_of (joined (map pattern_of atoms))))) (end_of d) ↔ SatisfiesEach d.cells (map pattern_of atoms) }
+{}
+
+/// An AllOf has what all its parts have.
+pub fn all_parts()
+    ensures { (list : List ℕ) (lists : List (List ℕ)) (e : ℕ) → Contains (common (list ∷ lists)) e ↔ All (λ l. Contains l e) (list ∷ lists) }
+{}
+
+/// An AnyOf has what some of its parts has.
+pub fn some_part()
+    ensures { (lists : List (List ℕ)) (e : ℕ) → Contains (union_of lists) e ↔ Any (λ l. Contains l e) lists }
+{}
+
+/// A Without has the end of each document that its part has not.
+pub fn not_the_part()
+    ensures { (space : List Placed) (d : Placed) (t : Tree) → IsSpace space → Contains space d
+        → Contains (plan_list space (without t)) (end_of d) ↔ (Contains (plan_list space t) (end_of d) → ⊥) }
+{}
+
+/// The whole tree: in each space the end of a document is in the list of the plan of a query exactly where the query
+/// matches the document.
+pub fn finds_what_matches()
+    ensures { (space : List Placed) (d : Placed) (q : Shape) → IsSpace space → Contains space d
+        → Contains (plan_list space (plan_of q)) (end_of d) ↔ Matches d.cells q }
+{}

@@ -1,0 +1,8 @@
+//! From a query to its plan, and what the plan finds.
+#![tactic(auto)]
+
+mod laws;
+mod plan;
+
+pub use laws::{all_parts, atoms_as_one, finds_what_matches, not_the_part, one_atom, some_part};
+pub use plan::{FoundPlan, Plan, Plans};
