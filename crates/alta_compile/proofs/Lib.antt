@@ -1,3 +1,5 @@
+pub mod Drafts
+pub mod Gathered
 pub mod Joins
 pub mod Meaning
 pub mod Parts

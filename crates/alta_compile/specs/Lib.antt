@@ -1,3 +1,4 @@
+pub mod Drafted
 pub mod Explained
 pub mod Joined
 pub mod PlanOf

@@ -1,8 +1,11 @@
 //! From a query to its plan, and what the plan finds.
 #![tactic(auto)]
 
+mod compiling;
+mod draft;
 mod laws;
 mod plan;
 
+pub use compiling::compile;
 pub use laws::{all_parts, atoms_as_one, finds_what_matches, not_the_part, one_atom, some_part};
 pub use plan::{FoundPlan, Plan, Plans};
