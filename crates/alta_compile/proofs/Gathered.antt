@@ -1,11 +1,10 @@
 -- Steps of the loops over the members of a query.
-use Rattle.std.proofs.Common.{◌≡◌, ℕ, zero, suc, ◌+◌, ◌<◌, ◌≤◌, Bool, true, false, List, [], ◌∷◌, ◌++◌, length, drop, get_or, map, refl, sym, subst, ap, ◌∙◌, arith, add-one, append_assoc}
-use Rattle.std.specs.Prelude.{All}
+use Rattle.std.proofs.Common.{◌≡◌, ℕ, zero, suc, ◌+◌, ◌<◌, ◌≤◌, true, false, List, [], ◌∷◌, ◌++◌, length, drop, get_or, map, refl, sym, subst, ap, ◌∙◌, arith, add-one, append_assoc}
 use Rattle.std.proofs.Math.Seq.{drop-cons}
 use Rattle.std.proofs.lemmas.List.{append-nil}
 use Rattle.std.proofs.lemmas.List.Elements.{All-nil, All-cons}
 use Rattle.alta_query.specs.Patterns.{Bound, Pattern, pattern_of}
-use Rattle.alta_query.specs.Shape.{Shape, Shapes, atom, all, any, negated, none, more, shapes_of}
+use Rattle.alta_query.specs.Shape.{Shape, Shapes, atom, all, any, negated, more, shapes_of}
 use Rattle.alta_query.specs.View.{shape}
 use Rattle.alta_query.specs.declared.query.Query.{Query}
 use Rattle.alta_query.specs.declared.test.Test.{Test}

@@ -132,7 +132,11 @@ impl Draft {
     {
         match atom {
             Atom::Words { title, tests, .. } => self.add_words(alloc, *title, tests.as_slice()),
-            Atom::Prefix { title, test, .. } => self.add_words(alloc, *title, slice::from_ref(test)),
+            Atom::Prefix { title, test, .. } => self.add_words(
+                alloc,
+                *title,
+                slice::from_ref(test),
+            ),
             Atom::Near {
                 left,
                 distance,

@@ -3,9 +3,11 @@
 
 mod compiling;
 mod draft;
+mod explaining;
 mod laws;
 mod plan;
 
 pub use compiling::compile;
+pub use explaining::explain;
 pub use laws::{all_parts, atoms_as_one, finds_what_matches, not_the_part, one_atom, some_part};
 pub use plan::{FoundPlan, Plan, Plans};

@@ -21,17 +21,17 @@ plan_each-returns t c =
 pub plan_others-loop-member-preserved : goal.plan_others-loop-member-preserved
 plan_others-loop-member-preserved t c =
     elim c.if-not-is_one_atom.branch [
-      plan_others-then-not-is_one_atom+in_ok-other+in_ok-push w ↦
+      | plan_others-then-not-is_one_atom+in_ok-other+in_ok-push w ↦
           other_step c.args.members.now c.loop-member.member-index c.member-item.result c.loop-member.others.items c.if-not-is_one_atom.others.items
-              w.in_ok-other.other (others_of (shapes_of (map shape c.args.members.now))) c.loop-member-test.true (sym c.member-item.is)
-              (sym c.is_one_atom.ensures ∙ w.if-not-is_one_atom.true) w.in_ok-other.ensures (ap (λ v. v.items) w.others-is ∙ w.in_ok-push.ensures.items)
-              c.loop-member.invariant
+          w.in_ok-other.other (others_of (shapes_of (map shape c.args.members.now))) c.loop-member-test.true (sym c.member-item.is)
+          (sym c.is_one_atom.ensures ∙ w.if-not-is_one_atom.true) w.in_ok-other.ensures (ap (λ v. v.items) w.others-is ∙ w.in_ok-push.ensures.items)
+          c.loop-member.invariant
       | plan_others-else-not-is_one_atom w ↦
           subst (λ v. trees_then (map tree v.items) (others_of (shapes_of (map shape (drop (c.loop-member.member-index + 1) c.args.members.now)))) ≡ others_of (shapes_of (map shape c.args.members.now)))
-              (sym w.others-is)
-              (atom_step c.args.members.now c.loop-member.member-index c.member-item.result c.loop-member.others.items
-                  (others_of (shapes_of (map shape c.args.members.now))) c.loop-member-test.true (sym c.member-item.is)
-                  (sym c.is_one_atom.ensures ∙ w.if-not-is_one_atom.false) c.loop-member.invariant)
+          (sym w.others-is)
+          (atom_step c.args.members.now c.loop-member.member-index c.member-item.result c.loop-member.others.items
+          (others_of (shapes_of (map shape c.args.members.now))) c.loop-member-test.true (sym c.member-item.is)
+          (sym c.is_one_atom.ensures ∙ w.if-not-is_one_atom.false) c.loop-member.invariant)
     ]
 
 pub plan_others-returns : goal.plan_others-returns
