@@ -6,6 +6,8 @@ mod draft;
 mod explaining;
 mod laws;
 mod plan;
+#[cfg(test)]
+mod tests;
 
 pub use compiling::compile;
 pub use explaining::explain;
