@@ -1,5 +1,7 @@
-//! Scripts of lines and their replies, over a disk and a console in memory: tests alone.
+//! Whole runs over a disk and a console in memory, with their replies: tests alone.
 #![tactic(auto)]
 
+#[cfg(test)]
+mod contents;
 #[cfg(test)]
 mod tests;

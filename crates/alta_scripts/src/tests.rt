@@ -14,7 +14,12 @@ const LIMIT: u64 = 1 << 40;
 const BOTH: &str = "add a\tRed Fox\tthe quick red fox\nadd b\tFox\tquick brown dog\n";
 
 // Calls the program with one word: the status, and what was given.
-fn call(alloc: Global, disk: &mut MemoryDisk, word: &str, input: &str) -> Result<(Status, Vec<u8>), Fail> {
+fn call(
+    alloc: Global,
+    disk: &mut MemoryDisk,
+    word: &str,
+    input: &str,
+) -> Result<(Status, Vec<u8>), Fail> {
     let mut console = MemoryConsole::new(
         alloc,
         Vec::from_slice(alloc, input.as_bytes())?,
@@ -48,7 +53,10 @@ fn replies(alloc: Global, disk: &mut MemoryDisk, input: &str) -> Result<Vec<u8>,
 fn queries_are_answered(rt: HostRuntime) -> Result<(), Fail> {
     let alloc = rt.alloc();
     let mut disk = made(alloc)?;
-    assert_eq!(rt; replies(alloc, &mut disk, BOTH)?.as_slice(), b"added 1\nadded 2\n".as_slice());
+    assert_eq!(rt;
+        replies(alloc, &mut disk, BOTH)?.as_slice(),
+        b"added 1\nadded 2\n".as_slice()
+    );
     // Each row is a run of its own over the index that the first run left.
     let rows = [
         ("search quick", "1 a\n2 b\nfound 2\n"),
@@ -107,7 +115,10 @@ fn queries_have_limits(rt: HostRuntime) -> Result<(), Fail> {
             line.push_str(part)?;
         }
         line.push_str("a")?;
-        assert_eq!(rt; replies(alloc, &mut disk, line.as_str())?.as_slice(), want.as_bytes());
+        assert_eq!(rt;
+            replies(alloc, &mut disk, line.as_str())?.as_slice(),
+            want.as_bytes()
+        );
     }
     Ok(())
 }
@@ -156,8 +167,14 @@ fn scripts_are_answered(rt: HostRuntime) -> Result<(), Fail> {
     ];
     for (first, wanted, second, wanted_then) in rows {
         let mut disk = made(alloc)?;
-        assert_eq!(rt; replies(alloc, &mut disk, first)?.as_slice(), wanted.as_bytes());
-        assert_eq!(rt; replies(alloc, &mut disk, second)?.as_slice(), wanted_then.as_bytes());
+        assert_eq!(rt;
+            replies(alloc, &mut disk, first)?.as_slice(),
+            wanted.as_bytes()
+        );
+        assert_eq!(rt;
+            replies(alloc, &mut disk, second)?.as_slice(),
+            wanted_then.as_bytes()
+        );
     }
     Ok(())
 }
@@ -172,6 +189,9 @@ fn the_longest_document_is_counted(rt: HostRuntime) -> Result<(), Fail> {
     }
     let longer = format!(in alloc; "{input}\n{input}x\nstats\ncount x NEAR/1 x")?;
     let want = "added 1\n! line too long\ndocuments 1 words 32764 next 2\nfound 1\n";
-    assert_eq!(rt; replies(alloc, &mut disk, longer.as_str())?.as_slice(), want.as_bytes());
+    assert_eq!(rt;
+        replies(alloc, &mut disk, longer.as_str())?.as_slice(),
+        want.as_bytes()
+    );
     Ok(())
 }
