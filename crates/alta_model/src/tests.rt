@@ -149,15 +149,18 @@ fn other_documents_match(rt: HostRuntime) -> Result<(), Fail> {
         let document = document(alloc, "d", title, body)?;
         assert_eq!(rt; answer(alloc, query, &document)?, want, "{query}");
     }
+    // Phrases of 64 words, at the start and at the end of the words `x y` 32 times between `y` and `z`.
     let mut words = String::new(alloc);
-    for _ in 0..32 {
+    for _ in 0..31 {
         words.push_str("x y ")?;
     }
-    let phrase = format!(in alloc; "\"{words}\"")?;
-    let long = format!(in alloc; "y {words}z")?;
+    let long = format!(in alloc; "y {words}x y z")?;
     let document = document(alloc, "d", "", long.as_str())?;
-    assert_eq!(rt; answer(alloc, phrase.as_str(), &document)?, true);
-    let phrase = format!(in alloc; "\"{}z\"", &words.as_str()[2..])?;
-    assert_eq!(rt; answer(alloc, phrase.as_str(), &document)?, true);
+    let front = format!(in alloc; "\"{words}x y\"")?;
+    assert_eq!(rt; answer(alloc, front.as_str(), &document)?, true);
+    let back = format!(in alloc; "\"y {words}z\"")?;
+    assert_eq!(rt; answer(alloc, back.as_str(), &document)?, true);
+    let other = format!(in alloc; "\"{words}y x\"")?;
+    assert_eq!(rt; answer(alloc, other.as_str(), &document)?, false);
     Ok(())
 }
