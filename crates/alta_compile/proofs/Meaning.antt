@@ -1,7 +1,7 @@
 -- A document's end is in the list of a query's plan exactly where the document matches the query.
 use Rattle.std.proofs.Common.{◌⊎◌, ⊎_elim, inl, inr, List, [], ◌∷◌, map, sym, subst}
 use Rattle.std.specs.Prelude.{Contains, ◌↔◌}
-use Rattle.alta_docread.specs.KeptLaws.{less-has, common-one}
+use Rattle.alta_docread.specs.KeptLaws.{less-has}
 use Rattle.alta_query.specs.Patterns.{Pattern, Satisfies, pattern_of}
 use Rattle.alta_query.specs.Shape.{Atom, Shape, Shapes, atom, all, any, negated, none, more}
 use Rattle.alta_query.specs.Matches.{Matches, AllMatch, AnyMatches}
@@ -10,7 +10,7 @@ use Rattle.alta_compile.specs.Joined.{joined, SatisfiesEach}
 use Rattle.alta_compile.specs.Tree.{Tree, found, all_of, any_of, without, Trees, no_more, also, plan_list, plan_lists}
 use Rattle.alta_compile.specs.PlanOf.{found_of, atoms_in, all_plan, plan_of, plans_of, others_of}
 use Rattle.alta_compile.proofs.Joins.{EachNamed, joined_satisfies, joined_named, pattern_named}
-use Rattle.alta_compile.proofs.Parts.{common-both, union-nil, union-both}
+use Rattle.alta_compile.proofs.Parts.{common-both, union-nil, union-both, common-one}
 use Rattle.alta_compile.proofs.Spaces.{Has, end-in}
 use Rattle.alta_compile.proofs.Solved.{found_satisfies}
 

@@ -1,28 +1,31 @@
 -- The laws of a plan's nodes in std's words.
-use Rattle.std.proofs.Common.{◌⊎◌, ⊎_elim, inl, inr, ℕ, zero, suc, List, [], ◌∷◌, refl, sym, subst, arith}
+use Rattle.std.proofs.Common.{◌≡◌, ap, ◌⊎◌, ⊎_elim, inl, inr, ℕ, zero, suc, List, [], ◌∷◌, refl, sym, subst, arith}
 use Rattle.std.specs.Prelude.{Contains, All, Any, ◌↔◌}
-use Rattle.std.proofs.lemmas.List.Elements.{All-nil, All-cons, All-head, All-tail}
+use Rattle.std.proofs.lemmas.List.Elements.{All-cons, All-head, All-tail}
 use Rattle.alta_codec.proofs.Places.{not-Contains-nil}
 use Rattle.alta_compound.specs.Union.{union_of}
 use Rattle.alta_compound.specs.Unions.{union-has, union-keeps}
-use Rattle.alta_docread.specs.Kept.{common, has}
-use Rattle.alta_docread.specs.KeptLaws.{common-one, common-more, kept-has, kept-keeps, has-Contains, Contains-has}
+use Rattle.alta_docread.specs.Kept.{common, each_has, kept}
+use Rattle.alta_docread.specs.KeptLaws.{common-has, common-keeps}
 
-pub common-both : (l m : List ℕ) (ls : List (List ℕ)) (z : ℕ) → Contains (common (l ∷ m ∷ ls)) z ↔ (Contains l z × Contains (common (m ∷ ls)) z)
-common-both l m ls z = (
-  λ h. let r = kept-has (λ x. has (common (m ∷ ls)) x) l z (subst (λ x. Contains x z) (common-more l m ls) h) in (r.0, has-Contains (common (m ∷ ls)) z r.1),
-  λ (h, k). subst (λ x. Contains x z) (sym (common-more l m ls)) (kept-keeps (λ x. has (common (m ∷ ls)) x) l z h (Contains-has (common (m ∷ ls)) z k)),
-)
+-- what all of one list have is that list
+kept-each : (l : List ℕ) → kept (each_has []) l ≡ l
+unfolding kept each_has
+kept-each [] = refl
+kept-each (x ∷ xs) = ap (λ ys. x ∷ ys) (kept-each xs)
+
+pub common-one : (l : List ℕ) → common (l ∷ []) ≡ l
+unfolding common
+common-one l = kept-each l
 
 pub common-all : (l : List ℕ) (ls : List (List ℕ)) (z : ℕ) → Contains (common (l ∷ ls)) z ↔ All (λ m. Contains m z) (l ∷ ls)
-common-all l [] z = (
-  λ h. All-cons (λ m. Contains m z) l [] (subst (λ x. Contains x z) (common-one l) h) (All-nil (λ m. Contains m z)),
-  λ h. subst (λ x. Contains x z) (sym (common-one l)) (All-head (λ m. Contains m z) l [] h),
-)
-common-all l (m ∷ ls) z =
-    let both = common-both l m ls z in let rest = common-all m ls z in (
-      λ h. let (a, b) = both.0 h in All-cons (λ k. Contains k z) l (m ∷ ls) a (rest.0 b),
-      λ h. both.1 (All-head (λ k. Contains k z) l (m ∷ ls) h, rest.1 (All-tail (λ k. Contains k z) l (m ∷ ls) h)),
+common-all l ls z = (common-has (l ∷ ls) z, common-keeps (l ∷ ls) z (omega arith))
+
+pub common-both : (l m : List ℕ) (ls : List (List ℕ)) (z : ℕ) → Contains (common (l ∷ m ∷ ls)) z ↔ (Contains l z × Contains (common (m ∷ ls)) z)
+common-both l m ls z =
+    let both = common-all l (m ∷ ls) z in let rest = common-all m ls z in (
+      λ h. let all = both.0 h in (All-head (λ k. Contains k z) l (m ∷ ls) all, rest.1 (All-tail (λ k. Contains k z) l (m ∷ ls) all)),
+      λ (h, k). both.1 (All-cons (λ n. Contains n z) l (m ∷ ls) h (rest.0 k)),
     )
 
 pub union-nil : (z : ℕ) → Contains (union_of []) z → ⊥
