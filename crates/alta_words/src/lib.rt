@@ -14,7 +14,7 @@ mod tests;
 mod word;
 
 pub use chain::ChainReader;
-pub use checking::PostingFault;
+pub use checking::{Bounds, PostingFault, check};
 pub use leaf::Leaf;
 pub use plain::PlainReader;
 pub use posting::Posting;
