@@ -102,3 +102,18 @@ pub put_all : {D S A B : Type 0} (table : Repeats S A B) (one : S → A → List
 unfolding entries_bytes
 put_all {D = D} table one view state i ds out total le so_far =
     sym (append-nil out) ∙ ap (λ (a : List D). out ++ entries_bytes table one state (map view a)) (sym (drop_all i ds le)) ∙ so_far
+
+-- ---- one entry more at the end
+
+pub entries_bytes-push : {S A B : Type 0} (table : Repeats S A B) (one : S → A → List ℕ) (state : S) (xs : List A) (x : A)
+    → entries_bytes table one state (xs ++ x ∷ []) ≡ entries_bytes table one state xs ++ one (state_behind table state xs) x
+unfolding entries_bytes state_behind
+entries_bytes-push table one state [] x = append-nil (one state x)
+entries_bytes-push table one state (y ∷ xs) x =
+    ap (λ (l : List ℕ). one state y ++ l) (entries_bytes-push table one (table.step state y) xs x)
+    ∙ sym (append_assoc (one state y) (entries_bytes table one (table.step state y) xs) (one (state_behind table (table.step state y) xs) x))
+
+pub state_behind-push : {S A B : Type 0} (table : Repeats S A B) (state : S) (xs : List A) (x : A) → state_behind table state (xs ++ x ∷ []) ≡ table.step (state_behind table state xs) x
+unfolding state_behind
+state_behind-push table state [] x = refl
+state_behind-push table state (y ∷ xs) x = state_behind-push table (table.step state y) xs x

@@ -1,0 +1,6 @@
+pub mod LastTerm
+pub mod Order
+pub mod RowLaws
+pub mod TermLaws
+pub mod Opened
+pub mod PlaceLaws

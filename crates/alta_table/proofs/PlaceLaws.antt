@@ -1,0 +1,100 @@
+-- Places of names and streams, as rows are read.
+use Rattle.std.proofs.Common.{◌≡◌, ⊎_elim, ℕ, zero, suc, ◌+◌, ◌-◌, ◌≤◌, ◌<◌, List, [], ◌∷◌, ◌++◌, length, get_or, take, drop, map, Ok, refl, sym, ap, subst, ◌∙◌, arith, length-append}
+use Rattle.std.proofs.lemmas.List.Sums.{sum_by-cons}
+use Rattle.std.specs.List.{sum_by}
+use Rattle.alta_format.specs.Format.{AreBytes, read, entries_bytes, state_behind}
+use Rattle.alta_format.specs.FormatLaws.{done, read_spells}
+use Rattle.alta_format.specs.EntryLaws.{entries_bytes-push, state_behind-push}
+use Rattle.alta_table.specs.declared.document.DocRow.{DocRow}
+use Rattle.alta_table.specs.declared.term.TermRow.{TermRow}
+use Rattle.alta_table.specs.Documents.{Before, start, behind_row, row_bytes, row_format, documents_table, documents_bytes}
+use Rattle.alta_table.specs.Terms.{data_of, data_bytes}
+use Rattle.alta_table.specs.Places.{name_places, stream_places}
+use Rattle.alta_table.proofs.RowLaws.{row_spelled, row-some}
+
+-- ---- names
+
+name_places-push : (from : ℕ) (before : Before) (rows : List DocRow) (r : DocRow)
+    → name_places from before (rows ++ r ∷ [])
+    ≡ name_places from before rows ++ (from + length (entries_bytes documents_table row_bytes before rows) + length (row_bytes (state_behind documents_table before rows) r) - length r.name) ∷ []
+unfolding name_places entries_bytes state_behind
+name_places-push from before [] r =
+    let e : from + length (row_bytes before r) - length r.name ≡ from + 0 + length (row_bytes before r) - length r.name = omega arith in ap (λ (k : ℕ). k ∷ []) e
+name_places-push from before (x ∷ rows) r =
+    let next : ℕ = from + length (row_bytes before x) in
+    let inner : ℕ = length (entries_bytes documents_table row_bytes (behind_row before x) rows) in
+    let last : ℕ = length (row_bytes (state_behind documents_table (behind_row before x) rows) r) in
+    let e : next + inner + last - length r.name ≡ from + length (row_bytes before x ++ entries_bytes documents_table row_bytes (behind_row before x) rows) + last - length r.name =
+    omega (arith, length-append (row_bytes before x) (entries_bytes documents_table row_bytes (behind_row before x) rows)) in
+    ap (λ (l : List ℕ). (next - length x.name) ∷ l) (name_places-push next (behind_row before x) rows r ∙ ap (λ (k : ℕ). name_places next (behind_row before x) rows ++ k ∷ []) e)
+
+pub length-name_places : (from : ℕ) (before : Before) (rows : List DocRow) → length (name_places from before rows) ≡ length rows
+unfolding name_places
+length-name_places from before [] = refl
+length-name_places from before (r ∷ rows) = ap suc (length-name_places (from + length (row_bytes before r)) (behind_row before r) rows)
+
+abbrev name_at : List DocRow → ℕ → List ℕ
+name_at rows k = get_or (map (λ (d : DocRow). d.name) rows) k []
+
+pub name_places-at : (from : ℕ) (before : Before) (rows : List DocRow) (k : ℕ) → k < length rows
+    → get_or (name_places from before rows) k 0 ≡ from + length (entries_bytes documents_table row_bytes before (take (suc k) rows)) - length (name_at rows k)
+unfolding name_places entries_bytes
+name_places-at from before [] k lt = absurd (omega (arith, lt))
+name_places-at from before (r ∷ rows) zero lt = omega (arith, length-append (row_bytes before r) [])
+name_places-at from before (r ∷ rows) (suc k) lt =
+    let inner : List ℕ = entries_bytes documents_table row_bytes (behind_row before r) (take (suc k) rows) in
+    let e : from + length (row_bytes before r) + length inner - length (name_at rows k) ≡ from + length (row_bytes before r ++ inner) - length (name_at rows k) = omega (arith, length-append (row_bytes before r) inner) in
+    name_places-at (from + length (row_bytes before r)) (behind_row before r) rows k (omega (arith, lt)) ∙ e
+
+-- the rows that were read from bytes at a place, what they leave behind, and what is left of the bytes
+pub record AreRead (place : ℕ) (bytes : List ℕ) (rows : List DocRow) (names : List ℕ) (before : Before) (rest : List ℕ) : Type 0 where
+  pub names_are : names ≡ name_places place start rows
+  pub before_is : state_behind documents_table start rows ≡ before
+  pub sized : length (documents_bytes rows) + length rest ≡ length bytes
+
+row_parts : (before : Before) (rest : List ℕ) (r : DocRow) (behind : List ℕ) → AreBytes rest → read (row_format before) rest ≡ Ok (r, behind) → length rest ≡ length (row_bytes before r) + length behind
+row_parts before rest r behind fits got =
+    let (may, parts) = row_spelled before rest r behind (read_spells (row_format before) rest r behind fits got) in
+    omega (arith, ap length parts, length-append (row_bytes before r) behind)
+
+pub name_within : (before : Before) (rest : List ℕ) (r : DocRow) (behind : List ℕ) → AreBytes rest → read (row_format before) rest ≡ Ok (r, behind) → length behind + length r.name ≤ length rest
+name_within before rest r behind fits got = omega (arith, row_parts before rest r behind fits got, row-some before r)
+
+pub row_read : (place : ℕ) (bytes : List ℕ) (rows more : List DocRow) (names places : List ℕ) (before : Before) (rest : List ℕ) (r : DocRow) (behind : List ℕ)
+    → AreBytes rest → read (row_format before) rest ≡ Ok (r, behind) → more ≡ rows ++ r ∷ [] → places ≡ names ++ (place + (length bytes - (length behind + length r.name))) ∷ []
+    → AreRead place bytes rows names before rest → AreRead place bytes more places (behind_row before r) behind
+row_read place bytes rows more names places before rest r behind fits got pushed named seen =
+    let parts = row_parts before rest r behind fits got in
+    let some = row-some before r in
+    let spelled : documents_bytes more ≡ documents_bytes rows ++ row_bytes before r =
+    ap (λ (l : List DocRow). documents_bytes l) pushed ∙ entries_bytes-push documents_table row_bytes start rows r ∙ ap (λ (b : Before). documents_bytes rows ++ row_bytes b r) seen.before_is in
+    let at : place + (length bytes - (length behind + length r.name)) ≡ place + length (documents_bytes rows) + length (row_bytes before r) - length r.name = omega (arith, parts, some, seen.sized) in
+    let old : name_places place start (rows ++ r ∷ []) ≡ name_places place start rows ++ (place + length (documents_bytes rows) + length (row_bytes before r) - length r.name) ∷ [] =
+    name_places-push place start rows r ∙ ap (λ (b : Before). name_places place start rows ++ (place + length (documents_bytes rows) + length (row_bytes b r) - length r.name) ∷ []) seen.before_is in
+    record {
+      names_are = named ∙ ap (λ (l : List ℕ). l ++ (place + (length bytes - (length behind + length r.name))) ∷ []) seen.names_are ∙ ap (λ (k : ℕ). name_places place start rows ++ k ∷ []) at ∙ sym old
+          ∙ ap (λ (l : List DocRow). name_places place start l) (sym pushed);
+      before_is = ap (λ (l : List DocRow). state_behind documents_table start l) pushed ∙ state_behind-push documents_table start rows r ∙ ap (λ (b : Before). behind_row b r) seen.before_is;
+      sized = omega (arith, parts, seen.sized, ap length spelled, length-append (documents_bytes rows) (row_bytes before r));
+    }
+
+-- ---- streams
+
+pub stream_places-push : (from : ℕ) (rows : List TermRow) (t : TermRow) → stream_places from (rows ++ t ∷ []) ≡ stream_places from rows ++ (from + data_bytes rows) ∷ []
+unfolding stream_places
+stream_places-push from [] t = let e : from ≡ from + 0 = omega arith in ap (λ (k : ℕ). k ∷ []) e
+stream_places-push from (x ∷ rows) t =
+    let e : from + data_of x + data_bytes rows ≡ from + data_bytes (x ∷ rows) = omega (arith, sum_by-cons data_of x rows) in
+    ap (λ (l : List ℕ). from ∷ l) (stream_places-push (from + data_of x) rows t ∙ ap (λ (k : ℕ). stream_places (from + data_of x) rows ++ k ∷ []) e)
+
+pub length-stream_places : (from : ℕ) (rows : List TermRow) → length (stream_places from rows) ≡ length rows
+unfolding stream_places
+length-stream_places from [] = refl
+length-stream_places from (t ∷ rows) = ap suc (length-stream_places (from + data_of t) rows)
+
+pub stream_places-at : (from : ℕ) (rows : List TermRow) (k : ℕ) → k < length rows → get_or (stream_places from rows) k 0 ≡ from + sum_by data_of (take k rows)
+unfolding stream_places
+stream_places-at from [] k lt = absurd (omega (arith, lt))
+stream_places-at from (t ∷ rows) zero lt = omega arith
+stream_places-at from (t ∷ rows) (suc k) lt =
+    stream_places-at (from + data_of t) rows k (omega (arith, lt)) ∙ omega (arith, sum_by-cons data_of t (take k rows))
