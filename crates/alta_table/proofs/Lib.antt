@@ -4,3 +4,4 @@ pub mod RowLaws
 pub mod TermLaws
 pub mod Opened
 pub mod PlaceLaws
+pub mod Grown

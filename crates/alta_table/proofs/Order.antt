@@ -3,6 +3,7 @@ use Rattle.std.proofs.Common.{◌≡◌, ⊎_elim, ℕ, zero, suc, ◌+◌, ◌�
 use Rattle.std.specs.Ordering.{nat_cmp, ordering_then}
 use Rattle.std.specs.declared.cmp.Ordering.TheVariants.{Less, Equal, Greater}
 use Rattle.std.specs.Cmp.Lexicographic.{slice_cmp}
+use Rattle.std.proofs.lemmas.List.{drop_all}
 use Rattle.std.proofs.lemmas.Bool.{cases_lt, lt-ltb, le-ltb, ne_eqb, eq-eqb}
 use Rattle.alta_codec.specs.Order.{Precedes}
 use Rattle.alta_table.specs.Terms.{shared_len}
@@ -65,3 +66,11 @@ precedes_goes (x ∷ a) (b ∷ t) h =
     rw (eq-eqb x b e, one) (goes_more x b a t (shared_len a t) e (precedes_goes a t f)))
     (cases_lt b x))
     (cases_lt x b)
+
+shared_nil : (a : List ℕ) → shared_len a [] ≡ 0
+shared_nil [] = refl
+shared_nil (x ∷ a) = refl
+
+-- behind the second term they share nothing more
+pub shared_end : (a t : List ℕ) (len : ℕ) → length t ≤ len → shared_len (drop len a) (drop len t) ≡ 0
+shared_end a t len le = ap (shared_len (drop len a)) (drop_all len t le) ∙ shared_nil (drop len a)

@@ -1,15 +1,16 @@
 -- Places of names and streams, as rows are read.
 use Rattle.std.proofs.Common.{◌≡◌, ⊎_elim, ℕ, zero, suc, ◌+◌, ◌-◌, ◌≤◌, ◌<◌, List, [], ◌∷◌, ◌++◌, length, get_or, take, drop, map, Ok, refl, sym, ap, subst, ◌∙◌, arith, length-append}
-use Rattle.std.proofs.lemmas.List.Sums.{sum_by-cons}
+use Rattle.std.proofs.lemmas.List.Sums.{sum_by-cons, sum_by_push}
 use Rattle.std.specs.List.{sum_by}
 use Rattle.alta_format.specs.Format.{AreBytes, read, entries_bytes, state_behind}
-use Rattle.alta_format.specs.FormatLaws.{done, read_spells}
+use Rattle.alta_format.specs.FormatLaws.{AreBytes-rest, read_spells}
 use Rattle.alta_format.specs.EntryLaws.{entries_bytes-push, state_behind-push}
 use Rattle.alta_table.specs.declared.document.DocRow.{DocRow}
 use Rattle.alta_table.specs.declared.term.TermRow.{TermRow}
 use Rattle.alta_table.specs.Documents.{Before, start, behind_row, row_bytes, row_format, documents_table, documents_bytes}
-use Rattle.alta_table.specs.Terms.{data_of, data_bytes}
+use Rattle.alta_table.specs.Terms.{data_of, data_bytes, last_term}
 use Rattle.alta_table.specs.Places.{name_places, stream_places}
+use Rattle.alta_table.proofs.LastTerm.{last_term-push}
 use Rattle.alta_table.proofs.RowLaws.{row_spelled, row-some}
 
 -- ---- names
@@ -51,31 +52,37 @@ pub record AreRead (place : ℕ) (bytes : List ℕ) (rows : List DocRow) (names 
   pub names_are : names ≡ name_places place start rows
   pub before_is : state_behind documents_table start rows ≡ before
   pub sized : length (documents_bytes rows) + length rest ≡ length bytes
+  pub fits : AreBytes rest
+
+row_is : (before : Before) (rest : List ℕ) (r : DocRow) (behind : List ℕ) → AreBytes rest → read (row_format before) rest ≡ Ok (r, behind) → rest ≡ row_bytes before r ++ behind
+row_is before rest r behind fits got = (row_spelled before rest r behind (read_spells (row_format before) rest r behind fits got)).1
 
 row_parts : (before : Before) (rest : List ℕ) (r : DocRow) (behind : List ℕ) → AreBytes rest → read (row_format before) rest ≡ Ok (r, behind) → length rest ≡ length (row_bytes before r) + length behind
 row_parts before rest r behind fits got =
-    let (may, parts) = row_spelled before rest r behind (read_spells (row_format before) rest r behind fits got) in
-    omega (arith, ap length parts, length-append (row_bytes before r) behind)
+    omega (arith, ap length (row_is before rest r behind fits got), length-append (row_bytes before r) behind)
 
-pub name_within : (before : Before) (rest : List ℕ) (r : DocRow) (behind : List ℕ) → AreBytes rest → read (row_format before) rest ≡ Ok (r, behind) → length behind + length r.name ≤ length rest
-name_within before rest r behind fits got = omega (arith, row_parts before rest r behind fits got, row-some before r)
+pub name_within : (place : ℕ) (bytes : List ℕ) (rows : List DocRow) (names : List ℕ) (before : Before) (rest : List ℕ) (r : DocRow) (behind name : List ℕ)
+    → read (row_format before) rest ≡ Ok (r, behind) → name ≡ r.name → AreRead place bytes rows names before rest → length behind + length name ≤ length bytes
+name_within place bytes rows names before rest r behind name got same seen =
+    omega (arith, row_parts before rest r behind seen.fits got, row-some before r, seen.sized, ap length same)
 
-pub row_read : (place : ℕ) (bytes : List ℕ) (rows more : List DocRow) (names places : List ℕ) (before : Before) (rest : List ℕ) (r : DocRow) (behind : List ℕ)
-    → AreBytes rest → read (row_format before) rest ≡ Ok (r, behind) → more ≡ rows ++ r ∷ [] → places ≡ names ++ (place + (length bytes - (length behind + length r.name))) ∷ []
+pub row_read : (place : ℕ) (bytes : List ℕ) (rows more : List DocRow) (names places : List ℕ) (before : Before) (rest : List ℕ) (r : DocRow) (behind name : List ℕ)
+    → read (row_format before) rest ≡ Ok (r, behind) → name ≡ r.name → more ≡ rows ++ r ∷ [] → places ≡ names ++ (place + (length bytes - (length behind + length name))) ∷ []
     → AreRead place bytes rows names before rest → AreRead place bytes more places (behind_row before r) behind
-row_read place bytes rows more names places before rest r behind fits got pushed named seen =
-    let parts = row_parts before rest r behind fits got in
+row_read place bytes rows more names places before rest r behind name got same pushed named seen =
+    let parts = row_parts before rest r behind seen.fits got in
     let some = row-some before r in
     let spelled : documents_bytes more ≡ documents_bytes rows ++ row_bytes before r =
     ap (λ (l : List DocRow). documents_bytes l) pushed ∙ entries_bytes-push documents_table row_bytes start rows r ∙ ap (λ (b : Before). documents_bytes rows ++ row_bytes b r) seen.before_is in
-    let at : place + (length bytes - (length behind + length r.name)) ≡ place + length (documents_bytes rows) + length (row_bytes before r) - length r.name = omega (arith, parts, some, seen.sized) in
+    let at : place + (length bytes - (length behind + length name)) ≡ place + length (documents_bytes rows) + length (row_bytes before r) - length r.name = omega (arith, parts, some, seen.sized, ap length same) in
     let old : name_places place start (rows ++ r ∷ []) ≡ name_places place start rows ++ (place + length (documents_bytes rows) + length (row_bytes before r) - length r.name) ∷ [] =
     name_places-push place start rows r ∙ ap (λ (b : Before). name_places place start rows ++ (place + length (documents_bytes rows) + length (row_bytes b r) - length r.name) ∷ []) seen.before_is in
     record {
-      names_are = named ∙ ap (λ (l : List ℕ). l ++ (place + (length bytes - (length behind + length r.name))) ∷ []) seen.names_are ∙ ap (λ (k : ℕ). name_places place start rows ++ k ∷ []) at ∙ sym old
+      names_are = named ∙ ap (λ (l : List ℕ). l ++ (place + (length bytes - (length behind + length name))) ∷ []) seen.names_are ∙ ap (λ (k : ℕ). name_places place start rows ++ k ∷ []) at ∙ sym old
           ∙ ap (λ (l : List DocRow). name_places place start l) (sym pushed);
       before_is = ap (λ (l : List DocRow). state_behind documents_table start l) pushed ∙ state_behind-push documents_table start rows r ∙ ap (λ (b : Before). behind_row b r) seen.before_is;
       sized = omega (arith, parts, seen.sized, ap length spelled, length-append (documents_bytes rows) (row_bytes before r));
+      fits = AreBytes-rest rest (row_bytes before r) behind seen.fits (row_is before rest r behind seen.fits got);
     }
 
 -- ---- streams
@@ -98,3 +105,37 @@ stream_places-at from [] k lt = absurd (omega (arith, lt))
 stream_places-at from (t ∷ rows) zero lt = omega arith
 stream_places-at from (t ∷ rows) (suc k) lt =
     stream_places-at (from + data_of t) rows k (omega (arith, lt)) ∙ omega (arith, sum_by-cons data_of t (take k rows))
+
+-- no rows yet
+pub reads_none : (place : ℕ) (bytes : List ℕ) (rows : List DocRow) (names : List ℕ) → rows ≡ [] → names ≡ [] → AreBytes bytes → AreRead place bytes rows names start bytes
+unfolding name_places state_behind entries_bytes
+reads_none place bytes rows names no_rows no_names fits = rw (no_rows, no_names) none
+  where
+    none : AreRead place bytes [] [] start bytes
+    none = record { names_are = refl; before_is = refl; sized = omega arith; fits = fits }
+
+-- ---- the term rows that were read, and how much room they leave
+pub record AreTermsRead (room end : ℕ) (rows : List TermRow) (streams : List ℕ) (left : ℕ) : Type 0 where
+  pub left_is : left + data_bytes rows ≡ room
+  pub streams_are : streams ≡ stream_places (end - room) rows
+  pub short : length (last_term rows) ≤ 129
+
+pub terms_none : (room end : ℕ) (rows : List TermRow) (streams : List ℕ) → rows ≡ [] → streams ≡ [] → AreTermsRead room end rows streams room
+unfolding stream_places
+terms_none room end rows streams no_rows no_streams = rw (no_rows, no_streams) none
+  where
+    none : AreTermsRead room end [] [] room
+    none = record { left_is = omega arith; streams_are = refl; short = omega arith }
+
+pub term_read : (room end : ℕ) (rows more : List TermRow) (streams places : List ℕ) (left : ℕ) (t : TermRow) → room ≤ end → t.stream + t.summary ≤ left → length t.term ≤ 129
+    → more ≡ rows ++ t ∷ [] → places ≡ streams ++ (end - left) ∷ [] → AreTermsRead room end rows streams left → AreTermsRead room end more places (left - t.stream - t.summary)
+term_read room end rows more streams places left t le fits short pushed placed seen =
+    let sum : data_bytes more ≡ data_bytes rows + data_of t = ap (λ (l : List TermRow). data_bytes l) pushed ∙ sum_by_push data_of rows t in
+    let at : end - left ≡ end - room + data_bytes rows = omega (arith, seen.left_is, le) in
+    let last : last_term more ≡ t.term = ap last_term pushed ∙ last_term-push rows t in
+    record {
+      left_is = omega (arith, seen.left_is, sum, fits);
+      streams_are = placed ∙ ap (λ (l : List ℕ). l ++ (end - left) ∷ []) seen.streams_are ∙ ap (λ (k : ℕ). stream_places (end - room) rows ++ k ∷ []) at ∙ sym (stream_places-push (end - room) rows t)
+          ∙ ap (λ (l : List TermRow). stream_places (end - room) l) (sym pushed);
+      short = omega (arith, short, ap length last);
+    }
