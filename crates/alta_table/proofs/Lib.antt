@@ -5,3 +5,5 @@ pub mod TermLaws
 pub mod Opened
 pub mod PlaceLaws
 pub mod Grown
+pub mod TableParts
+pub mod TableLaws

@@ -199,3 +199,7 @@ unfolding AreTermsBehind terms_bytes_behind
 terms-le before [] m = omega arith
 terms-le before (t ∷ ts) (m, more) =
     omega (arith, terms-le t.term ts more, entry-some before t m.rises, length-append (entry_bytes before t) (terms_bytes_behind t.term ts))
+
+-- what the rows leave of the room
+pub room_behind : (before : Behind) (ts : List TermRow) → AreEntries terms_table MayStand before ts → data_bytes ts + (state_behind terms_table before ts).room ≡ before.room
+room_behind before ts keeps = (stand_split before ts keeps).1
