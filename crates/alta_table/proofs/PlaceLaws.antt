@@ -1,5 +1,5 @@
 -- Places of names and streams, as rows are read.
-use Rattle.std.proofs.Common.{◌≡◌, ⊎_elim, ℕ, zero, suc, ◌+◌, ◌-◌, ◌≤◌, ◌<◌, List, [], ◌∷◌, ◌++◌, length, get_or, take, drop, map, Ok, refl, sym, ap, subst, ◌∙◌, arith, length-append}
+use Rattle.std.proofs.Common.{◌≡◌, ⊎_elim, ℕ, zero, suc, ◌+◌, ◌-◌, ◌≤◌, ◌<◌, ◌^◌, List, [], ◌∷◌, ◌++◌, length, get_or, take, drop, map, Ok, refl, sym, ap, subst, ◌∙◌, arith, length-append}
 use Rattle.std.proofs.lemmas.List.Sums.{sum_by-cons, sum_by_push}
 use Rattle.std.specs.List.{sum_by}
 use Rattle.alta_format.specs.Format.{AreBytes, read, entries_bytes, state_behind}
@@ -9,8 +9,12 @@ use Rattle.alta_table.specs.declared.document.DocRow.{DocRow}
 use Rattle.alta_table.specs.declared.term.TermRow.{TermRow}
 use Rattle.alta_table.specs.Documents.{Before, start, behind_row, row_bytes, row_format, documents_table, documents_bytes}
 use Rattle.alta_table.specs.Terms.{data_of, data_bytes, last_term}
-use Rattle.alta_table.specs.Places.{name_places, stream_places}
+use Rattle.alta_table.specs.Places.{name_places, stream_places, tables_in, AreParts}
+use Rattle.alta_table.specs.declared.sizes.Head.{Head}
+use Rattle.alta_table.specs.declared.parts.Parts.{Parts}
+use Rattle.alta_table.specs.Tables.{tables_bytes, read_head, tables_of}
 use Rattle.alta_table.proofs.LastTerm.{last_term-push}
+use Rattle.alta_table.proofs.TableLaws.{tables_are}
 use Rattle.alta_table.proofs.RowLaws.{row_spelled, row-some}
 
 -- ---- names
@@ -138,4 +142,22 @@ term_read room end rows more streams places left t le fits short pushed placed s
       streams_are = placed ∙ ap (λ (l : List ℕ). l ++ (end - left) ∷ []) seen.streams_are ∙ ap (λ (k : ℕ). stream_places (end - room) rows ++ k ∷ []) at ∙ sym (stream_places-push (end - room) rows t)
           ∙ ap (λ (l : List TermRow). stream_places (end - room) l) (sym pushed);
       short = omega (arith, short, ap length last);
+    }
+
+-- ---- what is opened
+
+-- rows with the places that were kept while they were read
+pub parts_are : (p : Parts) (bytes : List ℕ) (place total : ℕ) → AreBytes bytes → place + total < 2 ^ 64
+    → ((h : Head) → read_head bytes place total ≡ Ok h → length bytes ≡ 32 + h.document_bytes + h.term_bytes)
+    → tables_of bytes place total ≡ Ok (tables_in p) → p.names.items ≡ name_places (place + 32) start p.documents.items
+    → p.streams.items ≡ stream_places (place + total - data_bytes p.terms.items) p.terms.items → AreParts p
+parts_are p bytes place total fits below exact e names streams =
+    let a = tables_are bytes place total (tables_in p) fits (λ h read. omega (arith, exact h read)) e in
+    let size : ℕ = length (tables_bytes p.documents.items p.terms.items) in
+    let from : place + total - data_bytes p.terms.items ≡ p.place + size = omega (arith, a.keeps.filled, a.at) in
+    record {
+      names_are = names ∙ ap (λ (k : ℕ). name_places (k + 32) start p.documents.items) (sym a.at);
+      streams_are = streams ∙ ap (λ (k : ℕ). stream_places k p.terms.items) from;
+      terms_stand = a.keeps.terms_stand;
+      below = omega (arith, a.keeps.filled, a.at, below);
     }

@@ -3,8 +3,8 @@ use Rattle.std.proofs.Common.{◌≡◌, ℕ, ◌+◌, ◌-◌, ◌<◌, ◌≤�
 use Rattle.std.specs.Int.{w64, to_be_bytes}
 use Rattle.std.proofs.lemmas.Bool.{ltb-true, lt-ltb, leb-true, le-leb}
 use Rattle.std.proofs.lemmas.List.{take_at, drop_at, take-append-drop, length-append, length-take, length-drop, take-take, drop-drop, drop-take, nil_from_length, append-nil}
-use Rattle.alta_format.specs.Format.{AreBytes, Spells, part}
-use Rattle.alta_format.specs.FormatLaws.{done, part_found}
+use Rattle.alta_format.specs.Format.{AreBytes, Spells, entries_bytes, state_behind}
+use Rattle.alta_format.specs.FormatLaws.{done}
 use Rattle.alta_format.specs.EntryLaws.{repeated_spelled, repeated_spells}
 use Rattle.alta_table.specs.declared.document.DocRow.{DocRow}
 use Rattle.alta_table.specs.declared.sizes.Head.{Head}
@@ -39,19 +39,20 @@ pub terms_spell : (free : ℕ) (ts : List TermRow) → AreTerms ts → data_byte
 terms_spell free ts stand sum below =
     let keeps = stand_join (first_behind free) ts stand (omega (arith, sum)) below in
     let left = room_behind (first_behind free) ts keeps in
-    let none = omega (arith, left, sum) in
+    let none : (state_behind terms_table (first_behind free) ts).room ≡ 0 = omega (arith, left, sum) in
     subst (λ (b : List ℕ). Spells (terms_format (length ts) free) b (ts, 0) []) (sym (terms_behind-are (first_behind free) ts))
-    (subst (λ (k : ℕ). Spells (terms_format (length ts) free) _ (ts, k) []) none (repeated_spells terms_table entry_of MayStand term_spells (first_behind free) [] ts keeps))
+    (subst (λ (k : ℕ). Spells (terms_format (length ts) free) (entries_bytes terms_table entry_of (first_behind free) ts) (ts, k) []) none
+    (repeated_spells terms_table entry_of MayStand term_spells (first_behind free) [] ts keeps))
 
 -- ---- the head
 
 pub length-head_bytes : (h : Head) → length (head_bytes h) ≡ 32
 length-head_bytes h = refl
 
-record HeadIs (total : ℕ) (bytes : List ℕ) (h : Head) (rest : List ℕ) : Type 0 where
-  some : 0 < h.documents
-  within : 32 + h.document_bytes + h.term_bytes ≤ total
-  parts : bytes ≡ head_bytes h ++ rest
+pub record HeadIs (total : ℕ) (bytes : List ℕ) (h : Head) (rest : List ℕ) : Type 0 where
+  pub some : 0 < h.documents
+  pub within : 32 + h.document_bytes + h.term_bytes ≤ total
+  pub parts : bytes ≡ head_bytes h ++ rest
 
 pub head_spelled : (total : ℕ) (bytes : List ℕ) (h : Head) (rest : List ℕ) → Spells (head_format total) bytes h rest → HeadIs total bytes h rest
 unfolding Spells head_format

@@ -115,7 +115,7 @@ tables_found bytes place total t fits e =
 
 to_head : (bytes : List ℕ) (place total : ℕ) (h : Head) → AreBytes bytes → HasHead bytes total h → tables_of bytes place total ≡ behind_head bytes place total h
 to_head bytes place total h fits (rest, s) =
-    steps bytes place total ∙ ok_bind (part (head_format total) (head_part bytes total) place) (λ h. behind_head bytes place total h) h (part_spelled (head_format total) (head_part bytes total) place h rest (AreBytes-head_part bytes total fits) s)
+    steps bytes place total ∙ ok_bind (part (head_format total) (head_part bytes total) place) (λ h. behind_head bytes place total h) h (part_spelled (head_format total) (head_part bytes total) place h rest (AreBytes-take (min 32 total) bytes fits) s)
 
 to_documents : (bytes : List ℕ) (place total : ℕ) (h : Head) (rs : List DocRow) → AreBytes bytes → HasHead bytes total h → HasDocuments bytes h rs → tables_of bytes place total ≡ behind_documents bytes place total h rs
 to_documents bytes place total h rs fits head (rest, s) =
@@ -135,9 +135,9 @@ tables_again bytes place total rs ts fits a =
 
 pub tables_first : (bytes : List ℕ) (place total p : ℕ) → AreBytes bytes → tables_of bytes place total ≡ failed p → IsDamage bytes place total p
 tables_first bytes place total p fits e =
-    ⊎_elim (λ e1. in_head p (part_first (head_format total) (head_part bytes total) place p (AreBytes-head_part bytes total fits) e1))
+    ⊎_elim (λ e1. in_head p (part_first (head_format total) (head_part bytes total) place p (AreBytes-take (min 32 total) bytes fits) e1))
     (λ (h, e1, f1).
-    let head : HasHead bytes total h = part_found (head_format total) (head_part bytes total) place h (AreBytes-head_part bytes total fits) e1 in
+    let head : HasHead bytes total h = part_found (head_format total) (head_part bytes total) place h (AreBytes-take (min 32 total) bytes fits) e1 in
     ⊎_elim (λ e2. in_documents h p head (part_first (documents_format h.documents) (document_part bytes h) (place + 32) p (bytes1 bytes h fits) e2))
     (λ (rs, e2, f2).
     let documents : HasDocuments bytes h rs = part_found (documents_format h.documents) (document_part bytes h) (place + 32) rs (bytes1 bytes h fits) e2 in
@@ -153,7 +153,7 @@ tables_first bytes place total p fits e =
 
 pub tables_broken : (bytes : List ℕ) (place total p : ℕ) → AreBytes bytes → IsDamage bytes place total p → tables_of bytes place total ≡ failed p
 tables_broken bytes place total _ fits (in_head p broken) =
-    steps bytes place total ∙ err_bind (part (head_format total) (head_part bytes total) place) (λ h. behind_head bytes place total h) p (part_broken (head_format total) (head_part bytes total) place p (AreBytes-head_part bytes total fits) broken)
+    steps bytes place total ∙ err_bind (part (head_format total) (head_part bytes total) place) (λ h. behind_head bytes place total h) p (part_broken (head_format total) (head_part bytes total) place p (AreBytes-take (min 32 total) bytes fits) broken)
 tables_broken bytes place total _ fits (in_documents h p head broken) =
     to_head bytes place total h fits head
     ∙ err_bind (documents_of bytes place h) (λ rs. behind_documents bytes place total h rs) p (part_broken (documents_format h.documents) (document_part bytes h) (place + 32) p (bytes1 bytes h fits) broken)

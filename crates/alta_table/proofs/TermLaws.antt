@@ -1,5 +1,5 @@
 -- What the fields of a term row say is its one spelling, and what the term part has of it.
-use Rattle.std.proofs.Common.{◌≡◌, ◌⊎◌, ⊎_elim, ℕ, zero, suc, ◌+◌, ◌-◌, ◌≤◌, ◌<◌, ◌^◌, Bool, true, false, cond, ltb, List, [], ◌∷◌, ◌++◌, length, get_or, take, drop, drop-cons, refl, sym, ap, subst, ◌∙◌, arith, append_assoc, ◌||◌}
+use Rattle.std.proofs.Common.{◌≡◌, ◌⊎◌, ⊎_elim, ℕ, zero, suc, ◌+◌, ◌-◌, ◌≤◌, ◌<◌, ◌^◌, Bool, true, false, cond, ltb, leb, List, [], ◌∷◌, ◌++◌, length, get_or, take, drop, drop-cons, refl, sym, ap, subst, ◌∙◌, arith, append_assoc, ◌||◌}
 use Rattle.std.specs.Prelude.{IsTrue}
 use Rattle.std.proofs.lemmas.Bool.{cases_lt, ltb-true, lt-ltb, le-ltb, leb-true, le-leb, and_parts, and_from}
 use Rattle.std.proofs.lemmas.List.Sums.{sum_by-cons}
@@ -62,7 +62,7 @@ unfolding Spells term_format
 term_spelled before bytes t rest (k, b1, has1, kept1, (len, b2, has2, kept2, (text, b3, has3, kept3, (count, b4, has4, kept4, (stream, b5, has5, kept5, (summary, b6, has6, kept6, (same, behind))))))) =
     let a : List ℕ = before.term in
     let within : k ≤ length a = leb-true k (length a) kept1 in
-    let (some, short) = and_parts _ _ kept2 in
+    let (some, short) = and_parts (ltb 0 len) (leb (k + len) 129) kept2 in
     let goes = continues_parts a k text kept3 in
     let front : length (take k a) ≡ k = omega (arith, length-take k a, within) in
     let term : List ℕ = take k a ++ text in
