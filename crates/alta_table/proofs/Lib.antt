@@ -7,3 +7,4 @@ pub mod PlaceLaws
 pub mod Grown
 pub mod TableParts
 pub mod TableLaws
+pub mod SearchLaws
