@@ -8,3 +8,4 @@ pub mod Grown
 pub mod TableParts
 pub mod TableLaws
 pub mod SearchLaws
+pub mod FrontLaws
