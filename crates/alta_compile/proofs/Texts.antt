@@ -1,7 +1,7 @@
 -- The plan of a query whose terms are text is text.
 use Rattle.std.proofs.Common.{◌≡◌, ℕ, zero, suc, ◌+◌, ◌-◌, ◌/◌, ◌%◌, ◌<◌, ◌==◌, List, [], ◌∷◌, ◌++◌, refl, arith, lit<, Bool, true, false, if◌then◌else◌, codes}
 use Rattle.std.specs.Fmt.{decimal, digits, digits_onto, digit_glyph}
-use Rattle.std.specs.List.{All}
+use Rattle.std.specs.List.{All, list_all}
 use Rattle.std.specs.Prelude.{nat_lt}
 use Rattle.std.specs.Str.{IsUtf8}
 use Rattle.std.proofs.lemmas.Grind.{common_steps}
@@ -55,7 +55,7 @@ all_plan_text [] (also t ts) h k = k
 all_plan_text (p ∷ ps) (also t ts) h k = (joined_tests (p ∷ ps) h, k)
 
 mutual
-  pub plan_text : (q : Shape) → HasTextTerms q → IsTextTree (plan_of q)
+  plan_text : (q : Shape) → HasTextTerms q → IsTextTree (plan_of q)
   plan_text (atom a) h = h
   plan_text (all qs) h = all_plan_text (atoms_in qs) (others_of qs) (atoms_text qs h) (others_text qs h)
   plan_text (any qs) h = plans_text qs h
@@ -90,17 +90,31 @@ decimal_text : (n : ℕ) → IsUtf8 (decimal n)
 unfolding digits
 decimal_text n = IsUtf8-from_ascii (decimal n) (IsAscii-from_all (decimal n) (digits_low 64 n [] (All-nil _)))
 
+-- so is a text that has nothing else
+ascii : (bs : List ℕ) → list_all (λ b. nat_lt b 128) bs ≡ true → All (λ b. b < 128) bs
+ascii [] h = All-nil _
+ascii (b ∷ bs) h =
+    let low : b < 128 = grind (arith, common_steps) in
+    let rest : list_all (λ b. nat_lt b 128) bs ≡ true = grind (arith, common_steps) in
+    All-cons (λ b. b < 128) b bs low (ascii bs rest)
+
+plain : (bs : List ℕ) → list_all (λ b. nat_lt b 128) bs ≡ true → IsUtf8 bs
+plain bs h = IsUtf8-from_ascii bs (IsAscii-from_all bs (ascii bs h))
+
 low_letter_text : (f : Form) → IsUtf8 (low_letter f)
-low_letter_text LocLoc = (codes "x", refl, refl)
-low_letter_text PrevLoc = (codes "p", refl, refl)
-low_letter_text LocPrev = (codes "x", refl, refl)
-low_letter_text PrevPrev = (codes "p", refl, refl)
+low_letter_text LocLoc = plain (codes "x") refl
+low_letter_text PrevLoc = plain (codes "p") refl
+low_letter_text LocPrev = plain (codes "x") refl
+low_letter_text PrevPrev = plain (codes "p") refl
 
 high_letter_text : (f : Form) → IsUtf8 (high_letter f)
-high_letter_text LocLoc = (codes "x", refl, refl)
-high_letter_text PrevLoc = (codes "x", refl, refl)
-high_letter_text LocPrev = (codes "p", refl, refl)
-high_letter_text PrevPrev = (codes "p", refl, refl)
+high_letter_text LocLoc = plain (codes "x") refl
+high_letter_text PrevLoc = plain (codes "x") refl
+high_letter_text LocPrev = plain (codes "p") refl
+high_letter_text PrevPrev = plain (codes "p") refl
+
+both : {xs ys : List ℕ} → IsUtf8 xs → IsUtf8 ys → IsUtf8 (xs ++ ys)
+both {xs = xs} {ys = ys} h k = IsUtf8-append xs ys h k
 
 either_text : (b : Bool) (xs ys : List ℕ) → IsUtf8 xs → IsUtf8 ys → IsUtf8 (if b then xs else ys)
 either_text true xs ys h k = h
@@ -108,61 +122,46 @@ either_text false xs ys h k = k
 
 constant_text : (plus minus : ℕ) → IsUtf8 (constant plus minus)
 constant_text plus minus =
-    let more = IsUtf8-append (codes "+") (decimal (plus - minus)) (codes "+", refl, refl) (decimal_text (plus - minus)) in
-    let less = IsUtf8-append (codes "-") (decimal (minus - plus)) (codes "-", refl, refl) (decimal_text (minus - plus)) in
-    either_text (nat_lt minus plus) _ _ more (either_text (nat_lt plus minus) _ _ less IsUtf8-nil)
-
-newline_text : IsUtf8 (codes "\n")
-newline_text = (codes "\n", refl, refl)
+    either_text (nat_lt minus plus) _ _ (both (plain (codes "+") refl) (decimal_text (plus - minus)))
+    (either_text (nat_lt plus minus) _ _ (both (plain (codes "-") refl) (decimal_text (minus - plus))) IsUtf8-nil)
 
 bound_text : (b : Inequality) → IsUtf8 (bound_line b)
 bound_text b =
-    IsUtf8-append (low_letter b.form) _ (low_letter_text b.form)
-    (IsUtf8-append (decimal b.i) _ (decimal_text b.i)
-    (IsUtf8-append (codes " <= ") _ (codes " <= ", refl, refl)
-    (IsUtf8-append (high_letter b.form) _ (high_letter_text b.form)
-    (IsUtf8-append (decimal b.j) _ (decimal_text b.j)
-    (IsUtf8-append (constant b.plus b.minus) (codes "\n") (constant_text b.plus b.minus) newline_text)))))
+    both (both (both (both (both (both (low_letter_text b.form) (decimal_text b.i)) (plain (codes " <= ") refl)) (high_letter_text b.form)) (decimal_text b.j)) (constant_text b.plus b.minus)) (plain (codes "\n") refl)
 
 bounds_text : (margin : List ℕ) → IsUtf8 margin → (bs : List Inequality) → IsUtf8 (bound_lines margin bs)
-bounds_text margin h [] = IsUtf8-nil
-bounds_text margin h (b ∷ bs) = IsUtf8-append margin _ h (IsUtf8-append (bound_line b) (bound_lines margin bs) (bound_text b) (bounds_text margin h bs))
+bounds_text margin m [] = IsUtf8-nil
+bounds_text margin m (b ∷ bs) = both (both m (bound_text b)) (bounds_text margin m bs)
 
 one_test_text : (t : Test) → HasTextTerm t → IsUtf8 (test_text t)
 one_test_text (Is term) h = h
-one_test_text (Begins start) h = IsUtf8-append start (codes "*") h (codes "*", refl, refl)
+one_test_text (Begins start) h = both h (plain (codes "*") refl)
 
 each_test_text : (ts : List Test) → All HasTextTerm ts → IsUtf8 (tests_text ts)
 each_test_text [] h = IsUtf8-nil
 each_test_text (t ∷ ts) h =
-    IsUtf8-append (codes " ") _ (codes " ", refl, refl)
-    (IsUtf8-append (test_text t) (tests_text ts) (one_test_text t (All-head HasTextTerm t ts h)) (each_test_text ts (All-tail HasTextTerm t ts h)))
+    both (both (plain (codes " ") refl) (one_test_text t (All-head HasTextTerm t ts h))) (each_test_text ts (All-tail HasTextTerm t ts h))
 
 deeper_text : (margin : List ℕ) → IsUtf8 margin → IsUtf8 (deeper margin)
-deeper_text margin h = IsUtf8-append margin (codes "  ") h (codes "  ", refl, refl)
+deeper_text margin m = both m (plain (codes "  ") refl)
 
+-- a node's first line, and what stands below it
 head_text : (margin word rest : List ℕ) (n : ℕ) → IsUtf8 margin → IsUtf8 word → IsUtf8 rest → IsUtf8 (margin ++ word ++ decimal n ++ codes "\n" ++ rest)
-head_text margin word rest n h k r =
-    IsUtf8-append margin _ h (IsUtf8-append word _ k (IsUtf8-append (decimal n) _ (decimal_text n) (IsUtf8-append (codes "\n") rest newline_text r)))
+head_text margin word rest n m w r = both (both (both (both m w) (decimal_text n)) (plain (codes "\n") refl)) r
 
 mutual
-  pub lines_text : (margin : List ℕ) → IsUtf8 margin → (t : Tree) → IsTextTree t → IsUtf8 (explained margin t)
+  lines_text : (margin : List ℕ) → IsUtf8 margin → (t : Tree) → IsTextTree t → IsUtf8 (explained margin t)
   lines_text margin m (found f) h =
-      IsUtf8-append margin _ m
-      (IsUtf8-append (codes "found D") _ (codes "found D", refl, refl)
-      (IsUtf8-append (tests_text f.tests) _ (each_test_text f.tests h)
-      (IsUtf8-append (codes "\n") (bound_lines (deeper margin) f.bounds) newline_text (bounds_text (deeper margin) (deeper_text margin m) f.bounds))))
+      both (both (both (both m (plain (codes "found D") refl)) (each_test_text f.tests h)) (plain (codes "\n") refl)) (bounds_text (deeper margin) (deeper_text margin m) f.bounds)
   lines_text margin m (all_of ts) h =
-      head_text margin (codes "all ") (explained_each (deeper margin) ts) (count ts) m (codes "all ", refl, refl) (each_lines_text (deeper margin) (deeper_text margin m) ts h)
+      head_text margin (codes "all ") (explained_each (deeper margin) ts) (count ts) m (plain (codes "all ") refl) (each_lines_text (deeper margin) (deeper_text margin m) ts h)
   lines_text margin m (any_of ts) h =
-      head_text margin (codes "any ") (explained_each (deeper margin) ts) (count ts) m (codes "any ", refl, refl) (each_lines_text (deeper margin) (deeper_text margin m) ts h)
-  lines_text margin m (without t) h =
-      IsUtf8-append margin _ m (IsUtf8-append (codes "not\n") (explained (deeper margin) t) (codes "not\n", refl, refl) (lines_text (deeper margin) (deeper_text margin m) t h))
+      head_text margin (codes "any ") (explained_each (deeper margin) ts) (count ts) m (plain (codes "any ") refl) (each_lines_text (deeper margin) (deeper_text margin m) ts h)
+  lines_text margin m (without t) h = both (both m (plain (codes "not\n") refl)) (lines_text (deeper margin) (deeper_text margin m) t h)
 
-  pub each_lines_text : (margin : List ℕ) → IsUtf8 margin → (ts : Trees) → AreTextTrees ts → IsUtf8 (explained_each margin ts)
+  each_lines_text : (margin : List ℕ) → IsUtf8 margin → (ts : Trees) → AreTextTrees ts → IsUtf8 (explained_each margin ts)
   each_lines_text margin m no_more h = IsUtf8-nil
-  each_lines_text margin m (also t ts) h =
-      IsUtf8-append (explained margin t) (explained_each margin ts) (lines_text margin m t h.0) (each_lines_text margin m ts h.1)
+  each_lines_text margin m (also t ts) h = both (lines_text margin m t h.0) (each_lines_text margin m ts h.1)
 
 pub plan_is_text : (q : Shape) → HasTextTerms q → IsUtf8 (explained [] (plan_of q))
 plan_is_text q h = lines_text [] IsUtf8-nil (plan_of q) (plan_text q h)

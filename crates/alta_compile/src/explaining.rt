@@ -31,7 +31,8 @@ pub fn explain(alloc: Global, plan: &Plan) -> Result<Text, AllocError>
 
 /// The bytes as text, without a copy where they are UTF-8.
 fn text_of(alloc: Global, bytes: Vec<u8>) -> Result<String, AllocError>
-    ensures { IfOk result (λ t. string_bytes t ≡ utf8_lossy bytes.items) }
+    ensures text { IfOk result (λ t. IsUtf8 bytes.items → string_bytes t ≡ bytes.items) }
+    ensures lossy { IfOk result (λ t. string_bytes t ≡ utf8_lossy bytes.items) }
 {
     match String::from_utf8(bytes) {
         Ok(text) => Ok(text),
