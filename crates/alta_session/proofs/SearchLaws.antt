@@ -100,7 +100,7 @@ counting_some text documents = counted_by_some documents (query_of text)
 
 explained_by_some : (r : Result Shape Fault) → 0 < length (explained_by r)
 explained_by_some (Ok q) =
-    omega (arith, length-append (canonical q) (codes "\n" ++ explained [] (plan_of q)), length-append (codes "\n") (explained [] (plan_of q)))
+    omega (arith, length-append (canonical q ++ codes "\n") (explained [] (plan_of q)), some_behind (canonical q) (codes "\n") (lit< tt))
 explained_by_some (Err f) = refusal_some f
 
 pub explaining_some : (text : List ℕ) → 0 < length (explaining text)

@@ -61,8 +61,14 @@ fn with_plan(alloc: Global, query: &Query) -> Result<String, AllocError>
     a_plan_is_text();
     let canonical = print(alloc, query)?;
     let plan = alta_compile::explain(alloc, &compile(alloc, query)?)?;
-    let (spelling, lines) = (canonical.as_str(), plan.as_str());
-    format!(in alloc; "{spelling}\n{lines}")
+    headed(alloc, canonical.as_str(), plan.as_str())
+}
+
+// Lines below a first one.
+fn headed(alloc: Global, head: &str, lines: &str) -> Result<String, AllocError>
+    ensures { IfOk result (λ text. string_bytes text ≡ head.now ++ codes "\n" ++ lines.now) }
+{
+    format!(in alloc; "{head}\n{lines}")
 }
 
 fn written(reply: Result<String, AllocError>) -> Result<Text, StoreFault>
