@@ -8,7 +8,6 @@ use Rattle.alta_query.specs.Reading.{query_of}
 use Rattle.alta_query.specs.Faults.{Fault, fault}
 use Rattle.alta_query.specs.Shape.{Shape}
 use Rattle.alta_query.specs.Spelling.{canonical}
-use Rattle.alta_query.specs.Texts.{HasTextTerms}
 use Rattle.alta_query.specs.View.{shape}
 use Rattle.alta_query.specs.declared.fault.Cause.TheVariants.{Memory}
 use Rattle.alta_query.specs.declared.fault.QueryFault.{QueryFault}
