@@ -7,8 +7,10 @@ pub mod Formatted
 pub mod KnowledgeLaws
 pub mod Loads
 pub mod NameLaws
+pub mod Naming
 pub mod OneWay
 pub mod OpeningLaws
 pub mod ReplayLaws
 pub mod SlotLaws
+pub mod Total
 pub mod WordCounts
