@@ -14,3 +14,4 @@ pub mod ReplayLaws
 pub mod SlotLaws
 pub mod Total
 pub mod WordCounts
+pub mod WorkRows

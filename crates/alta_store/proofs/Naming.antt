@@ -124,7 +124,7 @@ pub are_names : (next : ℕ) (known : BTreeMap (String Global) ℕ) (kept : List
 are_names next known kept s knows ordered rows are = subst (AreNames s) (sym are) (record {
   ascending = ascend known.entries ordered;
   live = λ name number. (
-      λ has. number_known next known kept s knows name ∙ found_from name number known.entries ordered has,
-      λ is. row_there name number known.entries (sym (number_known next known kept s knows name) ∙ is),
+    λ has. number_known next known kept s knows name ∙ found_from name number known.entries ordered has,
+    λ is. row_there name number known.entries (sym (number_known next known kept s knows name) ∙ is),
   );
 })

@@ -133,18 +133,21 @@ module _ (image : List ℕ) (indexed : HasNoIndex image → ⊥) where
     read tail entries ends =
         let view : View = record { next = next; location = location; levels = []; deleted = []; entries = entries } in
         ⊎_elim
-        (λ all. inl (state_of view, record {
-          place = tail;
-          view = view;
-          is = record {
-            root = rooted.root;
-            alone = rooted.alone;
-            named = record { levels_are = refl; deleted_are = refl };
-            journal = ends;
-            allowed = subst (AllowsAll (start_at next)) (entries_in-placed START_A entries) all;
-          };
-          state_is = refl;
-        }))
+        (λ all. inl (
+          state_of view,
+          record {
+            place = tail;
+            view = view;
+            is = record {
+              root = rooted.root;
+              alone = rooted.alone;
+              named = record { levels_are = refl; deleted_are = refl };
+              journal = ends;
+              allowed = subst (AllowsAll (start_at next)) (entries_in-placed START_A entries) all;
+            };
+            state_is = refl;
+          },
+        ))
         (λ (place, refused). bad_journal place (record {
           next = next;
           location = location;

@@ -87,19 +87,19 @@ pub record Placing : Type 0 where
 
 -- a level of the root to come: one that stays, or a content that is written anew
 pub data Coming : Type 0 where
-  Stays : Level → Coming
-  Anew : Content → Coming
+  stays : Level → Coming
+  anew : Content → Coming
 
 -- a content as a level to come, which there is only with rows
 abbrev pub coming : Content → List Coming
-coming content = cond (length content.documents == 0) [] (Anew content ∷ [])
+coming content = cond (length content.documents == 0) [] (anew content ∷ [])
 
 -- a level that stays keeps its extent; one that is written anew is placed in order, beside those before it too
-abbrev pub placed : Placing → List Extent → List Coming → List Level
-placed placing taken [] = []
-placed placing taken (Stays level ∷ more) = level ∷ placed placing taken more
-placed placing taken (Anew content ∷ more) =
-    record { extent = placing.segment taken content; content = content } ∷ placed placing (taken ++ placing.segment taken content ∷ []) more
+abbrev pub placed_levels : Placing → List Extent → List Coming → List Level
+placed_levels placing taken [] = []
+placed_levels placing taken (stays level ∷ more) = level ∷ placed_levels placing taken more
+placed_levels placing taken (anew content ∷ more) =
+    record { extent = placing.segment taken content; content = content } ∷ placed_levels placing (taken ++ placing.segment taken content ∷ []) more
 
 abbrev pub extents_in : List Level → List Extent
 extents_in levels = map (λ (l : Level). l.extent) levels
@@ -136,7 +136,7 @@ switched_to placing held levels job =
     }
 
 abbrev pub switched : Placing → Holding → List Coming → Option Job → Holding
-switched placing held levels job = switched_to placing held (placed placing (taken_by held) levels) job
+switched placing held levels job = switched_to placing held (placed_levels placing (taken_by held) levels) job
 
 -- ---- flush, merge and step
 
@@ -151,7 +151,7 @@ oldest_joined None view = joined_in (map (λ (l : Level). l.content) (take 2 vie
 
 -- the levels, with this content in place of the two oldest, and behind them the newest documents
 abbrev pub with_oldest : Content → View → List Coming
-with_oldest content view = coming content ++ map Stays (drop 2 view.levels) ++ coming (newest_content view)
+with_oldest content view = coming content ++ map stays (drop 2 view.levels) ++ coming (newest_content view)
 
 -- The live newest documents become the last level, and the journal is empty. Where there are 16 levels already, the two
 -- oldest are joined first, which ends the job. With an empty journal nothing is done.
@@ -161,7 +161,7 @@ flushed placing held =
     cond (length view.entries == 0) held
     (cond (length view.levels == 16 && nat_le 1 (length (newest_content view).documents))
     (switched placing held (with_oldest (oldest_joined held.job view) view) None)
-    (switched placing held (map Stays view.levels ++ coming (newest_content view)) held.job))
+    (switched placing held (map stays view.levels ++ coming (newest_content view)) held.job))
 
 -- There is nothing to merge: at most one level, no deleted end, and no entry.
 abbrev pub is_merged : View → Bool
@@ -216,14 +216,14 @@ fits entries entry = nat_le (length (flat_map record_of entries) + length (recor
 -- what a line asks of the store, where it is not refused
 pub data Task : Type 0 where
   -- the entry of an add or of a delete
-  Enter : Entry → Task
-  Flush : Task
-  Merge : Task
-  Step : ℕ → Task
+  enters : Entry → Task
+  flushes : Task
+  merges : Task
+  steps : ℕ → Task
 
 -- What a task makes of what the store holds. An entry that does not fit in the journal finds it flushed.
 abbrev pub worked : Placing → Holding → Task → Holding
-worked placing held (Enter entry) = cond (fits held.view.entries entry) (entered held entry) (entered (flushed placing held) entry)
-worked placing held Flush = flushed placing held
-worked placing held Merge = merged placing held
-worked placing held (Step n) = stepped placing held n
+worked placing held (enters entry) = cond (fits held.view.entries entry) (entered held entry) (entered (flushed placing held) entry)
+worked placing held flushes = flushed placing held
+worked placing held merges = merged placing held
+worked placing held (steps n) = stepped placing held n
