@@ -1,6 +1,7 @@
 pub mod Additions
 pub mod Agreements
 pub mod Commits
+pub mod ContentLaws
 pub mod DocumentLaws
 pub mod EntryLaws
 pub mod Formatted

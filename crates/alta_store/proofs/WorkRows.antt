@@ -160,7 +160,7 @@ module _ (placing : Placing) where
   before_flush = held_with (level_at 100 one ∷ level_at 200 two ∷ []) [] None (Delete 2 ∷ []) None
 
   flush_of_deletes : flushed placing before_flush
-      ≡ held_with (level_at 100 one ∷ level_at 200 two ∷ []) (4 ∷ []) (Some (placing.ends (extent_at 100 ∷ extent_at 200 ∷ extent_at 100 ∷ extent_at 200 ∷ []) (4 ∷ []))) [] None
+      ≡ held_with (level_at 100 one ∷ level_at 200 two ∷ []) (4 ∷ []) (Some (placing.ends (extent_at 100 ∷ extent_at 200 ∷ []) (4 ∷ []))) [] None
   flush_of_deletes = refl
 
   flush_keeps_the_state : state_in (flushed placing before_flush) ≡ state_in before_flush

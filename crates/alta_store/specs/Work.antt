@@ -112,31 +112,35 @@ listed (Some extent) = extent ∷ []
 abbrev pub taken_by : Holding → List Extent
 taken_by held = extents_in held.view.levels ++ listed held.list
 
+-- the extents that are taken once these levels are placed
+abbrev pub taken_behind : Placing → List Extent → List Coming → List Extent
+taken_behind placing taken [] = taken
+taken_behind placing taken (stays level ∷ more) = taken_behind placing taken more
+taken_behind placing taken (anew content ∷ more) = taken_behind placing (taken ++ placing.segment taken content ∷ []) more
+
 -- a deletion list that stays the same keeps its extent; else it is written anew, behind the levels; an empty one has none
-abbrev pub placed_list : Placing → Holding → List Level → List ℕ → Option Extent
+abbrev pub placed_list : Placing → Holding → List Coming → List ℕ → Option Extent
 placed_list placing held levels deleted =
     cond (bytes_eq deleted held.view.deleted) held.list
-    (cond (length deleted == 0) None (Some (placing.ends (taken_by held ++ extents_in levels) deleted)))
+    (cond (length deleted == 0) None (Some (placing.ends (taken_behind placing (taken_by held) levels) deleted)))
 
 -- The root to come has these levels. The journal is empty, the next number and the next location are those behind all newest
 -- documents, and deleted are the gone ends whose row stays in a level.
-abbrev pub switched_to : Placing → Holding → List Level → Option Job → Holding
-switched_to placing held levels job =
-    let deleted = gone_among held.view (rows_in levels) in
+abbrev pub switched : Placing → Holding → List Coming → Option Job → Holding
+switched placing held levels job =
+    let now = placed_levels placing (taken_by held) levels in
+    let deleted = gone_among held.view (rows_in now) in
     record {
       view = record {
         next = held.view.next + length (newest held.view);
         location = held.view.location + sum_by (λ (a : Added). a.row.cells) (newest held.view);
-        levels = levels;
+        levels = now;
         deleted = deleted;
         entries = [];
       };
       list = placed_list placing held levels deleted;
       job = job;
     }
-
-abbrev pub switched : Placing → Holding → List Coming → Option Job → Holding
-switched placing held levels job = switched_to placing held (placed_levels placing (taken_by held) levels) job
 
 -- ---- flush, merge and step
 
@@ -180,28 +184,22 @@ begun view (older ∷ newer ∷ more) = Some (record { older = older.content; ne
 begun view others = None
 
 -- the job that goes on, or one that begins
-abbrev pub job_of : Holding → Option Job
-job_of held = or_begun held.job
-  where
-    or_begun : Option Job → Option Job
-    or_begun (Some job) = Some job
-    or_begun None = begun held.view held.view.levels
+abbrev pub job_of : Option Job → View → Option Job
+job_of (Some job) view = Some job
+job_of None view = begun view view.levels
 
 -- The job is moved on by n terms. Where no term is left, its content takes the place of the two oldest levels, and the newest
--- documents are flushed.
-abbrev pub moved : Placing → Holding → ℕ → Job → Holding
-moved placing held n job =
+-- documents are flushed. Without a job nothing is done.
+abbrev pub moved : Placing → Holding → ℕ → Option Job → Holding
+moved placing held n None = held
+moved placing held n (Some job) =
     cond (nat_le (length (terms_in (job.older ∷ job.newer ∷ []))) (job.merged + n))
     (switched placing held (with_oldest (whole_of job) held.view) None)
     (record { view = held.view; list = held.list; job = Some (record { older = job.older; newer = job.newer; dead = job.dead; merged = job.merged + n }) })
 
--- a step: without two levels nothing is done
+-- a step of n terms, which begins a job where none goes on and there are two levels
 abbrev pub stepped : Placing → Holding → ℕ → Holding
-stepped placing held n = by_job (job_of held)
-  where
-    by_job : Option Job → Holding
-    by_job None = held
-    by_job (Some job) = moved placing held n job
+stepped placing held n = moved placing held n (job_of held.job held.view)
 
 -- ---- by command
 
