@@ -1,5 +1,5 @@
 -- The content of documents is the one that the memory level has of them.
-use Rattle.std.proofs.Common.{◌≡◌, ◌⊎◌, ⊎_elim, ℕ, ◌+◌, ◌<◌, Bool, true, false, cond, List, [], ◌∷◌, ◌++◌, length, map, refl, sym, ◌∙◌, ap, ap₂, subst, arith, length-append}
+use Rattle.std.proofs.Common.{◌≡◌, ℕ, ◌+◌, ◌<◌, Bool, true, false, cond, List, [], ◌∷◌, ◌++◌, length, map, refl, sym, ◌∙◌, ap, subst, arith, length-append}
 use Rattle.std.specs.Prelude.{◌||◌}
 use Rattle.std.specs.Cmp.Lexicographic.{slice_cmp}
 use Rattle.std.specs.List.{All, AllByRecursion, flat_map, list_any}
@@ -10,7 +10,7 @@ use Rattle.std.specs.declared.cmp.Ordering.{Ordering}
 use Rattle.std.specs.declared.cmp.Ordering.TheVariants.{Less, Equal, Greater}
 use Rattle.std.proofs.lemmas.Bool.{false≢true}
 use Rattle.std.proofs.lemmas.Cmp.{nat_list_cmp_total}
-use Rattle.std.proofs.lemmas.List.Elements.{All-nil, All-cons, All-head, All-tail}
+use Rattle.std.proofs.lemmas.List.Elements.{All-nil, All-cons}
 use Rattle.std.proofs.lemmas.List.Folds.{list_any-append}
 use Rattle.std.proofs.lemmas.Map.Lookups.{exact_bytes}
 use Rattle.alta_level.specs.Contents.{locations_of, terms_of}
@@ -136,9 +136,11 @@ some_list [] term has = absurd (false≢true has)
 some_list (a ∷ more) term has =
     by_test (among term (terms_in_cells a.cells))
     (λ here. omega (arith, some_places a.row.first term a.cells here, length-append (places_of a.row.first term a.cells) (list_of more term)))
-    (λ other. omega (arith,
-    some_list more term (ap (λ (b : Bool). b || among term (terms_added more)) (sym other) ∙ sym (list_any-append (λ held. bytes_eq held term) (terms_in_cells a.cells) (terms_added more)) ∙ has),
-    length-append (places_of a.row.first term a.cells) (list_of more term)))
+    (λ other. omega (
+      arith,
+      some_list more term (ap (λ (b : Bool). b || among term (terms_added more)) (sym other) ∙ sym (list_any-append (λ held. bytes_eq held term) (terms_in_cells a.cells) (terms_added more)) ∙ has),
+      length-append (places_of a.row.first term a.cells) (list_of more term),
+    ))
 
 module _ (f : Term → List ℕ) where
   abbrev listed : List Term → List TermList
@@ -181,8 +183,8 @@ content_has added space =
       documents = refl;
       lists = λ term. listed_at (list_of added) (in_order terms) term ∙ ap (λ (b : Bool). cond b (list_of added term) []) (among_in_order term terms)
           ∙ by_test (among term terms)
-              (λ has. ap (λ (b : Bool). cond b (list_of added term) []) has)
-              (λ none. ap (λ (b : Bool). cond b (list_of added term) []) none ∙ sym (no_list added term none));
+          (λ has. ap (λ (b : Bool). cond b (list_of added term) []) has)
+          (λ none. ap (λ (b : Bool). cond b (list_of added term) []) none ∙ sym (no_list added term none));
       some = listed_some (list_of added) (in_order terms) (all_in_order (λ (t : Term). 0 < length (list_of added t)) terms (all_among (λ (t : Term). 0 < length (list_of added t)) terms (some_list added)));
       sorted = subst (IsStrictlySortedBy (slice_cmp nat_cmp)) (sym (listed_terms (list_of added) (in_order terms))) (in_order-sorted terms);
     }

@@ -1,9 +1,9 @@
 -- Each content of a disk stands for a state, has no index, or breaks a rule at a place.
-use Rattle.std.proofs.Common.{◌≡◌, ◌≢◌, ◌⊎◌, ⊎_elim, inl, inr, ℕ, ◌+◌, ◌-◌, ◌*◌, ◌<◌, ◌≤◌, Bool, true, false, List, [], ◌∷◌, ◌++◌, length, get_or, refl, sym, ◌∙◌, ap, subst, arith}
-use Rattle.std.proofs.lemmas.Bool.{cases_Bool, cases_lt, cases_eq, false≢true}
+use Rattle.std.proofs.Common.{◌≡◌, ◌≢◌, ◌⊎◌, ⊎_elim, inl, inr, ℕ, ◌+◌, ◌-◌, ◌*◌, ◌<◌, ◌≤◌, Bool, true, false, List, [], ◌∷◌, length, get_or, refl, sym, ap, subst, arith}
+use Rattle.std.proofs.lemmas.Bool.{cases_lt, cases_eq, false≢true}
 use Rattle.std.proofs.lemmas.List.Elements.{All-nil, All-cons, All-head, All-tail}
 use Rattle.alta_disk.specs.Parts.{part}
-use Rattle.alta_journal.specs.Journal.{EndsAt, IsBroken}
+use Rattle.alta_journal.specs.Journal.{EndsAt}
 use Rattle.alta_journal.specs.Placed.{placed}
 use Rattle.alta_journal.specs.declared.entry.Entry.{Entry}
 use Rattle.alta_journal.specs.declared.entry.Entry.TheVariants.{Add, Delete}
@@ -13,8 +13,8 @@ use Rattle.alta_journal.specs.declared.places.TheConstants.{START_A, HEAD_BYTES}
 use Rattle.alta_journal.proofs.Total.{read_or_broken}
 use Rattle.alta_meta.specs.declared.document.State.{State}
 use Rattle.alta_store.specs.Brokenness.{HasNoIndex, HasRoot, HasBadRoot, HasBadJournal, IsBrokenAt}
-use Rattle.alta_store.specs.Entries.{Allows, AllowsAll, after_entry, after_entries, entries_in, IsRefusedAt}
-use Rattle.alta_store.specs.Meaning.{View, IsView, StandsFor, start_at, state_of}
+use Rattle.alta_store.specs.Entries.{Allows, AllowsAll, after_entry, entries_in, IsRefusedAt}
+use Rattle.alta_store.specs.Meaning.{View, StandsFor, start_at, state_of}
 use Rattle.alta_store.specs.Roots.{byte_at, first_fields, number_at, AreZero, IsRoot}
 use Rattle.alta_store.specs.States.{has_name, has_number}
 use Rattle.alta_store.proofs.OneWay.{entries_in-placed}

@@ -12,7 +12,7 @@ use Rattle.alta_meta.specs.declared.document.State.{State}
 use Rattle.unicode_segmentation.specs.Segments.{segments, cut}
 use Rattle.alta_store.specs.Joining.{joined}
 use Rattle.alta_store.specs.Levels.{Level, locations_from}
-use Rattle.alta_store.specs.Meaning.{View, state_of}
+use Rattle.alta_store.specs.Meaning.{state_of}
 use Rattle.alta_store.specs.Work.{Holding, Job, Placing, enters, fits, flushed, entered, merged, stepped, worked}
 
 -- ---- documents of two cells, the second of which is the end, and each a content of its own

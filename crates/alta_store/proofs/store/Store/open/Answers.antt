@@ -1,6 +1,6 @@
 use Rattle.std.proofs.Common.{List, ℕ, ◌≡◌, inr, subst, sym, ◌∙◌}
 use Rattle.std.proofs.lemmas.Result.{IfOk-at_ok}
-use Rattle.alta_disk.specs.Disk.{Only, Stands}
+use Rattle.alta_disk.specs.Disk.{Stands}
 use Rattle.alta_disk.proofs.Moments.{only_same}
 use Rattle.alta_journal.specs.declared.half.Half.TheVariants.{A}
 use Rattle.alta_meta.specs.declared.document.State.{State}
