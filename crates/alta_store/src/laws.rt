@@ -15,8 +15,8 @@ pub fn a_disk_is_read_one_way()
     ensures place { (image : List ℕ) → (p q : ℕ) → IsBrokenAt image p → IsBrokenAt image q → p ≡ q }
 {}
 
-/// Each content of a disk stands for a state, or has no index, or has one that breaks a rule at a place. No two of the three
-/// hold at once.
+/// Each content of a disk stands for a state, or has no index, or has one that breaks a rule at a place. By
+/// [`a_disk_is_read_one_way`] no two of the three hold at once.
 pub fn a_disk_is_read_or_damaged()
     ensures { (image : List ℕ) → ((s : State) × StandsFor s image) ⊎ (HasNoIndex image ⊎ ((place : ℕ) × IsBrokenAt image place)) }
 {}
