@@ -3,8 +3,11 @@
 
 mod content;
 mod lists;
+mod ranges;
+mod stored;
 #[cfg(test)]
 mod tests;
 
 pub use content::{Content, DocRow, TermList};
 pub use lists::{DocRows, Locations, TermLists};
+pub use stored::StoredList;
