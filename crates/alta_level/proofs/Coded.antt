@@ -95,7 +95,7 @@ blocks_rise list r =
 
 -- ---- a summary that belongs to a stream is that of the list
 
-short_summary : (list : List ℕ) → length list ≤ 64 → summary_bytes list ≡ []
+pub short_summary : (list : List ℕ) → length list ≤ 64 → summary_bytes list ≡ []
 unfolding summary_bytes
 short_summary list l = grind (arith, nat_tests)
 

@@ -2,3 +2,4 @@ pub mod Fields
 pub mod Tables
 pub mod Coded
 pub mod Apart
+pub mod Streams

@@ -7,6 +7,7 @@ mod ranges;
 mod stored;
 #[cfg(test)]
 mod tests;
+mod writing;
 
 pub use content::{Content, DocRow, TermList};
 pub use lists::{DocRows, Locations, TermLists};
