@@ -3,7 +3,7 @@ use Rattle.std.proofs.Common.{◌≡◌, ⊎_elim, ℕ, ◌+◌, ◌-◌, ◌<�
 use Rattle.std.proofs.lemmas.Bool.{cases_lt}
 use Rattle.std.proofs.lemmas.List.{get_or-map}
 use Rattle.alta_codec.specs.declared.location.TheConstants.{TOP}
-use Rattle.alta_level.specs.declared.content.DocRow.{DocRow}
+use Rattle.alta_table.specs.declared.document.DocRow.{DocRow}
 use Rattle.alta_level.specs.Contents.{end_of}
 use Rattle.alta_level.specs.Stored.{AreApart, IsInRange, ends_of, firsts_of}
 

@@ -6,7 +6,7 @@ use Rattle.alta_postings.specs.Deltas.{Spells, fault_at, first_fault, locations_
 use Rattle.alta_summary.specs.Table.{IsFault}
 use Rattle.alta_words.specs.Fault.{IsFirstDifferent}
 use Rattle.alta_words.specs.Word.{IsPosting}
-use Rattle.alta_level.specs.declared.content.DocRow.{DocRow}
+use Rattle.alta_table.specs.declared.document.DocRow.{DocRow}
 use Rattle.alta_level.specs.declared.stored.StoredList.{StoredList}
 use Rattle.alta_level.specs.Contents.{end_of}
 use Rattle.alta_level.specs.Coded.{IsCoded}

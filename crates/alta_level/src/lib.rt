@@ -9,6 +9,7 @@ mod stored;
 mod tests;
 mod writing;
 
-pub use content::{Content, DocRow, TermList};
+pub use alta_table::{DocRow, Head, LevelFault, Table, head};
+pub use content::{Content, TermList};
 pub use lists::{DocRows, Locations, TermLists};
 pub use stored::StoredList;

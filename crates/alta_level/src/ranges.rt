@@ -3,8 +3,8 @@ ghost use Rattle.std.specs.Prelude.{◌≡◌, ◌↔◌, ℕ, ◌+◌, ◌<◌,
 ghost use Rattle.alta_codec.specs.Rising.{IsRising};
 ghost use Rattle.alta_level.specs.Stored.{AreApart, AreInRanges, Fits, IsInRange, end_term, ends_of, firsts_of};
 
-use crate::content::DocRow;
 use alta_codec::Loc;
+use alta_table::DocRow;
 
 // The location of the last cell of a document.
 fn end_at(documents: &[DocRow], row: usize) -> Loc
