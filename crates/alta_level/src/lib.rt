@@ -1,6 +1,7 @@
 //! The content of a level: its document rows, and for each term the rising list of the locations that hold it.
 #![tactic(auto)]
 
+mod building;
 mod checking;
 mod content;
 mod lists;
@@ -11,6 +12,7 @@ mod tests;
 mod writing;
 
 pub use alta_table::{DocRow, Head, LevelFault, Table, head};
+pub use building::build;
 pub use checking::read_list;
 pub use content::{Content, TermList};
 pub use lists::{DocRows, Locations, TermLists};
