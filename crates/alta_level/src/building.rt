@@ -26,17 +26,17 @@ fn term_before(lists: &[TermList], i: usize) -> &[u8]
 fn put_lists(
     alloc: Global,
     terms: &mut Vec<u8>,
-    data: &mut Vec<u8>,
+    streams: &mut Vec<u8>,
     lists: &[TermList],
 ) -> Result<(), AllocError>
     requires { All (λ l. IsRising l.locations) lists.now }
     ensures terms { OnOk result (terms.new.items ≡ terms.old.items ++ terms_bytes (rows_of lists.now)) }
-    ensures data { OnOk result (data.new.items ≡ data.old.items ++ flat_map list_bytes lists.now) }
+    ensures streams { OnOk result (streams.new.items ≡ streams.old.items ++ flat_map list_bytes lists.now) }
 {
     let mut places = Vec::new(alloc);
     for i in 0..lists.len() {
         let list = &lists[i];
-        let size = put_list(alloc, data, &mut places, list.locations.as_slice())?;
+        let size = put_list(alloc, streams, &mut places, list.locations.as_slice())?;
         let count = list.locations.len() as u64;
         let before = term_before(lists, i);
         let term = list.term.as_slice();
@@ -56,8 +56,8 @@ pub fn build(alloc: Global, content: &Content) -> Result<Vec<u8>, AllocError>
     let mut documents = Vec::new(alloc);
     put_documents(&mut documents, rows)?;
     let mut terms = Vec::new(alloc);
-    let mut data = Vec::new(alloc);
-    put_lists(alloc, &mut terms, &mut data, lists)?;
+    let mut streams = Vec::new(alloc);
+    put_lists(alloc, &mut terms, &mut streams, lists)?;
     let head = Head {
         documents: rows.len() as u64,
         terms: lists.len() as u64,
@@ -68,6 +68,6 @@ pub fn build(alloc: Global, content: &Content) -> Result<Vec<u8>, AllocError>
     put_head(&mut bytes, &head)?;
     bytes.extend_from_slice(&documents)?;
     bytes.extend_from_slice(&terms)?;
-    bytes.extend_from_slice(&data)?;
+    bytes.extend_from_slice(&streams)?;
     Ok(bytes)
 }

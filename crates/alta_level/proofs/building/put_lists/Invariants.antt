@@ -8,5 +8,5 @@ abbrev pub invariant-loop-i : goal.invariant-loop-i
 invariant-loop-i l =
     record {
       spelled : l.terms.items ≡ l.initial.terms.items ++ terms_bytes (rows_of (take l.i l.lists));
-      written : l.data.items ≡ l.initial.data.items ++ flat_map list_bytes (take l.i l.lists);
+      written : l.streams.items ≡ l.initial.streams.items ++ flat_map list_bytes (take l.i l.lists);
     }
