@@ -1,5 +1,5 @@
 -- Laws of entries one behind the other: how a loop reads and writes them, and that their bytes are the one spelling.
-use Rattle.std.proofs.Common.{◌≡◌, ℕ, zero, suc, ◌-◌, ◌+◌, ◌≤◌, ◌<◌, List, [], ◌∷◌, ◌++◌, length, get_or, map, drop, drop-cons, Result, Ok, Err, refl, sym, ap, subst, ◌∙◌, arith, append_assoc}
+use Rattle.std.proofs.Common.{◌≡◌, ℕ, zero, suc, ◌-◌, ◌+◌, ◌≤◌, ◌<◌, List, [], ◌∷◌, ◌++◌, length, get_or, drop, drop-cons, Result, Ok, Err, refl, sym, ap, subst, ◌∙◌, arith, append_assoc}
 use Rattle.std.proofs.Math.Dec.{eqb-suc-zero}
 use Rattle.std.proofs.lemmas.List.{append-nil, drop_all}
 use Rattle.alta_format.specs.declared.field.ReadFault.{ReadFault}
@@ -13,6 +13,9 @@ use Rattle.alta_format.specs.FormatLaws.{read_followed, followed_spells, spells_
 -- the entries that are still to come, behind those that were read
 abbrev pub from_here : {S A B : Type 0} → Repeats S A B → ℕ → ℕ → S → List A → List ℕ → Result (B × List ℕ) ℕ
 from_here table count i state seen rest = read (repeated table (count - i) state seen) rest
+
+pub from_start : {S A B : Type 0} (table : Repeats S A B) (count : ℕ) (state : S) (seen : List A) (bytes : List ℕ) → seen ≡ [] → from_here table count 0 state seen bytes ≡ read (repeated table count state []) bytes
+from_start table count state seen bytes none = let k : count - 0 ≡ count = omega arith in rw (k, none) refl
 
 one_more : {S A B : Type 0} (table : Repeats S A B) (count i : ℕ) (state : S) (seen : List A) (rest : List ℕ) → i < count
     → from_here table count i state seen rest ≡ (read (table.entry state) rest >>= λ x. from_here table count (i + 1) (table.step state x.0) (seen ++ x.0 ∷ []) x.1)
@@ -77,28 +80,43 @@ repeated_spells table one May each state seen (x ∷ xs) (may, more) =
     (append_assoc seen (x ∷ []) xs) (repeated_spells table one May each (table.step state x) (seen ++ x ∷ []) xs more) in
     spells_followed (table.entry state) (λ y. repeated table (length xs) (table.step state y) (seen ++ y ∷ [])) (one state x ++ mid) x mid (table.out (seen ++ x ∷ xs) (state_behind table (table.step state x) xs)) [] first second
 
--- ---- writing: D is what the code has of an entry
+-- ---- writing
 
-pub item_first : {D A : Type 0} (view : D → A) (ds : List D) (i : ℕ) (d : D) → i < length ds → d ≡ get_or ds i d → map view (drop i ds) ≡ view d ∷ map view (drop (i + 1) ds)
-item_first view ds i d lt is =
+item_first : {A : Type 0} (xs : List A) (i : ℕ) (x : A) → i < length xs → x ≡ get_or xs i x → drop i xs ≡ x ∷ drop (i + 1) xs
+item_first xs i x lt is =
     let next : suc i ≡ i + 1 = omega arith in
-    ap (map view) (drop-cons ds i d lt ∙ ap (λ y. y ∷ drop (suc i) ds) (sym is)) ∙ ap (λ (k : ℕ). view d ∷ map view (drop k ds)) next
+    drop-cons xs i x lt ∙ ap (λ y. y ∷ drop (suc i) xs) (sym is) ∙ ap (λ (k : ℕ). x ∷ drop k xs) next
 
-pub keeps_first : {D S A B : Type 0} (table : Repeats S A B) (May : S → A → Type 0) (view : D → A) (state : S) (i : ℕ) (ds : List D) (d : D) → i < length ds → d ≡ get_or ds i d
-    → AreEntries table May state (map view (drop i ds)) → May state (view d) × AreEntries table May (table.step state (view d)) (map view (drop (i + 1) ds))
+pub keeps_first : {S A B : Type 0} (table : Repeats S A B) (May : S → A → Type 0) (state : S) (i : ℕ) (xs : List A) (x : A) → i < length xs → x ≡ get_or xs i x
+    → AreEntries table May state (drop i xs) → May state x × AreEntries table May (table.step state x) (drop (i + 1) xs)
 unfolding AreEntries
-keeps_first table May view state i ds d lt is keeps = subst (AreEntries table May state) (item_first view ds i d lt is) keeps
+keeps_first table May state i xs x lt is keeps = subst (AreEntries table May state) (item_first xs i x lt is) keeps
 
-pub put_more : {D S A B : Type 0} (table : Repeats S A B) (one : S → A → List ℕ) (view : D → A) (state : S) (i : ℕ) (ds : List D) (d : D) (out new total : List ℕ) → i < length ds → d ≡ get_or ds i d
-    → new ≡ out ++ one state (view d) → out ++ entries_bytes table one state (map view (drop i ds)) ≡ total
-    → new ++ entries_bytes table one (table.step state (view d)) (map view (drop (i + 1) ds)) ≡ total
+pub put_more : {S A B : Type 0} (table : Repeats S A B) (one : S → A → List ℕ) (state : S) (i : ℕ) (xs : List A) (x : A) (out new total : List ℕ) → i < length xs → x ≡ get_or xs i x
+    → new ≡ out ++ one state x → out ++ entries_bytes table one state (drop i xs) ≡ total
+    → new ++ entries_bytes table one (table.step state x) (drop (i + 1) xs) ≡ total
 unfolding entries_bytes
-put_more {A = A} table one view state i ds d out new total lt is put so_far =
-    let behind : List ℕ = entries_bytes table one (table.step state (view d)) (map view (drop (i + 1) ds)) in
-    ap (λ (a : List ℕ). a ++ behind) put ∙ append_assoc out (one state (view d)) behind ∙ ap (λ (xs : List A). out ++ entries_bytes table one state xs) (sym (item_first view ds i d lt is)) ∙ so_far
+put_more {A = A} table one state i xs x out new total lt is put so_far =
+    let behind : List ℕ = entries_bytes table one (table.step state x) (drop (i + 1) xs) in
+    ap (λ (a : List ℕ). a ++ behind) put ∙ append_assoc out (one state x) behind ∙ ap (λ (l : List A). out ++ entries_bytes table one state l) (sym (item_first xs i x lt is)) ∙ so_far
 
-pub put_all : {D S A B : Type 0} (table : Repeats S A B) (one : S → A → List ℕ) (view : D → A) (state : S) (i : ℕ) (ds : List D) (out total : List ℕ) → length ds ≤ i
-    → out ++ entries_bytes table one state (map view (drop i ds)) ≡ total → out ≡ total
+pub put_all : {S A B : Type 0} (table : Repeats S A B) (one : S → A → List ℕ) (state : S) (i : ℕ) (xs : List A) (out total : List ℕ) → length xs ≤ i
+    → out ++ entries_bytes table one state (drop i xs) ≡ total → out ≡ total
 unfolding entries_bytes
-put_all {D = D} table one view state i ds out total le so_far =
-    sym (append-nil out) ∙ ap (λ (a : List D). out ++ entries_bytes table one state (map view a)) (sym (drop_all i ds le)) ∙ so_far
+put_all {A = A} table one state i xs out total le so_far =
+    sym (append-nil out) ∙ ap (λ (l : List A). out ++ entries_bytes table one state l) (sym (drop_all i xs le)) ∙ so_far
+
+-- ---- one entry more at the end
+
+pub entries_bytes-push : {S A B : Type 0} (table : Repeats S A B) (one : S → A → List ℕ) (state : S) (xs : List A) (x : A)
+    → entries_bytes table one state (xs ++ x ∷ []) ≡ entries_bytes table one state xs ++ one (state_behind table state xs) x
+unfolding entries_bytes state_behind
+entries_bytes-push table one state [] x = append-nil (one state x)
+entries_bytes-push table one state (y ∷ xs) x =
+    ap (λ (l : List ℕ). one state y ++ l) (entries_bytes-push table one (table.step state y) xs x)
+    ∙ sym (append_assoc (one state y) (entries_bytes table one (table.step state y) xs) (one (state_behind table (table.step state y) xs) x))
+
+pub state_behind-push : {S A B : Type 0} (table : Repeats S A B) (state : S) (xs : List A) (x : A) → state_behind table state (xs ++ x ∷ []) ≡ table.step (state_behind table state xs) x
+unfolding state_behind
+state_behind-push table state [] x = refl
+state_behind-push table state (y ∷ xs) x = state_behind-push table (table.step state y) xs x

@@ -39,14 +39,23 @@ fn is_length(len: u8) -> bool
     0 < len && len <= 64
 }
 
+fn is_graphic_name(name: &[u8]) -> bool
+    ensures { result ≡ is_graphic_text name.now }
+{
+    name.iter().all(|b| 33 <= *b && *b <= 126)
+}
+
 // The text of graphic ASCII bytes, None where one is not.
 fn graphic_text(name: &[u8]) -> Option<&str>
     ensures { MatchOption result (is_graphic_text name.now ≡ false) (λ s. (s.now ≡ name.now) × IsTrue (is_graphic_text name.now)) }
 {
-    if !name.iter().all(|b| 33 <= *b && *b <= 126) {
+    if !is_graphic_name(name) {
         return None;
     }
-    str::from_utf8(name).ok()
+    match str::from_utf8(name) {
+        Ok(text) => Some(text),
+        Err(_fault) => None,
+    }
 }
 
 // The row at the front, behind a row with this number and this end.

@@ -20,6 +20,7 @@ fn has_room(before: u64, bytes: u64, total: u64) -> bool
 fn head_at(bytes: &[u8], total: u64) -> Result<(Head, &[u8]), ReadFault>
     ensures gives { Gives (λ x. (x.0, x.1.now)) result (read (head_format total) bytes.now) }
     ensures lean { NeverMemory result }
+    ensures fits { IfOk result (λ x. 32 + x.0.document_bytes + x.0.term_bytes ≤ total) }
 {
     let (documents, behind_documents) = wide_at(bytes)?;
     if documents == 0 {

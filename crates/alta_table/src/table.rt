@@ -77,6 +77,17 @@ fn opened(alloc: Global, bytes: &[u8], place: u64, total: u64) -> Result<Parts, 
     })
 }
 
+fn table_of(alloc: Global, bytes: &[u8], place: u64, total: u64) -> Result<Table, LevelFault>
+    requires below { place + total < 2 ^ 64 }
+    requires whole { (h : Head) → read_head bytes.now place total ≡ Ok h → length bytes.now ≡ 32 + h.document_bytes + h.term_bytes }
+    ensures { Answers (λ x. x) result (tables_of bytes.now place total) }
+{
+    match opened(alloc, bytes, place, total) {
+        Ok(parts) => Ok(Table { parts }),
+        Err(fault) => Err(fault),
+    }
+}
+
 impl Table {
     /// Reads head, documents and terms of a segment of `total` bytes that begins at a place of the disk. `bytes` holds
     /// exactly these, as [`head`] gives their lengths. `Damaged` has the place of the first field that breaks a rule:
@@ -98,8 +109,7 @@ impl Table {
         // The same in one fact.
         ensures exact { Answers (λ x. x) result (tables_of bytes.now place total) }
     {
-        let parts = opened(alloc, bytes, place, total)?;
-        Ok(Table { parts })
+        table_of(alloc, bytes, place, total)
     }
 
     /// The documents, in rising order of number and of location.
