@@ -6,3 +6,5 @@ pub mod Streams
 pub mod Joins
 pub mod Faults
 pub mod Entries
+pub mod Windows
+pub mod Progress

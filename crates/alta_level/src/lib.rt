@@ -6,6 +6,7 @@ mod checking;
 mod content;
 mod lists;
 mod ranges;
+mod reading;
 mod stored;
 #[cfg(test)]
 mod tests;
@@ -16,4 +17,5 @@ pub use building::build;
 pub use checking::read_list;
 pub use content::{Content, TermList};
 pub use lists::{DocRows, Locations, TermLists};
+pub use reading::read_content;
 pub use stored::StoredList;
