@@ -16,3 +16,8 @@ pub broken_of : {X Y : Type 0} (view : X → Y) (P : Y → Type 0) (Q : ℕ → 
 broken_of view P Q (Ok x) found first one apart p h = apart (view x) p found h
 broken_of view P Q (Err faults.Memory) found first one apart p h = tt
 broken_of view P Q (Err (faults.Damaged q)) found first one apart p h = one q p first h
+
+-- a fault of a part is one of the whole
+pub fault_goes : (X Y : Type 0) (e : LevelFault) (P Q : ℕ → Type 0) → ((p : ℕ) → P p → Q p) → IfDamaged {X = X} (Err e) P → IfDamaged {X = Y} (Err e) Q
+fault_goes X Y faults.Memory P Q goes h = tt
+fault_goes X Y (faults.Damaged p) P Q goes h = goes p h

@@ -8,3 +8,4 @@ pub mod Faults
 pub mod Entries
 pub mod Windows
 pub mod Progress
+pub mod Spelled

@@ -1,5 +1,8 @@
 -- Lists that are read one behind the other.
 use Rattle.std.proofs.Common.{◌≡◌, ⊎_elim, inl, inr, ℕ, zero, suc, ◌+◌, ◌-◌, ◌^◌, ◌<◌, ◌≤◌, List, [], ◌∷◌, ◌++◌, length, take, drop, refl, sym, subst, ap, ◌∙◌, arith, length-drop, append_assoc, append-nil}
+use Rattle.std.specs.Prelude.{Option, Some, None}
+use Rattle.std.specs.Vec.Iter.{into_iter_items, into_iter_len, into_iter_steps}
+use Rattle.std.specs.declared.vec.IntoIter.{IntoIter}
 use Rattle.std.proofs.lemmas.List.Sums.{sum_by-cons}
 use Rattle.alta_table.specs.declared.document.DocRow.{DocRow}
 use Rattle.alta_table.specs.declared.term.TermRow.{TermRow}
@@ -58,3 +61,15 @@ pub ends_read : (documents : List DocRow) (rows : List TermRow) (streams : List 
     → Progress documents rows streams start read [] rest at → AreListsOf documents rows streams start read
 unfolding AreListsOf
 ends_read documents rows streams start read rest at h = subst (λ (x : List TermList). AreListsOf documents rows streams start x) (append-nil read) (h.found [] refl)
+
+-- ---- the rows that a loop has left
+
+none_left : {X : Type 0} (xs : List X) → length xs ≡ 0 → xs ≡ []
+none_left [] z = refl
+none_left (x ∷ xs) z = absurd (omega arith)
+
+pub turn : {X Z : Type 0} (s t : IntoIter X Z) (r : Option X) (x : X) → r ≡ Some x → into_iter_steps s r t → (into_iter_items s ≡ x ∷ into_iter_items t) × (into_iter_len t + 1 ≡ into_iter_len s)
+turn s t r x e h = subst (λ o. into_iter_steps s o t) e h
+
+pub end_of_turns : {X Z : Type 0} (s t : IntoIter X Z) (r : Option X) → r ≡ None → into_iter_steps s r t → into_iter_len s ≡ length (into_iter_items s) → into_iter_items s ≡ []
+end_of_turns s t r e h l = let k = subst (λ o. into_iter_steps s o t) e h in none_left (into_iter_items s) (omega (arith, k.0, l))

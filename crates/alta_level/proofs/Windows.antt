@@ -63,10 +63,10 @@ pub one_head : (g h : Head) → done {A = Head} g ≡ done h → g ≡ h
 one_head g h e = cc
 
 -- a fault of the head
-pub head_damage : {X : Type 0} (bytes : List ℕ) (place total : ℕ) (e : LevelFault) → AreBytes bytes → AlwaysAnswers {X = Head} (λ h. h) (Err e) (read_head bytes place total)
+pub head_damage : (X : Type 0) (bytes : List ℕ) (place total : ℕ) (e : LevelFault) → AreBytes bytes → AlwaysAnswers {X = Head} (λ h. h) (Err e) (read_head bytes place total)
     → IfDamaged {X = X} (Err e) (IsDamage bytes place total)
-head_damage bytes place total faults.Memory are a = tt
-head_damage bytes place total (faults.Damaged p) are a = tables_first bytes place total p are (stops bytes place total p a)
+head_damage X bytes place total faults.Memory are a = tt
+head_damage X bytes place total (faults.Damaged p) are a = tables_first bytes place total p are (stops bytes place total p a)
 
 -- what is found in the front is so of the whole
 pub front_found : {X : Type 0} (view : X → Tables) (bytes front : List ℕ) (place total n : ℕ) (h : Head) (r : Result X LevelFault) → AreBytes bytes → HasParts bytes place total → front ≡ take n bytes

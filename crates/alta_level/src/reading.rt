@@ -105,13 +105,20 @@ fn lists_at(
     Ok(lists)
 }
 
-// The content, or the first damage.
-fn content_at(alloc: Global, bytes: &[u8], place: u64) -> Result<Content, LevelFault>
-    requires { place + length bytes.now < 2 ^ 64 }
+// The content of a segment whose tables were read: they are its first bytes, so many.
+fn content_of(
+    alloc: Global,
+    table: Table,
+    len: usize,
+    bytes: &[u8],
+    place: u64,
+) -> Result<Content, LevelFault>
+    requires below { place + length bytes.now < 2 ^ 64 }
+    requires tables { AreTables bytes.now place (length bytes.now) table }
+    requires len { len ≡ length (tables_bytes table.documents table.terms) }
     ensures found { IfOk result (IsSegment bytes.now) }
     ensures first { IfDamaged result (IsSegmentFault bytes.now place) }
 {
-    let (table, len) = tables_at(alloc, bytes, place)?;
     let (documents, rows) = table.into_rows();
     let (_tables, streams) = bytes.split_at(len);
     match lists_at(alloc, rows, streams, place + len as u64, &documents) {
@@ -119,6 +126,18 @@ fn content_at(alloc: Global, bytes: &[u8], place: u64) -> Result<Content, LevelF
             documents: DocRows::from_vec(documents),
             lists: TermLists::from_vec(lists),
         }),
+        Err(fault) => Err(fault),
+    }
+}
+
+// The content, or the first damage.
+fn content_at(alloc: Global, bytes: &[u8], place: u64) -> Result<Content, LevelFault>
+    requires { place + length bytes.now < 2 ^ 64 }
+    ensures found { IfOk result (IsSegment bytes.now) }
+    ensures first { IfDamaged result (IsSegmentFault bytes.now place) }
+{
+    match tables_at(alloc, bytes, place) {
+        Ok((table, len)) => content_of(alloc, table, len, bytes, place),
         Err(fault) => Err(fault),
     }
 }
