@@ -9,3 +9,4 @@ pub mod Entries
 pub mod Windows
 pub mod Progress
 pub mod Spelled
+pub mod Once
