@@ -7,3 +7,5 @@ pub mod PlaceLaws
 pub mod Grown
 pub mod TableParts
 pub mod TableLaws
+pub mod SearchLaws
+pub mod FrontLaws

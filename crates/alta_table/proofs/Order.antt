@@ -8,13 +8,13 @@ use Rattle.std.proofs.lemmas.Bool.{cases_lt, lt-ltb, le-ltb, ne_eqb, eq-eqb}
 use Rattle.alta_codec.specs.Order.{Precedes}
 use Rattle.alta_table.specs.Terms.{shared_len}
 
-cmp_less : (x b : ℕ) → x < b → nat_cmp x b ≡ Less
+pub cmp_less : (x b : ℕ) → x < b → nat_cmp x b ≡ Less
 cmp_less x b h = rw (lt-ltb x b h) refl
 
-cmp_equal : (x b : ℕ) → x ≡ b → nat_cmp x b ≡ Equal
+pub cmp_equal : (x b : ℕ) → x ≡ b → nat_cmp x b ≡ Equal
 cmp_equal x b e = rw (le-ltb x b (omega (arith, e)), eq-eqb x b e) refl
 
-cmp_greater : (x b : ℕ) → b < x → nat_cmp x b ≡ Greater
+pub cmp_greater : (x b : ℕ) → b < x → nat_cmp x b ≡ Greater
 cmp_greater x b h = rw (le-ltb x b (omega (arith, h)), ne_eqb x b (λ e. omega (arith, e, h))) refl
 
 shared_more : (x : ℕ) (a t : List ℕ) → shared_len (x ∷ a) (x ∷ t) ≡ suc (shared_len a t)

@@ -1,15 +1,17 @@
 -- Places of names and streams, as rows are read.
 use Rattle.std.proofs.Common.{◌≡◌, ⊎_elim, ℕ, zero, suc, ◌+◌, ◌-◌, ◌≤◌, ◌<◌, ◌^◌, List, [], ◌∷◌, ◌++◌, length, get_or, take, drop, map, Ok, refl, sym, ap, subst, ◌∙◌, arith, length-append}
-use Rattle.std.proofs.lemmas.List.Sums.{sum_by-cons, sum_by_push}
+use Rattle.std.proofs.lemmas.List.{get_or_default}
+use Rattle.std.proofs.lemmas.List.Sums.{sum_by-cons, sum_by_push, sum_by_more, sum_by-take-le}
 use Rattle.std.specs.List.{sum_by}
 use Rattle.alta_format.specs.Format.{AreBytes, read, entries_bytes, state_behind}
 use Rattle.alta_format.specs.FormatLaws.{AreBytes-rest, read_spells}
 use Rattle.alta_format.specs.EntryLaws.{entries_bytes-push, state_behind-push}
+use Rattle.alta_codec.specs.declared.extent.Extent.{Extent}
 use Rattle.alta_table.specs.declared.document.DocRow.{DocRow}
 use Rattle.alta_table.specs.declared.term.TermRow.{TermRow}
 use Rattle.alta_table.specs.Documents.{Before, start, behind_row, row_bytes, row_format, documents_table, documents_bytes}
 use Rattle.alta_table.specs.Terms.{data_of, data_bytes, last_term}
-use Rattle.alta_table.specs.Places.{name_places, stream_places, tables_in, AreParts}
+use Rattle.alta_table.specs.Places.{name_place, name_places, stream_place, stream_places, stream_extent, summary_extent, tables_in, AreParts}
 use Rattle.alta_table.specs.declared.sizes.Head.{Head}
 use Rattle.alta_table.specs.declared.parts.Parts.{Parts}
 use Rattle.alta_table.specs.Tables.{tables_bytes, read_head, tables_of}
@@ -161,3 +163,54 @@ parts_are p bytes place total fits below exact e names streams =
       terms_stand = a.keeps.terms_stand;
       below = omega (arith, a.keeps.filled, a.at, below);
     }
+
+-- ---- places by row
+
+pub names-len : (p : Parts) → AreParts p → length p.names.items ≡ length p.documents.items
+names-len p a = ap length a.names_are ∙ length-name_places (p.place + 32) start p.documents.items
+
+pub name_is : (p : Parts) (row at : ℕ) → AreParts p → row < length p.documents.items → at ≡ get_or p.names.items row at → at ≡ name_place (tables_in p) row
+name_is p row at a lt here =
+    let next : suc row ≡ row + 1 = omega arith in
+    here ∙ get_or_default p.names.items row at 0 (omega (arith, names-len p a, lt)) ∙ ap (λ (l : List ℕ). get_or l row 0) a.names_are ∙ name_places-at (p.place + 32) start p.documents.items row lt
+    ∙ ap (λ (k : ℕ). p.place + 32 + length (documents_bytes (take k p.documents.items)) - length (name_at p.documents.items row)) next
+
+pub streams-len : (p : Parts) → AreParts p → length p.streams.items ≡ length p.terms.items
+streams-len p a = ap length a.streams_are ∙ length-stream_places (p.place + length (tables_bytes p.documents.items p.terms.items)) p.terms.items
+
+stream_is : (p : Parts) (row at : ℕ) → AreParts p → row < length p.terms.items → at ≡ get_or p.streams.items row at → at ≡ stream_place (tables_in p) row
+stream_is p row at a lt here = here ∙ get_or_default p.streams.items row at 0 (omega (arith, streams-len p a, lt)) ∙ ap (λ (l : List ℕ). get_or l row 0) a.streams_are ∙ stream_places-at (p.place + length (tables_bytes p.documents.items p.terms.items)) p.terms.items row lt
+
+-- a row's stream and summary end where those of all rows do, on the disk
+pub data_within : (p : Parts) (row at : ℕ) (t : TermRow) → AreParts p → row < length p.terms.items → at ≡ get_or p.streams.items row at → t ≡ get_or p.terms.items row t
+    → at + t.stream + t.summary ≤ p.place + length (tables_bytes p.documents.items p.terms.items) + data_bytes p.terms.items
+data_within p row at t a lt here is =
+    let more = sum_by_more data_of p.terms.items row t lt in
+    let some = sum_by-take-le data_of p.terms.items (row + 1) in
+    omega (arith, stream_is p row at a lt here, more, some, ap data_of is)
+
+pub stream_ends : (p : Parts) (row at : ℕ) (t : TermRow) → AreParts p → row < length p.terms.items → at ≡ get_or p.streams.items row at → t ≡ get_or p.terms.items row t → at + t.stream < 2 ^ 64
+stream_ends p row at t a lt here is = omega (arith, data_within p row at t a lt here is, a.below)
+
+map_at : (f : TermRow → ℕ) (rows : List TermRow) (row : ℕ) (d : TermRow) → row < length rows → get_or (map f rows) row 0 ≡ f (get_or rows row d)
+map_at f [] row d lt = absurd (omega (arith, lt))
+map_at f (t ∷ rows) zero d lt = refl
+map_at f (t ∷ rows) (suc row) d lt = map_at f rows row d (omega (arith, lt))
+
+abbrev extent : ℕ → ℕ → Extent
+extent place bytes = record { place = place; bytes = bytes }
+
+pub stream_extent_is : (p : Parts) (row at : ℕ) (t : TermRow) → AreParts p → row < length p.terms.items → at ≡ get_or p.streams.items row at → t ≡ get_or p.terms.items row t
+    → extent at t.stream ≡ stream_extent (tables_in p) row
+stream_extent_is p row at t a lt here is =
+    ap (λ (k : ℕ). extent k t.stream) (stream_is p row at a lt here)
+    ∙ ap (λ (k : ℕ). extent (stream_place (tables_in p) row) k) (ap (λ (x : TermRow). x.stream) is ∙ sym (map_at (λ (x : TermRow). x.stream) p.terms.items row t lt))
+
+pub summary_extent_is : (p : Parts) (row at : ℕ) (t : TermRow) → AreParts p → row < length p.terms.items → at ≡ get_or p.streams.items row at → t ≡ get_or p.terms.items row t
+    → extent (at + t.stream) t.summary ≡ summary_extent (tables_in p) row
+summary_extent_is p row at t a lt here is =
+    let stream : t.stream ≡ get_or (map (λ (x : TermRow). x.stream) p.terms.items) row 0 = ap (λ (x : TermRow). x.stream) is ∙ sym (map_at (λ (x : TermRow). x.stream) p.terms.items row t lt) in
+    let summary : t.summary ≡ get_or (map (λ (x : TermRow). x.summary) p.terms.items) row 0 = ap (λ (x : TermRow). x.summary) is ∙ sym (map_at (λ (x : TermRow). x.summary) p.terms.items row t lt) in
+    ap (λ (k : ℕ). extent (k + t.stream) t.summary) (stream_is p row at a lt here)
+    ∙ ap (λ (k : ℕ). extent (stream_place (tables_in p) row + k) t.summary) stream
+    ∙ ap (λ (k : ℕ). extent (stream_place (tables_in p) row + get_or (map (λ (x : TermRow). x.stream) p.terms.items) row 0) k) summary

@@ -170,6 +170,11 @@ tables_hold bytes total rs ts behind k below spelled =
       has_end = k.has_end;
     }
 
+pub tables_head : (bytes : List ℕ) (total : ℕ) (rs : List DocRow) (ts : List TermRow) (behind : List ℕ) (k : KeepRules total rs ts) (below : total < 2 ^ 64) (spelled : bytes ≡ tables_bytes rs ts ++ behind)
+    → (tables_hold bytes total rs ts behind k below spelled).head ≡ head_of rs ts
+unfolding tables_hold
+tables_head bytes total rs ts behind k below spelled = refl
+
 -- ---- the laws
 
 pub tables_are : (bytes : List ℕ) (place total : ℕ) (t : Tables) → AreBytes bytes → HasParts bytes place total → tables_of bytes place total ≡ done t → AreTables bytes place total t

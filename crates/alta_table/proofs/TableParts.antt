@@ -26,7 +26,7 @@ err_bind : {A B : Type 0} (r : Result A ℕ) (f : A → Result B ℕ) (p : ℕ) 
 err_bind r f p e = ap (λ q. q >>= f) e
 
 -- the steps by name
-abbrev last_tests : ℕ → ℕ → List DocRow → List TermRow × ℕ → Result Tables ℕ
+abbrev pub last_tests : ℕ → ℕ → List DocRow → List TermRow × ℕ → Result Tables ℕ
 last_tests place total rs found = cond (ltb 0 found.1) (Err (place + (total - found.1))) (cond (list_any is_end found.0) (Ok (record { place = place; documents = rs; terms = found.0 })) (Err (place + 8)))
 
 abbrev terms_of : List ℕ → ℕ → ℕ → Head → Result (List TermRow × ℕ) ℕ
@@ -164,3 +164,12 @@ tables_broken bytes place total _ fits (behind_streams h rs ts left head documen
     to_terms bytes place total h rs (ts, left) fits head documents terms ∙ if_yes (ltb 0 left) (failed (place + (total - left))) (inner place rs ts) (lt-ltb 0 left more)
 tables_broken bytes place total _ fits (no_end h rs ts head documents terms missing) =
     to_terms bytes place total h rs (ts, 0) fits head documents terms ∙ if_no (list_any is_end ts) (done (made place rs ts)) (failed (place + 8)) missing
+
+-- what is read goes by the head and the two parts
+abbrev pub by_parts : ℕ → ℕ → Head → List ℕ → List ℕ → Result Tables ℕ
+by_parts place total h first second =
+    part (documents_format h.documents) first (place + 32) >>= λ rs.
+    part (terms_format h.terms (room total h)) second (place + 32 + h.document_bytes) >>= λ found. last_tests place total rs found
+
+pub to_parts : (bytes : List ℕ) (place total : ℕ) (h : Head) → read_head bytes place total ≡ done h → tables_of bytes place total ≡ by_parts place total h (document_part bytes h) (term_part bytes h)
+to_parts bytes place total h read = steps bytes place total ∙ ok_bind (part (head_format total) (head_part bytes total) place) (λ h. behind_head bytes place total h) h read

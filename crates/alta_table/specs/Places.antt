@@ -1,12 +1,12 @@
 -- Where names, streams and summaries stand on the disk.
-use Rattle.std.specs.Prelude.{◌≡◌, ◌<◌, ◌^◌, ℕ, zero, suc, ◌+◌, ◌-◌, List, [], ◌∷◌, length, take, map, slice_index_or}
+use Rattle.std.specs.Prelude.{◌≡◌, ◌<◌, ◌^◌, ℕ, zero, suc, ◌+◌, ◌-◌, List, [], ◌∷◌, length, take, map, slice_index, slice_index_or}
 use Rattle.std.specs.List.{sum_by}
 use Rattle.alta_codec.specs.declared.extent.Extent.{Extent}
 use Rattle.alta_table.specs.declared.document.DocRow.{DocRow}
 use Rattle.alta_table.specs.declared.parts.Parts.{Parts}
 use Rattle.alta_table.specs.declared.term.TermRow.{TermRow}
 use Rattle.alta_table.specs.Documents.{Before, start, behind_row, row_bytes, documents_bytes}
-use Rattle.alta_table.specs.Terms.{data_of, data_bytes, AreTerms}
+use Rattle.alta_table.specs.Terms.{streams_of, summaries_of, data_of, data_bytes, AreTerms}
 use Rattle.alta_table.specs.Tables.{Tables, tables_bytes}
 
 -- the place of a document's name: its row ends with it
@@ -18,12 +18,12 @@ name_place tables row =
 abbrev pub stream_place : Tables → ℕ → ℕ
 stream_place tables row = tables.place + length (tables_bytes tables.documents tables.terms) + sum_by data_of (take row tables.terms)
 
--- where a row's stream and summary stand
-abbrev pub stream_extent : Tables → TermRow → ℕ → Extent
-stream_extent tables term row = record { place = stream_place tables row; bytes = term.stream }
+-- where the stream and the summary of a row stand
+abbrev pub stream_extent : Tables → ℕ → Extent
+stream_extent tables row = record { place = stream_place tables row; bytes = slice_index (streams_of tables.terms) row }
 
-abbrev pub summary_extent : Tables → TermRow → ℕ → Extent
-summary_extent tables term row = record { place = stream_place tables row + term.stream; bytes = term.summary }
+abbrev pub summary_extent : Tables → ℕ → Extent
+summary_extent tables row = record { place = stream_place tables row + slice_index (streams_of tables.terms) row; bytes = slice_index (summaries_of tables.terms) row }
 
 -- ---- what is kept beside the rows
 

@@ -13,6 +13,12 @@ terms_of rows = map (λ row. row.term) rows
 abbrev pub counts_of : List TermRow → List ℕ
 counts_of rows = map (λ row. row.count) rows
 
+abbrev pub streams_of : List TermRow → List ℕ
+streams_of rows = map (λ row. row.stream) rows
+
+abbrev pub summaries_of : List TermRow → List ℕ
+summaries_of rows = map (λ row. row.summary) rows
+
 -- how many bytes the term's stream and summary have
 abbrev pub data_of : TermRow → ℕ
 data_of row = row.stream + row.summary

@@ -8,7 +8,6 @@ ghost use Rattle.alta_table.specs.Tables.{AreTables, IsDamage, Tables, read_head
 ghost use Rattle.alta_table.specs.Places.{name_place, name_places, stream_extent, stream_places, summary_extent, tables_in};
 ghost use Rattle.alta_table.specs.Search.{IsPrefixRange};
 ghost use Rattle.alta_table.specs.declared.sizes.Head.{Head};
-ghost use Rattle.alta_table.specs.declared.term.TermRow.{TermRow};
 
 use crate::document::DocRow;
 use crate::documents::read_documents;
@@ -168,7 +167,10 @@ impl Table {
     /// Where stream and summary of a row's term stand on the disk.
     pub fn stream_place(&self, row: usize) -> (Extent, Extent)
         requires { row < length self.now.terms }
-        ensures { (term : TermRow) → slice_get self.now.terms row ≡ Some term → (result.0 ≡ stream_extent self.now term row) × (result.1 ≡ summary_extent self.now term row) }
+        ensures stream { result.0 ≡ stream_extent self.now row }
+        ensures summary { result.1 ≡ summary_extent self.now row }
+        // They lie behind the tables, where the streams and summaries of all rows are.
+        ensures within { result.1.place + result.1.bytes ≤ self.now.place + length (tables_bytes self.now.documents self.now.terms) + data_bytes self.now.terms }
     {
         let place = self.parts.streams[row];
         let term = &self.parts.terms[row];
