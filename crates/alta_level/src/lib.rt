@@ -7,6 +7,8 @@ mod content;
 mod lists;
 mod ranges;
 mod reading;
+#[cfg(test)]
+mod segment_tests;
 mod stored;
 #[cfg(test)]
 mod tests;
