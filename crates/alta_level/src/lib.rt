@@ -13,11 +13,12 @@ mod segment_tests;
 mod stored;
 #[cfg(test)]
 mod tests;
+mod walking;
 mod writing;
 
 pub use alta_table::{DocRow, Head, LevelFault, Table, head};
 pub use building::build;
-pub use checking::read_list;
+pub use checking::{check_list, read_list};
 pub use content::{Content, TermList};
 pub use laws::segments_read_back;
 pub use lists::{DocRows, Locations, TermLists};
