@@ -1,8 +1,8 @@
 -- A stream that is read location by location.
-use Rattle.std.proofs.Common.{◌≡◌, ⊎_elim, ℕ, zero, suc, ◌+◌, ◌-◌, ◌<◌, ◌≤◌, List, [], ◌∷◌, length, drop, get_or, refl, sym, subst, ap, ◌∙◌, arith, length-drop}
-use Rattle.std.specs.Prelude.{Some, None, Result, Ok, Err}
+use Rattle.std.proofs.Common.{◌≡◌, ⊎_elim, ℕ, zero, suc, ◌+◌, ◌<◌, ◌≤◌, List, [], ◌∷◌, length, drop, get_or, refl, sym, subst, ap, ◌∙◌, arith, length-drop}
+use Rattle.std.specs.Prelude.{Some, None, Err}
 use Rattle.std.proofs.lemmas.Bool.{cases_lt}
-use Rattle.std.proofs.lemmas.List.{drop-drop, get_or-drop, get_or_past}
+use Rattle.std.proofs.lemmas.List.{drop-drop, get_or-drop}
 use Rattle.alta_codec.specs.declared.location.TheConstants.{TOP}
 use Rattle.alta_codec.specs.declared.number.CodeFault.{CodeFault}
 use Rattle.alta_codec.specs.Numbers.{number_from}
@@ -11,7 +11,7 @@ use Rattle.alta_codec.proofs.Numerals.{AreBytes, read_ok}
 use Rattle.alta_postings.specs.Deltas.{Spells, IsStep, fault_from, list_from, first_fault, locations_of, cause_of, fault_at}
 use Rattle.alta_postings.proofs.Reading.{spelling_reads, next_number, step_at, fault_code, list_end}
 use Rattle.alta_table.specs.declared.document.DocRow.{DocRow}
-use Rattle.alta_level.specs.Stored.{AreApart, AreInRanges, IsInRange, ends_of}
+use Rattle.alta_level.specs.Stored.{AreInRanges, IsInRange, ends_of}
 
 bytes_behind : (s : List ℕ) (at : ℕ) → AreBytes s → AreBytes (drop at s)
 bytes_behind s at are i l = omega (arith, get_or-drop at s i 0, are (at + i) (omega (arith, length-drop at s)))

@@ -1,4 +1,4 @@
-use Rattle.std.proofs.Common.{ℕ, List, Vec, Global, Err, ◌≡◌, ◌∙◌, ap, sym, subst}
+use Rattle.std.proofs.Common.{ℕ, List, Vec, Global, Err, ◌∙◌, ap, sym, subst}
 use Rattle.alta_postings.specs.Deltas.{locations_of}
 use Rattle.alta_table.specs.declared.fault.LevelFault.{LevelFault}
 use Rattle.alta_table.specs.Answers.{IfDamaged}

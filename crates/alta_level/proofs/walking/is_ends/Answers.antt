@@ -1,4 +1,4 @@
-use Rattle.std.proofs.Common.{◌≡◌, ◌∙◌, ℕ, sym, arith}
+use Rattle.std.proofs.Common.{◌∙◌, arith}
 use Rattle.std.proofs.lemmas.Bool.{eq-eqb, eqb-true}
 use Rattle.alta_postings.specs.Deltas.{locations_of}
 use Rattle.alta_level.proofs.Walks.{same_begins, same_goes, same_ends, all_rows}
@@ -14,6 +14,7 @@ locations-preserved c =
 
 pub returns : goal.returns
 returns c =
-    let s = c.args.stream.now in
-    (λ t. same_ends c.args.documents.now s (locations_of s) c.locations.at c.locations.last c.locations.row c.locations.invariant (omega arith) (eqb-true c.locations.row _ t),
-    λ e. eq-eqb c.locations.row _ (all_rows c.args.documents.now s (locations_of s) c.locations.at c.locations.last c.locations.row c.locations.invariant (omega arith) e))
+    let s = c.args.stream.now in (
+      λ t. same_ends c.args.documents.now s (locations_of s) c.locations.at c.locations.last c.locations.row c.locations.invariant (omega arith) (eqb-true c.locations.row _ t),
+      λ e. eq-eqb c.locations.row _ (all_rows c.args.documents.now s (locations_of s) c.locations.at c.locations.last c.locations.row c.locations.invariant (omega arith) e),
+    )
