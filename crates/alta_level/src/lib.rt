@@ -1,10 +1,30 @@
-//! The content of a level: its document rows, and for each term the rising list of the locations that hold it.
+//! The content of a level: its document rows, and for each term the rising list of the locations that hold it; and the
+//! segment that a content is on the disk.
+//!
+//! A segment begins with its tables, the head, the documents and the terms. Behind them stand, in the order of the terms,
+//! the stream and the summary of each term's list. A content has exactly one segment.
 #![tactic(auto)]
 
+mod building;
+mod checking;
 mod content;
+mod laws;
 mod lists;
+mod ranges;
+mod reading;
+#[cfg(test)]
+mod segment_tests;
+mod stored;
 #[cfg(test)]
 mod tests;
+mod walking;
+mod writing;
 
-pub use content::{Content, DocRow, TermList};
+pub use alta_table::{DocRow, Head, LevelFault, Table, head};
+pub use building::build;
+pub use checking::{check_list, read_list};
+pub use content::{Content, TermList};
+pub use laws::segments_read_back;
 pub use lists::{DocRows, Locations, TermLists};
+pub use reading::read_content;
+pub use stored::StoredList;
