@@ -3,7 +3,7 @@ use Rattle.std.specs.Prelude.{ℕ, zero, suc, ◌+◌, not, nat_eq, List, [], �
 use Rattle.std.specs.List.{filter, list_any}
 use Rattle.alta_codec.specs.declared.extent.Extent.{Extent}
 use Rattle.alta_level.specs.declared.content.Content.{Content}
-use Rattle.alta_level.specs.declared.content.DocRow.{DocRow}
+use Rattle.alta_table.specs.declared.document.DocRow.{DocRow}
 use Rattle.alta_level.specs.declared.content.TermList.{TermList}
 use Rattle.alta_memlevel.specs.Added.{ends_among}
 use Rattle.alta_meta.specs.declared.document.Document.{Document}
