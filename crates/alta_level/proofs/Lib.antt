@@ -10,4 +10,5 @@ pub mod Windows
 pub mod Progress
 pub mod Spelled
 pub mod Once
+pub mod Decided
 pub mod Walks

@@ -1,4 +1,6 @@
-use Rattle.std.proofs.Common.{length}
+use Rattle.std.proofs.Common.{length, refl, arith}
+use Rattle.alta_table.specs.Tables.{tables_of}
+use Rattle.alta_level.proofs.Decided.{segment_decided}
 use Rattle.alta_level.proofs.Once.{segment_once, segment_or_fault, segment_fault_once}
 use Rattle.alta_level.proofs.laws.segments_read_back.Goals as goal
 
@@ -25,3 +27,9 @@ returns-clause-first c = λ bytes place p q are small. segment_fault_once bytes 
       read = λ t a. c.tables_read_back.ensures.read bytes place (length bytes) t are small a;
       broken = λ r f. c.tables_read_back.ensures.broken bytes place (length bytes) r are f;
     }) p q
+
+pub returns-clause-either : goal.returns-clause-either
+returns-clause-either c = λ bytes place are small.
+    segment_decided bytes place (tables_of bytes place (length bytes)) (λ i l. are i) refl
+    (λ t e. c.tables_read_back.ensures.spelled bytes place (length bytes) t are (c.tables_in_front.ensures.parts bytes place (length bytes) are (omega arith)) e)
+    (λ p e. c.tables_read_back.ensures.first bytes place (length bytes) p are e)
