@@ -1,7 +1,7 @@
--- What a search in a sorted copy of the gone ends says.
-use Rattle.std.proofs.Common.{◌≡◌, ⊎_elim, ℕ, ◌<◌, ◌≤◌, false, nat_eq, List, length, get_or, refl, sym, ◌∙◌, arith}
+-- What a search in a sorted copy of the gone ends says, and what is left without them.
+use Rattle.std.proofs.Common.{◌≡◌, ⊎_elim, ℕ, ◌<◌, false, not, nat_eq, List, length, get_or, sym, ap, arith}
 use Rattle.std.specs.List.{list_any}
-use Rattle.std.specs.List.Sorted.{IsSorted, IsBinarySearchResult}
+use Rattle.std.specs.List.Sorted.{IsSorted, IsPermutation, IsBinarySearchResult}
 use Rattle.std.specs.Ordering.{nat_cmp}
 use Rattle.std.specs.Result.{is_ok}
 use Rattle.std.specs.declared.result.Result.{Result}
@@ -9,8 +9,12 @@ use Rattle.std.specs.declared.result.Result.TheVariants.{Ok, Err}
 use Rattle.std.proofs.lemmas.Bool.{eq-eqb, ne_eqb, cases_lt}
 use Rattle.std.proofs.lemmas.List.{get_or_default}
 use Rattle.std.proofs.lemmas.List.Folds.{list_any_at, list_any_none}
-use Rattle.std.proofs.lemmas.List.Sorted.{searched, IsNonDecreasingBy-from_sort}
+use Rattle.std.proofs.lemmas.List.Sorted.{searched, IsNonDecreasingBy-from_sort, list_any-IsPermutation}
+use Rattle.std.proofs.lemmas.List.Elements.{filter_agree}
+use Rattle.alta_codec.specs.Rising.{IsRising}
+use Rattle.alta_deletions.specs.Ends.{without_ends}
 use Rattle.alta_deletions.proofs.Places.{Found}
+use Rattle.alta_deletions.proofs.Rises.{filter-rises}
 
 at_any : (xs : List ℕ) (k x d : ℕ) → k < length xs → (get_or xs k 0 ≡ x → ⊥) → nat_eq (get_or xs k d) x ≡ false
 at_any xs k x d l h = rw (get_or_default xs k d 0 l) (ne_eqb (get_or xs k 0) x h)
@@ -28,3 +32,12 @@ found_any xs x (Err i) h =
 pub found-searched : (xs : List ℕ) (x : ℕ) (r : Result ℕ ℕ) → IsSorted nat_cmp xs → IsBinarySearchResult (λ y. nat_cmp y x) xs r → is_ok r ≡ list_any (λ y. nat_eq y x) xs
 found-searched xs x r s h =
     found_any xs x r (searched xs x r h (λ i j l m. IsNonDecreasingBy-from_sort (λ y. y) xs s i j 0 l m))
+
+-- the order of the gone ends does not matter
+pub without-permutation : (gone sorted ends : List ℕ) → IsPermutation gone sorted → without_ends sorted ends ≡ without_ends gone ends
+without-permutation gone sorted ends h =
+    filter_agree (λ x. not (list_any (λ y. nat_eq y x) sorted)) (λ x. not (list_any (λ y. nat_eq y x) gone))
+    (λ x. ap not (sym (list_any-IsPermutation (λ y. nat_eq y x) gone sorted h))) ends
+
+pub without-rises : (gone ends : List ℕ) → IsRising ends → IsRising (without_ends gone ends)
+without-rises gone ends r = filter-rises (λ x. not (list_any (λ y. nat_eq y x) gone)) ends r

@@ -1,5 +1,5 @@
 -- Where an end stands in a rising list, and the list with it.
-use Rattle.std.proofs.Common.{◌≡◌, ◌⊎◌, ⊎_elim, inl, inr, ℕ, zero, suc, ◌+◌, ◌<◌, ◌≤◌, ltb, true, false, cond, List, [], ◌∷◌, ◌++◌, length, get_or, refl, sym, subst, ap, ◌∙◌, arith, insert}
+use Rattle.std.proofs.Common.{◌≡◌, ◌⊎◌, ⊎_elim, inl, inr, ℕ, zero, suc, ◌<◌, ◌≤◌, true, List, [], ◌∷◌, length, get_or, refl, sym, subst, ap, ◌∙◌, arith, insert}
 use Rattle.std.specs.Prelude.{Contains, nat_lt, ◌↔◌, ◌-◌, Some, slice_get, IfOk, IfErr}
 use Rattle.std.specs.List.{filter}
 use Rattle.std.specs.List.Sorted.{IsBinarySearchResult}
@@ -85,8 +85,7 @@ with_end-rises e xs r h t = rising_from_above (with_end e xs) (with_end-above e 
 pub with_end-has : (e : ℕ) (xs : List ℕ) (z : ℕ) → Contains (with_end e xs) z ↔ (Contains xs z ⊎ (z ≡ e))
 with_end-has e xs z =
     let below = filter (λ x. nat_lt x e) xs in
-    let above = filter (λ x. nat_lt e x) xs in
-    (
+    let above = filter (λ x. nat_lt e x) xs in (
       λ m. ⊎_elim (λ n. inl (filter-has (λ x. nat_lt x e) xs z n).0)
           (λ n. ⊎_elim (λ s. inr (sym s)) (λ n. inl (filter-has (λ x. nat_lt e x) xs z n).0) (Contains-cases e above z n))
           (Contains-append_cases below (e ∷ above) z m),

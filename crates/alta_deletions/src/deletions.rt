@@ -87,8 +87,8 @@ impl Deletions {
     {
         let mut sorted = Vec::from_slice(self.alloc, gone)?;
         sorted.sort_unstable();
-        let mut ends = self.ends.clone()?;
-        ends.retain(|end| !is_among(&sorted, *end));
+        let mut ends = Vec::from_slice(self.alloc, &self.ends)?;
+        keep_others(&mut ends, &sorted);
         Ok(Deletions {
             ends,
             alloc: self.alloc,
@@ -103,6 +103,14 @@ impl Deletions {
         let coded = encode(self.alloc, &self.ends)?;
         Ok(coded.bytes)
     }
+}
+
+// Leaves the ends that are none of these, which are sorted.
+fn keep_others(ends: &mut Vec<Loc>, sorted: &[Loc])
+    requires { IsSorted nat_cmp sorted.now }
+    ensures { ends.new.items ≡ without_ends sorted.now ends.old.items }
+{
+    ends.retain(|end| !is_among(sorted, *end));
 }
 
 // Whether the location is one of these, which are sorted.

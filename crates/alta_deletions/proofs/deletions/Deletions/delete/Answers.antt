@@ -1,5 +1,5 @@
 use Rattle.std.proofs.Common.{ap, sym, subst, ◌∙◌, insert}
-use Rattle.std.specs.Prelude.{Contains, ◌⊎◌, ◌↔◌, ◌≡◌, List, ℕ}
+use Rattle.std.specs.Prelude.{Contains, ◌⊎◌, ◌↔◌, ◌≡◌}
 use Rattle.alta_codec.specs.Rising.{IsRising}
 use Rattle.alta_deletions.specs.Ends.{with_end}
 use Rattle.alta_deletions.proofs.Places.{with_end-rises, with_end-has}
