@@ -1,10 +1,11 @@
 #!/usr/bin/env python3
 """Measures the opening, the reading and the building of a segment beside plain C that does the same, in the same run.
 
-usage: bench/segments.py [--program PATH] [--terms N] [--documents N] [--rounds N] [--turns N]
+usage: bench/segments.py [--program PATH] [--terms N] [--documents N] [--rounds N] [--turns N] [--make PATH]
 
-Makes a segment of N terms (100,000) over some documents (2,000): a few locations a word, and long lists for one word of
-a thousand. PATH is the program of crates/alta_segments, which `rt run` builds there (crates/alta_segments/out/alta_segments
+Makes a segment of N terms (100,000) over some documents (2,000): a few locations a word, and a long list for one word of
+a thousand. With --make it only writes that segment: crates/alta_segments/data/segment is the one of 1,000 terms and 20
+documents. PATH is the program of crates/alta_segments, which `rt run` builds there (crates/alta_segments/out/alta_segments
 by default). The C program is compiled by `gcc -O2` in a temporary folder. It tests the same rules, field by field:
 
 open    reads head, documents and terms, and keeps the rows, with the names and the terms in one buffer each
@@ -163,9 +164,11 @@ static int64_t check_summary(const segment *s, const entry *e, const uint64_t *l
     return -1;
 }
 
-/* The first document at or behind a place of the rows that ends at or behind a location: a binary search. */
+/* The first document at or behind one of the rows that ends at or behind a location: by steps that double, then halve. */
 static inline uint64_t document_at(const segment *s, uint64_t from, uint64_t location) {
-    uint64_t end = s->documents;
+    uint64_t step = 1;
+    while (step <= s->documents - from && s->rows[from + step - 1].first + s->rows[from + step - 1].cells <= location) from += step, step *= 2;
+    uint64_t end = step <= s->documents - from ? from + step - 1 : s->documents;
     while (from < end) {
         uint64_t middle = from + (end - from) / 2;
         if (s->rows[middle].first + s->rows[middle].cells <= location) from = middle + 1;
@@ -292,15 +295,15 @@ static void drop(segment *s) {
 }
 
 int main(int count, char **words) {
-    long rounds = atol(words[2]);
-    FILE *file = fopen(words[3], "rb");
+    long rounds = atol(words[1]);
+    FILE *file = fopen(words[2], "rb");
     fseek(file, 0, SEEK_END);
     uint64_t total = ftell(file), sum = 0;
     rewind(file);
     uint8_t *bytes = malloc(total);
     if (fread(bytes, 1, total, file) != total) return 1;
-    int lists = words[1][0] != 'o';
-    if (words[1][0] == 'b') {
+    int lists = words[3][0] != 'o';
+    if (words[3][0] == 'b') {
         segment s = {.bytes = bytes, .total = total};
         if (open_tables(&s) >= 0 || read_lists(&s) >= 0) return 1;
         for (long round = 0; round < rounds; round++) sum += build(&s);
@@ -333,7 +336,7 @@ def made(documents, terms):
         word = bytes(chance.choices(letters, range(26, 0, -1), k=3 + int(chance.expovariate(1 / 4)))[:60])
         if b"W" + word in lists:
             continue
-        count = 5000 if chance.random() < 0.001 else 1 + int(chance.expovariate(1 / 2))
+        count = 5000 if len(lists) % 1000 == 500 else 1 + int(chance.expovariate(1 / 2))
         lists[b"W" + word] = sorted(chance.sample(range(1, 100 * documents + 1), min(count, 50 * documents)))
     return segments.segment(rows, sorted(lists.items()))
 
@@ -366,7 +369,12 @@ def main():
     parser.add_argument("--documents", type=int, default=2_000)
     parser.add_argument("--rounds", type=int, default=20)
     parser.add_argument("--turns", type=int, default=5)
+    parser.add_argument("--make", metavar="PATH")
     options = parser.parse_args()
+    if options.make:
+        with open(options.make, "wb") as file:
+            file.write(made(options.documents, options.terms))
+        return
     with tempfile.TemporaryDirectory() as folder:
         source, plain, path = (os.path.join(folder, name) for name in ("plain.c", "plain", "segment"))
         with open(source, "w") as file:
@@ -381,7 +389,7 @@ def main():
         rows = options.terms + options.documents
         for mode, length, want in [("open", tables, rows), ("read", len(content), rows), ("build", len(content), len(content))]:
             measured = lambda program: speed(
-                lambda rounds: [program, mode, rounds, path], length, options.rounds, options.turns, want
+                lambda rounds: [program, rounds, path, mode], length, options.rounds, options.turns, want
             )
             bare, own = measured(plain), measured(options.program)
             print(f"{mode:5}  {own:6.1f}  {own / bare:6.2f}  {bare:6.1f}", flush=True)
