@@ -1,12 +1,8 @@
 -- What a content says: the end of a document, the terms, and where each stands.
-use Rattle.std.specs.Prelude.{ℕ, ◌+◌, ◌-◌, cond, List, [], ◌∷◌, map}
+use Rattle.std.specs.Prelude.{ℕ, cond, List, [], ◌∷◌, map}
 use Rattle.std.specs.Str.{bytes_eq}
-use Rattle.alta_level.specs.declared.content.DocRow.{DocRow}
+pub use Rattle.alta_table.specs.Documents.{end_of}
 use Rattle.alta_level.specs.declared.content.TermList.{TermList}
-
--- the location of the document's last cell
-abbrev pub end_of : DocRow → ℕ
-end_of row = row.first + row.cells - 1
 
 -- the terms that stand in the lists, in order
 abbrev pub terms_of : List TermList → List (List ℕ)

@@ -1,1 +1,5 @@
 pub mod Contents
+pub mod Coded
+pub mod Stored
+pub mod Segments
+pub mod Damage

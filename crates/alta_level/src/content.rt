@@ -1,19 +1,6 @@
 // What a level has.
 use crate::lists::{DocRows, Locations, TermLists};
-use alta_codec::{Bytes, DocNumber, Loc, Text};
-
-/// A document of a level: where its cells stand, and how it is called.
-#[derive(Drop)]
-pub struct DocRow {
-    /// The document's number.
-    pub number: DocNumber,
-    /// The location of its first cell. Each further cell stands at the next location.
-    pub first: Loc,
-    /// How many cells it has.
-    pub cells: u64,
-    /// Its name.
-    pub name: Text,
-}
+use alta_codec::Bytes;
 
 /// A term, and where it stands.
 #[derive(Drop)]

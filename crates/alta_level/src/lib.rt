@@ -1,10 +1,21 @@
 //! The content of a level: its document rows, and for each term the rising list of the locations that hold it.
 #![tactic(auto)]
 
+mod building;
+mod checking;
 mod content;
 mod lists;
+mod ranges;
+mod reading;
+mod stored;
 #[cfg(test)]
 mod tests;
+mod writing;
 
-pub use content::{Content, DocRow, TermList};
+pub use alta_table::{DocRow, Head, LevelFault, Table, head};
+pub use building::build;
+pub use checking::read_list;
+pub use content::{Content, TermList};
 pub use lists::{DocRows, Locations, TermLists};
+pub use reading::read_content;
+pub use stored::StoredList;

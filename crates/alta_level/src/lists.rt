@@ -2,8 +2,9 @@
 ghost use Rattle.std.specs.Prelude.{◌≡◌, ◌∷◌, ◌++◌, [], length, slice_get, OnOk, OnErr};
 ghost use Rattle.std.specs.Option.{option_copied};
 
-use crate::content::{DocRow, TermList};
+use crate::content::TermList;
 use alta_codec::Loc;
+use alta_table::DocRow;
 use std::alloc::{AllocError, Global};
 use std::marker::Model;
 
@@ -15,7 +16,7 @@ pub struct DocRows {
 
 impl Model for DocRows {
     ghost use Rattle.std.specs.Prelude.{List};
-    ghost use Rattle.alta_level.specs.declared.content.DocRow.{DocRow};
+    ghost use Rattle.alta_table.specs.declared.document.DocRow.{DocRow};
 
     ghost Value = { List DocRow };
 

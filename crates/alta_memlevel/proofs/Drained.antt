@@ -12,7 +12,7 @@ use Rattle.std.proofs.lemmas.List.Elements.{All-nil, All-cons, All-head, All-tai
 use Rattle.std.proofs.lemmas.Map.Text.{is_eq-slice_cmp}
 use Rattle.alta_codec.specs.Rising.{IsRising}
 use Rattle.alta_level.specs.declared.content.Content.{Content}
-use Rattle.alta_level.specs.declared.content.DocRow.{DocRow}
+use Rattle.alta_table.specs.declared.document.DocRow.{DocRow}
 use Rattle.alta_level.specs.declared.content.TermList.{TermList}
 use Rattle.alta_level.specs.Contents.{end_of, locations_of, terms_of}
 use Rattle.alta_meta.specs.Cells.{cell_holds}

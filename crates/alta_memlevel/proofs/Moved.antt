@@ -15,7 +15,7 @@ use Rattle.std.proofs.lemmas.List.{get_or_default, map-append}
 use Rattle.std.proofs.lemmas.List.Elements.{filter_more}
 use Rattle.std.proofs.lemmas.List.Folds.{list_any_at, list_any_none}
 use Rattle.std.proofs.lemmas.List.Sorted.{searched, IsNonDecreasingBy-from_sort}
-use Rattle.alta_level.specs.declared.content.DocRow.{DocRow}
+use Rattle.alta_table.specs.declared.document.DocRow.{DocRow}
 use Rattle.alta_level.specs.declared.content.TermList.{TermList}
 use Rattle.alta_memlevel.specs.Added.{ends_among}
 use Rattle.alta_memlevel.specs.Lists.{Numbers, term_lists}

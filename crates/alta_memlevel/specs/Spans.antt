@@ -2,7 +2,7 @@
 use Rattle.std.specs.Prelude.{ℕ, ◌<◌, ◌≤◌, nat_le, nat_lt, Bool, ◌&&◌, not, List, [], ◌∷◌, length, map}
 use Rattle.std.specs.List.{All, filter, list_any}
 use Rattle.alta_codec.specs.declared.location.TheConstants.{TOP}
-use Rattle.alta_level.specs.declared.content.DocRow.{DocRow}
+use Rattle.alta_table.specs.declared.document.DocRow.{DocRow}
 use Rattle.alta_level.specs.declared.content.TermList.{TermList}
 use Rattle.alta_level.specs.Contents.{end_of}
 use Rattle.alta_memlevel.specs.declared.spans.Span.{Span}

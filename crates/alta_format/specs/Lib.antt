@@ -1,0 +1,4 @@
+pub mod Format
+pub mod Gives
+pub mod FormatLaws
+pub mod EntryLaws

@@ -1,0 +1,12 @@
+pub mod Fields
+pub mod Tables
+pub mod Coded
+pub mod Apart
+pub mod Streams
+pub mod Joins
+pub mod Faults
+pub mod Entries
+pub mod Windows
+pub mod Progress
+pub mod Spelled
+pub mod Once

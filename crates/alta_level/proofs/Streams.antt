@@ -1,0 +1,47 @@
+-- A stream that is appended to other bytes, and the rows of its blocks.
+use Rattle.std.proofs.Common.{◌≡◌, ℕ, ◌+◌, ◌-◌, ◌*◌, ◌/◌, ◌<◌, ◌≤◌, min, List, [], ◌∷◌, ◌++◌, map, length, take, get_or, sym, subst, ap, ◌∙◌, refl, arith, length-append, append_assoc, append-nil}
+use Rattle.std.specs.List.{range_with_len}
+use Rattle.std.proofs.lemmas.List.FromFn.{map-range_with_len_more}
+use Rattle.std.proofs.lemmas.List.{get_or-append-add}
+use Rattle.alta_codec.proofs.Numerals.{AreBytes}
+use Rattle.alta_codec.specs.Numbers.{number_bytes}
+use Rattle.alta_postings.specs.Deltas.{stream_bytes, HasPlaces}
+use Rattle.alta_postings.proofs.Encoding.{stream_more}
+use Rattle.alta_summary.specs.declared.summary.Row.{Row}
+use Rattle.alta_level.specs.Coded.{block_of, blocks_of}
+
+pub stream_none : (xs old : List ℕ) → old ≡ old ++ stream_bytes 0 (take 0 xs)
+unfolding stream_bytes
+stream_none xs old = sym (append-nil old)
+
+pub append_more : (k before : ℕ) (xs start old new : List ℕ) → k < length xs → old ≡ start ++ stream_bytes 0 (take k xs) → before ≡ get_or (0 ∷ xs) k 0
+    → new ≡ old ++ number_bytes (get_or xs k 0 - before) → new ≡ start ++ stream_bytes 0 (take (k + 1) xs)
+append_more k before xs start old new l o b n =
+    let s = stream_bytes 0 (take k xs) in
+    let e = number_bytes (get_or xs k 0 - before) in
+    n ∙ ap (λ t. t ++ e) o ∙ append_assoc start s e ∙ ap (λ t. start ++ t) (stream_more k before 0 xs s (s ++ e) l refl b refl)
+
+row_ext : (row : Row) (first last place : ℕ) → row.first ≡ first → row.last ≡ last → row.place ≡ place → row ≡ record { first = first; last = last; place = place }
+row_ext row first last place a b c =
+    let f : ℕ → Row = λ x. record { first = x; last = row.last; place = row.place } in
+    let g : ℕ → Row = λ x. record { first = first; last = x; place = row.place } in
+    let h : ℕ → Row = λ x. record { first = first; last = last; place = x } in
+    ap f a ∙ ap g b ∙ ap h c
+
+-- one row more
+pub row_more : (list places : List ℕ) (rows new : List Row) (row : Row) (i : ℕ) → HasPlaces list (length list) places → i < length places
+    → rows ≡ map (block_of list) (range_with_len 0 i) → new ≡ rows ++ (row ∷ []) → row.first ≡ get_or list (64 * i) 0 → row.last ≡ get_or list (min (64 * i + 63) (length list - 1)) 0
+    → row.place ≡ get_or places i 0 → new ≡ map (block_of list) (range_with_len 0 (i + 1))
+row_more list places rows new row i h l o n a b c =
+    let e : row ≡ block_of list i = row_ext row _ _ _ a b (c ∙ h.each i l) in
+    n ∙ ap (λ r. r ++ (row ∷ [])) o ∙ ap (λ r. map (block_of list) (range_with_len 0 i) ++ (r ∷ [])) e ∙ sym (map-range_with_len_more (block_of list) 0 i i (omega arith))
+
+pub rows_all : (list places : List ℕ) (rows : List Row) (i : ℕ) → HasPlaces list (length list) places → length places ≤ i → i ≤ length places
+    → rows ≡ map (block_of list) (range_with_len 0 i) → rows ≡ blocks_of list
+rows_all list places rows i h ge le o =
+    let e : i ≡ (length list + 63) / 64 = omega (arith, h.counted) in o ∙ ap (λ n. map (block_of list) (range_with_len 0 n)) e
+
+-- bytes behind other bytes are bytes
+pub behind_are_bytes : (old s new : List ℕ) → new ≡ old ++ s → AreBytes new → AreBytes s
+behind_are_bytes old s new e are i l =
+    omega (arith, get_or-append-add old s i 0, ap (λ t. get_or t (length old + i) 0) e, are (length old + i) (omega (arith, ap length e, length-append old s)))

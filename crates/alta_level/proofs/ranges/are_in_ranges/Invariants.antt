@@ -1,0 +1,11 @@
+use Rattle.std.proofs.Common.{ℕ, ◌<◌, ◌≤◌, length, get_or}
+use Rattle.alta_level.specs.Stored.{IsInRange, ends_of}
+use Rattle.alta_level.proofs.ranges.are_in_ranges.Given as goal
+
+abbrev pub invariant-loop-location : goal.invariant-loop-location
+invariant-loop-location l =
+    record {
+      within : l.row ≤ length l.documents;
+      passed : (i k : ℕ) → i < l.row → l.location-index ≤ k → k < length l.locations → get_or (ends_of l.documents) i 0 < get_or l.locations k 0;
+      held : (k : ℕ) → k < l.location-index → IsInRange l.documents (get_or l.locations k 0);
+    }

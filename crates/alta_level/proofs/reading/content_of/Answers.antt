@@ -1,0 +1,32 @@
+use Rattle.std.proofs.Common.{◌≡◌, ◌+◌, ℕ, List, Vec, Global, length, drop, refl, sym, subst, ap, ◌∙◌, arith}
+use Rattle.alta_table.specs.declared.document.DocRow.{DocRow}
+use Rattle.alta_table.specs.declared.term.TermRow.{TermRow}
+use Rattle.alta_table.specs.Tables.{Tables}
+use Rattle.alta_level.specs.declared.content.Content.{Content}
+use Rattle.alta_level.specs.declared.content.TermList.{TermList}
+use Rattle.alta_level.specs.Damage.{AreListsOf, IsFaultInLists, IsSegmentFault, data_in, data_place}
+use Rattle.alta_level.specs.Damage.IsSegmentFault.{in_lists}
+use Rattle.alta_level.proofs.Joins.{fault_goes}
+use Rattle.alta_level.proofs.Once.{moved}
+use Rattle.alta_level.proofs.Spelled.{segment_found}
+use Rattle.alta_level.proofs.reading.content_of.Goals as goal
+
+pub returns-in-Ok-clause-found : goal.returns-in-Ok-clause-found
+returns-in-Ok-clause-found c =
+    let t : Tables = c.args.table in
+    let bytes = c.args.bytes.now in
+    let documents = c.into_rows-documents.ensures.documents in
+    segment_found bytes c.args.place t (record { documents = c.from_vec.result; lists = c.from_vec-in-Ok.result }) c.requires.tables (c.from_vec.ensures ∙ documents)
+    (subst (λ (ls : List TermList). AreListsOf t.documents t.terms (data_in bytes t) (data_place t) ls) (sym c.from_vec-in-Ok.ensures)
+    (moved (λ d r s p. AreListsOf d r s p c.in-Ok.lists.items) c.deref.result.now t.documents _ t.terms c.split_at.result.1.now (data_in bytes t) _ (data_place t)
+    (c.deref.ensures.value ∙ documents) c.into_rows-documents.ensures.terms (c.split_at.ensures.back ∙ ap (λ (i : ℕ). drop i bytes) c.requires.len) (omega (arith, c.requires.len, c.requires.tables.at)) c.in-Ok.ensures.found))
+
+pub returns-in-Err-clause-first : goal.returns-in-Err-clause-first
+returns-in-Err-clause-first c =
+    let t : Tables = c.args.table in
+    let bytes = c.args.bytes.now in
+    fault_goes (Vec TermList Global) Content c.in-Err.fault _ (IsSegmentFault bytes c.args.place)
+    (λ p f. in_lists t p c.requires.tables
+    (moved (λ d r s q. IsFaultInLists d r s q p) c.deref.result.now t.documents _ t.terms c.split_at.result.1.now (data_in bytes t) _ (data_place t)
+    (c.deref.ensures.value ∙ c.into_rows-documents.ensures.documents) c.into_rows-documents.ensures.terms (c.split_at.ensures.back ∙ ap (λ (i : ℕ). drop i bytes) c.requires.len) (omega (arith, c.requires.len, c.requires.tables.at)) f))
+    c.in-Err.ensures.first

@@ -1,0 +1,73 @@
+// The segment of a content.
+ghost use Rattle.std.specs.Prelude.{◌≡◌, ℕ, ◌++◌, ◌∷◌, [], ◌<◌, ◌≤◌, length, slice_index_or, OnOk, IfOk, flat_map};
+ghost use Rattle.std.specs.List.{All};
+ghost use Rattle.alta_codec.specs.Rising.{IsRising};
+ghost use Rattle.alta_table.specs.Terms.{terms_bytes};
+ghost use Rattle.alta_level.specs.Contents.{terms_of};
+ghost use Rattle.alta_level.specs.Segments.{IsContent, list_bytes, rows_of, segment_bytes};
+
+use crate::content::{Content, TermList};
+use crate::writing::put_list;
+use alta_table::{Head, put_documents, put_head, put_term};
+use std::alloc::{AllocError, Global};
+
+// The term before one, the empty one before the first.
+fn term_before(lists: &[TermList], i: usize) -> &[u8]
+    requires { i < length lists.now }
+    ensures { result.now ≡ slice_index_or ([] ∷ terms_of lists.now) i [] }
+{
+    if i == 0 {
+        return &[];
+    }
+    lists[i - 1].term.as_slice()
+}
+
+// Appends the entries of terms to one buffer, and their streams and summaries to another.
+fn put_lists(
+    alloc: Global,
+    terms: &mut Vec<u8>,
+    streams: &mut Vec<u8>,
+    lists: &[TermList],
+) -> Result<(), AllocError>
+    requires { All (λ l. IsRising l.locations) lists.now }
+    ensures terms { OnOk result (terms.new.items ≡ terms.old.items ++ terms_bytes (rows_of lists.now)) }
+    ensures streams { OnOk result (streams.new.items ≡ streams.old.items ++ flat_map list_bytes lists.now) }
+{
+    let mut places = Vec::new(alloc);
+    for i in 0..lists.len() {
+        let list = &lists[i];
+        let size = put_list(alloc, streams, &mut places, list.locations.as_slice())?;
+        let count = list.locations.len() as u64;
+        let before = term_before(lists, i);
+        let term = list.term.as_slice();
+        put_term(terms, before, term, count, size.stream, size.summary)?;
+    }
+    Ok(())
+}
+
+/// The segment of a content: its head, its documents, its terms, then the stream and the summary of each term. It makes
+/// one pass over the lists.
+pub fn build(alloc: Global, content: &Content) -> Result<Vec<u8>, AllocError>
+    requires { IsContent content.now }
+    ensures { IfOk result (λ bytes. bytes.items ≡ segment_bytes content.now) }
+{
+    let rows = content.documents.as_slice();
+    let lists = content.lists.as_slice();
+    let mut documents = Vec::new(alloc);
+    put_documents(&mut documents, rows)?;
+    let mut terms = Vec::new(alloc);
+    let mut streams = Vec::new(alloc);
+    put_lists(alloc, &mut terms, &mut streams, lists)?;
+    let head = Head {
+        documents: rows.len() as u64,
+        terms: lists.len() as u64,
+        document_bytes: documents.len() as u64,
+        term_bytes: terms.len() as u64,
+    };
+    let mut bytes = Vec::new(alloc);
+    put_head(&mut bytes, &head)?;
+    bytes.extend_from_slice(&documents)?;
+    bytes.extend_from_slice(&terms)?;
+    bytes.extend_from_slice(&streams)?;
+    Ok(bytes)
+}

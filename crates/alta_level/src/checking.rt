@@ -1,0 +1,103 @@
+// One list of a level, tested and read.
+ghost use Rattle.std.specs.Prelude.{◌≡◌, ℕ, ◌+◌, ◌<◌, ◌^◌, List, length, IfOk, IfErr};
+ghost use Rattle.alta_postings.specs.Deltas.{locations_of};
+ghost use Rattle.alta_table.specs.Answers.{IfDamaged, IsDamaged, IsFound};
+ghost use Rattle.alta_table.specs.Documents.{AreDocuments};
+ghost use Rattle.alta_table.specs.declared.document.DocRow.{DocRow};
+ghost use Rattle.alta_words.specs.Fault.{IsPostingFault};
+ghost use Rattle.alta_words.specs.Word.{IsPosting};
+ghost use Rattle.alta_level.specs.Coded.{IsCoded};
+ghost use Rattle.alta_level.specs.Stored.{AreApart, IsListFault, IsListOf, stored_of};
+
+use crate::ranges::fits;
+use crate::stored::StoredList;
+use alta_codec::Loc;
+use alta_postings::Stream;
+use alta_table::{DocRow, LevelFault};
+use alta_words::{PostingFault, check};
+use std::alloc::Global;
+
+// The place on the disk of a fault of a stream or a summary.
+fn place_of(list: &StoredList<'_>, fault: PostingFault) -> u64
+    requires stream { list.now.stream_place + length list.now.stream.now < 2 ^ 64 }
+    requires summary { list.now.summary_place + length list.now.summary.now < 2 ^ 64 }
+    requires fault { IsPostingFault list.now.stream.now list.now.summary.now fault }
+    ensures { (documents : List DocRow) → IsListFault documents (stored_of list.now) result }
+{
+    match fault {
+        PostingFault::Stream(at) => list.stream_place + at as u64,
+        PostingFault::Summary(at) => list.summary_place + at as u64,
+        PostingFault::Differ(row) => list.summary_place + 24 * row as u64,
+    }
+}
+
+// The bytes are the stream and the summary of one list, or they do not belong together.
+fn coded(stream: &[u8], summary: &[u8]) -> Result<(), PostingFault>
+    ensures coded { IfOk result (λ x. IsCoded stream.now summary.now (locations_of stream.now)) }
+    ensures posting { IfOk result (λ x. (b : ℕ) × IsPosting stream.now summary.now b) }
+    ensures fault { IfErr result (IsPostingFault stream.now summary.now) }
+{
+    match check(stream, summary) {
+        Ok(_bounds) => Ok(()),
+        Err(fault) => Err(fault),
+    }
+}
+
+// The same of a list on the disk, with the place of the first fault.
+fn check_coded(list: &StoredList<'_>) -> Result<(), LevelFault>
+    requires stream { list.now.stream_place + length list.now.stream.now < 2 ^ 64 }
+    requires summary { list.now.summary_place + length list.now.summary.now < 2 ^ 64 }
+    ensures coded { IfOk result (λ x. IsCoded list.now.stream.now list.now.summary.now (locations_of list.now.stream.now)) }
+    ensures posting { IfOk result (λ x. (b : ℕ) × IsPosting list.now.stream.now list.now.summary.now b) }
+    ensures fault { IfDamaged result (λ p. (documents : List DocRow) → IsListFault documents (stored_of list.now) p) }
+{
+    match coded(list.stream, list.summary) {
+        Ok(()) => Ok(()),
+        Err(fault) => Err(LevelFault::Damaged(place_of(list, fault))),
+    }
+}
+
+// The locations of a list, or the first fault.
+fn locations_at(
+    alloc: Global,
+    list: &StoredList<'_>,
+    documents: &[DocRow],
+) -> Result<Vec<Loc>, LevelFault>
+    requires stream { list.now.stream_place + length list.now.stream.now < 2 ^ 64 }
+    requires summary { list.now.summary_place + length list.now.summary.now < 2 ^ 64 }
+    requires documents { AreDocuments documents.now }
+    ensures found { IfOk result (λ locations. IsListOf documents.now (stored_of list.now) locations.items) }
+    ensures first { IfDamaged result (IsListFault documents.now (stored_of list.now)) }
+{
+    check_coded(list)?;
+    let Ok(locations) = Stream::of(list.stream).locations(alloc) else {
+        return Err(LevelFault::Memory);
+    };
+    if fits(documents, list.term, list.count, &locations) {
+        Ok(locations)
+    } else {
+        Err(LevelFault::Damaged(list.stream_place))
+    }
+}
+
+/// The locations of a list, whose level has these documents. Each number of the stream is read twice: once when it is
+/// tested, and once more when its location is kept. `Damaged` has the place of the first fault: the stream's own, else
+/// the summary's own, else the first row that is not the block of its number or is missing, which is 24 times its
+/// number behind the summary's first byte. Last comes the stream's first byte, where the stream has another number of
+/// locations than its row states, or one in no document's range, or where the term is `D` and the locations are not the
+/// ends of the documents. `Memory` comes only where memory is wanting.
+pub fn read_list(
+    alloc: Global,
+    list: &StoredList<'_>,
+    documents: &[DocRow],
+) -> Result<Vec<Loc>, LevelFault>
+    requires stream { list.now.stream_place + length list.now.stream.now < 2 ^ 64 }
+    requires summary { list.now.summary_place + length list.now.summary.now < 2 ^ 64 }
+    requires documents { AreDocuments documents.now }
+    ensures found { IfOk result (λ locations. IsListOf documents.now (stored_of list.now) locations.items) }
+    ensures only { (locations : List ℕ) → IsListOf documents.now (stored_of list.now) locations → IsFound (λ x. x.items) result locations }
+    ensures first { IfDamaged result (IsListFault documents.now (stored_of list.now)) }
+    ensures broken { (p : ℕ) → IsListFault documents.now (stored_of list.now) p → IsDamaged result p }
+{
+    locations_at(alloc, list, documents)
+}

@@ -1,0 +1,162 @@
+// A content, read from its segment.
+ghost use Rattle.std.specs.Prelude.{◌≡◌, ◌+◌, ◌<◌, ◌≤◌, ◌^◌, length, IfOk, ℕ};
+ghost use Rattle.alta_table.specs.Answers.{IfDamaged, IsDamaged, IsFound};
+ghost use Rattle.alta_table.specs.Documents.{AreDocuments};
+ghost use Rattle.alta_table.specs.Tables.{AreTables, IsDamage, tables_bytes};
+ghost use Rattle.alta_table.specs.Terms.{data_bytes, data_of};
+ghost use Rattle.alta_level.specs.Damage.{AreListsOf, IsFaultInLists, IsSegmentFault, stored_at};
+ghost use Rattle.alta_level.specs.Segments.{IsSegment};
+ghost use Rattle.alta_level.specs.Stored.{IsListFault, IsListOf};
+ghost use Rattle.alta_level.specs.declared.content.Content.{Content};
+
+use crate::checking::read_list;
+use crate::content::{Content, TermList};
+use crate::lists::{DocRows, Locations, TermLists};
+use crate::stored::StoredList;
+use alta_table::{DocRow, LevelFault, Table, TermRow, head};
+use std::alloc::Global;
+
+// The tables of a segment, and how many bytes they have.
+fn tables_at(alloc: Global, bytes: &[u8], place: u64) -> Result<(Table, usize), LevelFault>
+    requires { place + length bytes.now < 2 ^ 64 }
+    ensures found { IfOk result (λ x. AreTables bytes.now place (length bytes.now) x.0) }
+    ensures len { IfOk result (λ x. x.1 ≡ length (tables_bytes x.0.documents x.0.terms)) }
+    ensures first { IfDamaged result (IsDamage bytes.now place (length bytes.now)) }
+{
+    let total = bytes.len() as u64;
+    match head(bytes, place, total) {
+        Err(fault) => Err(fault),
+        Ok(head) => {
+            let len = (32 + head.document_bytes + head.term_bytes) as usize;
+            let (front, _lists) = bytes.split_at(len);
+            match Table::open(alloc, front, place, total) {
+                Ok(table) => Ok((table, len)),
+                Err(fault) => Err(fault),
+            }
+        }
+    }
+}
+
+// The list of a row, whose stream begins the bytes, which begin at a place.
+fn list_at(
+    alloc: Global,
+    row: TermRow,
+    bytes: &[u8],
+    place: u64,
+    documents: &[DocRow],
+) -> Result<TermList, LevelFault>
+    requires whole { row.stream + row.summary ≤ length bytes.now }
+    requires below { place + length bytes.now < 2 ^ 64 }
+    requires documents { AreDocuments documents.now }
+    ensures term { IfOk result (λ l. l.term ≡ row.term) }
+    ensures found { IfOk result (λ l. IsListOf documents.now (stored_at row bytes.now place) l.locations) }
+    ensures first { IfDamaged result (IsListFault documents.now (stored_at row bytes.now place)) }
+{
+    let (stream, behind) = bytes.split_at(row.stream as usize);
+    let (summary, _rest) = behind.split_at(row.summary as usize);
+    let stored = StoredList {
+        stream,
+        stream_place: place,
+        summary,
+        summary_place: place + row.stream,
+        term: row.term.as_slice(),
+        count: row.count,
+    };
+    match read_list(alloc, &stored, documents) {
+        Ok(locations) => Ok(TermList {
+            term: row.term,
+            locations: Locations::from_vec(locations),
+        }),
+        Err(fault) => Err(fault),
+    }
+}
+
+// The lists of all rows, whose streams and summaries stand one behind the other.
+fn lists_at(
+    alloc: Global,
+    rows: Vec<TermRow>,
+    streams: &[u8],
+    place: u64,
+    documents: &[DocRow],
+) -> Result<Vec<TermList>, LevelFault>
+    requires whole { data_bytes rows.items ≤ length streams.now }
+    requires below { place + length streams.now < 2 ^ 64 }
+    requires documents { AreDocuments documents.now }
+    ensures found { IfOk result (λ lists. AreListsOf documents.now rows.items streams.now place lists.items) }
+    ensures first { IfDamaged result (IsFaultInLists documents.now rows.items streams.now place) }
+{
+    let mut lists = Vec::new(alloc);
+    let mut rest = streams;
+    let mut at = place;
+    for row in rows {
+        let len = row.stream + row.summary;
+        match list_at(alloc, row, rest, at, documents) {
+            Err(fault) => return Err(fault),
+            Ok(list) => {
+                let Ok(()) = lists.push(list) else {
+                    return Err(LevelFault::Memory);
+                };
+            }
+        }
+        let (_list, behind) = rest.split_at(len as usize);
+        rest = behind;
+        at += len;
+    }
+    Ok(lists)
+}
+
+// The content of a segment whose tables were read: they are its first bytes, so many.
+fn content_of(
+    alloc: Global,
+    table: Table,
+    len: usize,
+    bytes: &[u8],
+    place: u64,
+) -> Result<Content, LevelFault>
+    requires below { place + length bytes.now < 2 ^ 64 }
+    requires tables { AreTables bytes.now place (length bytes.now) table }
+    requires len { len ≡ length (tables_bytes table.documents table.terms) }
+    ensures found { IfOk result (IsSegment bytes.now) }
+    ensures first { IfDamaged result (IsSegmentFault bytes.now place) }
+{
+    let (documents, rows) = table.into_rows();
+    let (_tables, streams) = bytes.split_at(len);
+    match lists_at(alloc, rows, streams, place + len as u64, &documents) {
+        Ok(lists) => Ok(Content {
+            documents: DocRows::from_vec(documents),
+            lists: TermLists::from_vec(lists),
+        }),
+        Err(fault) => Err(fault),
+    }
+}
+
+// The content, or the first damage.
+fn content_at(alloc: Global, bytes: &[u8], place: u64) -> Result<Content, LevelFault>
+    requires { place + length bytes.now < 2 ^ 64 }
+    ensures found { IfOk result (IsSegment bytes.now) }
+    ensures first { IfDamaged result (IsSegmentFault bytes.now place) }
+{
+    match tables_at(alloc, bytes, place) {
+        Ok((table, len)) => content_of(alloc, table, len, bytes, place),
+        Err(fault) => Err(fault),
+    }
+}
+
+/// Reads a whole segment that begins at a place of the disk. `Damaged` has the place of the first field that breaks a
+/// rule: of the head, then of the documents, then of the terms, then the first byte behind the last stream and summary,
+/// then the head's number of terms where the term `D` is missing. Then come the lists in the order of the terms, each as
+/// [`read_list`] tests it. `Memory` comes only where memory is wanting. Each field of the tables is read once, but for
+/// the head, which is read twice; each number of a stream is read twice, and no name, term or list is copied.
+pub fn read_content(alloc: Global, bytes: &[u8], place: u64) -> Result<Content, LevelFault>
+    requires { place + length bytes.now < 2 ^ 64 }
+    // What is read is spelled so.
+    ensures found { IfOk result (IsSegment bytes.now) }
+    // What is spelled so is read.
+    ensures only { (content : Content) → IsSegment bytes.now content → IsFound (λ x. x) result content }
+    // The damage is the first.
+    ensures first { IfDamaged result (IsSegmentFault bytes.now place) }
+    // Where there is damage, that is the answer.
+    ensures broken { (p : ℕ) → IsSegmentFault bytes.now place p → IsDamaged result p }
+{
+    content_at(alloc, bytes, place)
+}

@@ -1,0 +1,110 @@
+// A list of locations, written as its stream and its summary.
+ghost use Rattle.std.specs.Prelude.{◌≡◌, ℕ, ◌++◌, ◌∷◌, [], ◌+◌, ◌%◌, ◌<◌, ◌≤◌, length, OnOk, IfOk};
+ghost use Rattle.alta_codec.specs.Rising.{IsRising};
+ghost use Rattle.alta_postings.specs.Deltas.{stream_bytes, HasPlaces};
+ghost use Rattle.alta_level.specs.Coded.{blocks_of, summary_bytes};
+
+use alta_codec::{Loc, put_number};
+use alta_summary::{Row, build};
+use std::alloc::{AllocError, Global};
+
+/// How many bytes the stream and the summary of a list have.
+#[derive(Clone, Copy, Debug, PartialEq, Eq, Drop)]
+pub struct ListSize {
+    /// The stream's bytes.
+    pub stream: u64,
+    /// The summary's bytes.
+    pub summary: u64,
+}
+
+// Notes the place of a location that begins a block.
+fn mark(places: &mut Vec<u64>, i: usize, at: usize) -> Result<(), AllocError>
+    ensures first { i % 64 ≡ 0 → OnOk result (places.new.items ≡ places.old.items ++ at ∷ []) }
+    ensures later { 0 < i % 64 → OnOk result (places.new.items ≡ places.old.items) }
+{
+    if i % 64 == 0 {
+        places.push(at as u64)?;
+    }
+    Ok(())
+}
+
+// Appends the stream of a list, and leaves the place of each block in `places`.
+fn put_stream(
+    out: &mut Vec<u8>,
+    places: &mut Vec<u64>,
+    locations: &[Loc],
+) -> Result<(), AllocError>
+    requires { IsRising locations.now }
+    ensures bytes { OnOk result (out.new.items ≡ out.old.items ++ stream_bytes 0 locations.now) }
+    ensures places { OnOk result (HasPlaces locations.now (length locations.now) places.new.items) }
+{
+    places.clear();
+    let start = out.len();
+    let mut before: u64 = 0;
+    for (i, location) in locations.iter().enumerate() {
+        mark(places, i, out.len() - start)?;
+        put_number(out, *location - before)?;
+        before = *location;
+    }
+    Ok(())
+}
+
+// The blocks of a list as rows.
+fn rows_of(alloc: Global, locations: &[Loc], places: &[u64]) -> Result<Vec<Row>, AllocError>
+    requires { HasPlaces locations.now (length locations.now) places.now }
+    ensures { IfOk result (λ rows. rows.items ≡ blocks_of locations.now) }
+{
+    let mut rows = Vec::with_capacity(alloc, places.len())?;
+    for i in 0..places.len() {
+        let last = (64 * i + 63).min(locations.len() - 1);
+        rows.push(Row {
+            first: locations[64 * i],
+            last: locations[last],
+            place: places[i],
+        })?;
+    }
+    Ok(rows)
+}
+
+// Appends the summary of a list, which is empty for one block or none.
+fn put_summary(
+    alloc: Global,
+    out: &mut Vec<u8>,
+    locations: &[Loc],
+    places: &[u64],
+) -> Result<(), AllocError>
+    requires rising { IsRising locations.now }
+    requires places { HasPlaces locations.now (length locations.now) places.now }
+    ensures { OnOk result (out.new.items ≡ out.old.items ++ summary_bytes locations.now) }
+{
+    if locations.len() <= 64 {
+        return Ok(());
+    }
+    let rows = rows_of(alloc, locations, places)?;
+    let summary = build(alloc, &rows)?;
+    out.extend_from_slice(&summary)?;
+    Ok(())
+}
+
+/// Appends the stream and the summary of a list that rises strictly, from 1 to below `TOP`. It makes one pass over the
+/// locations. `places` is room to work in, which lists may share.
+pub fn put_list(
+    alloc: Global,
+    out: &mut Vec<u8>,
+    places: &mut Vec<u64>,
+    locations: &[Loc],
+) -> Result<ListSize, AllocError>
+    requires { IsRising locations.now }
+    ensures bytes { OnOk result (out.new.items ≡ out.old.items ++ stream_bytes 0 locations.now ++ summary_bytes locations.now) }
+    ensures stream { IfOk result (λ size. size.stream ≡ length (stream_bytes 0 locations.now)) }
+    ensures summary { IfOk result (λ size. size.summary ≡ length (summary_bytes locations.now)) }
+{
+    let start = out.len();
+    put_stream(out, places, locations)?;
+    let behind = out.len();
+    put_summary(alloc, out, locations, places.as_slice())?;
+    Ok(ListSize {
+        stream: (behind - start) as u64,
+        summary: (out.len() - behind) as u64,
+    })
+}

@@ -1,0 +1,11 @@
+pub mod LastTerm
+pub mod Order
+pub mod RowLaws
+pub mod TermLaws
+pub mod Opened
+pub mod PlaceLaws
+pub mod Grown
+pub mod TableParts
+pub mod TableLaws
+pub mod SearchLaws
+pub mod FrontLaws

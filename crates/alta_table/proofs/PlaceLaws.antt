@@ -1,0 +1,216 @@
+-- Places of names and streams, as rows are read.
+use Rattle.std.proofs.Common.{◌≡◌, ⊎_elim, ℕ, zero, suc, ◌+◌, ◌-◌, ◌≤◌, ◌<◌, ◌^◌, List, [], ◌∷◌, ◌++◌, length, get_or, take, drop, map, Ok, refl, sym, ap, subst, ◌∙◌, arith, length-append}
+use Rattle.std.proofs.lemmas.List.{get_or_default}
+use Rattle.std.proofs.lemmas.List.Sums.{sum_by-cons, sum_by_push, sum_by_more, sum_by-take-le}
+use Rattle.std.specs.List.{sum_by}
+use Rattle.alta_format.specs.Format.{AreBytes, read, entries_bytes, state_behind}
+use Rattle.alta_format.specs.FormatLaws.{AreBytes-rest, read_spells}
+use Rattle.alta_format.specs.EntryLaws.{entries_bytes-push, state_behind-push}
+use Rattle.alta_codec.specs.declared.extent.Extent.{Extent}
+use Rattle.alta_table.specs.declared.document.DocRow.{DocRow}
+use Rattle.alta_table.specs.declared.term.TermRow.{TermRow}
+use Rattle.alta_table.specs.Documents.{Before, start, behind_row, row_bytes, row_format, documents_table, documents_bytes}
+use Rattle.alta_table.specs.Terms.{data_of, data_bytes, last_term}
+use Rattle.alta_table.specs.Places.{name_place, name_places, stream_place, stream_places, stream_extent, summary_extent, tables_in, AreParts}
+use Rattle.alta_table.specs.declared.sizes.Head.{Head}
+use Rattle.alta_table.specs.declared.parts.Parts.{Parts}
+use Rattle.alta_table.specs.Tables.{tables_bytes, read_head, tables_of}
+use Rattle.alta_table.proofs.LastTerm.{last_term-push}
+use Rattle.alta_table.proofs.TableLaws.{tables_are}
+use Rattle.alta_table.proofs.RowLaws.{row_spelled, row-some}
+
+-- ---- names
+
+name_places-push : (from : ℕ) (before : Before) (rows : List DocRow) (r : DocRow)
+    → name_places from before (rows ++ r ∷ [])
+    ≡ name_places from before rows ++ (from + length (entries_bytes documents_table row_bytes before rows) + length (row_bytes (state_behind documents_table before rows) r) - length r.name) ∷ []
+unfolding name_places entries_bytes state_behind
+name_places-push from before [] r =
+    let e : from + length (row_bytes before r) - length r.name ≡ from + 0 + length (row_bytes before r) - length r.name = omega arith in ap (λ (k : ℕ). k ∷ []) e
+name_places-push from before (x ∷ rows) r =
+    let next : ℕ = from + length (row_bytes before x) in
+    let inner : ℕ = length (entries_bytes documents_table row_bytes (behind_row before x) rows) in
+    let last : ℕ = length (row_bytes (state_behind documents_table (behind_row before x) rows) r) in
+    let e : next + inner + last - length r.name ≡ from + length (row_bytes before x ++ entries_bytes documents_table row_bytes (behind_row before x) rows) + last - length r.name =
+    omega (arith, length-append (row_bytes before x) (entries_bytes documents_table row_bytes (behind_row before x) rows)) in
+    ap (λ (l : List ℕ). (next - length x.name) ∷ l) (name_places-push next (behind_row before x) rows r ∙ ap (λ (k : ℕ). name_places next (behind_row before x) rows ++ k ∷ []) e)
+
+pub length-name_places : (from : ℕ) (before : Before) (rows : List DocRow) → length (name_places from before rows) ≡ length rows
+unfolding name_places
+length-name_places from before [] = refl
+length-name_places from before (r ∷ rows) = ap suc (length-name_places (from + length (row_bytes before r)) (behind_row before r) rows)
+
+abbrev name_at : List DocRow → ℕ → List ℕ
+name_at rows k = get_or (map (λ (d : DocRow). d.name) rows) k []
+
+pub name_places-at : (from : ℕ) (before : Before) (rows : List DocRow) (k : ℕ) → k < length rows
+    → get_or (name_places from before rows) k 0 ≡ from + length (entries_bytes documents_table row_bytes before (take (suc k) rows)) - length (name_at rows k)
+unfolding name_places entries_bytes
+name_places-at from before [] k lt = absurd (omega (arith, lt))
+name_places-at from before (r ∷ rows) zero lt = omega (arith, length-append (row_bytes before r) [])
+name_places-at from before (r ∷ rows) (suc k) lt =
+    let inner : List ℕ = entries_bytes documents_table row_bytes (behind_row before r) (take (suc k) rows) in
+    let e : from + length (row_bytes before r) + length inner - length (name_at rows k) ≡ from + length (row_bytes before r ++ inner) - length (name_at rows k) = omega (arith, length-append (row_bytes before r) inner) in
+    name_places-at (from + length (row_bytes before r)) (behind_row before r) rows k (omega (arith, lt)) ∙ e
+
+-- the rows that were read from bytes at a place, what they leave behind, and what is left of the bytes
+pub record AreRead (place : ℕ) (bytes : List ℕ) (rows : List DocRow) (names : List ℕ) (before : Before) (rest : List ℕ) : Type 0 where
+  pub names_are : names ≡ name_places place start rows
+  pub before_is : state_behind documents_table start rows ≡ before
+  pub sized : length (documents_bytes rows) + length rest ≡ length bytes
+  pub fits : AreBytes rest
+
+row_is : (before : Before) (rest : List ℕ) (r : DocRow) (behind : List ℕ) → AreBytes rest → read (row_format before) rest ≡ Ok (r, behind) → rest ≡ row_bytes before r ++ behind
+row_is before rest r behind fits got = (row_spelled before rest r behind (read_spells (row_format before) rest r behind fits got)).1
+
+row_parts : (before : Before) (rest : List ℕ) (r : DocRow) (behind : List ℕ) → AreBytes rest → read (row_format before) rest ≡ Ok (r, behind) → length rest ≡ length (row_bytes before r) + length behind
+row_parts before rest r behind fits got =
+    omega (arith, ap length (row_is before rest r behind fits got), length-append (row_bytes before r) behind)
+
+pub name_within : (place : ℕ) (bytes : List ℕ) (rows : List DocRow) (names : List ℕ) (before : Before) (rest : List ℕ) (r : DocRow) (behind name : List ℕ)
+    → read (row_format before) rest ≡ Ok (r, behind) → name ≡ r.name → AreRead place bytes rows names before rest → length behind + length name ≤ length bytes
+name_within place bytes rows names before rest r behind name got same seen =
+    omega (arith, row_parts before rest r behind seen.fits got, row-some before r, seen.sized, ap length same)
+
+pub row_read : (place : ℕ) (bytes : List ℕ) (rows more : List DocRow) (names places : List ℕ) (before : Before) (rest : List ℕ) (r : DocRow) (behind name : List ℕ)
+    → read (row_format before) rest ≡ Ok (r, behind) → name ≡ r.name → more ≡ rows ++ r ∷ [] → places ≡ names ++ (place + (length bytes - (length behind + length name))) ∷ []
+    → AreRead place bytes rows names before rest → AreRead place bytes more places (behind_row before r) behind
+row_read place bytes rows more names places before rest r behind name got same pushed named seen =
+    let parts = row_parts before rest r behind seen.fits got in
+    let some = row-some before r in
+    let spelled : documents_bytes more ≡ documents_bytes rows ++ row_bytes before r =
+    ap (λ (l : List DocRow). documents_bytes l) pushed ∙ entries_bytes-push documents_table row_bytes start rows r ∙ ap (λ (b : Before). documents_bytes rows ++ row_bytes b r) seen.before_is in
+    let at : place + (length bytes - (length behind + length name)) ≡ place + length (documents_bytes rows) + length (row_bytes before r) - length r.name = omega (arith, parts, some, seen.sized, ap length same) in
+    let old : name_places place start (rows ++ r ∷ []) ≡ name_places place start rows ++ (place + length (documents_bytes rows) + length (row_bytes before r) - length r.name) ∷ [] =
+    name_places-push place start rows r ∙ ap (λ (b : Before). name_places place start rows ++ (place + length (documents_bytes rows) + length (row_bytes b r) - length r.name) ∷ []) seen.before_is in
+    record {
+      names_are = named ∙ ap (λ (l : List ℕ). l ++ (place + (length bytes - (length behind + length name))) ∷ []) seen.names_are ∙ ap (λ (k : ℕ). name_places place start rows ++ k ∷ []) at ∙ sym old
+          ∙ ap (λ (l : List DocRow). name_places place start l) (sym pushed);
+      before_is = ap (λ (l : List DocRow). state_behind documents_table start l) pushed ∙ state_behind-push documents_table start rows r ∙ ap (λ (b : Before). behind_row b r) seen.before_is;
+      sized = omega (arith, parts, seen.sized, ap length spelled, length-append (documents_bytes rows) (row_bytes before r));
+      fits = AreBytes-rest rest (row_bytes before r) behind seen.fits (row_is before rest r behind seen.fits got);
+    }
+
+-- ---- streams
+
+pub stream_places-push : (from : ℕ) (rows : List TermRow) (t : TermRow) → stream_places from (rows ++ t ∷ []) ≡ stream_places from rows ++ (from + data_bytes rows) ∷ []
+unfolding stream_places
+stream_places-push from [] t = let e : from ≡ from + 0 = omega arith in ap (λ (k : ℕ). k ∷ []) e
+stream_places-push from (x ∷ rows) t =
+    let e : from + data_of x + data_bytes rows ≡ from + data_bytes (x ∷ rows) = omega (arith, sum_by-cons data_of x rows) in
+    ap (λ (l : List ℕ). from ∷ l) (stream_places-push (from + data_of x) rows t ∙ ap (λ (k : ℕ). stream_places (from + data_of x) rows ++ k ∷ []) e)
+
+pub length-stream_places : (from : ℕ) (rows : List TermRow) → length (stream_places from rows) ≡ length rows
+unfolding stream_places
+length-stream_places from [] = refl
+length-stream_places from (t ∷ rows) = ap suc (length-stream_places (from + data_of t) rows)
+
+pub stream_places-at : (from : ℕ) (rows : List TermRow) (k : ℕ) → k < length rows → get_or (stream_places from rows) k 0 ≡ from + sum_by data_of (take k rows)
+unfolding stream_places
+stream_places-at from [] k lt = absurd (omega (arith, lt))
+stream_places-at from (t ∷ rows) zero lt = omega arith
+stream_places-at from (t ∷ rows) (suc k) lt =
+    stream_places-at (from + data_of t) rows k (omega (arith, lt)) ∙ omega (arith, sum_by-cons data_of t (take k rows))
+
+-- no rows yet
+pub reads_none : (place : ℕ) (bytes : List ℕ) (rows : List DocRow) (names : List ℕ) → rows ≡ [] → names ≡ [] → AreBytes bytes → AreRead place bytes rows names start bytes
+unfolding name_places state_behind entries_bytes
+reads_none place bytes rows names no_rows no_names fits = rw (no_rows, no_names) none
+  where
+    none : AreRead place bytes [] [] start bytes
+    none = record { names_are = refl; before_is = refl; sized = omega arith; fits = fits }
+
+-- ---- the term rows that were read, and how much room they leave
+pub record AreTermsRead (room end : ℕ) (rows : List TermRow) (streams : List ℕ) (left : ℕ) : Type 0 where
+  pub left_is : left + data_bytes rows ≡ room
+  pub streams_are : streams ≡ stream_places (end - room) rows
+  pub short : length (last_term rows) ≤ 129
+
+pub terms_none : (room end : ℕ) (rows : List TermRow) (streams : List ℕ) → rows ≡ [] → streams ≡ [] → AreTermsRead room end rows streams room
+unfolding stream_places
+terms_none room end rows streams no_rows no_streams = rw (no_rows, no_streams) none
+  where
+    none : AreTermsRead room end [] [] room
+    none = record { left_is = omega arith; streams_are = refl; short = omega arith }
+
+pub term_read : (room end : ℕ) (rows more : List TermRow) (streams places : List ℕ) (left : ℕ) (t : TermRow) → room ≤ end → t.stream + t.summary ≤ left → length t.term ≤ 129
+    → more ≡ rows ++ t ∷ [] → places ≡ streams ++ (end - left) ∷ [] → AreTermsRead room end rows streams left → AreTermsRead room end more places (left - t.stream - t.summary)
+term_read room end rows more streams places left t le fits short pushed placed seen =
+    let sum : data_bytes more ≡ data_bytes rows + data_of t = ap (λ (l : List TermRow). data_bytes l) pushed ∙ sum_by_push data_of rows t in
+    let at : end - left ≡ end - room + data_bytes rows = omega (arith, seen.left_is, le) in
+    let last : last_term more ≡ t.term = ap last_term pushed ∙ last_term-push rows t in
+    record {
+      left_is = omega (arith, seen.left_is, sum, fits);
+      streams_are = placed ∙ ap (λ (l : List ℕ). l ++ (end - left) ∷ []) seen.streams_are ∙ ap (λ (k : ℕ). stream_places (end - room) rows ++ k ∷ []) at ∙ sym (stream_places-push (end - room) rows t)
+          ∙ ap (λ (l : List TermRow). stream_places (end - room) l) (sym pushed);
+      short = omega (arith, short, ap length last);
+    }
+
+-- ---- what is opened
+
+-- rows with the places that were kept while they were read
+pub parts_are : (p : Parts) (bytes : List ℕ) (place total : ℕ) → AreBytes bytes → place + total < 2 ^ 64
+    → ((h : Head) → read_head bytes place total ≡ Ok h → length bytes ≡ 32 + h.document_bytes + h.term_bytes)
+    → tables_of bytes place total ≡ Ok (tables_in p) → p.names.items ≡ name_places (place + 32) start p.documents.items
+    → p.streams.items ≡ stream_places (place + total - data_bytes p.terms.items) p.terms.items → AreParts p
+parts_are p bytes place total fits below exact e names streams =
+    let a = tables_are bytes place total (tables_in p) fits (λ h read. omega (arith, exact h read)) e in
+    let size : ℕ = length (tables_bytes p.documents.items p.terms.items) in
+    let from : place + total - data_bytes p.terms.items ≡ p.place + size = omega (arith, a.keeps.filled, a.at) in
+    record {
+      names_are = names ∙ ap (λ (k : ℕ). name_places (k + 32) start p.documents.items) (sym a.at);
+      streams_are = streams ∙ ap (λ (k : ℕ). stream_places k p.terms.items) from;
+      terms_stand = a.keeps.terms_stand;
+      below = omega (arith, a.keeps.filled, a.at, below);
+    }
+
+-- ---- places by row
+
+pub names-len : (p : Parts) → AreParts p → length p.names.items ≡ length p.documents.items
+names-len p a = ap length a.names_are ∙ length-name_places (p.place + 32) start p.documents.items
+
+pub name_is : (p : Parts) (row at : ℕ) → AreParts p → row < length p.documents.items → at ≡ get_or p.names.items row at → at ≡ name_place (tables_in p) row
+name_is p row at a lt here =
+    let next : suc row ≡ row + 1 = omega arith in
+    here ∙ get_or_default p.names.items row at 0 (omega (arith, names-len p a, lt)) ∙ ap (λ (l : List ℕ). get_or l row 0) a.names_are ∙ name_places-at (p.place + 32) start p.documents.items row lt
+    ∙ ap (λ (k : ℕ). p.place + 32 + length (documents_bytes (take k p.documents.items)) - length (name_at p.documents.items row)) next
+
+pub streams-len : (p : Parts) → AreParts p → length p.streams.items ≡ length p.terms.items
+streams-len p a = ap length a.streams_are ∙ length-stream_places (p.place + length (tables_bytes p.documents.items p.terms.items)) p.terms.items
+
+stream_is : (p : Parts) (row at : ℕ) → AreParts p → row < length p.terms.items → at ≡ get_or p.streams.items row at → at ≡ stream_place (tables_in p) row
+stream_is p row at a lt here = here ∙ get_or_default p.streams.items row at 0 (omega (arith, streams-len p a, lt)) ∙ ap (λ (l : List ℕ). get_or l row 0) a.streams_are ∙ stream_places-at (p.place + length (tables_bytes p.documents.items p.terms.items)) p.terms.items row lt
+
+-- a row's stream and summary end where those of all rows do, on the disk
+pub data_within : (p : Parts) (row at : ℕ) (t : TermRow) → AreParts p → row < length p.terms.items → at ≡ get_or p.streams.items row at → t ≡ get_or p.terms.items row t
+    → at + t.stream + t.summary ≤ p.place + length (tables_bytes p.documents.items p.terms.items) + data_bytes p.terms.items
+data_within p row at t a lt here is =
+    let more = sum_by_more data_of p.terms.items row t lt in
+    let some = sum_by-take-le data_of p.terms.items (row + 1) in
+    omega (arith, stream_is p row at a lt here, more, some, ap data_of is)
+
+pub stream_ends : (p : Parts) (row at : ℕ) (t : TermRow) → AreParts p → row < length p.terms.items → at ≡ get_or p.streams.items row at → t ≡ get_or p.terms.items row t → at + t.stream < 2 ^ 64
+stream_ends p row at t a lt here is = omega (arith, data_within p row at t a lt here is, a.below)
+
+map_at : (f : TermRow → ℕ) (rows : List TermRow) (row : ℕ) (d : TermRow) → row < length rows → get_or (map f rows) row 0 ≡ f (get_or rows row d)
+map_at f [] row d lt = absurd (omega (arith, lt))
+map_at f (t ∷ rows) zero d lt = refl
+map_at f (t ∷ rows) (suc row) d lt = map_at f rows row d (omega (arith, lt))
+
+abbrev extent : ℕ → ℕ → Extent
+extent place bytes = record { place = place; bytes = bytes }
+
+pub stream_extent_is : (p : Parts) (row at : ℕ) (t : TermRow) → AreParts p → row < length p.terms.items → at ≡ get_or p.streams.items row at → t ≡ get_or p.terms.items row t
+    → extent at t.stream ≡ stream_extent (tables_in p) row
+stream_extent_is p row at t a lt here is =
+    ap (λ (k : ℕ). extent k t.stream) (stream_is p row at a lt here)
+    ∙ ap (λ (k : ℕ). extent (stream_place (tables_in p) row) k) (ap (λ (x : TermRow). x.stream) is ∙ sym (map_at (λ (x : TermRow). x.stream) p.terms.items row t lt))
+
+pub summary_extent_is : (p : Parts) (row at : ℕ) (t : TermRow) → AreParts p → row < length p.terms.items → at ≡ get_or p.streams.items row at → t ≡ get_or p.terms.items row t
+    → extent (at + t.stream) t.summary ≡ summary_extent (tables_in p) row
+summary_extent_is p row at t a lt here is =
+    let stream : t.stream ≡ get_or (map (λ (x : TermRow). x.stream) p.terms.items) row 0 = ap (λ (x : TermRow). x.stream) is ∙ sym (map_at (λ (x : TermRow). x.stream) p.terms.items row t lt) in
+    let summary : t.summary ≡ get_or (map (λ (x : TermRow). x.summary) p.terms.items) row 0 = ap (λ (x : TermRow). x.summary) is ∙ sym (map_at (λ (x : TermRow). x.summary) p.terms.items row t lt) in
+    ap (λ (k : ℕ). extent (k + t.stream) t.summary) (stream_is p row at a lt here)
+    ∙ ap (λ (k : ℕ). extent (stream_place (tables_in p) row + k) t.summary) stream
+    ∙ ap (λ (k : ℕ). extent (stream_place (tables_in p) row + get_or (map (λ (x : TermRow). x.stream) p.terms.items) row 0) k) summary

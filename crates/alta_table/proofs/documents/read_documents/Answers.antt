@@ -1,0 +1,7 @@
+use Rattle.std.proofs.Common.{arith}
+use Rattle.alta_format.specs.FormatLaws.{left_fits}
+use Rattle.alta_table.specs.Documents.{documents_format}
+use Rattle.alta_table.proofs.documents.read_documents.Goals as goal
+
+pub overflow_sub-result : goal.overflow_sub-result
+overflow_sub-result c = left_fits (documents_format c.args.count) c.args.bytes.now c.in-Err-Broken.left (λ i. omega (arith, c.type_inv.bytes i)) (rw c.in-Err-Broken.field-0-is at c.in-Err-Broken.ensures.gives)

@@ -1,0 +1,32 @@
+use Rattle.std.proofs.Common.{◌+◌, ◌<◌, ◌≤◌, length, ap, subst, ◌∙◌, arith}
+use Rattle.alta_table.specs.Places.{stream_extent, summary_extent}
+use Rattle.alta_table.specs.Tables.{Tables, tables_bytes}
+use Rattle.alta_table.specs.Terms.{data_bytes}
+use Rattle.alta_table.proofs.PlaceLaws.{streams-len, stream_ends, data_within, stream_extent_is, summary_extent_is}
+use Rattle.alta_table.proofs.table.Table.stream_place.Goals as goal
+
+pub index-place-requires : goal.index-place-requires
+index-place-requires c = omega (arith, c.requires, ap (λ (t : Tables). length t.terms) c.self.view_is, streams-len c.self.inside.parts c.self.invariant)
+
+pub overflow_add-result : goal.overflow_add-result
+overflow_add-result c =
+    let lt : c.args.row < length c.self.inside.parts.terms.items = omega (arith, c.requires, ap (λ (t : Tables). length t.terms) c.self.view_is) in
+    omega (arith, stream_ends c.self.inside.parts c.args.row c.index-place.result.now c.index-term.result.now c.self.invariant lt c.index-place.ensures c.index-term.ensures)
+
+pub returns-clause-stream : goal.returns-clause-stream
+returns-clause-stream c =
+    let lt : c.args.row < length c.self.inside.parts.terms.items = omega (arith, c.requires, ap (λ (t : Tables). length t.terms) c.self.view_is) in
+    stream_extent_is c.self.inside.parts c.args.row c.index-place.result.now c.index-term.result.now c.self.invariant lt c.index-place.ensures c.index-term.ensures
+    ∙ ap (λ (t : Tables). stream_extent t c.args.row) c.self.view_is
+
+pub returns-clause-summary : goal.returns-clause-summary
+returns-clause-summary c =
+    let lt : c.args.row < length c.self.inside.parts.terms.items = omega (arith, c.requires, ap (λ (t : Tables). length t.terms) c.self.view_is) in
+    summary_extent_is c.self.inside.parts c.args.row c.index-place.result.now c.index-term.result.now c.self.invariant lt c.index-place.ensures c.index-term.ensures
+    ∙ ap (λ (t : Tables). summary_extent t c.args.row) c.self.view_is
+
+pub returns-clause-within : goal.returns-clause-within
+returns-clause-within c =
+    let lt : c.args.row < length c.self.inside.parts.terms.items = omega (arith, c.requires, ap (λ (t : Tables). length t.terms) c.self.view_is) in
+    let within : Tables → Type 0 = λ t. c.index-place.result.now + c.index-term.result.now.stream + c.index-term.result.now.summary ≤ t.place + length (tables_bytes t.documents t.terms) + data_bytes t.terms in
+    subst within c.self.view_is (data_within c.self.inside.parts c.args.row c.index-place.result.now c.index-term.result.now c.self.invariant lt c.index-place.ensures c.index-term.ensures)

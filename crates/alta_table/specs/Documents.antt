@@ -1,0 +1,88 @@
+-- The document part of a segment: its fields in the order in which they are tested, each with its rule, and its one
+-- spelling.
+use Rattle.std.specs.Prelude.{ℕ, ◌+◌, ◌-◌, ◌<◌, ◌≤◌, List, [], ◌∷◌, ◌++◌, length, Bool, nat_lt, nat_le, ◌&&◌}
+use Rattle.std.specs.List.{list_all}
+use Rattle.alta_codec.specs.declared.location.TheConstants.{TOP}
+use Rattle.alta_codec.specs.Name.{IsName}
+use Rattle.alta_codec.specs.Numbers.{number_bytes}
+use Rattle.alta_format.specs.Format.{Format, packed, byte, ends, number_field, text_field, Repeats, repeated, entries_bytes, AreEntries}
+use Rattle.alta_table.specs.declared.document.DocRow.{DocRow}
+
+-- the location of the document's last cell
+abbrev pub end_of : DocRow → ℕ
+end_of row = row.first + row.cells - 1
+
+-- ---- the rules, each of one field
+
+-- a step up that stays below TOP
+abbrev pub rises : ℕ → ℕ → Bool
+rises before more = nat_lt 0 more && nat_lt (before + more) TOP
+
+-- 3 to 262,146 cells, the last of them below TOP
+abbrev pub are_cells : ℕ → ℕ → Bool
+are_cells first cells = nat_le 3 cells && nat_le cells 262146 && nat_lt (first + cells - 1) TOP
+
+abbrev pub is_name_len : ℕ → Bool
+is_name_len len = nat_lt 0 len && nat_le len 64
+
+abbrev pub is_graphic : ℕ → Bool
+is_graphic b = nat_le 33 b && nat_le b 126
+
+abbrev pub is_graphic_text : List ℕ → Bool
+is_graphic_text text = list_all is_graphic text
+
+-- ---- the fields
+
+-- what a row leaves behind for the next: its number and its end
+pub record Before : Type 0 where
+  pub number : ℕ
+  pub end : ℕ
+
+abbrev pub start : Before
+start = record { number = 0; end = 0 }
+
+abbrev pub behind_row : Before → DocRow → Before
+behind_row before row = record { number = row.number; end = end_of row }
+
+-- A row: its number less the one before, its first location less the end before, its cells, the length of its name,
+-- its name.
+unfoldable pub row_format : Before → Format DocRow
+row_format before =
+    number_field packed (rises before.number) (λ more.
+    number_field packed (rises before.end) (λ gap.
+    number_field packed (are_cells (before.end + gap)) (λ cells.
+    number_field byte is_name_len (λ len.
+    text_field len is_graphic_text (λ name.
+    ends (record { number = before.number + more; first = before.end + gap; cells = cells; name = name }))))))
+
+abbrev pub documents_table : Repeats Before DocRow (List DocRow)
+documents_table = record { entry = row_format; step = behind_row; out = λ rows before. rows }
+
+-- so many rows, and nothing behind them
+abbrev pub documents_format : ℕ → Format (List DocRow)
+documents_format count = repeated documents_table count start []
+
+-- ---- the spelling
+
+-- a row, by what the row before leaves behind
+abbrev pub row_bytes : Before → DocRow → List ℕ
+row_bytes before row =
+    number_bytes (row.number - before.number) ++ number_bytes (row.first - before.end) ++ number_bytes row.cells ++ length row.name ∷ row.name
+
+abbrev pub documents_bytes : List DocRow → List ℕ
+documents_bytes rows = entries_bytes documents_table row_bytes start rows
+
+-- the row may stand behind one that left this
+pub record MayFollow (before : Before) (row : DocRow) : Type 0 where
+  pub rises : before.number < row.number
+  pub number_below : row.number < TOP
+  pub starts_behind : before.end < row.first
+  pub first_below : row.first < TOP
+  pub some_cells : 3 ≤ row.cells
+  pub few_cells : row.cells ≤ 262146
+  pub end_below : end_of row < TOP
+  pub named : IsName row.name
+
+-- rows that may stand one behind the other, from the first on
+abbrev pub AreDocuments : List DocRow → Type 0
+AreDocuments rows = AreEntries documents_table MayFollow start rows

@@ -1,0 +1,6 @@
+pub mod Answers
+pub mod Documents
+pub mod Terms
+pub mod Tables
+pub mod Places
+pub mod Search

@@ -1,0 +1,49 @@
+-- Where names, streams and summaries stand on the disk.
+use Rattle.std.specs.Prelude.{◌≡◌, ◌<◌, ◌^◌, ℕ, zero, suc, ◌+◌, ◌-◌, List, [], ◌∷◌, length, take, map, slice_index, slice_index_or}
+use Rattle.std.specs.List.{sum_by}
+use Rattle.alta_codec.specs.declared.extent.Extent.{Extent}
+use Rattle.alta_table.specs.declared.document.DocRow.{DocRow}
+use Rattle.alta_table.specs.declared.parts.Parts.{Parts}
+use Rattle.alta_table.specs.declared.term.TermRow.{TermRow}
+use Rattle.alta_table.specs.Documents.{Before, start, behind_row, row_bytes, documents_bytes}
+use Rattle.alta_table.specs.Terms.{streams_of, summaries_of, data_of, data_bytes, AreTerms}
+use Rattle.alta_table.specs.Tables.{Tables, tables_bytes}
+
+-- the place of a document's name: its row ends with it
+abbrev pub name_place : Tables → ℕ → ℕ
+name_place tables row =
+    tables.place + 32 + length (documents_bytes (take (row + 1) tables.documents)) - length (slice_index_or (map (λ d. d.name) tables.documents) row [])
+
+-- the place of a term's stream, behind the tables and the streams and summaries of the rows before
+abbrev pub stream_place : Tables → ℕ → ℕ
+stream_place tables row = tables.place + length (tables_bytes tables.documents tables.terms) + sum_by data_of (take row tables.terms)
+
+-- where the stream and the summary of a row stand
+abbrev pub stream_extent : Tables → ℕ → Extent
+stream_extent tables row = record { place = stream_place tables row; bytes = slice_index (streams_of tables.terms) row }
+
+abbrev pub summary_extent : Tables → ℕ → Extent
+summary_extent tables row = record { place = stream_place tables row + slice_index (streams_of tables.terms) row; bytes = slice_index (summaries_of tables.terms) row }
+
+-- ---- what is kept beside the rows
+
+-- the places of the names of rows that begin at a place
+unfoldable pub name_places : ℕ → Before → List DocRow → List ℕ
+name_places from before [] = []
+name_places from before (row ∷ rows) =
+    (from + length (row_bytes before row) - length row.name) ∷ name_places (from + length (row_bytes before row)) (behind_row before row) rows
+
+-- the places of the streams of rows, the first of which begins at a place
+unfoldable pub stream_places : ℕ → List TermRow → List ℕ
+stream_places from [] = []
+stream_places from (row ∷ rows) = from ∷ stream_places (from + data_of row) rows
+
+abbrev pub tables_in : Parts → Tables
+tables_in p = record { place = p.place; documents = p.documents.items; terms = p.terms.items }
+
+-- the rows have their places beside them, the terms rise, and the segment ends on the disk
+pub record AreParts (p : Parts) : Type 0 where
+  pub names_are : p.names.items ≡ name_places (p.place + 32) start p.documents.items
+  pub streams_are : p.streams.items ≡ stream_places (p.place + length (tables_bytes p.documents.items p.terms.items)) p.terms.items
+  pub terms_stand : AreTerms p.terms.items
+  pub below : p.place + length (tables_bytes p.documents.items p.terms.items) + data_bytes p.terms.items < 2 ^ 64

@@ -1,0 +1,188 @@
+// The tables of a segment, opened.
+ghost use Rattle.std.specs.Prelude.{◌≡◌, ℕ, ◌+◌, ◌-◌, ◌<◌, ◌≤◌, ◌^◌, length, take, Some, Ok, IfOk, MatchOption, slice_get, slice_index};
+ghost use Rattle.std.specs.List.{list_any, starts_with};
+ghost use Rattle.alta_table.specs.Answers.{Answers, IfDamaged, IsDamaged, IsFound};
+ghost use Rattle.alta_table.specs.Documents.{start};
+ghost use Rattle.alta_table.specs.Terms.{counts_of, data_bytes, is_end, terms_of};
+ghost use Rattle.alta_table.specs.Tables.{AreTables, IsDamage, Tables, read_head, tables_bytes, tables_of};
+ghost use Rattle.alta_table.specs.Places.{name_place, name_places, stream_extent, stream_places, summary_extent, tables_in};
+ghost use Rattle.alta_table.specs.Search.{IsPrefixRange};
+ghost use Rattle.alta_table.specs.declared.sizes.Head.{Head};
+
+use crate::document::DocRow;
+use crate::documents::read_documents;
+use crate::fault::LevelFault;
+use crate::heading::head;
+use crate::parts::Parts;
+use crate::search::{find_in, prefixed_in};
+use crate::term::TermRow;
+use crate::terms::read_terms;
+use alta_codec::Extent;
+use std::alloc::Global;
+use std::marker::Model;
+
+/// Head, documents and terms of a segment. Contracts see the segment's place on the disk and the rows.
+#[derive(Drop)]
+pub struct Table {
+    parts: Parts,
+}
+
+impl Model for Table {
+    ghost use Rattle.alta_table.specs.Tables.{Tables};
+    ghost use Rattle.alta_table.specs.Places.{AreParts, tables_in};
+
+    ghost Value = { Tables };
+
+    ghost view = { λ t. tables_in t.parts };
+
+    ghost invariant = { λ t. AreParts t.parts };
+}
+
+// Whether there is the term at which documents end.
+fn has_end(rows: &[TermRow]) -> bool
+    ensures { result ≡ list_any is_end rows.now }
+{
+    rows.iter().any(|row| row.term.as_slice() == b"D".as_slice())
+}
+
+#[tactic(auto, unfolding(crate::specs::Tables::tables_of))]
+fn opened(alloc: Global, bytes: &[u8], place: u64, total: u64) -> Result<Parts, LevelFault>
+    requires below { place + total < 2 ^ 64 }
+    requires whole { (h : Head) → read_head bytes.now place total ≡ Ok h → length bytes.now ≡ 32 + h.document_bytes + h.term_bytes }
+    ensures exact { Answers tables_in result (tables_of bytes.now place total) }
+    ensures names { IfOk result (λ p. p.names.items ≡ name_places (place + 32) start p.documents.items) }
+    ensures streams { IfOk result (λ p. p.streams.items ≡ stream_places (place + total - data_bytes p.terms.items) p.terms.items) }
+{
+    let head = head(bytes, place, total)?;
+    let (_front, tables) = bytes.split_at(32);
+    let (first, behind_documents) = tables.split_at(head.document_bytes as usize);
+    let (second, _none) = behind_documents.split_at(head.term_bytes as usize);
+    let documents = read_documents(alloc, head.documents, first, place + 32)?;
+    let room = total - 32 - head.document_bytes - head.term_bytes;
+    let second_place = place + 32 + head.document_bytes;
+    let terms = read_terms(alloc, head.terms, room, place + total, second, second_place)?;
+    if terms.left > 0 {
+        return Err(LevelFault::Damaged(place + (total - terms.left)));
+    }
+    if !has_end(&terms.rows) {
+        return Err(LevelFault::Damaged(place + 8));
+    }
+    Ok(Parts {
+        place,
+        documents: documents.rows,
+        names: documents.names,
+        terms: terms.rows,
+        streams: terms.streams,
+    })
+}
+
+fn table_of(alloc: Global, bytes: &[u8], place: u64, total: u64) -> Result<Table, LevelFault>
+    requires below { place + total < 2 ^ 64 }
+    requires whole { (h : Head) → read_head bytes.now place total ≡ Ok h → length bytes.now ≡ 32 + h.document_bytes + h.term_bytes }
+    ensures { Answers (λ x. x) result (tables_of bytes.now place total) }
+{
+    match opened(alloc, bytes, place, total) {
+        Ok(parts) => Ok(Table { parts }),
+        Err(fault) => Err(fault),
+    }
+}
+
+impl Table {
+    /// Reads head, documents and terms of a segment of `total` bytes that begins at a place of the disk. `bytes` holds
+    /// exactly these, as [`head`] gives their lengths. `Damaged` has the place of the first field that breaks a rule:
+    /// of the head, then of the documents, then of the terms, then the first byte behind the last stream and summary,
+    /// and last the head's number of terms where the term `D` is missing. It makes one pass over the bytes, and takes
+    /// memory in proportion to them.
+    pub fn open(alloc: Global, bytes: &[u8], place: u64, total: u64) -> Result<Table, LevelFault>
+        requires below { place + total < 2 ^ 64 }
+        requires whole { (h : Head) → read_head bytes.now place total ≡ Ok h → length bytes.now ≡ 32 + h.document_bytes + h.term_bytes }
+        // What is read is spelled so.
+        ensures found { IfOk result (AreTables bytes.now place total) }
+        ensures spelled { IfOk result (λ t. bytes.now ≡ tables_bytes t.documents t.terms) }
+        // What is spelled so is read.
+        ensures only { (t : Tables) → AreTables bytes.now place total t → IsFound (λ x. x) result t }
+        // The damage is the first.
+        ensures first { IfDamaged result (IsDamage bytes.now place total) }
+        // Where there is damage, that is the answer.
+        ensures broken { (p : ℕ) → IsDamage bytes.now place total p → IsDamaged result p }
+        // The same in one fact.
+        ensures exact { Answers (λ x. x) result (tables_of bytes.now place total) }
+    {
+        table_of(alloc, bytes, place, total)
+    }
+
+    /// The documents, in rising order of number and of location.
+    pub fn documents(&self) -> &[DocRow]
+        ensures { result.now ≡ self.now.documents }
+    {
+        &self.parts.documents
+    }
+
+    /// The place on the disk of a document's name.
+    pub fn name_place(&self, row: usize) -> u64
+        requires { row < length self.now.documents }
+        ensures { result ≡ name_place self.now row }
+    {
+        self.parts.names[row]
+    }
+
+    /// How many terms there are.
+    pub fn terms(&self) -> usize
+        ensures { result ≡ length self.now.terms }
+    {
+        self.parts.terms.len()
+    }
+
+    /// The term of a row.
+    pub fn term(&self, row: usize) -> &[u8]
+        requires { row < length self.now.terms }
+        ensures { slice_get (terms_of self.now.terms) row ≡ Some result.now }
+    {
+        self.parts.terms[row].term.as_slice()
+    }
+
+    /// At how many locations the term of a row stands, as its row says.
+    pub fn count(&self, row: usize) -> u64
+        requires { row < length self.now.terms }
+        ensures { result ≡ slice_index (counts_of self.now.terms) row }
+    {
+        self.parts.terms[row].count
+    }
+
+    /// The row of a term, None exactly where it is not there. It looks by halves.
+    pub fn find(&self, term: &[u8]) -> Option<usize>
+        ensures { MatchOption result ((i : ℕ) → slice_get (terms_of self.now.terms) i ≡ Some term.now → ⊥) (λ i. slice_get (terms_of self.now.terms) i ≡ Some term.now) }
+    {
+        find_in(&self.parts.terms, term)
+    }
+
+    /// The rows of the terms that begin with a prefix: the first, and the row behind the last. The two are equal where
+    /// no term begins so. It looks by halves.
+    pub fn prefixed(&self, prefix: &[u8]) -> (usize, usize)
+        ensures { IsPrefixRange (terms_of self.now.terms) prefix.now result.0 result.1 }
+    {
+        prefixed_in(&self.parts.terms, prefix)
+    }
+
+    /// Where stream and summary of a row's term stand on the disk.
+    pub fn stream_place(&self, row: usize) -> (Extent, Extent)
+        requires { row < length self.now.terms }
+        ensures stream { result.0 ≡ stream_extent self.now row }
+        ensures summary { result.1 ≡ summary_extent self.now row }
+        // They lie behind the tables, where the streams and summaries of all rows are.
+        ensures within { result.1.place + result.1.bytes ≤ self.now.place + length (tables_bytes self.now.documents self.now.terms) + data_bytes self.now.terms }
+    {
+        let place = self.parts.streams[row];
+        let term = &self.parts.terms[row];
+        (
+            Extent {
+                place,
+                bytes: term.stream,
+            },
+            Extent {
+                place: place + term.stream,
+                bytes: term.summary,
+            },
+        )
+    }
+}
