@@ -1,14 +1,11 @@
 -- A segment is of one content, a damaged one has one first fault, and no bytes are both.
 use Rattle.std.proofs.Common.{◌≡◌, ⊎_elim, inl, inr, ℕ, ◌+◌, ◌-◌, ◌^◌, ◌<◌, ◌≤◌, List, [], ◌∷◌, length, take, drop, refl, sym, subst, ap, ◌∙◌, arith, length-drop}
 use Rattle.std.proofs.lemmas.List.{length-take}
-use Rattle.alta_format.specs.Format.{AreBytes}
 use Rattle.alta_format.specs.FormatLaws.{done, failed, ok_is, err_is}
 use Rattle.alta_table.specs.declared.document.DocRow.{DocRow}
 use Rattle.alta_table.specs.declared.term.TermRow.{TermRow}
 use Rattle.alta_table.specs.Tables.{Tables, AreTables, IsDamage, tables_bytes, tables_of}
 use Rattle.alta_table.specs.Terms.{data_of}
-use Rattle.alta_table.proofs.TableLaws.{are_tables}
-use Rattle.alta_table.proofs.TableParts.{tables_broken}
 use Rattle.alta_level.specs.declared.content.Content.{Content}
 use Rattle.alta_level.specs.declared.content.TermList.{TermList}
 use Rattle.alta_level.specs.Segments.{IsSegment, rows_of}
@@ -61,25 +58,31 @@ fault_once documents (row ∷ rows) bytes place p q small (inr (w, f)) (inr (v, 
 abbrev Listed : List ℕ → Tables → List TermList → Type 0
 Listed bytes t lists = AreListsOf t.documents t.terms (data_in bytes t) (data_place t) lists
 
-module _ (bytes : List ℕ) (place : ℕ) (are : AreBytes bytes) (small : length bytes < 2 ^ 64) where
+-- what the laws of tables say of these bytes
+pub record HasTableLaws (bytes : List ℕ) (place : ℕ) : Type 0 where
+  pub small : length bytes < 2 ^ 64
+  pub read : (t : Tables) → AreTables bytes place (length bytes) t → tables_of bytes place (length bytes) ≡ done t
+  pub broken : (p : ℕ) → IsDamage bytes place (length bytes) p → tables_of bytes place (length bytes) ≡ failed p
+
+module _ (bytes : List ℕ) (place : ℕ) (laws : HasTableLaws bytes place) where
   tables_once : (t u : Tables) → AreTables bytes place (length bytes) t → AreTables bytes place (length bytes) u → t ≡ u
   tables_once t u a b =
-      let e : done {A = Tables} t ≡ done u = sym (are_tables bytes place (length bytes) t are small a) ∙ are_tables bytes place (length bytes) u are small b in cc
+      let e : done {A = Tables} t ≡ done u = sym (laws.read t a) ∙ laws.read u b in cc
 
   tables_or_damage : (t : Tables) (p : ℕ) → AreTables bytes place (length bytes) t → IsDamage bytes place (length bytes) p → ⊥
   tables_or_damage t p a d =
-      let e : done {A = Tables} t ≡ failed p = sym (are_tables bytes place (length bytes) t are small a) ∙ tables_broken bytes place (length bytes) p are d in cc
+      let e : done {A = Tables} t ≡ failed p = sym (laws.read t a) ∙ laws.broken p d in cc
 
   damage_once : (p q : ℕ) → IsDamage bytes place (length bytes) p → IsDamage bytes place (length bytes) q → p ≡ q
   damage_once p q d e =
-      let f : failed {A = Tables} p ≡ failed q = sym (tables_broken bytes place (length bytes) p are d) ∙ tables_broken bytes place (length bytes) q are e in cc
+      let f : failed {A = Tables} p ≡ failed q = sym (laws.broken p d) ∙ laws.broken q e in cc
 
   rest_small : (t : Tables) → length (data_in bytes t) < 2 ^ 64
-  rest_small t = omega (arith, length-drop (length (tables_bytes t.documents t.terms)) bytes)
+  rest_small t = omega (arith, laws.small, length-drop (length (tables_bytes t.documents t.terms)) bytes)
 
   pub segment_once : (c d : Content) → IsSegment bytes c → IsSegment bytes d → c ≡ d
   segment_once c d s r =
-      let e = tables_once (tables_at place c) (tables_at place d) (segment_tables bytes place c small s) (segment_tables bytes place d small r) in
+      let e = tables_once (tables_at place c) (tables_at place d) (segment_tables bytes place c laws.small s) (segment_tables bytes place d laws.small r) in
       let here : Listed bytes (tables_at place d) c.lists = subst (λ (t : Tables). Listed bytes t c.lists) e (segment_lists bytes place c s) in
       let lists = lists_once d.documents (rows_of d.lists) (data_in bytes (tables_at place d)) (data_place (tables_at place d)) c.lists d.lists here (segment_lists bytes place d r) in
       let f : List DocRow → Content = λ x. record { documents = x; lists = c.lists } in
@@ -87,9 +90,9 @@ module _ (bytes : List ℕ) (place : ℕ) (are : AreBytes bytes) (small : length
       ap f (ap (λ t. t.documents) e) ∙ ap g lists
 
   pub segment_or_fault : (c : Content) (p : ℕ) → IsSegment bytes c → IsSegmentFault bytes place p → ⊥
-  segment_or_fault c p s (in_tables q d) = tables_or_damage (tables_at place c) q (segment_tables bytes place c small s) d
+  segment_or_fault c p s (in_tables q d) = tables_or_damage (tables_at place c) q (segment_tables bytes place c laws.small s) d
   segment_or_fault c p s (in_lists t q a f) =
-      let e = tables_once (tables_at place c) t (segment_tables bytes place c small s) a in
+      let e = tables_once (tables_at place c) t (segment_tables bytes place c laws.small s) a in
       lists_or_fault t.documents t.terms (data_in bytes t) (data_place t) c.lists q (rest_small t) (subst (λ (t : Tables). Listed bytes t c.lists) e (segment_lists bytes place c s)) f
 
   pub segment_fault_once : (p q : ℕ) → IsSegmentFault bytes place p → IsSegmentFault bytes place q → p ≡ q

@@ -4,9 +4,12 @@
 mod building;
 mod checking;
 mod content;
+mod laws;
 mod lists;
 mod ranges;
 mod reading;
+#[cfg(test)]
+mod segment_tests;
 mod stored;
 #[cfg(test)]
 mod tests;
@@ -16,6 +19,7 @@ pub use alta_table::{DocRow, Head, LevelFault, Table, head};
 pub use building::build;
 pub use checking::read_list;
 pub use content::{Content, TermList};
+pub use laws::segments_read_back;
 pub use lists::{DocRows, Locations, TermLists};
 pub use reading::read_content;
 pub use stored::StoredList;

@@ -11,9 +11,12 @@ ghost use Rattle.alta_level.specs.declared.content.Content.{Content};
 
 use crate::checking::read_list;
 use crate::content::{Content, TermList};
+use crate::laws::segments_read_back;
 use crate::lists::{DocRows, Locations, TermLists};
 use crate::stored::StoredList;
-use alta_table::{DocRow, LevelFault, Table, TermRow, head};
+use alta_table::{
+    DocRow, LevelFault, Table, TermRow, head, tables_in_front, tables_read_back,
+};
 use std::alloc::Global;
 
 // The tables of a segment, and how many bytes they have.
@@ -23,6 +26,8 @@ fn tables_at(alloc: Global, bytes: &[u8], place: u64) -> Result<(Table, usize), 
     ensures len { IfOk result (λ x. x.1 ≡ length (tables_bytes x.0.documents x.0.terms)) }
     ensures first { IfDamaged result (IsDamage bytes.now place (length bytes.now)) }
 {
+    tables_read_back();
+    tables_in_front();
     let total = bytes.len() as u64;
     match head(bytes, place, total) {
         Err(fault) => Err(fault),
@@ -158,5 +163,6 @@ pub fn read_content(alloc: Global, bytes: &[u8], place: u64) -> Result<Content, 
     // Where there is damage, that is the answer.
     ensures broken { (p : ℕ) → IsSegmentFault bytes.now place p → IsDamaged result p }
 {
+    segments_read_back();
     content_at(alloc, bytes, place)
 }
