@@ -1,6 +1,5 @@
 -- What only grows at its end keeps its front.
-use Rattle.std.proofs.Common.{◌≡◌, ⊎_elim, ℕ, ◌≤◌, ◌<◌, List, length, take, sym, ap, ◌∙◌, arith}
-use Rattle.std.proofs.lemmas.Bool.{cases_lt}
+use Rattle.std.proofs.Common.{◌≡◌, ℕ, ◌≤◌, List, length, take, sym, ap, ◌∙◌, arith}
 use Rattle.std.proofs.lemmas.List.{take-take, length-take}
 
 pub grown_more : (first old new : List ℕ) → take (length first) old ≡ first → take (length old) new ≡ old → take (length first) new ≡ first

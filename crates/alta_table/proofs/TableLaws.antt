@@ -1,8 +1,8 @@
 -- Tables that keep the rules have one spelling, and what is spelled so is read, whatever follows.
-use Rattle.std.proofs.Common.{◌≡◌, ℕ, ◌+◌, ◌-◌, ◌<◌, ◌≤◌, ◌^◌, min, true, List, [], ◌∷◌, ◌++◌, length, take, drop, Result, Ok, refl, sym, ap, subst, ◌∙◌, arith, append_assoc}
+use Rattle.std.proofs.Common.{◌≡◌, ℕ, ◌+◌, ◌<◌, ◌≤◌, ◌^◌, min, List, [], ◌++◌, length, take, drop, Ok, refl, sym, ap, subst, ◌∙◌, arith, append_assoc}
 use Rattle.std.specs.Int.{w64, to_be_bytes}
 use Rattle.std.proofs.lemmas.Bool.{ltb-true, lt-ltb, leb-true, le-leb}
-use Rattle.std.proofs.lemmas.List.{take_at, drop_at, take-append-drop, length-append, length-take, length-drop, take-take, drop-drop, drop-take, nil_from_length, append-nil}
+use Rattle.std.proofs.lemmas.List.{take_at, drop_at, take-append-drop, length-append, length-take, length-drop, nil_from_length, append-nil}
 use Rattle.alta_format.specs.Format.{AreBytes, Spells, entries_bytes, state_behind}
 use Rattle.alta_format.specs.FormatLaws.{done}
 use Rattle.alta_format.specs.EntryLaws.{repeated_spelled, repeated_spells}
@@ -11,10 +11,10 @@ use Rattle.alta_table.specs.declared.sizes.Head.{Head}
 use Rattle.alta_table.specs.declared.term.TermRow.{TermRow}
 use Rattle.alta_table.specs.Documents.{start, row_bytes, documents_table, documents_format, documents_bytes, MayFollow, AreDocuments}
 use Rattle.alta_table.specs.Terms.{first_behind, terms_table, terms_format, terms_bytes, AreTerms, data_bytes}
-use Rattle.alta_table.specs.Tables.{Tables, head_bytes, head_of, tables_bytes, KeepRules, AreTables, head_format, head_part, document_part, term_part, room, read_head, tables_of, HasHead, HasParts}
+use Rattle.alta_table.specs.Tables.{Tables, head_bytes, head_of, tables_bytes, KeepRules, AreTables, head_format, head_part, document_part, term_part, room, read_head, tables_of, HasParts}
 use Rattle.alta_table.proofs.RowLaws.{row_spelled, row_spells, rows-le}
 use Rattle.alta_table.proofs.TermLaws.{entry_of, MayStand, term_spelled, term_spells, terms_behind-are, stand_split, stand_join, room_behind, terms-le}
-use Rattle.alta_table.proofs.TableParts.{HasTables, Found, made, tables_found, tables_again}
+use Rattle.alta_table.proofs.TableParts.{HasTables, made, tables_found, tables_again}
 
 -- ---- the parts
 
@@ -65,30 +65,30 @@ head_spelled total bytes h rest (n, b1, has1, kept1, (m, b2, has2, kept2, (d, b3
 pub head_spells : (total : ℕ) (h : Head) → 0 < h.documents → h.documents < 2 ^ 64 → h.terms < 2 ^ 64 → 32 + h.document_bytes + h.term_bytes ≤ total → total < 2 ^ 64 → Spells (head_format total) (head_bytes h) h []
 unfolding Spells head_format
 head_spells total h some few_documents few_terms within below = (
-      h.documents,
-      to_be_bytes w64 h.terms ++ to_be_bytes w64 h.document_bytes ++ to_be_bytes w64 h.term_bytes,
-      record { below = few_documents; parts = refl },
-      lt-ltb 0 h.documents some,
+  h.documents,
+  to_be_bytes w64 h.terms ++ to_be_bytes w64 h.document_bytes ++ to_be_bytes w64 h.term_bytes,
+  record { below = few_documents; parts = refl },
+  lt-ltb 0 h.documents some,
+  (
+    h.terms,
+    to_be_bytes w64 h.document_bytes ++ to_be_bytes w64 h.term_bytes,
+    record { below = few_terms; parts = refl },
+    refl,
+    (
+      h.document_bytes,
+      to_be_bytes w64 h.term_bytes,
+      record { below = omega (arith, within, below); parts = refl },
+      le-leb (32 + h.document_bytes) total (omega (arith, within)),
       (
-        h.terms,
-        to_be_bytes w64 h.document_bytes ++ to_be_bytes w64 h.term_bytes,
-        record { below = few_terms; parts = refl },
-        refl,
-        (
-          h.document_bytes,
-          to_be_bytes w64 h.term_bytes,
-          record { below = omega (arith, within, below); parts = refl },
-          le-leb (32 + h.document_bytes) total (omega (arith, within)),
-          (
-            h.term_bytes,
-            [],
-            record { below = omega (arith, within, below); parts = refl },
-            le-leb (32 + h.document_bytes + h.term_bytes) total within,
-            (refl, refl),
-          ),
-        ),
+        h.term_bytes,
+        [],
+        record { below = omega (arith, within, below); parts = refl },
+        le-leb (32 + h.document_bytes + h.term_bytes) total within,
+        (refl, refl),
       ),
-    )
+    ),
+  ),
+)
 
 -- ---- from the fields to the rules
 
@@ -130,8 +130,7 @@ tables_keep bytes total rs ts a long =
     sym (take-append-drop 32 bytes) ∙ ap (λ (r : List ℕ). take 32 bytes ++ r) (sym (take-append-drop h.document_bytes (drop 32 bytes)) ∙ ap (λ (r : List ℕ). document_part bytes h ++ r) (sym (take-append-drop h.term_bytes behind))) in
     let spelled : bytes ≡ head_bytes (head_of rs ts) ++ (documents_bytes rs ++ (terms_bytes ts ++ after)) =
     split ∙ ap (λ (f : List ℕ). f ++ (document_part bytes h ++ (term_part bytes h ++ after))) (head_is ∙ ap (λ (x : Head). head_bytes x) head_same)
-    ∙ ap (λ (f : List ℕ). head_bytes (head_of rs ts) ++ (f ++ (term_part bytes h ++ after))) text1 ∙ ap (λ (f : List ℕ). head_bytes (head_of rs ts) ++ (documents_bytes rs ++ (f ++ after))) text2 in
-    (
+    ∙ ap (λ (f : List ℕ). head_bytes (head_of rs ts) ++ (f ++ (term_part bytes h ++ after))) text1 ∙ ap (λ (f : List ℕ). head_bytes (head_of rs ts) ++ (documents_bytes rs ++ (f ++ after))) text2 in (
       record {
         some = omega (arith, top.some, count1);
         documents_stand = stand1;

@@ -1,5 +1,5 @@
 -- What the fields of a term row say is its one spelling, and what the term part has of it.
-use Rattle.std.proofs.Common.{◌≡◌, ◌⊎◌, ⊎_elim, ℕ, zero, suc, ◌+◌, ◌-◌, ◌≤◌, ◌<◌, ◌^◌, Bool, true, false, cond, ltb, leb, List, [], ◌∷◌, ◌++◌, length, get_or, take, drop, drop-cons, refl, sym, ap, subst, ◌∙◌, arith, append_assoc, ◌||◌}
+use Rattle.std.proofs.Common.{◌≡◌, ◌⊎◌, ⊎_elim, ℕ, zero, suc, ◌+◌, ◌-◌, ◌≤◌, ◌<◌, ◌^◌, true, cond, ltb, leb, List, [], ◌∷◌, ◌++◌, length, get_or, take, drop, drop-cons, refl, sym, ap, subst, ◌∙◌, arith, append_assoc}
 use Rattle.std.specs.Prelude.{IsTrue}
 use Rattle.std.proofs.lemmas.Bool.{cases_lt, ltb-true, lt-ltb, le-ltb, leb-true, le-leb, and_parts, and_from}
 use Rattle.std.proofs.lemmas.List.Sums.{sum_by-cons}
@@ -178,9 +178,10 @@ unfolding AreEntries AreTermsBehind
 stand_join before [] m fits below = tt
 stand_join before (t ∷ ts) (m, more) fits below =
     let sum = sum_by-cons data_of t ts in
-    let next : Behind = record { term = t.term; room = before.room - t.stream - t.summary } in
-    (record { follows = m; stream_fits = omega (arith, sum, fits); summary_fits = omega (arith, sum, fits); stream_below = omega (arith, sum, fits, below); summary_below = omega (arith, sum, fits, below) },
-    stand_join next ts more (omega (arith, sum, fits)) (omega (arith, below)))
+    let next : Behind = record { term = t.term; room = before.room - t.stream - t.summary } in (
+      record { follows = m; stream_fits = omega (arith, sum, fits); summary_fits = omega (arith, sum, fits); stream_below = omega (arith, sum, fits, below); summary_below = omega (arith, sum, fits, below) },
+      stand_join next ts more (omega (arith, sum, fits)) (omega (arith, below)),
+    )
 
 -- ---- there are no more rows than bytes
 

@@ -1,5 +1,5 @@
 -- Where names, streams and summaries stand on the disk.
-use Rattle.std.specs.Prelude.{◌≡◌, ◌<◌, ◌^◌, ℕ, zero, suc, ◌+◌, ◌-◌, List, [], ◌∷◌, length, take, map, slice_index, slice_index_or}
+use Rattle.std.specs.Prelude.{◌≡◌, ◌<◌, ◌^◌, ℕ, ◌+◌, ◌-◌, List, [], ◌∷◌, length, take, map, slice_index, slice_index_or}
 use Rattle.std.specs.List.{sum_by}
 use Rattle.alta_codec.specs.declared.extent.Extent.{Extent}
 use Rattle.alta_table.specs.declared.document.DocRow.{DocRow}

@@ -42,7 +42,8 @@ impl Model for Table {
 fn has_end(rows: &[TermRow]) -> bool
     ensures { result ≡ list_any is_end rows.now }
 {
-    rows.iter().any(|row| row.term.as_slice() == b"D".as_slice())
+    rows.iter()
+        .any(|row| row.term.as_slice() == b"D".as_slice())
 }
 
 #[tactic(auto, unfolding(crate::specs::Tables::tables_of))]

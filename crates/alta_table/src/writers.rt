@@ -35,12 +35,7 @@ fn put_sizes(out: &mut Vec<u8>, head: &Head) -> Result<(), AllocError>
     out.extend_from_slice(&head.term_bytes.to_be_bytes())
 }
 
-fn put_row(
-    out: &mut Vec<u8>,
-    number: DocNumber,
-    end: Loc,
-    row: &DocRow,
-) -> Result<(), AllocError>
+fn put_row(out: &mut Vec<u8>, number: DocNumber, end: Loc, row: &DocRow) -> Result<(), AllocError>
     requires { MayFollow (record { number = number; end = end }) row.now }
     ensures ok { OnOk result (out.new.items ≡ out.old.items ++ row_bytes (record { number = number; end = end }) row.now) }
     ensures grown { take (length out.old.items) out.new.items ≡ out.old.items }

@@ -1,4 +1,4 @@
-use Rattle.std.proofs.Common.{rules, ◌≡◌, Ok, arith}
+use Rattle.std.proofs.Common.{rules, ◌≡◌, arith}
 use Rattle.alta_codec.specs.Numbers.{number_from}
 use Rattle.alta_codec.proofs.Numerals.{read_ok, number_read}
 use Rattle.alta_format.proofs.field.packed_at.Goals as goal

@@ -1,4 +1,4 @@
-use Rattle.std.proofs.Common.{take, length, ◌∙◌, arith}
+use Rattle.std.proofs.Common.{arith}
 use Rattle.alta_format.specs.EntryLaws.{keeps_first, put_more, put_all}
 use Rattle.alta_table.specs.Documents.{documents_table, MayFollow, row_bytes}
 use Rattle.alta_table.proofs.Grown.{grown_more}

@@ -1,5 +1,5 @@
-use Rattle.std.proofs.Common.{◌≡◌, Ok, arith}
-use Rattle.alta_table.specs.Tables.{AreTables, HasParts, IsDamage, Tables, tables_bytes, tables_of}
+use Rattle.std.proofs.Common.{◌≡◌, arith}
+use Rattle.alta_table.specs.Tables.{AreTables, IsDamage, Tables, tables_bytes, tables_of}
 use Rattle.alta_table.proofs.Opened.{read_is, found_is, first_is, damaged_is}
 use Rattle.alta_table.proofs.TableParts.{tables_first, tables_broken}
 use Rattle.alta_table.proofs.TableLaws.{tables_are, are_tables, tables_spelled}
