@@ -40,15 +40,14 @@ fn tables_len(bytes: &[u8]) -> usize
 fn open(alloc: Global, tables: &[u8], total: u64) -> Result<u64, AllocError>
     requires { total ≤ MOST }
 {
-    let Some(head) = undamaged(head(tables, START, total))? else {
-        return Ok(0);
-    };
-    if 32 + head.document_bytes + head.term_bytes != tables.len() as u64 {
-        return Ok(0);
-    }
-    match undamaged(Table::open(alloc, tables, START, total))? {
-        Some(table) => Ok((table.documents().len() as u64).wrapping_add(head.terms)),
-        None => Ok(0),
+    match head(tables, START, total) {
+        Ok(head) if 32 + head.document_bytes + head.term_bytes == tables.len() as u64 => {
+            match undamaged(Table::open(alloc, tables, START, total))? {
+                Some(table) => Ok((table.documents().len() as u64).wrapping_add(head.terms)),
+                None => Ok(0),
+            }
+        }
+        _ => Ok(0),
     }
 }
 
