@@ -1,11 +1,12 @@
 #!/usr/bin/env python3
 """Makes the segments and the expected places of crates/alta_damages, by a reading of the format of its own.
 
-usage: tests/segments.py [--check]
+usage: tests/segments.py [--check] [--random N] [--seed N] [--program PATH]
 
 Writes crates/alta_damages/data, args and stdout; with --check it only compares them with what stands there, and ends
 with status 1 where they differ. Nothing of the program is used: `first_broken` reads a segment field by field as
-docs/FORMAT.md describes it, and `segment` writes one.
+docs/FORMAT.md describes it, and `segment` writes one. With --random it runs the program of crates/alta_damages, which
+`rt run` builds there, on N segments with random faults, and ends with status 1 where a place differs from its own.
 
 The program prints the same from its own reading: for each segment its name and the place inside it of the first field
 that breaks a rule, `.` where none does. A whole segment of at most LIMIT bytes is then damaged: for each byte a line
@@ -15,7 +16,10 @@ segment is cut before that byte; and a last line with the place that comes where
 
 import argparse
 import os
+import random
+import subprocess
 import sys
+import tempfile
 
 TOP = 2**62
 BLOCK = 64
@@ -425,11 +429,111 @@ def lines(made):
             yield from damages(content)
 
 
+# ---- segments with random faults
+
+
+def damaged(chance, content):
+    """A segment with some bytes changed, put in, or taken out. Mostly the head's lengths follow what is put in or out."""
+    content = bytearray(content)
+    for _ in range(chance.choice([1, 1, 2, 2, 3, 5])):
+        at = chance.randrange(len(content))
+        byte = chance.choice([chance.randrange(256), content[at] ^ 1, content[at] ^ 128, chance.choice(VALUES)])
+        kind = chance.choice(["change"] * 7 + ["put", "take", "cut"])
+        if kind == "change":
+            content[at] = byte
+        elif kind == "cut":
+            del content[max(1, at) :]
+        elif len(content) > 64:
+            documents, terms = (int.from_bytes(content[i : i + 8], "big") for i in (16, 24))
+            field = 16 if at < 32 + documents else 24
+            content[at : at + (kind == "take")] = [byte] if kind == "put" else []
+            length = int.from_bytes(content[field : field + 8], "big") + (1 if kind == "put" else -1)
+            if 32 <= at < 32 + documents + terms and 0 <= length < 2**64 and chance.random() < 0.7:
+                content[field : field + 8] = length.to_bytes(8, "big")
+    return bytes(content)
+
+
+def invented_list(chance, ranges):
+    """A list inside the ranges, now and then with a fault: stated number, stream, summary."""
+    inside = [x for first, last in ranges for x in range(first, last + 1 + (chance.random() < 0.05))]
+    count = min(chance.choice([1, 2, 3, 64, 65, 128, 129, 200]), len(inside))
+    locations = sorted(set(chance.sample(inside, count)))
+    stated, coded, rows = len(locations), stream(locations), [list(row) for row in blocks(locations)]
+    fault = chance.choice(["none"] * 7 + ["stated", "row", "rows", "stream", "summary"])
+    if fault == "stated":
+        stated += chance.choice([1, -1])
+    if fault == "row" and rows:
+        row = chance.choice(rows)
+        field = chance.randrange(3)
+        row[field] = max(0, row[field] + chance.choice([1, -1, 5, -5, 100]))
+    if fault == "rows":
+        rows = rows[:-1] or [(1, 2, 0), (3, 4, 1)]
+    if fault == "stream":
+        at = chance.randrange(len(coded))
+        coded = coded[:at] + bytes([chance.choice([0, 1, 127, 128, 255])]) + coded[at + 1 :]
+    rows_coded = summary(rows)
+    if fault == "summary":
+        rows_coded = rows_coded[: -chance.choice([1, 8, 24, 32])]
+    return stated, coded, rows_coded
+
+
+def invented(chance):
+    """A segment of a few documents and terms, now and then with a fault in a row."""
+    documents = []
+    number_ = last = 0
+    for _ in range(chance.choice([1, 1, 2, 3, 5])):
+        number_ += chance.choice([1] * 10 + [2, 200, 0])
+        first = last + chance.choice([1] * 10 + [2, 50, 0])
+        cells = chance.choice([3, 4, 9, 100, 200, 300, 2])
+        name = bytes(chance.choices(b"abc!~", k=chance.choice([1, 2, 3, 5, 63, 64, 65])))
+        documents.append((number_, first, cells, name))
+        last = first + cells - 1
+    ranges = [(first, first + cells - 1) for _, first, cells, _ in documents]
+    terms = {b"D": [last for _, last in ranges]} if chance.random() < 0.97 else {}
+    for _ in range(chance.choice([0, 1, 2, 4])):
+        kind = chance.choice(b"NSTXWWWWWW" if chance.random() < 0.95 else b"DEz")
+        term = bytes([kind, *chance.choices(b"ab\xff\0", k=chance.choice([0, 1, 2, 3, 128]))])
+        terms[term] = invented_list(chance, ranges)
+    content = segment(documents, sorted(terms.items()))
+    return damaged(chance, content) if chance.random() < 0.3 else content
+
+
+def try_random(program, count, seed):
+    """Runs the program on segments with random faults."""
+    chance = random.Random(seed)
+    made = segments()
+    differing = whole = 0
+    with tempfile.TemporaryDirectory() as folder:
+        want = {}
+        for index in range(count):
+            base = made[chance.choice(["small", "large", "large", "most_cells"])]
+            content = damaged(chance, base) if chance.random() < 0.5 else invented(chance)
+            name = f"{index}"
+            with open(os.path.join(folder, name), "wb") as file:
+                file.write(content)
+            want[name] = shown(content)
+        answer = subprocess.run([program, *want], cwd=folder, check=True, stdout=subprocess.PIPE).stdout.decode()
+        lines_of = iter(answer.splitlines())
+        for name, place in want.items():
+            got = next((line for line in lines_of if line.startswith(f"{name} ") and line.count(" ") == 1), "").split(" ")[-1]
+            whole += place == "."
+            if got != place:
+                differing += 1
+                print(f"segment {name}: the program answers {got}, the reading {place}")
+    print(f"{count} segments, {whole} whole, {differing} differ")
+    return differing == 0
+
+
 def main():
     parser = argparse.ArgumentParser(description=__doc__, formatter_class=argparse.RawDescriptionHelpFormatter)
-    parser.add_argument("--check", action="store_true")
-    options = parser.parse_args()
     crate = os.path.join(os.path.dirname(os.path.dirname(os.path.abspath(__file__))), "crates/alta_damages")
+    parser.add_argument("--check", action="store_true")
+    parser.add_argument("--random", type=int, metavar="N")
+    parser.add_argument("--seed", type=int, default=1)
+    parser.add_argument("--program", default=os.path.join(crate, "out/alta_damages"))
+    options = parser.parse_args()
+    if options.random:
+        sys.exit(0 if try_random(os.path.abspath(options.program), options.random, options.seed) else 1)
     if segment(SMALL_DOCUMENTS, SMALL_TERMS) != SMALL:
         sys.exit("segments: the writer does not write the segment of docs/FORMAT.md")
     made = segments()
