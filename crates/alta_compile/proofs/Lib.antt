@@ -6,3 +6,4 @@ pub mod Meaning
 pub mod Parts
 pub mod Solved
 pub mod Spaces
+pub mod Texts

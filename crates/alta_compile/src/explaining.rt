@@ -1,5 +1,5 @@
 // A plan in words.
-ghost use Rattle.std.specs.Prelude.{◌≡◌, ◌++◌, [], map, codes, IfOk, OnOk};
+ghost use Rattle.std.specs.Prelude.{◌≡◌, ◌++◌, [], map, codes, string_bytes, IfOk, OnOk};
 ghost use Rattle.std.specs.Fmt.{decimal};
 ghost use Rattle.std.specs.Str.{IsUtf8};
 ghost use Rattle.std.specs.Str.Lossy.{utf8_lossy};
@@ -26,7 +26,18 @@ pub fn explain(alloc: Global, plan: &Plan) -> Result<Text, AllocError>
     let mut out = Vec::new(alloc);
     let mut margin = Vec::new(alloc);
     put_plan(&mut out, &mut margin, plan)?;
-    Ok(Text::from_string(String::from_utf8_lossy(alloc, &out)?))
+    Ok(Text::from_string(text_of(alloc, out)?))
+}
+
+/// The bytes as text, without a copy where they are UTF-8.
+fn text_of(alloc: Global, bytes: Vec<u8>) -> Result<String, AllocError>
+    ensures text { IfOk result (λ t. IsUtf8 bytes.items → string_bytes t ≡ bytes.items) }
+    ensures lossy { IfOk result (λ t. string_bytes t ≡ utf8_lossy bytes.items) }
+{
+    match String::from_utf8(bytes) {
+        Ok(text) => Ok(text),
+        Err(error) => String::from_utf8_lossy(alloc, error.as_bytes()),
+    }
 }
 
 /// The lines of a node and of all below it, behind the margin.

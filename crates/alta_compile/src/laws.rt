@@ -1,10 +1,13 @@
 // What the plan of a query finds. Each function is a law, and has nothing to run.
-ghost use Rattle.std.specs.Prelude.{◌≡◌, ◌↔◌, ℕ, List, ◌∷◌, map, All, Any, Contains};
+ghost use Rattle.std.specs.Prelude.{◌≡◌, ◌↔◌, ℕ, List, [], ◌∷◌, map, All, Any, Contains};
+ghost use Rattle.std.specs.Str.{IsUtf8};
 ghost use Rattle.alta_compound.specs.Union.{union_of};
 ghost use Rattle.alta_docread.specs.Kept.{common};
 ghost use Rattle.alta_query.specs.Matches.{Matches};
 ghost use Rattle.alta_query.specs.Patterns.{Satisfies, pattern_of};
 ghost use Rattle.alta_query.specs.Shape.{Atom, Shape};
+ghost use Rattle.alta_query.specs.Texts.{HasTextTerms};
+ghost use Rattle.alta_compile.specs.Explained.{explained};
 ghost use Rattle.alta_compile.specs.Joined.{joined, SatisfiesEach};
 ghost use Rattle.alta_compile.specs.PlanOf.{found_of, plan_of};
 ghost use Rattle.alta_compile.specs.Space.{Placed, IsSpace, end_of};
@@ -44,4 +47,9 @@ pub fn not_the_part()
 pub fn finds_what_matches()
     ensures { (space : List Placed) (d : Placed) (q : Shape) → IsSpace space → Contains space d
         → Contains (plan_list space (plan_of q)) (end_of d) ↔ Matches d.cells q }
+{}
+
+/// The plan of a query whose terms are UTF-8, in words, is UTF-8. So are the terms of each query that was read.
+pub fn a_plan_is_text()
+    ensures { (q : Shape) → HasTextTerms q → IsUtf8 (explained [] (plan_of q)) }
 {}

@@ -11,5 +11,7 @@ mod tests;
 
 pub use compiling::compile;
 pub use explaining::explain;
-pub use laws::{all_parts, atoms_as_one, finds_what_matches, not_the_part, one_atom, some_part};
+pub use laws::{
+    a_plan_is_text, all_parts, atoms_as_one, finds_what_matches, not_the_part, one_atom, some_part,
+};
 pub use plan::{FoundPlan, Plan, Plans};

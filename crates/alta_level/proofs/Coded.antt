@@ -1,7 +1,5 @@
 -- Stream and summary of a list, and what the check of a coded list finds.
-use Rattle.std.proofs.Common.{◌≡◌, ⊎_elim, ℕ, zero, suc, ◌+◌, ◌-◌, ◌*◌, ◌/◌, ◌^◌, ◌<◌, ◌≤◌, min, List, [], ◌∷◌, map, ◌++◌, length, take, get_or, refl, sym, subst, ap, ◌∙◌, arith, length-append}
-use Rattle.std.specs.Prelude.{nat_le, cond}
-use Rattle.std.specs.List.{range_with_len}
+use Rattle.std.proofs.Common.{◌≡◌, ⊎_elim, ℕ, zero, suc, ◌+◌, ◌-◌, ◌*◌, ◌/◌, ◌^◌, ◌<◌, ◌≤◌, min, List, [], ◌∷◌, map, length, take, get_or, refl, sym, subst, ap, ◌∙◌, arith, length-append}
 use Rattle.std.proofs.lemmas.Bool.{cases_lt}
 use Rattle.std.proofs.lemmas.Bool.Decides.{nat_tests}
 use Rattle.std.proofs.lemmas.List.{get_or-map}
@@ -9,11 +7,10 @@ use Rattle.std.proofs.lemmas.List.FromFn.{length-map-range_with_len, get_or-map-
 use Rattle.alta_codec.proofs.Numerals.{AreBytes, number_size}
 use Rattle.alta_codec.specs.Numbers.{number_bytes}
 use Rattle.alta_codec.specs.Rising.{IsRising}
-use Rattle.alta_codec.specs.declared.location.TheConstants.{TOP}
 use Rattle.alta_postings.specs.Deltas.{Spells, stream_bytes, locations_of}
 use Rattle.alta_postings.proofs.Reading.{spelling_reads}
 use Rattle.alta_summary.specs.declared.summary.Row.{Row}
-use Rattle.alta_summary.specs.Table.{field_at, groups_of, fields_of, last_row, firsts_of, lasts_of, places_of, kept_of, IsSummary, AreRows, HasRowValues, HasGroupFields, IsTableOf}
+use Rattle.alta_summary.specs.Table.{field_at, groups_of, last_row, firsts_of, lasts_of, places_of, kept_of, IsSummary, AreRows, HasRowValues, HasGroupFields, IsTableOf}
 use Rattle.alta_summary.proofs.Growing.{table_is}
 use Rattle.alta_words.specs.Word.{IsPosting, IsRowOf}
 use Rattle.alta_level.specs.Coded.{block_of, blocks_of, table_fields, summary_bytes, IsCoded}
@@ -117,11 +114,11 @@ field_same summary list table rows long =
     (λ i l. (rows i l).last ∙ sym (last_of_block list i l))
     (λ i l. (rows i l).place ∙ sym (place_of_block list i l))
     (λ g l.
-        let r = last_row (length bs) g in
-        let e : 3 * length bs + g - 3 * length bs ≡ g = omega arith in
-        (table.keeps (3 * length bs + g) (omega arith)).group (omega arith)
-        ∙ ap (λ h. field_at summary (3 * last_row (length bs) h + 1)) e
-        ∙ (rows r (omega (arith, m))).last ∙ sym (last_of_block list r (omega (arith, m))))
+    let r = last_row (length bs) g in
+    let e : 3 * length bs + g - 3 * length bs ≡ g = omega arith in
+    (table.keeps (3 * length bs + g) (omega arith)).group (omega arith)
+    ∙ ap (λ h. field_at summary (3 * last_row (length bs) h + 1)) e
+    ∙ (rows r (omega (arith, m))).last ∙ sym (last_of_block list r (omega (arith, m))))
 
 pub posting_coded : (stream summary : List ℕ) (b : ℕ) → IsPosting stream summary b → AreBytes summary → IsCoded stream summary (locations_of stream)
 posting_coded stream summary b p are =
@@ -133,11 +130,11 @@ posting_coded stream summary b p are =
       summary_is = ⊎_elim
           (λ few. none_left summary (omega (arith, p.table.rows.sized, p.short (omega arith))) ∙ sym (short_summary list (omega arith)))
           (λ many.
-              let e : b ≡ length (blocks_of list) = omega (arith, p.long (omega arith), m) in
-              let t = subst (λ (n : ℕ). IsSummary summary n) e p.table in
-              bytes_of_fields (table_fields (blocks_of list)) summary (omega (arith, t.rows.sized, fields_many (blocks_of list))) are
-              (field_same summary list t (λ i l. p.rows i (omega arith)) (omega arith))
-              ∙ sym (long_summary list (omega arith)))
+          let e : b ≡ length (blocks_of list) = omega (arith, p.long (omega arith), m) in
+          let t = subst (λ (n : ℕ). IsSummary summary n) e p.table in
+          bytes_of_fields (table_fields (blocks_of list)) summary (omega (arith, t.rows.sized, fields_many (blocks_of list))) are
+          (field_same summary list t (λ i l. p.rows i (omega arith)) (omega arith))
+          ∙ sym (long_summary list (omega arith)))
           (cases_lt (length list) 65);
     }
 
@@ -196,23 +193,27 @@ coded_posting stream summary list c small =
     } in
     ⊎_elim
     (λ few.
-        let none : length summary ≡ 0 = ap length (c.summary_is ∙ short_summary list (omega arith)) in
-        (0, here 0 (record { rows = record { sized = omega arith; many = λ h. absurd (omega arith) }; keeps = λ k l. absurd (omega arith) })
-        (λ _. refl) (λ l. absurd (omega arith)) (λ i l. absurd (omega arith))))
+    let none : length summary ≡ 0 = ap length (c.summary_is ∙ short_summary list (omega arith)) in (
+      0,
+      here 0 (record { rows = record { sized = omega arith; many = λ h. absurd (omega arith) }; keeps = λ k l. absurd (omega arith) })
+          (λ _. refl) (λ l. absurd (omega arith)) (λ i l. absurd (omega arith)),
+    ))
     (λ many.
-        let long : 64 < length list = omega arith in
-        let bs = blocks_of list in
-        let t = posting_long list c.rising (omega (arith, ap length c.stream_is)) long in
-        let k = kept_all (length bs) (omega (arith, m)) in
-        let same : fields_bytes (table_fields bs) ≡ summary = sym (c.summary_is ∙ long_summary list long) in
-        let table : IsSummary summary (length bs) = subst (λ (n : ℕ). IsSummary summary n) k (subst (λ (x : List ℕ). IsSummary x (kept_of (length bs))) same t.table) in
-        let values : HasRowValues summary bs (length bs) = subst (λ (n : ℕ). HasRowValues summary bs n) k (subst (λ (x : List ℕ). HasRowValues x bs (kept_of (length bs))) same t.values) in
-        (length bs, here (length bs) table (λ l. absurd (omega arith)) (λ l. omega (arith, m))
-        (λ i l. record {
-          first = values.first i l ∙ first_of_block list i l;
-          last = values.last i l ∙ last_of_block list i l;
-          place = values.place i l ∙ place_of_block list i l;
-        })))
+    let long : 64 < length list = omega arith in
+    let bs = blocks_of list in
+    let t = posting_long list c.rising (omega (arith, ap length c.stream_is)) long in
+    let k = kept_all (length bs) (omega (arith, m)) in
+    let same : fields_bytes (table_fields bs) ≡ summary = sym (c.summary_is ∙ long_summary list long) in
+    let table : IsSummary summary (length bs) = subst (λ (n : ℕ). IsSummary summary n) k (subst (λ (x : List ℕ). IsSummary x (kept_of (length bs))) same t.table) in
+    let values : HasRowValues summary bs (length bs) = subst (λ (n : ℕ). HasRowValues summary bs n) k (subst (λ (x : List ℕ). HasRowValues x bs (kept_of (length bs))) same t.values) in (
+      length bs,
+      here (length bs) table (λ l. absurd (omega arith)) (λ l. omega (arith, m))
+          (λ i l. record {
+            first = values.first i l ∙ first_of_block list i l;
+            last = values.last i l ∙ last_of_block list i l;
+            place = values.place i l ∙ place_of_block list i l;
+          }),
+    ))
     (cases_lt (length list) 65)
 
 -- a list has one spelling

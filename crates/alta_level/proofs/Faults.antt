@@ -1,6 +1,6 @@
 -- The first fault of a list: where it lies, that there is one alone, and none where there is a list.
 use Rattle.std.proofs.Common.{◌≡◌, ⊎_elim, inl, inr, ℕ, zero, suc, ◌+◌, ◌-◌, ◌*◌, ◌^◌, ◌<◌, ◌≤◌, Bool, true, false, cond, List, [], ◌∷◌, length, refl, sym, subst, ap, ◌∙◌, arith}
-use Rattle.std.specs.Prelude.{nat_lt, nat_eq, Result, Ok, Err, Option, Some, None}
+use Rattle.std.specs.Prelude.{nat_lt, nat_eq, Result, Ok, Err, Option, Some}
 use Rattle.std.proofs.lemmas.Bool.{cases_lt}
 use Rattle.alta_codec.specs.declared.location.TheConstants.{TOP}
 use Rattle.alta_codec.specs.declared.number.CodeFault.{CodeFault}
@@ -8,13 +8,13 @@ use Rattle.alta_codec.specs.Numbers.{number_from}
 use Rattle.alta_postings.specs.declared.fault.StreamCause.{StreamCause}
 use Rattle.alta_postings.specs.declared.fault.StreamCause.TheVariants.{Zero, Top}
 use Rattle.alta_postings.specs.declared.fault.StreamFault.{StreamFault}
-use Rattle.alta_postings.specs.Deltas.{Spells, cause_of, fault_at, number_fault, fault_from, first_fault, locations_of}
+use Rattle.alta_postings.specs.Deltas.{cause_of, fault_at, number_fault, fault_from, first_fault, locations_of}
 use Rattle.alta_postings.proofs.Reading.{spelling_reads, no_list}
-use Rattle.alta_summary.specs.Table.{HasRows, IsSummary, IsFault, IsFirstBroken, HasWrongLength, Keeps, fields_of}
+use Rattle.alta_summary.specs.Table.{IsSummary, IsFault, IsFirstBroken}
 use Rattle.alta_table.specs.declared.document.DocRow.{DocRow}
 use Rattle.alta_words.specs.declared.checking.PostingFault.{PostingFault}
 use Rattle.alta_words.specs.declared.checking.PostingFault.TheVariants as wrong
-use Rattle.alta_words.specs.Fault.{IsPostingFault, IsFirstDifferent, Agrees}
+use Rattle.alta_words.specs.Fault.{IsPostingFault, IsFirstDifferent}
 use Rattle.alta_words.specs.Word.{IsPosting}
 use Rattle.alta_words.proofs.Walk.{fault_refuses, rows_one}
 use Rattle.alta_level.specs.Coded.{IsCoded}
@@ -57,9 +57,9 @@ pub row_within : (stream summary : List ℕ) (b row : ℕ) → IsFirstDifferent 
 row_within stream summary b row d =
     ⊎_elim
     (λ past.
-        let a = d.before b past in
-        let short : length (locations_of stream) ≤ 64 * b = ⊎_elim (λ l. absurd (omega (arith, a.row l))) (λ g. g) (cases_lt (64 * b) (length (locations_of stream))) in
-        absurd (d.differs (record { block = λ l. absurd (omega arith); row = λ l. absurd (omega arith); same = λ l. absurd (omega arith) })))
+    let a = d.before b past in
+    let short : length (locations_of stream) ≤ 64 * b = ⊎_elim (λ l. absurd (omega (arith, a.row l))) (λ g. g) (cases_lt (64 * b) (length (locations_of stream))) in
+    absurd (d.differs (record { block = λ l. absurd (omega arith); row = λ l. absurd (omega arith); same = λ l. absurd (omega arith) })))
     (λ g. omega (arith, d.table.rows.sized))
     (cases_lt b row)
 

@@ -10,3 +10,4 @@ pub mod Windows
 pub mod Progress
 pub mod Spelled
 pub mod Once
+pub mod Walks

@@ -1,9 +1,9 @@
 -- A segment is its tables and its lists.
-use Rattle.std.proofs.Common.{◌≡◌, ⊎_elim, inl, inr, ℕ, zero, suc, ◌+◌, ◌-◌, ◌^◌, ◌<◌, ◌≤◌, Bool, true, false, List, [], ◌∷◌, ◌++◌, map, length, take, drop, refl, sym, subst, ap, ◌∙◌, arith, length-append, length-drop, append_assoc}
+use Rattle.std.proofs.Common.{◌≡◌, ℕ, ◌+◌, ◌-◌, ◌^◌, ◌<◌, ◌≤◌, List, [], ◌∷◌, ◌++◌, length, take, drop, refl, sym, subst, ap, ◌∙◌, arith, length-append, length-drop, append_assoc}
 use Rattle.std.specs.Prelude.{flat_map, ◌||◌}
 use Rattle.std.specs.List.{list_any}
 use Rattle.std.specs.Str.{bytes_eq}
-use Rattle.std.proofs.Math.Seq.{drop-append_seam, drop-append-add}
+use Rattle.std.proofs.Math.Seq.{drop-append_seam}
 use Rattle.std.proofs.lemmas.List.{drop-drop, length-take, take-append-drop}
 use Rattle.std.proofs.lemmas.List.Sums.{sum_by-cons}
 use Rattle.alta_codec.proofs.Numerals.{number_size}
@@ -12,14 +12,14 @@ use Rattle.alta_postings.specs.Deltas.{stream_bytes}
 use Rattle.alta_table.specs.declared.document.DocRow.{DocRow}
 use Rattle.alta_table.specs.declared.term.TermRow.{TermRow}
 use Rattle.alta_table.specs.Documents.{AreDocuments}
-use Rattle.alta_table.specs.Tables.{Tables, AreTables, KeepRules, tables_bytes}
-use Rattle.alta_table.specs.Terms.{data_of, data_bytes, is_end, HasEnd, AreTerms, AreTermsBehind, MayFollowTerm}
+use Rattle.alta_table.specs.Tables.{Tables, AreTables, tables_bytes}
+use Rattle.alta_table.specs.Terms.{data_of, data_bytes, is_end, AreTermsBehind, MayFollowTerm}
 use Rattle.alta_level.specs.declared.content.Content.{Content}
 use Rattle.alta_level.specs.declared.content.TermList.{TermList}
-use Rattle.alta_level.specs.Coded.{IsCoded, summary_bytes}
-use Rattle.alta_level.specs.Stored.{IsListOf, Fits, end_term}
-use Rattle.alta_level.specs.Segments.{MayFollowList, AreListsBehind, IsContent, IsSegment, is_end_list, row_of, rows_of, list_bytes, segment_bytes}
-use Rattle.alta_level.specs.Damage.{stored_at, AreListsOf, data_in, data_place}
+use Rattle.alta_level.specs.Coded.{summary_bytes}
+use Rattle.alta_level.specs.Stored.{end_term}
+use Rattle.alta_level.specs.Segments.{AreListsBehind, IsSegment, is_end_list, row_of, rows_of, list_bytes, segment_bytes}
+use Rattle.alta_level.specs.Damage.{AreListsOf, data_in, data_place}
 
 -- ---- from the bytes to the content
 
@@ -72,16 +72,18 @@ lists_stand documents before [] bytes place [] a h = tt
 lists_stand documents before [] bytes place (l ∷ ls) a h = absurd (cc)
 lists_stand documents before (row ∷ rows) bytes place [] a h = absurd h
 lists_stand documents before (row ∷ rows) bytes place (l ∷ ls) (m, more) (t, is, others) =
-    let keeps : MayFollowTerm before (record row { term = l.term }) = subst (λ (x : List ℕ). MayFollowTerm before (record row { term = x })) (sym t) m in
-    (record {
-      rises = keeps.rises;
-      kind = keeps.kind;
-      short = keeps.short;
-      some = omega (arith, is.fits.counted, m.some);
-      rising = is.coded.rising;
-      within = is.fits.within;
-      ends = λ e. is.fits.ends (sym t ∙ e);
-    }, lists_stand documents l.term rows (drop (data_of row) bytes) (place + data_of row) ls (subst (λ (x : List ℕ). AreTermsBehind x rows) (sym t) more) others)
+    let keeps : MayFollowTerm before (record row { term = l.term }) = subst (λ (x : List ℕ). MayFollowTerm before (record row { term = x })) (sym t) m in (
+      record {
+        rises = keeps.rises;
+        kind = keeps.kind;
+        short = keeps.short;
+        some = omega (arith, is.fits.counted, m.some);
+        rising = is.coded.rising;
+        within = is.fits.within;
+        ends = λ e. is.fits.ends (sym t ∙ e);
+      },
+      lists_stand documents l.term rows (drop (data_of row) bytes) (place + data_of row) ls (subst (λ (x : List ℕ). AreTermsBehind x rows) (sym t) more) others,
+    )
 
 pub end_stands : (documents : List DocRow) (rows : List TermRow) (bytes : List ℕ) (place : ℕ) (lists : List TermList) → AreListsOf documents rows bytes place lists
     → list_any is_end_list lists ≡ list_any is_end rows
@@ -138,14 +140,16 @@ pub terms_follow : (documents : List DocRow) (before : List ℕ) (lists : List T
 unfolding AreTermsBehind AreListsBehind
 terms_follow documents before [] h small = tt
 terms_follow documents before (l ∷ ls) (m, more) small =
-    let n = length-append (list_bytes l) (flat_map list_bytes ls) in
-    (record {
-      rises = m.rises;
-      kind = m.kind;
-      short = m.short;
-      some = m.some;
-      few = omega (arith, stream_holds 0 l.locations, n, list_long l);
-    }, terms_follow documents l.term ls more (omega (arith, n)))
+    let n = length-append (list_bytes l) (flat_map list_bytes ls) in (
+      record {
+        rises = m.rises;
+        kind = m.kind;
+        short = m.short;
+        some = m.some;
+        few = omega (arith, stream_holds 0 l.locations, n, list_long l);
+      },
+      terms_follow documents l.term ls more (omega (arith, n)),
+    )
 
 pub lists_are : (documents : List DocRow) (before : List ℕ) (lists : List TermList) (place : ℕ) → AreListsBehind documents before lists
     → AreListsOf documents (rows_of lists) (flat_map list_bytes lists) place lists
@@ -159,13 +163,14 @@ lists_are documents before (l ∷ ls) place (m, more) =
     let first : take (length s) ((s ++ t) ++ rest) ≡ s = ap (λ x. take (length s) x) e ∙ take_front s (t ++ rest) in
     let behind : drop (length s) ((s ++ t) ++ rest) ≡ t ++ rest = ap (λ x. drop (length s) x) e ∙ drop-append_seam s (t ++ rest) in
     let second : take (length t) (drop (length s) ((s ++ t) ++ rest)) ≡ t = ap (λ x. take (length t) x) behind ∙ take_front t rest in
-    let last : drop (data_of (row_of l)) ((s ++ t) ++ rest) ≡ rest = ap (λ i. drop i ((s ++ t) ++ rest)) (sym (length-append s t)) ∙ drop-append_seam (s ++ t) rest in
-    (refl,
-    record {
-      coded = record { rising = m.rising; stream_is = first; summary_is = second };
-      fits = record { counted = refl; within = m.within; ends = m.ends };
-    },
-    subst (λ (x : List ℕ). AreListsOf documents (rows_of ls) x (place + data_of (row_of l)) ls) (sym last) (lists_are documents l.term ls (place + data_of (row_of l)) more))
+    let last : drop (data_of (row_of l)) ((s ++ t) ++ rest) ≡ rest = ap (λ i. drop i ((s ++ t) ++ rest)) (sym (length-append s t)) ∙ drop-append_seam (s ++ t) rest in (
+      refl,
+      record {
+        coded = record { rising = m.rising; stream_is = first; summary_is = second };
+        fits = record { counted = refl; within = m.within; ends = m.ends };
+      },
+      subst (λ (x : List ℕ). AreListsOf documents (rows_of ls) x (place + data_of (row_of l)) ls) (sym last) (lists_are documents l.term ls (place + data_of (row_of l)) more),
+    )
 
 end_goes : (lists : List TermList) → list_any is_end (rows_of lists) ≡ list_any is_end_list lists
 end_goes [] = refl

@@ -1,23 +1,12 @@
 -- The fields of the summary of a list, and the blocks that they are.
-use Rattle.std.proofs.Common.{◌≡◌, ⊎_elim, ℕ, zero, suc, ◌+◌, ◌-◌, ◌*◌, ◌/◌, ◌%◌, ◌^◌, ◌<◌, ◌≤◌, min, List, [], ◌∷◌, map, ◌++◌, length, take, drop, get_or, refl, sym, subst, ap, ◌∙◌, arith, length-append}
-use Rattle.std.specs.Prelude.{flat_map, nat_le, cond}
-use Rattle.std.specs.List.{range_with_len}
+use Rattle.std.proofs.Common.{◌≡◌, ⊎_elim, ℕ, zero, suc, ◌+◌, ◌-◌, ◌*◌, ◌/◌, ◌%◌, ◌<◌, List, [], ◌∷◌, ◌++◌, length, get_or, refl, sym, subst, ap, ◌∙◌, arith, length-append}
+use Rattle.std.specs.Prelude.{flat_map}
 use Rattle.std.proofs.lemmas.Bool.{cases_lt}
-use Rattle.std.proofs.lemmas.Bool.Decides.{nat_tests}
-use Rattle.std.proofs.lemmas.List.{get_or_append_left, get_or-append-add, get_or-map}
+use Rattle.std.proofs.lemmas.List.{get_or-append-add}
 use Rattle.std.proofs.lemmas.List.FromFn.{length-map-range_with_len, get_or-map-range_with_len}
-use Rattle.alta_codec.proofs.Numerals.{AreBytes, number_size}
-use Rattle.alta_codec.specs.Numbers.{number_bytes}
-use Rattle.alta_codec.specs.Rising.{IsRising}
-use Rattle.alta_codec.specs.declared.location.TheConstants.{TOP}
-use Rattle.alta_postings.specs.Deltas.{Spells, stream_bytes, locations_of}
-use Rattle.alta_postings.proofs.Reading.{spelling_reads}
 use Rattle.alta_summary.specs.declared.summary.Row.{Row}
-use Rattle.alta_summary.specs.Table.{field_at, groups_of, fields_of, last_row, firsts_of, lasts_of, places_of, kept_of, IsSummary, AreRows, HasRowValues, HasGroupFields, IsTableOf}
-use Rattle.alta_summary.proofs.Growing.{table_is}
-use Rattle.alta_words.specs.Word.{IsPosting, IsRowOf}
-use Rattle.alta_level.specs.Coded.{block_of, blocks_of, row_fields, group_fields, table_fields, summary_bytes, IsCoded}
-use Rattle.alta_level.proofs.Fields.{fields_bytes, fields_long, field_of_fields, bytes_of_fields}
+use Rattle.alta_summary.specs.Table.{groups_of, fields_of, last_row, firsts_of, lasts_of, places_of}
+use Rattle.alta_level.specs.Coded.{row_fields, group_fields, table_fields}
 
 -- ---- the fields of rows, by their number
 
@@ -78,15 +67,15 @@ each_field P rows first last place group k l =
     let G = group_fields rows in
     let at : (j : ℕ) (x : ℕ) → j ≡ k → get_or (flat_map row_fields rows ++ G) j 0 ≡ x → P j x → P k (get_or (flat_map row_fields rows ++ G) k 0) =
     λ j x e same p.
-        let Q : ℕ → Type 0 = λ i. P i (get_or (flat_map row_fields rows ++ G) i 0) in
-        subst Q e (subst (P j) (sym same) p) in
+    let Q : ℕ → Type 0 = λ i. P i (get_or (flat_map row_fields rows ++ G) i 0) in
+    subst Q e (subst (P j) (sym same) p) in
     ⊎_elim
     (λ w.
-        let i = k / 3 in
-        ⊎_elim (λ a. at (3 * i) _ (omega arith) (first_field rows G i (omega arith)) (first i (omega arith)))
-        (λ b. ⊎_elim (λ a. at (3 * i + 1) _ (omega arith) (last_field rows G i (omega arith)) (last i (omega arith)))
-        (λ c. at (3 * i + 2) _ (omega arith) (place_field rows G i (omega arith)) (place i (omega arith)))
-        (cases_lt (k % 3) 2))
-        (cases_lt (k % 3) 1))
+    let i = k / 3 in
+    ⊎_elim (λ a. at (3 * i) _ (omega arith) (first_field rows G i (omega arith)) (first i (omega arith)))
+    (λ b. ⊎_elim (λ a. at (3 * i + 1) _ (omega arith) (last_field rows G i (omega arith)) (last i (omega arith)))
+    (λ c. at (3 * i + 2) _ (omega arith) (place_field rows G i (omega arith)) (place i (omega arith)))
+    (cases_lt (k % 3) 2))
+    (cases_lt (k % 3) 1))
     (λ g. let h = k - 3 * n in at (3 * n + h) _ (omega arith) (group_field rows h (omega (arith, m))) (group h (omega (arith, m))))
     (cases_lt k (3 * n))

@@ -3,7 +3,7 @@ use Rattle.std.proofs.Common.{◌≡◌, ℕ, List, ap, Result, Ok, Err}
 use Rattle.std.specs.Prelude.{nat_lt, if◌then◌else◌, ◌+◌, ◌-◌}
 use Rattle.std.specs.List.{list_any}
 use Rattle.alta_format.specs.Format.{◌>>=◌, part}
-use Rattle.alta_format.specs.FormatLaws.{done, failed}
+use Rattle.alta_format.specs.FormatLaws.{failed}
 use Rattle.alta_table.specs.declared.fault.LevelFault.{LevelFault}
 use Rattle.alta_table.specs.declared.fault.LevelFault.TheVariants as faults
 use Rattle.alta_table.specs.declared.sizes.Head.{Head}
@@ -31,4 +31,3 @@ head_fails X bytes place total (faults.Damaged p) Q goes a = goes p (stops bytes
 pub tables_fail : (X : Type 0) (e : LevelFault) (found : Result Tables ℕ) (Q : ℕ → Type 0) → ((p : ℕ) → found ≡ failed p → Q p) → Fails e found → IfDamaged {X = X} (Err e) Q
 tables_fail X faults.Memory found Q goes a = tt
 tables_fail X (faults.Damaged p) found Q goes a = goes p a
-

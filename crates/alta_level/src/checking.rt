@@ -1,5 +1,5 @@
 // One list of a level, tested and read.
-ghost use Rattle.std.specs.Prelude.{◌≡◌, ℕ, ◌+◌, ◌<◌, ◌^◌, List, length, IfOk, IfErr};
+ghost use Rattle.std.specs.Prelude.{◌≡◌, ℕ, ◌+◌, ◌<◌, ◌^◌, List, length, Err, IfOk, IfErr};
 ghost use Rattle.alta_postings.specs.Deltas.{locations_of};
 ghost use Rattle.alta_table.specs.Answers.{IfDamaged, IsDamaged, IsFound};
 ghost use Rattle.alta_table.specs.Documents.{AreDocuments};
@@ -11,6 +11,7 @@ ghost use Rattle.alta_level.specs.Stored.{AreApart, IsListFault, IsListOf, store
 
 use crate::ranges::fits;
 use crate::stored::StoredList;
+use crate::walking::stream_fits;
 use alta_codec::Loc;
 use alta_postings::Stream;
 use alta_table::{DocRow, LevelFault};
@@ -31,28 +32,31 @@ fn place_of(list: &StoredList<'_>, fault: PostingFault) -> u64
     }
 }
 
-// The bytes are the stream and the summary of one list, or they do not belong together.
-fn coded(stream: &[u8], summary: &[u8]) -> Result<(), PostingFault>
+// How many locations the list has of which the bytes are the stream and the summary, or why they do not belong together.
+fn coded(stream: &[u8], summary: &[u8]) -> Result<u64, PostingFault>
     ensures coded { IfOk result (λ x. IsCoded stream.now summary.now (locations_of stream.now)) }
     ensures posting { IfOk result (λ x. (b : ℕ) × IsPosting stream.now summary.now b) }
+    ensures counted { IfOk result (λ n. n ≡ length (locations_of stream.now)) }
     ensures fault { IfErr result (IsPostingFault stream.now summary.now) }
 {
     match check(stream, summary) {
-        Ok(_bounds) => Ok(()),
+        Ok(bounds) => Ok(bounds.count),
         Err(fault) => Err(fault),
     }
 }
 
 // The same of a list on the disk, with the place of the first fault.
-fn check_coded(list: &StoredList<'_>) -> Result<(), LevelFault>
+fn check_coded(list: &StoredList<'_>) -> Result<u64, LevelFault>
     requires stream { list.now.stream_place + length list.now.stream.now < 2 ^ 64 }
     requires summary { list.now.summary_place + length list.now.summary.now < 2 ^ 64 }
     ensures coded { IfOk result (λ x. IsCoded list.now.stream.now list.now.summary.now (locations_of list.now.stream.now)) }
     ensures posting { IfOk result (λ x. (b : ℕ) × IsPosting list.now.stream.now list.now.summary.now b) }
+    ensures counted { IfOk result (λ n. n ≡ length (locations_of list.now.stream.now)) }
+    ensures lean { result ≡ Err LevelFault.Memory → ⊥ }
     ensures fault { IfDamaged result (λ p. (documents : List DocRow) → IsListFault documents (stored_of list.now) p) }
 {
     match coded(list.stream, list.summary) {
-        Ok(()) => Ok(()),
+        Ok(count) => Ok(count),
         Err(fault) => Err(LevelFault::Damaged(place_of(list, fault))),
     }
 }
@@ -69,15 +73,58 @@ fn locations_at(
     ensures found { IfOk result (λ locations. IsListOf documents.now (stored_of list.now) locations.items) }
     ensures first { IfDamaged result (IsListFault documents.now (stored_of list.now)) }
 {
-    check_coded(list)?;
+    let _count = check_coded(list)?;
     let Ok(locations) = Stream::of(list.stream).locations(alloc) else {
         return Err(LevelFault::Memory);
     };
     if fits(documents, list.term, list.count, &locations) {
         Ok(locations)
     } else {
-        Err(LevelFault::Damaged(list.stream_place))
+        Err(misfit(list))
     }
+}
+
+// The fault of a list that keeps not what its row and the documents say.
+fn misfit(list: &StoredList<'_>) -> LevelFault
+    ensures { result ≡ LevelFault.Damaged list.now.stream_place }
+{
+    LevelFault::Damaged(list.stream_place)
+}
+
+// A list is whole, or its first fault.
+fn tested(list: &StoredList<'_>, documents: &[DocRow]) -> Result<(), LevelFault>
+    requires stream { list.now.stream_place + length list.now.stream.now < 2 ^ 64 }
+    requires summary { list.now.summary_place + length list.now.summary.now < 2 ^ 64 }
+    requires documents { AreDocuments documents.now }
+    ensures whole { IfOk result (λ x. IsListOf documents.now (stored_of list.now) (locations_of list.now.stream.now)) }
+    ensures first { IfDamaged result (IsListFault documents.now (stored_of list.now)) }
+    ensures lean { result ≡ Err LevelFault.Memory → ⊥ }
+{
+    match check_coded(list) {
+        Err(fault) => Err(fault),
+        Ok(count) => {
+            if stream_fits(documents, list.term, list.count, list.stream, count) {
+                Ok(())
+            } else {
+                Err(misfit(list))
+            }
+        }
+    }
+}
+
+/// Tests a list as [`read_list`] does, with the same faults, and keeps none of its locations. It takes no memory, and
+/// never answers `Memory`. Each number of the stream is read twice, of the term `D` three times.
+pub fn check_list(list: &StoredList<'_>, documents: &[DocRow]) -> Result<(), LevelFault>
+    requires stream { list.now.stream_place + length list.now.stream.now < 2 ^ 64 }
+    requires summary { list.now.summary_place + length list.now.summary.now < 2 ^ 64 }
+    requires documents { AreDocuments documents.now }
+    ensures whole { IfOk result (λ x. IsListOf documents.now (stored_of list.now) (locations_of list.now.stream.now)) }
+    ensures only { (locations : List ℕ) → IsListOf documents.now (stored_of list.now) locations → IsFound (λ x. locations_of list.now.stream.now) result locations }
+    ensures first { IfDamaged result (IsListFault documents.now (stored_of list.now)) }
+    ensures broken { (p : ℕ) → IsListFault documents.now (stored_of list.now) p → IsDamaged result p }
+    ensures lean { result ≡ Err LevelFault.Memory → ⊥ }
+{
+    tested(list, documents)
 }
 
 /// The locations of a list, whose level has these documents. Each number of the stream is read twice: once when it is

@@ -1,4 +1,8 @@
-//! The content of a level: its document rows, and for each term the rising list of the locations that hold it.
+//! The content of a level: its document rows, and for each term the rising list of the locations that hold it; and the
+//! segment that a content is on the disk.
+//!
+//! A segment begins with its tables, the head, the documents and the terms. Behind them stand, in the order of the terms,
+//! the stream and the summary of each term's list. A content has exactly one segment.
 #![tactic(auto)]
 
 mod building;
@@ -13,11 +17,12 @@ mod segment_tests;
 mod stored;
 #[cfg(test)]
 mod tests;
+mod walking;
 mod writing;
 
 pub use alta_table::{DocRow, Head, LevelFault, Table, head};
 pub use building::build;
-pub use checking::read_list;
+pub use checking::{check_list, read_list};
 pub use content::{Content, TermList};
 pub use laws::segments_read_back;
 pub use lists::{DocRows, Locations, TermLists};

@@ -6,8 +6,8 @@ ghost use Rattle.alta_level.specs.Stored.{AreApart, AreInRanges, Fits, IsInRange
 use alta_codec::Loc;
 use alta_table::DocRow;
 
-// The location of the last cell of a document.
-fn end_at(documents: &[DocRow], row: usize) -> Loc
+/// The location of the last cell of a document.
+pub fn end_at(documents: &[DocRow], row: usize) -> Loc
     requires apart { AreApart documents.now }
     requires within { row < length documents.now }
     ensures { result ≡ slice_index (ends_of documents.now) row }

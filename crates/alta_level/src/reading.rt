@@ -14,9 +14,7 @@ use crate::content::{Content, TermList};
 use crate::laws::segments_read_back;
 use crate::lists::{DocRows, Locations, TermLists};
 use crate::stored::StoredList;
-use alta_table::{
-    DocRow, LevelFault, Table, TermRow, head, tables_in_front, tables_read_back,
-};
+use alta_table::{DocRow, LevelFault, Table, TermRow, head, tables_in_front, tables_read_back};
 use std::alloc::Global;
 
 // The tables of a segment, and how many bytes they have.

@@ -1,12 +1,13 @@
 // Worked segments, read and built again, and damaged.
-ghost use Rattle.std.specs.Prelude.{◌≡◌, ◌+◌, ◌<◌, ◌≤◌, ◌^◌, length};
+ghost use Rattle.std.specs.Prelude.{◌<◌, length};
 
 use crate::*;
 use std::alloc::{AllocError, Global};
 use std::test::Fail;
 
 /// The segment of one document, `a`, with the title `Red Fox` and the body `the quick red fox`.
-const SEGMENT: &[u8] = b"\0\0\0\0\0\0\0\x01\0\0\0\0\0\0\0\x0a\0\0\0\0\0\0\0\x05\0\0\0\0\0\0\0\x4d\x01\x01\x09\x01a\0\x01D\x01\x01\0\0\x02Na\x01\x01\0\0\x01S\x01\x01\0\0\x01T\x01\x01\0\0\x04Wfox\x02\x02\0\x01\x05quick\x01\x01\0\x01\x03red\x02\x02\0\x01\x03the\x01\x01\0\0\x04XFox\x01\x01\0\x01\x03Red\x01\x01\0\x09\x01\x01\x04\x03\x05\x06\x02\x05\x05\x03\x02";
+const SEGMENT: &[u8] =
+    b"\0\0\0\0\0\0\0\x01\0\0\0\0\0\0\0\x0a\0\0\0\0\0\0\0\x05\0\0\0\0\0\0\0\x4d\x01\x01\x09\x01a\0\x01D\x01\x01\0\0\x02Na\x01\x01\0\0\x01S\x01\x01\0\0\x01T\x01\x01\0\0\x04Wfox\x02\x02\0\x01\x05quick\x01\x01\0\x01\x03red\x02\x02\0\x01\x03the\x01\x01\0\0\x04XFox\x01\x01\0\x01\x03Red\x01\x01\0\x09\x01\x01\x04\x03\x05\x06\x02\x05\x05\x03\x02";
 
 /// The terms of that document, and the first location of each.
 const TERMS: [(&str, u64); 10] = [
@@ -23,18 +24,14 @@ const TERMS: [(&str, u64); 10] = [
 ];
 
 /// The segment of one document of 100 cells with the term `Wa` in the first 65 of them, a list of two blocks.
-const LONG: &[u8] = b"\0\0\0\0\0\0\0\x01\0\0\0\0\0\0\0\x02\0\0\0\0\0\0\0\x05\0\0\0\0\0\0\0\x0d\x01\x01d\x01a\0\x01D\x01\x01\0\0\x02WaAA8d\x01\x01\x01\x01\x01\x01\x01\x01\x01\x01\x01\x01\x01\x01\x01\x01\x01\x01\x01\x01\x01\x01\x01\x01\x01\x01\x01\x01\x01\x01\x01\x01\x01\x01\x01\x01\x01\x01\x01\x01\x01\x01\x01\x01\x01\x01\x01\x01\x01\x01\x01\x01\x01\x01\x01\x01\x01\x01\x01\x01\x01\x01\x01\x01\x01\0\0\0\0\0\0\0\x01\0\0\0\0\0\0\0@\0\0\0\0\0\0\0\0\0\0\0\0\0\0\0A\0\0\0\0\0\0\0A\0\0\0\0\0\0\0@\0\0\0\0\0\0\0A";
+const LONG: &[u8] =
+    b"\0\0\0\0\0\0\0\x01\0\0\0\0\0\0\0\x02\0\0\0\0\0\0\0\x05\0\0\0\0\0\0\0\x0d\x01\x01d\x01a\0\x01D\x01\x01\0\0\x02WaAA8d\x01\x01\x01\x01\x01\x01\x01\x01\x01\x01\x01\x01\x01\x01\x01\x01\x01\x01\x01\x01\x01\x01\x01\x01\x01\x01\x01\x01\x01\x01\x01\x01\x01\x01\x01\x01\x01\x01\x01\x01\x01\x01\x01\x01\x01\x01\x01\x01\x01\x01\x01\x01\x01\x01\x01\x01\x01\x01\x01\x01\x01\x01\x01\x01\x01\0\0\0\0\0\0\0\x01\0\0\0\0\0\0\0@\0\0\0\0\0\0\0\0\0\0\0\0\0\0\0A\0\0\0\0\0\0\0A\0\0\0\0\0\0\0@\0\0\0\0\0\0\0A";
 
 /// Where the segments begin on the disk.
 const PLACE: u64 = 1000;
 
 // The place of the damage in a segment with another byte at an index, from its first byte on.
-fn damage(
-    alloc: Global,
-    segment: &[u8],
-    index: usize,
-    byte: u8,
-) -> Result<Option<u64>, AllocError>
+fn damage(alloc: Global, segment: &[u8], index: usize, byte: u8) -> Result<Option<u64>, AllocError>
     requires { length segment.now < 1000000 }
 {
     let mut bytes = Vec::from_slice(alloc, segment)?;
@@ -55,12 +52,21 @@ fn a_document_is_read_and_built_again(rt: HostRuntime) -> Result<(), Fail> {
         Ok(content) => {
             let row = content.documents.get(0);
             assert_eq!(rt; content.documents.len(), 1);
-            assert_eq!(rt; row.map(|row| (row.number, row.first, row.cells)), Some((1, 1, 9)));
+            assert_eq!(rt;
+                row.map(|row| (row.number, row.first, row.cells)),
+                Some((1, 1, 9))
+            );
             assert_eq!(rt; content.lists.len(), 10);
             for (i, (term, first)) in TERMS.iter().enumerate() {
                 let list = content.lists.get(i);
-                assert_eq!(rt; list.map(|list| list.term.as_slice()), Some(term.as_bytes()));
-                assert_eq!(rt; list.and_then(|list| list.locations.get(0).copied()), Some(*first));
+                assert_eq!(rt;
+                    list.map(|list| list.term.as_slice()),
+                    Some(term.as_bytes())
+                );
+                assert_eq!(rt;
+                    list.and_then(|list| list.locations.get(0).copied()),
+                    Some(*first)
+                );
             }
             assert_eq!(rt; build(alloc, &content)?.as_slice(), SEGMENT);
         }
@@ -74,8 +80,36 @@ fn a_list_of_two_blocks_is_read_and_built_again(rt: HostRuntime) -> Result<(), F
     let alloc = rt.alloc();
     match read_content(alloc, LONG, PLACE) {
         Ok(content) => {
-            assert_eq!(rt; content.lists.get(1).map(|list| list.locations.len()), Some(65));
+            assert_eq!(rt;
+                content.lists.get(1).map(|list| list.locations.len()),
+                Some(65)
+            );
             assert_eq!(rt; build(alloc, &content)?.as_slice(), LONG);
+        }
+        Err(fault) => assert!(rt; false, "{fault:?}"),
+    }
+    Ok(())
+}
+
+#[test]
+fn one_list_is_tested_and_read(rt: HostRuntime) -> Result<(), Fail> {
+    let alloc = rt.alloc();
+    match read_content(alloc, SEGMENT, PLACE) {
+        Ok(content) => {
+            let documents = content.documents.as_slice();
+            for (count, whole) in [(1, false), (2, true), (3, false)] {
+                let list = StoredList {
+                    stream: &[3, 5],
+                    stream_place: PLACE,
+                    summary: &[],
+                    summary_place: PLACE,
+                    term: b"Wfox",
+                    count,
+                };
+                let locations = read_list(alloc, &list, documents).ok();
+                assert_eq!(rt; check_list(&list, documents).is_ok(), whole);
+                assert_eq!(rt; locations.map(|list| list.len()), whole.then_some(2));
+            }
         }
         Err(fault) => assert!(rt; false, "{fault:?}"),
     }
@@ -96,12 +130,20 @@ fn damage_is_at_the_first_field_that_shows_it(rt: HostRuntime) -> Result<(), Fai
         (125, 0, 125),
     ];
     for (index, byte, want) in rows {
-        assert_eq!(rt; damage(alloc, SEGMENT, index, byte)?, Some(want), "byte {index}");
+        assert_eq!(rt;
+            damage(alloc, SEGMENT, index, byte)?,
+            Some(want),
+            "byte {index}"
+        );
     }
     // A row's last location, a row's place, a group.
     let rows: [(usize, u8, u64); 3] = [(131, 63, 116), (163, 65, 140), (171, 64, 164)];
     for (index, byte, want) in rows {
-        assert_eq!(rt; damage(alloc, LONG, index, byte)?, Some(want), "byte {index}");
+        assert_eq!(rt;
+            damage(alloc, LONG, index, byte)?,
+            Some(want),
+            "byte {index}"
+        );
     }
     let cut = &SEGMENT[..125];
     assert_eq!(rt; damage(alloc, cut, 0, 0)?, Some(112));

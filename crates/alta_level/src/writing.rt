@@ -29,11 +29,7 @@ fn mark(places: &mut Vec<u64>, i: usize, at: usize) -> Result<(), AllocError>
 }
 
 // Appends the stream of a list, and leaves the place of each block in `places`.
-fn put_stream(
-    out: &mut Vec<u8>,
-    places: &mut Vec<u64>,
-    locations: &[Loc],
-) -> Result<(), AllocError>
+fn put_stream(out: &mut Vec<u8>, places: &mut Vec<u64>, locations: &[Loc]) -> Result<(), AllocError>
     requires { IsRising locations.now }
     ensures bytes { OnOk result (out.new.items ≡ out.old.items ++ stream_bytes 0 locations.now) }
     ensures places { OnOk result (HasPlaces locations.now (length locations.now) places.new.items) }

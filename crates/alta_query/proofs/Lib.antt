@@ -16,3 +16,4 @@ pub mod Cuts
 pub mod Sides
 pub mod Names
 pub mod Counted
+pub mod Texts

@@ -15,3 +15,4 @@ pub mod Spelling
 pub mod Patterns
 pub mod Matches
 pub mod Reading
+pub mod Texts

@@ -1,6 +1,7 @@
 // What the parser keeps, and how a token changes it.
 
 ghost use Rattle.std.specs.Prelude.{◌≡◌, ℕ, List, [], None, ◌+◌, ◌≤◌, map, IfOk, OnOk, option_map};
+ghost use Rattle.std.specs.Str.{IsUtf8};
 ghost use Rattle.alta_query.specs.View.{shape, atom_view, side_view};
 ghost use Rattle.alta_query.specs.Shape.{lone, near, negated, all_of, any_of};
 ghost use Rattle.alta_query.specs.Token.{open_paren, close_paren, side_of, atom_weight};
@@ -10,6 +11,8 @@ ghost use Rattle.alta_query.specs.Answer.{Gives};
 ghost use Rattle.alta_query.specs.Faults as faults;
 ghost use Rattle.alta_query.specs.Faults.{has, Mark, any_open};
 ghost use Rattle.alta_query.specs.Kept.{mode_of, state_of, frames_of};
+ghost use Rattle.alta_query.specs.Patterns.{test_of};
+ghost use Rattle.alta_query.specs.Texts.{HasTextTerm, AsksForText, AddsText, made_of};
 
 use crate::fault::{Cause, QueryFault};
 use crate::query::{Atom, Query, Side};
@@ -62,7 +65,8 @@ impl<'a> Machine<'a> {
     /// Reads a token that has no fault.
     pub fn step(&mut self, alloc: Global, kind: Kind<'a>) -> Result<(), AllocError>
         requires { cause_in (state_of self.old) (token_of kind) ≡ None }
-        ensures { OnOk result (state_of self.new ≡ step (state_of self.old) (token_of kind.entry)) }
+        ensures state { OnOk result (state_of self.new ≡ step (state_of self.old) (token_of kind.entry)) }
+        ensures text { OnOk result (AddsText (mode_of self.old.mode) (token_of kind.entry)) }
     {
         match kind {
             Kind::Open => self.open(alloc),
@@ -157,7 +161,8 @@ impl<'a> Machine<'a> {
     /// Reads an operand.
     fn operand(&mut self, alloc: Global, lent: Lent<'a>) -> Result<(), AllocError>
         requires { (state_of self.old).words + atom_weight (atom_in lent) ≤ 64 }
-        ensures { OnOk result (state_of self.new ≡ operand_step (mode_of self.old.mode) (state_of self.old) (atom_in lent.entry)) }
+        ensures state { OnOk result (state_of self.new ≡ operand_step (mode_of self.old.mode) (state_of self.old) (atom_in lent.entry)) }
+        ensures text { OnOk result (AsksForText (made_of (mode_of self.old.mode) (atom_in lent.entry))) }
     {
         self.words += lent.weight();
         if let Mode::BehindNear(left, distance) = self.mode {
@@ -207,7 +212,8 @@ fn near_mode(mode: Mode<'_>, distance: u16) -> Mode<'_>
 
 /// An operand of its own memory.
 fn owned(alloc: Global, lent: Lent) -> Result<Atom, AllocError>
-    ensures { IfOk result (λ a. atom_view a ≡ lone (atom_in lent.entry)) }
+    ensures atom { IfOk result (λ a. atom_view a ≡ lone (atom_in lent.entry)) }
+    ensures text { IfOk result (λ a. AsksForText (atom_view a)) }
 {
     match lent {
         Lent::Words { title, text } => Ok(Atom::Words {
@@ -227,7 +233,8 @@ fn owned(alloc: Global, lent: Lent) -> Result<Atom, AllocError>
 }
 
 fn owned_side(alloc: Global, side: LentSide) -> Result<Side, AllocError>
-    ensures { IfOk result (λ s. side_view s ≡ side_in side.entry) }
+    ensures side { IfOk result (λ s. side_view s ≡ side_in side.entry) }
+    ensures text { IfOk result (λ s. HasTextTerm (test_of (side_view s))) }
 {
     match side {
         LentSide::Word(text) => Ok(Side::Word {
@@ -243,13 +250,15 @@ fn owned_side(alloc: Global, side: LentSide) -> Result<Side, AllocError>
 
 /// An equal text of its own memory.
 fn copied(alloc: Global, text: &str) -> Result<Text, AllocError>
-    ensures { IfOk result (λ t. t ≡ text.now) }
+    ensures copy { IfOk result (λ t. t ≡ text.now) }
+    ensures text { IfOk result IsUtf8 }
 {
     Ok(Text::from_string(String::from_str(alloc, text)?))
 }
 
 fn near(alloc: Global, left: LentSide, distance: u16, right: LentSide) -> Result<Atom, AllocError>
-    ensures { IfOk result (λ a. atom_view a ≡ near (side_in left.entry) distance (side_in right.entry)) }
+    ensures atom { IfOk result (λ a. atom_view a ≡ near (side_in left.entry) distance (side_in right.entry)) }
+    ensures text { IfOk result (λ a. AsksForText (atom_view a)) }
 {
     let left = owned_side(alloc, left)?;
     let right = owned_side(alloc, right)?;

@@ -11,6 +11,7 @@ ghost use Rattle.alta_query.specs.Token.{tokens_of};
 ghost use Rattle.alta_query.specs.Machine.{parse_of};
 ghost use Rattle.alta_query.specs.Reading.{query_of};
 ghost use Rattle.alta_query.specs.Answer.{Gives, IsMemory, fault_in};
+ghost use Rattle.alta_query.specs.Texts.{HasTextTerms};
 
 use crate::fault::{Cause, QueryFault};
 use crate::machine::Machine;
@@ -20,7 +21,8 @@ use std::alloc::Global;
 
 /// One pass over the text.
 fn read(alloc: Global, text: &str) -> Result<Query, QueryFault>
-    ensures { Gives result (parse_of (spots text.now) (length text.now)) }
+    ensures reading { Gives result (parse_of (spots text.now) (length text.now)) }
+    ensures text { IfOk result (λ q. HasTextTerms (shape q)) }
 {
     let mut machine = Machine::new(alloc);
     let mut seen = false;
@@ -68,6 +70,8 @@ pub fn parse(alloc: Global, text: &str) -> Result<Query, QueryFault>
     ensures first { IfErr result (λ e. IsMemory e ⊎ (fault_of (spots text.now) (length text.now) ≡ Some (fault_in e))) }
     // The first fault is answered, unless memory runs out.
     ensures answered { (f : Fault) → fault_of (spots text.now) (length text.now) ≡ Some f → MatchResult result (λ q. ⊥) (λ e. IsMemory e ⊎ (fault_in e ≡ f)) }
+    // Each term of what is read is UTF-8.
+    ensures text { IfOk result (λ q. HasTextTerms (shape q)) }
 {
     read(alloc, text)
 }

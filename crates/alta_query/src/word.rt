@@ -1,7 +1,9 @@
 // The words of a query's text, and their tests.
-ghost use Rattle.std.specs.Prelude.{◌≡◌, ◌∷◌, IfOk, map, length, nat_le};
-ghost use Rattle.std.specs.Str.{chars};
+ghost use Rattle.std.specs.Prelude.{◌≡◌, ◌∷◌, ◌<◌, IfOk, map, length, nat_le};
+ghost use Rattle.std.specs.List.{All};
+ghost use Rattle.std.specs.Str.{chars, IsUtf8};
 ghost use Rattle.alta_text.specs.Words.{words_of, pair_of, folded_of};
+ghost use Rattle.alta_query.specs.Texts.{HasTextTerm};
 ghost use Rattle.alta_query.specs.Words as spec;
 ghost use Rattle.alta_query.specs.Words.{has_words, is_stem};
 
@@ -77,7 +79,8 @@ fn is_only(found: &[Word], text: &str) -> bool
 /// The term that the cells of a word have: that of its folding where it is written so, else that of its spelling.
 #[tactic(auto, unfolding(crate::specs::Words::word_term))]
 fn word_term(alloc: Global, written: &str, folded: &str) -> Result<Bytes, AllocError>
-    ensures { IfOk result (λ t. t ≡ spec.word_term (written.now, folded.now)) }
+    ensures term { IfOk result (λ t. t ≡ spec.word_term (written.now, folded.now)) }
+    ensures text { IfOk result IsUtf8 }
 {
     if written == folded {
         term(alloc, WORD, folded)
@@ -88,7 +91,9 @@ fn word_term(alloc: Global, written: &str, folded: &str) -> Result<Bytes, AllocE
 
 /// The term of a kind with the rest behind it.
 fn term(alloc: Global, kind: u8, rest: &str) -> Result<Bytes, AllocError>
-    ensures { IfOk result (λ t. t ≡ kind ∷ rest.now) }
+    requires ascii { kind < 128 }
+    ensures term { IfOk result (λ t. t ≡ kind ∷ rest.now) }
+    ensures text { IfOk result IsUtf8 }
 {
     let mut bytes = Vec::with_capacity(alloc, 1 + rest.len())?;
     bytes.push(kind)?;
@@ -99,7 +104,8 @@ fn term(alloc: Global, kind: u8, rest: &str) -> Result<Bytes, AllocError>
 /// The tests of a text, one for each word.
 #[tactic(auto, unfolding(crate::specs::Words::tests_of))]
 pub fn tests_of(alloc: Global, text: &str) -> Result<Tests, AllocError>
-    ensures { IfOk result (λ tests. tests ≡ spec.tests_of text.now) }
+    ensures tests { IfOk result (λ tests. tests ≡ spec.tests_of text.now) }
+    ensures text { IfOk result (All HasTextTerm) }
 {
     let found = words(alloc, text)?;
     Ok(Tests::from_vec(each_test(alloc, &found)?))
@@ -107,7 +113,8 @@ pub fn tests_of(alloc: Global, text: &str) -> Result<Tests, AllocError>
 
 /// A test for each word.
 fn each_test(alloc: Global, found: &[Word]) -> Result<Vec<Test>, AllocError>
-    ensures { IfOk result (λ tests. tests.items ≡ map spec.word_test (map pair_of found.now)) }
+    ensures tests { IfOk result (λ tests. tests.items ≡ map spec.word_test (map pair_of found.now)) }
+    ensures text { IfOk result (λ tests. All HasTextTerm tests.items) }
 {
     let mut tests = Vec::new(alloc);
     for word in found {
@@ -119,7 +126,8 @@ fn each_test(alloc: Global, found: &[Word]) -> Result<Vec<Test>, AllocError>
 
 /// The test of a word.
 fn word_test(alloc: Global, word: &Word) -> Result<Test, AllocError>
-    ensures { IfOk result (λ test. test ≡ spec.word_test (pair_of word.now)) }
+    ensures test { IfOk result (λ test. test ≡ spec.word_test (pair_of word.now)) }
+    ensures text { IfOk result HasTextTerm }
 {
     let term = word_term(alloc, word.written.as_str(), word.folded.as_str())?;
     Ok(Test::Is(term))
@@ -128,7 +136,8 @@ fn word_test(alloc: Global, word: &Word) -> Result<Test, AllocError>
 /// The test of a text that has one word.
 #[tactic(auto, unfolding(crate::specs::Words::tests_of))]
 pub fn first_test(alloc: Global, text: &str) -> Result<Test, AllocError>
-    ensures { IfOk result (λ test. test ≡ spec.first_test text.now) }
+    ensures test { IfOk result (λ test. test ≡ spec.first_test text.now) }
+    ensures text { IfOk result HasTextTerm }
 {
     let found = words(alloc, text)?;
     match found.first() {
@@ -139,7 +148,8 @@ pub fn first_test(alloc: Global, text: &str) -> Result<Test, AllocError>
 
 /// The test of a prefix.
 pub fn stem_test(alloc: Global, stem: &str) -> Result<Test, AllocError>
-    ensures { IfOk result (λ test. test ≡ spec.stem_test stem.now) }
+    ensures test { IfOk result (λ test. test ≡ spec.stem_test stem.now) }
+    ensures text { IfOk result HasTextTerm }
 {
     let folding = folded(alloc, stem)?;
     Ok(Test::Begins(word_term(alloc, stem, folding.as_str())?))

@@ -88,12 +88,76 @@ fn queries_are_answered(rt: HostRuntime) -> Result<(), Fail> {
         ("search red \"fox", "! query 4 Quote\n"),
         ("search red)", "! query 3 Paren\n"),
         ("search ()", "! query 1 Operand\n"),
-        ("explain fox", "! unknown command\n"),
         ("stats", "documents 2 words 10 next 3\n"),
     ];
     for (line, want) in rows {
         let given = replies(alloc, &mut disk, line)?;
         assert_eq!(rt; given.as_slice(), want.as_bytes(), "{line}");
+    }
+    Ok(())
+}
+
+#[test]
+fn queries_are_explained(rt: HostRuntime) -> Result<(), Fail> {
+    let alloc = rt.alloc();
+    let mut disk = made(alloc)?;
+    let rows = [
+        (
+            "explain \"red fox\" NOT brown",
+            "\"red fox\" NOT \"brown\"\nall 2\n  found D Wred Wfox\n    x1 <= x0\n    p0 <= x1-1\n    x2 <= x0\n    p0 <= x2-1\n    x1 <= x2-1\n    x2 <= x1+1\n  not\n    found D Wbrown\n      x1 <= x0\n      p0 <= x1-1\n",
+        ),
+        (
+            "add a\tRed Fox\tthe quick red fox\nexplain fox\nstats",
+            "added 1\n\"fox\"\nfound D Wfox\n  x1 <= x0\n  p0 <= x1-1\ndocuments 1 words 6 next 2\n",
+        ),
+        (
+            "explain Straße",
+            "\"Straße\"\nfound D XStraße\n  x1 <= x0\n  p0 <= x1-1\n",
+        ),
+        (
+            "explain \"red fox\"",
+            "\"red fox\"\nfound D Wred Wfox\n  x1 <= x0\n  p0 <= x1-1\n  x2 <= x0\n  p0 <= x2-1\n  x1 <= x2-1\n  x2 <= x1+1\n",
+        ),
+        (
+            "explain qui* OR Qui*",
+            "qui* OR Qui*\nany 2\n  found D Wqui*\n    x1 <= x0\n    p0 <= x1-1\n  found D XQui*\n    x1 <= x0\n    p0 <= x1-1\n",
+        ),
+        (
+            "explain red NEAR/12 fo*",
+            "\"red\" NEAR/12 fo*\nfound D Wred Wfo*\n  x1 <= x0\n  p0 <= x1-1\n  x2 <= x0\n  p0 <= x2-1\n  x1 <= x2+12\n  x2 <= x1+12\n",
+        ),
+        (
+            "explain NOT name:b",
+            "NOT name:b\nnot\n  found D Nb\n    x1 <= x0\n    p0 <= x1-1\n",
+        ),
+        (
+            "explain title:Fox dog",
+            "title:\"Fox\" \"dog\"\nfound D XFox T Wdog\n  x1 <= x0\n  p0 <= x1-1\n  x2 <= x0\n  p0 <= x2-1\n  x3 <= x0\n  p0 <= x3-1\n  x1 <= x2-1\n",
+        ),
+        (
+            "explain title:\"red fox\"",
+            "title:\"red fox\"\nfound D Wred Wfox T\n  x1 <= x0\n  p0 <= x1-1\n  x2 <= x0\n  p0 <= x2-1\n  x3 <= x0\n  p0 <= x3-1\n  x1 <= x2-1\n  x2 <= x1+1\n  x1 <= x3-1\n  x2 <= x3-1\n",
+        ),
+        (
+            "explain title:re*",
+            "title:re*\nfound D Wre* T\n  x1 <= x0\n  p0 <= x1-1\n  x2 <= x0\n  p0 <= x2-1\n  x1 <= x2-1\n",
+        ),
+        (
+            "explain red AND fox",
+            "\"red\" \"fox\"\nfound D Wred Wfox\n  x1 <= x0\n  p0 <= x1-1\n  x2 <= x0\n  p0 <= x2-1\n",
+        ),
+        (
+            "explain a (b OR NOT (c d)) \"d e\"",
+            "\"a\" ( \"b\" OR NOT ( \"c\" \"d\" ) ) \"d e\"\nall 2\n  found D Wa Wd We\n    x1 <= x0\n    p0 <= x1-1\n    x2 <= x0\n    p0 <= x2-1\n    x3 <= x0\n    p0 <= x3-1\n    x2 <= x3-1\n    x3 <= x2+1\n  any 2\n    found D Wb\n      x1 <= x0\n      p0 <= x1-1\n    not\n      found D Wc Wd\n        x1 <= x0\n        p0 <= x1-1\n        x2 <= x0\n        p0 <= x2-1\n",
+        ),
+        ("explain fox OR", "! query 6 Operand\n"),
+        ("explain", "! bad line\n"),
+        ("explain ", "! query 0 Empty\n"),
+        ("explain  ", "! query 0 Empty\n"),
+    ];
+    for (lines, want) in rows {
+        let given = replies(alloc, &mut disk, lines)?;
+        assert_eq!(rt; given.as_slice(), want.as_bytes(), "{lines}");
     }
     Ok(())
 }

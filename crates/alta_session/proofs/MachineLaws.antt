@@ -11,7 +11,7 @@ use Rattle.alta_model.specs.declared.line.LineFault.TheVariants.{TooLong, NotUtf
 use Rattle.alta_session.specs.Keeping.{clip}
 use Rattle.alta_session.specs.Machine.{refusal, adding, obeyed, answered, step, after, replies}
 use Rattle.alta_session.proofs.DeletingLaws.{deleting_some, stats_some}
-use Rattle.alta_session.proofs.SearchLaws.{searching_some, counting_some}
+use Rattle.alta_session.proofs.SearchLaws.{searching_some, counting_some, explaining_some}
 
 pub after_append : (s : State) (xs ys : List (List ℕ)) → after s (xs ++ ys) ≡ after (after s xs) ys
 after_append s [] ys = refl
@@ -46,7 +46,7 @@ obeyed_some s (adds name title body) = adding_some name title body s
 obeyed_some s (deletes name) = deleting_some name s
 obeyed_some s (searches query) = searching_some query s.documents
 obeyed_some s (counts query) = counting_some query s.documents
-obeyed_some s (explains query) = lit< tt
+obeyed_some s (explains query) = explaining_some query
 obeyed_some s (opens query) = lit< tt
 obeyed_some s (fetches cursor count) = lit< tt
 obeyed_some s (closes cursor) = lit< tt

@@ -1,12 +1,12 @@
 -- The abstract machine: what each line answers, and the state after it.
-use Rattle.std.specs.Prelude.{◌≡◌, ℕ, Bool, true, ◌&&◌, List, [], ◌∷◌, ◌++◌, length, if◌then◌else◌, nat_le, nat_eq, codes, decimal, Option, Some, None}
+use Rattle.std.specs.Prelude.{◌≡◌, ◌⊎◌, ℕ, Bool, true, ◌&&◌, List, [], ◌∷◌, ◌++◌, length, if◌then◌else◌, nat_le, nat_eq, codes, decimal, Option, Some, None}
 use Rattle.std.specs.List.{list_all, starts_with}
 use Rattle.alta_meta.specs.declared.document.State.{State}
-use Rattle.alta_model.specs.Command.{Command, adds, deletes, searches, counts, asks_stats}
+use Rattle.alta_model.specs.Command.{Command, adds, deletes, searches, counts, explains, asks_stats}
 use Rattle.alta_model.specs.Lines.{Reading, asks, refuses, reading_of}
 use Rattle.alta_model.specs.declared.line.LineFault.{LineFault}
 use Rattle.alta_model.specs.declared.line.LineFault.TheVariants.{TooLong, NotUtf8, Unknown, Bad}
-use Rattle.alta_session.specs.Searching.{searching, counting}
+use Rattle.alta_session.specs.Searching.{searching, counting, explaining}
 use Rattle.alta_store.specs.States.{has_name, number_of, words_in, with_added, with_deleted}
 
 -- 1 to 64 graphic ASCII bytes
@@ -49,6 +49,7 @@ obeyed s (adds name title body) = adding name title body s
 obeyed s (deletes name) = deleting name s
 obeyed s (searches text) = (s, searching text s.documents)
 obeyed s (counts text) = (s, counting text s.documents)
+obeyed s (explains text) = (s, explaining text)
 obeyed s asks_stats = (s, stats_of s)
 obeyed s _ = (s, codes "! unknown command\n")
 
@@ -73,3 +74,7 @@ replies s (line ∷ lines) = (step s line).1 ∷ replies (step s line).0 lines
 -- the reply refuses its line
 abbrev pub IsRefusal : List ℕ → Type 0
 IsRefusal reply = starts_with nat_eq reply (codes "! ") ≡ true
+
+-- the line asks for the counts, or for the plan of a query
+abbrev pub IsStatsOrExplain : List ℕ → Type 0
+IsStatsOrExplain line = (reading_of line ≡ asks asks_stats) ⊎ ((text : List ℕ) × (reading_of line ≡ asks (explains text)))

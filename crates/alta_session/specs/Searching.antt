@@ -1,10 +1,13 @@
 -- What queries are answered.
 use Rattle.std.specs.Prelude.{ℕ, List, [], ◌∷◌, ◌++◌, length, Result, Ok, Err, codes, decimal}
+use Rattle.alta_compile.specs.Explained.{explained}
+use Rattle.alta_compile.specs.PlanOf.{plan_of}
 use Rattle.alta_meta.specs.declared.document.Document.{Document}
 use Rattle.alta_model.specs.Deciding.{answers}
 use Rattle.alta_query.specs.Faults.{Fault, fault}
 use Rattle.alta_query.specs.Reading.{query_of}
 use Rattle.alta_query.specs.Shape.{Shape}
+use Rattle.alta_query.specs.Spelling.{canonical}
 use Rattle.alta_query.specs.declared.fault.Cause.{Cause}
 use Rattle.alta_query.specs.declared.fault.Cause.TheVariants as cause
 
@@ -43,6 +46,11 @@ abbrev pub counted_by : List Document → Result Shape Fault → List ℕ
 counted_by documents (Ok q) = found_line (length (answers documents q))
 counted_by documents (Err f) = query_refusal f
 
+-- the canonical spelling of a query, and then its plan
+abbrev pub explained_by : Result Shape Fault → List ℕ
+explained_by (Ok q) = canonical q ++ codes "\n" ++ explained [] (plan_of q)
+explained_by (Err f) = query_refusal f
+
 -- the reply to a search for a text
 unfoldable pub searching : List ℕ → List Document → List ℕ
 searching text documents = found_by documents (query_of text)
@@ -50,3 +58,7 @@ searching text documents = found_by documents (query_of text)
 -- the reply to a count of a text
 unfoldable pub counting : List ℕ → List Document → List ℕ
 counting text documents = counted_by documents (query_of text)
+
+-- the reply to an explain of a text
+unfoldable pub explaining : List ℕ → List ℕ
+explaining text = explained_by (query_of text)

@@ -1,15 +1,20 @@
 // Queries over documents in memory, one document after the other.
 ghost use Rattle.std.proofs.Common.{Global};
-ghost use Rattle.std.specs.Prelude.{◌≡◌, ◌++◌, codes, decimal, length, String, string_bytes, Ok, IfOk, IfErr, OnOk};
+ghost use Rattle.std.specs.Prelude.{◌≡◌, ◌++◌, [], codes, decimal, length, String, string_bytes, Ok, IfOk, IfErr, OnOk};
+ghost use Rattle.alta_compile.specs.Explained.{explained};
+ghost use Rattle.alta_compile.specs.PlanOf.{plan_of};
 ghost use Rattle.alta_model.specs.Deciding.{answers};
 ghost use Rattle.alta_query.specs.Answer.{fault_in};
+ghost use Rattle.alta_query.specs.Spelling.{canonical};
+ghost use Rattle.alta_query.specs.Texts.{HasTextTerms};
 ghost use Rattle.alta_query.specs.View.{shape};
-ghost use Rattle.alta_session.specs.Searching.{answer_lines, cause_name, found_line, query_refusal, searching, counting};
+ghost use Rattle.alta_session.specs.Searching.{answer_lines, cause_name, found_line, query_refusal, searching, counting, explaining};
 
 use alta_codec::Text;
+use alta_compile::{a_plan_is_text, compile};
 use alta_meta::{Document, Documents};
 use alta_model::matches;
-use alta_query::{Cause, Query, QueryFault, parse};
+use alta_query::{Cause, Query, QueryFault, parse, print};
 use alta_store::StoreFault;
 use std::alloc::{AllocError, Global};
 
@@ -34,6 +39,36 @@ pub fn count(alloc: Global, documents: &Documents, text: &str) -> Result<Text, S
         Ok(query) => written(counted(alloc, documents, &query)),
         Err(fault) => refused(alloc, fault),
     }
+}
+
+/// The reply to an explain: the canonical spelling of the query and the lines of its plan, or that the text is no query. It
+/// fails for want of memory alone.
+pub fn explain(alloc: Global, text: &str) -> Result<Text, StoreFault>
+    ensures reply { IfOk result (λ reply. reply ≡ explaining text.now) }
+    ensures memory { IfErr result (λ e. e ≡ StoreFault.Memory) }
+{
+    match parse(alloc, text) {
+        Ok(query) => written(with_plan(alloc, &query)),
+        Err(fault) => refused(alloc, fault),
+    }
+}
+
+// The canonical spelling of a query, and the lines of its plan.
+fn with_plan(alloc: Global, query: &Query) -> Result<String, AllocError>
+    requires { HasTextTerms (shape query.now) }
+    ensures { IfOk result (λ reply. string_bytes reply ≡ canonical (shape query.now) ++ codes "\n" ++ explained [] (plan_of (shape query.now))) }
+{
+    a_plan_is_text();
+    let canonical = print(alloc, query)?;
+    let plan = alta_compile::explain(alloc, &compile(alloc, query)?)?;
+    headed(alloc, canonical.as_str(), plan.as_str())
+}
+
+// Lines below a first one.
+fn headed(alloc: Global, head: &str, lines: &str) -> Result<String, AllocError>
+    ensures { IfOk result (λ text. string_bytes text ≡ head.now ++ codes "\n" ++ lines.now) }
+{
+    format!(in alloc; "{head}\n{lines}")
 }
 
 fn written(reply: Result<String, AllocError>) -> Result<Text, StoreFault>

@@ -10,13 +10,13 @@ ghost use Rattle.alta_meta.specs.declared.document.State.{State};
 ghost use Rattle.alta_session.specs.Agreement.{AgreesOn, AgreesOnSome, IsSound, room_in};
 ghost use Rattle.alta_session.specs.Asking.{Asks};
 ghost use Rattle.alta_session.specs.Fullness.{IsFull, bytes_of_change, record_bytes};
-ghost use Rattle.alta_session.specs.Machine.{step, adding, deleting, IsRefusal};
+ghost use Rattle.alta_session.specs.Machine.{step, adding, deleting, IsRefusal, IsStatsOrExplain};
 ghost use Rattle.alta_store.specs.Answers.{IsOutside, AnswersFault};
 ghost use Rattle.alta_store.specs.Brokenness.{HasNoIndex, IsBrokenAt};
 ghost use Rattle.alta_store.specs.Meaning.{StandsFor, StandsForEither};
 ghost use Rattle.alta_store.specs.States.{IsDocument};
 
-use crate::searching::{count, search};
+use crate::searching::{count, explain, search};
 use alta_codec::{Text, name_ok};
 use alta_disk::Disk;
 use alta_model::{Line, LineFault, read_line};
@@ -76,7 +76,7 @@ impl Session {
     /// `Disk` where a call of the disk failed. `Memory` where there is no memory. `Full` where the record of the line does
     /// not fit in the journal: with the bytes of that record, which are the line's and nine more where it adds and 14
     /// where it deletes, and those left. Then the index is as before the line or as after it, and the session is not
-    /// sound.
+    /// sound. `stats` and `explain` call no disk and fail for want of memory alone, and so does each line that is refused.
     pub fn line<D: Disk>(
         &mut self,
         alloc: Global,
@@ -95,6 +95,8 @@ impl Session {
         ensures not_sound { OnErr result (¬ (IsSound self.new)) }
         ensures refused { IfOk result (λ reply. IsRefusal reply → (disk.new ≡ disk.old) × (self.new ≡ self.old)) }
         ensures unchanged { (s : State) → D.tells → AgreesOn D.tells (D.state disk.old) self.old s → IsRefusal (step s line.now).1 → disk.new ≡ disk.old }
+        ensures no_disk { IsStatsOrExplain line.now → (disk.new ≡ disk.old) × IfErr result (λ e. e ≡ StoreFault.Memory) }
+        ensures refused_memory { (s : State) → D.tells → AgreesOn D.tells (D.state disk.old) self.old s → IsRefusal (step s line.now).1 → IfErr result (λ e. e ≡ StoreFault.Memory) }
         ensures only { IfErr result (λ e. IsOutside e ⊎ ((need gap : ℕ) × (e ≡ StoreFault.Full need gap))) }
         ensures full { (need gap : ℕ) → D.tells → result ≡ Err (StoreFault.Full need gap) → IsFull (D.state disk.new).content need gap }
         ensures need { (s : State) → (need gap : ℕ) → D.tells → AgreesOn D.tells (D.state disk.old) self.old s → result ≡ Err (StoreFault.Full need gap) → (need ≡ record_bytes s line.now) × (gap ≡ room_in self.old) }
@@ -130,6 +132,8 @@ impl Session {
         ensures sound { OnOk result (IsSound self.new) }
         ensures refused { IfOk result (λ reply. IsRefusal reply → (disk.new ≡ disk.old) × (self.new ≡ self.old)) }
         ensures unchanged { (s : State) → D.tells → AgreesOn D.tells (D.state disk.old) self.old s → IsRefusal (step s line.now).1 → disk.new ≡ disk.old }
+        ensures no_disk { IsStatsOrExplain line.now → (disk.new ≡ disk.old) × IfErr result (λ e. e ≡ StoreFault.Memory) }
+        ensures refused_memory { (s : State) → D.tells → AgreesOn D.tells (D.state disk.old) self.old s → IsRefusal (step s line.now).1 → IfErr result (λ e. e ≡ StoreFault.Memory) }
         ensures only { IfErr result (λ e. IsOutside e ⊎ ((need gap : ℕ) × (e ≡ StoreFault.Full need gap))) }
         ensures full { (need gap : ℕ) → D.tells → result ≡ Err (StoreFault.Full need gap) → IsFull (D.state disk.new).content need gap }
         ensures need { (s : State) → (need gap : ℕ) → D.tells → AgreesOn D.tells (D.state disk.old) self.old s → result ≡ Err (StoreFault.Full need gap) → (need ≡ record_bytes s line.now) × (gap ≡ room_in self.old) }
@@ -143,6 +147,7 @@ impl Session {
             Ask::Delete(name) => self.delete(alloc, disk, name),
             Ask::Search(text) => search(alloc, self.store.documents(), text),
             Ask::Count(text) => count(alloc, self.store.documents(), text),
+            Ask::Explain(text) => explain(alloc, text),
             Ask::Stats => stats(alloc, self.store.counts()),
             Ask::Refused(reply) => text(alloc, reply),
         }
@@ -168,6 +173,7 @@ impl Session {
         ensures sound { OnOk result (IsSound self.new) }
         ensures refused { IfOk result (λ reply. IsRefusal reply → (disk.new ≡ disk.old) × (self.new ≡ self.old)) }
         ensures unchanged { (s : State) → D.tells → AgreesOn D.tells (D.state disk.old) self.old s → IsRefusal (adding name.now title.now body.now s).1 → disk.new ≡ disk.old }
+        ensures refused_memory { (s : State) → D.tells → AgreesOn D.tells (D.state disk.old) self.old s → IsRefusal (adding name.now title.now body.now s).1 → IfErr result (λ e. e ≡ StoreFault.Memory) }
         ensures only { IfErr result (λ e. IsOutside e ⊎ ((need gap : ℕ) × (e ≡ StoreFault.Full need gap))) }
         ensures full { (need gap : ℕ) → D.tells → result ≡ Err (StoreFault.Full need gap) → IsFull (D.state disk.new).content need gap }
         ensures need { (s : State) → (need gap : ℕ) → D.tells → AgreesOn D.tells (D.state disk.old) self.old s → result ≡ Err (StoreFault.Full need gap) → (need ≡ bytes_of_change (length (body_of (Add name.now title.now body.now))) s (adding name.now title.now body.now s).0) × (gap ≡ room_in self.old) }
@@ -206,6 +212,7 @@ impl Session {
         ensures sound { OnOk result (IsSound self.new) }
         ensures refused { IfOk result (λ reply. IsRefusal reply → (disk.new ≡ disk.old) × (self.new ≡ self.old)) }
         ensures unchanged { (s : State) → D.tells → AgreesOn D.tells (D.state disk.old) self.old s → IsRefusal (deleting name.now s).1 → disk.new ≡ disk.old }
+        ensures refused_memory { (s : State) → D.tells → AgreesOn D.tells (D.state disk.old) self.old s → IsRefusal (deleting name.now s).1 → IfErr result (λ e. e ≡ StoreFault.Memory) }
         ensures only { IfErr result (λ e. IsOutside e ⊎ ((need gap : ℕ) × (e ≡ StoreFault.Full need gap))) }
         ensures full { (need gap : ℕ) → D.tells → result ≡ Err (StoreFault.Full need gap) → IsFull (D.state disk.new).content need gap }
         ensures need { (bytes : ℕ) → (s : State) → (need gap : ℕ) → D.tells → AgreesOn D.tells (D.state disk.old) self.old s → result ≡ Err (StoreFault.Full need gap) → (need ≡ bytes_of_change bytes s (deleting name.now s).0) × (gap ≡ room_in self.old) }
@@ -227,8 +234,8 @@ impl Session {
     }
 }
 
-// What a line asks for: a document to be added or deleted, a query or the counts to be answered, or a reply that
-// refuses it.
+// What a line asks for: a document to be added or deleted, a query to be answered or explained, the counts, or a reply
+// that refuses it.
 enum Ask<'a> {
     Add {
         name: &'a str,
@@ -238,6 +245,7 @@ enum Ask<'a> {
     Delete(&'a str),
     Search(&'a str),
     Count(&'a str),
+    Explain(&'a str),
     Stats,
     Refused(&'static str),
 }
@@ -253,6 +261,7 @@ fn asked(bytes: &[u8]) -> Ask<'_>
             Line::Delete { name } => Ask::Delete(name),
             Line::Search { text } => Ask::Search(text),
             Line::Count { text } => Ask::Count(text),
+            Line::Explain { text } => Ask::Explain(text),
             Line::Stats => Ask::Stats,
             _ => Ask::Refused("! unknown command\n"),
         },

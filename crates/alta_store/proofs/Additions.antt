@@ -8,7 +8,7 @@ use Rattle.alta_journal.specs.declared.entry.Entry.{Entry}
 use Rattle.alta_journal.specs.declared.places.TheConstants.{START_A}
 use Rattle.alta_meta.specs.declared.document.State.{State}
 use Rattle.alta_store.specs.Entries.{Allows, AllowsAll, after_entry, after_entries}
-use Rattle.alta_store.specs.Meaning.{View, IsView, StandsForEither, rooted, state_of}
+use Rattle.alta_store.specs.Meaning.{View, IsView, StandsForEither, rooted, state_of, with_entry}
 use Rattle.alta_store.specs.Roots.{IsRoot, first_fields, byte_at}
 use Rattle.alta_store.proofs.Formatted.{byte_same}
 
@@ -20,10 +20,6 @@ pub allows_more : (s : State) (entries : List Entry) (entry : Entry) → AllowsA
 allows_more s [] entry all more = (more, tt)
 allows_more s (first ∷ entries) entry all more = (all.0, allows_more (after_entry s first) entries entry all.1 more)
 
--- the view with one entry more
-abbrev pub with_entry : View → Entry → View
-with_entry view entry = record { next = view.next; location = view.location; entries = view.entries ++ entry ∷ [] }
-
 module _ (place : ℕ) (view : View) (old new : List ℕ) (is : IsView place view old) (n : ℕ) (torn : Torn place n old new) where
   -- the slots stand before the journal, and are as they were
   root_stays : IsRoot view.next view.location (first_fields new)
@@ -33,12 +29,13 @@ module _ (place : ℕ) (view : View) (old new : List ℕ) (is : IsView place vie
   alone_stays is_open = is.alone (sym (byte_same 4096 old new (part_torn place n 4096 1 old new torn (inl (omega (arith, is.journal.starts))))) ∙ is_open)
 
   pub same_view : EndsAt START_A place view.entries new → IsView place view new
-  same_view journal = record { root = root_stays; alone = alone_stays; journal = journal; allowed = is.allowed }
+  same_view journal = record { root = root_stays; alone = alone_stays; named = is.named; journal = journal; allowed = is.allowed }
 
   pub view_with : (entry : Entry) (next : ℕ) → EndsAt START_A next (view.entries ++ entry ∷ []) new → Allows (state_of view) entry → IsView next (with_entry view entry) new
   view_with entry next journal allowed = record {
     root = root_stays;
     alone = alone_stays;
+    named = is.named;
     journal = journal;
     allowed = allows_more (rooted view) view.entries entry is.allowed allowed;
   }

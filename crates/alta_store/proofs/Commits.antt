@@ -17,13 +17,14 @@ use Rattle.alta_journal.proofs.Spelling.{add_long, body_long, delete_long}
 use Rattle.alta_meta.specs.declared.document.State.{State}
 use Rattle.alta_store.specs.Agreement.{Agrees, Holds, Knows}
 use Rattle.alta_store.specs.Entries.{Allows, after_entry}
-use Rattle.alta_store.specs.Meaning.{StandsForEither, rooted}
+use Rattle.alta_store.specs.Meaning.{View, IsView, StandsForEither, rooted, with_entry}
 use Rattle.alta_store.specs.States.{IsDocument, with_added, with_deleted}
 use Rattle.alta_store.specs.declared.store.Store.{Store}
-use Rattle.alta_store.proofs.Additions.{either_stands, view_with, with_entry, after_more}
+use Rattle.alta_store.proofs.Additions.{either_stands, view_with, after_more}
 use Rattle.alta_store.proofs.Agreements.{stands_of}
 use Rattle.alta_store.proofs.KnowledgeLaws.{deleted_is, is_numbered}
 use Rattle.alta_store.proofs.NameLaws.{All-has_byte}
+use Rattle.alta_store.proofs.OneWay.{one_view}
 
 -- what the journal asks of a document
 pub keeps_rules : (name title body : List ℕ) → IsDocument name title body → KeepsRules (Add name title body)
@@ -64,22 +65,39 @@ module _ (tells : Type 0) (a : DiskState) (lawful : IsLawful tells a) (store : S
 
       module _ (lawful_b : IsLawful tells b) (durable : Only b.content b.images)
           (appended : tells → Appended (start_of store.tail.half) store.tail.place entry a.content b.content)
-          (later : Store) (place_is : later.tail.place ≡ store.tail.place + length (record_of entry)) (half_is : later.tail.half ≡ store.tail.half)
-          (knows : tells → Knows later.next later.names later.documents t) where
+          (place : ℕ) (place_is : place ≡ store.tail.place + length (record_of entry)) where
         step : tells → Appends (start_of store.tail.half) store.tail.place entry a.content b.content
         step told =
             let after = run.now b.content (lawful_b.present told) in
             subst (λ (d : List ℕ). Appends (start_of store.tail.half) store.tail.place entry d b.content) (agrees.settled after.0 after.1) after.2
 
+        has_view : (told : tells) → IsView place (with_entry (agrees.content told).view entry) b.content
+        has_view told =
+            let held = agrees.content told in
+            let ends = subst (λ (h : Half). Appended (start_of h) store.tail.place entry a.content b.content) agrees.half (appended told) held.view.entries held.is.journal in
+            view_with store.tail.place held.view a.content b.content held.is _ (step told).outside entry place
+            (subst (λ (p : ℕ). EndsAt START_A p (held.view.entries ++ entry ∷ []) b.content) (sym place_is) ends)
+            (subst (λ (u : State). Allows u entry) (sym held.state_is) (allowed told))
+
+        -- each image has the view of before, with the entry as its last
+        pub views_after : (e : Entry) → entry ≡ e → (view : View) → Stands tells a (IsView store.tail.place view) → Stands tells b (IsView place (with_entry view e))
+        views_after e is view stands =
+            subst (λ (x : Entry). Stands tells b (IsView place (with_entry view x))) is
+            (stands_only tells b (IsView place (with_entry view entry)) lawful_b durable
+            (λ told.
+            let same = (one_view store.tail.place store.tail.place (agrees.content told).view view a.content (agrees.content told).is (stands.content told)).1 in
+            subst (λ (v : View). IsView place (with_entry v entry) b.content) same (has_view told)))
+
+      module _ (lawful_b : IsLawful tells b) (durable : Only b.content b.images)
+          (appended : tells → Appended (start_of store.tail.half) store.tail.place entry a.content b.content)
+          (later : Store) (place_is : later.tail.place ≡ store.tail.place + length (record_of entry)) (half_is : later.tail.half ≡ store.tail.half)
+          (knows : tells → Knows later.next later.names later.documents t) where
         holds : tells → Holds later t b.content
         holds told =
             let held = agrees.content told in
-            let ends = subst (λ (h : Half). Appended (start_of h) store.tail.place entry a.content b.content) agrees.half (appended told) held.view.entries held.is.journal in
             record {
               view = with_entry held.view entry;
-              is = view_with store.tail.place held.view a.content b.content held.is _ (step told).outside entry later.tail.place
-                  (subst (λ (p : ℕ). EndsAt START_A p (held.view.entries ++ entry ∷ []) b.content) (sym place_is) ends)
-                  (subst (λ (u : State). Allows u entry) (sym held.state_is) (allowed told));
+              is = has_view lawful_b durable appended later.tail.place place_is told;
               state_is = after_more (rooted held.view) held.view.entries entry ∙ ap (λ (u : State). after_entry u entry) held.state_is ∙ after_is told;
               knows = knows told;
             }

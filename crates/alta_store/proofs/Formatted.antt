@@ -84,10 +84,11 @@ module _ (c0 c1 c2 : List ℕ) (clear : IsClear HEAD_BYTES c0) (body : Holds c0 
   pub stands : StandsFor empty c2
   stands = record {
     place = START_A;
-    view = record { next = 1; location = 1; entries = [] };
+    view = record { next = 1; location = 1; levels = []; deleted = []; entries = [] };
     is = record {
       root = subst (IsRoot 1 1) (sym fields_are) empty_root;
       alone = λ is_open. absurd (omega (arith, is_open, byte_behind 4096 (omega arith) (omega arith)));
+      named = record { levels_are = refl; deleted_are = refl };
       journal = no_entries;
       allowed = tt;
     };

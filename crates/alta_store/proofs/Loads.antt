@@ -64,8 +64,14 @@ module _ (content : List ℕ) (n l : ℕ) (found : List Placed) (root : HasRoot 
   loads store (entries, is, ends) (allowed, knows) =
       let same : entries_in found ≡ entries = ap entries_in is ∙ entries_in-placed START_A entries in
       record {
-        view = record { next = n; location = l; entries = entries };
-        is = record { root = root.root; alone = root.alone; journal = ends; allowed = subst (AllowsAll (start_at n)) same allowed };
+        view = record { next = n; location = l; levels = []; deleted = []; entries = entries };
+        is = record {
+          root = root.root;
+          alone = root.alone;
+          named = record { levels_are = refl; deleted_are = refl };
+          journal = ends;
+          allowed = subst (AllowsAll (start_at n)) same allowed;
+        };
         state_is = ap (after_entries (start_at n)) (sym same);
         knows = knows;
       }

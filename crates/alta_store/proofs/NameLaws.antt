@@ -18,7 +18,7 @@ same_test true b there back = sym (there refl)
 same_test false true there back = back refl
 same_test false false there back = refl
 
-bytes_eq-swap : (xs ys : List ℕ) → bytes_eq xs ys ≡ bytes_eq ys xs
+pub bytes_eq-swap : (xs ys : List ℕ) → bytes_eq xs ys ≡ bytes_eq ys xs
 bytes_eq-swap xs ys =
     same_test (bytes_eq xs ys) (bytes_eq ys xs)
     (λ e. search (rules, bytes_eq-Decides xs ys, bytes_eq-Decides ys xs))

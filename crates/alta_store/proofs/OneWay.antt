@@ -10,7 +10,8 @@ use Rattle.alta_journal.proofs.Unique.{one_reading, one_fault, not_both}
 use Rattle.alta_meta.specs.declared.document.State.{State}
 use Rattle.alta_store.specs.Brokenness.{HasNoIndex, HasRoot, HasBadRoot, HasBadEntry, HasBadJournal, IsBrokenAt}
 use Rattle.alta_store.specs.Entries.{Allows, AllowsAll, after_entry, after_entries, entries_in, IsRefusedAt}
-use Rattle.alta_store.specs.Meaning.{View, IsView, StandsFor, start_at, state_of}
+use Rattle.alta_store.specs.Levels.{Level}
+use Rattle.alta_store.specs.Meaning.{View, AreNamed, IsView, StandsFor, rooted, start_at, state_of}
 use Rattle.alta_store.specs.Roots.{first_fields, IsRoot}
 
 one_root : (n m l k : ℕ) (fields : List ℕ) → IsRoot n l fields → IsRoot m k fields → n ≡ m
@@ -21,14 +22,30 @@ pub entries_in-placed : (place : ℕ) (entries : List Entry) → entries_in (pla
 entries_in-placed place [] = refl
 entries_in-placed place (entry ∷ entries) = ap (λ (es : List Entry). entry ∷ es) (entries_in-placed (place + length (record_of entry)) entries)
 
-same_view : (place spot : ℕ) (a b : View) (image : List ℕ) → IsView place a image → IsView spot b image → state_of a ≡ state_of b
-same_view place spot a b image is are =
-    ap (λ (n : ℕ). after_entries (start_at n) a.entries) (one_root a.next b.next a.location b.location (first_fields image) is.root are.root)
-    ∙ ap (λ (es : List Entry). after_entries (start_at b.next) es) (one_reading START_A place spot a.entries b.entries image is.journal are.journal).1
+-- a view from its parts
+view_of : ℕ → ℕ → List Level → List ℕ → List Entry → View
+view_of next location levels deleted entries = record { next = next; location = location; levels = levels; deleted = deleted; entries = entries }
+
+-- an image has at most one view, and its journal ends at one place
+pub one_view : (place spot : ℕ) (a b : View) (image : List ℕ) → IsView place a image → IsView spot b image → (place ≡ spot) × (a ≡ b)
+unfolding view_of
+one_view place spot a b image is are =
+    let read = one_reading START_A place spot a.entries b.entries image is.journal are.journal in (
+      read.0,
+      ap (λ (n : ℕ). view_of n a.location a.levels a.deleted a.entries) (one_root a.next b.next a.location b.location (first_fields image) is.root are.root)
+          ∙ ap (λ (l : ℕ). view_of b.next l a.levels a.deleted a.entries) (is.root.location_is ∙ sym are.root.location_is)
+          ∙ ap (λ (ls : List Level). view_of b.next b.location ls a.deleted a.entries) (is.named.levels_are ∙ sym are.named.levels_are)
+          ∙ ap (λ (ds : List ℕ). view_of b.next b.location b.levels ds a.entries) (is.named.deleted_are ∙ sym are.named.deleted_are)
+          ∙ ap (λ (es : List Entry). view_of b.next b.location b.levels b.deleted es) read.1,
+    )
+
+-- without levels there is no document before the entries
+pub rooted_is : (view : View) → AreNamed view.levels view.deleted → rooted view ≡ start_at view.next
+rooted_is view named = ap (λ (ls : List Level). rooted (record { next = view.next; location = view.location; levels = ls; deleted = view.deleted; entries = view.entries })) named.levels_are
 
 -- an image stands for at most one state
 pub one_state : (s t : State) (image : List ℕ) → StandsFor s image → StandsFor t image → s ≡ t
-one_state s t image a b = sym a.state_is ∙ same_view a.place b.place a.view b.view image a.is b.is ∙ b.state_is
+one_state s t image a b = sym a.state_is ∙ ap state_of (one_view a.place b.place a.view b.view image a.is b.is).1 ∙ b.state_is
 
 -- one that stands for a state has an index
 pub stands_indexed : (s : State) (image : List ℕ) → StandsFor s image → HasNoIndex image → ⊥
@@ -61,7 +78,8 @@ stands_unbroken s image place a broken =
     let same = (one_reading START_A entry.tail a.place entry.entries a.view.entries image entry.journal a.is.journal).1 in
     let next = one_root a.view.next journal.next a.view.location journal.location (first_fields image) a.is.root journal.root.root in
     not_refused (start_at journal.next) (placed START_A entry.entries) place
-    (subst (AllowsAll (start_at journal.next)) (sym same ∙ sym (entries_in-placed START_A entry.entries)) (subst (λ (n : ℕ). AllowsAll (start_at n) a.view.entries) next a.is.allowed))
+    (subst (AllowsAll (start_at journal.next)) (sym same ∙ sym (entries_in-placed START_A entry.entries))
+    (subst (λ (n : ℕ). AllowsAll (start_at n) a.view.entries) next (subst (λ (s : State). AllowsAll s a.view.entries) (rooted_is a.view a.is.named) a.is.allowed)))
     entry.refused) journal.broken) broken.broken
 
 head_of : Placed → List Placed → Placed

@@ -26,6 +26,7 @@ use Rattle.alta_store.specs.Entries.{after_entries}
 use Rattle.alta_store.specs.Meaning.{rooted}
 use Rattle.alta_store.specs.States.{with_added, without, word_count, words_in}
 use Rattle.alta_store.specs.declared.store.Store.{Store}
+use Rattle.alta_store.proofs.OneWay.{rooted_is}
 
 -- a text has no more words than bytes
 few_words : (text : List ℕ) → IsUtf8 text → length (words_of text) ≤ length text
@@ -70,7 +71,8 @@ words_fit store s image holds =
     let inside = ends_inside START_A store.tail.place entries image (omega arith) ends in
     let bytes : length (flat_map record_of entries) ≤ HALF_BYTES =
     omega (arith, ap length ends.begins.records, length-take-le (store.tail.place - START_A) (half_at START_A image) (omega (arith, ends.begins.gate)), inside, ends.starts) in
-    subst (λ (t : State). words_in t ≤ HALF_BYTES) holds.state_is (omega (arith, words_after (rooted holds.view) entries ends.begins.sound, bytes))
+    let none : words_in (rooted holds.view) ≡ 0 = ap words_in (rooted_is holds.view holds.is.named) in
+    subst (λ (t : State). words_in t ≤ HALF_BYTES) holds.state_is (omega (arith, words_after (rooted holds.view) entries ends.begins.sound, none, bytes))
 
 pub counts_are : (store : Store) (s : State) (image : List ℕ) → Holds store s image → (documents : List Document) → documents ≡ store.documents
     → (words : ℕ) → (sum_by word_count documents < 2 ^ 64 → words ≡ sum_by word_count documents)

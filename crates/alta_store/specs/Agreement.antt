@@ -32,10 +32,14 @@ pub record Knows (number : ℕ) (known : BTreeMap (String Global) ℕ) (kept : L
   pub numbers : AreFound known s.documents
   pub rising : RiseWithin 0 s.documents s.next
 
+-- The store holds this view of an image: the image has it, and its journal ends where the store goes on.
+abbrev pub HasView : Store → View → List ℕ → Type 0
+HasView store view image = IsView store.tail.place view image
+
 -- What the store keeps is what this image says, and it stands for this state.
 pub record Holds (store : Store) (s : State) (image : List ℕ) : Type 0 where
   pub view : View
-  pub is : IsView store.tail.place view image
+  pub is : HasView store view image
   pub state_is : state_of view ≡ s
   pub knows : Knows store.next store.names store.documents s
 

@@ -5,6 +5,7 @@ mod documents;
 mod fault;
 mod formatting;
 mod laws;
+mod lists;
 mod names;
 mod opening;
 mod places;
@@ -16,6 +17,7 @@ mod tests;
 
 pub use fault::StoreFault;
 pub use formatting::format;
-pub use laws::a_disk_is_read_one_way;
+pub use laws::{a_disk_is_read_one_way, a_disk_is_read_or_damaged};
+pub use lists::{NameRow, Names};
 pub use opening::has_index;
 pub use store::Store;

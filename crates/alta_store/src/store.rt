@@ -3,16 +3,17 @@ ghost use Rattle.std.specs.BTreeMap.{get_by_text};
 ghost use Rattle.std.specs.Str.{bytes_eq};
 ghost use Rattle.std.specs.Prelude.{◌||◌, ◌≡◌, ◌⊎◌, ◌↔◌, ◌+◌, ◌<◌, ◌≤◌, ◌++◌, ◌∷◌, [], ℕ, List, true, false, length, is_some, Result, Ok, Err, Some, IfOk, IfErr, OnOk, OnErr, IsErr, HoldsAt, MatchOption};
 ghost use Rattle.alta_codec.specs.Faults.{Rose};
-ghost use Rattle.alta_disk.specs.Disk.{DiskState, Same, Only, Passes, LeavesOnly};
+ghost use Rattle.alta_disk.specs.Disk.{DiskState, Same, Only, Passes, Stands, LeavesOnly};
 ghost use Rattle.alta_journal.specs.Record.{body_of};
 ghost use Rattle.alta_journal.specs.declared.entry.Entry.TheVariants.{Add, Delete};
 ghost use Rattle.alta_journal.specs.declared.places.TheConstants.{HALF_BYTES, HEAD_BYTES};
 ghost use Rattle.alta_journal.specs.declared.half.Half.TheVariants.{A};
 ghost use Rattle.alta_meta.specs.declared.document.State.{State};
-ghost use Rattle.alta_store.specs.Agreement.{Agrees, Holds, Knows, HasRoom, is_sound, room_of};
+ghost use Rattle.alta_store.specs.Agreement.{Agrees, HasView, Holds, Knows, HasRoom, is_sound, room_of};
 ghost use Rattle.alta_store.specs.Answers.{IsOutside, AnswersFault};
 ghost use Rattle.alta_store.specs.Brokenness.{HasNoIndex, IsBrokenAt};
-ghost use Rattle.alta_store.specs.Meaning.{StandsFor, StandsForEither};
+ghost use Rattle.alta_store.specs.Meaning.{View, IsView, StandsFor, StandsForEither, with_entry};
+ghost use Rattle.alta_store.specs.Naming.{AreNames};
 ghost use Rattle.alta_store.specs.Replaying.{Keeps};
 ghost use Rattle.alta_store.specs.States.{has_name, number_of, words_in, with_added, with_deleted, without, IsDocument};
 ghost use Rattle.alta_store.specs.declared.fault.StoreFault.TheVariants.{Disk as DiskFault, Memory, NoRoot, Damaged, Taken, Missing, Numbers, Full};
@@ -20,7 +21,8 @@ ghost use Rattle.alta_store.specs.declared.fault.StoreFault.TheVariants.{Disk as
 use crate::StoreFault;
 use crate::documents::{document_of, index_of, remove_at, words_of};
 use crate::fault::opening_fault;
-use crate::names::{forget, note};
+use crate::lists::Names;
+use crate::names::{forget, note, rows_in};
 use crate::opening::read_root;
 use crate::places::LAST_NEXT;
 use crate::replaying::{Replay, apply_entries, documents_in};
@@ -67,6 +69,18 @@ impl Store {
         (documents.len() as u64, words_of(documents), self.next)
     }
 
+    /// The names of the live documents with their numbers, in the order of bytes, each once. One pass over the names, which
+    /// are kept in this order: a copy of each, and no comparison.
+    ///
+    /// # Errors
+    ///
+    /// `AllocError` where there was no memory left for the list.
+    pub fn names(&self, alloc: Global) -> Result<Names, AllocError>
+        ensures { (s : State) (image : List ℕ) → Holds self.now s image → IfOk result (AreNames s) }
+    {
+        rows_in(alloc, &self.names)
+    }
+
     // The store may no longer be used.
     fn failed(&mut self, fault: StoreFault) -> StoreFault
         ensures fault { result ≡ fault }
@@ -83,7 +97,8 @@ impl Store {
     ///
     /// `NoRoot` exactly where the content has no index, and `Damaged` exactly where it has one that breaks a rule of the
     /// format, with the first place in this order: the length of a disk that is too short, 0 for the slots, and the place
-    /// in the journal. Both yield to `Memory`, and to `Disk` where a call of the disk failed.
+    /// in the journal. Both yield to `Memory`, and to `Disk` where a call of the disk failed. After each error but `Disk` the
+    /// sync was done: nothing is pending, and the content is the only image. After `Disk` each image is one of those before.
     pub fn open<D: Disk>(alloc: Global, disk: &mut D) -> Result<Store, StoreFault>
         ensures agrees { (s : State) → (D.tells → StandsFor s (D.state disk.old).content) → IfOk result (λ store. Agrees D.tells (D.state disk.new) store s) }
         ensures some { IfOk result (λ store. (s : State) × Agrees D.tells (D.state disk.new) store s) }
@@ -98,6 +113,8 @@ impl Store {
         ensures only { IfErr result (λ e. IsOutside e ⊎ ((e ≡ NoRoot) ⊎ ((place : ℕ) × (e ≡ Damaged place)))) }
 
         ensures durable { OnOk result (Only (D.state disk.new).content (D.state disk.new).images) }
+        ensures settled { IfErr result (λ e. (e ≡ DiskFault) ⊎ Only (D.state disk.new).content (D.state disk.new).images) }
+        ensures view { (place : ℕ) (view : View) → (D.tells → IsView place view (D.state disk.old).content) → IfOk result (λ store. Stands D.tells (D.state disk.new) (HasView store view)) }
         ensures content { D.tells → (D.state disk.new).content ≡ (D.state disk.old).content }
         ensures images { Passes Same (D.state disk.old) (D.state disk.new) }
         ensures cause { result ≡ Err DiskFault → Rose (D.state disk.old).faults (D.state disk.new).faults }
@@ -113,7 +130,7 @@ impl Store {
 
     /// Adds a document, by one record in the journal, and answers its number. The title has no tab, title and body have no
     /// newline. While it runs, each image that a stop may leave stands for the state before or after; once it has
-    /// answered, each stands for the state after.
+    /// answered, each stands for the state after, by the view of before with one entry more.
     ///
     /// # Errors
     ///
@@ -133,6 +150,7 @@ impl Store {
         requires limit { HEAD_BYTES ≤ (D.state disk.old).limit }
 
         ensures agrees { (s : State) → Agrees D.tells (D.state disk.old) self.old s → OnOk result (Agrees D.tells (D.state disk.new) self.new (with_added name.now title.now body.now s)) }
+        ensures view { (view : View) → Stands D.tells (D.state disk.old) (HasView self.old view) → OnOk result (Stands D.tells (D.state disk.new) (HasView self.new (with_entry view (Add name.now title.now body.now)))) }
         ensures number { (s : State) → Agrees D.tells (D.state disk.old) self.old s → D.tells → IfOk result (λ n. (n ≡ s.next) × (has_name name.now s ≡ false) × (s.next < 4294967296)) }
         ensures sound { OnOk result (is_sound self.new ≡ true) }
         ensures unsound { IfErr result (λ e. ((e ≡ Taken) ⊎ (e ≡ Numbers)) ⊎ (is_sound self.new ≡ false)) }
@@ -180,6 +198,7 @@ impl Store {
         requires limit { HEAD_BYTES ≤ (D.state disk.old).limit }
 
         ensures agrees { (s : State) → Agrees D.tells (D.state disk.old) self.old s → OnOk result (Agrees D.tells (D.state disk.new) self.new (with_added name.now title.now body.now s)) }
+        ensures view { (view : View) → Stands D.tells (D.state disk.old) (HasView self.old view) → OnOk result (Stands D.tells (D.state disk.new) (HasView self.new (with_entry view (Add name.now title.now body.now)))) }
         ensures number { IfOk result (λ n. n ≡ self.old.next) }
         ensures sound { is_sound self.new ≡ is_sound self.old }
         ensures images { (s : State) → Agrees D.tells (D.state disk.old) self.old s → LeavesOnly (StandsForEither s (with_added name.now title.now body.now s)) (D.state disk.old) (D.state disk.new) }
@@ -217,7 +236,8 @@ impl Store {
     }
 
     /// Deletes the live document with this name, by one record in the journal, and answers its number. While it runs, each image
-    /// that a stop may leave stands for the state before or after; once it has answered, each stands for the state after.
+    /// that a stop may leave stands for the state before or after; once it has answered, each stands for the state after, by
+    /// the view of before with one entry more.
     ///
     /// # Errors
     ///
@@ -230,6 +250,7 @@ impl Store {
         requires limit { HEAD_BYTES ≤ (D.state disk.old).limit }
 
         ensures agrees { (s : State) → Agrees D.tells (D.state disk.old) self.old s → OnOk result (Agrees D.tells (D.state disk.new) self.new (with_deleted name.now s)) }
+        ensures view { (view : View) → Stands D.tells (D.state disk.old) (HasView self.old view) → IfOk result (λ n. Stands D.tells (D.state disk.new) (HasView self.new (with_entry view (Delete n)))) }
         ensures number { (s : State) → Agrees D.tells (D.state disk.old) self.old s → D.tells → IfOk result (λ n. number_of name.now s ≡ Some n) }
         ensures sound { OnOk result (is_sound self.new ≡ true) }
         ensures unsound { IfErr result (λ e. (e ≡ Missing) ⊎ (is_sound self.new ≡ false)) }
@@ -286,6 +307,7 @@ impl Store {
         requires limit { HEAD_BYTES ≤ (D.state disk.old).limit }
 
         ensures agrees { (s : State) → Agrees D.tells (D.state disk.old) self.old s → OnOk result (Agrees D.tells (D.state disk.new) self.new (with_deleted name.now s)) }
+        ensures view { (view : View) → Stands D.tells (D.state disk.old) (HasView self.old view) → OnOk result (Stands D.tells (D.state disk.new) (HasView self.new (with_entry view (Delete number)))) }
         ensures sound { is_sound self.new ≡ is_sound self.old }
         ensures images { (s : State) → Agrees D.tells (D.state disk.old) self.old s → LeavesOnly (StandsForEither s (with_deleted name.now s)) (D.state disk.old) (D.state disk.new) }
         ensures full { (need gap : ℕ) → result ≡ Err (Full need gap) → (need ≡ length (body_of (Delete number))) × (gap ≡ room_of self.old) × (gap < need) }

@@ -22,6 +22,11 @@ const DELETE_1: &[u8] = b"\xa5\0\0\0\x09\x02\0\0\0\0\0\0\0\x01\0";
 
 const DELETE_2: &[u8] = b"\xa5\0\0\0\x09\x02\0\0\0\0\0\0\0\x02\0";
 
+// The records of adds without title and body, with the closed gate of the next.
+const RECORD_B: &[u8] = b"\xa5\0\0\0\x0b\x01\x01B\0\0\0\0\0\0\0\0\0";
+
+const RECORD_AA: &[u8] = b"\xa5\0\0\0\x0c\x01\x02aa\0\0\0\0\0\0\0\0\0";
+
 // The content of a disk that was just formatted.
 fn formatted(alloc: Global) -> Result<Vec<u8>, Fail> {
     let mut disk = MemoryDisk::new(alloc, Vec::new(alloc), LIMIT, Vec::new(alloc));
@@ -36,6 +41,16 @@ fn opened(alloc: Global, content: Vec<u8>) -> Option<StoreFault> {
     }
     let mut disk = MemoryDisk::new(alloc, content, LIMIT, Vec::new(alloc));
     Store::open(alloc, &mut disk).err()
+}
+
+// The names of the store of this content.
+fn names_of(alloc: Global, content: Vec<u8>) -> Result<Names, StoreFault> {
+    if content.len() as u64 > LIMIT {
+        return Err(StoreFault::NoRoot);
+    }
+    let mut disk = MemoryDisk::new(alloc, content, LIMIT, Vec::new(alloc));
+    let store = Store::open(alloc, &mut disk)?;
+    store.names(alloc).or(Err(StoreFault::Memory))
 }
 
 // Writes bytes over those at a place.
@@ -262,6 +277,23 @@ fn names_and_numbers_are_as_the_state_has_them(rt: HostRuntime) -> Result<(), Fa
     let (numbers, counts) = answers_on(alloc, last, &steps).or(Err("the disk failed"))?;
     assert_eq!(rt; numbers.as_slice(), [Some(4_294_967_295), None].as_slice());
     assert_eq!(rt; counts, (1, 6, 4_294_967_296));
+    Ok(())
+}
+
+#[test]
+fn names_stand_in_the_order_of_bytes(rt: HostRuntime) -> Result<(), Fail> {
+    let alloc = rt.alloc();
+    let mut content = formatted(alloc)?;
+    put(&mut content, 8_192, RECORD);
+    put(&mut content, 8_232, RECORD_B);
+    put(&mut content, 8_248, RECORD_AA);
+    let names = names_of(alloc, content).or(Err("the store was not opened"))?;
+    let wanted = [("B", 2), ("a", 1), ("aa", 3)];
+    assert_eq!(rt; names.len(), 3);
+    assert!(rt; names.get(3).is_none());
+    for (row, (name, number)) in names.as_slice().iter().zip(wanted) {
+        assert_eq!(rt; (row.name.as_str(), row.number), (name, number));
+    }
     Ok(())
 }
 

@@ -119,6 +119,21 @@ impl Table {
         &self.parts.documents
     }
 
+    /// The documents and the terms, without a copy.
+    pub fn into_rows(self) -> (Vec<DocRow>, Vec<TermRow>)
+        ensures documents { result.0.items ≡ self.documents }
+        ensures terms { result.1.items ≡ self.terms }
+    {
+        let Parts {
+            place: _,
+            documents,
+            names: _,
+            terms,
+            streams: _,
+        } = self.parts;
+        (documents, terms)
+    }
+
     /// The place on the disk of a document's name.
     pub fn name_place(&self, row: usize) -> u64
         requires { row < length self.now.documents }

@@ -1,4 +1,4 @@
-use Rattle.std.proofs.Common.{ℕ, List, ◌≡◌, ◌++◌, ◌∷◌, [], get_or, length, refl, sym, ap, ◌∙◌, append-nil, append_assoc}
+use Rattle.std.proofs.Common.{ℕ, List, ◌≡◌, ◌++◌, length, sym, ap, ◌∙◌, append-nil, append_assoc}
 use Rattle.alta_postings.specs.Deltas.{stream_bytes}
 use Rattle.alta_level.specs.Coded.{summary_bytes}
 use Rattle.alta_level.proofs.Entries.{entry_more, data_more, nothing_spelled}

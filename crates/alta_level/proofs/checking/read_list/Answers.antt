@@ -1,4 +1,4 @@
-use Rattle.std.proofs.Common.{ℕ, List, arith}
+use Rattle.std.proofs.Common.{arith}
 use Rattle.alta_level.specs.Stored.{IsListOf, IsListFault, stored_of}
 use Rattle.alta_level.proofs.Faults.{list_fault_once, list_once, list_or_fault}
 use Rattle.alta_level.proofs.Joins.{only_of, broken_of}

@@ -1,4 +1,4 @@
-use Rattle.std.proofs.Common.{◌≡◌, ℕ, ◌<◌, ◌^◌, List, length}
+use Rattle.std.proofs.Common.{length}
 use Rattle.alta_level.proofs.Once.{segment_once, segment_or_fault, segment_fault_once}
 use Rattle.alta_level.proofs.laws.segments_read_back.Goals as goal
 

@@ -1,5 +1,4 @@
-use Rattle.std.proofs.Common.{arith, get_or, subst, ℕ}
-use Rattle.alta_level.specs.Stored.{firsts_of}
+use Rattle.std.proofs.Common.{arith}
 use Rattle.alta_level.proofs.Apart.{between}
 use Rattle.alta_level.proofs.ranges.holder.Goals as goal
 

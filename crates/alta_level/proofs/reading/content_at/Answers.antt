@@ -1,4 +1,4 @@
-use Rattle.std.proofs.Common.{◌≡◌, ℕ, List, length}
+use Rattle.std.proofs.Common.{ℕ, length}
 use Rattle.alta_table.specs.Tables.{Tables, IsDamage}
 use Rattle.alta_level.specs.declared.content.Content.{Content}
 use Rattle.alta_level.specs.Damage.{IsSegmentFault}

@@ -1,6 +1,4 @@
-use Rattle.std.proofs.Common.{◌≡◌, ◌+◌, ℕ, List, Vec, Global, length, drop, refl, sym, subst, ap, ◌∙◌, arith}
-use Rattle.alta_table.specs.declared.document.DocRow.{DocRow}
-use Rattle.alta_table.specs.declared.term.TermRow.{TermRow}
+use Rattle.std.proofs.Common.{ℕ, List, Vec, Global, drop, sym, subst, ap, ◌∙◌, arith}
 use Rattle.alta_table.specs.Tables.{Tables}
 use Rattle.alta_level.specs.declared.content.Content.{Content}
 use Rattle.alta_level.specs.declared.content.TermList.{TermList}

@@ -1,11 +1,11 @@
-use Rattle.std.proofs.Common.{◌≡◌, ◌+◌, ℕ, List, [], ◌∷◌, Vec, Global, length, drop, refl, sym, subst, ap, ◌∙◌, arith}
-use Rattle.std.specs.Vec.Iter.{into_iter_items, into_iter_len}
+use Rattle.std.proofs.Common.{List, Vec, Global, length, refl, subst, ap, arith}
+use Rattle.std.specs.Vec.Iter.{into_iter_items}
 use Rattle.alta_table.specs.declared.term.TermRow.{TermRow}
 use Rattle.alta_level.specs.declared.content.TermList.{TermList}
 use Rattle.alta_level.specs.Stored.{IsListFault}
 use Rattle.alta_level.specs.Damage.{IsFaultInLists, stored_at}
 use Rattle.alta_level.proofs.Joins.{fault_goes}
-use Rattle.alta_level.proofs.Progress.{Progress, begins, goes_on, faulty, fits, ends_read, turn, end_of_turns}
+use Rattle.alta_level.proofs.Progress.{Progress, goes_on, faulty, ends_read, turn, end_of_turns}
 use Rattle.alta_level.proofs.reading.lists_at.Goals as goal
 
 pub returns-in-Err-clause-first : goal.returns-in-Err-clause-first

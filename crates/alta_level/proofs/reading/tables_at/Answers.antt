@@ -1,5 +1,4 @@
-use Rattle.std.proofs.Common.{◌≡◌, ◌+◌, ◌<◌, ℕ, List, length, take, sym, ap, ◌∙◌, arith}
-use Rattle.alta_format.specs.FormatLaws.{failed}
+use Rattle.std.proofs.Common.{◌+◌, ℕ, List, length, sym, ap, ◌∙◌, arith}
 use Rattle.alta_table.specs.Tables.{Tables, IsDamage, tables_of}
 use Rattle.alta_table.specs.declared.sizes.Head.{Head}
 use Rattle.alta_level.proofs.Windows.{head_fails, tables_fail}

@@ -1,7 +1,4 @@
-use Rattle.std.proofs.Common.{◌≡◌, ℕ, List, length, Result, Ok, Err, refl, ap, sym, ◌∙◌}
-use Rattle.std.specs.Prelude.{Option, Some, None}
-use Rattle.alta_query.specs.Shape.{Shape}
-use Rattle.alta_query.specs.Faults.{Fault, fault_of}
+use Rattle.std.proofs.Common.{length}
 use Rattle.alta_query.specs.Reading.{query_of}
 use Rattle.alta_query.specs.Spots.{spots}
 use Rattle.alta_query.proofs.Exact.{parse_reads, reads_parse, fault_parsed, parsed_fault}

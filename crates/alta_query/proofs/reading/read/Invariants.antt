@@ -3,6 +3,7 @@ use Rattle.std.specs.Str.{IsCharBoundary}
 use Rattle.alta_query.specs.Spots.{spots, spots_from}
 use Rattle.alta_query.specs.Machine.{parse_of}
 use Rattle.alta_query.specs.Kept.{state_of}
+use Rattle.alta_query.specs.Texts.{IsTextState}
 use Rattle.alta_query.proofs.Seen.{run_seen}
 use Rattle.alta_query.proofs.reading.read.Given as goal
 
@@ -11,6 +12,7 @@ invariant-loop-at l = record {
   within : l.at ≤ length l.text;
   boundary : IsCharBoundary l.text l.at;
   few : l.machine.words ≤ 64;
+  texts : IsTextState (state_of l.machine);
   same : run_seen l.seen (state_of l.machine) (spots_from l.at 0 (drop l.at l.text)) (length l.text) ≡ parse_of (spots l.text) (length l.text);
 }
 

@@ -2,10 +2,10 @@ use Rattle.std.proofs.Common.{List, ℕ, subst}
 use Rattle.alta_model.specs.Command.{Reads}
 use Rattle.alta_model.specs.Seen.{command_of}
 use Rattle.alta_model.specs.declared.line.Line.{Line}
-use Rattle.alta_model.specs.declared.line.Line.TheVariants.{Add, Delete, Search, Count, Stats}
+use Rattle.alta_model.specs.declared.line.Line.TheVariants.{Add, Delete, Search, Count, Explain, Stats}
 use Rattle.alta_model.specs.declared.line.LineFault.TheVariants.{TooLong, NotUtf8, Unknown, Bad}
 use Rattle.alta_session.proofs.AddingLaws.{line_is_document}
-use Rattle.alta_session.proofs.AskLaws.{step_other, step_asks, step_refuses, record_of_line}
+use Rattle.alta_session.proofs.AskLaws.{step_other, step_asks, step_refuses, reading_is, record_of_line}
 use Rattle.alta_session.proofs.session.asked.Goals as goal
 
 pub returns-in-Add : goal.returns-in-Add
@@ -15,16 +15,23 @@ returns-in-Add c =
       step_asks line c.in-Ok.line (Add c.in-Add.name c.in-Add.title c.in-Add.body) c.in-Ok.ensures.reading c.in-Add.is,
       λ named. line_is_document line c.in-Add.name.now c.in-Add.title.now c.in-Add.body.now c.requires c.in-Ok.ensures.read.0 (subst P c.in-Add.is c.in-Ok.ensures.read.1) named,
       record_of_line line c.in-Add.name.now c.in-Add.title.now c.in-Add.body.now (subst P c.in-Add.is c.in-Ok.ensures.read.1),
+      reading_is line c.in-Ok.line (Add c.in-Add.name c.in-Add.title c.in-Add.body) c.in-Ok.ensures.reading c.in-Add.is,
     )
 
 pub returns-in-Delete : goal.returns-in-Delete
-returns-in-Delete c = step_asks c.args.bytes.now c.in-Ok.line (Delete c.in-Delete.name) c.in-Ok.ensures.reading c.in-Delete.is
+returns-in-Delete c = (
+  step_asks c.args.bytes.now c.in-Ok.line (Delete c.in-Delete.name) c.in-Ok.ensures.reading c.in-Delete.is,
+  reading_is c.args.bytes.now c.in-Ok.line (Delete c.in-Delete.name) c.in-Ok.ensures.reading c.in-Delete.is,
+)
 
 pub returns-in-Search : goal.returns-in-Search
 returns-in-Search c = step_asks c.args.bytes.now c.in-Ok.line (Search c.in-Search.text) c.in-Ok.ensures.reading c.in-Search.is
 
 pub returns-in-Count : goal.returns-in-Count
 returns-in-Count c = step_asks c.args.bytes.now c.in-Ok.line (Count c.in-Count.text) c.in-Ok.ensures.reading c.in-Count.is
+
+pub returns-in-Explain : goal.returns-in-Explain
+returns-in-Explain c = step_asks c.args.bytes.now c.in-Ok.line (Explain c.in-Explain.text) c.in-Ok.ensures.reading c.in-Explain.is
 
 pub returns-in-Stats : goal.returns-in-Stats
 returns-in-Stats c = step_asks c.args.bytes.now c.in-Ok.line Stats c.in-Ok.ensures.reading c.in-Stats.is
@@ -36,6 +43,7 @@ returns-in_default c =
       deletes = c.in_default.not-Delete;
       searches = c.in_default.not-Search;
       counts = c.in_default.not-Count;
+      explains = c.in_default.not-Explain;
       asks_stats = c.in_default.not-Stats;
     })
 

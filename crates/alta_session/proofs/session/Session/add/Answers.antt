@@ -23,6 +23,9 @@ if_so : {T E : Type 0} (r : Result T E) (P : Type 0) → P → OnOk r P
 if_so (Ok x) P here = here
 if_so (Err e) P here = tt
 
+same_fault : {T E : Type 0} (r : Result T E) (e f : E) → r ≡ Err e → r ≡ Err f → e ≡ f
+same_fault r e f is other = cc (sym is ∙ other)
+
 second : (p : State × List ℕ) (s : State) (l : List ℕ) → p ≡ (s, l) → l ≡ p.1
 second p s l is = sym (ap (λ (q : State × List ℕ). q.1) is)
 
@@ -170,3 +173,10 @@ returns-in_default-clause-need g c = λ s need gap told agrees is.
     let adds : adding c.args.name.now c.args.title.now c.args.body.now s ≡ (with_added c.args.name.now c.args.title.now c.args.body.now s, codes "added " ++ decimal s.next ++ codes "\n") =
     added_where c.args.name.now c.args.title.now c.args.body.now s (search rules) (λ taken. let no : c.add.result ≡ Err Taken = (c.add.ensures.taken s agrees told).1 taken in cc) (λ none. let no : c.add.result ≡ Err Numbers = (c.add.ensures.numbers s agrees told).1 none in cc) in
     (found.0 ∙ sym (bytes_more _ c.args.name.now c.args.title.now c.args.body.now s _ _ adds), found.1)
+
+-- where it is refused, no other fault comes
+pub returns-in_default-clause-refused_memory : goal.returns-in_default-clause-refused_memory
+returns-in_default-clause-refused_memory g c = λ s told agrees refusal.
+    refused_for _ c.args.name.now c.args.title.now c.args.body.now s (search rules)
+    (λ has. absurd (c.in_default.not-Taken (same_fault _ _ _ c.in-Err.is ((c.add.ensures.taken s agrees told).1 has))))
+    (λ full. absurd (c.in_default.not-Numbers (same_fault _ _ _ c.in-Err.is ((c.add.ensures.numbers s agrees told).1 full)))) refusal

@@ -27,6 +27,9 @@ if_so : {T E : Type 0} (r : Result T E) (P : Type 0) → P → OnOk r P
 if_so (Ok x) P here = here
 if_so (Err e) P here = tt
 
+same_fault : {T E : Type 0} (r : Result T E) (e f : E) → r ≡ Err e → r ≡ Err f → e ≡ f
+same_fault r e f is other = cc (sym is ∙ other)
+
 second : (p : State × List ℕ) (s : State) (l : List ℕ) → p ≡ (s, l) → l ≡ p.1
 second p s l is = sym (ap (λ (q : State × List ℕ). q.1) is)
 
@@ -147,3 +150,8 @@ returns-in_default-clause-full g c = λ need gap told is.
     let same : c.in-Err.fault ≡ Full need gap = cc in
     let full : c.delete.result ≡ Err (Full need gap) = c.in-Err.is ∙ ap Err same in
     record { room = c.delete.ensures.full_room need gap told full; short = (c.delete.ensures.full need gap 0 full).2 }
+
+-- where it is refused, no other fault comes
+pub returns-in_default-clause-refused_memory : goal.returns-in_default-clause-refused_memory
+returns-in_default-clause-refused_memory g c = λ s told agrees refusal.
+    missing_for _ c.args.name.now s (search rules) (λ none. absurd (c.in_default.not-Missing (same_fault _ _ _ c.in-Err.is ((c.delete.ensures.missing s agrees told).1 none)))) refusal

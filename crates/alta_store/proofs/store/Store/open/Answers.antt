@@ -1,13 +1,15 @@
-use Rattle.std.proofs.Common.{List, ℕ, ◌≡◌, subst, sym}
+use Rattle.std.proofs.Common.{List, ℕ, ◌≡◌, inr, subst, sym, ◌∙◌}
 use Rattle.std.proofs.lemmas.Result.{IfOk-at_ok}
+use Rattle.alta_disk.specs.Disk.{Stands}
 use Rattle.alta_disk.proofs.Moments.{only_same}
 use Rattle.alta_journal.specs.declared.half.Half.TheVariants.{A}
 use Rattle.alta_meta.specs.declared.document.State.{State}
-use Rattle.alta_store.specs.Agreement.{Agrees, Holds}
+use Rattle.alta_store.specs.Agreement.{Agrees, HasView, Holds}
 use Rattle.alta_store.specs.Brokenness.{HasNoIndex, IsBrokenAt}
-use Rattle.alta_store.specs.Meaning.{StandsFor}
+use Rattle.alta_store.specs.Meaning.{IsView, StandsFor}
 use Rattle.alta_store.specs.declared.store.Store.{Store}
-use Rattle.alta_store.proofs.Loads.{if_ok, only_synced, held_as, outside, rooted, broken_at}
+use Rattle.alta_store.proofs.Agreements.{views_stand}
+use Rattle.alta_store.proofs.Loads.{if_ok, if_err, only_synced, held_as, outside, rooted, broken_at}
 use Rattle.alta_store.proofs.store.Store.open.Goals as goal
 
 pub returns-clause-agrees : goal.returns-clause-agrees
@@ -53,3 +55,21 @@ pub returns-clause-undamaged : goal.returns-clause-undamaged
 returns-clause-undamaged g c = λ place told broken.
     broken_at g.D.Disk.tells (g.D.Disk.state c.sync.new.self).content c.load.result c.load.ensures.loaded c.load.ensures.no_root c.load.ensures.damaged c.load.ensures.only
     place told (subst (λ (image : List ℕ). IsBrokenAt image place) (sym (c.sync.ensures.content told)) broken)
+
+pub returns-clause-view : goal.returns-clause-view
+returns-clause-view g c = λ place view is.
+    if_ok c.load.result (λ (store : Store). Stands g.D.Disk.tells (g.D.Disk.state c.load.new.disk) (HasView store view)) (λ store loaded.
+    let held = IfOk-at_ok (λ (store : Store). (s : State) × (g.D.Disk.tells → Holds store s (g.D.Disk.state c.sync.new.self).content)) loaded c.load.ensures.loaded in
+    views_stand g.D.Disk.tells (g.D.Disk.state c.load.new.disk) store (g.met.D.Disk.lawful c.load.new.disk)
+    (only_same g.D.Disk.tells (g.D.Disk.state c.sync.new.self) (g.met.D.Disk.lawful c.sync.new.self)
+    (only_synced g.D.Disk.tells (g.D.Disk.state c.args.disk.now) (g.D.Disk.state c.sync.new.self) (g.met.D.Disk.lawful c.sync.new.self) c.in-Ok.ensures.durable c.sync.ensures.content)
+    (g.D.Disk.state c.load.new.disk) c.load.ensures.images c.load.ensures.content)
+    held.0 (λ told. subst (Holds store held.0) (sym (c.load.ensures.content told)) (held.1 told))
+    place view (λ told. subst (λ (image : List ℕ). IsView place view image) (sym (c.load.ensures.content told ∙ c.sync.ensures.content told)) (is told)))
+
+pub returns-clause-settled : goal.returns-clause-settled
+returns-clause-settled g c =
+    if_err c.load.result _ (λ e is. inr (
+    only_same g.D.Disk.tells (g.D.Disk.state c.sync.new.self) (g.met.D.Disk.lawful c.sync.new.self)
+    (only_synced g.D.Disk.tells (g.D.Disk.state c.args.disk.now) (g.D.Disk.state c.sync.new.self) (g.met.D.Disk.lawful c.sync.new.self) c.in-Ok.ensures.durable c.sync.ensures.content)
+    (g.D.Disk.state c.load.new.disk) c.load.ensures.images c.load.ensures.content))

@@ -1,7 +1,8 @@
 use Rattle.std.proofs.Common.{ap}
 use Rattle.alta_journal.specs.Record.{Record}
+use Rattle.alta_journal.specs.declared.entry.Entry.TheVariants.{Delete}
 use Rattle.alta_store.specs.States.{with_deleted}
-use Rattle.alta_store.proofs.Commits.{closed, either, agrees_after, delete_allowed, deleted_after}
+use Rattle.alta_store.proofs.Commits.{closed, either, agrees_after, views_after, delete_allowed, deleted_after}
 use Rattle.alta_store.proofs.KnowledgeLaws.{knows_gone}
 use Rattle.alta_store.proofs.store.Store.remove.Goals as goal
 
@@ -20,6 +21,18 @@ returns-in-Ok-append-clause-agrees g c = λ s agrees.
     _ c.in-Ok-append.ensures.tail c.in-Ok-append.ensures.half
     (λ told. knows_gone c.args.self.now.next c.args.self.now.names c.args.self.now.documents s (agrees.content told).knows c.forget.new.names c.args.name.now c.args.number c.requires.named c.forget.ensures
     _ c.args.index c.requires.inside c.requires.at c.remove_at.ensures)
+
+pub returns-in-Ok-append-clause-view : goal.returns-in-Ok-append-clause-view
+returns-in-Ok-append-clause-view g c = λ view stands.
+    let s = c.requires.agrees.0 in
+    let agrees = c.requires.agrees.1 in
+    let entry_is = ap (λ (r : Record). r.entry) c.in-Ok.ensures in
+    views_after g.D.Disk.tells (g.D.Disk.state c.args.disk.now) (g.met.D.Disk.lawful c.args.disk.now) c.args.self.now s agrees
+    c.in-Ok.ready.entry (with_deleted c.args.name.now s)
+    (deleted_after g.D.Disk.tells (g.D.Disk.state c.args.disk.now) (g.met.D.Disk.lawful c.args.disk.now) c.args.self.now s agrees c.args.name.now c.args.number c.in-Ok.ready.entry entry_is c.requires.named)
+    (delete_allowed g.D.Disk.tells (g.D.Disk.state c.args.disk.now) (g.met.D.Disk.lawful c.args.disk.now) c.args.self.now s agrees c.args.name.now c.args.number c.in-Ok.ready.entry entry_is c.requires.named)
+    (g.D.Disk.state c.append.new.disk) c.in-Ok-append.ensures.images (g.met.D.Disk.lawful c.append.new.disk) c.in-Ok-append.ensures.durable c.in-Ok-append.ensures.appended
+    _ c.in-Ok-append.ensures.tail (Delete c.args.number) entry_is view stands
 
 pub returns-in-Ok-append-clause-images : goal.returns-in-Ok-append-clause-images
 returns-in-Ok-append-clause-images g c = λ s agrees.

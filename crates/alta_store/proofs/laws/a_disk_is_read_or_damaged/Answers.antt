@@ -1,0 +1,5 @@
+use Rattle.alta_store.proofs.Total.{read_or_damaged}
+use Rattle.alta_store.proofs.laws.a_disk_is_read_or_damaged.Goals as goal
+
+pub returns : goal.returns
+returns c = read_or_damaged

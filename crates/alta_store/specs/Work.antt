@@ -1,0 +1,227 @@
+-- What the work on levels does to what a store holds.
+use Rattle.std.specs.Prelude.{ℕ, ◌+◌, ◌==◌, nat_le, Bool, false, ◌&&◌, ◌||◌, cond, List, [], ◌∷◌, ◌++◌, length, take, drop, map, Option, Some, None}
+use Rattle.std.specs.List.{filter, flat_map, list_any, sum_by}
+use Rattle.std.specs.Str.{bytes_eq}
+use Rattle.alta_codec.specs.declared.extent.Extent.{Extent}
+use Rattle.alta_journal.specs.Record.{record_of}
+use Rattle.alta_journal.specs.declared.entry.Entry.{Entry}
+use Rattle.alta_journal.specs.declared.entry.Entry.TheVariants.{Add, Delete}
+use Rattle.alta_journal.specs.declared.places.TheConstants.{HALF_BYTES}
+use Rattle.alta_level.specs.Contents.{end_of}
+use Rattle.alta_level.specs.declared.content.Content.{Content}
+use Rattle.alta_table.specs.declared.document.DocRow.{DocRow}
+use Rattle.alta_memlevel.specs.Added.{Added, ends_among, live_of}
+use Rattle.alta_meta.specs.Cells.{cells_of}
+use Rattle.alta_store.specs.Joining.{content_of, joined, joined_in, terms_in}
+use Rattle.alta_store.specs.Levels.{Level}
+use Rattle.alta_store.specs.Meaning.{View, with_entry}
+
+-- ---- what a store holds
+
+-- A join of the two oldest levels that goes on: their contents, the ends that were gone when it began, and how many of their
+-- terms are merged.
+pub record Job : Type 0 where
+  pub older : Content
+  pub newer : Content
+  pub dead : List ℕ
+  pub merged : ℕ
+
+-- What a store holds: the view of its disk, where the deletion list stands if there is one, and the job if one goes on.
+pub record Holding : Type 0 where
+  pub view : View
+  pub list : Option Extent
+  pub job : Option Job
+
+-- ---- newest documents, and what is gone
+
+-- a document with its row, from this number and this location on
+abbrev pub added_at : ℕ → ℕ → List ℕ → List (List (List ℕ)) → Added
+added_at number location name cells = record {
+  row = record { number = number; first = location; cells = length cells; name = name };
+  cells = cells;
+}
+
+-- the documents that entries add, the deleted ones included, one behind the other from this number and this location on
+abbrev pub added_from : ℕ → ℕ → List Entry → List Added
+added_from number location [] = []
+added_from number location (Add name title body ∷ entries) =
+    added_at number location name (cells_of name title body) ∷ added_from (number + 1) (location + length (cells_of name title body)) entries
+added_from number location (Delete n ∷ entries) = added_from number location entries
+
+-- the newest documents: those that the journal's entries add
+abbrev pub newest : View → List Added
+newest view = added_from view.next view.location view.entries
+
+-- the entry leaves out the document with this number
+abbrev pub leaves_out : ℕ → Entry → Bool
+leaves_out number (Add name title body) = false
+leaves_out number (Delete n) = n == number
+
+-- the document of a row is gone: its end is deleted, or an entry leaves it out
+abbrev pub is_gone : View → DocRow → Bool
+is_gone view row = ends_among view.deleted row || list_any (leaves_out row.number) view.entries
+
+-- the rows of levels, the oldest first
+abbrev pub rows_in : List Level → List DocRow
+rows_in levels = flat_map (λ (l : Level). l.content.documents) levels
+
+-- the ends of those rows whose document is gone, rising as the rows do
+abbrev pub gone_among : View → List DocRow → List ℕ
+gone_among view rows = map end_of (filter (is_gone view) rows)
+
+-- the gone ends: of the levels' documents and of the newest
+abbrev pub gone : View → List ℕ
+gone view = gone_among view (rows_in view.levels ++ map (λ (a : Added). a.row) (newest view))
+
+-- the content of the newest documents that are not gone
+abbrev pub newest_content : View → Content
+newest_content view = content_of (live_of (gone view) (newest view))
+
+-- ---- a switch of the root
+
+-- Where a switch of the root puts what it writes anew, beside extents that are taken: the segment of a content, and a list of
+-- deleted ends. It is left to the layer that spells segments and finds the first gap.
+pub record Placing : Type 0 where
+  pub segment : List Extent → Content → Extent
+  pub ends : List Extent → List ℕ → Extent
+
+-- a level of the root to come: one that stays, or a content that is written anew
+pub data Coming : Type 0 where
+  stays : Level → Coming
+  anew : Content → Coming
+
+-- a content as a level to come, which there is only with rows
+abbrev pub coming : Content → List Coming
+coming content = cond (length content.documents == 0) [] (anew content ∷ [])
+
+-- a level that stays keeps its extent; one that is written anew is placed in order, beside those before it too
+abbrev pub placed_levels : Placing → List Extent → List Coming → List Level
+placed_levels placing taken [] = []
+placed_levels placing taken (stays level ∷ more) = level ∷ placed_levels placing taken more
+placed_levels placing taken (anew content ∷ more) =
+    record { extent = placing.segment taken content; content = content } ∷ placed_levels placing (taken ++ placing.segment taken content ∷ []) more
+
+abbrev pub extents_in : List Level → List Extent
+extents_in levels = map (λ (l : Level). l.extent) levels
+
+abbrev pub listed : Option Extent → List Extent
+listed None = []
+listed (Some extent) = extent ∷ []
+
+-- the extents of the root in force: of its levels, and of its deletion list
+abbrev pub taken_by : Holding → List Extent
+taken_by held = extents_in held.view.levels ++ listed held.list
+
+-- the extents that are taken once these levels are placed
+abbrev pub taken_behind : Placing → List Extent → List Coming → List Extent
+taken_behind placing taken [] = taken
+taken_behind placing taken (stays level ∷ more) = taken_behind placing taken more
+taken_behind placing taken (anew content ∷ more) = taken_behind placing (taken ++ placing.segment taken content ∷ []) more
+
+-- a deletion list that stays the same keeps its extent; else it is written anew, behind the levels; an empty one has none
+abbrev pub placed_list : Placing → Holding → List Coming → List ℕ → Option Extent
+placed_list placing held levels deleted =
+    cond (bytes_eq deleted held.view.deleted) held.list
+    (cond (length deleted == 0) None (Some (placing.ends (taken_behind placing (taken_by held) levels) deleted)))
+
+-- The root to come has these levels. The journal is empty, the next number and the next location are those behind all newest
+-- documents, and deleted are the gone ends whose row stays in a level.
+abbrev pub switched : Placing → Holding → List Coming → Option Job → Holding
+switched placing held levels job =
+    let now = placed_levels placing (taken_by held) levels in
+    let deleted = gone_among held.view (rows_in now) in
+    record {
+      view = record {
+        next = held.view.next + length (newest held.view);
+        location = held.view.location + sum_by (λ (a : Added). a.row.cells) (newest held.view);
+        levels = now;
+        deleted = deleted;
+        entries = [];
+      };
+      list = placed_list placing held levels deleted;
+      job = job;
+    }
+
+-- ---- flush, merge and step
+
+-- a job's whole content
+abbrev pub whole_of : Job → Content
+whole_of job = joined job.older job.newer job.dead
+
+-- what the two oldest levels become: the job's whole content, or without a job their join without what is gone
+abbrev pub oldest_joined : Option Job → View → Content
+oldest_joined (Some job) view = whole_of job
+oldest_joined None view = joined_in (map (λ (l : Level). l.content) (take 2 view.levels)) (gone view)
+
+-- the levels, with this content in place of the two oldest, and behind them the newest documents
+abbrev pub with_oldest : Content → View → List Coming
+with_oldest content view = coming content ++ map stays (drop 2 view.levels) ++ coming (newest_content view)
+
+-- The live newest documents become the last level, and the journal is empty. Where there are 16 levels already, the two
+-- oldest are joined first, which ends the job. With an empty journal nothing is done.
+abbrev pub flushed : Placing → Holding → Holding
+flushed placing held =
+    let view = held.view in
+    cond (length view.entries == 0) held
+    (cond (length view.levels == 16 && nat_le 1 (length (newest_content view).documents))
+    (switched placing held (with_oldest (oldest_joined held.job view) view) None)
+    (switched placing held (map stays view.levels ++ coming (newest_content view)) held.job))
+
+-- There is nothing to merge: at most one level, no deleted end, and no entry.
+abbrev pub is_merged : View → Bool
+is_merged view = nat_le (length view.levels) 1 && length view.deleted == 0 && length view.entries == 0
+
+-- All levels and the newest documents become one level without what is gone, or none where nothing is left. There is no job.
+abbrev pub merged : Placing → Holding → Holding
+merged placing held =
+    let view = held.view in
+    cond (is_merged view) held
+    (switched placing held (coming (joined_in (map (λ (l : Level). l.content) view.levels ++ content_of (newest view) ∷ []) (gone view))) None)
+
+-- a job over the two oldest levels, where there are two
+abbrev pub begun : View → List Level → Option Job
+begun view (older ∷ newer ∷ more) = Some (record { older = older.content; newer = newer.content; dead = gone view; merged = 0 })
+begun view others = None
+
+-- the job that goes on, or one that begins
+abbrev pub job_of : Option Job → View → Option Job
+job_of (Some job) view = Some job
+job_of None view = begun view view.levels
+
+-- The job is moved on by n terms. Where no term is left, its content takes the place of the two oldest levels, and the newest
+-- documents are flushed. Without a job nothing is done.
+abbrev pub moved : Placing → Holding → ℕ → Option Job → Holding
+moved placing held n None = held
+moved placing held n (Some job) =
+    cond (nat_le (length (terms_in (job.older ∷ job.newer ∷ []))) (job.merged + n))
+    (switched placing held (with_oldest (whole_of job) held.view) None)
+    (record { view = held.view; list = held.list; job = Some (record { older = job.older; newer = job.newer; dead = job.dead; merged = job.merged + n }) })
+
+-- a step of n terms, which begins a job where none goes on and there are two levels
+abbrev pub stepped : Placing → Holding → ℕ → Holding
+stepped placing held n = moved placing held n (job_of held.job held.view)
+
+-- ---- by command
+
+-- one entry more in the journal
+abbrev pub entered : Holding → Entry → Holding
+entered held entry = record { view = with_entry held.view entry; list = held.list; job = held.job }
+
+-- the record of the entry fits behind those of the others, with a gate behind it
+abbrev pub fits : List Entry → Entry → Bool
+fits entries entry = nat_le (length (flat_map record_of entries) + length (record_of entry) + 1) HALF_BYTES
+
+-- what a line asks of the store, where it is not refused
+pub data Task : Type 0 where
+  -- the entry of an add or of a delete
+  enters : Entry → Task
+  flushes : Task
+  merges : Task
+  steps : ℕ → Task
+
+-- What a task makes of what the store holds. An entry that does not fit in the journal finds it flushed.
+abbrev pub worked : Placing → Holding → Task → Holding
+worked placing held (enters entry) = cond (fits held.view.entries entry) (entered held entry) (entered (flushed placing held) entry)
+worked placing held flushes = flushed placing held
+worked placing held merges = merged placing held
+worked placing held (steps n) = stepped placing held n
