@@ -1,0 +1,8 @@
+//! The ends of the documents that were deleted from an index: a rising list, which is searched, edited and coded.
+#![tactic(auto)]
+
+mod deletions;
+#[cfg(test)]
+mod tests;
+
+pub use deletions::Deletions;
