@@ -12,3 +12,5 @@ pub mod Spelled
 pub mod Once
 pub mod Decided
 pub mod Walks
+pub mod DecodedTo
+pub mod BesideRows

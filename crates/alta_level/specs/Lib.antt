@@ -1,5 +1,6 @@
 pub mod Contents
 pub mod Coded
+pub mod Decoded
 pub mod Stored
 pub mod Segments
 pub mod Damage

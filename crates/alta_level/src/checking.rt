@@ -9,11 +9,12 @@ ghost use Rattle.alta_words.specs.Word.{IsPosting};
 ghost use Rattle.alta_level.specs.Coded.{IsCoded};
 ghost use Rattle.alta_level.specs.Stored.{AreApart, IsListFault, IsListOf, stored_of};
 
+use crate::comparing::compare;
+use crate::decoding::{DecodeFault, decode};
 use crate::ranges::fits;
 use crate::stored::StoredList;
 use crate::walking::stream_fits;
 use alta_codec::Loc;
-use alta_postings::Stream;
 use alta_table::{DocRow, LevelFault};
 use alta_words::{PostingFault, check};
 use std::alloc::Global;
@@ -61,6 +62,28 @@ fn check_coded(list: &StoredList<'_>) -> Result<u64, LevelFault>
     }
 }
 
+// The locations of a list on the disk that is coded as it should be, or the place of the first fault.
+fn read_coded(alloc: Global, list: &StoredList<'_>) -> Result<Vec<Loc>, LevelFault>
+    requires stream { list.now.stream_place + length list.now.stream.now < 2 ^ 64 }
+    requires summary { list.now.summary_place + length list.now.summary.now < 2 ^ 64 }
+    ensures coded { IfOk result (λ locations. IsCoded list.now.stream.now list.now.summary.now (locations_of list.now.stream.now)) }
+    ensures posting { IfOk result (λ locations. (b : ℕ) × IsPosting list.now.stream.now list.now.summary.now b) }
+    ensures read { IfOk result (λ locations. locations.items ≡ locations_of list.now.stream.now) }
+    ensures fault { IfDamaged result (λ p. (documents : List DocRow) → IsListFault documents (stored_of list.now) p) }
+{
+    match decode(alloc, list.stream) {
+        Ok(decoded) => match compare(list.summary, &decoded.locations, &decoded.places) {
+            Ok(()) => Ok(decoded.locations),
+            Err(fault) => Err(LevelFault::Damaged(place_of(list, fault))),
+        },
+        Err(DecodeFault::Memory) => Err(LevelFault::Memory),
+        Err(DecodeFault::Stream(at)) => {
+            let fault = PostingFault::Stream(at);
+            Err(LevelFault::Damaged(place_of(list, fault)))
+        }
+    }
+}
+
 // The locations of a list, or the first fault.
 fn locations_at(
     alloc: Global,
@@ -73,10 +96,7 @@ fn locations_at(
     ensures found { IfOk result (λ locations. IsListOf documents.now (stored_of list.now) locations.items) }
     ensures first { IfDamaged result (IsListFault documents.now (stored_of list.now)) }
 {
-    let _count = check_coded(list)?;
-    let Ok(locations) = Stream::of(list.stream).locations(alloc) else {
-        return Err(LevelFault::Memory);
-    };
+    let locations = read_coded(alloc, list)?;
     if fits(documents, list.term, list.count, &locations) {
         Ok(locations)
     } else {
@@ -127,12 +147,11 @@ pub fn check_list(list: &StoredList<'_>, documents: &[DocRow]) -> Result<(), Lev
     tested(list, documents)
 }
 
-/// The locations of a list, whose level has these documents. Each number of the stream is read twice: once when it is
-/// tested, and once more when its location is kept. `Damaged` has the place of the first fault: the stream's own, else
-/// the summary's own, else the first row that is not the block of its number or is missing, which is 24 times its
-/// number behind the summary's first byte. Last comes the stream's first byte, where the stream has another number of
-/// locations than its row states, or one in no document's range, or where the term is `D` and the locations are not the
-/// ends of the documents. `Memory` comes only where memory is wanting.
+/// The locations of a list, whose level has these documents. Each number of the stream is read once. `Damaged` has the
+/// place of the first fault: the stream's own, else the summary's own, else the first row that is not the block of its
+/// number or is missing, which is 24 times its number behind the summary's first byte. Last comes the stream's first
+/// byte, where the stream has another number of locations than its row states, or one in no document's range, or where
+/// the term is `D` and the locations are not the ends of the documents. `Memory` comes only where memory is wanting.
 pub fn read_list(
     alloc: Global,
     list: &StoredList<'_>,

@@ -7,7 +7,9 @@
 
 mod building;
 mod checking;
+mod comparing;
 mod content;
+mod decoding;
 mod laws;
 mod lists;
 mod ranges;

@@ -149,7 +149,7 @@ fn content_at(alloc: Global, bytes: &[u8], place: u64) -> Result<Content, LevelF
 /// rule: of the head, then of the documents, then of the terms, then the first byte behind the last stream and summary,
 /// then the head's number of terms where the term `D` is missing. Then come the lists in the order of the terms, each as
 /// [`read_list`] tests it. `Memory` comes only where memory is wanting. Each field of the tables is read once, but for
-/// the head, which is read twice; each number of a stream is read twice, and no name, term or list is copied.
+/// the head, which is read twice; each number of a stream is read once, and no name, term or list is copied.
 pub fn read_content(alloc: Global, bytes: &[u8], place: u64) -> Result<Content, LevelFault>
     requires { place + length bytes.now < 2 ^ 64 }
     // What is read is spelled so.

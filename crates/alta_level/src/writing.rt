@@ -17,8 +17,8 @@ pub struct ListSize {
     pub summary: u64,
 }
 
-// Notes the place of a location that begins a block.
-fn mark(places: &mut Vec<u64>, i: usize, at: usize) -> Result<(), AllocError>
+/// Notes the place of location `i` of a list in its stream, if a block begins with it.
+pub fn mark(places: &mut Vec<u64>, i: usize, at: usize) -> Result<(), AllocError>
     ensures first { i % 64 ≡ 0 → OnOk result (places.new.items ≡ places.old.items ++ at ∷ []) }
     ensures later { 0 < i % 64 → OnOk result (places.new.items ≡ places.old.items) }
 {

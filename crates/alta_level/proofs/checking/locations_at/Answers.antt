@@ -1,5 +1,4 @@
-use Rattle.std.proofs.Common.{ℕ, List, Vec, Global, Err, ◌∙◌, ap, sym, subst}
-use Rattle.alta_postings.specs.Deltas.{locations_of}
+use Rattle.std.proofs.Common.{ℕ, List, Vec, Global, Err, sym, subst}
 use Rattle.alta_table.specs.declared.fault.LevelFault.{LevelFault}
 use Rattle.alta_table.specs.Answers.{IfDamaged}
 use Rattle.alta_level.specs.Stored.{Fits, IsListFault, stored_of}
@@ -13,12 +12,12 @@ fits-requires-clause-apart c = apart_from c.args.documents.now c.requires.docume
 pub returns-then-fits-clause-found : goal.returns-then-fits-clause-found
 returns-then-fits-clause-found c =
     let s = stored_of c.args.list.now in
-    list_found c.args.documents.now s c.in-Ok.locations.items c.in_ok-_count.ensures.coded (c.in-Ok.ensures ∙ ap locations_of c.of.ensures)
+    list_found c.args.documents.now s c.in_ok-locations.locations.items c.in_ok-locations.ensures.coded c.in_ok-locations.ensures.read
     (subst (λ (l : List ℕ). Fits c.args.documents.now s.term s.count l) c.deref.ensures.value (c.fits.ensures.0 c.if-fits.true))
 
 pub returns-else-fits-clause-first : goal.returns-else-fits-clause-first
 returns-else-fits-clause-first c =
     let s = stored_of c.args.list.now in
     subst (λ (e : LevelFault). IfDamaged {X = Vec ℕ Global} (Err e) (IsListFault c.args.documents.now s)) (sym c.misfit.ensures)
-    (list_misfits c.args.documents.now s c.in-Ok.locations.items c.in_ok-_count.ensures.posting (c.in-Ok.ensures ∙ ap locations_of c.of.ensures)
+    (list_misfits c.args.documents.now s c.in_ok-locations.locations.items c.in_ok-locations.ensures.posting c.in_ok-locations.ensures.read
     (λ f. let t = c.fits.ensures.1 (subst (λ (l : List ℕ). Fits c.args.documents.now s.term s.count l) (sym c.deref.ensures.value) f) in cc (t, c.if-fits.false)))
