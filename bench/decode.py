@@ -15,10 +15,10 @@ locations up and tests nothing but the end. The time is that of ROUNDS rounds mo
 import argparse
 import os
 import random
-import resource
 import subprocess
-import sys
 import tempfile
+
+from rounds import speed
 
 BLOCK = 64
 
@@ -91,27 +91,6 @@ def coded(count, mean):
     fields = [field for row in rows for field in row]
     fields += [rows[min(first + BLOCK, len(rows)) - 1][1] for first in range(0, len(rows), BLOCK)]
     return stream, b"".join(field.to_bytes(8, "big") for field in fields), total
-
-
-def seconds(command):
-    """The processor time of a command, and what it prints."""
-    before = resource.getrusage(resource.RUSAGE_CHILDREN)
-    answer = subprocess.run(command, check=True, stdout=subprocess.PIPE).stdout.decode().split()
-    after = resource.getrusage(resource.RUSAGE_CHILDREN)
-    return after.ru_utime + after.ru_stime - before.ru_utime - before.ru_stime, [int(word) for word in answer]
-
-
-def speed(command, count, rounds, turns, want):
-    """Million locations a second, over so many rounds more than one, the best of some turns."""
-    best = None
-    for _ in range(turns):
-        one, answer = seconds(command("1"))
-        if answer != want:
-            sys.exit(f"decode: {command('1')} prints {answer} in place of {want}")
-        more, _ = seconds(command(str(1 + rounds)))
-        if best is None or more - one < best:
-            best = more - one
-    return count * rounds / max(best, 1e-9) / 1e6
 
 
 def main():

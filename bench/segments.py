@@ -19,7 +19,6 @@ tables, else of the whole), for both. The time is that of ROUNDS rounds more, th
 import argparse
 import os
 import random
-import resource
 import subprocess
 import sys
 import tempfile
@@ -28,6 +27,7 @@ TOP = os.path.dirname(os.path.dirname(os.path.abspath(__file__)))
 sys.path.insert(0, os.path.join(TOP, "tests"))
 
 import segments
+from rounds import speed
 
 PLAIN = r"""
 #include <stdint.h>
@@ -341,27 +341,6 @@ def made(documents, terms):
     return segments.segment(rows, sorted(lists.items()))
 
 
-def seconds(command):
-    """The processor time of a command, and what it prints."""
-    before = resource.getrusage(resource.RUSAGE_CHILDREN)
-    answer = subprocess.run(command, check=True, stdout=subprocess.PIPE).stdout.decode().split()
-    after = resource.getrusage(resource.RUSAGE_CHILDREN)
-    return after.ru_utime + after.ru_stime - before.ru_utime - before.ru_stime, int(answer[-1])
-
-
-def speed(command, length, rounds, turns, want):
-    """Million bytes a second, over so many rounds more than one, the best of some turns."""
-    best = None
-    for _ in range(turns):
-        one, answer = seconds(command("1"))
-        if answer != want:
-            sys.exit(f"segments: {command('1')} prints {answer} in place of {want}")
-        more, _ = seconds(command(str(1 + rounds)))
-        if best is None or more - one < best:
-            best = more - one
-    return length * rounds / max(best, 1e-9) / 1e6
-
-
 def main():
     parser = argparse.ArgumentParser(description=__doc__, formatter_class=argparse.RawDescriptionHelpFormatter)
     parser.add_argument("--program", default=os.path.join(TOP, "crates/alta_segments/out/alta_segments"))
@@ -389,7 +368,7 @@ def main():
         rows = options.terms + options.documents
         for mode, length, want in [("open", tables, rows), ("read", len(content), rows), ("build", len(content), len(content))]:
             measured = lambda program: speed(
-                lambda rounds: [program, rounds, path, mode], length, options.rounds, options.turns, want
+                lambda rounds: [program, rounds, path, mode], length, options.rounds, options.turns, [want]
             )
             bare, own = measured(plain), measured(options.program)
             print(f"{mode:5}  {own:6.1f}  {own / bare:6.2f}  {bare:6.1f}", flush=True)
