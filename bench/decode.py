@@ -4,8 +4,8 @@
 usage: bench/decode.py [--program PATH] [--count N] [--gaps MEAN..] [--rounds N] [--turns N]
 
 Makes lists of COUNT locations (10 million) whose gaps are those of a word that is one of MEAN words of a text (an
-exponential distribution), with their streams and summaries. PATH is the program of crates/alta_decode, which `rt run` builds
-there (crates/alta_decode/out/alta_decode by default). The C loop is compiled by `gcc -O2` in a temporary folder.
+exponential distribution), with their streams and summaries. PATH is the program of crates/bench_decode, which `rt run` builds
+there (crates/bench_decode/out/bench_decode by default). The C loop is compiled by `gcc -O2` in a temporary folder.
 
 Prints for each list its bytes a location and how many million locations a second of processor time are decoded: by the
 check of the stream and its summary (which copies both first), by a walk with `next`, and by the C loop, which adds the
@@ -96,7 +96,7 @@ def coded(count, mean):
 def main():
     top = os.path.dirname(os.path.dirname(os.path.abspath(__file__)))
     parser = argparse.ArgumentParser(description=__doc__, formatter_class=argparse.RawDescriptionHelpFormatter)
-    parser.add_argument("--program", default=os.path.join(top, "crates/alta_decode/out/alta_decode"))
+    parser.add_argument("--program", default=os.path.join(top, "crates/bench_decode/out/bench_decode"))
     parser.add_argument("--count", type=int, default=10_000_000)
     parser.add_argument("--gaps", type=int, nargs="+", default=[20, 100, 1000])
     parser.add_argument("--rounds", type=int, default=5)

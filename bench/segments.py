@@ -4,8 +4,8 @@
 usage: bench/segments.py [--program PATH] [--terms N] [--documents N] [--rounds N] [--turns N] [--make PATH]
 
 Makes a segment of N terms (100,000) over some documents (2,000): a few locations a word, and a long list for one word of
-a thousand. With --make it only writes that segment: crates/alta_segments/data/segment is the one of 1,000 terms and 20
-documents. PATH is the program of crates/alta_segments, which `rt run` builds there (crates/alta_segments/out/alta_segments
+a thousand. With --make it only writes that segment: crates/bench_segments/data/segment is the one of 1,000 terms and 20
+documents. PATH is the program of crates/bench_segments, which `rt run` builds there (crates/bench_segments/out/bench_segments
 by default). The C program is compiled by `gcc -O2` in a temporary folder. It tests the same rules, field by field:
 
 open    reads head, documents and terms, and keeps the rows, with the names and the terms in one buffer each
@@ -343,7 +343,7 @@ def made(documents, terms):
 
 def main():
     parser = argparse.ArgumentParser(description=__doc__, formatter_class=argparse.RawDescriptionHelpFormatter)
-    parser.add_argument("--program", default=os.path.join(TOP, "crates/alta_segments/out/alta_segments"))
+    parser.add_argument("--program", default=os.path.join(TOP, "crates/bench_segments/out/bench_segments"))
     parser.add_argument("--terms", type=int, default=100_000)
     parser.add_argument("--documents", type=int, default=2_000)
     parser.add_argument("--rounds", type=int, default=20)

@@ -1,11 +1,11 @@
 #!/usr/bin/env python3
-"""Makes the segments and the expected places of crates/alta_damages, by a reading of the format of its own.
+"""Makes the segments and the expected places of crates/check_damages, by a reading of the format of its own.
 
 usage: tests/segments.py [--check] [--random N] [--seed N] [--program PATH]
 
-Writes crates/alta_damages/data, args and stdout; with --check it only compares them with what stands there, and ends
+Writes crates/check_damages/data, args and stdout; with --check it only compares them with what stands there, and ends
 with status 1 where they differ. Nothing of the program is used: `first_broken` reads a segment field by field as
-docs/FORMAT.md describes it, and `segment` writes one. With --random it runs the program of crates/alta_damages, which
+docs/FORMAT.md describes it, and `segment` writes one. With --random it runs the program of crates/check_damages, which
 `rt run` builds there, on N segments with random faults, and ends with status 1 where a place differs from its own.
 
 The program prints the same from its own reading: for each segment its name and the place inside it of the first field
@@ -526,11 +526,11 @@ def try_random(program, count, seed):
 
 def main():
     parser = argparse.ArgumentParser(description=__doc__, formatter_class=argparse.RawDescriptionHelpFormatter)
-    crate = os.path.join(os.path.dirname(os.path.dirname(os.path.abspath(__file__))), "crates/alta_damages")
+    crate = os.path.join(os.path.dirname(os.path.dirname(os.path.abspath(__file__))), "crates/check_damages")
     parser.add_argument("--check", action="store_true")
     parser.add_argument("--random", type=int, metavar="N")
     parser.add_argument("--seed", type=int, default=1)
-    parser.add_argument("--program", default=os.path.join(crate, "out/alta_damages"))
+    parser.add_argument("--program", default=os.path.join(crate, "out/check_damages"))
     options = parser.parse_args()
     if options.random:
         sys.exit(0 if try_random(os.path.abspath(options.program), options.random, options.seed) else 1)

@@ -1,6 +1,6 @@
 use Rattle.alta_codec.specs.Rising.{count_from}
 use Rattle.alta_words.specs.Held.{IsSoundWord, word_list, word_place}
-use Rattle.alta_decode.proofs.walk.Given as goal
+use Rattle.bench_decode.proofs.walk.Given as goal
 
 abbrev pub invariant-list : goal.invariant-list
 invariant-list g l = IsSoundWord l.reader

@@ -1,5 +1,5 @@
-//! Reads a coded list again and again, so that the time of it can be measured: `alta_decode check ROUNDS STREAM SUMMARY`
-//! checks the stream and its summary so often, `alta_decode walk ROUNDS STREAM SUMMARY` walks the list by `next`. It
+//! Reads a coded list again and again, so that the time of it can be measured: `bench_decode check ROUNDS STREAM SUMMARY`
+//! checks the stream and its summary so often, `bench_decode walk ROUNDS STREAM SUMMARY` walks the list by `next`. It
 //! prints how many locations there are, and their sum. bench/decode.py runs it.
 #![tactic(auto)]
 

@@ -1,4 +1,4 @@
-//! Opens, reads or builds a segment again and again, so that the time of it can be measured: `alta_segments ROUNDS FILE
+//! Opens, reads or builds a segment again and again, so that the time of it can be measured: `bench_segments ROUNDS FILE
 //! MODE..` does for each mode, `open`, `read` or `build`, what it says so often. It prints for each how many documents
 //! and terms were opened or read, or how many bytes were built. bench/segments.py runs it.
 #![tactic(auto)]

@@ -1,7 +1,7 @@
 use Rattle.std.proofs.Common.{◌<◌}
 use Rattle.alta_docread.specs.Tree.{tree_place, tree_left, IsSound}
 use Rattle.alta_docread.specs.View.{tree_of}
-use Rattle.alta_doctrials.proofs.tests.walk.Given as goal
+use Rattle.check_documents.proofs.tests.walk.Given as goal
 
 abbrev pub invariant-walk : goal.invariant-walk
 invariant-walk g l =
