@@ -1,0 +1,19 @@
+//! Numbers that are found by range: the ranges that cover the numbers from one to another, and the terms that a number and a
+//! range share. A number stands in one range of each level, and a term names that range; so the numbers from a to b are found by
+//! the terms of few ranges, however many they are.
+#![tactic(auto)]
+
+mod covering;
+mod laws;
+mod level;
+mod numeral;
+mod range;
+mod terms;
+#[cfg(test)]
+mod tests;
+
+pub use covering::cover;
+pub use laws::{a_cover_is_one, a_value_is_covered_once};
+pub use numeral::number;
+pub use range::{LEVELS, Range};
+pub use terms::{range_term, term};
