@@ -1,7 +1,7 @@
 // A range of a disk.
 
 /// A range of a disk: where it begins and how many bytes it has.
-#[derive(Clone, Copy, Debug, PartialEq, Eq)]
+#[derive(Clone, Copy, Debug, Default, PartialEq, Eq)]
 pub struct Extent {
     /// The place of its first byte on the disk.
     pub place: u64,

@@ -16,7 +16,7 @@ use std::rt::Files;
 const FILE_LIMIT: u64 = 1 << 40;
 
 /// A file as a disk, of at most 2^40 bytes. It is opened at the first call, and made where it is missing; its folder
-/// is then synced once, so that a stop does not lose the new file.
+/// is synced then, so that a stop loses no file that this process or an earlier one made.
 ///
 /// A call fails where the file can't be opened, where it is longer than the limit, where a read ends early, where a
 /// write takes nothing, and at each other error of the system. Without a path every call fails.
@@ -25,8 +25,6 @@ pub struct FileDisk<R: Files<File = File> + Drop> {
     rt: R,
     path: Option<Text>,
     file: Option<File>,
-    // the file was made, and its folder is not yet synced
-    made: bool,
     faults: u64,
     taken: u64,
 }
@@ -41,7 +39,6 @@ impl<R: Files<File = File> + Drop> FileDisk<R> {
             rt,
             path,
             file: None,
-            made: false,
             faults: 0,
             taken: 0,
         }
@@ -58,18 +55,8 @@ impl<R: Files<File = File> + Drop> FileDisk<R> {
         let Some(path) = &self.path else {
             return Err(ErrorKind::NotFound.into());
         };
-        let file = match open_file(&self.rt, path, false) {
-            Err(error) if error.kind() == ErrorKind::NotFound => {
-                let made = open_file(&self.rt, path, true)?;
-                self.made = true;
-                made
-            }
-            opened => opened?,
-        };
-        if self.made {
-            sync_folder(&self.rt, path)?;
-            self.made = false;
-        }
+        let file = open_file(&self.rt, path)?;
+        sync_folder(&self.rt, path)?;
         length_within(&file)?;
         self.file = Some(file);
         Ok(())
@@ -130,15 +117,16 @@ impl<R: Files<File = File> + Drop> FileDisk<R> {
     }
 }
 
-fn open_file<R: Files<File = File>>(rt: &R, path: &Text, create: bool) -> io::Result<File> {
+// Opens the file, and makes it where it is missing.
+fn open_file<R: Files<File = File>>(rt: &R, path: &Text) -> io::Result<File> {
     OpenOptions::new()
         .read(true)
         .write(true)
-        .create(create)
+        .create(true)
         .open(rt, path.as_str())
 }
 
-// Makes the name of a new file outlast a stop.
+// Makes the name of the file outlast a stop.
 fn sync_folder<R: Files<File = File>>(rt: &R, path: &Text) -> io::Result<()> {
     let folder = match Path::new(path.as_str()).parent() {
         Some(folder) if folder.as_str() != "" => folder,

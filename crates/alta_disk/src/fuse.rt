@@ -1,6 +1,6 @@
 // A disk in memory whose calls all fail from some call on, as after a stop.
 ghost use Rattle.std.specs.Prelude.{◌≡◌, ◌+◌, ◌-◌, ◌≤◌, length, take, drop, IfOk, OnOk, OnErr, IsTrue, ◌==◌};
-ghost use Rattle.alta_codec.specs.Faults.{HasCause};
+ghost use Rattle.alta_codec.specs.Faults.{HasCause, CountsErrors};
 ghost use Rattle.alta_disk.specs.Disk.{Holds, Torn, Same, Only, Passes};
 ghost use Rattle.alta_disk.specs.Memory.{memory_state, memory_lawful};
 
@@ -60,6 +60,7 @@ impl Disk for FuseDisk {
         ensures content { (memory_state (fuse_inner self.new)).content ≡ (memory_state (fuse_inner self.old)).content }
         ensures images { Passes Same (memory_state (fuse_inner self.old)) (memory_state (fuse_inner self.new)) }
         ensures cause { HasCause (memory_state (fuse_inner self.old)).faults (memory_state (fuse_inner self.new)).faults result }
+        ensures faults { CountsErrors (memory_state (fuse_inner self.old)).faults (memory_state (fuse_inner self.new)).faults result }
         ensures taken { (memory_state (fuse_inner self.new)).taken ≡ (memory_state (fuse_inner self.old)).taken }
         ensures limit { (memory_state (fuse_inner self.new)).limit ≡ (memory_state (fuse_inner self.old)).limit }
     {
@@ -76,6 +77,7 @@ impl Disk for FuseDisk {
         ensures content { (memory_state (fuse_inner self.new)).content ≡ (memory_state (fuse_inner self.old)).content }
         ensures images { Passes Same (memory_state (fuse_inner self.old)) (memory_state (fuse_inner self.new)) }
         ensures cause { HasCause (memory_state (fuse_inner self.old)).faults (memory_state (fuse_inner self.new)).faults result }
+        ensures faults { CountsErrors (memory_state (fuse_inner self.old)).faults (memory_state (fuse_inner self.new)).faults result }
         ensures taken { ((memory_state (fuse_inner self.old)).taken ≤ (memory_state (fuse_inner self.new)).taken) × ((memory_state (fuse_inner self.new)).taken ≤ (memory_state (fuse_inner self.old)).taken + length buf.old) }
         ensures limit { (memory_state (fuse_inner self.new)).limit ≡ (memory_state (fuse_inner self.old)).limit }
     {
@@ -93,6 +95,7 @@ impl Disk for FuseDisk {
         ensures stays { OnErr result ((memory_state (fuse_inner self.new)).content ≡ (memory_state (fuse_inner self.old)).content) }
         ensures images { Passes (Torn at (length bytes.now)) (memory_state (fuse_inner self.old)) (memory_state (fuse_inner self.new)) }
         ensures cause { HasCause (memory_state (fuse_inner self.old)).faults (memory_state (fuse_inner self.new)).faults result }
+        ensures faults { CountsErrors (memory_state (fuse_inner self.old)).faults (memory_state (fuse_inner self.new)).faults result }
         ensures taken { (memory_state (fuse_inner self.new)).taken ≡ (memory_state (fuse_inner self.old)).taken }
         ensures limit { (memory_state (fuse_inner self.new)).limit ≡ (memory_state (fuse_inner self.old)).limit }
     {
@@ -108,6 +111,7 @@ impl Disk for FuseDisk {
         ensures content { (memory_state (fuse_inner self.new)).content ≡ (memory_state (fuse_inner self.old)).content }
         ensures images { Passes Same (memory_state (fuse_inner self.old)) (memory_state (fuse_inner self.new)) }
         ensures cause { HasCause (memory_state (fuse_inner self.old)).faults (memory_state (fuse_inner self.new)).faults result }
+        ensures faults { CountsErrors (memory_state (fuse_inner self.old)).faults (memory_state (fuse_inner self.new)).faults result }
         ensures taken { (memory_state (fuse_inner self.new)).taken ≡ (memory_state (fuse_inner self.old)).taken }
         ensures limit { (memory_state (fuse_inner self.new)).limit ≡ (memory_state (fuse_inner self.old)).limit }
     {

@@ -1,6 +1,6 @@
 // A disk in memory, which tells everything.
 ghost use Rattle.std.specs.Prelude.{◌≡◌, ◌↔◌, ◌⊎◌, ℕ, List, ◌+◌, ◌-◌, ◌^◌, ◌≤◌, min, length, take, drop, IfOk, OnOk, OnErr, IsTrue};
-ghost use Rattle.alta_codec.specs.Faults.{Rose, HasCause};
+ghost use Rattle.alta_codec.specs.Faults.{Rose, HasCause, CountsErrors};
 ghost use Rattle.alta_disk.specs.Disk.{Holds, Torn, Same, Only, Passes};
 ghost use Rattle.alta_disk.specs.Images.{Tears, IsFilled};
 ghost use Rattle.alta_disk.specs.Media.{Media, start, state_of, content_of};
@@ -85,6 +85,7 @@ impl MemoryDisk {
     pub(crate) fn count_fault(&mut self) -> Failed
         ensures rose { Rose self.old.faults self.new.faults }
         ensures later { self.old.faults ≤ self.new.faults }
+        ensures once { self.new.faults ≡ min (self.old.faults + 1) (2 ^ 64 - 1) }
         ensures same { self.new ≡ record self.old { faults = self.new.faults } }
     {
         self.faults = self.faults.saturating_add(1);
@@ -106,6 +107,7 @@ impl MemoryDisk {
         ensures images { Passes (Torn at n) (memory_state self.old) (memory_state self.new) }
         ensures rose { Rose self.old.faults self.new.faults }
         ensures later { self.old.faults ≤ self.new.faults }
+        ensures once { self.new.faults ≡ min (self.old.faults + 1) (2 ^ 64 - 1) }
         ensures taken { self.new.taken ≡ self.old.taken }
         ensures limit { self.new.limit ≡ self.old.limit }
         ensures calls { self.new.calls ≡ self.old.calls }
@@ -135,6 +137,7 @@ impl Disk for MemoryDisk {
         ensures content { (memory_state self.new).content ≡ (memory_state self.old).content }
         ensures images { Passes Same (memory_state self.old) (memory_state self.new) }
         ensures cause { HasCause (memory_state self.old).faults (memory_state self.new).faults result }
+        ensures faults { CountsErrors (memory_state self.old).faults (memory_state self.new).faults result }
         ensures taken { (memory_state self.new).taken ≡ (memory_state self.old).taken }
         ensures limit { (memory_state self.new).limit ≡ (memory_state self.old).limit }
     {
@@ -152,6 +155,7 @@ impl Disk for MemoryDisk {
         ensures content { (memory_state self.new).content ≡ (memory_state self.old).content }
         ensures images { Passes Same (memory_state self.old) (memory_state self.new) }
         ensures cause { HasCause (memory_state self.old).faults (memory_state self.new).faults result }
+        ensures faults { CountsErrors (memory_state self.old).faults (memory_state self.new).faults result }
         ensures taken { ((memory_state self.old).taken ≤ (memory_state self.new).taken) × ((memory_state self.new).taken ≤ (memory_state self.old).taken + length buf.old) }
         ensures limit { (memory_state self.new).limit ≡ (memory_state self.old).limit }
     {
@@ -172,6 +176,7 @@ impl Disk for MemoryDisk {
         ensures stays { OnErr result ((memory_state self.new).content ≡ (memory_state self.old).content) }
         ensures images { Passes (Torn at (length bytes.now)) (memory_state self.old) (memory_state self.new) }
         ensures cause { HasCause (memory_state self.old).faults (memory_state self.new).faults result }
+        ensures faults { CountsErrors (memory_state self.old).faults (memory_state self.new).faults result }
         ensures taken { (memory_state self.new).taken ≡ (memory_state self.old).taken }
         ensures limit { (memory_state self.new).limit ≡ (memory_state self.old).limit }
     {
@@ -194,6 +199,7 @@ impl Disk for MemoryDisk {
         ensures content { (memory_state self.new).content ≡ (memory_state self.old).content }
         ensures images { Passes Same (memory_state self.old) (memory_state self.new) }
         ensures cause { HasCause (memory_state self.old).faults (memory_state self.new).faults result }
+        ensures faults { CountsErrors (memory_state self.old).faults (memory_state self.new).faults result }
         ensures taken { (memory_state self.new).taken ≡ (memory_state self.old).taken }
         ensures limit { (memory_state self.new).limit ≡ (memory_state self.old).limit }
     {

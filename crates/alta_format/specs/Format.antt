@@ -1,12 +1,9 @@
 -- Rows of fields, each with its rule: what bytes spell them, what reading finds, and where the first field breaks its rule.
-use Rattle.std.specs.Prelude.{◌≡◌, ◌⊎◌, ℕ, zero, suc, ◌+◌, ◌-◌, ◌<◌, ◌^◌, List, [], ◌∷◌, ◌++◌, length, take, drop, Bool, IsTrue, Result, Ok, Err, nat_lt, ◌==◌, if◌then◌else◌, slice_index}
+use Rattle.std.specs.Prelude.{◌≡◌, ◌⊎◌, ℕ, zero, suc, ◌+◌, ◌-◌, ◌<◌, ◌^◌, List, [], ◌∷◌, ◌++◌, length, take, drop, Bool, IsTrue, Result, Ok, Err, nat_lt, ◌==◌, if◌then◌else◌}
 use Rattle.std.specs.Int.{w64, to_be_bytes, from_be_bytes}
+pub use Rattle.alta_codec.specs.Bytes.{AreBytes}
 use Rattle.alta_codec.specs.declared.number.CodeFault.{CodeFault}
 use Rattle.alta_codec.specs.Numbers.{number_bytes, number_from}
-
--- each of them is a byte
-abbrev pub AreBytes : List ℕ → Type 0
-AreBytes bytes = (i : ℕ) → slice_index bytes i < 256
 
 -- how a number is written: in its shortest spelling, in one byte, in eight bytes from the highest
 pub data Kind : Type 0 where

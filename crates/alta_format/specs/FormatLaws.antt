@@ -10,6 +10,7 @@ use Rattle.alta_codec.specs.declared.number.CodeFault.{CodeFault}
 use Rattle.alta_codec.specs.Numbers.{number_bytes, number_from}
 use Rattle.alta_format.specs.Format.{Kind, packed, byte, wide, Format, ends, end_field, number_field, text_field, spelled, HasNumber, HasText, Spells, IsBroken, ◌>>=◌, packed_from, number_of, text_of, read, followed_by, AreBytes, FirstBroken, placed, part}
 use Rattle.alta_codec.proofs.Numerals.{number_read, reads_number}
+pub use Rattle.alta_codec.proofs.ByteLaws.{AreBytes-rest, AreBytes-take, AreBytes-drop}
 
 -- ---- small tools
 
@@ -54,20 +55,6 @@ not_both b h e = absurd cc
 
 eqb_is : (n : ℕ) → IsTrue (eqb n 0) → n ≡ 0
 eqb_is n holds = ⊎_elim (λ e. e) (λ fails. absurd (not_both (eqb n 0) holds fails)) (cases_eqb n)
-
-AreBytes-behind : (front rest : List ℕ) → AreBytes (front ++ rest) → AreBytes rest
-AreBytes-behind [] rest h = h
-AreBytes-behind (b ∷ front) rest h = AreBytes-behind front rest (λ i. h (suc i))
-
-pub AreBytes-rest : (bytes front rest : List ℕ) → AreBytes bytes → bytes ≡ front ++ rest → AreBytes rest
-AreBytes-rest bytes front rest h e = AreBytes-behind front rest (subst AreBytes e h)
-
-pub AreBytes-take : (n : ℕ) (bytes : List ℕ) → AreBytes bytes → AreBytes (take n bytes)
-AreBytes-take n bytes h i =
-    ⊎_elim (λ lt. rw (get_or-take n bytes i 0 lt) (h i)) (λ le. rw (get_or_past (take n bytes) i 0 (omega (arith, length-take n bytes, le))) (omega arith)) (cases_lt i n)
-
-pub AreBytes-drop : (n : ℕ) (bytes : List ℕ) → AreBytes bytes → AreBytes (drop n bytes)
-AreBytes-drop n bytes h i = rw get_or-drop (h (n + i))
 
 -- ---- one field: what was taken stands there, what stands there is taken, and a fault is at its front
 
@@ -143,43 +130,89 @@ is_number kind bytes fits = record {
   behind = λ n rest has. AreBytes-rest bytes (spelled kind n) rest fits has.parts;
 }
 
-is_text : (len : ℕ) (bytes : List ℕ) → AreBytes bytes → IsField bytes (text_of len bytes) (HasText len bytes)
+text_of_takes : (len : ℕ) (bytes text rest : List ℕ) → text_of len bytes ≡ done (text, rest) → HasText len bytes text rest
 unfolding text_of
+text_of_takes len bytes text rest e =
+    ⊎_elim (λ short. let f = rw (lt-ltb (length bytes) len short) at e in absurd cc)
+    (λ long.
+    let f = rw (le-ltb (length bytes) len long) at e in
+    subst (λ (p : List ℕ × List ℕ). HasText len bytes p.0 p.1) (ok_is (take len bytes, drop len bytes) (text, rest) f)
+    (record { len_is = omega (arith, length-take len bytes, long); parts = sym (take-append-drop len bytes) }))
+    (cases_lt (length bytes) len)
+
+text_of_again : (len : ℕ) (bytes text rest : List ℕ) → HasText len bytes text rest → text_of len bytes ≡ done (text, rest)
+unfolding text_of
+text_of_again len bytes text rest has =
+    let long : len ≤ length bytes = omega (arith, ap length has.parts, length-append text rest, has.len_is) in
+    let front : take len bytes ≡ text = ap (take len) has.parts ∙ take_at text rest len has.len_is in
+    let behind : drop len bytes ≡ rest = ap (drop len) has.parts ∙ drop_at text rest len has.len_is in
+    rw (le-ltb (length bytes) len long) (ap (λ (x : List ℕ). done (x, drop len bytes)) front ∙ ap (λ (r : List ℕ). done (text, r)) behind)
+
+text_of_fails : (len : ℕ) (bytes : List ℕ) (left : ℕ) → text_of len bytes ≡ failed left → left ≡ length bytes
+unfolding text_of
+text_of_fails len bytes left e =
+    ⊎_elim (λ short. let f = rw (lt-ltb (length bytes) len short) at e in cc) (λ long. let f = rw (le-ltb (length bytes) len long) at e in absurd cc) (cases_lt (length bytes) len)
+
+is_text : (len : ℕ) (bytes : List ℕ) → AreBytes bytes → IsField bytes (text_of len bytes) (HasText len bytes)
 is_text len bytes fits = record {
-  takes = λ text rest e.
-      ⊎_elim (λ short. let f = rw (lt-ltb (length bytes) len short) at e in absurd cc)
-      (λ long.
-      let f = rw (le-ltb (length bytes) len long) at e in
-      subst (λ (p : List ℕ × List ℕ). HasText len bytes p.0 p.1) (ok_is (take len bytes, drop len bytes) (text, rest) f)
-      (record { len_is = omega (arith, length-take len bytes, long); parts = sym (take-append-drop len bytes) }))
-      (cases_lt (length bytes) len);
-  again = λ text rest has.
-      let long : len ≤ length bytes = omega (arith, ap length has.parts, length-append text rest, has.len_is) in
-      let front : take len bytes ≡ text = ap (take len) has.parts ∙ take_at text rest len has.len_is in
-      let behind : drop len bytes ≡ rest = ap (drop len) has.parts ∙ drop_at text rest len has.len_is in
-      rw (le-ltb (length bytes) len long) (ap (λ (x : List ℕ). done (x, drop len bytes)) front ∙ ap (λ (r : List ℕ). done (text, r)) behind);
-  fails = λ left e.
-      ⊎_elim (λ short. let f = rw (lt-ltb (length bytes) len short) at e in cc) (λ long. let f = rw (le-ltb (length bytes) len long) at e in absurd cc) (cases_lt (length bytes) len);
+  takes = λ text rest e. text_of_takes len bytes text rest e;
+  again = λ text rest has. text_of_again len bytes text rest has;
+  fails = λ left e. text_of_fails len bytes left e;
   behind = λ text rest has. AreBytes-rest bytes text rest fits has.parts;
 }
 
 -- ---- a field with its rule
 
-abbrev with_rule : {U A : Type 0} → List ℕ → (U → Bool) → (U → List ℕ → Result A ℕ) → U × List ℕ → Result A ℕ
+abbrev pub with_rule : {U A : Type 0} → List ℕ → (U → Bool) → (U → List ℕ → Result A ℕ) → U × List ℕ → Result A ℕ
 with_rule bytes rule next x = cond (rule x.0) (next x.0 x.1) (Err (length bytes))
 
-field_spells : {U A : Type 0} (bytes : List ℕ) (found : Result (U × List ℕ) ℕ) (Has : U → List ℕ → Type 0) (rule : U → Bool) (next : U → List ℕ → Result A ℕ) (y : A) → IsField bytes found Has
-    → (found >>= with_rule bytes rule next) ≡ done y → (v : U) × (behind : List ℕ) × Has v behind × IsTrue (rule v) × (next v behind ≡ done y)
-field_spells bytes (Ok x) Has rule next y field e =
-    ⊎_elim (λ kept. (x.0, x.1, field.takes x.0 x.1 refl, kept, sym (if_yes (rule x.0) (next x.0 x.1) (Err (length bytes)) kept) ∙ e))
+-- a field that was read and keeps its rule, and what is read behind it
+pub record Kept {U A : Type 0} (found : Result (U × List ℕ) ℕ) (rule : U → Bool) (next : U → List ℕ → Result A ℕ) (y : A) : Type 0 where
+  pub value : U
+  pub rest : List ℕ
+  pub was : found ≡ done (value, rest)
+  pub holds : IsTrue (rule value)
+  pub more : next value rest ≡ done y
+
+pub field_kept : {U A : Type 0} (bytes : List ℕ) (found : Result (U × List ℕ) ℕ) (rule : U → Bool) (next : U → List ℕ → Result A ℕ) (y : A) → (found >>= with_rule bytes rule next) ≡ done y → Kept found rule next y
+field_kept bytes (Ok x) rule next y e =
+    ⊎_elim (λ holds. record { value = x.0; rest = x.1; was = refl; holds = holds; more = sym (if_yes (rule x.0) (next x.0 x.1) (Err (length bytes)) holds) ∙ e })
     (λ refused. let f = sym (if_no (rule x.0) (next x.0 x.1) (failed (length bytes)) refused) ∙ e in absurd cc)
     (tested (rule x.0))
-field_spells bytes (Err left) Has rule next y field e = absurd cc
+field_kept bytes (Err left) rule next y e = absurd cc
 
-spells_field : {U A : Type 0} (bytes : List ℕ) (found : Result (U × List ℕ) ℕ) (Has : U → List ℕ → Type 0) (rule : U → Bool) (next : U → List ℕ → Result A ℕ) (v : U) (behind : List ℕ) (r : Result A ℕ) → IsField bytes found Has
-    → Has v behind → IsTrue (rule v) → next v behind ≡ r → (found >>= with_rule bytes rule next) ≡ r
-spells_field {U = U} bytes found Has rule next v behind r field has kept deeper =
-    ap (λ (f : Result (U × List ℕ) ℕ). f >>= with_rule bytes rule next) (field.again v behind has) ∙ if_yes (rule v) (next v behind) (Err (length bytes)) kept ∙ deeper
+pub field_passes : {U A : Type 0} (bytes : List ℕ) (found : Result (U × List ℕ) ℕ) (rule : U → Bool) (next : U → List ℕ → Result A ℕ) (value : U) (rest : List ℕ) (r : Result A ℕ) → found ≡ done (value, rest) → IsTrue (rule value)
+    → next value rest ≡ r → (found >>= with_rule bytes rule next) ≡ r
+field_passes {U = U} bytes found rule next value rest r was holds more =
+    ap (λ (f : Result (U × List ℕ) ℕ). f >>= with_rule bytes rule next) was ∙ if_yes (rule value) (next value rest) (Err (length bytes)) holds ∙ more
+
+-- a number or a text in front, where the fields are read
+pub number_kept : {A : Type 0} (kind : Kind) (rule : ℕ → Bool) (next : ℕ → Format A) (bytes : List ℕ) (y : A × List ℕ) → read (number_field kind rule next) bytes ≡ done y → Kept (number_of kind bytes) rule (λ n behind. read (next n) behind) y
+unfolding read
+number_kept kind rule next bytes y e = field_kept bytes (number_of kind bytes) rule (λ n behind. read (next n) behind) y e
+
+pub text_kept : {A : Type 0} (len : ℕ) (rule : List ℕ → Bool) (next : List ℕ → Format A) (bytes : List ℕ) (y : A × List ℕ) → read (text_field len rule next) bytes ≡ done y → Kept (text_of len bytes) rule (λ t behind. read (next t) behind) y
+unfolding read
+text_kept len rule next bytes y e = field_kept bytes (text_of len bytes) rule (λ t behind. read (next t) behind) y e
+
+pub number_passes : {A : Type 0} (kind : Kind) (rule : ℕ → Bool) (next : ℕ → Format A) (bytes : List ℕ) (n : ℕ) (behind : List ℕ) (y : A × List ℕ) → number_of kind bytes ≡ done (n, behind) → IsTrue (rule n) → read (next n) behind ≡ done y
+    → read (number_field kind rule next) bytes ≡ done y
+unfolding read
+number_passes kind rule next bytes n behind y was holds more = field_passes bytes (number_of kind bytes) rule (λ n behind. read (next n) behind) n behind (done y) was holds more
+
+pub text_passes : {A : Type 0} (len : ℕ) (rule : List ℕ → Bool) (next : List ℕ → Format A) (bytes : List ℕ) (t behind : List ℕ) (y : A × List ℕ) → text_of len bytes ≡ done (t, behind) → IsTrue (rule t) → read (next t) behind ≡ done y
+    → read (text_field len rule next) bytes ≡ done y
+unfolding read
+text_passes len rule next bytes t behind y was holds more = field_passes bytes (text_of len bytes) rule (λ t behind. read (next t) behind) t behind (done y) was holds more
+
+pub field_spells : {U A : Type 0} (bytes : List ℕ) (found : Result (U × List ℕ) ℕ) (Has : U → List ℕ → Type 0) (rule : U → Bool) (next : U → List ℕ → Result A ℕ) (y : A) → ((v : U) → (rest : List ℕ) → found ≡ done (v, rest) → Has v rest)
+    → (found >>= with_rule bytes rule next) ≡ done y → (v : U) × (behind : List ℕ) × Has v behind × IsTrue (rule v) × (next v behind ≡ done y)
+field_spells bytes found Has rule next y takes e =
+    let kept = field_kept bytes found rule next y e in (kept.value, kept.rest, takes kept.value kept.rest kept.was, kept.holds, kept.more)
+
+pub spells_field : {U A : Type 0} (bytes : List ℕ) (found : Result (U × List ℕ) ℕ) (Has : U → List ℕ → Type 0) (rule : U → Bool) (next : U → List ℕ → Result A ℕ) (v : U) (behind : List ℕ) (r : Result A ℕ)
+    → ((v : U) → (rest : List ℕ) → Has v rest → found ≡ done (v, rest)) → Has v behind → IsTrue (rule v) → next v behind ≡ r → (found >>= with_rule bytes rule next) ≡ r
+spells_field bytes found Has rule next v behind r again has kept deeper = field_passes bytes found rule next v behind r (again v behind has) kept deeper
 
 field_broken : {U A : Type 0} (bytes : List ℕ) (found : Result (U × List ℕ) ℕ) (Has : U → List ℕ → Type 0) (rule : U → Bool) (next : U → List ℕ → Result A ℕ) (left : ℕ) → IsField bytes found Has
     → (found >>= with_rule bytes rule next) ≡ failed left
@@ -216,26 +249,24 @@ read_spells (end_field next) bytes x rest fits e =
     (tested (eqb (length bytes) 0))
 read_spells (number_field kind rule next) bytes x rest fits e =
     let field = is_number kind bytes fits in
-    let (n, behind, has, kept, deeper) = field_spells bytes (number_of kind bytes) (HasNumber kind bytes) rule (λ (v : ℕ) (r : List ℕ). read (next v) r) (x, rest) field e in
+    let (n, behind, has, kept, deeper) = field_spells bytes (number_of kind bytes) (HasNumber kind bytes) rule (λ (v : ℕ) (r : List ℕ). read (next v) r) (x, rest) field.takes e in
     (n, behind, has, kept, read_spells (next n) behind x rest (field.behind n behind has) deeper)
 read_spells (text_field len rule next) bytes x rest fits e =
     let field = is_text len bytes fits in
-    let (t, behind, has, kept, deeper) = field_spells bytes (text_of len bytes) (HasText len bytes) rule (λ (v : List ℕ) (r : List ℕ). read (next v) r) (x, rest) field e in
+    let (t, behind, has, kept, deeper) = field_spells bytes (text_of len bytes) (HasText len bytes) rule (λ (v : List ℕ) (r : List ℕ). read (next v) r) (x, rest) field.takes e in
     (t, behind, has, kept, read_spells (next t) behind x rest (field.behind t behind has) deeper)
 
 -- What is spelled so is read.
-pub spells_read : {A : Type 0} (format : Format A) (bytes : List ℕ) (x : A) (rest : List ℕ) → AreBytes bytes → Spells format bytes x rest → read format bytes ≡ done (x, rest)
+pub spells_read : {A : Type 0} (format : Format A) (bytes : List ℕ) (x : A) (rest : List ℕ) → Spells format bytes x rest → read format bytes ≡ done (x, rest)
 unfolding read Spells
-spells_read {A = A} (ends a) bytes x rest fits (same, behind) = ap (λ (y : A). done (y, bytes)) same ∙ ap (λ (r : List ℕ). done (x, r)) behind
-spells_read {A = A} (end_field next) bytes x rest fits (none, more) =
-    let tail = spells_read next bytes x rest fits more in
+spells_read {A = A} (ends a) bytes x rest (same, behind) = ap (λ (y : A). done (y, bytes)) same ∙ ap (λ (r : List ℕ). done (x, r)) behind
+spells_read {A = A} (end_field next) bytes x rest (none, more) =
+    let tail = spells_read next bytes x rest more in
     subst (λ (b : List ℕ). read (end_field next) b ≡ done (x, rest)) (sym none) (rw none at tail)
-spells_read (number_field kind rule next) bytes x rest fits (n, behind, has, kept, more) =
-    let field = is_number kind bytes fits in
-    spells_field bytes (number_of kind bytes) (HasNumber kind bytes) rule (λ (v : ℕ) (r : List ℕ). read (next v) r) n behind (done (x, rest)) field has kept (spells_read (next n) behind x rest (field.behind n behind has) more)
-spells_read (text_field len rule next) bytes x rest fits (t, behind, has, kept, more) =
-    let field = is_text len bytes fits in
-    spells_field bytes (text_of len bytes) (HasText len bytes) rule (λ (v : List ℕ) (r : List ℕ). read (next v) r) t behind (done (x, rest)) field has kept (spells_read (next t) behind x rest (field.behind t behind has) more)
+spells_read (number_field kind rule next) bytes x rest (n, behind, has, kept, more) =
+    field_passes bytes (number_of kind bytes) rule (λ (v : ℕ) (r : List ℕ). read (next v) r) n behind (done (x, rest)) (number_of_again kind bytes n behind has) kept (spells_read (next n) behind x rest more)
+spells_read (text_field len rule next) bytes x rest (t, behind, has, kept, more) =
+    field_passes bytes (text_of len bytes) rule (λ (v : List ℕ) (r : List ℕ). read (next v) r) t behind (done (x, rest)) (text_of_again len bytes t behind has) kept (spells_read (next t) behind x rest more)
 
 -- A fault is where the first field is broken.
 pub read_broken : {A : Type 0} (format : Format A) (bytes : List ℕ) (left : ℕ) → AreBytes bytes → read format bytes ≡ failed left → IsBroken format bytes left
@@ -270,12 +301,12 @@ broken_read {A = A} (end_field next) bytes left fits broken =
 broken_read {A = A} (number_field kind rule next) bytes left fits broken =
     let field = is_number kind bytes fits in
     ⊎_elim (λ (at, none). broken_field bytes (number_of kind bytes) (HasNumber kind bytes) rule (λ (v : ℕ) (r : List ℕ). read (next v) r) left field at none)
-    (λ (n, behind, has, kept, more). spells_field bytes (number_of kind bytes) (HasNumber kind bytes) rule (λ (v : ℕ) (r : List ℕ). read (next v) r) n behind (failed {A = A × List ℕ} left) field has kept (broken_read (next n) behind left (field.behind n behind has) more))
+    (λ (n, behind, has, kept, more). spells_field bytes (number_of kind bytes) (HasNumber kind bytes) rule (λ (v : ℕ) (r : List ℕ). read (next v) r) n behind (failed {A = A × List ℕ} left) field.again has kept (broken_read (next n) behind left (field.behind n behind has) more))
     broken
 broken_read {A = A} (text_field len rule next) bytes left fits broken =
     let field = is_text len bytes fits in
     ⊎_elim (λ (at, none). broken_field bytes (text_of len bytes) (HasText len bytes) rule (λ (v : List ℕ) (r : List ℕ). read (next v) r) left field at none)
-    (λ (t, behind, has, kept, more). spells_field bytes (text_of len bytes) (HasText len bytes) rule (λ (v : List ℕ) (r : List ℕ). read (next v) r) t behind (failed {A = A × List ℕ} left) field has kept (broken_read (next t) behind left (field.behind t behind has) more))
+    (λ (t, behind, has, kept, more). spells_field bytes (text_of len bytes) (HasText len bytes) rule (λ (v : List ℕ) (r : List ℕ). read (next v) r) t behind (failed {A = A × List ℕ} left) field.again has kept (broken_read (next t) behind left (field.behind t behind has) more))
     broken
 
 -- ---- one format behind another
@@ -332,11 +363,11 @@ broken-left (text_field len rule next) bytes left b =
 
 -- ---- a part's value is what its bytes spell, and its fault is at the first broken field
 
-placed_ok : {A : Type 0} (start : ℕ) (bytes : List ℕ) (r : Result (A × List ℕ) ℕ) (y : A) → placed start bytes r ≡ done y → (rest : List ℕ) × (r ≡ done (y, rest))
+pub placed_ok : {A : Type 0} (start : ℕ) (bytes : List ℕ) (r : Result (A × List ℕ) ℕ) (y : A) → placed start bytes r ≡ done y → (rest : List ℕ) × (r ≡ done (y, rest))
 placed_ok start bytes (Ok x) y e = (x.1, ap (λ a. done (a, x.1)) (ok_is x.0 y e))
 placed_ok start bytes (Err left) y e = absurd cc
 
-placed_err : {A : Type 0} (start : ℕ) (bytes : List ℕ) (r : Result (A × List ℕ) ℕ) (p : ℕ) → placed start bytes r ≡ failed p → (left : ℕ) × (r ≡ failed left) × (start + (length bytes - left) ≡ p)
+pub placed_err : {A : Type 0} (start : ℕ) (bytes : List ℕ) (r : Result (A × List ℕ) ℕ) (p : ℕ) → placed start bytes r ≡ failed p → (left : ℕ) × (r ≡ failed left) × (start + (length bytes - left) ≡ p)
 placed_err start bytes (Ok x) p e = absurd cc
 placed_err {A = A} start bytes (Err left) p e = (left, refl, err_is {A = A} (start + (length bytes - left)) p e)
 
@@ -344,8 +375,11 @@ pub part_found : {A : Type 0} (format : Format A) (bytes : List ℕ) (start : �
 part_found format bytes start y fits e =
     let (rest, got) = placed_ok start bytes (read format bytes) y e in (rest, read_spells format bytes y rest fits got)
 
+pub part_reads : {A : Type 0} (format : Format A) (bytes : List ℕ) (start : ℕ) (y : A) (rest : List ℕ) → Spells format bytes y rest → part format bytes start ≡ done y
+part_reads format bytes start y rest s = ap (placed start bytes) (spells_read format bytes y rest s)
+
 pub part_spelled : {A : Type 0} (format : Format A) (bytes : List ℕ) (start : ℕ) (y : A) (rest : List ℕ) → AreBytes bytes → Spells format bytes y rest → part format bytes start ≡ done y
-part_spelled format bytes start y rest fits s = ap (placed start bytes) (spells_read format bytes y rest fits s)
+part_spelled format bytes start y rest fits s = part_reads format bytes start y rest s
 
 pub part_first : {A : Type 0} (format : Format A) (bytes : List ℕ) (start p : ℕ) → AreBytes bytes → part format bytes start ≡ failed p → FirstBroken format bytes start p
 part_first format bytes start p fits e =
