@@ -1,5 +1,5 @@
 -- What a move to a place does to several readers.
-use Rattle.std.specs.Prelude.{◌≡◌, ℕ, ◌<◌, ◌≤◌, List, length, slice_index_or, slice_set}
+use Rattle.std.specs.Prelude.{◌≡◌, ℕ, ◌<◌, ◌≤◌, cond, nat_lt, List, length, slice_index_or, slice_set}
 use Rattle.std.specs.List.Sorted.{IsPermutation}
 use Rattle.alta_codec.specs.Rising.{first_from}
 
@@ -25,3 +25,7 @@ pub record MovesFirst {R : Type 0} (list all : R → List ℕ) (location : R →
   pub moved : R
   pub goes : (d : R) → GoesTo list all location to (slice_index_or old 0 d) moved
   pub ordered : IsPermutation (slice_set old 0 moved) new
+
+-- what a reader's move costs where it stands before a place; another is not moved
+abbrev pub cost_before : {R : Type 0} → (R → ℕ) → (R → ℕ) → ℕ → R → ℕ
+cost_before cost location to r = cond (nat_lt (location r) to) (cost r) 0

@@ -6,7 +6,7 @@ ghost use Rattle.alta_codec.specs.declared.location.TheConstants.{TOP};
 ghost use Rattle.alta_compound.specs.Gathered.{gathered};
 ghost use Rattle.alta_compound.specs.Heap.{IsHeapFrom};
 ghost use Rattle.alta_compound.specs.IsUnion.{IsUnion};
-ghost use Rattle.alta_compound.specs.Moves.{MovesThoseBefore};
+ghost use Rattle.alta_compound.specs.Moves.{MovesThoseBefore, cost_before};
 ghost use Rattle.alta_compound.specs.OverReaders.{union_of-rises, in_step_place, gathered-members, gathered-left};
 ghost use Rattle.alta_compound.specs.Readers.{readers_of};
 ghost use Rattle.alta_compound.specs.Union.{union_of, IsInStep};
@@ -34,6 +34,7 @@ fn seek_before<R: BackReader, L: Ledger>(
     ensures last { result ≡ pred_of (union_of (map R.list readers.old)) to }
     ensures falls { sum_by R.left readers.new < sum_by R.left readers.old }
     ensures steps { steps.new + sum_by R.left readers.new ≤ steps.old + sum_by R.left readers.old }
+    ensures spent { steps.new ≤ steps.old + sum_by (cost_before R.cost R.location to) readers.old }
 {
     let mut last = at;
     'moves: while least_place(readers) < to {
@@ -77,6 +78,8 @@ fn go<R: BackReader, L: Ledger>(
     ensures moved { MovesThoseBefore R.list R.all R.location to readers.old readers.new }
     ensures falls { sum_by R.left readers.new < sum_by R.left readers.old }
     ensures steps { steps.new + sum_by R.left readers.new ≤ steps.old + sum_by R.left readers.old }
+    ensures spent { steps.new ≤ steps.old + sum_by (cost_before R.cost R.location to) readers.old }
+    ensures cost { steps.new ≤ steps.old + sum_by R.cost readers.old }
 {
     let before = seek_before(readers, at, to, steps);
     (least_place(readers), before)
@@ -116,11 +119,14 @@ impl<R: BackReader> Reader for AnyReader<R> {
 
     ghost left = { λ s. sum_by R.left s.readers.items };
 
+    ghost cost = { λ s. sum_by R.cost s.readers.items };
+
     fn loc(&self) -> Loc {
         self.at
     }
 
-    /// Goes to the next location, or to `TOP` past the last. It moves exactly the readers that stand before its goal.
+    /// Goes to the next location, or to `TOP` past the last. It moves exactly the readers that stand before its goal,
+    /// each once.
     fn next<L: Ledger>(&mut self, steps: &mut Steps<L>)
         requires sound { ⟦<AnyReader<R> as Reader>⟧.sound self.old }
         requires below { ⟦<AnyReader<R> as Reader>⟧.location self.old < TOP }
@@ -130,12 +136,15 @@ impl<R: BackReader> Reader for AnyReader<R> {
         ensures location { ⟦<AnyReader<R> as Reader>⟧.location self.new ≡ first_from (⟦<AnyReader<R> as Reader>⟧.list self.old) (⟦<AnyReader<R> as Reader>⟧.location self.old + 1) }
         ensures falls { ⟦<AnyReader<R> as Reader>⟧.left self.new < ⟦<AnyReader<R> as Reader>⟧.left self.old }
         ensures steps { steps.new + ⟦<AnyReader<R> as Reader>⟧.left self.new ≤ steps.old + ⟦<AnyReader<R> as Reader>⟧.left self.old }
+        ensures cost { steps.new ≤ steps.old + ⟦<AnyReader<R> as Reader>⟧.cost self.old }
+        ensures spent { steps.new ≤ steps.old + sum_by (cost_before R.cost R.location (⟦<AnyReader<R> as Reader>⟧.location self.old + 1)) (readers_of self.old) }
         ensures moved { MovesThoseBefore R.list R.all R.location (⟦<AnyReader<R> as Reader>⟧.location self.old + 1) (readers_of self.old) (readers_of self.new) }
     {
         (self.at, self.before) = go(&mut self.readers, self.at, self.at + 1, steps);
     }
 
-    /// Goes to the least location at or above `to`, or to `TOP` past the last. It moves exactly the readers that stand before its goal.
+    /// Goes to the least location at or above `to`, or to `TOP` past the last. It moves exactly the readers that stand before its
+    /// goal, each once.
     fn seek<L: Ledger>(&mut self, to: Loc, steps: &mut Steps<L>)
         requires sound { ⟦<AnyReader<R> as Reader>⟧.sound self.old }
         requires above { ⟦<AnyReader<R> as Reader>⟧.location self.old < to }
@@ -146,6 +155,8 @@ impl<R: BackReader> Reader for AnyReader<R> {
         ensures location { ⟦<AnyReader<R> as Reader>⟧.location self.new ≡ first_from (⟦<AnyReader<R> as Reader>⟧.list self.old) to }
         ensures falls { ⟦<AnyReader<R> as Reader>⟧.left self.new < ⟦<AnyReader<R> as Reader>⟧.left self.old }
         ensures steps { steps.new + ⟦<AnyReader<R> as Reader>⟧.left self.new ≤ steps.old + ⟦<AnyReader<R> as Reader>⟧.left self.old }
+        ensures cost { steps.new ≤ steps.old + ⟦<AnyReader<R> as Reader>⟧.cost self.old }
+        ensures spent { steps.new ≤ steps.old + sum_by (cost_before R.cost R.location to) (readers_of self.old) }
         ensures moved { MovesThoseBefore R.list R.all R.location to (readers_of self.old) (readers_of self.new) }
     {
         (self.at, self.before) = go(&mut self.readers, self.at, to, steps);

@@ -46,6 +46,8 @@ impl<R: BackReader> Reader for EndReader<R> {
 
     ghost left = { λ s. R.left s.inner };
 
+    ghost cost = { λ s. R.cost s.inner };
+
     fn loc(&self) -> Loc {
         self.inner.loc()
     }

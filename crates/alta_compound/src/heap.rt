@@ -4,7 +4,7 @@ ghost use Rattle.std.specs.List.Sorted.{IsPermutation};
 ghost use Rattle.alta_codec.specs.Rising.{pred_of};
 ghost use Rattle.alta_codec.specs.declared.location.TheConstants.{TOP};
 ghost use Rattle.alta_compound.specs.Heap.{IsChild, IsHeapFrom};
-ghost use Rattle.alta_compound.specs.Moves.{MovesFirst};
+ghost use Rattle.alta_compound.specs.Moves.{MovesFirst, cost_before};
 ghost use Rattle.alta_compound.specs.Union.{least_of};
 
 use alta_codec::{Loc, Steps, TOP};
@@ -91,6 +91,7 @@ pub(crate) fn move_first<R: BackReader, L: Ledger>(
     ensures last { result ≡ pred_of (slice_index_or (map R.list readers.old) 0 []) to }
     ensures falls { sum_by R.left readers.new < sum_by R.left readers.old }
     ensures steps { steps.new + sum_by R.left readers.new ≤ steps.old + sum_by R.left readers.old }
+    ensures cost { steps.new + sum_by (cost_before R.cost R.location to) readers.new ≤ steps.old + sum_by (cost_before R.cost R.location to) readers.old }
 {
     readers[0].seek(to, steps);
     let last = readers[0].prev();

@@ -32,6 +32,8 @@ impl<R: BackReader> Reader for Without<R> {
 
     ghost left = { λ s. tree_left (apart_of R.list R.all R.location R.left s) };
 
+    ghost cost = { λ s. tree_left (apart_of R.list R.all R.location R.left s) };
+
     fn loc(&self) -> Loc {
         self.at
     }

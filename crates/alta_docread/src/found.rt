@@ -127,6 +127,8 @@ impl<R: BackReader> Reader for Found<R> {
 
     ghost left = { λ s. sum_by R.left s.solver.readers };
 
+    ghost cost = { λ s. sum_by R.left s.solver.readers };
+
     /// Where it stands. Below `TOP`, no element of its readers' leaves at or above there was passed.
     fn loc(&self) -> Loc
         requires { ⟦<Found<R> as Reader>⟧.sound self.now }

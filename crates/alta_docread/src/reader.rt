@@ -48,6 +48,8 @@ impl<R: BackReader> Reader for DocReader<R> {
 
     ghost left = { λ s. tree_left (tree_of R.list R.all R.location R.left s.node) };
 
+    ghost cost = { λ s. tree_left (tree_of R.list R.all R.location R.left s.node) };
+
     /// Where it stands. Over one `Found` and below `TOP`, no element of the leaves at or above there was passed.
     fn loc(&self) -> Loc
         requires { ⟦<DocReader<R> as Reader>⟧.sound self.now }

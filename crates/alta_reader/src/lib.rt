@@ -13,10 +13,11 @@ use std::sync::ledger::Ledger;
 /// A list of locations that rises strictly, from 1 to below [`alta_codec::TOP`], with a place in it that only moves
 /// forward. No call takes memory.
 ///
-/// An implementation gives five meanings. `sound` is what each of its values keeps from its making on. `list` is the
+/// An implementation gives six meanings. `sound` is what each of its values keeps from its making on. `list` is the
 /// list. `location` is where the reader stands: at an element, or at `TOP` once it has passed the last. `all` holds the
 /// elements of all leaf lists below the reader, each as often as leaves have it. `left` is a number that falls at each
-/// move by at least the steps that the move adds, so it bounds all moves that are still to come.
+/// move by at least the steps that the move adds, so it bounds all moves that are still to come. `cost` is how many steps
+/// the next move adds at most.
 pub trait Reader {
     ghost sound: { Self → Type 0 };
 
@@ -27,6 +28,8 @@ pub trait Reader {
     ghost all: { Self → List ℕ };
 
     ghost left: { Self → ℕ };
+
+    ghost cost: { Self → ℕ };
 
     /// Where the reader stands.
     fn loc(&self) -> Loc
@@ -43,7 +46,8 @@ pub trait Reader {
         ensures all { all self.new ≡ all self.old }
         ensures location { location self.new ≡ first_from (list self.old) (location self.old + 1) }
         ensures falls { left self.new < left self.old }
-        ensures steps { steps.new + left self.new ≤ steps.old + left self.old };
+        ensures steps { steps.new + left self.new ≤ steps.old + left self.old }
+        ensures cost { steps.new ≤ steps.old + cost self.old };
 
     /// Goes to the least element at or above `to`, or to `TOP` where there is none.
     fn seek<L: Ledger>(&mut self, to: Loc, steps: &mut Steps<L>)
@@ -55,7 +59,8 @@ pub trait Reader {
         ensures all { all self.new ≡ all self.old }
         ensures location { location self.new ≡ first_from (list self.old) to }
         ensures falls { left self.new < left self.old }
-        ensures steps { steps.new + left self.new ≤ steps.old + left self.old };
+        ensures steps { steps.new + left self.new ≤ steps.old + left self.old }
+        ensures cost { steps.new ≤ steps.old + cost self.old };
 
     ghost rises: { (s : Self) → sound s → IsRising (list s) };
 

@@ -45,6 +45,7 @@ pub fn seek_at<R: BackReader, L: Ledger>(readers: &mut [R], j: usize, to: Loc, s
     ensures steps { steps.new + sum_by R.left readers.new ≤ steps.old + sum_by R.left readers.old }
     ensures own { steps.new + count_from (slice_index_or (map R.all readers.old) j []) (first_from (slice_index_or (map R.list readers.old) j []) to)
         ≤ steps.old + count_from (slice_index_or (map R.all readers.old) j []) (slice_index (map R.location readers.old) j) }
+    ensures cost { steps.new ≤ steps.old + slice_index (map R.cost readers.old) j }
 {
     readers[j].seek(to, steps);
 }

@@ -120,6 +120,7 @@ impl<'a> ChainReader<'a> {
         ensures list { ⟦<ChainReader<'a> as Reader>⟧.list result ≡ concat (map leaf_list leaves.entry.items) }
         ensures all { ⟦<ChainReader<'a> as Reader>⟧.all result ≡ concat (map leaf_list leaves.entry.items) }
         ensures unmoved { ⟦<ChainReader<'a> as Reader>⟧.location result ≡ first_from (concat (map leaf_list leaves.entry.items)) 0 }
+        ensures left { ⟦<ChainReader<'a> as Reader>⟧.left result ≡ length (concat (map leaf_list leaves.entry.items)) }
         ensures leaves { leaves_of result ≡ leaves.entry.items }
     {
         let at = leaf_from(&leaves, 0, 1);
@@ -137,6 +138,8 @@ impl<'a> Reader for ChainReader<'a> {
     ghost all = { λ s. concat (map leaf_list s.leaves.items) };
 
     ghost left = { λ s. count_from (concat (map leaf_list s.leaves.items)) (slice_index_or (map leaf_place s.leaves.items) s.at TOP) };
+
+    ghost cost = { λ s. 1 };
 
     fn loc(&self) -> Loc {
         if self.at < self.leaves.len() {
@@ -156,8 +159,8 @@ impl<'a> Reader for ChainReader<'a> {
         ensures location { ⟦<ChainReader<'a> as Reader>⟧.location self.new ≡ first_from (⟦<ChainReader<'a> as Reader>⟧.list self.old) (⟦<ChainReader<'a> as Reader>⟧.location self.old + 1) }
         ensures falls { ⟦<ChainReader<'a> as Reader>⟧.left self.new < ⟦<ChainReader<'a> as Reader>⟧.left self.old }
         ensures steps { steps.new + ⟦<ChainReader<'a> as Reader>⟧.left self.new ≤ steps.old + ⟦<ChainReader<'a> as Reader>⟧.left self.old }
+        ensures cost { steps.new ≤ steps.old + 1 }
         ensures moved { MovesAtMostOne (leaves_of self.old) (leaves_of self.new) }
-        ensures one { steps.new ≤ steps.old + 1 }
     {
         let here = self.loc();
         self.at = go(&mut self.leaves, self.at, here + 1, steps);
@@ -174,8 +177,8 @@ impl<'a> Reader for ChainReader<'a> {
         ensures location { ⟦<ChainReader<'a> as Reader>⟧.location self.new ≡ first_from (⟦<ChainReader<'a> as Reader>⟧.list self.old) to }
         ensures falls { ⟦<ChainReader<'a> as Reader>⟧.left self.new < ⟦<ChainReader<'a> as Reader>⟧.left self.old }
         ensures steps { steps.new + ⟦<ChainReader<'a> as Reader>⟧.left self.new ≤ steps.old + ⟦<ChainReader<'a> as Reader>⟧.left self.old }
+        ensures cost { steps.new ≤ steps.old + 1 }
         ensures moved { MovesAtMostOne (leaves_of self.old) (leaves_of self.new) }
-        ensures one { steps.new ≤ steps.old + 1 }
     {
         self.at = go(&mut self.leaves, self.at, to, steps);
     }

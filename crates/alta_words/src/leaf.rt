@@ -43,6 +43,8 @@ impl<'a> Reader for Leaf<'a> {
 
     ghost left = { λ s. count_from (leaf_list s) (leaf_place s) };
 
+    ghost cost = { λ s. 1 };
+
     fn loc(&self) -> Loc {
         match self {
             Leaf::Coded(reader) => reader.loc(),
@@ -60,6 +62,7 @@ impl<'a> Reader for Leaf<'a> {
         ensures location { leaf_place self.new ≡ first_from (leaf_list self.old) (leaf_place self.old + 1) }
         ensures falls { count_from (leaf_list self.new) (leaf_place self.new) < count_from (leaf_list self.old) (leaf_place self.old) }
         ensures steps { steps.new + count_from (leaf_list self.new) (leaf_place self.new) ≤ steps.old + count_from (leaf_list self.old) (leaf_place self.old) }
+        ensures cost { steps.new ≤ steps.old + 1 }
         ensures one { steps.new ≡ steps.old + 1 }
     {
         match self {
@@ -79,6 +82,7 @@ impl<'a> Reader for Leaf<'a> {
         ensures location { leaf_place self.new ≡ first_from (leaf_list self.old) to }
         ensures falls { count_from (leaf_list self.new) (leaf_place self.new) < count_from (leaf_list self.old) (leaf_place self.old) }
         ensures steps { steps.new + count_from (leaf_list self.new) (leaf_place self.new) ≤ steps.old + count_from (leaf_list self.old) (leaf_place self.old) }
+        ensures cost { steps.new ≤ steps.old + 1 }
         ensures one { steps.new ≡ steps.old + 1 }
     {
         match self {

@@ -55,6 +55,8 @@ impl<'a> Reader for PlainReader<'a> {
 
     ghost left = { λ s. count_from s.list.now (slice_index_or s.list.now s.at TOP) };
 
+    ghost cost = { λ s. 1 };
+
     fn loc(&self) -> Loc {
         if self.at < self.list.len() {
             self.list[self.at]
@@ -73,6 +75,7 @@ impl<'a> Reader for PlainReader<'a> {
         ensures location { ⟦<PlainReader<'a> as Reader>⟧.location self.new ≡ first_from (⟦<PlainReader<'a> as Reader>⟧.list self.old) (⟦<PlainReader<'a> as Reader>⟧.location self.old + 1) }
         ensures falls { ⟦<PlainReader<'a> as Reader>⟧.left self.new < ⟦<PlainReader<'a> as Reader>⟧.left self.old }
         ensures steps { steps.new + ⟦<PlainReader<'a> as Reader>⟧.left self.new ≤ steps.old + ⟦<PlainReader<'a> as Reader>⟧.left self.old }
+        ensures cost { steps.new ≤ steps.old + 1 }
         ensures one { steps.new ≡ steps.old + 1 }
     {
         steps.tick();
@@ -91,6 +94,7 @@ impl<'a> Reader for PlainReader<'a> {
         ensures location { ⟦<PlainReader<'a> as Reader>⟧.location self.new ≡ first_from (⟦<PlainReader<'a> as Reader>⟧.list self.old) to }
         ensures falls { ⟦<PlainReader<'a> as Reader>⟧.left self.new < ⟦<PlainReader<'a> as Reader>⟧.left self.old }
         ensures steps { steps.new + ⟦<PlainReader<'a> as Reader>⟧.left self.new ≤ steps.old + ⟦<PlainReader<'a> as Reader>⟧.left self.old }
+        ensures cost { steps.new ≤ steps.old + 1 }
         ensures one { steps.new ≡ steps.old + 1 }
     {
         steps.tick();

@@ -180,6 +180,8 @@ impl<'a> Reader for WordReader<'a> {
 
     ghost left = { λ s. count_from (word_list s) (word_place s) };
 
+    ghost cost = { λ s. 1 };
+
     fn loc(&self) -> Loc {
         if self.index < self.block.len() {
             self.block.as_slice()[self.index]
@@ -199,6 +201,7 @@ impl<'a> Reader for WordReader<'a> {
         ensures location { ⟦<WordReader<'a> as Reader>⟧.location self.new ≡ first_from (⟦<WordReader<'a> as Reader>⟧.list self.old) (⟦<WordReader<'a> as Reader>⟧.location self.old + 1) }
         ensures falls { ⟦<WordReader<'a> as Reader>⟧.left self.new < ⟦<WordReader<'a> as Reader>⟧.left self.old }
         ensures steps { steps.new + ⟦<WordReader<'a> as Reader>⟧.left self.new ≤ steps.old + ⟦<WordReader<'a> as Reader>⟧.left self.old }
+        ensures cost { steps.new ≤ steps.old + 1 }
         ensures one { steps.new ≡ steps.old + 1 }
     {
         self.go_next(steps);
@@ -217,6 +220,7 @@ impl<'a> Reader for WordReader<'a> {
         ensures location { ⟦<WordReader<'a> as Reader>⟧.location self.new ≡ first_from (⟦<WordReader<'a> as Reader>⟧.list self.old) to }
         ensures falls { ⟦<WordReader<'a> as Reader>⟧.left self.new < ⟦<WordReader<'a> as Reader>⟧.left self.old }
         ensures steps { steps.new + ⟦<WordReader<'a> as Reader>⟧.left self.new ≤ steps.old + ⟦<WordReader<'a> as Reader>⟧.left self.old }
+        ensures cost { steps.new ≤ steps.old + 1 }
         ensures one { steps.new ≡ steps.old + 1 }
     {
         self.go_seek(to, steps);

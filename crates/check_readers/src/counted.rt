@@ -34,6 +34,8 @@ impl<'a, R: BackReader> Reader for Counted<'a, R> {
 
     ghost left = { λ s. R.left s.inner };
 
+    ghost cost = { λ s. R.cost s.inner };
+
     fn loc(&self) -> Loc {
         self.inner.loc()
     }

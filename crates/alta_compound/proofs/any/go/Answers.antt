@@ -4,6 +4,7 @@ use Rattle.alta_compound.specs.OverReaders.{union_of-rises, in_step_first, in_st
 use Rattle.alta_compound.specs.Same.{union_of-permutation, gathered-permutation}
 use Rattle.alta_compound.specs.Union.{union_of, IsInStep}
 use Rattle.alta_compound.specs.Unions.{pred_same}
+use Rattle.alta_compound.proofs.Costs.{cost_before-le}
 use Rattle.alta_compound.proofs.Moving.{moved_map, moved_first}
 use Rattle.alta_compound.proofs.any.go.Given.{Over}
 use Rattle.alta_compound.proofs.any.go.Goals as goal
@@ -53,3 +54,7 @@ returns-clause-union g c =
           ∙ sym (pred_same u c.args.to c.least_place.result (step.1 ∙ ap (λ l. first_from l c.args.to) same) (omega (arith, c.requires.above)) c.requires.top)
           ∙ ap (λ l. pred_of l c.least_place.result) (sym same);
     }
+
+pub returns-clause-cost : goal.returns-clause-cost
+returns-clause-cost g c =
+    omega (arith, c.seek_before-before.ensures.spent, cost_before-le g.R.Reader.cost g.R.Reader.location c.args.to c.args.readers.now)

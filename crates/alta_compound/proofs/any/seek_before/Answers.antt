@@ -16,6 +16,7 @@ moves-init g c = record {
   low = omega arith;
   falls = inl refl;
   steps = omega arith;
+  cost = omega arith;
 }
 
 pub move_first-requires-clause-before : goal.move_first-requires-clause-before
@@ -48,6 +49,7 @@ moves-preserved g c =
       falls = inr (⊎_elim (λ e. omega (arith, c.move_first.ensures.falls, ap (λ l. sum_by g.R.Reader.left l) e))
           (λ l. omega (arith, c.move_first.ensures.falls, l)) inv.falls);
       steps = omega (arith, c.move_first.ensures.steps, inv.steps);
+      cost = omega (arith, c.move_first.ensures.cost, inv.cost);
     }
 
 pub returns-clause-moved : goal.returns-clause-moved

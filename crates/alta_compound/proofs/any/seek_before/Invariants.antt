@@ -1,6 +1,7 @@
 use Rattle.std.proofs.Common.{◌≡◌, ◌⊎◌, ◌+◌, ◌<◌, ◌≤◌, map}
 use Rattle.std.specs.Prelude.{All, sum_by}
 use Rattle.alta_compound.specs.Heap.{IsHeapFrom}
+use Rattle.alta_compound.specs.Moves.{cost_before}
 use Rattle.alta_compound.proofs.Moving.{IsMoving}
 use Rattle.alta_compound.proofs.any.seek_before.Given as goal
 
@@ -13,6 +14,8 @@ invariant-moves g l =
       low : l.at ≤ l.last;
       falls : (l.readers ≡ l.initial.readers) ⊎ (sum_by g.R.Reader.left l.readers < sum_by g.R.Reader.left l.initial.readers);
       steps : l.steps + sum_by g.R.Reader.left l.readers ≤ l.initial.steps + sum_by g.R.Reader.left l.initial.readers;
+      cost : l.steps + sum_by (cost_before g.R.Reader.cost g.R.Reader.location l.to) l.readers
+          ≤ l.initial.steps + sum_by (cost_before g.R.Reader.cost g.R.Reader.location l.to) l.initial.readers;
     }
 
 abbrev pub decreases-moves : goal.decreases-moves

@@ -3,8 +3,10 @@ use Rattle.std.proofs.lemmas.List.{map-set, get_or-map, get_or-set_same}
 use Rattle.std.proofs.lemmas.List.Elements.{All-set}
 use Rattle.std.proofs.lemmas.List.Sorted.{All-permutation}
 use Rattle.alta_codec.specs.Rising.{first_from, pred_of}
+use Rattle.alta_codec.proofs.Places.{first_from-above}
 use Rattle.alta_compound.specs.Heap.{IsHeapFrom}
 use Rattle.alta_compound.specs.Unions.{pred_same}
+use Rattle.alta_compound.proofs.Costs.{cost_after}
 use Rattle.alta_compound.proofs.Heaps.{heap_but_first, left_after}
 use Rattle.alta_compound.proofs.heap.move_first.Goals as goal
 
@@ -38,3 +40,11 @@ pub returns-clause-steps : goal.returns-clause-steps
 returns-clause-steps g c =
     let left = left_after g.R.Reader.left c.args.readers.now c.sift_down.new.readers c.seek.new.self c.index-readers-0.result c.requires.some c.sift_down.ensures.permutation in
     omega (arith, left, c.seek.ensures.steps)
+
+pub returns-clause-cost : goal.returns-clause-cost
+returns-clause-cost g c =
+    let h = g.R.Reader.location in let rs = c.args.readers.now in let r = c.seek.new.self in let first = c.index-readers-0.result in
+    let after = cost_after g.R.Reader.cost h c.args.to rs c.sift_down.new.readers r first c.requires.some c.sift_down.ensures.permutation
+    (omega (arith, c.requires.before, get_or-map h rs 0 first 0 c.requires.some))
+    (omega (arith, c.seek.ensures.location, first_from-above (g.R.Reader.list (get_or rs 0 first)) c.args.to c.requires.top)) in
+    omega (arith, after, c.seek.ensures.cost)

@@ -1,8 +1,10 @@
 use Rattle.std.proofs.Common.{◌≡◌, map, get_or, sym, ◌∙◌, arith}
 use Rattle.std.specs.List.{concat}
 use Rattle.std.proofs.lemmas.List.{length-map}
+use Rattle.std.proofs.lemmas.List.Elements.{Contains-get_or}
 use Rattle.alta_codec.specs.declared.location.TheConstants.{TOP}
 use Rattle.alta_codec.specs.Rising.{first_from}
+use Rattle.alta_codec.proofs.Places.{first_from-least, count_from-all}
 use Rattle.alta_words.specs.Leaf.{leaf_list, leaf_place}
 use Rattle.alta_words.specs.Chain.{IsChain, chain_starts, both_at}
 use Rattle.alta_words.proofs.chain.ChainReader.new.Goals as goal
@@ -23,3 +25,9 @@ returns-clause-sound c = (c.requires.sound, (starts c).0)
 
 pub returns-clause-unmoved : goal.returns-clause-unmoved
 returns-clause-unmoved c = (starts c).1
+
+pub returns-clause-left : goal.returns-clause-left
+returns-clause-left c =
+    let list = concat (map leaf_list c.args.leaves.items) in
+    count_from-all list (get_or (map leaf_place c.args.leaves.items) c.leaf_from-at.result TOP)
+    (λ i l. omega (arith, (starts c).1, first_from-least list 0 (get_or list i 0) (Contains-get_or list i 0 l) (omega arith)))
