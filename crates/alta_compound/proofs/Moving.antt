@@ -171,7 +171,7 @@ module _ {R : Type 0} (list all : R → List ℕ) (location : R → ℕ) (to : �
       (subst (λ xs. Contains xs z) (get_or-map list old k d [] inside) n))
 
 -- lists whose elements agree under a map
-same_map : {R Y : Type 0} (f : R → Y) (xs ys : List R) → length xs ≡ length ys → ((k : ℕ) (d : R) → k < length ys → f (get_or xs k d) ≡ f (get_or ys k d))
+pub same_map : {R Y : Type 0} (f : R → Y) (xs ys : List R) → length xs ≡ length ys → ((k : ℕ) (d : R) → k < length ys → f (get_or xs k d) ≡ f (get_or ys k d))
     → map f xs ≡ map f ys
 same_map f [] [] size h = refl
 same_map f [] (y ∷ ys) size h = absurd (omega arith)

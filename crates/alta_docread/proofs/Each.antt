@@ -1,15 +1,17 @@
 -- Several trees as a list of trees, and what a move of one of them keeps.
-use Rattle.std.proofs.Common.{◌≡◌, ℕ, zero, suc, ◌+◌, ◌<◌, ◌≤◌, max, List, [], ◌∷◌, ◌++◌, map, length, get_or, set, refl, ap, ◌∙◌, arith}
-use Rattle.std.specs.Prelude.{All, sum_by}
+use Rattle.std.proofs.Common.{◌≡◌, ⊎_elim, ℕ, zero, suc, ◌+◌, ◌<◌, ◌≤◌, max, List, [], ◌∷◌, ◌++◌, map, length, get_or, set, refl, sym, ap, ◌∙◌, arith}
+use Rattle.std.specs.Prelude.{All, Contains, sum_by}
 use Rattle.std.specs.List.{concat}
 use Rattle.std.proofs.Math.Seq.{map-set_same}
-use Rattle.std.proofs.lemmas.List.{length-map}
+use Rattle.std.proofs.lemmas.List.{length-map, get_or-map}
+use Rattle.std.proofs.lemmas.Bool.{cases_lt}
 use Rattle.std.proofs.lemmas.List.Elements.{All-nil, All-cons, All-head, All-tail, All-set}
 use Rattle.std.proofs.lemmas.List.Sums.{sum_by-cons, sum_by-set}
 use Rattle.alta_codec.specs.declared.location.TheConstants.{TOP}
-use Rattle.alta_codec.proofs.Places.{first_from-is, first_from-above}
+use Rattle.alta_codec.proofs.Places.{first_from-is, first_from-above, first_from-least}
+use Rattle.alta_codec.specs.Rising.{first_from}
 use Rattle.alta_docread.specs.Moves.{IsKept}
-use Rattle.alta_docread.specs.Tree.{Tree, trees_of, tree_list, lists_of, tree_place, places_of, tree_all, all_in, tree_left, left_in, tree_depth, depth_in, IsAhead, AreAhead, IsSound, AreSound, IsMoved}
+use Rattle.alta_docread.specs.Tree.{Tree, trees_of, tree_list, lists_of, tree_place, places_of, tree_all, all_in, tree_left, left_in, tree_depth, depth_in, IsAhead, AreAhead, IsSound, AreSound, IsBrought, IsMoved}
 use Rattle.alta_docread.specs.TreeLaws.{tree_stands, tree_top}
 
 -- what holds of each list holds of what is read at each tree, and the other way round
@@ -103,20 +105,48 @@ module _ {N : Type 0} (tree : N → Tree) where
   kept_length os ns before after k =
       omega (arith, ap length k.lists, length-map os (λ n. tree_list (tree n)), length-map ns (λ n. tree_list (tree n)))
 
--- a tree that stands at or above `to` and passed nothing there has moved to it
-pub moved_still : (t : Tree) (to steps : ℕ) → IsSound t → IsAhead to (tree_list t) (tree_place t) → 0 < to → to ≤ tree_place t → IsMoved t t to steps steps
-moved_still t to steps s ahead some le =
+-- a tree that was brought to a place stands there or behind it, and no less far than before
+pub brought_on : (old new : Tree) (to : ℕ) → to ≤ TOP → IsBrought old new to → to ≤ tree_place new
+brought_on old new to top b =
+    ⊎_elim (λ lt. omega (arith, b.goes lt, first_from-above (tree_list old) to top)) (λ ge. omega (arith, b.stays ge, ge)) (cases_lt (tree_place old) to)
+
+pub brought_later : (old new : Tree) (to : ℕ) → to ≤ TOP → IsBrought old new to → tree_place old ≤ tree_place new
+brought_later old new to top b =
+    ⊎_elim (λ lt. omega (arith, b.goes lt, first_from-above (tree_list old) to top, lt)) (λ ge. omega (arith, b.stays ge)) (cases_lt (tree_place old) to)
+
+-- it passed no element of its list from there on
+pub brought_upto : (old new : Tree) (to z : ℕ) → IsBrought old new to → Contains (tree_list old) z → tree_place old ≤ z → to ≤ z → tree_place new ≤ z
+brought_upto old new to z b m low h =
+    ⊎_elim (λ lt. omega (arith, b.goes lt, first_from-least (tree_list old) to z m h)) (λ ge. omega (arith, b.stays ge, low)) (cases_lt (tree_place old) to)
+
+-- one that had passed none before stands at the first
+pub brought_ahead : (old new : Tree) (to : ℕ) → IsSound old → 0 < to → IsAhead to (tree_list old) (tree_place old) → IsBrought old new to
+    → tree_place new ≡ first_from (tree_list old) to
+brought_ahead old new to s some ahead b =
+    ⊎_elim (λ lt. b.goes lt)
+    (λ ge. b.stays ge ∙ first_from-is (tree_list old) to (tree_place old) (tree_stands old s (omega (arith, some, ge))) (tree_top old s) ge ahead)
+    (cases_lt (tree_place old) to)
+
+-- a tree that stands at or above `to` has moved there
+pub moved_still : (t : Tree) (to steps : ℕ) → IsSound t → to ≤ tree_place t → IsMoved t t to steps steps
+moved_still t to steps s le =
     record {
       sound = s;
       list = refl;
       all = refl;
       depth = refl;
       one = λ o. o;
-      place = first_from-is (tree_list t) to (tree_place t) (tree_stands t s (omega (arith, some, le))) (tree_top t s) le ahead;
+      place = record { goes = λ lt. absurd (omega (arith, lt, le)); stays = λ ge. refl };
       left = omega arith;
       falls = λ b lt. absurd (omega (arith, lt, le));
       steps = omega arith;
     }
 
 pub moved_begun : (old new : Tree) (to before after : ℕ) → IsMoved old new to before after → 0 < to → to ≤ TOP → IsSound new × (0 < tree_place new)
-moved_begun old new to before after m some top = (m.sound, omega (arith, m.place, first_from-above (tree_list old) to top, some))
+moved_begun old new to before after m some top = (m.sound, omega (arith, brought_on old new to top m.place, some))
+
+-- what is the same in two lists of trees is the same at each index
+pub same_at : {N A : Type 0} (f : N → A) (os ns : List N) (k : ℕ) (d : N) → map f ns ≡ map f os → k < length os → f (get_or ns k d) ≡ f (get_or os k d)
+same_at f os ns k d e l =
+    let size : length ns ≡ length os = sym (length-map ns f) ∙ ap length e ∙ length-map os f in
+    sym (get_or-map f ns k d (f d) (omega (arith, size, l))) ∙ ap (λ xs. get_or xs k (f d)) e ∙ get_or-map f os k d (f d) l

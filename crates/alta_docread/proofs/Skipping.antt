@@ -11,6 +11,7 @@ use Rattle.alta_docread.specs.KeptLaws.{less-has}
 use Rattle.alta_docread.specs.Moves.{IsAsked, IsSkipped}
 use Rattle.alta_docread.specs.Tree.{Reading, Tree, without, tree_list, tree_place, tree_all, tree_left, tree_depth, IsAhead, IsApart, IsSound, IsMoved}
 use Rattle.alta_docread.specs.TreeLaws.{tree_rises}
+use Rattle.alta_docread.proofs.Each.{brought_ahead}
 
 -- The ends have gone on to some end at or above `to`, and each below it from `to` on is in the tree's list.
 pub record IsSkipping (r s : Reading) (old new : Tree) (to before after : ℕ) : Type 0 where
@@ -46,20 +47,20 @@ asked_top t end steps e s a =
       steps = omega arith;
     }
 
-pub asked_moved : (old new : Tree) (end : ℕ) (answer : Bool) (before after : ℕ) → end < TOP → (IsTrue answer ↔ (tree_place new ≡ end))
-    → IsMoved old new end before after → IsAsked old new end answer before after
-asked_moved old new end answer before after lt w m =
-    let list = tree_list old in
+pub asked_moved : (old new : Tree) (end : ℕ) (answer : Bool) (before after : ℕ) → IsSound old → 0 < end → end < TOP → IsAhead end (tree_list old) (tree_place old)
+    → (IsTrue answer ↔ (tree_place new ≡ end)) → IsMoved old new end before after → IsAsked old new end answer before after
+asked_moved old new end answer before after s some lt low w m =
+    let list = tree_list old in let place = brought_ahead old new end s some low m.place in
     record {
       sound = m.sound;
       list = m.list;
       all = m.all;
       depth = m.depth;
-      ahead = λ z n h. omega (arith, m.place, first_from-least list end z (subst (λ l. Contains l z) m.list n) h);
+      ahead = λ z n h. omega (arith, place, first_from-least list end z (subst (λ l. Contains l z) m.list n) h);
       which = (
-        λ t. let e : first_from list end ≡ end = sym m.place ∙ w.0 t in
+        λ t. let e : first_from list end ≡ end = sym place ∙ w.0 t in
             ⊎_elim (λ n. subst (λ v. Contains list v) e n) (λ top. absurd (omega (arith, top, e, lt))) (first_from-place list end),
-        λ n. w.1 (omega (arith, m.place, first_from-least list end end n (omega arith), first_from-above list end (omega arith))),
+        λ n. w.1 (omega (arith, place, first_from-least list end end n (omega arith), first_from-above list end (omega arith))),
       );
       left = m.left;
       steps = m.steps;
@@ -151,9 +152,9 @@ place_first : (list : List ℕ) (at : ℕ) → IsPlace list at → at ≤ TOP �
 place_first list at p top = first_from-is list at at p top (omega arith) (λ z m h. h)
 
 -- ends that went on have moved as their difference
-pub moved_without : (r s : Reading) (old new : Tree) (at to next before after : ℕ) → IsSound (without at r old) → IsSkipped r s old new to next before after
+pub moved_without : (r s : Reading) (old new : Tree) (at to next before after : ℕ) → at < to → IsSound (without at r old) → IsSkipped r s old new to next before after
     → IsMoved (without at r old) (without next s new) to before after
-moved_without r s old new at to next before after sound m =
+moved_without r s old new at to next before after above sound m =
     let lists : less s.list (tree_list new) ≡ less r.list (tree_list old) = ap (λ l. less l (tree_list new)) m.ends ∙ ap (λ l. less r.list l) m.list in
     let stands : IsPlace (less s.list (tree_list new)) next =
     subst (λ l. IsPlace l next) (sym lists) (subst (λ v. IsPlace (less r.list (tree_list old)) v) (sym m.place) (first_from-place (less r.list (tree_list old)) to)) in
@@ -174,7 +175,7 @@ moved_without r s old new at to next before after sound m =
       all = ap (λ l. l ++ tree_all new) m.ends_all ∙ ap (λ l. r.all ++ l) m.all;
       depth = ap (λ n. 1 + n) m.depth;
       one = λ o. absurd o;
-      place = m.place;
+      place = record { goes = λ _. m.place; stays = λ ge. absurd (omega (arith, ge, above)) };
       left = m.left;
       falls = λ b lt. m.falls (omega (arith, sound.1.here b, lt));
       steps = m.steps;

@@ -1,6 +1,7 @@
 -- Laws of the first places of all solutions.
 use Rattle.std.proofs.Common.{◌≡◌, ⊎_elim, inl, inr, ℕ, zero, suc, ◌<◌, ◌≤◌, Bool, true, ◌&&◌, nat_eq, List, [], ◌∷◌, ◌++◌, length, refl, sym, subst, ap, ◌∙◌, arith}
 use Rattle.std.specs.Prelude.{Contains, All, slice_index, ◌↔◌}
+use Rattle.std.proofs.lemmas.List.{get_or_default}
 use Rattle.std.proofs.lemmas.List.Elements.{All-nil, All-cons, All-head, All-tail, Contains-append_cases, Contains-append_left, Contains-append_right}
 use Rattle.std.proofs.lemmas.Bool.{cases_lt}
 use Rattle.alta_codec.specs.declared.location.TheConstants.{TOP}
@@ -158,3 +159,9 @@ solution_below lists bounds x zero h s l = omega arith
 solution_below lists bounds x (suc i) h s l =
     let (k, b, w, e, (form, low, high, same)) = h.upper (suc i) (omega arith) l in
     bound_below lists x b (suc i) form low high same (subst (λ c. Holds lists x c) e (s.bounded k b w))
+
+-- below TOP the readers of a walk stand at its place or before it
+pub walk_within : (w : Walk) → IsSoundWalk w → 0 < w.at → w.at < TOP → All (λ x. x ≤ w.at) w.places
+walk_within w s begun below k d l =
+    let (x, e) = s.walking.stands begun below in
+    omega (arith, e, get_or_default w.places k d 0 l, solution_below w.lists w.bounds w.places k s.held x (omega (arith, l, x.sized)))

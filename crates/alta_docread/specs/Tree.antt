@@ -15,11 +15,11 @@ pub record Reading : Type 0 where
   pub left : ℕ
 
 mutual
-  -- each node but a walk is with the place where it stands, 0 before its first move
+  -- a difference is with the place where it stands, 0 before its first move
   pub data Tree : Type 0 where
     found : Walk → Tree
-    all_of : ℕ → Trees → Tree
-    any_of : ℕ → Trees → Tree
+    all_of : Trees → Tree
+    any_of : Trees → Tree
     without : ℕ → Reading → Tree → Tree
 
   pub data Trees : Type 0 where
@@ -34,31 +34,49 @@ abbrev mutual
   -- the list that a tree reads
   pub tree_list : Tree → List ℕ
   tree_list (found w) = walk_list w
-  tree_list (all_of at ts) = common (lists_of ts)
-  tree_list (any_of at ts) = union_of (lists_of ts)
+  tree_list (all_of ts) = common (lists_of ts)
+  tree_list (any_of ts) = union_of (lists_of ts)
   tree_list (without at r t) = less r.list (tree_list t)
 
   pub lists_of : Trees → List (List ℕ)
   lists_of none = []
   lists_of (more t ts) = tree_list t ∷ lists_of ts
 
--- where a tree stands
-abbrev pub tree_place : Tree → ℕ
-tree_place (found w) = w.at
-tree_place (all_of at ts) = at
-tree_place (any_of at ts) = at
-tree_place (without at r t) = at
+-- the greatest of the places, 0 where there is none
+abbrev pub greatest_of : List ℕ → ℕ
+greatest_of [] = 0
+greatest_of (x ∷ xs) = max x (greatest_of xs)
 
-abbrev pub places_of : Trees → List ℕ
-places_of none = []
-places_of (more t ts) = tree_place t ∷ places_of ts
+abbrev mutual
+  -- where a tree stands: an intersection at the greatest place of its trees, a union at the least
+  pub tree_place : Tree → ℕ
+  tree_place (found w) = w.at
+  tree_place (all_of ts) = greatest_of (places_of ts)
+  tree_place (any_of ts) = least_of (places_of ts)
+  tree_place (without at r t) = at
+
+  pub places_of : Trees → List ℕ
+  places_of none = []
+  places_of (more t ts) = tree_place t ∷ places_of ts
+
+abbrev mutual
+  -- where the readers below stand
+  pub reader_places : Tree → List ℕ
+  reader_places (found w) = w.places
+  reader_places (all_of ts) = reader_places_in ts
+  reader_places (any_of ts) = reader_places_in ts
+  reader_places (without at r t) = r.place ∷ reader_places t
+
+  pub reader_places_in : Trees → List ℕ
+  reader_places_in none = []
+  reader_places_in (more t ts) = reader_places t ++ reader_places_in ts
 
 abbrev mutual
   -- the elements of all leaves below
   pub tree_all : Tree → List ℕ
   tree_all (found w) = walk_all w
-  tree_all (all_of at ts) = all_in ts
-  tree_all (any_of at ts) = all_in ts
+  tree_all (all_of ts) = all_in ts
+  tree_all (any_of ts) = all_in ts
   tree_all (without at r t) = r.all ++ tree_all t
 
   pub all_in : Trees → List ℕ
@@ -69,8 +87,8 @@ abbrev mutual
   -- what is left of all leaves below
   pub tree_left : Tree → ℕ
   tree_left (found w) = w.left
-  tree_left (all_of at ts) = left_in ts
-  tree_left (any_of at ts) = left_in ts
+  tree_left (all_of ts) = left_in ts
+  tree_left (any_of ts) = left_in ts
   tree_left (without at r t) = r.left + tree_left t
 
   pub left_in : Trees → ℕ
@@ -81,8 +99,8 @@ abbrev mutual
   -- how deep a tree is
   pub tree_depth : Tree → ℕ
   tree_depth (found w) = 1
-  tree_depth (all_of at ts) = 1 + depth_in ts
-  tree_depth (any_of at ts) = 1 + depth_in ts
+  tree_depth (all_of ts) = 1 + depth_in ts
+  tree_depth (any_of ts) = 1 + depth_in ts
   tree_depth (without at r t) = 1 + tree_depth t
 
   pub depth_in : Trees → ℕ
@@ -92,8 +110,8 @@ abbrev mutual
 -- the tree is one Found
 abbrev pub IsOneFound : Tree → Type 0
 IsOneFound (found w) = Unit {0}
-IsOneFound (all_of at ts) = ⊥
-IsOneFound (any_of at ts) = ⊥
+IsOneFound (all_of ts) = ⊥
+IsOneFound (any_of ts) = ⊥
 IsOneFound (without at r t) = ⊥
 
 -- a place from which on no element of the list was passed
@@ -109,16 +127,15 @@ pub record IsStanding (list : List ℕ) (at : ℕ) : Type 0 where
   pub stands : 0 < at → IsPlace list at
   pub top : at ≤ TOP
 
--- Below TOP the trees of an intersection stand where it does.
+-- Below TOP the trees of an intersection all stand where it does.
 pub record IsAgreed (ts : Trees) (at : ℕ) : Type 0 where
   pub some : 0 < length (lists_of ts)
   pub standing : IsStanding (common (lists_of ts)) at
   pub same : at < TOP → All (λ p. p ≡ at) (places_of ts)
 
--- A union stands at the least place of its trees, and none has passed an element from there on.
+-- No tree of a union has passed an element from its place on.
 pub record IsUnited (ts : Trees) (at : ℕ) : Type 0 where
   pub standing : IsStanding (union_of (lists_of ts)) at
-  pub least : 0 < at → at ≡ least_of (places_of ts)
   pub ahead : AreAhead at ts
 
 -- A difference stands at its end, and neither the ends nor the tree have passed an element from there on.
@@ -133,22 +150,27 @@ abbrev mutual
   -- what each tree keeps from its making on
   pub IsSound : Tree → Type 0
   IsSound (found w) = IsSoundWalk w
-  IsSound (all_of at ts) = AreSound ts × IsAgreed ts at
-  IsSound (any_of at ts) = AreSound ts × IsUnited ts at
+  IsSound (all_of ts) = AreSound ts × IsAgreed ts (greatest_of (places_of ts))
+  IsSound (any_of ts) = AreSound ts × IsUnited ts (least_of (places_of ts))
   IsSound (without at r t) = IsSound t × IsApart r t at
 
   pub AreSound : Trees → Type 0
   AreSound none = Unit {0}
   AreSound (more t ts) = IsSound t × AreSound ts
 
--- the tree went on to the first place of its list at or above `to`, with the counter of steps before and after
+-- the tree went on to the first place of its list at or above `to`, or stayed where it stood there already
+pub record IsBrought (old new : Tree) (to : ℕ) : Type 0 where
+  pub goes : tree_place old < to → tree_place new ≡ first_from (tree_list old) to
+  pub stays : to ≤ tree_place old → tree_place new ≡ tree_place old
+
+-- the tree reads what it read and was brought to `to`, with the counter of steps before and after
 pub record IsMoved (old new : Tree) (to before after : ℕ) : Type 0 where
   pub sound : IsSound new
   pub list : tree_list new ≡ tree_list old
   pub all : tree_all new ≡ tree_all old
   pub depth : tree_depth new ≡ tree_depth old
   pub one : IsOneFound old → IsOneFound new
-  pub place : tree_place new ≡ first_from (tree_list old) to
+  pub place : IsBrought old new to
   pub left : tree_left new ≤ tree_left old
   pub falls : 0 < tree_place old → tree_place old < to → tree_left new < tree_left old
   pub steps : after + tree_left new ≤ before + tree_left old
@@ -157,8 +179,8 @@ abbrev mutual
   -- no reader was moved, and each intersection has a tree
   pub IsUnmoved : Tree → Type 0
   IsUnmoved (found w) = (w.at ≡ 0) × (w.places ≡ map (λ l. first_from l 0) w.lists) × (0 < length w.lists) × IsRising (list_at w.lists 0) × IsHeld (length w.lists) w.bounds
-  IsUnmoved (all_of at ts) = (at ≡ 0) × (0 < length (lists_of ts)) × AreUnmoved ts
-  IsUnmoved (any_of at ts) = (at ≡ 0) × AreUnmoved ts
+  IsUnmoved (all_of ts) = (0 < length (lists_of ts)) × AreUnmoved ts
+  IsUnmoved (any_of ts) = AreUnmoved ts
   IsUnmoved (without at r t) = (at ≡ 0) × IsUnmoved t × (r.place ≡ first_from r.list 0) × IsRising r.list
 
   pub AreUnmoved : Trees → Type 0

@@ -6,31 +6,24 @@ use Rattle.alta_docread.specs.Tree.{Reading, Tree, Trees, found, all_of, any_of,
 use Rattle.alta_docread.specs.declared.node.Node.{Node}
 use Rattle.alta_docread.specs.declared.node.Without.{Without}
 use Rattle.alta_docread.specs.declared.node.Node.TheFolds.{fold-Node}
-use Rattle.alta_docread.specs.declared.node.Node.TheOpen.{Node-F, Without-F, Children-F}
-
--- several trees, and where they stand together
-pub record Group : Type 0 where
-  pub at : ℕ
-  pub trees : Trees
+use Rattle.alta_docread.specs.declared.node.Node.TheOpen.{Node-F, Without-F}
+use Rattle.alta_docread.specs.declared.reader.DocReader.{DocReader}
 
 module _ {R : Type 0} (list all : R → List ℕ) (location left : R → ℕ) where
   abbrev pub reading_of : EndReader R → Reading
   reading_of e = record { list = list e.inner; all = all e.inner; place = location e.inner; left = left e.inner }
 
-  abbrev pub node_step : Node-F R Tree Group Tree → Tree
+  abbrev pub node_step : Node-F R Tree Tree → Tree
   node_step (Node-F.Found f) = found (walk_of list all location left f.value)
-  node_step (Node-F.AllOf g) = all_of g.at g.trees
-  node_step (Node-F.AnyOf g) = any_of g.at g.trees
+  node_step (Node-F.AllOf ns) = all_of (trees_of ns.items)
+  node_step (Node-F.AnyOf ns) = any_of (trees_of ns.items)
   node_step (Node-F.Without w) = w.value
 
-  abbrev pub children_step : Children-F R Tree Group Tree → Group
-  children_step c = record { at = c.at; trees = trees_of c.nodes.items }
-
-  abbrev pub without_step : Without-F R Tree Group Tree → Tree
+  abbrev pub without_step : Without-F R Tree Tree → Tree
   without_step w = without w.at (reading_of w.ends) w.child
 
   abbrev pub tree_of : Node R → Tree
-  tree_of = fold-Node R Tree Group Tree node_step children_step without_step
+  tree_of = fold-Node R Tree Tree node_step without_step
 
   abbrev pub trees_in : List (Node R) → Trees
   trees_in ns = trees_of (map tree_of ns)
@@ -38,3 +31,7 @@ module _ {R : Type 0} (list all : R → List ℕ) (location left : R → ℕ) wh
   -- what a Without is
   abbrev pub apart_of : Without R → Tree
   apart_of w = without w.at (reading_of w.ends) (tree_of w.child)
+
+  -- the tree of a reader of documents
+  abbrev pub tree_in : DocReader R → Tree
+  tree_in reader = tree_of reader.node

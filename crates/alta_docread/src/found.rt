@@ -3,7 +3,7 @@ ghost use Rattle.std.specs.Prelude.{◌≡◌, ℕ, ◌+◌, ◌<◌, ◌≤◌,
 ghost use Rattle.std.specs.List.{concat};
 ghost use Rattle.alta_codec.specs.Rising.{IsRising, IsPlace, first_from, count_from};
 ghost use Rattle.alta_solver.specs.Solution.{list_at, IsSolution, IsAtLeast};
-ghost use Rattle.alta_docread.specs.FoundView.{walk_of};
+ghost use Rattle.alta_docread.specs.FoundView.{walk_of, solver_of};
 ghost use Rattle.alta_docread.specs.Solutions.{found_list, walk_list, walk_all, Leads, IsHeld, IsWalking, IsSoundWalk, IsWalked};
 ghost use Rattle.alta_docread.specs.SolutionLaws.{walk_rises, walk_place};
 ghost use Rattle.alta_docread.specs.Tree.{found, IsUnmoved};
@@ -78,6 +78,8 @@ impl<R: BackReader> Found<R> {
     /// first and the element before the first.
     pub fn new(solver: Solver<R>) -> Found<R>
         requires { IsHeld (length solver.readers) solver.bounds }
+        ensures solver { solver_of result ≡ solver }
+        ensures begins { ⟦<Found<R> as Reader>⟧.location result ≡ 0 }
         ensures list { ⟦<Found<R> as Reader>⟧.list result ≡ found_list (map R.list solver.readers) solver.bounds }
         ensures solutions { (e : ℕ) → Contains (⟦<Found<R> as Reader>⟧.list result) e ↔ Leads (map R.list solver.readers) solver.bounds e }
         ensures all { ⟦<Found<R> as Reader>⟧.all result ≡ concat (map R.all solver.readers) }
@@ -129,11 +131,13 @@ impl<R: BackReader> Reader for Found<R> {
 
     ghost cost = { λ s. sum_by R.left s.solver.readers };
 
-    /// Where it stands. Below `TOP`, no element of its readers' leaves at or above there was passed.
+    /// Where it stands. Below `TOP`, each of its readers stands there or before, and no element of their leaves at or above
+    /// there was passed.
     fn loc(&self) -> Loc
         requires { ⟦<Found<R> as Reader>⟧.sound self.now }
         ensures location { result ≡ ⟦<Found<R> as Reader>⟧.location self.now }
         ensures place { IsPlace (⟦<Found<R> as Reader>⟧.list self.now) result }
+        ensures within { result < TOP → All (λ x. x ≤ result) (walk_of R.list R.all R.location R.left self.now).places }
         ensures unpassed { result < TOP → count_from (⟦<Found<R> as Reader>⟧.all self.now) result ≤ ⟦<Found<R> as Reader>⟧.left self.now }
     {
         self.at

@@ -9,5 +9,5 @@ mod node;
 mod reader;
 
 pub use found::Found;
-pub use node::{Children, Node, Without};
+pub use node::{Node, Without};
 pub use reader::DocReader;

@@ -8,12 +8,13 @@ ghost use Rattle.alta_docread.specs.View.{reading_of, tree_of, trees_in, apart_o
 
 use crate::ends::Ends;
 use crate::found::Found;
-use crate::node::{Children, Node, Without};
+use crate::node::{Node, Without};
 use alta_codec::{Loc, Steps, TOP};
 use alta_reader::BackReader;
 use std::sync::ledger::Ledger;
 
-/// Moves the tree to the first place of its list at or above `to`, where it does not stand there yet, and answers it.
+/// Moves the tree to the first place of its list at or above `to`, where it does not stand there yet, and answers where it
+/// stands. A tree below is asked by moves alone, so that none is asked again for what it answered.
 #[cycle(moves)]
 pub(crate) fn seek<R: BackReader, L: Ledger>(
     node: &mut Node<R>,
@@ -21,53 +22,52 @@ pub(crate) fn seek<R: BackReader, L: Ledger>(
     steps: &mut Steps<L>,
 ) -> Loc
     requires sound { IsSound (tree_of R.list R.all R.location R.left node.old) }
-    requires ahead { IsAhead to (tree_list (tree_of R.list R.all R.location R.left node.old)) (tree_place (tree_of R.list R.all R.location R.left node.old)) }
     requires some { 0 < to }
     requires top { to ≤ TOP }
     ensures place { result ≡ tree_place (tree_of R.list R.all R.location R.left node.new) }
     ensures moved { IsMoved (tree_of R.list R.all R.location R.left node.old) (tree_of R.list R.all R.location R.left node.new) to steps.old steps.new }
 {
-    if node.place() < to {
-        advance(node, to, steps);
-    }
-    node.place()
-}
-
-/// Moves a tree that stands below `to` to the first place of its list at or above `to`.
-#[cycle(moves)]
-fn advance<R: BackReader, L: Ledger>(node: &mut Node<R>, to: Loc, steps: &mut Steps<L>)
-    requires sound { IsSound (tree_of R.list R.all R.location R.left node.old) }
-    requires above { tree_place (tree_of R.list R.all R.location R.left node.old) < to }
-    requires top { to ≤ TOP }
-    ensures { IsMoved (tree_of R.list R.all R.location R.left node.old) (tree_of R.list R.all R.location R.left node.new) to steps.old steps.new }
-{
     match node {
         Node::Found(reader) => seek_found(reader, to, steps),
-        Node::AllOf(children) => seek_all(children, to, steps),
-        Node::AnyOf(children) => seek_any(children, to, steps),
+        Node::AllOf(nodes) => seek_all(nodes, to, steps),
+        Node::AnyOf(nodes) => seek_any(nodes, to, steps),
         Node::Without(reader) => seek_without(reader, to, steps),
     }
 }
 
-/// Moves a `Found` to the first place of its list at or above `to`.
-fn seek_found<R: BackReader, L: Ledger>(reader: &mut Box<Found<R>>, to: Loc, steps: &mut Steps<L>)
+/// Moves a `Found` to the first place of its list at or above `to`, and answers where it stands.
+fn seek_found<R: BackReader, L: Ledger>(
+    reader: &mut Box<Found<R>>,
+    to: Loc,
+    steps: &mut Steps<L>,
+) -> Loc
     requires sound { IsSound (found (walk_of R.list R.all R.location R.left reader.old.value)) }
-    requires above { reader.old.value.at < to }
+    requires some { 0 < to }
     requires top { to ≤ TOP }
-    ensures { IsMoved (found (walk_of R.list R.all R.location R.left reader.old.value)) (found (walk_of R.list R.all R.location R.left reader.new.value)) to steps.old steps.new }
+    ensures place { result ≡ reader.new.value.at }
+    ensures moved { IsMoved (found (walk_of R.list R.all R.location R.left reader.old.value)) (found (walk_of R.list R.all R.location R.left reader.new.value)) to steps.old steps.new }
 {
-    reader.go(to, steps)
+    if reader.place() >= to {
+        return reader.place();
+    }
+    reader.go(to, steps);
+    reader.place()
 }
 
-/// Moves the trees of a union to their first places at or above `to`.
+/// Moves the trees of a union to their first places at or above `to`, and answers the least place.
 #[cycle(moves)]
-fn seek_any<R: BackReader, L: Ledger>(children: &mut Children<R>, to: Loc, steps: &mut Steps<L>)
-    requires sound { IsSound (any_of children.old.at (trees_in R.list R.all R.location R.left children.old.nodes.items)) }
-    requires above { children.old.at < to }
+fn seek_any<R: BackReader, L: Ledger>(
+    nodes: &mut Vec<Node<R>>,
+    to: Loc,
+    steps: &mut Steps<L>,
+) -> Loc
+    requires sound { IsSound (any_of (trees_in R.list R.all R.location R.left nodes.old.items)) }
+    requires some { 0 < to }
     requires top { to ≤ TOP }
-    ensures { IsMoved (any_of children.old.at (trees_in R.list R.all R.location R.left children.old.nodes.items)) (any_of children.new.at (trees_in R.list R.all R.location R.left children.new.nodes.items)) to steps.old steps.new }
+    ensures place { result ≡ tree_place (any_of (trees_in R.list R.all R.location R.left nodes.new.items)) }
+    ensures moved { IsMoved (any_of (trees_in R.list R.all R.location R.left nodes.old.items)) (any_of (trees_in R.list R.all R.location R.left nodes.new.items)) to steps.old steps.new }
 {
-    children.at = seek_each(&mut children.nodes, to, steps);
+    seek_each(nodes, to, steps)
 }
 
 /// Moves each tree that stands below `to` to its first place there, and answers the least place.
@@ -78,7 +78,6 @@ fn seek_each<R: BackReader, L: Ledger>(
     steps: &mut Steps<L>,
 ) -> Loc
     requires sound { All (λ n. IsSound (tree_of R.list R.all R.location R.left n)) nodes.old.items }
-    requires ahead { All (λ n. IsAhead to (tree_list (tree_of R.list R.all R.location R.left n)) (tree_place (tree_of R.list R.all R.location R.left n))) nodes.old.items }
     requires some { 0 < to }
     requires top { to ≤ TOP }
     ensures { IsReached (tree_of R.list R.all R.location R.left) nodes.old.items nodes.new.items to result steps.old steps.new }
@@ -90,75 +89,86 @@ fn seek_each<R: BackReader, L: Ledger>(
     least
 }
 
-/// Moves the trees of an intersection to the first place at or above `to` that all their lists have.
+/// Moves the trees of an intersection to the first place at or above `to` that all their lists have, and answers it.
 #[cycle(moves)]
-fn seek_all<R: BackReader, L: Ledger>(children: &mut Children<R>, to: Loc, steps: &mut Steps<L>)
-    requires sound { IsSound (all_of children.old.at (trees_in R.list R.all R.location R.left children.old.nodes.items)) }
-    requires above { children.old.at < to }
+fn seek_all<R: BackReader, L: Ledger>(
+    nodes: &mut Vec<Node<R>>,
+    to: Loc,
+    steps: &mut Steps<L>,
+) -> Loc
+    requires sound { IsSound (all_of (trees_in R.list R.all R.location R.left nodes.old.items)) }
+    requires some { 0 < to }
     requires top { to ≤ TOP }
-    ensures { IsMoved (all_of children.old.at (trees_in R.list R.all R.location R.left children.old.nodes.items)) (all_of children.new.at (trees_in R.list R.all R.location R.left children.new.nodes.items)) to steps.old steps.new }
+    ensures place { result ≡ tree_place (all_of (trees_in R.list R.all R.location R.left nodes.new.items)) }
+    ensures moved { IsMoved (all_of (trees_in R.list R.all R.location R.left nodes.old.items)) (all_of (trees_in R.list R.all R.location R.left nodes.new.items)) to steps.old steps.new }
 {
-    children.at = agree(&mut children.nodes, to, steps);
+    agree(nodes, to, steps)
 }
 
-/// Brings the trees to the first place at or above `to` that all their lists have, and answers it. It passes over the
-/// trees until a pass moves none beyond its goal.
+/// Brings the trees to one place at or above `to`, and answers it. It passes over the trees until all stand at one place
+/// after a pass.
 #[cycle(moves)]
 fn agree<R: BackReader, L: Ledger>(nodes: &mut Vec<Node<R>>, to: Loc, steps: &mut Steps<L>) -> Loc
     requires sound { All (λ n. IsSound (tree_of R.list R.all R.location R.left n)) nodes.old.items }
     requires nodes { 0 < length nodes.old.items }
-    requires above { All (λ n. tree_place (tree_of R.list R.all R.location R.left n) < to) nodes.old.items }
     requires some { 0 < to }
     requires top { to ≤ TOP }
     ensures { IsJoined (tree_of R.list R.all R.location R.left) nodes.old.items nodes.new.items to result steps.old steps.new }
 {
     let mut goal = to;
     'agree: loop {
-        let next = pass(nodes, goal, steps);
-        if next == goal || next == TOP {
-            return next;
+        let (least, last) = pass(nodes, goal, steps);
+        if least == last {
+            return last;
         }
-        goal = next;
+        goal = last;
     }
 }
 
-/// Moves each tree in turn to the greatest place so far, which is `goal` at first, and answers where the last one stands.
-/// It stops at `TOP`.
+/// Moves each tree in turn to where the one before stands, the first to `goal`, and answers the least of their places and
+/// the last.
 #[cycle(moves)]
-fn pass<R: BackReader, L: Ledger>(nodes: &mut Vec<Node<R>>, goal: Loc, steps: &mut Steps<L>) -> Loc
+fn pass<R: BackReader, L: Ledger>(
+    nodes: &mut Vec<Node<R>>,
+    goal: Loc,
+    steps: &mut Steps<L>,
+) -> (Loc, Loc)
     requires sound { All (λ n. IsSound (tree_of R.list R.all R.location R.left n)) nodes.old.items }
     requires nodes { 0 < length nodes.old.items }
-    requires above { All (λ n. tree_place (tree_of R.list R.all R.location R.left n) ≤ goal) nodes.old.items }
     requires some { 0 < goal }
     requires top { goal ≤ TOP }
-    ensures { IsPassed (tree_of R.list R.all R.location R.left) nodes.old.items nodes.new.items goal result steps.old steps.new }
+    ensures { IsPassed (tree_of R.list R.all R.location R.left) nodes.old.items nodes.new.items goal result.0 result.1 steps.old steps.new }
 {
-    let mut next = goal;
+    let mut least = TOP;
+    let mut last = goal;
     for i in 0..nodes.len() {
-        next = seek(&mut nodes[i], next, steps);
-        if next == TOP {
-            return TOP;
-        }
+        last = seek(&mut nodes[i], last, steps);
+        least = least.min(last);
     }
-    next
+    (least, last)
 }
 
-/// Moves a difference to its first end at or above `to`.
+/// Moves a difference to its first end at or above `to`, and answers where it stands.
 #[cycle(moves)]
 fn seek_without<R: BackReader, L: Ledger>(
     reader: &mut Box<Without<R>>,
     to: Loc,
     steps: &mut Steps<L>,
-)
+) -> Loc
     requires sound { IsSound (apart_of R.list R.all R.location R.left reader.old.value) }
-    requires above { reader.old.value.at < to }
+    requires some { 0 < to }
     requires top { to ≤ TOP }
-    ensures { IsMoved (apart_of R.list R.all R.location R.left reader.old.value) (apart_of R.list R.all R.location R.left reader.new.value) to steps.old steps.new }
+    ensures place { result ≡ reader.new.value.at }
+    ensures moved { IsMoved (apart_of R.list R.all R.location R.left reader.old.value) (apart_of R.list R.all R.location R.left reader.new.value) to steps.old steps.new }
 {
-    go_without(reader, to, steps)
+    if reader.at >= to {
+        return reader.at;
+    }
+    go_without(reader, to, steps);
+    reader.at
 }
 
-/// The same, without the box.
+/// Moves a difference that stands below `to` to its first end at or above it.
 #[cycle(moves)]
 pub(crate) fn go_without<R: BackReader, L: Ledger>(
     reader: &mut Without<R>,

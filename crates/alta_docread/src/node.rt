@@ -2,7 +2,7 @@
 ghost use Rattle.std.specs.Prelude.{◌≡◌, ◌↔◌, ℕ, ◌<◌, length, Contains, All, Any};
 ghost use Rattle.alta_codec.specs.Rising.{first_from};
 ghost use Rattle.alta_docread.specs.FoundView.{walk_of};
-ghost use Rattle.alta_docread.specs.Tree.{tree_place, tree_list, IsUnmoved, found, all_of, any_of, without};
+ghost use Rattle.alta_docread.specs.Tree.{tree_list, IsUnmoved, found, all_of, any_of, without};
 ghost use Rattle.alta_docread.specs.View.{reading_of, tree_of, trees_in, apart_of};
 
 use crate::ends::Ends;
@@ -11,7 +11,8 @@ use alta_codec::Loc;
 use alta_compound::EndReader;
 use alta_reader::{BackReader, Reader};
 
-/// A tree of document readers over readers `R`, which a plan gives. Its depth is the plan's, which the query bounds, and
+/// A tree of document readers over readers `R`, which a plan gives. An intersection stands at the greatest place of its
+/// trees, a union at the least; a tree stands nowhere, at 0, until its first move. Its depth is the plan's, which the query bounds, and
 /// the recursion over it goes no deeper.
 #[cycle(node)]
 #[derive(Drop)]
@@ -19,19 +20,11 @@ pub enum Node<R: BackReader> {
     /// The ends of the documents that have a solution.
     Found(Box<Found<R>>),
     /// The ends that each tree has.
-    AllOf(Children<R>),
+    AllOf(Vec<Node<R>>),
     /// The ends that some tree has.
-    AnyOf(Children<R>),
+    AnyOf(Vec<Node<R>>),
     /// The ends that a tree does not have.
     Without(Box<Without<R>>),
-}
-
-/// Several trees, and where they stand together: nowhere, at 0, until their first move.
-#[cycle(node)]
-#[derive(Drop)]
-pub struct Children<R: BackReader> {
-    pub(crate) nodes: Vec<Node<R>>,
-    pub(crate) at: Loc,
 }
 
 /// A reader of the ends that a tree does not have. It stands nowhere, at 0, until its first move.
@@ -63,16 +56,16 @@ impl<R: BackReader> Without<R> {
 
 /// The node of an intersection.
 fn joint<R: BackReader>(nodes: Vec<Node<R>>) -> Node<R>
-    ensures { tree_of R.list R.all R.location R.left result ≡ all_of 0 (trees_in R.list R.all R.location R.left nodes.items) }
+    ensures { tree_of R.list R.all R.location R.left result ≡ all_of (trees_in R.list R.all R.location R.left nodes.items) }
 {
-    Node::AllOf(Children { nodes, at: 0 })
+    Node::AllOf(nodes)
 }
 
 /// The node of a union.
 fn united<R: BackReader>(nodes: Vec<Node<R>>) -> Node<R>
-    ensures { tree_of R.list R.all R.location R.left result ≡ any_of 0 (trees_in R.list R.all R.location R.left nodes.items) }
+    ensures { tree_of R.list R.all R.location R.left result ≡ any_of (trees_in R.list R.all R.location R.left nodes.items) }
 {
-    Node::AnyOf(Children { nodes, at: 0 })
+    Node::AnyOf(nodes)
 }
 
 impl<R: BackReader> Node<R> {
@@ -89,7 +82,7 @@ impl<R: BackReader> Node<R> {
             ↔ ((0 < length nodes.items) × All (λ n. Contains (tree_list (tree_of R.list R.all R.location R.left n)) z) nodes.items) }
         ensures unmoved { 0 < length nodes.items → All (λ n. IsUnmoved (tree_of R.list R.all R.location R.left n)) nodes.items
             → IsUnmoved (tree_of R.list R.all R.location R.left result) }
-        ensures tree { tree_of R.list R.all R.location R.left result ≡ all_of 0 (trees_in R.list R.all R.location R.left nodes.items) }
+        ensures tree { tree_of R.list R.all R.location R.left result ≡ all_of (trees_in R.list R.all R.location R.left nodes.items) }
     {
         joint(nodes)
     }
@@ -99,7 +92,7 @@ impl<R: BackReader> Node<R> {
         ensures members { (z : ℕ) → Contains (tree_list (tree_of R.list R.all R.location R.left result)) z
             ↔ Any (λ n. Contains (tree_list (tree_of R.list R.all R.location R.left n)) z) nodes.items }
         ensures unmoved { All (λ n. IsUnmoved (tree_of R.list R.all R.location R.left n)) nodes.items → IsUnmoved (tree_of R.list R.all R.location R.left result) }
-        ensures tree { tree_of R.list R.all R.location R.left result ≡ any_of 0 (trees_in R.list R.all R.location R.left nodes.items) }
+        ensures tree { tree_of R.list R.all R.location R.left result ≡ any_of (trees_in R.list R.all R.location R.left nodes.items) }
     {
         united(nodes)
     }
@@ -109,17 +102,5 @@ impl<R: BackReader> Node<R> {
         ensures { tree_of R.list R.all R.location R.left result ≡ apart_of R.list R.all R.location R.left reader.value }
     {
         Node::Without(reader)
-    }
-
-    /// Where the tree stands: nowhere, at 0, until its first move.
-    pub(crate) fn place(&self) -> Loc
-        ensures { result ≡ tree_place (tree_of R.list R.all R.location R.left self.now) }
-    {
-        match self {
-            Node::Found(found) => found.place(),
-            Node::AllOf(children) => children.at,
-            Node::AnyOf(children) => children.at,
-            Node::Without(without) => without.at,
-        }
     }
 }

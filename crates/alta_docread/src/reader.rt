@@ -1,10 +1,10 @@
 // A tree of document readers as one reader.
-ghost use Rattle.std.specs.Prelude.{◌≡◌, ℕ, ◌+◌, ◌<◌, ◌≤◌};
+ghost use Rattle.std.specs.Prelude.{◌≡◌, ℕ, ◌+◌, ◌<◌, ◌≤◌, All};
 ghost use Rattle.alta_codec.specs.Rising.{IsPlace, first_from, count_from};
 ghost use Rattle.alta_codec.specs.declared.location.TheConstants.{TOP};
-ghost use Rattle.alta_docread.specs.Tree.{tree_place, tree_list, tree_all, tree_left, IsOneFound, IsSound, IsUnmoved};
+ghost use Rattle.alta_docread.specs.Tree.{tree_place, reader_places, tree_list, tree_all, tree_left, IsOneFound, IsSound, IsUnmoved};
 ghost use Rattle.alta_docread.specs.TreeLaws.{tree_rises, tree_stands};
-ghost use Rattle.alta_docread.specs.View.{tree_of};
+ghost use Rattle.alta_docread.specs.View.{tree_of, tree_in};
 
 use crate::moves::seek;
 use crate::node::Node;
@@ -16,6 +16,8 @@ use std::sync::ledger::Ledger;
 #[derive(Drop)]
 pub struct DocReader<R: BackReader> {
     node: Node<R>,
+    /// Where the tree stands.
+    at: Loc,
 }
 
 impl<R: BackReader> DocReader<R> {
@@ -27,38 +29,41 @@ impl<R: BackReader> DocReader<R> {
         ensures list { ⟦<DocReader<R> as Reader>⟧.list result ≡ tree_list (tree_of R.list R.all R.location R.left node) }
         ensures all { ⟦<DocReader<R> as Reader>⟧.all result ≡ tree_all (tree_of R.list R.all R.location R.left node) }
         ensures location { ⟦<DocReader<R> as Reader>⟧.location result ≡ first_from (tree_list (tree_of R.list R.all R.location R.left node)) 1 }
-        ensures one_found { IsOneFound (tree_of R.list R.all R.location R.left node) → IsOneFound (tree_of R.list R.all R.location R.left result.node) }
+        ensures one_found { IsOneFound (tree_of R.list R.all R.location R.left node) → IsOneFound (tree_in R.list R.all R.location R.left result) }
         ensures left { ⟦<DocReader<R> as Reader>⟧.left result ≤ tree_left (tree_of R.list R.all R.location R.left node) }
         ensures steps { steps.new + ⟦<DocReader<R> as Reader>⟧.left result ≤ steps.old + tree_left (tree_of R.list R.all R.location R.left node) }
     {
         let mut node = node;
-        seek(&mut node, 1, steps);
-        DocReader { node }
+        let at = seek(&mut node, 1, steps);
+        DocReader { node, at }
     }
 }
 
 impl<R: BackReader> Reader for DocReader<R> {
-    ghost sound = { λ s. IsSound (tree_of R.list R.all R.location R.left s.node) × (0 < tree_place (tree_of R.list R.all R.location R.left s.node)) };
+    ghost sound = { λ s. IsSound (tree_in R.list R.all R.location R.left s) × (0 < tree_place (tree_in R.list R.all R.location R.left s)) × (s.at ≡ tree_place (tree_in R.list R.all R.location R.left s)) };
 
-    ghost list = { λ s. tree_list (tree_of R.list R.all R.location R.left s.node) };
+    ghost list = { λ s. tree_list (tree_in R.list R.all R.location R.left s) };
 
-    ghost location = { λ s. tree_place (tree_of R.list R.all R.location R.left s.node) };
+    ghost location = { λ s. tree_place (tree_in R.list R.all R.location R.left s) };
 
-    ghost all = { λ s. tree_all (tree_of R.list R.all R.location R.left s.node) };
+    ghost all = { λ s. tree_all (tree_in R.list R.all R.location R.left s) };
 
-    ghost left = { λ s. tree_left (tree_of R.list R.all R.location R.left s.node) };
+    ghost left = { λ s. tree_left (tree_in R.list R.all R.location R.left s) };
 
-    ghost cost = { λ s. tree_left (tree_of R.list R.all R.location R.left s.node) };
+    ghost cost = { λ s. tree_left (tree_in R.list R.all R.location R.left s) };
 
-    /// Where it stands. Over one `Found` and below `TOP`, no element of the leaves at or above there was passed.
+    /// Where it stands. Over one `Found` and below `TOP`, each reader stands there or before, and no element of the leaves at
+    /// or above there was passed.
     fn loc(&self) -> Loc
         requires { ⟦<DocReader<R> as Reader>⟧.sound self.now }
         ensures location { result ≡ ⟦<DocReader<R> as Reader>⟧.location self.now }
         ensures place { IsPlace (⟦<DocReader<R> as Reader>⟧.list self.now) result }
-        ensures unpassed { IsOneFound (tree_of R.list R.all R.location R.left self.now.node) → result < TOP
+        ensures within { IsOneFound (tree_in R.list R.all R.location R.left self.now) → result < TOP
+            → All (λ x. x ≤ result) (reader_places (tree_in R.list R.all R.location R.left self.now)) }
+        ensures unpassed { IsOneFound (tree_in R.list R.all R.location R.left self.now) → result < TOP
             → count_from (⟦<DocReader<R> as Reader>⟧.all self.now) result ≤ ⟦<DocReader<R> as Reader>⟧.left self.now }
     {
-        self.node.place()
+        self.at
     }
 
     /// Goes to the next end, or to `TOP` past the last.
@@ -71,10 +76,10 @@ impl<R: BackReader> Reader for DocReader<R> {
         ensures location { ⟦<DocReader<R> as Reader>⟧.location self.new ≡ first_from (⟦<DocReader<R> as Reader>⟧.list self.old) (⟦<DocReader<R> as Reader>⟧.location self.old + 1) }
         ensures falls { ⟦<DocReader<R> as Reader>⟧.left self.new < ⟦<DocReader<R> as Reader>⟧.left self.old }
         ensures steps { steps.new + ⟦<DocReader<R> as Reader>⟧.left self.new ≤ steps.old + ⟦<DocReader<R> as Reader>⟧.left self.old }
-        ensures one_found { IsOneFound (tree_of R.list R.all R.location R.left self.old.node) → IsOneFound (tree_of R.list R.all R.location R.left self.new.node) }
+        ensures cost { steps.new ≤ steps.old + ⟦<DocReader<R> as Reader>⟧.cost self.old }
+        ensures one_found { IsOneFound (tree_in R.list R.all R.location R.left self.old) → IsOneFound (tree_in R.list R.all R.location R.left self.new) }
     {
-        let to = self.node.place() + 1;
-        seek(&mut self.node, to, steps);
+        self.at = seek(&mut self.node, self.at + 1, steps);
     }
 
     /// Goes to the least end at or above `to`, or to `TOP` past the last.
@@ -88,12 +93,13 @@ impl<R: BackReader> Reader for DocReader<R> {
         ensures location { ⟦<DocReader<R> as Reader>⟧.location self.new ≡ first_from (⟦<DocReader<R> as Reader>⟧.list self.old) to }
         ensures falls { ⟦<DocReader<R> as Reader>⟧.left self.new < ⟦<DocReader<R> as Reader>⟧.left self.old }
         ensures steps { steps.new + ⟦<DocReader<R> as Reader>⟧.left self.new ≤ steps.old + ⟦<DocReader<R> as Reader>⟧.left self.old }
-        ensures one_found { IsOneFound (tree_of R.list R.all R.location R.left self.old.node) → IsOneFound (tree_of R.list R.all R.location R.left self.new.node) }
+        ensures cost { steps.new ≤ steps.old + ⟦<DocReader<R> as Reader>⟧.cost self.old }
+        ensures one_found { IsOneFound (tree_in R.list R.all R.location R.left self.old) → IsOneFound (tree_in R.list R.all R.location R.left self.new) }
     {
-        seek(&mut self.node, to, steps);
+        self.at = seek(&mut self.node, to, steps);
     }
 
-    ghost rises = { λ s h. tree_rises (tree_of R.list R.all R.location R.left s.node) h.0 };
+    ghost rises = { λ s h. tree_rises (tree_in R.list R.all R.location R.left s) h.0 };
 
-    ghost stands = { λ s h. tree_stands (tree_of R.list R.all R.location R.left s.node) h.0 h.1 };
+    ghost stands = { λ s h. tree_stands (tree_in R.list R.all R.location R.left s) h.0 h.1 };
 }

@@ -1,55 +1,34 @@
-use Rattle.std.proofs.Common.{◌≡◌, ◌⊎◌, inl, inr, ◌+◌, ◌<◌, min, true, false, length, set, refl, sym, subst, ap, ◌∙◌, arith}
+use Rattle.std.proofs.Common.{◌≡◌, ◌+◌, ◌<◌, min, true, false, map, length, set, refl, sym, subst, ap, ◌∙◌, arith}
 use Rattle.std.proofs.lemmas.List.{get_or-set_other, length-set}
-use Rattle.alta_codec.specs.declared.location.TheConstants.{TOP}
 use Rattle.alta_codec.specs.Rising.{first_from}
 use Rattle.alta_compound.specs.OverReaders.{place-positive}
+use Rattle.alta_compound.specs.Union.{least_of}
 use Rattle.alta_docread.specs.Moves.{IsAsked, IsSkipped}
-use Rattle.alta_docread.specs.Tree.{Tree, tree_place, tree_list, tree_depth, IsAhead, IsSound}
+use Rattle.alta_docread.specs.Tree.{Tree, trees_of, tree_place, places_of, greatest_of, tree_depth, IsSound}
 use Rattle.alta_docread.specs.View.{reading_of, tree_of}
 use Rattle.alta_docread.specs.declared.node.Node.{Node}
-use Rattle.alta_docread.proofs.Each.{sound_each, ahead_each, depth_at, kept_length, moved_still}
-use Rattle.alta_docread.proofs.Passing.{IsPassing, passing_step, passing_stop, passing_end, agreeing_on, agreed, agreed_some, agreed_below, moved_all}
+use Rattle.alta_docread.proofs.Each.{sound_each, places_each, depth_at, kept_length}
+use Rattle.alta_docread.proofs.Passing.{IsPassing, passing_step, passing_end, agreeing_on, agreed, agreed_some, joined_place_is, moved_all}
 use Rattle.alta_docread.proofs.Reaching.{IsReaching, reaching_step, reaching_end, moved_any}
 use Rattle.alta_docread.proofs.Skipping.{below_top, asked_top, asked_moved, skipping_start, skipping_step, skipping_end, moved_without, ends_ahead, tree_ahead, eq_answers}
 use Rattle.alta_docread.proofs.moves.+moves.Goals as goal
-use Rattle.alta_docread.proofs.moves.+moves.Goals.{agree-then-next-goal-via-then-next-goal, agree-then-next-goal-via-else-next-goal+then-next-eq-TOP, seek-then-place-to, seek-else-place-to}
-
-pub seek-returns-clause-moved : goal.seek-returns-clause-moved
-seek-returns-clause-moved g t c =
-    let tree = tree_of g.R.Reader.list g.R.Reader.all g.R.Reader.location g.R.Reader.left in
-    elim c.if-place-to.branch [
-      | seek-then-place-to w ↦ rw (w.node-is, w.steps-is) (w.advance.ensures)
-      | seek-else-place-to w ↦
-          rw (w.node-is, w.steps-is)
-          (moved_still (tree c.args.node.now) c.args.to c.args.steps.now c.requires.sound c.requires.ahead c.requires.some (omega (arith, c.place.ensures, w.if-place-to.false)))
-    ]
 
 -- unions
-pub seek_any-seek_each-children-requires : goal.seek_any-seek_each-children-requires
-seek_any-seek_each-children-requires g t c κs within =
-    let tree = tree_of g.R.Reader.list g.R.Reader.all g.R.Reader.location g.R.Reader.left in
-    let os = c.args.children.now.nodes.items in let s = c.requires.sound in let at = c.args.children.now.at in (
+pub seek_any-seek_each-requires : goal.seek_any-seek_each-requires
+seek_any-seek_each-requires g t c κs within =
+    let tree = tree_of g.R.Reader.list g.R.Reader.all g.R.Reader.location g.R.Reader.left in (
       omega arith,
-      (
-        within.0,
-        (
-          within.1,
-          (
-            sound_each tree os s.0,
-            (
-              λ k d l z m h. ahead_each tree at os s.1.ahead k d l z m (omega (arith, c.requires.above, h)),
-              (omega (arith, c.requires.above), c.requires.top),
-            ),
-          ),
-        ),
-      ),
+      (within.0, (within.1, (sound_each tree c.args.nodes.now.items c.requires.sound.0, (c.requires.some, c.requires.top)))),
     )
 
 pub seek_any-returns : goal.seek_any-returns
 seek_any-returns g t c =
-    let tree = tree_of g.R.Reader.list g.R.Reader.all g.R.Reader.location g.R.Reader.left in
-    moved_any tree c.args.children.now.nodes.items c.seek_each-children.new.nodes.items c.args.children.now.at c.args.to c.seek_each-children.result
-    c.args.steps.now c.seek_each-children.new.steps c.requires.top c.requires.sound c.seek_each-children.ensures
+    let tree = tree_of g.R.Reader.list g.R.Reader.all g.R.Reader.location g.R.Reader.left in let e = c.seek_each.ensures in
+    record {
+      place = e.lowest ∙ ap least_of (sym (places_each tree c.seek_each.new.nodes.items));
+      moved = moved_any tree c.args.nodes.now.items c.seek_each.new.nodes.items c.args.to c.seek_each.result
+          c.args.steps.now c.seek_each.new.steps c.requires.some c.requires.top c.requires.sound e;
+    }
 
 pub seek_each-seek-requires : goal.seek_each-seek-requires
 seek_each-seek-requires g t c κs within =
@@ -63,10 +42,7 @@ seek_each-seek-requires g t c κs within =
           within.1,
           (
             subst (λ n. IsSound (tree n)) (sym value) (inv.reaching.kept.sound i d lt),
-            (
-              subst (λ n. IsAhead c.args.to (tree_list (tree n)) (tree_place (tree n))) (sym value) (inv.reaching.ahead i d lt),
-              (c.requires.some, c.requires.top),
-            ),
+            (c.requires.some, c.requires.top),
           ),
         ),
       ),
@@ -93,34 +69,25 @@ seek_each-returns g t c =
     (omega (arith, inv.unvisited.0)) (omega (arith, inv.unvisited.0)) inv.reaching
 
 -- intersections
-pub seek_all-agree-children-requires : goal.seek_all-agree-children-requires
-seek_all-agree-children-requires g t c κs within =
+pub seek_all-agree-requires : goal.seek_all-agree-requires
+seek_all-agree-requires g t c κs within =
     let tree = tree_of g.R.Reader.list g.R.Reader.all g.R.Reader.location g.R.Reader.left in
-    let os = c.args.children.now.nodes.items in let s = c.requires.sound in let at = c.args.children.now.at in (
+    let os = c.args.nodes.now.items in let s = c.requires.sound in (
       omega arith,
-      (
-        within.0,
-        (
-          within.1,
-          (
-            sound_each tree os s.0,
-            (
-              agreed_some tree os at s.1,
-              (agreed_below tree os at c.args.to c.requires.above c.requires.top s.1, (omega (arith, c.requires.above), c.requires.top)),
-            ),
-          ),
-        ),
-      ),
+      (within.0, (within.1, (sound_each tree os s.0, (agreed_some tree os (greatest_of (places_of (trees_of (map tree os)))) s.1, (c.requires.some, c.requires.top))))),
     )
 
 pub seek_all-returns : goal.seek_all-returns
 seek_all-returns g t c =
     let tree = tree_of g.R.Reader.list g.R.Reader.all g.R.Reader.location g.R.Reader.left in
-    moved_all tree c.args.children.now.nodes.items c.agree-children.new.nodes.items c.args.children.now.at c.args.to c.agree-children.result
-    c.args.steps.now c.agree-children.new.steps c.requires.above c.requires.top c.requires.sound c.agree-children.ensures
+    let os = c.args.nodes.now.items in let ns = c.agree.new.nodes.items in
+    record {
+      place = joined_place_is tree os ns c.args.to c.agree.result c.args.steps.now c.agree.new.steps c.requires.some c.requires.top c.requires.sound c.agree.ensures;
+      moved = moved_all tree os ns c.args.to c.agree.result c.args.steps.now c.agree.new.steps c.requires.some c.requires.top c.requires.sound c.agree.ensures;
+    }
 
-pub agree-pass-next-requires : goal.agree-pass-next-requires
-agree-pass-next-requires g t c κs within =
+pub agree-pass-least-requires : goal.agree-pass-least-requires
+agree-pass-least-requires g t c κs within =
     let tree = tree_of g.R.Reader.list g.R.Reader.all g.R.Reader.location g.R.Reader.left in let inv = c.agree.invariant in (
       omega (arith, inv.kept.depth),
       (
@@ -131,32 +98,30 @@ agree-pass-next-requires g t c κs within =
             inv.kept.sound,
             (
               omega (arith, c.requires.nodes, kept_length tree c.args.nodes.now.items c.agree.nodes.items c.args.steps.now c.agree.steps inv.kept),
-              (inv.upper, (omega (arith, c.requires.some, inv.above), inv.top)),
+              (omega (arith, c.requires.some, inv.above), inv.top),
             ),
           ),
         ),
       ),
     )
 
-pub agree-returns-then-next-goal : goal.agree-returns-then-next-goal
-agree-returns-then-next-goal g t c =
+pub agree-returns-then-least-last : goal.agree-returns-then-least-last
+agree-returns-then-least-last g t c =
     let tree = tree_of g.R.Reader.list g.R.Reader.all g.R.Reader.location g.R.Reader.left in
-    let stop : (c.pass-next.result ≡ c.agree.goal) ⊎ (c.pass-next.result ≡ TOP) =
-    elim c.then-next-goal.branch [
-      | agree-then-next-goal-via-then-next-goal w ↦ inl (omega (arith, w.if-next-goal.true))
-      | agree-then-next-goal-via-else-next-goal+then-next-eq-TOP w ↦ inr (omega (arith, w.if-next-eq-TOP.true))
-    ] in
-    agreed tree c.args.nodes.now.items c.agree.nodes.items c.pass-next.new.nodes.items c.args.to c.agree.goal c.pass-next.result
-    c.args.steps.now c.agree.steps c.pass-next.new.steps c.requires.nodes c.requires.some c.requires.above stop c.agree.invariant c.pass-next.ensures
+    agreed tree c.args.nodes.now.items c.agree.nodes.items c.pass-least.new.nodes.items c.args.to c.agree.goal c.pass-least.result.0 c.pass-least.result.1
+    c.args.steps.now c.agree.steps c.pass-least.new.steps c.agree.invariant c.pass-least.ensures (omega (arith, c.if-least-last.true))
 
 pub agree-agree-preserved : goal.agree-agree-preserved
 agree-agree-preserved g t c =
     let tree = tree_of g.R.Reader.list g.R.Reader.all g.R.Reader.location g.R.Reader.left in
-    agreeing_on tree c.args.nodes.now.items c.agree.nodes.items c.pass-next.new.nodes.items c.args.to c.agree.goal c.pass-next.result
-    c.args.steps.now c.agree.steps c.pass-next.new.steps c.requires.above (omega (arith, c.if-next-eq-TOP.false, c.pass-next.ensures.top)) c.agree.invariant c.pass-next.ensures
+    agreeing_on tree c.args.nodes.now.items c.agree.nodes.items c.pass-least.new.nodes.items c.args.to c.agree.goal c.pass-least.result.0 c.pass-least.result.1
+    c.args.steps.now c.agree.steps c.pass-least.new.steps c.agree.invariant c.pass-least.ensures
 
-pub pass-seek-next-requires : goal.pass-seek-next-requires
-pass-seek-next-requires g t c κs within =
+pub agree-agree-smaller : goal.agree-agree-smaller
+agree-agree-smaller g t c = omega (arith, c.if-least-last.false, c.pass-least.ensures.above, c.pass-least.ensures.order, c.pass-least.ensures.top)
+
+pub pass-seek-last-requires : goal.pass-seek-last-requires
+pass-seek-last-requires g t c κs within =
     let tree : Node g.row.R.Denot → Tree = tree_of g.R.Reader.list g.R.Reader.all g.R.Reader.location g.R.Reader.left in
     let i = c.loop-i.i in let rs = c.loop-i.nodes.items in let inv = c.loop-i.invariant in let d = c.index_mut.result.now in
     let value = c.index_mut.ensures.value in let lt : i < length rs = omega (arith, inv.unvisited.0) in (
@@ -167,44 +132,33 @@ pass-seek-next-requires g t c κs within =
           within.1,
           (
             subst (λ n. IsSound (tree n)) (sym value) (inv.passing.kept.sound i d lt),
-            (
-              λ z m h. omega (arith, ap (λ n. tree_place (tree n)) value, inv.passing.upper i d lt, h),
-              (omega (arith, c.requires.some, inv.passing.above), inv.passing.top),
-            ),
+            (omega (arith, c.requires.some, inv.passing.from), inv.passing.top),
           ),
         ),
       ),
     )
 
-pub pass-returns-then-next-eq-TOP : goal.pass-returns-then-next-eq-TOP
-pass-returns-then-next-eq-TOP g t c =
-    let tree : Node g.row.R.Denot → Tree = tree_of g.R.Reader.list g.R.Reader.all g.R.Reader.location g.R.Reader.left in
-    let i = c.loop-i.i in let rs = c.loop-i.nodes.items in let os = c.args.nodes.now.items in let inv = c.loop-i.invariant in
-    let r = c.seek-next.new.node in let d = c.index_mut.result.now in let value = c.index_mut.ensures.value in
-    let lt : i < length rs = omega (arith, inv.unvisited.0) in let first : i < length os = omega (arith, inv.unvisited.0) in
-    passing_stop tree os (set rs i r) c.args.goal (tree_place (tree r)) i c.args.steps.now c.seek-next.new.steps
-    (omega (arith, c.seek-next.ensures.place, c.if-next-eq-TOP.true))
-    (passing_step tree os rs c.args.goal c.loop-i.next i r d c.args.steps.now c.loop-i.steps c.seek-next.new.steps lt first value
-    (value ∙ inv.unvisited.1 i d (omega arith)) inv.passing c.seek-next.ensures.moved)
-
 pub pass-loop-i-preserved : goal.pass-loop-i-preserved
 pass-loop-i-preserved g t c =
     let tree : Node g.row.R.Denot → Tree = tree_of g.R.Reader.list g.R.Reader.all g.R.Reader.location g.R.Reader.left in
     let i = c.loop-i.i in let rs = c.loop-i.nodes.items in let os = c.args.nodes.now.items in let inv = c.loop-i.invariant in
-    let r = c.seek-next.new.node in let d = c.index_mut.result.now in let value = c.index_mut.ensures.value in
+    let r = c.seek-last.new.node in let d = c.index_mut.result.now in let value = c.index_mut.ensures.value in
     let lt : i < length rs = omega (arith, inv.unvisited.0) in let first : i < length os = omega (arith, inv.unvisited.0) in
+    let last : c.seek-last.result ≡ tree_place (tree r) = c.seek-last.ensures.place in
+    let least : c.min-least.result ≡ min c.loop-i.least (tree_place (tree r)) = c.min-least.ensures ∙ ap (λ x. min c.loop-i.least x) last in
     record {
       unvisited = (length-set rs i r ∙ inv.unvisited.0, λ k e l. get_or-set_other rs i k r e (λ q. omega arith) ∙ inv.unvisited.1 k e (omega arith));
-      passing = subst (λ v. IsPassing tree os (set rs i r) c.args.goal v (i + 1) c.args.steps.now c.seek-next.new.steps) (sym c.seek-next.ensures.place)
-          (passing_step tree os rs c.args.goal c.loop-i.next i r d c.args.steps.now c.loop-i.steps c.seek-next.new.steps lt first value
-          (value ∙ inv.unvisited.1 i d (omega arith)) inv.passing c.seek-next.ensures.moved);
+      passing = subst (λ v. IsPassing tree os (set rs i r) c.args.goal v c.seek-last.result (i + 1) c.args.steps.now c.seek-last.new.steps) (sym least)
+          (subst (λ v. IsPassing tree os (set rs i r) c.args.goal (min c.loop-i.least (tree_place (tree r))) v (i + 1) c.args.steps.now c.seek-last.new.steps) (sym last)
+          (passing_step tree os rs c.args.goal c.loop-i.least c.loop-i.last i r d c.args.steps.now c.loop-i.steps c.seek-last.new.steps lt first value
+          (value ∙ inv.unvisited.1 i d (omega arith)) inv.passing c.seek-last.ensures.moved));
     }
 
 pub pass-returns : goal.pass-returns
 pass-returns g t c =
     let tree = tree_of g.R.Reader.list g.R.Reader.all g.R.Reader.location g.R.Reader.left in let inv = c.loop-i.invariant in
-    passing_end tree c.args.nodes.now.items c.loop-i.nodes.items c.args.goal c.loop-i.next c.loop-i.i c.args.steps.now c.loop-i.steps
-    (omega (arith, c.requires.nodes, inv.unvisited.0)) (omega (arith, inv.unvisited.0)) inv.passing
+    passing_end tree c.args.nodes.now.items c.loop-i.nodes.items c.args.goal c.loop-i.least c.loop-i.last c.loop-i.i c.args.steps.now c.loop-i.steps
+    (omega (arith, c.requires.nodes, inv.unvisited.0)) (omega (arith, inv.unvisited.0)) (omega (arith, inv.unvisited.0)) inv.passing
 
 -- differences
 pub go_without-skip-reader-requires : goal.go_without-skip-reader-requires
@@ -234,7 +188,7 @@ go_without-returns g t c =
     let reading = reading_of g.R.Reader.list g.R.Reader.all g.R.Reader.location g.R.Reader.left in
     let w = c.args.reader.now in
     moved_without (reading w.ends) (reading c.skip-reader.new.ends) (tree w.child) (tree c.skip-reader.new.child) w.at c.args.to c.skip-reader.result
-    c.args.steps.now c.skip-reader.new.steps c.requires.sound c.skip-reader.ensures
+    c.args.steps.now c.skip-reader.new.steps c.requires.above c.requires.sound c.skip-reader.ensures
 
 pub skip-ends-init : goal.skip-ends-init
 skip-ends-init g t c =
@@ -300,4 +254,4 @@ pub has-returns : goal.has-returns
 has-returns g t c =
     let tree = tree_of g.R.Reader.list g.R.Reader.all g.R.Reader.location g.R.Reader.left in
     asked_moved (tree c.args.child.now) (tree c.seek.new.node) c.args.end _ c.args.steps.now c.seek.new.steps
-    (omega (arith, c.if-end-eq-TOP.false, c.requires.top)) (eq_answers c.seek.result (tree_place (tree c.seek.new.node)) c.args.end c.seek.ensures.place) c.seek.ensures.moved
+    c.requires.sound c.requires.some (omega (arith, c.if-end-eq-TOP.false, c.requires.top)) c.requires.ahead (eq_answers c.seek.result (tree_place (tree c.seek.new.node)) c.args.end c.seek.ensures.place) c.seek.ensures.moved

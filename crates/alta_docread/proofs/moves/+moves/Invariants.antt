@@ -20,7 +20,7 @@ invariant-pass-loop-i g l =
     let tree = tree_of g.R.Reader.list g.R.Reader.all g.R.Reader.location g.R.Reader.left in
     record {
       unvisited : goal.unvisited-pass-loop-i g l;
-      passing : IsPassing tree l.initial.nodes.items l.nodes.items l.goal l.next l.i l.initial.steps l.steps;
+      passing : IsPassing tree l.initial.nodes.items l.nodes.items l.goal l.least l.last l.i l.initial.steps l.steps;
     }
 
 abbrev pub invariant-agree-agree : goal.invariant-agree-agree
@@ -43,17 +43,14 @@ decreases-skip-ends g l = g.R.Reader.left l.ends.inner
 abbrev pub decreases-seek : goal.decreases-seek
 decreases-seek g l = 9 * tree_depth (tree_of g.R.Reader.list g.R.Reader.all g.R.Reader.location g.R.Reader.left l.node.now) + 1
 
-abbrev pub decreases-advance : goal.decreases-advance
-decreases-advance g l = 9 * tree_depth (tree_of g.R.Reader.list g.R.Reader.all g.R.Reader.location g.R.Reader.left l.node.now)
-
 abbrev pub decreases-seek_any : goal.decreases-seek_any
-decreases-seek_any g l = 9 * depth_in (trees_of (map (tree_of g.R.Reader.list g.R.Reader.all g.R.Reader.location g.R.Reader.left) l.children.now.nodes.items)) + 7
+decreases-seek_any g l = 9 * depth_in (trees_of (map (tree_of g.R.Reader.list g.R.Reader.all g.R.Reader.location g.R.Reader.left) l.nodes.now.items)) + 7
 
 abbrev pub decreases-seek_each : goal.decreases-seek_each
 decreases-seek_each g l = 9 * depth_in (trees_of (map (tree_of g.R.Reader.list g.R.Reader.all g.R.Reader.location g.R.Reader.left) l.nodes.now.items)) + 5
 
 abbrev pub decreases-seek_all : goal.decreases-seek_all
-decreases-seek_all g l = 9 * depth_in (trees_of (map (tree_of g.R.Reader.list g.R.Reader.all g.R.Reader.location g.R.Reader.left) l.children.now.nodes.items)) + 7
+decreases-seek_all g l = 9 * depth_in (trees_of (map (tree_of g.R.Reader.list g.R.Reader.all g.R.Reader.location g.R.Reader.left) l.nodes.now.items)) + 7
 
 abbrev pub decreases-agree : goal.decreases-agree
 decreases-agree g l = 9 * depth_in (trees_of (map (tree_of g.R.Reader.list g.R.Reader.all g.R.Reader.location g.R.Reader.left) l.nodes.now.items)) + 6
