@@ -23,7 +23,7 @@ rise_more : (ds : List Document) (d : Document) → Rise (map number_of ds) → 
 rise_more [] d rise below = (All-nil (λ n. d.number < n), tt)
 rise_more (e ∷ es) d rise below = (
   subst (All (λ n. e.number < n)) (sym (map-append number_of es (d ∷ [])))
-  (All-append (λ n. e.number < n) (map number_of es) (d.number ∷ []) rise.0 (All-cons (λ n. e.number < n) d.number [] (All-head (λ (e : Document). e.number < d.number) e es below) (All-nil (λ n. e.number < n)))),
+      (All-append (λ n. e.number < n) (map number_of es) (d.number ∷ []) rise.0 (All-cons (λ n. e.number < n) d.number [] (All-head (λ (e : Document). e.number < d.number) e es below) (All-nil (λ n. e.number < n)))),
   rise_more es d rise.1 (All-tail (λ (e : Document). e.number < d.number) e es below),
 )
 
@@ -42,7 +42,7 @@ differ_more [] d apart free = (All-nil (λ n. d.name ≢ n), tt)
 differ_more (e ∷ es) d apart free =
     let parts = both_false (bytes_eq d.name e.name) (list_any (λ (e : Document). bytes_eq d.name e.name) es) free in (
       subst (All (λ n. e.name ≢ n)) (sym (map-append name_of es (d ∷ [])))
-      (All-append (λ n. e.name ≢ n) (map name_of es) (d.name ∷ []) apart.0 (All-cons (λ n. e.name ≢ n) d.name [] (differ d.name e.name parts.0) (All-nil (λ n. e.name ≢ n)))),
+          (All-append (λ n. e.name ≢ n) (map name_of es) (d.name ∷ []) apart.0 (All-cons (λ n. e.name ≢ n) d.name [] (differ d.name e.name parts.0) (All-nil (λ n. e.name ≢ n)))),
       differ_more es d apart.1 parts.1,
     )
 
