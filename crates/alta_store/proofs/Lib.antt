@@ -13,6 +13,7 @@ pub mod OneWay
 pub mod OpeningLaws
 pub mod ReplayLaws
 pub mod SlotLaws
+pub mod StateLaws
 pub mod Total
 pub mod WordCounts
 pub mod WorkRows

@@ -3,25 +3,34 @@ ghost use Rattle.std.specs.Prelude.{◌≡◌};
 ghost use Rattle.alta_store.specs.Answers.{of_opening};
 
 use alta_journal::OpenFault;
+use thiserror::Error;
 
 /// Why a call of the store was not done.
-#[derive(Clone, Copy, Debug, PartialEq, Eq)]
+#[derive(Clone, Copy, Debug, PartialEq, Eq, Error)]
 pub enum StoreFault {
     /// A call of the disk failed.
+    #[error("a call of the disk failed")]
     Disk,
     /// There was no memory left.
+    #[error("no memory is left")]
     Memory,
     /// The content of the disk breaks a rule of the format, first at this place.
+    #[error("the index is damaged at {0}")]
     Damaged(u64),
     /// No index is on the disk.
+    #[error("no index is on the disk")]
     NoRoot,
     /// What has to be written needs this many bytes, and the greatest gap has that many.
+    #[error("{need} bytes are needed, and the greatest gap has {gap}")]
     Full { need: u64, gap: u64 },
     /// A live document has the name.
+    #[error("a document has the name")]
     Taken,
     /// No live document has the name.
+    #[error("no document has the name")]
     Missing,
     /// No number is left for a document.
+    #[error("no number is left for a document")]
     Numbers,
 }
 

@@ -1,5 +1,6 @@
 // What follows from the definitions alone. The functions are empty: their contracts are the laws.
 ghost use Rattle.std.specs.Prelude.{◌≡◌, ◌⊎◌, ℕ, List};
+ghost use Rattle.alta_meta.specs.States.{IsState};
 ghost use Rattle.alta_meta.specs.declared.document.State.{State};
 ghost use Rattle.alta_store.specs.Brokenness.{HasNoIndex, IsBrokenAt};
 ghost use Rattle.alta_store.specs.Meaning.{View, IsView, StandsFor};
@@ -19,4 +20,10 @@ pub fn a_disk_is_read_one_way()
 /// [`a_disk_is_read_one_way`] no two of the three hold at once.
 pub fn a_disk_is_read_or_damaged()
     ensures { (image : List ℕ) → ((s : State) × StandsFor s image) ⊎ (HasNoIndex image ⊎ ((place : ℕ) × IsBrokenAt image place)) }
+{}
+
+/// What a disk stands for is well formed: the documents rise in number, from 1 to below the next number, and no two have the
+/// same name.
+pub fn a_state_is_well_formed()
+    ensures { (s : State) → (image : List ℕ) → StandsFor s image → IsState s }
 {}
