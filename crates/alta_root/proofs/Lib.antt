@@ -1,0 +1,10 @@
+pub mod Frames
+pub mod GapFunctions
+pub mod GapLaws
+pub mod NextRoot
+pub mod ReadLaws
+pub mod SlotLaws
+pub mod SoundLaws
+pub mod SpellLaws
+pub mod SwitchLaws
+pub mod SwitchRun

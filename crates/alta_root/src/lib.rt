@@ -1,0 +1,29 @@
+//! The root of an index: two slots at the head of the disk, one of which counts, whole, in whatever a stop leaves.
+#![tactic(auto)]
+
+mod fault;
+mod fields;
+mod gaps;
+mod laws;
+mod places;
+mod reading;
+mod root;
+mod slot;
+mod spelling;
+mod switching;
+#[cfg(test)]
+mod tests;
+
+pub use fault::RootFault;
+pub use gaps::{gap, place};
+pub use laws::{
+    a_root_counts_on, a_root_reads_back, an_image_says_one_thing,
+    gaps_are_the_first_and_the_longest, slots_are_two,
+};
+pub use places::{
+    FIELDS_BYTES, GATE_CLOSED, GATE_OPEN, HEAD_BYTES, LEVEL_BYTES, SLOT_BYTES, SLOTS_BYTES,
+};
+pub use reading::read_roots;
+pub use root::{Root, Roots};
+pub use slot::Slot;
+pub use switching::switch;

@@ -1,0 +1,42 @@
+// Where the slots stand on a disk, and the numbers in their rules.
+
+/// The gate of a slot that says a root. Each other value is a closed gate.
+pub const GATE_OPEN: u8 = 0xA5;
+
+/// The value by which a closed gate is written.
+pub const GATE_CLOSED: u8 = 0;
+
+/// The bytes of both slots.
+pub const SLOTS_BYTES: u64 = 8_192;
+
+/// The bytes of a disk's head: of both slots and of both halves of the journal. Extents lie behind it.
+pub const HEAD_BYTES: u64 = 2_105_344;
+
+/// The bytes of a slot. Slot B stands behind slot A.
+pub const SLOT_BYTES: u64 = 4_096;
+
+// The bytes of a slot behind its gate.
+pub(crate) const BODY_BYTES: usize = 4_095;
+
+/// The bytes of the fields of 16 levels, behind the gate.
+pub const FIELDS_BYTES: usize = 295;
+
+// The bytes of a slot that are read: the gate and the fields.
+pub(crate) const READ_BYTES: usize = 296;
+
+// The place of the second slot's sequence.
+pub(crate) const SECOND_SEQUENCE: u64 = 4_098;
+
+pub(crate) const VERSION: u8 = 1;
+
+// The most levels of a root.
+pub(crate) const LEVELS: usize = 16;
+
+/// The fewest bytes of a level.
+pub const LEVEL_BYTES: u64 = 32;
+
+// The greatest next number.
+pub(crate) const LAST_NEXT: u64 = 4_294_967_296;
+
+// The most cells of a document.
+pub(crate) const DOCUMENT_CELLS: u64 = 262_146;

@@ -1,0 +1,67 @@
+// The other slot's gate is closed where it is open, its body is written and synced, and its gate is opened and synced.
+ghost use Rattle.std.specs.Prelude.{◌≡◌, ◌+◌, ◌≤◌, length, OnOk};
+ghost use Rattle.alta_codec.specs.Faults.{HasCause};
+ghost use Rattle.alta_disk.specs.Disk.{DiskState, Only, Passes, Stands};
+ghost use Rattle.alta_disk.specs.Calls.{Costs};
+ghost use Rattle.alta_root.specs.Places.{slot_start};
+ghost use Rattle.alta_root.specs.Slots.{Counts};
+ghost use Rattle.alta_root.specs.Switches.{MayFollow, Switches, Switched, Closes, Closed};
+ghost use Rattle.alta_root.specs.declared.places.TheConstants.{HEAD_BYTES};
+
+use crate::places::{GATE_CLOSED, GATE_OPEN, HEAD_BYTES};
+use crate::spelling::spell;
+use crate::{Root, Slot};
+use alta_disk::{Disk, Failed, write_synced};
+
+/// Makes this root the one that counts, in the slot that does not count now. Nothing is pending at the start; all that the
+/// root names stands on the disk, and the first gate of its half of the journal is closed.
+///
+/// The slot's gate is closed where it stands open, the body is written behind it, and the gate is opened, each followed
+/// by a sync. At each moment every image has what it had outside the slot, and either the root that counted before or
+/// this one; after `Ok` this one counts in every image. It takes no memory, and reads one byte.
+///
+/// # Errors
+///
+/// `Failed` where a call of the disk failed. The images are then as at some moment before.
+pub fn switch<D: Disk>(disk: &mut D, slot: Slot, root: &Root) -> Result<(), Failed>
+    requires settled { Only (D.state disk.old).content (D.state disk.old).images }
+    requires follows { D.tells → MayFollow slot root.now (D.state disk.old).content }
+    requires limit { HEAD_BYTES ≤ (D.state disk.old).limit }
+
+    ensures switched { D.tells → OnOk result (Switched slot root.now (D.state disk.old).content (D.state disk.new).content) }
+    ensures durable { OnOk result (Only (D.state disk.new).content (D.state disk.new).images) }
+    ensures counts { OnOk result (Stands D.tells (D.state disk.new) (Counts slot root.now)) }
+
+    // At each moment of the call.
+    ensures images { Passes (Switches slot root.now) (D.state disk.old) (D.state disk.new) }
+
+    ensures cause { HasCause (D.state disk.old).faults (D.state disk.new).faults result }
+    ensures costs { Costs 1 (D.state disk.old) (D.state disk.new) }
+{
+    let body = spell(root);
+    close(disk, slot)?;
+    write_synced(disk, slot.start() + 1, body.as_slice())?;
+    write_synced(disk, slot.start(), &[GATE_OPEN])?;
+    Ok(())
+}
+
+// Closes a slot's gate. One that stands closed is left alone: a write over it that a stop cuts short could open it over
+// an old body.
+fn close<D: Disk>(disk: &mut D, slot: Slot) -> Result<(), Failed>
+    requires settled { Only (D.state disk.old).content (D.state disk.old).images }
+    requires size { D.tells → HEAD_BYTES ≤ length (D.state disk.old).content }
+    requires limit { HEAD_BYTES ≤ (D.state disk.old).limit }
+    ensures closed { D.tells → OnOk result (Closed slot (D.state disk.old).content (D.state disk.new).content) }
+    ensures durable { OnOk result (Only (D.state disk.new).content (D.state disk.new).images) }
+    ensures images { Passes (Closes slot) (D.state disk.old) (D.state disk.new) }
+    ensures cause { HasCause (D.state disk.old).faults (D.state disk.new).faults result }
+    ensures costs { Costs 1 (D.state disk.old) (D.state disk.new) }
+{
+    let mut gate = [0; 1];
+    disk.read(slot.start(), &mut gate)?;
+    if gate[0] != GATE_OPEN {
+        return Ok(());
+    }
+    write_synced(disk, slot.start(), &[GATE_CLOSED])?;
+    Ok(())
+}
