@@ -3,10 +3,11 @@ use Rattle.std.proofs.Common.{◌≡◌, ⊎_elim, ℕ, ◌<◌, ◌≤◌, List
 use Rattle.std.proofs.lemmas.Bool.{cases_lt}
 use Rattle.std.proofs.lemmas.List.{get_or-map}
 use Rattle.alta_codec.specs.declared.location.TheConstants.{TOP}
-use Rattle.alta_table.specs.declared.document.DocRow.{DocRow}
-use Rattle.alta_format.specs.Format.{AreEntries}
-use Rattle.alta_table.specs.Documents.{Before, start, behind_row, documents_table, MayFollow, AreDocuments, end_of}
-use Rattle.alta_level.specs.Stored.{AreApart, IsInRange, ends_of, firsts_of}
+use Rattle.alta_content.specs.declared.document.DocRow.{DocRow}
+use Rattle.alta_table.specs.Documents.{documents_table}
+use Rattle.alta_content.specs.Lists.{IsInRange}
+use Rattle.alta_content.specs.Rows.{AreDocuments, AreDocumentsBehind, Before, MayFollow, behind_row, end_of, ends_of, firsts_of, start}
+use Rattle.alta_level.specs.Stored.{AreApart}
 
 pub end_is : (documents : List DocRow) (i : ℕ) (row : DocRow) → i < length documents → row ≡ get_or documents i row → end_of row ≡ get_or (ends_of documents) i 0
 end_is documents i row l e = ap end_of e ∙ sym (get_or-map end_of documents i row 0 l)
@@ -33,9 +34,9 @@ between documents row location a l before low to r =
 
 -- ---- documents that rise are apart
 
-above : (before : Before) (rows : List DocRow) → AreEntries documents_table MayFollow before rows → (i : ℕ) → i < length rows
+above : (before : Before) (rows : List DocRow) → AreDocumentsBehind before rows → (i : ℕ) → i < length rows
     → (before.end < get_or (firsts_of rows) i 0) × (before.end < get_or (ends_of rows) i 0) × (get_or (ends_of rows) i 0 < TOP)
-unfolding AreEntries
+unfolding AreDocumentsBehind
 above before [] h i l = absurd (omega arith)
 above before (row ∷ rows) h zero l =
     let f = h.0 in (f.starts_behind, omega (arith, f.starts_behind, f.some_cells), f.end_below)
@@ -44,9 +45,9 @@ above before (row ∷ rows) h (suc i) l =
     let (a, b, c) = above (behind_row before row) rows h.1 i (omega arith) in
     (omega (arith, f.starts_behind, f.some_cells, a), omega (arith, f.starts_behind, f.some_cells, b), c)
 
-pairs : (before : Before) (rows : List DocRow) → AreEntries documents_table MayFollow before rows → (i j : ℕ) → i < j → j < length rows
+pairs : (before : Before) (rows : List DocRow) → AreDocumentsBehind before rows → (i j : ℕ) → i < j → j < length rows
     → (get_or (ends_of rows) i 0 < get_or (firsts_of rows) j 0) × (get_or (ends_of rows) i 0 < get_or (ends_of rows) j 0)
-unfolding AreEntries
+unfolding AreDocumentsBehind
 pairs before [] h i j lt l = absurd (omega arith)
 pairs before (row ∷ rows) h i zero lt l = absurd (omega arith)
 pairs before (row ∷ rows) h zero (suc j) lt l = let (a, b, c) = above (behind_row before row) rows h.1 j (omega arith) in (a, b)

@@ -8,16 +8,18 @@ use Rattle.alta_postings.specs.declared.fault.StreamFault.{StreamFault}
 use Rattle.alta_postings.specs.Deltas.{Spells, stream_bytes, first_fault, locations_of}
 use Rattle.alta_postings.proofs.Reading.{reading_spells}
 use Rattle.alta_summary.specs.Table.{field_at, fields_of, last_row, HasRows, Keeps, IsSummary, IsFault}
-use Rattle.alta_table.specs.declared.document.DocRow.{DocRow}
+use Rattle.alta_content.specs.declared.document.DocRow.{DocRow}
 use Rattle.alta_table.specs.declared.term.TermRow.{TermRow}
 use Rattle.alta_format.specs.FormatLaws.{done, failed}
 use Rattle.alta_table.specs.Tables.{Tables, AreTables, IsDamage, tables_bytes, tables_of}
 use Rattle.alta_table.specs.Terms.{data_of}
 use Rattle.alta_words.specs.Fault.{Agrees, IsFirstDifferent}
 use Rattle.alta_words.specs.Word.{IsPosting, IsRowOf}
-use Rattle.alta_level.specs.declared.content.Content.{Content}
-use Rattle.alta_level.specs.declared.content.TermList.{TermList}
-use Rattle.alta_level.specs.Stored.{Stored, IsInRange, Fits, IsListOf, IsListFault, end_term, ends_of, firsts_of}
+use Rattle.alta_content.specs.declared.content.Content.{Content}
+use Rattle.alta_content.specs.declared.content.TermList.{TermList}
+use Rattle.alta_level.specs.Stored.{Stored, Fits, IsListOf, IsListFault}
+use Rattle.alta_content.specs.Lists.{IsInRange, end_term}
+use Rattle.alta_content.specs.Rows.{ends_of, firsts_of}
 use Rattle.alta_level.specs.Stored.IsListFault.{in_stream, in_summary, in_row, in_list}
 use Rattle.alta_level.specs.Segments.{IsSegment}
 use Rattle.alta_level.specs.Damage.{stored_at, AreListsOf, IsFaultInLists, IsSegmentFault, data_in, data_place}

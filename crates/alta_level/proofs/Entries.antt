@@ -3,17 +3,17 @@ use Rattle.std.proofs.Common.{◌≡◌, ℕ, zero, suc, ◌+◌, ◌<◌, List,
 use Rattle.std.specs.Prelude.{flat_map}
 use Rattle.alta_codec.specs.Rising.{IsRising}
 use Rattle.alta_postings.specs.Deltas.{stream_bytes}
-use Rattle.alta_table.specs.declared.document.DocRow.{DocRow}
+use Rattle.alta_content.specs.declared.document.DocRow.{DocRow}
 use Rattle.alta_table.specs.declared.term.TermRow.{TermRow}
 use Rattle.alta_table.specs.declared.sizes.Head.{Head}
 use Rattle.alta_table.specs.Documents.{documents_bytes}
 use Rattle.alta_table.specs.Tables.{head_bytes, head_of}
 use Rattle.alta_table.specs.Terms.{entry_bytes, terms_bytes, terms_bytes_behind}
-use Rattle.alta_level.specs.declared.content.Content.{Content}
-use Rattle.alta_level.specs.declared.content.TermList.{TermList}
-use Rattle.alta_level.specs.Contents.{terms_of}
+use Rattle.alta_content.specs.declared.content.Content.{Content}
+use Rattle.alta_content.specs.declared.content.TermList.{TermList}
+use Rattle.alta_content.specs.Lists.{AreListsBehind, terms_of}
 use Rattle.alta_level.specs.Coded.{summary_bytes}
-use Rattle.alta_level.specs.Segments.{AreListsBehind, list_bytes, row_of, rows_of, segment_bytes}
+use Rattle.alta_level.specs.Segments.{list_bytes, row_of, rows_of, segment_bytes}
 
 entries_suc : (before : List ℕ) (lists : List TermList) (i : ℕ) (d : TermList) → i < length lists
     → terms_bytes_behind before (rows_of (take (suc i) lists)) ≡ terms_bytes_behind before (rows_of (take i lists)) ++ entry_bytes (get_or (before ∷ terms_of lists) i []) (row_of (get_or lists i d))

@@ -4,10 +4,10 @@ use Rattle.std.specs.Prelude.{Option, Some, None}
 use Rattle.std.specs.Vec.Iter.{into_iter_items, into_iter_len, into_iter_steps}
 use Rattle.std.specs.declared.vec.IntoIter.{IntoIter}
 use Rattle.std.proofs.lemmas.List.Sums.{sum_by-cons}
-use Rattle.alta_table.specs.declared.document.DocRow.{DocRow}
+use Rattle.alta_content.specs.declared.document.DocRow.{DocRow}
 use Rattle.alta_table.specs.declared.term.TermRow.{TermRow}
 use Rattle.alta_table.specs.Terms.{data_of, data_bytes}
-use Rattle.alta_level.specs.declared.content.TermList.{TermList}
+use Rattle.alta_content.specs.declared.content.TermList.{TermList}
 use Rattle.alta_level.specs.Stored.{IsListOf, IsListFault}
 use Rattle.alta_level.specs.Damage.{stored_at, AreListsOf, IsFaultInLists}
 

@@ -9,16 +9,16 @@ use Rattle.std.proofs.lemmas.List.Sums.{sum_by-cons}
 use Rattle.alta_codec.proofs.Numerals.{number_size}
 use Rattle.alta_codec.specs.Numbers.{number_bytes}
 use Rattle.alta_postings.specs.Deltas.{stream_bytes}
-use Rattle.alta_table.specs.declared.document.DocRow.{DocRow}
+use Rattle.alta_content.specs.declared.document.DocRow.{DocRow}
 use Rattle.alta_table.specs.declared.term.TermRow.{TermRow}
-use Rattle.alta_table.specs.Documents.{AreDocuments}
+use Rattle.alta_content.specs.Lists.{AreListsBehind, end_term, is_end_list}
+use Rattle.alta_content.specs.Rows.{AreDocuments}
 use Rattle.alta_table.specs.Tables.{Tables, AreTables, tables_bytes}
 use Rattle.alta_table.specs.Terms.{data_of, data_bytes, is_end, AreTermsBehind, MayFollowTerm}
-use Rattle.alta_level.specs.declared.content.Content.{Content}
-use Rattle.alta_level.specs.declared.content.TermList.{TermList}
+use Rattle.alta_content.specs.declared.content.Content.{Content}
+use Rattle.alta_content.specs.declared.content.TermList.{TermList}
 use Rattle.alta_level.specs.Coded.{summary_bytes}
-use Rattle.alta_level.specs.Stored.{end_term}
-use Rattle.alta_level.specs.Segments.{AreListsBehind, IsSegment, is_end_list, row_of, rows_of, list_bytes, segment_bytes}
+use Rattle.alta_level.specs.Segments.{IsSegment, row_of, rows_of, list_bytes, segment_bytes}
 use Rattle.alta_level.specs.Damage.{AreListsOf, data_in, data_place}
 
 -- ---- from the bytes to the content

@@ -10,8 +10,9 @@ use Rattle.alta_codec.specs.Rising.{IsRising}
 use Rattle.alta_codec.proofs.Numerals.{AreBytes, read_ok}
 use Rattle.alta_postings.specs.Deltas.{Spells, IsStep, fault_from, list_from, first_fault, locations_of, cause_of, fault_at}
 use Rattle.alta_postings.proofs.Reading.{spelling_reads, next_number, step_at, fault_code, list_end}
-use Rattle.alta_table.specs.declared.document.DocRow.{DocRow}
-use Rattle.alta_level.specs.Stored.{AreInRanges, IsInRange, ends_of}
+use Rattle.alta_content.specs.declared.document.DocRow.{DocRow}
+use Rattle.alta_content.specs.Lists.{AreInRanges, IsInRange}
+use Rattle.alta_content.specs.Rows.{ends_of}
 
 bytes_behind : (s : List ℕ) (at : ℕ) → AreBytes s → AreBytes (drop at s)
 bytes_behind s at are i l = omega (arith, get_or-drop at s i 0, are (at + i) (omega (arith, length-drop at s)))

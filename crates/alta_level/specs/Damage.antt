@@ -1,10 +1,10 @@
 -- Where a segment is first damaged: in its tables, else in its lists, in the order of the terms.
 use Rattle.std.specs.Prelude.{◌≡◌, ◌⊎◌, ℕ, ◌+◌, List, [], ◌∷◌, length, take, drop}
-use Rattle.alta_table.specs.declared.document.DocRow.{DocRow}
+use Rattle.alta_content.specs.declared.document.DocRow.{DocRow}
 use Rattle.alta_table.specs.declared.term.TermRow.{TermRow}
 use Rattle.alta_table.specs.Tables.{Tables, AreTables, IsDamage, tables_bytes}
 use Rattle.alta_table.specs.Terms.{data_of}
-use Rattle.alta_level.specs.declared.content.TermList.{TermList}
+use Rattle.alta_content.specs.declared.content.TermList.{TermList}
 use Rattle.alta_level.specs.Stored.{Stored, IsListOf, IsListFault}
 
 -- the list of a row, whose stream begins at a place, and its summary behind the stream

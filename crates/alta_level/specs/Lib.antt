@@ -1,4 +1,3 @@
-pub mod Contents
 pub mod Coded
 pub mod Decoded
 pub mod Stored

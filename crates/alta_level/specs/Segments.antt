@@ -1,47 +1,12 @@
 -- A content, and its one spelling as a segment.
-use Rattle.std.specs.Prelude.{◌≡◌, ℕ, ◌<◌, ◌≤◌, Bool, List, [], ◌∷◌, ◌++◌, length, map, slice_index, IsTrue, flat_map}
-use Rattle.std.specs.List.{list_any}
-use Rattle.std.specs.Str.{bytes_eq}
-use Rattle.alta_codec.specs.Order.{Precedes}
-use Rattle.alta_codec.specs.Rising.{IsRising}
+use Rattle.std.specs.Prelude.{◌≡◌, ℕ, List, ◌++◌, length, map, flat_map}
 use Rattle.alta_postings.specs.Deltas.{stream_bytes}
-use Rattle.alta_table.specs.declared.document.DocRow.{DocRow}
 use Rattle.alta_table.specs.declared.term.TermRow.{TermRow}
-use Rattle.alta_table.specs.Documents.{AreDocuments}
+use Rattle.alta_content.specs.Lists.{IsContent}
 use Rattle.alta_table.specs.Tables.{tables_bytes}
-use Rattle.alta_table.specs.Terms.{is_kind}
-use Rattle.alta_level.specs.declared.content.Content.{Content}
-use Rattle.alta_level.specs.declared.content.TermList.{TermList}
+use Rattle.alta_content.specs.declared.content.Content.{Content}
+use Rattle.alta_content.specs.declared.content.TermList.{TermList}
 use Rattle.alta_level.specs.Coded.{summary_bytes}
-use Rattle.alta_level.specs.Stored.{AreInRanges, ends_of, end_term}
-
--- ---- the rules
-
--- a term's list may stand behind that of the term `before`
-pub record MayFollowList (documents : List DocRow) (before : List ℕ) (l : TermList) : Type 0 where
-  pub rises : Precedes before l.term
-  pub kind : IsTrue (is_kind (slice_index l.term 0))
-  pub short : length l.term ≤ 129
-  pub some : 0 < length l.locations
-  pub rising : IsRising l.locations
-  pub within : AreInRanges documents l.locations
-  pub ends : l.term ≡ end_term → l.locations ≡ ends_of documents
-
--- lists that may stand one behind the other, behind the term `before`
-unfoldable pub AreListsBehind : List DocRow → List ℕ → List TermList → Type 0
-AreListsBehind documents before [] = Unit {0}
-AreListsBehind documents before (l ∷ ls) = MayFollowList documents before l × AreListsBehind documents l.term ls
-
-abbrev pub is_end_list : TermList → Bool
-is_end_list l = bytes_eq l.term end_term
-
--- The documents rise, and there is at least one. The terms rise, each with a list that is not empty and lies in the
--- documents' ranges. The term `D` is there, with the documents' ends.
-pub record IsContent (content : Content) : Type 0 where
-  pub some : 0 < length content.documents
-  pub documents_stand : AreDocuments content.documents
-  pub lists_stand : AreListsBehind content.documents [] content.lists
-  pub has_end : IsTrue (list_any is_end_list content.lists)
 
 -- ---- the spelling
 

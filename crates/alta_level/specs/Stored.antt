@@ -1,14 +1,15 @@
 -- A list of a level: what it must be, and where it first is not.
-use Rattle.std.specs.Prelude.{◌≡◌, ℕ, ◌+◌, ◌*◌, ◌<◌, ◌≤◌, List, [], ◌∷◌, length, map, slice_index, Some}
+use Rattle.std.specs.Prelude.{◌≡◌, ℕ, ◌+◌, ◌*◌, ◌<◌, List, length, slice_index, Some}
 use Rattle.alta_codec.specs.Rising.{IsRising}
 use Rattle.alta_postings.specs.declared.fault.StreamCause.{StreamCause}
 use Rattle.alta_postings.specs.Deltas.{Spells, fault_at, first_fault, locations_of}
 use Rattle.alta_summary.specs.Table.{IsFault}
 use Rattle.alta_words.specs.Fault.{IsFirstDifferent}
 use Rattle.alta_words.specs.Word.{IsPosting}
-use Rattle.alta_table.specs.declared.document.DocRow.{DocRow}
+use Rattle.alta_content.specs.declared.document.DocRow.{DocRow}
 use Rattle.alta_level.specs.declared.stored.StoredList.{StoredList}
-use Rattle.alta_level.specs.Contents.{end_of}
+use Rattle.alta_content.specs.Lists.{AreInRanges, end_term}
+use Rattle.alta_content.specs.Rows.{ends_of, firsts_of}
 use Rattle.alta_level.specs.Coded.{IsCoded}
 
 -- a list as it stands on the disk, and what its row says of it
@@ -30,30 +31,10 @@ stored_of s = record {
   count = s.count;
 }
 
-abbrev pub firsts_of : List DocRow → List ℕ
-firsts_of documents = map (λ row. row.first) documents
-
-abbrev pub ends_of : List DocRow → List ℕ
-ends_of documents = map end_of documents
-
 -- the ranges of documents stand one behind the other
 pub record AreApart (documents : List DocRow) : Type 0 where
   pub rising : IsRising (ends_of documents)
   pub apart : (i j : ℕ) → i < j → j < length documents → slice_index (ends_of documents) i < slice_index (firsts_of documents) j
-
--- the location lies in the range of a document
-pub record IsInRange (documents : List DocRow) (location : ℕ) : Type 0 where
-  pub row : ℕ
-  pub within : row < length documents
-  pub from : slice_index (firsts_of documents) row ≤ location
-  pub to : location ≤ slice_index (ends_of documents) row
-
-abbrev pub AreInRanges : List DocRow → List ℕ → Type 0
-AreInRanges documents list = (k : ℕ) → k < length list → IsInRange documents (slice_index list k)
-
--- the term that stands at the end of each document
-abbrev pub end_term : List ℕ
-end_term = 68 ∷ []
 
 -- a list keeps what its row and the documents say of it
 pub record Fits (documents : List DocRow) (term : List ℕ) (count : ℕ) (list : List ℕ) : Type 0 where

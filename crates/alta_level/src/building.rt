@@ -3,11 +3,11 @@ ghost use Rattle.std.specs.Prelude.{◌≡◌, ℕ, ◌++◌, ◌∷◌, [], ◌
 ghost use Rattle.std.specs.List.{All};
 ghost use Rattle.alta_codec.specs.Rising.{IsRising};
 ghost use Rattle.alta_table.specs.Terms.{terms_bytes};
-ghost use Rattle.alta_level.specs.Contents.{terms_of};
-ghost use Rattle.alta_level.specs.Segments.{IsContent, list_bytes, rows_of, segment_bytes};
+ghost use Rattle.alta_content.specs.Lists.{IsContent, terms_of};
+ghost use Rattle.alta_level.specs.Segments.{list_bytes, rows_of, segment_bytes};
 
-use crate::content::{Content, TermList};
 use crate::writing::put_list;
+use alta_content::{Content, TermList};
 use alta_table::{Head, put_documents, put_head, put_term};
 use std::alloc::{AllocError, Global};
 

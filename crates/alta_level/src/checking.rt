@@ -2,8 +2,8 @@
 ghost use Rattle.std.specs.Prelude.{◌≡◌, ℕ, ◌+◌, ◌<◌, ◌^◌, List, length, Err, IfOk, IfErr};
 ghost use Rattle.alta_postings.specs.Deltas.{locations_of};
 ghost use Rattle.alta_table.specs.Answers.{IfDamaged, IsDamaged, IsFound};
-ghost use Rattle.alta_table.specs.Documents.{AreDocuments};
-ghost use Rattle.alta_table.specs.declared.document.DocRow.{DocRow};
+ghost use Rattle.alta_content.specs.Rows.{AreDocuments};
+ghost use Rattle.alta_content.specs.declared.document.DocRow.{DocRow};
 ghost use Rattle.alta_words.specs.Fault.{IsPostingFault};
 ghost use Rattle.alta_words.specs.Word.{IsPosting};
 ghost use Rattle.alta_level.specs.Coded.{IsCoded};
@@ -15,7 +15,8 @@ use crate::ranges::fits;
 use crate::stored::StoredList;
 use crate::walking::stream_fits;
 use alta_codec::Loc;
-use alta_table::{DocRow, LevelFault};
+use alta_content::DocRow;
+use alta_table::LevelFault;
 use alta_words::{PostingFault, check};
 use std::alloc::Global;
 

@@ -3,7 +3,7 @@ ghost use Rattle.std.specs.Prelude.{◌≡◌, ℕ, ◌⊎◌, ◌<◌, ◌^◌,
 ghost use Rattle.alta_format.specs.Format.{AreBytes};
 ghost use Rattle.alta_level.specs.Damage.{IsSegmentFault};
 ghost use Rattle.alta_level.specs.Segments.{IsSegment};
-ghost use Rattle.alta_level.specs.declared.content.Content.{Content};
+ghost use Rattle.alta_content.specs.declared.content.Content.{Content};
 
 use alta_table::{tables_in_front, tables_read_back};
 

@@ -8,25 +8,20 @@
 mod building;
 mod checking;
 mod comparing;
-mod content;
 mod decoding;
 mod laws;
-mod lists;
 mod ranges;
 mod reading;
 #[cfg(test)]
 mod segment_tests;
 mod stored;
-#[cfg(test)]
-mod tests;
 mod walking;
 mod writing;
 
-pub use alta_table::{DocRow, Head, LevelFault, Table, head};
+pub use alta_content::{Content, DocRow, DocRows, Locations, TermList, TermLists};
+pub use alta_table::{Head, LevelFault, Table, head};
 pub use building::build;
 pub use checking::{check_list, read_list};
-pub use content::{Content, TermList};
 pub use laws::segments_read_back;
-pub use lists::{DocRows, Locations, TermLists};
 pub use reading::read_content;
 pub use stored::StoredList;

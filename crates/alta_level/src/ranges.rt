@@ -1,10 +1,12 @@
 // Locations and the ranges of documents.
 ghost use Rattle.std.specs.Prelude.{◌≡◌, ◌↔◌, ℕ, ◌+◌, ◌<◌, ◌≤◌, length, slice_index, IsTrue, MatchOption};
 ghost use Rattle.alta_codec.specs.Rising.{IsRising};
-ghost use Rattle.alta_level.specs.Stored.{AreApart, AreInRanges, Fits, IsInRange, end_term, ends_of, firsts_of};
+ghost use Rattle.alta_level.specs.Stored.{AreApart, Fits};
+ghost use Rattle.alta_content.specs.Lists.{AreInRanges, IsInRange, end_term};
+ghost use Rattle.alta_content.specs.Rows.{ends_of, firsts_of};
 
 use alta_codec::Loc;
-use alta_table::DocRow;
+use alta_content::DocRow;
 
 /// The location of the last cell of a document.
 pub fn end_at(documents: &[DocRow], row: usize) -> Loc

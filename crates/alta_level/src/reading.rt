@@ -1,20 +1,19 @@
 // A content, read from its segment.
 ghost use Rattle.std.specs.Prelude.{◌≡◌, ◌+◌, ◌<◌, ◌≤◌, ◌^◌, length, IfOk, ℕ};
 ghost use Rattle.alta_table.specs.Answers.{IfDamaged, IsDamaged, IsFound};
-ghost use Rattle.alta_table.specs.Documents.{AreDocuments};
+ghost use Rattle.alta_content.specs.Rows.{AreDocuments};
 ghost use Rattle.alta_table.specs.Tables.{AreTables, IsDamage, tables_bytes};
 ghost use Rattle.alta_table.specs.Terms.{data_bytes, data_of};
 ghost use Rattle.alta_level.specs.Damage.{AreListsOf, IsFaultInLists, IsSegmentFault, stored_at};
 ghost use Rattle.alta_level.specs.Segments.{IsSegment};
 ghost use Rattle.alta_level.specs.Stored.{IsListFault, IsListOf};
-ghost use Rattle.alta_level.specs.declared.content.Content.{Content};
+ghost use Rattle.alta_content.specs.declared.content.Content.{Content};
 
 use crate::checking::read_list;
-use crate::content::{Content, TermList};
 use crate::laws::segments_read_back;
-use crate::lists::{DocRows, Locations, TermLists};
 use crate::stored::StoredList;
-use alta_table::{DocRow, LevelFault, Table, TermRow, head, tables_in_front, tables_read_back};
+use alta_content::{Content, DocRow, DocRows, Locations, TermList, TermLists};
+use alta_table::{LevelFault, Table, TermRow, head, tables_in_front, tables_read_back};
 use std::alloc::Global;
 
 // The tables of a segment, and how many bytes they have.

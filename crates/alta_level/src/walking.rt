@@ -2,11 +2,13 @@
 ghost use Rattle.std.specs.Prelude.{◌≡◌, ◌↔◌, ◌<◌, length, drop, None, IsTrue};
 ghost use Rattle.alta_codec.specs.declared.location.TheConstants.{TOP};
 ghost use Rattle.alta_postings.specs.Deltas.{IsStep, Spells, fault_from, locations_of};
-ghost use Rattle.alta_level.specs.Stored.{AreApart, AreInRanges, Fits, ends_of};
+ghost use Rattle.alta_level.specs.Stored.{AreApart, Fits};
+ghost use Rattle.alta_content.specs.Lists.{AreInRanges};
+ghost use Rattle.alta_content.specs.Rows.{ends_of};
 
 use crate::ranges::{end_at, holder};
 use alta_codec::{Loc, get_number};
-use alta_table::DocRow;
+use alta_content::DocRow;
 
 // The location that is spelled at a place of a stream, behind the location `before`, and the place after it.
 fn location_at(stream: &[u8], at: usize, before: Loc) -> (Loc, usize)

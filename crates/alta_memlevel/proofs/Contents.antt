@@ -9,9 +9,10 @@ use Rattle.std.specs.Str.{bytes_eq}
 use Rattle.std.proofs.lemmas.List.Elements.{All-nil, All-cons, All-head, All-tail, All-push, All-weaker}
 use Rattle.alta_codec.specs.declared.location.TheConstants.{TOP}
 use Rattle.alta_codec.specs.Rising.{IsRising}
-use Rattle.alta_level.specs.declared.content.Content.{Content}
-use Rattle.alta_table.specs.declared.document.DocRow.{DocRow}
-use Rattle.alta_level.specs.Contents.{end_of, locations_of, terms_of}
+use Rattle.alta_content.specs.declared.content.Content.{Content}
+use Rattle.alta_content.specs.declared.document.DocRow.{DocRow}
+use Rattle.alta_content.specs.Lists.{locations_of, terms_of}
+use Rattle.alta_content.specs.Rows.{end_of}
 use Rattle.alta_meta.specs.Cells.{cell_holds}
 use Rattle.alta_memlevel.specs.Added.{Added, places_of, list_of, IsDocument, IsSpace, HasContent}
 use Rattle.alta_memlevel.specs.Lists.{Numbers, keys_in, list_in, term_lists}

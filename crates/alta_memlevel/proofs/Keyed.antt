@@ -16,7 +16,7 @@ use Rattle.std.proofs.lemmas.Map.Text.{is_eq-slice_cmp}
 use Rattle.alta_meta.specs.Cells.{cell_holds}
 use Rattle.alta_memlevel.specs.Added.{places_of}
 use Rattle.alta_memlevel.specs.Lists.{Numbers, list_in, list_at, order, term_lists}
-use Rattle.alta_level.specs.Contents.{locations_of}
+use Rattle.alta_content.specs.Lists.{locations_of}
 use Rattle.alta_memlevel.proofs.Contents.{locations_of-term_lists}
 
 -- how a term's bytes compare to a key

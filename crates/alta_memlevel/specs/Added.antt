@@ -1,13 +1,14 @@
 -- Documents that were added, and the content that they make up.
-use Rattle.std.specs.Prelude.{◌≡◌, ℕ, ◌+◌, ◌<◌, ◌≤◌, nat_eq, cond, not, Bool, List, [], ◌∷◌, ◌++◌, length, map}
+use Rattle.std.specs.Prelude.{◌≡◌, ℕ, ◌+◌, ◌<◌, ◌≤◌, cond, not, Bool, List, [], ◌∷◌, ◌++◌, length, map}
 use Rattle.std.specs.Cmp.Lexicographic.{slice_cmp}
-use Rattle.std.specs.List.{All, filter, list_any}
+use Rattle.std.specs.List.{All, filter}
 use Rattle.std.specs.List.Sorted.{IsStrictlySortedBy}
 use Rattle.std.specs.Ordering.{nat_cmp}
 use Rattle.alta_codec.specs.declared.location.TheConstants.{TOP}
-use Rattle.alta_level.specs.declared.content.Content.{Content}
-use Rattle.alta_table.specs.declared.document.DocRow.{DocRow}
-use Rattle.alta_level.specs.Contents.{end_of, locations_of, terms_of}
+use Rattle.alta_content.specs.declared.content.Content.{Content}
+use Rattle.alta_content.specs.declared.document.DocRow.{DocRow}
+use Rattle.alta_content.specs.Lists.{locations_of, terms_of}
+use Rattle.alta_content.specs.Rows.{end_of, ends_among}
 use Rattle.alta_meta.specs.Cells.{cell_holds}
 
 -- a level as callers see it: its content, and whether it can still be used
@@ -50,10 +51,6 @@ pub record HasContent (added : List Added) (content : Content) : Type 0 where
   pub lists : (term : List ℕ) → locations_of content.lists term ≡ list_of added term
   pub some : All (λ l. 0 < length l.locations) content.lists
   pub sorted : IsStrictlySortedBy (slice_cmp nat_cmp) (terms_of content.lists)
-
--- whether the row's end is one of these
-abbrev pub ends_among : List ℕ → DocRow → Bool
-ends_among ends row = list_any (λ end. nat_eq end (end_of row)) ends
 
 -- the documents whose end is not one of these
 abbrev pub live_of : List ℕ → List Added → List Added

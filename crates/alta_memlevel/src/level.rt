@@ -6,13 +6,14 @@ ghost use Rattle.std.specs.Ordering.{nat_cmp};
 ghost use Rattle.std.specs.Cmp.Lexicographic.{slice_cmp};
 ghost use Rattle.alta_codec.specs.Rising.{IsRising};
 ghost use Rattle.alta_codec.specs.declared.location.TheConstants.{TOP};
-ghost use Rattle.alta_level.specs.Contents.{end_of, locations_of, terms_of};
+ghost use Rattle.alta_content.specs.Lists.{locations_of, terms_of};
+ghost use Rattle.alta_content.specs.Rows.{end_of};
 ghost use Rattle.alta_memlevel.specs.Added.{Added, HasContent, live_of};
 
 use crate::lists::{Lists, put_cells, terms_from};
-use crate::spans::{keep_rows, move_lists, spans_of};
+use crate::moving::move_lists;
 use alta_codec::{Bytes, Loc};
-use alta_level::{Content, DocRow, DocRows, TermLists};
+use alta_content::{Content, DocRow, DocRows, TermLists, keep_rows, spans_of};
 use alta_meta::Cell;
 use std::alloc::{AllocError, Global};
 use std::collections::BTreeMap;
@@ -33,7 +34,7 @@ impl Model for MemLevel {
     ghost use Rattle.std.specs.Prelude.{IsTrue};
     ghost use Rattle.alta_memlevel.specs.Added.{Level};
     ghost use Rattle.alta_memlevel.specs.Lists.{IsIndex, term_lists};
-    ghost use Rattle.alta_memlevel.specs.Spans.{RowsRise};
+    ghost use Rattle.alta_content.specs.Rows.{RowsRise};
 
     ghost Value = { Level };
 

@@ -3,7 +3,7 @@
 
 mod level;
 mod lists;
-mod spans;
+mod moving;
 #[cfg(test)]
 mod tests;
 

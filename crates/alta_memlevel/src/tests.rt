@@ -3,7 +3,7 @@ ghost use Rattle.std.specs.Prelude.{◌≡◌, length, IfOk, IsTrue};
 
 use crate::MemLevel;
 use alta_codec::Text;
-use alta_level::{Content, DocRow};
+use alta_content::{Content, DocRow};
 use alta_meta::{Cell, cells};
 use std::alloc::{AllocError, Global};
 use std::test::Fail;

@@ -13,8 +13,8 @@ use Rattle.std.proofs.lemmas.Cmp.{nat_list_cmp_total}
 use Rattle.std.proofs.lemmas.List.Elements.{All-nil, All-cons}
 use Rattle.std.proofs.lemmas.List.Folds.{list_any-append}
 use Rattle.std.proofs.lemmas.Map.Lookups.{exact_bytes}
-use Rattle.alta_level.specs.Contents.{locations_of, terms_of}
-use Rattle.alta_level.specs.declared.content.TermList.{TermList}
+use Rattle.alta_content.specs.Lists.{locations_of, terms_of}
+use Rattle.alta_content.specs.declared.content.TermList.{TermList}
 use Rattle.alta_memlevel.specs.Added.{Added, HasContent, IsSpace, list_of, places_of}
 use Rattle.alta_meta.specs.Cells.{cell_holds}
 use Rattle.alta_store.specs.Joining.{content_of, in_order, with_term}

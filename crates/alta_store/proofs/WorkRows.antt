@@ -5,9 +5,9 @@ use Rattle.std.specs.Str.{chars}
 use Rattle.alta_codec.specs.declared.extent.Extent.{Extent}
 use Rattle.alta_journal.specs.declared.entry.Entry.{Entry}
 use Rattle.alta_journal.specs.declared.entry.Entry.TheVariants.{Add, Delete}
-use Rattle.alta_level.specs.declared.content.Content.{Content}
-use Rattle.alta_table.specs.declared.document.DocRow.{DocRow}
-use Rattle.alta_level.specs.declared.content.TermList.{TermList}
+use Rattle.alta_content.specs.declared.content.Content.{Content}
+use Rattle.alta_content.specs.declared.document.DocRow.{DocRow}
+use Rattle.alta_content.specs.declared.content.TermList.{TermList}
 use Rattle.alta_meta.specs.declared.document.State.{State}
 use Rattle.unicode_segmentation.specs.Segments.{segments, cut}
 use Rattle.alta_store.specs.Joining.{joined}

@@ -3,10 +3,10 @@ use Rattle.std.specs.Prelude.{ℕ, List, [], ◌∷◌, map}
 use Rattle.std.specs.Cmp.Lexicographic.{slice_cmp}
 use Rattle.std.specs.List.{flat_map}
 use Rattle.std.specs.Ordering.{match_ordering, nat_cmp}
-use Rattle.alta_level.specs.declared.content.Content.{Content}
-use Rattle.alta_level.specs.Contents.{locations_of, terms_of}
+use Rattle.alta_content.specs.declared.content.Content.{Content}
+use Rattle.alta_content.specs.Lists.{locations_of, terms_of}
+use Rattle.alta_content.specs.Spans.{deleted_spans, lists_outside}
 use Rattle.alta_memlevel.specs.Added.{Added, list_of}
-use Rattle.alta_memlevel.specs.Spans.{deleted_spans, lists_outside}
 use Rattle.alta_store.specs.Levels.{live_rows}
 
 -- the term in its place among terms in collating order, unless it is there

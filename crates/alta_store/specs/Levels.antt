@@ -2,10 +2,10 @@
 use Rattle.std.specs.Prelude.{ℕ, zero, suc, ◌+◌, not, nat_eq, List, [], ◌∷◌, map}
 use Rattle.std.specs.List.{filter, list_any}
 use Rattle.alta_codec.specs.declared.extent.Extent.{Extent}
-use Rattle.alta_level.specs.declared.content.Content.{Content}
-use Rattle.alta_table.specs.declared.document.DocRow.{DocRow}
-use Rattle.alta_level.specs.declared.content.TermList.{TermList}
-use Rattle.alta_memlevel.specs.Added.{ends_among}
+use Rattle.alta_content.specs.declared.content.Content.{Content}
+use Rattle.alta_content.specs.declared.document.DocRow.{DocRow}
+use Rattle.alta_content.specs.declared.content.TermList.{TermList}
+use Rattle.alta_content.specs.Rows.{ends_among}
 use Rattle.alta_meta.specs.declared.document.Document.{Document}
 
 -- a level: where its segment stands on the disk, and its content

@@ -7,10 +7,10 @@ use Rattle.alta_journal.specs.Record.{record_of}
 use Rattle.alta_journal.specs.declared.entry.Entry.{Entry}
 use Rattle.alta_journal.specs.declared.entry.Entry.TheVariants.{Add, Delete}
 use Rattle.alta_journal.specs.declared.places.TheConstants.{HALF_BYTES}
-use Rattle.alta_level.specs.Contents.{end_of}
-use Rattle.alta_level.specs.declared.content.Content.{Content}
-use Rattle.alta_table.specs.declared.document.DocRow.{DocRow}
-use Rattle.alta_memlevel.specs.Added.{Added, ends_among, live_of}
+use Rattle.alta_content.specs.Rows.{end_of, ends_among}
+use Rattle.alta_content.specs.declared.content.Content.{Content}
+use Rattle.alta_content.specs.declared.document.DocRow.{DocRow}
+use Rattle.alta_memlevel.specs.Added.{Added, live_of}
 use Rattle.alta_meta.specs.Cells.{cells_of}
 use Rattle.alta_store.specs.Joining.{content_of, joined, joined_in, terms_in}
 use Rattle.alta_store.specs.Levels.{Level}

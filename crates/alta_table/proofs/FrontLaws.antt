@@ -3,7 +3,7 @@ use Rattle.std.proofs.Common.{◌≡◌, ℕ, ◌+◌, ◌-◌, ◌<◌, ◌≤�
 use Rattle.std.proofs.lemmas.List.{take-take, drop-take}
 use Rattle.alta_format.specs.Format.{AreBytes, part}
 use Rattle.alta_format.specs.FormatLaws.{done, AreBytes-take, part_found, part_spelled}
-use Rattle.alta_table.specs.declared.document.DocRow.{DocRow}
+use Rattle.alta_content.specs.declared.document.DocRow.{DocRow}
 use Rattle.alta_table.specs.declared.sizes.Head.{Head}
 use Rattle.alta_table.specs.declared.term.TermRow.{TermRow}
 use Rattle.alta_table.specs.Tables.{KeepRules, HasParts, head_format, head_of, head_part, document_part, term_part, read_head, tables_bytes, tables_of}

@@ -7,9 +7,10 @@ use Rattle.alta_format.specs.Format.{AreBytes, read, entries_bytes, state_behind
 use Rattle.alta_format.specs.FormatLaws.{AreBytes-rest, read_spells}
 use Rattle.alta_format.specs.EntryLaws.{entries_bytes-push, state_behind-push}
 use Rattle.alta_codec.specs.declared.extent.Extent.{Extent}
-use Rattle.alta_table.specs.declared.document.DocRow.{DocRow}
+use Rattle.alta_content.specs.declared.document.DocRow.{DocRow}
 use Rattle.alta_table.specs.declared.term.TermRow.{TermRow}
-use Rattle.alta_table.specs.Documents.{Before, start, behind_row, row_bytes, row_format, documents_table, documents_bytes}
+use Rattle.alta_table.specs.Documents.{row_bytes, row_format, documents_table, documents_bytes}
+use Rattle.alta_content.specs.Rows.{Before, behind_row, start}
 use Rattle.alta_table.specs.Terms.{data_of, data_bytes, last_term}
 use Rattle.alta_table.specs.Places.{name_place, name_places, stream_place, stream_places, stream_extent, summary_extent, tables_in, AreParts}
 use Rattle.alta_table.specs.declared.sizes.Head.{Head}

@@ -7,11 +7,12 @@ use Rattle.std.proofs.lemmas.List.Sums.{AllPass-from_list_all, list_all-from_All
 use Rattle.std.proofs.lemmas.Str.{IsUtf8-from_ascii}
 use Rattle.std.proofs.lemmas.Bool.{cases_lt, ltb-true, lt-ltb, leb-true, le-leb, and_parts, and_from}
 use Rattle.alta_codec.specs.Numbers.{number_bytes}
-use Rattle.alta_format.specs.Format.{Spells, entries_bytes}
+use Rattle.alta_format.specs.Format.{AreEntries, Spells, entries_bytes}
 use Rattle.alta_codec.specs.declared.location.TheConstants.{TOP}
 use Rattle.alta_codec.specs.Name.{IsGraphic}
-use Rattle.alta_table.specs.declared.document.DocRow.{DocRow}
-use Rattle.alta_table.specs.Documents.{rises, are_cells, is_name_len, is_graphic, is_graphic_text, row_format, Before, row_bytes, MayFollow, documents_table, behind_row}
+use Rattle.alta_content.specs.declared.document.DocRow.{DocRow}
+use Rattle.alta_table.specs.Documents.{rises, are_cells, is_name_len, is_graphic, is_graphic_text, row_format, row_bytes, documents_table}
+use Rattle.alta_content.specs.Rows.{AreDocumentsBehind, Before, MayFollow, behind_row}
 
 rises_is : (before more : ℕ) → IsTrue (rises before more) → (0 < more) × (before + more < TOP)
 rises_is before more h = let (a, b) = and_parts _ _ h in (ltb-true 0 more a, ltb-true (before + more) TOP b)
@@ -134,3 +135,15 @@ unfolding entries_bytes
 rows-le before [] = omega arith
 rows-le before (r ∷ rows) =
     omega (arith, rows-le (behind_row before r) rows, row-some before r, length-append (row_bytes before r) (entries_bytes documents_table row_bytes (behind_row before r) rows))
+
+-- ---- rows as entries of their table
+
+pub entries_are : (before : Before) (rows : List DocRow) → AreDocumentsBehind before rows → AreEntries documents_table MayFollow before rows
+unfolding AreEntries AreDocumentsBehind
+entries_are before [] h = tt
+entries_are before (r ∷ rs) h = (h.0, entries_are (behind_row before r) rs h.1)
+
+pub entries_stand : (before : Before) (rows : List DocRow) → AreEntries documents_table MayFollow before rows → AreDocumentsBehind before rows
+unfolding AreEntries AreDocumentsBehind
+entries_stand before [] h = tt
+entries_stand before (r ∷ rs) h = (h.0, entries_stand (behind_row before r) rs h.1)

@@ -6,13 +6,14 @@ use Rattle.std.proofs.lemmas.List.{take_at, drop_at, take-append-drop, length-ap
 use Rattle.alta_format.specs.Format.{AreBytes, Spells, entries_bytes, state_behind}
 use Rattle.alta_format.specs.FormatLaws.{done}
 use Rattle.alta_format.specs.EntryLaws.{repeated_spelled, repeated_spells}
-use Rattle.alta_table.specs.declared.document.DocRow.{DocRow}
+use Rattle.alta_content.specs.declared.document.DocRow.{DocRow}
 use Rattle.alta_table.specs.declared.sizes.Head.{Head}
 use Rattle.alta_table.specs.declared.term.TermRow.{TermRow}
-use Rattle.alta_table.specs.Documents.{start, row_bytes, documents_table, documents_format, documents_bytes, MayFollow, AreDocuments}
+use Rattle.alta_table.specs.Documents.{row_bytes, documents_table, documents_format, documents_bytes}
+use Rattle.alta_content.specs.Rows.{AreDocuments, MayFollow, start}
 use Rattle.alta_table.specs.Terms.{first_behind, terms_table, terms_format, terms_bytes, AreTerms, data_bytes}
 use Rattle.alta_table.specs.Tables.{Tables, head_bytes, head_of, tables_bytes, KeepRules, AreTables, head_format, head_part, document_part, term_part, room, read_head, tables_of, HasParts}
-use Rattle.alta_table.proofs.RowLaws.{row_spelled, row_spells, rows-le}
+use Rattle.alta_table.proofs.RowLaws.{entries_are, entries_stand, row_spelled, row_spells, rows-le}
 use Rattle.alta_table.proofs.TermLaws.{entry_of, MayStand, term_spelled, term_spells, terms_behind-are, stand_split, stand_join, room_behind, terms-le}
 use Rattle.alta_table.proofs.TableParts.{HasTables, made, tables_found, tables_again}
 
@@ -21,10 +22,10 @@ use Rattle.alta_table.proofs.TableParts.{HasTables, made, tables_found, tables_a
 pub documents_spelled : (count : ℕ) (bytes : List ℕ) (rs : List DocRow) (rest : List ℕ) → Spells (documents_format count) bytes rs rest → AreDocuments rs × (length rs ≡ count) × (bytes ≡ documents_bytes rs)
 documents_spelled count bytes rs rest s =
     let (xs, is, len, keeps, text, none) = repeated_spelled documents_table row_bytes MayFollow row_spelled count start [] bytes rs rest s in
-    subst (λ (v : List DocRow). AreDocuments v × (length v ≡ count) × (bytes ≡ documents_bytes v)) (sym is) (keeps, len, text)
+    subst (λ (v : List DocRow). AreDocuments v × (length v ≡ count) × (bytes ≡ documents_bytes v)) (sym is) (entries_stand start xs keeps, len, text)
 
 pub documents_spell : (rs : List DocRow) → AreDocuments rs → Spells (documents_format (length rs)) (documents_bytes rs) rs []
-documents_spell rs keeps = repeated_spells documents_table row_bytes MayFollow row_spells start [] rs keeps
+documents_spell rs keeps = repeated_spells documents_table row_bytes MayFollow row_spells start [] rs (entries_are start rs keeps)
 
 abbrev AreSpelled : ℕ → ℕ → List ℕ → List TermRow × ℕ → Type 0
 AreSpelled count free bytes v = AreTerms v.0 × (length v.0 ≡ count) × (bytes ≡ terms_bytes v.0) × (data_bytes v.0 + v.1 ≡ free)

@@ -8,7 +8,8 @@ use Rattle.alta_codec.specs.Numbers.{number_bytes}
 use Rattle.alta_codec.specs.Order.{Precedes}
 use Rattle.alta_format.specs.Format.{Spells, entries_bytes, AreEntries, state_behind}
 use Rattle.alta_table.specs.declared.term.TermRow.{TermRow}
-use Rattle.alta_table.specs.Terms.{Behind, is_kind, first_byte, continues, term_format, terms_table, shared_len, entry_bytes, terms_bytes_behind, MayFollowTerm, AreTermsBehind, data_of, data_bytes}
+use Rattle.alta_table.specs.Terms.{Behind, first_byte, continues, term_format, terms_table, shared_len, entry_bytes, terms_bytes_behind, MayFollowTerm, AreTermsBehind, data_of, data_bytes}
+use Rattle.alta_content.specs.Lists.{is_kind}
 use Rattle.alta_table.proofs.Order.{shared_is, precedes_is, Goes, precedes_goes}
 
 record Continues (a : List ℕ) (k : ℕ) (text : List ℕ) : Type 0 where

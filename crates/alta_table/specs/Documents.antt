@@ -1,16 +1,12 @@
 -- The document part of a segment: its fields in the order in which they are tested, each with its rule, and its one
 -- spelling.
-use Rattle.std.specs.Prelude.{ℕ, ◌+◌, ◌-◌, ◌<◌, ◌≤◌, List, [], ◌∷◌, ◌++◌, length, Bool, nat_lt, nat_le, ◌&&◌}
+use Rattle.std.specs.Prelude.{ℕ, ◌+◌, ◌-◌, List, [], ◌∷◌, ◌++◌, length, Bool, nat_lt, nat_le, ◌&&◌}
 use Rattle.std.specs.List.{list_all}
 use Rattle.alta_codec.specs.declared.location.TheConstants.{TOP}
-use Rattle.alta_codec.specs.Name.{IsName}
 use Rattle.alta_codec.specs.Numbers.{number_bytes}
-use Rattle.alta_format.specs.Format.{Format, packed, byte, ends, number_field, text_field, Repeats, repeated, entries_bytes, AreEntries}
-use Rattle.alta_table.specs.declared.document.DocRow.{DocRow}
-
--- the location of the document's last cell
-abbrev pub end_of : DocRow → ℕ
-end_of row = row.first + row.cells - 1
+use Rattle.alta_format.specs.Format.{Format, packed, byte, ends, number_field, text_field, Repeats, repeated, entries_bytes}
+use Rattle.alta_content.specs.declared.document.DocRow.{DocRow}
+use Rattle.alta_content.specs.Rows.{Before, behind_row, start}
 
 -- ---- the rules, each of one field
 
@@ -32,17 +28,6 @@ abbrev pub is_graphic_text : List ℕ → Bool
 is_graphic_text text = list_all is_graphic text
 
 -- ---- the fields
-
--- what a row leaves behind for the next: its number and its end
-pub record Before : Type 0 where
-  pub number : ℕ
-  pub end : ℕ
-
-abbrev pub start : Before
-start = record { number = 0; end = 0 }
-
-abbrev pub behind_row : Before → DocRow → Before
-behind_row before row = record { number = row.number; end = end_of row }
 
 -- A row: its number less the one before, its first location less the end before, its cells, the length of its name,
 -- its name.
@@ -71,18 +56,3 @@ row_bytes before row =
 
 abbrev pub documents_bytes : List DocRow → List ℕ
 documents_bytes rows = entries_bytes documents_table row_bytes start rows
-
--- the row may stand behind one that left this
-pub record MayFollow (before : Before) (row : DocRow) : Type 0 where
-  pub rises : before.number < row.number
-  pub number_below : row.number < TOP
-  pub starts_behind : before.end < row.first
-  pub first_below : row.first < TOP
-  pub some_cells : 3 ≤ row.cells
-  pub few_cells : row.cells ≤ 262146
-  pub end_below : end_of row < TOP
-  pub named : IsName row.name
-
--- rows that may stand one behind the other, from the first on
-abbrev pub AreDocuments : List DocRow → Type 0
-AreDocuments rows = AreEntries documents_table MayFollow start rows

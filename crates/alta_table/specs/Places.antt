@@ -2,10 +2,11 @@
 use Rattle.std.specs.Prelude.{◌≡◌, ◌<◌, ◌^◌, ℕ, ◌+◌, ◌-◌, List, [], ◌∷◌, length, take, map, slice_index, slice_index_or}
 use Rattle.std.specs.List.{sum_by}
 use Rattle.alta_codec.specs.declared.extent.Extent.{Extent}
-use Rattle.alta_table.specs.declared.document.DocRow.{DocRow}
+use Rattle.alta_content.specs.declared.document.DocRow.{DocRow}
 use Rattle.alta_table.specs.declared.parts.Parts.{Parts}
 use Rattle.alta_table.specs.declared.term.TermRow.{TermRow}
-use Rattle.alta_table.specs.Documents.{Before, start, behind_row, row_bytes, documents_bytes}
+use Rattle.alta_table.specs.Documents.{row_bytes, documents_bytes}
+use Rattle.alta_content.specs.Rows.{Before, behind_row, start}
 use Rattle.alta_table.specs.Terms.{streams_of, summaries_of, data_of, data_bytes, AreTerms}
 use Rattle.alta_table.specs.Tables.{Tables, tables_bytes}
 

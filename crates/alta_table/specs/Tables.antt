@@ -3,10 +3,11 @@ use Rattle.std.specs.Prelude.{◌≡◌, ◌<◌, ◌≤◌, false, ℕ, ◌+◌
 use Rattle.std.specs.Int.{w64, to_be_bytes}
 use Rattle.std.specs.List.{list_any}
 use Rattle.alta_format.specs.Format.{Format, wide, ends, number_field, ◌>>=◌, part, Spells, FirstBroken}
-use Rattle.alta_table.specs.declared.document.DocRow.{DocRow}
+use Rattle.alta_content.specs.declared.document.DocRow.{DocRow}
 use Rattle.alta_table.specs.declared.sizes.Head.{Head}
 use Rattle.alta_table.specs.declared.term.TermRow.{TermRow}
-use Rattle.alta_table.specs.Documents.{documents_format, documents_bytes, AreDocuments}
+use Rattle.alta_table.specs.Documents.{documents_format, documents_bytes}
+use Rattle.alta_content.specs.Rows.{AreDocuments}
 use Rattle.alta_table.specs.Terms.{terms_format, terms_bytes, AreTerms, HasEnd, is_end, data_bytes}
 
 -- the tables of a segment that begins at a place of the disk

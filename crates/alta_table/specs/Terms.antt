@@ -1,9 +1,10 @@
 -- The term part of a segment: its fields in the order in which they are tested, each with its rule, and its one spelling.
-use Rattle.std.specs.Prelude.{ℕ, ◌+◌, ◌-◌, ◌<◌, ◌≤◌, ◌^◌, List, [], ◌∷◌, ◌++◌, length, take, drop, map, Bool, true, false, nat_lt, nat_le, nat_eq, ◌&&◌, ◌||◌, if◌then◌else◌, slice_index, IsTrue}
+use Rattle.std.specs.Prelude.{ℕ, ◌+◌, ◌-◌, ◌<◌, ◌≤◌, ◌^◌, List, [], ◌∷◌, ◌++◌, length, take, drop, map, Bool, true, false, nat_lt, nat_le, nat_eq, ◌&&◌, if◌then◌else◌, slice_index, IsTrue}
 use Rattle.std.specs.List.{common_prefix_len, list_any, sum_by}
 use Rattle.std.specs.Str.{bytes_eq}
 use Rattle.alta_codec.specs.Numbers.{number_bytes}
 use Rattle.alta_codec.specs.Order.{Precedes}
+use Rattle.alta_content.specs.Lists.{is_kind}
 use Rattle.alta_format.specs.Format.{Format, packed, ends, number_field, text_field, Repeats, repeated}
 use Rattle.alta_table.specs.declared.term.TermRow.{TermRow}
 
@@ -26,10 +27,6 @@ data_of row = row.stream + row.summary
 -- how many bytes the streams and summaries of rows have
 abbrev pub data_bytes : List TermRow → ℕ
 data_bytes rows = sum_by data_of rows
-
--- the byte with which a term begins: W, X, N, S, T or D
-abbrev pub is_kind : ℕ → Bool
-is_kind b = nat_eq b 87 || nat_eq b 88 || nat_eq b 78 || nat_eq b 83 || nat_eq b 84 || nat_eq b 68
 
 -- the term `D`, which stands at the ends of documents
 abbrev pub is_end : TermRow → Bool

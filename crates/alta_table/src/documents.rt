@@ -3,12 +3,13 @@ ghost use Rattle.std.specs.Prelude.{◌≡◌, ℕ, ◌+◌, ◌<◌, ◌≤◌,
 ghost use Rattle.alta_format.specs.Gives.{Gives};
 ghost use Rattle.alta_format.specs.Format.{read, part};
 ghost use Rattle.alta_table.specs.Answers.{Answers};
-ghost use Rattle.alta_table.specs.Documents.{rises, are_cells, is_name_len, is_graphic_text, end_of, start, row_format, documents_format};
+ghost use Rattle.alta_table.specs.Documents.{rises, are_cells, is_name_len, is_graphic_text, row_format, documents_format};
+ghost use Rattle.alta_content.specs.Rows.{end_of, start};
 ghost use Rattle.alta_table.specs.Places.{name_places};
 
-use crate::document::DocRow;
 use crate::fault::LevelFault;
 use alta_codec::{DocNumber, Loc, TOP, Text};
+use alta_content::DocRow;
 use alta_format::{ReadFault, byte_at, packed_at, text_at};
 use std::alloc::Global;
 

@@ -1,7 +1,7 @@
 // Laws of tables and their bytes.
 ghost use Rattle.std.specs.Prelude.{◌≡◌, ℕ, ◌+◌, ◌<◌, ◌≤◌, ◌^◌, ◌++◌, List, length, take, Ok, Err};
 ghost use Rattle.alta_format.specs.Format.{AreBytes};
-ghost use Rattle.alta_table.specs.declared.document.DocRow.{DocRow};
+ghost use Rattle.alta_content.specs.declared.document.DocRow.{DocRow};
 ghost use Rattle.alta_table.specs.declared.sizes.Head.{Head};
 ghost use Rattle.alta_table.specs.declared.term.TermRow.{TermRow};
 ghost use Rattle.alta_table.specs.Tables.{AreTables, HasParts, IsDamage, KeepRules, Tables, head_of, read_head, tables_bytes, tables_of};

@@ -5,7 +5,6 @@
 //! term is spelled without the bytes that it shares with the one before.
 #![tactic(auto)]
 
-mod document;
 mod documents;
 mod fault;
 mod heading;
@@ -20,7 +19,7 @@ mod terms;
 mod tests;
 mod writers;
 
-pub use document::DocRow;
+pub use alta_content::DocRow;
 pub use fault::LevelFault;
 pub use heading::head;
 pub use laws::{tables_in_front, tables_read_back};

@@ -1,6 +1,6 @@
 // What the tables of a segment have, as they are kept in memory.
-use crate::document::DocRow;
 use crate::term::TermRow;
+use alta_content::DocRow;
 
 /// The rows of the tables, and where names and streams stand on the disk.
 #[derive(Drop)]

@@ -2,14 +2,13 @@
 ghost use Rattle.std.specs.Prelude.{◌≡◌, ℕ, ◌+◌, ◌-◌, ◌<◌, ◌≤◌, ◌^◌, length, take, Some, Ok, IfOk, MatchOption, slice_get, slice_index};
 ghost use Rattle.std.specs.List.{list_any, starts_with};
 ghost use Rattle.alta_table.specs.Answers.{Answers, IfDamaged, IsDamaged, IsFound};
-ghost use Rattle.alta_table.specs.Documents.{start};
+ghost use Rattle.alta_content.specs.Rows.{start};
 ghost use Rattle.alta_table.specs.Terms.{counts_of, data_bytes, is_end, terms_of};
 ghost use Rattle.alta_table.specs.Tables.{AreTables, IsDamage, Tables, read_head, tables_bytes, tables_of};
 ghost use Rattle.alta_table.specs.Places.{name_place, name_places, stream_extent, stream_places, summary_extent, tables_in};
 ghost use Rattle.alta_table.specs.Search.{IsPrefixRange};
 ghost use Rattle.alta_table.specs.declared.sizes.Head.{Head};
 
-use crate::document::DocRow;
 use crate::documents::read_documents;
 use crate::fault::LevelFault;
 use crate::heading::head;
@@ -18,6 +17,7 @@ use crate::search::{find_in, prefixed_in};
 use crate::term::TermRow;
 use crate::terms::read_terms;
 use alta_codec::Extent;
+use alta_content::DocRow;
 use std::alloc::Global;
 use std::marker::Model;
 

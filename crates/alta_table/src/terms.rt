@@ -4,7 +4,8 @@ ghost use Rattle.alta_format.specs.Gives.{Gives};
 ghost use Rattle.alta_format.specs.Format.{read, part};
 ghost use Rattle.alta_table.specs.Answers.{Answers};
 ghost use Rattle.alta_table.specs.Places.{stream_places};
-ghost use Rattle.alta_table.specs.Terms.{is_kind, is_rest_len, continues, data_bytes, last_term, term_format, terms_format};
+ghost use Rattle.alta_table.specs.Terms.{is_rest_len, continues, data_bytes, last_term, term_format, terms_format};
+ghost use Rattle.alta_content.specs.Lists.{is_kind};
 
 use crate::fault::LevelFault;
 use crate::term::TermRow;

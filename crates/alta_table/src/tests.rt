@@ -1,6 +1,6 @@
 // What no clause says: a segment from outside, and each call once.
 ghost use Rattle.std.specs.Prelude.{◌<◌, IfOk};
-ghost use Rattle.alta_table.specs.Documents.{AreDocuments};
+ghost use Rattle.alta_content.specs.Rows.{AreDocuments};
 
 use crate::*;
 use std::alloc::Global;

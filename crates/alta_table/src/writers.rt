@@ -2,13 +2,14 @@
 ghost use Rattle.std.specs.Prelude.{◌≡◌, ℕ, ◌++◌, List, length, take, nat_eq, OnOk, OnErr};
 ghost use Rattle.std.specs.List.{common_prefix_len};
 ghost use Rattle.std.specs.Int.{w64, to_be_bytes};
-ghost use Rattle.alta_table.specs.Documents.{AreDocuments, MayFollow, documents_bytes, row_bytes};
+ghost use Rattle.alta_table.specs.Documents.{documents_bytes, row_bytes};
+ghost use Rattle.alta_content.specs.Rows.{AreDocuments, MayFollow};
 ghost use Rattle.alta_table.specs.Terms.{entry_bytes, shared_len};
 ghost use Rattle.alta_table.specs.Tables.{head_bytes};
 
-use crate::document::DocRow;
 use crate::sizes::Head;
 use alta_codec::{DocNumber, Loc, put_number};
+use alta_content::DocRow;
 use std::alloc::AllocError;
 
 /// Appends the bytes of a head: its four numbers, of eight bytes each from the highest. For want of memory `out` stays

@@ -1,10 +1,10 @@
 use Rattle.std.proofs.Common.{ℕ, List, ◌≡◌, ◌++◌, ◌<◌, [], length, get_or, sym, subst, ap, ◌∙◌, arith}
 use Rattle.std.specs.Prelude.{flat_map}
 use Rattle.alta_codec.specs.Rising.{IsRising}
-use Rattle.alta_table.specs.declared.document.DocRow.{DocRow}
+use Rattle.alta_content.specs.declared.document.DocRow.{DocRow}
 use Rattle.alta_table.specs.Documents.{documents_bytes}
 use Rattle.alta_table.specs.Terms.{terms_bytes}
-use Rattle.alta_level.specs.declared.content.TermList.{TermList}
+use Rattle.alta_content.specs.declared.content.TermList.{TermList}
 use Rattle.alta_level.specs.Segments.{list_bytes, rows_of}
 use Rattle.alta_level.proofs.Entries.{lists_rise, assembled}
 use Rattle.alta_level.proofs.building.build.Goals as goal

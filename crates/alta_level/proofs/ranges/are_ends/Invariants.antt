@@ -1,5 +1,5 @@
 use Rattle.std.proofs.Common.{◌≡◌, ℕ, ◌<◌, get_or}
-use Rattle.alta_level.specs.Stored.{ends_of}
+use Rattle.alta_content.specs.Rows.{ends_of}
 use Rattle.alta_level.proofs.ranges.are_ends.Given as goal
 
 abbrev pub invariant-loop-i : goal.invariant-loop-i

@@ -1,5 +1,6 @@
 use Rattle.std.proofs.Common.{ℕ, ◌<◌, ◌≤◌, length, get_or}
-use Rattle.alta_level.specs.Stored.{IsInRange, ends_of}
+use Rattle.alta_content.specs.Lists.{IsInRange}
+use Rattle.alta_content.specs.Rows.{ends_of}
 use Rattle.alta_level.proofs.ranges.are_in_ranges.Given as goal
 
 abbrev pub invariant-loop-location : goal.invariant-loop-location

@@ -1,5 +1,5 @@
 use Rattle.std.proofs.Common.{ℕ, ◌-◌, ◌<◌, ◌≤◌, length, get_or}
-use Rattle.alta_level.specs.Stored.{ends_of}
+use Rattle.alta_content.specs.Rows.{ends_of}
 use Rattle.alta_level.proofs.ranges.row_from.Given as goal
 
 abbrev pub invariant-gallop : goal.invariant-gallop

@@ -1,6 +1,6 @@
 use Rattle.std.proofs.Common.{ℕ, length}
 use Rattle.alta_table.specs.Tables.{Tables, IsDamage}
-use Rattle.alta_level.specs.declared.content.Content.{Content}
+use Rattle.alta_content.specs.declared.content.Content.{Content}
 use Rattle.alta_level.specs.Damage.{IsSegmentFault}
 use Rattle.alta_level.specs.Damage.IsSegmentFault.{in_tables}
 use Rattle.alta_level.proofs.Joins.{fault_goes}

@@ -1,5 +1,5 @@
 use Rattle.std.proofs.Common.{arith}
-use Rattle.alta_level.specs.declared.content.Content.{Content}
+use Rattle.alta_content.specs.declared.content.Content.{Content}
 use Rattle.alta_level.specs.Damage.{IsSegmentFault}
 use Rattle.alta_level.specs.Segments.{IsSegment}
 use Rattle.alta_level.proofs.Joins.{only_of, broken_of}

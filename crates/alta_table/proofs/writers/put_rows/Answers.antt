@@ -1,8 +1,18 @@
-use Rattle.std.proofs.Common.{arith}
+use Rattle.std.proofs.Common.{length, refl, arith}
+use Rattle.std.proofs.lemmas.List.{take_all}
 use Rattle.alta_format.specs.EntryLaws.{keeps_first, put_more, put_all}
-use Rattle.alta_table.specs.Documents.{documents_table, MayFollow, row_bytes}
+use Rattle.alta_table.specs.Documents.{documents_table, row_bytes}
+use Rattle.alta_content.specs.Rows.{MayFollow, start}
 use Rattle.alta_table.proofs.Grown.{grown_more}
+use Rattle.alta_table.proofs.RowLaws.{entries_are}
 use Rattle.alta_table.proofs.writers.put_rows.Goals as goal
+
+pub loop-row-init : goal.loop-row-init
+loop-row-init c = record {
+  keeps = entries_are start c.args.rows.now c.requires;
+  spells = refl;
+  grown = take_all (length c.args.out.now.items) c.args.out.now.items (omega arith);
+}
 
 pub put_row-requires : goal.put_row-requires
 put_row-requires c = (keeps_first documents_table MayFollow (record { number = c.loop-row.number; end = c.loop-row.end }) c.loop-row.row-index c.args.rows.now c.row-item.result c.loop-row-test.true c.row-item.is c.loop-row.invariant.keeps).0

@@ -1,6 +1,7 @@
 use Rattle.std.proofs.Common.{◌≡◌, ◌++◌, drop, take, length}
 use Rattle.alta_format.specs.Format.{AreEntries, entries_bytes}
-use Rattle.alta_table.specs.Documents.{documents_table, MayFollow, row_bytes, documents_bytes}
+use Rattle.alta_table.specs.Documents.{documents_table, row_bytes, documents_bytes}
+use Rattle.alta_content.specs.Rows.{MayFollow}
 use Rattle.alta_table.proofs.writers.put_rows.Given as goal
 
 abbrev pub invariant-loop-row : goal.invariant-loop-row

@@ -3,14 +3,13 @@ use Rattle.std.specs.Cmp.Lexicographic.{slice_cmp}
 use Rattle.std.specs.List.{All}
 use Rattle.std.specs.List.Sorted.{IsStrictlySortedBy}
 use Rattle.std.specs.Ordering.{nat_cmp}
-use Rattle.alta_level.specs.Contents.{end_of}
-use Rattle.alta_level.specs.declared.content.Content.{Content}
+use Rattle.alta_content.specs.Rows.{RowsRise, end_of}
+use Rattle.alta_content.specs.declared.content.Content.{Content}
 use Rattle.alta_memlevel.proofs.Contents.{locations_of-term_lists, terms_of_term_lists, some-term_lists, content-push}
 use Rattle.alta_memlevel.proofs.Prefixes.{terms_rise}
 use Rattle.alta_memlevel.specs.Added.{Added, places_of, HasContent}
 use Rattle.alta_memlevel.specs.Lists.{term_lists}
-use Rattle.alta_memlevel.specs.Spans.{RowsRise}
-use Rattle.alta_memlevel.proofs.Drained.{rows_push}
+use Rattle.alta_content.proofs.Outside.{rows_push}
 use Rattle.alta_memlevel.proofs.level.MemLevel.add.Goals as goal
 
 pub returns-clause-added : goal.returns-clause-added

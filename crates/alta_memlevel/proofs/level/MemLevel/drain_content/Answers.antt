@@ -1,10 +1,12 @@
 use Rattle.std.proofs.Common.{◌≡◌, not, sym, ap, subst, ◌∙◌, IsTrue}
 use Rattle.std.specs.List.{filter}
-use Rattle.alta_level.specs.declared.content.Content.{Content}
+use Rattle.alta_content.specs.declared.content.Content.{Content}
 use Rattle.alta_memlevel.specs.Added.{HasContent, live_of}
 use Rattle.alta_memlevel.specs.Lists.{term_lists}
-use Rattle.alta_memlevel.specs.Spans.{RowsRise, SpansRise, is_within, deleted_spans, lists_outside}
-use Rattle.alta_memlevel.proofs.Drained.{spans_rise, content_live, lists_rise}
+use Rattle.alta_content.specs.Rows.{RowsRise}
+use Rattle.alta_content.specs.Spans.{SpansRise, deleted_spans, is_within, lists_outside}
+use Rattle.alta_content.proofs.Outside.{spans_rise}
+use Rattle.alta_memlevel.proofs.Drained.{content_live, lists_rise}
 use Rattle.alta_memlevel.proofs.level.MemLevel.drain_content.Goals as goal
 
 pub spans_of-requires : goal.spans_of-requires

@@ -1,6 +1,6 @@
 use Rattle.std.proofs.Common.{◌≡◌, Some, subst, ◌∙◌, rules}
 use Rattle.std.specs.BTreeMap.{get_by}
-use Rattle.alta_level.specs.Contents.{locations_of}
+use Rattle.alta_content.specs.Lists.{locations_of}
 use Rattle.alta_memlevel.proofs.Contents.{content_rises}
 use Rattle.alta_memlevel.proofs.Keyed.{compare_to, located}
 use Rattle.alta_memlevel.proofs.level.MemLevel.get.Goals as goal

@@ -1,23 +1,10 @@
--- The rows of a level, the spans of locations that the deleted ones leave, and what of the lists stands outside of them.
+-- The spans of locations that deleted documents leave, and what of the lists stands outside of them.
 use Rattle.std.specs.Prelude.{ℕ, ◌<◌, ◌≤◌, nat_le, nat_lt, Bool, ◌&&◌, not, List, [], ◌∷◌, length, map}
 use Rattle.std.specs.List.{All, filter, list_any}
-use Rattle.alta_codec.specs.declared.location.TheConstants.{TOP}
-use Rattle.alta_table.specs.declared.document.DocRow.{DocRow}
-use Rattle.alta_level.specs.declared.content.TermList.{TermList}
-use Rattle.alta_level.specs.Contents.{end_of}
-use Rattle.alta_memlevel.specs.declared.spans.Span.{Span}
-use Rattle.alta_memlevel.specs.Added.{ends_among}
-
--- a row has a location at least, from 1 to below TOP
-pub record IsPlaced (row : DocRow) : Type 0 where
-  pub positive : 1 ≤ row.first
-  pub some : 1 ≤ row.cells
-  pub below : end_of row < TOP
-
--- the ranges of rows rise without meeting
-abbrev pub RowsRise : List DocRow → Type 0
-RowsRise [] = Unit {0}
-RowsRise (row ∷ more) = IsPlaced row × All (λ r. end_of row < r.first) more × RowsRise more
+use Rattle.alta_content.specs.declared.content.TermList.{TermList}
+use Rattle.alta_content.specs.declared.document.DocRow.{DocRow}
+use Rattle.alta_content.specs.declared.spans.Span.{Span}
+use Rattle.alta_content.specs.Rows.{end_of, ends_among}
 
 -- spans rise without meeting
 abbrev pub SpansRise : List Span → Type 0

@@ -1,15 +1,13 @@
 // The spans of the deleted documents, and what stands outside of them.
-ghost use Rattle.std.specs.Prelude.{◌≡◌, ◌+◌, ◌≤◌, [], length, nat_eq, not, IfOk};
+ghost use Rattle.std.specs.Prelude.{◌≡◌, nat_eq, not, IfOk};
 ghost use Rattle.std.specs.List.{filter, list_any};
 ghost use Rattle.std.specs.List.Sorted.{IsSorted};
 ghost use Rattle.std.specs.Ordering.{nat_cmp};
-ghost use Rattle.std.specs.Vec.{vec_capacity, vec_len};
-ghost use Rattle.alta_memlevel.specs.Lists.{term_lists};
-ghost use Rattle.alta_memlevel.specs.Spans.{IsPlaced, RowsRise, SpansRise, span_of, is_within, deleted_spans, outside_of, lists_outside};
+ghost use Rattle.alta_content.specs.Rows.{IsPlaced, RowsRise};
+ghost use Rattle.alta_content.specs.Spans.{SpansRise, deleted_spans, is_within, outside_of, span_of};
 
-use crate::lists::Lists;
-use alta_codec::{Bytes, Loc};
-use alta_level::{DocRow, Locations, TermList};
+use crate::document::DocRow;
+use alta_codec::Loc;
 use std::alloc::{AllocError, Global};
 
 /// The locations of a document, from the first to the last.
@@ -81,7 +79,7 @@ pub fn keep_rows(rows: &mut Vec<DocRow>, spans: &[Span])
 }
 
 /// Leaves the locations outside of the spans.
-fn keep_locations(locations: &mut Vec<Loc>, spans: &[Span])
+pub fn keep_locations(locations: &mut Vec<Loc>, spans: &[Span])
     requires { SpansRise spans.now }
     ensures { locations.new.items ≡ outside_of spans.now locations.old.items }
 {
@@ -89,28 +87,4 @@ fn keep_locations(locations: &mut Vec<Loc>, spans: &[Span])
         return;
     }
     locations.retain(|location| !within(spans, *location));
-}
-
-/// Moves the terms that have a location outside of the spans, each with these locations, behind one another into
-/// the empty vector, which has room for all of them.
-pub fn move_lists(room: Vec<TermList>, lists: Lists, spans: &[Span]) -> Vec<TermList>
-    requires empty { room.items ≡ [] }
-    requires room { vec_len room + length lists.entries ≤ vec_capacity room }
-    requires rising { SpansRise spans.now }
-    ensures { result.items ≡ lists_outside spans.now (term_lists lists.entries) }
-{
-    let mut kept = room;
-    for (term, list) in lists {
-        let mut locations = list;
-        keep_locations(&mut locations, spans);
-        if locations.is_empty() {
-            continue;
-        }
-        let term = Bytes::from_vec(term);
-        let locations = Locations::from_vec(locations);
-        let Ok(()) = kept.push(TermList { term, locations }) else {
-            unreachable!()
-        };
-    }
-    kept
 }

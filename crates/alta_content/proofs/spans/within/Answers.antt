@@ -2,9 +2,9 @@ use Rattle.std.proofs.Common.{◌≡◌, ◌<◌, ◌≤◌, get_or, length, ltb
 use Rattle.std.proofs.lemmas.Bool.{ltb-true, ltb-false}
 use Rattle.std.proofs.lemmas.List.Sorted.{IsPartitionPoint-from_clause, IsPartitionedBy-ltb}
 use Rattle.std.specs.Prelude.{nat_le}
-use Rattle.alta_memlevel.specs.declared.spans.Span.{Span}
-use Rattle.alta_memlevel.proofs.Drained.{last_rises, within_at, within_none}
-use Rattle.alta_memlevel.proofs.spans.within.Goals as goal
+use Rattle.alta_content.specs.declared.spans.Span.{Span}
+use Rattle.alta_content.proofs.Outside.{last_rises, within_at, within_none}
+use Rattle.alta_content.proofs.spans.within.Goals as goal
 
 pub returns-in-Some : goal.returns-in-Some
 returns-in-Some c =

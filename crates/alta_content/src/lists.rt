@@ -3,8 +3,8 @@ ghost use Rattle.std.specs.Prelude.{◌≡◌, ◌∷◌, ◌++◌, [], length, 
 ghost use Rattle.std.specs.Option.{option_copied};
 
 use crate::content::TermList;
+use crate::document::DocRow;
 use alta_codec::Loc;
-use alta_table::DocRow;
 use std::alloc::{AllocError, Global};
 use std::marker::Model;
 
@@ -16,7 +16,7 @@ pub struct DocRows {
 
 impl Model for DocRows {
     ghost use Rattle.std.specs.Prelude.{List};
-    ghost use Rattle.alta_table.specs.declared.document.DocRow.{DocRow};
+    ghost use Rattle.alta_content.specs.declared.document.DocRow.{DocRow};
 
     ghost Value = { List DocRow };
 
@@ -155,7 +155,7 @@ pub struct TermLists {
 
 impl Model for TermLists {
     ghost use Rattle.std.specs.Prelude.{List};
-    ghost use Rattle.alta_level.specs.declared.content.TermList.{TermList};
+    ghost use Rattle.alta_content.specs.declared.content.TermList.{TermList};
 
     ghost Value = { List TermList };
 

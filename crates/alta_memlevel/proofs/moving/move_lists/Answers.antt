@@ -2,7 +2,7 @@ use Rattle.std.proofs.Common.{◌≡◌, ◌∷◌, sym, subst, ◌∙◌, arith
 use Rattle.std.proofs.lemmas.Map.Iter.{rest_more, rest_all}
 use Rattle.alta_memlevel.specs.Lists.{Numbers}
 use Rattle.alta_memlevel.proofs.Moved.{Moving, moving-start, moving-skip, moving-more, moving-end}
-use Rattle.alta_memlevel.proofs.spans.move_lists.Goals as goal
+use Rattle.alta_memlevel.proofs.moving.move_lists.Goals as goal
 
 pub loop-term-init : goal.loop-term-init
 loop-term-init c = moving-start c.args.spans.now c.args.room c.into_iter-term-iterator.result c.args.lists.entries c.requires.empty c.requires.room c.into_iter-term-iterator.ensures.into_iter_gives.0

@@ -1,13 +1,12 @@
 use Rattle.std.proofs.Common.{◌≡◌, ◌∷◌, [], ◌++◌, take, cond, nat_eq, sym, ap, subst, ◌∙◌, append-nil}
 use Rattle.std.specs.List.{list_any}
 use Rattle.std.proofs.lemmas.List.Sorted.{list_any-IsPermutation}
-use Rattle.alta_level.specs.Contents.{end_of}
-use Rattle.alta_memlevel.specs.Added.{ends_among}
-use Rattle.alta_memlevel.specs.Spans.{IsPlaced, span_of, deleted_spans}
-use Rattle.alta_memlevel.proofs.Drained.{rows_placed}
-use Rattle.alta_memlevel.proofs.Moved.{spans-more}
-use Rattle.alta_memlevel.proofs.spans.spans_of.Goals as goal
-use Rattle.alta_memlevel.proofs.spans.spans_of.Goals.{then-has+in_ok-push, else-has}
+use Rattle.alta_content.specs.Rows.{IsPlaced, end_of, ends_among}
+use Rattle.alta_content.specs.Spans.{span_of, deleted_spans}
+use Rattle.alta_content.proofs.Outside.{rows_placed}
+use Rattle.alta_content.proofs.Searches.{spans-more}
+use Rattle.alta_content.proofs.spans.spans_of.Goals as goal
+use Rattle.alta_content.proofs.spans.spans_of.Goals.{then-has+in_ok-push, else-has}
 
 pub of-span-requires : goal.of-span-requires
 of-span-requires c = subst IsPlaced (sym c.row-item.is) (rows_placed c.args.rows.now c.requires c.loop-row.row-index c.row-item.result c.loop-row-test.true)

@@ -1,0 +1,6 @@
+pub mod Cells
+pub mod Joining
+pub mod Lists
+pub mod Parts
+pub mod Rows
+pub mod Spans

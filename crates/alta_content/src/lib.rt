@@ -1,0 +1,15 @@
+//! What a level has: its document rows, and for each term the rising list of the locations that hold it; and what several
+//! contents make up, without the documents that are deleted.
+#![tactic(auto)]
+
+mod content;
+mod document;
+mod lists;
+mod spans;
+#[cfg(test)]
+mod tests;
+
+pub use content::{Content, TermList};
+pub use document::DocRow;
+pub use lists::{DocRows, Locations, TermLists};
+pub use spans::{Span, keep_locations, keep_rows, spans_of};
