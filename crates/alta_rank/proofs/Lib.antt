@@ -1,0 +1,5 @@
+pub mod Best
+pub mod Counting
+pub mod Documents
+pub mod Passed
+pub mod Scores

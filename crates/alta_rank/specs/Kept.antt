@@ -1,0 +1,17 @@
+-- What is kept of the best answers and one more.
+use Rattle.std.specs.Prelude.{◌≡◌, ℕ, ◌<◌, ◌≤◌, List, ◌∷◌, length, All, true, false}
+use Rattle.std.specs.List.Sorted.{IsPermutation}
+use Rattle.std.specs.Ordering.{is_lt}
+use Rattle.alta_rank.specs.Ranked.{by_rank}
+use Rattle.alta_rank.specs.declared.scored.Scored.{Scored}
+
+-- The answer comes before none of the best, which stay; or it takes the place of the last of them, which it comes before.
+pub data Replaces (old : List Scored) (answer : Scored) (new : List Scored) : Type 0 where
+  left_out : new ≡ old → All (λ b. is_lt (by_rank answer b) ≡ false) old → Replaces old answer new
+  taken_in : (last : Scored) → (rest : List Scored) → IsPermutation old (last ∷ rest) → IsPermutation (answer ∷ rest) new
+      → is_lt (by_rank answer last) ≡ true → All (λ b. is_lt (by_rank last b) ≡ false) old → Replaces old answer new
+
+-- It joins them while they are fewer than `count`.
+pub data Keeps (count : ℕ) (old : List Scored) (answer : Scored) (new : List Scored) : Type 0 where
+  joined : length old < count → IsPermutation (answer ∷ old) new → Keeps count old answer new
+  replaced : count ≤ length old → Replaces old answer new → Keeps count old answer new

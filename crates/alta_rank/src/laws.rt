@@ -1,0 +1,23 @@
+// What the definitions promise by themselves. Each function is a law, and has nothing to run.
+ghost use Rattle.std.specs.Prelude.{◌≡◌, ℕ, ◌+◌, ◌-◌, ◌<◌, List, length};
+ghost use Rattle.std.specs.List.Sorted.{IsPermutation, IsSorted};
+ghost use Rattle.alta_query.specs.Patterns.{title_end};
+ghost use Rattle.alta_rank.specs.Cells.{score_of};
+ghost use Rattle.alta_rank.specs.Locations.{range_score, IsListIn, AreListsIn};
+ghost use Rattle.alta_rank.specs.Ranked.{by_rank, ranked};
+ghost use Rattle.alta_rank.specs.declared.scored.Scored.{Scored};
+ghost use Rattle.alta_rank.specs.declared.usage.Use.{Use};
+
+/// The score of a document's range is the score of its cells: where the document begins at `first`, and in its range the
+/// list of each use has the locations of the cells that meet its test, and `titles` those of the cells where titles end.
+pub fn a_score_is_of_the_cells()
+    ensures { (first : ℕ) (cells : List (List (List ℕ))) (uses : List Use) (lists : List (List ℕ)) (titles : List ℕ)
+        → 0 < length cells → AreListsIn first cells uses lists → IsListIn first cells title_end titles
+        → range_score uses lists titles first (first + length cells - 1) ≡ score_of uses cells }
+{}
+
+/// The answers in their order are the same answers, and none comes before the one in front of it.
+pub fn a_ranking_is_sorted()
+    ensures same { (list : List Scored) → IsPermutation list (ranked list) }
+    ensures sorted { (list : List Scored) → IsSorted by_rank (ranked list) }
+{}

@@ -1,0 +1,19 @@
+//! Ranking by whole numbers: the uses of a query's tests, the score of a document, and the first answers by score.
+#![tactic(auto)]
+
+mod gathering;
+mod laws;
+mod ranking;
+mod scored;
+mod scorer;
+mod scoring;
+#[cfg(test)]
+mod tests;
+mod usage;
+
+pub use gathering::uses;
+pub use laws::{a_ranking_is_sorted, a_score_is_of_the_cells};
+pub use ranking::first;
+pub use scored::{Scored, ScoredList};
+pub use scorer::Scorer;
+pub use usage::{Use, Uses};
