@@ -147,8 +147,8 @@ def _refusal(reply, command, query):
     kind = _REFUSALS.get(reply)
     if kind is None:
         return ProtocolFault(command, reply)
-    about = f"{kind.__doc__} ({command})" if kind is UnknownCommand else command
-    return kind(reply, about)
+    older = ", by a program that is older than this client" if kind is UnknownCommand else ""
+    return kind(reply, command + older)
 
 
 # --- Ends: the program runs no more. What was answered stands in the index.

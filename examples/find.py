@@ -14,7 +14,7 @@ import sys
 
 from importing import name_of
 
-from buncocedar import Error, Index, QueryFault, Refused
+from buncocedar import Error, Index, Refused
 
 try:
     import readline  # noqa: F401  a prompt with history
@@ -102,9 +102,6 @@ def answer(index, query, context, limit):
     try:
         rows = index.search(query)
         patterns = [pattern_of(term) for term in wanted_terms(index.explain(query))] if context else []
-    except QueryFault as fault:
-        print(fault, file=sys.stderr)
-        return 2
     except Refused as refusal:
         print(refusal, file=sys.stderr)
         return 2
@@ -145,22 +142,28 @@ def main():
     parser.add_argument("--context", metavar="FOLDER", help="show the line of the file that matches")
     parser.add_argument("--limit", metavar="N", type=int, help="show no more than N documents of a query")
     options = parser.parse_args()
-    status = 0
     try:
         context = Context(options.context) if options.context else None
         with Index(options.index) as index:
             if options.query is not None:
                 return answer(index, options.query, context, options.limit)
+            status = 0
             terminal = sys.stdin.isatty()
             limit = options.limit if options.limit is not None or not terminal else 20
             for query in queries(terminal):
                 status = answer(index, query, context, limit)
             if terminal:
                 print()
+            return status
+    except BrokenPipeError:
+        # The reader has enough. What is still buffered goes nowhere, so that the end says nothing of it.
+        os.dup2(os.open(os.devnull, os.O_WRONLY), sys.stdout.fileno())
+        return 0
+    except KeyboardInterrupt:
+        return 130
     except (Error, OSError) as error:
         print(f"find: {error}", file=sys.stderr)
         return 3
-    return status
 
 
 if __name__ == "__main__":

@@ -194,8 +194,11 @@ class Interrupts:
     def take(self, number, frame):
         self.count += 1
         self.signal = number
-        # Written past the buffer, which this may interrupt.
-        os.write(2, self.notes.get(self.count, b""))
+        # Written past the buffer, which this may have interrupted.
+        try:
+            os.write(2, self.notes.get(self.count, b""))
+        except OSError:
+            pass
         if self.count == 2:
             self.index.break_off()
         elif self.count > 2:

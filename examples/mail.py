@@ -67,16 +67,18 @@ def raw_messages(path):
 # --- Messages.
 
 
-def fields(raw):
-    """The header's fields, each as its lines; a line of another form is passed over."""
+def parted(raw):
+    """The header's fields, each as its lines, and the body. A line of another form is passed over."""
+    end = re.search(rb"^\r?\n", raw, re.MULTILINE)
+    head, body = (raw[: end.start()], raw[end.end() :]) if end else (raw, b"")
     found = []
-    for line in re.split(rb"\r?\n\r?\n", raw, maxsplit=1)[0].split(b"\n"):
+    for line in head.splitlines(True):
         if line[:1] in (b" ", b"\t"):
             if found:
-                found[-1] += b"\n" + line
+                found[-1] += line
         elif FIELD.match(line):
             found.append(line)
-    return found
+    return found, body
 
 
 def value(found, name):
@@ -138,8 +140,8 @@ def text_of_html(source):
     try:
         reader.feed(source)
         reader.close()
-    except AssertionError:
-        # Declarations of an unknown form.
+    except (AssertionError, NotImplementedError):
+        # A declaration of an unknown form; the second of the two up to Python 3.9.
         return re.sub("<[^>]*>", " ", source)
     return " ".join(reader.pieces)
 
@@ -161,29 +163,28 @@ def is_text(part):
     return part.get_content_maintype() == "text" and not part.is_multipart() and not part.get_filename()
 
 
-def text_of_message(raw, title):
-    message = email.message_from_bytes(raw)
+def text_of_message(found, body):
+    message = email.message_from_bytes(b"".join(found) + b"\n" + body)
     parts = [part for part in message.walk() if is_text(part)]
     plain = [part for part in parts if part.get_content_subtype() != "html"]
     texts = [text_of(part) for part in plain or parts]
+    title = heading(value(found, b"subject"))
     return Text(title, "\n".join(text for text, _ in texts), sum(beyond for _, beyond in texts))
 
 
 def documents(messages):
     """A document for each message. One without Message-ID is named by its digest."""
     for raw in messages:
-        found = fields(raw)
-        if not found:
-            if raw.strip():
-                yield Document("text between messages", raw, not_a_message)
-            continue
-        kept = b"\n".join(field for field in found if not NOTED.match(field))
-        stamp = digest(kept + b"\n\n" + raw.partition(b"\n\n")[2]).encode()
-        name = decoded(re.sub(rb"^.*<|>.*$", b"", value(found, b"message-id")).strip())
-        title = heading(value(found, b"subject"))
-        yield Document(
-            name or f"message-{stamp.decode()}", stamp, lambda raw=raw, title=title: text_of_message(raw, title)
-        )
+        found, body = parted(raw)
+        if found:
+            kept = b"".join(field for field in found if not NOTED.match(field))
+            stamp = digest(kept + b"\n" + body).encode()
+            name = decoded(re.sub(rb"^.*<|>.*$", b"", value(found, b"message-id")).strip())
+            yield Document(
+                name or f"message-{stamp.decode()}", stamp, lambda found=found, body=body: text_of_message(found, body)
+            )
+        elif raw.strip():
+            yield Document("text between messages", raw, not_a_message)
 
 
 def not_a_message():

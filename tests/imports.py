@@ -68,6 +68,10 @@ class Case(unittest.TestCase):
             file.write(content if isinstance(content, bytes) else content.encode())
         return path
 
+    def read(self, path):
+        with open(path, "rb") as file:
+            return file.read()
+
     def start(self, script, *words, do=None, **options):
         """A script of examples/ over the fake program, which does this."""
         environment = {**os.environ, "BUNCOCEDAR_PROGRAM": self.program, "FAKE": json.dumps(do or {})}
@@ -271,15 +275,15 @@ class Folders(Case):
         self.write("notes/001.txt", "a new text")
         for end, done, left in [(2, False, 3), (2, True, 2), (3, False, 2), (3, True, 3)]:
             with self.subTest(end=end, done=done):
-                before = (open(self.path, "rb").read(), open(self.path + ".stamps", "rb").read())
+                before = {path: self.read(path) for path in (self.path, self.path + ".stamps")}
                 said = self.run_script("folder.py", self.path, notes, do={"end": [end, -9], "done": done}, expect=3)
                 self.assertIn("1 document not stored", said)
                 self.assertEqual("its older text is deleted" in said, end == 3)
                 self.assertEqual(len(self.stored()), left)
                 self.run_script("folder.py", self.path, notes)
                 self.assertEqual(self.bodies(), {"000.txt": "text 0", "001.txt": "a new text", "002.txt": "text 2"})
-                for path, content in zip((self.path, self.path + ".stamps"), before):
-                    open(path, "wb").write(content)
+                for path, content in before.items():
+                    self.write(path, content)
 
     def test_an_import_that_is_killed(self):
         notes = self.notes(300)
@@ -287,8 +291,7 @@ class Folders(Case):
         until(lambda: os.path.exists(self.mark))
         process.kill()
         process.communicate()
-        with open(self.mark) as file:
-            os.kill(int(file.read()), signal.SIGKILL)
+        os.kill(int(self.read(self.mark)), signal.SIGKILL)
         stored = len(self.stored())
         self.assertEqual(stored, 148)
         said = self.run_script("folder.py", self.path, notes)
@@ -318,6 +321,8 @@ class Folders(Case):
         process.wait()
         process.stdout.close()
         process.stderr.close()
+        with contextlib.suppress(BrokenPipeError):
+            process.stdin.close()
         self.assertEqual(process.returncode, 130, said)
         self.assertIn("interrupted: run this again", said)
         added = int(re.search(r"([\d,]+) added\n", said)[1].replace(",", ""))
@@ -357,8 +362,7 @@ class Folders(Case):
         # The words in the wrong order write over nothing.
         self.write("my.mbox", b"From a\n\nmail\n")
         self.assertIn("no index", self.run_script("folder.py", self.at("my.mbox"), self.place.name, expect=3))
-        with open(self.at("my.mbox"), "rb") as file:
-            self.assertEqual(file.read(), b"From a\n\nmail\n")
+        self.assertEqual(self.read(self.at("my.mbox")), b"From a\n\nmail\n")
         self.assertFalse(os.path.exists(self.at("my.mbox.stamps")))
 
     def test_lines(self):
@@ -411,11 +415,13 @@ class Mail(Case):
             self.assertEqual(list(mail.split(archive.splitlines(True))), messages, archive)
 
     def message(self, head, body):
-        return next(mail.documents([head + b"\n\n" + body])).load()
+        line_end = b"\r\n" if b"\r\n" in head else b"\n"
+        return next(mail.documents([head + 2 * line_end + body])).load()
 
     def test_messages(self):
         html = b"Subject: h\nContent-Type: text/html"
         for head, body, title, text in [
+            (b"broken\nSubject: a\nline\nContent-Type: text/html", b"<p>b", "a", "b"),
             (b"Subject: plain", b"text", "plain", "text"),
             (b"Subject: folded\n  line", b"", "folded line", ""),
             (b"Subject: =?utf-8?q?caf=C3=A9?= =?iso-8859-1?q?_stra=DFe?=", b"", "caf\u00e9 stra\u00dfe", ""),
@@ -429,14 +435,16 @@ class Mail(Case):
             (b"Subject: x\nContent-Type: text/plain; charset=hex", b"abc", "x", "abc"),
             (b'Subject: x\nContent-Type: text/plain; charset="a\0b"', b"abc", "x", "abc"),
             (b"Subject: x\nContent-Type: nonsense", b"abc", "x", "abc"),
-            (b"Subject: x\nContent-Type: text/plain\nContent-Transfer-Encoding: base64", b"!!=", "x", "!!="),
+            (b"Subject: x\nContent-Type: text/plain\nContent-Transfer-Encoding: base64", b"Y2Fmw6k", "x", "caf\u00e9"),
             (b"Subject: x\nContent-Type: multipart/mixed", b"no parts", "x", ""),
-            (html, b"<p>red <b>fox</b><script>no</script> &amp; dog", "h", "red  fox  & dog"),
-            (html, b"<![unknown[ x ]]> fox", "h", " fox"),
+            (html, b"<p>red <b>fox</b><script>no</script> &amp; dog", "h", "red fox & dog"),
+            (html, b"<![unknown[ x ]]> fox", "h", "fox"),
             (b"Subject: a\0b", b"c\0d", "a\0b", "c\0d"),
         ]:
             found = self.message(head, body)
-            self.assertEqual((found.title, found.body.rstrip("\n")[-200:]), (title, text), head)
+            crlf = self.message(head.replace(b"\n", b"\r\n"), body)
+            self.assertEqual((crlf.title, crlf.body), (found.title, found.body), head)
+            self.assertEqual((found.title, importing.spaced(found.body)), (title, text), head)
 
     def test_parts(self):
         parts = (
@@ -479,11 +487,15 @@ class Mail(Case):
         self.assertEqual(bodies["last@x"], "the text of last")
         self.assertEqual(bodies["big@x"], "the text of it")
         self.assertEqual(len([name for name in bodies if name.startswith("message-")]), 1)
-        # What a mail reader notes is no change.
+
+    def test_what_a_mail_reader_notes_is_no_change(self):
+        archive = LETTER % (b"one", b"one", b"one") + b"\n" + LETTER % (b"two", b"two", b"two")
+        path = self.write("mail.mbox", archive)
+        self.assertIn("2 added", self.run_script("mail.py", self.path, path))
         self.write("mail.mbox", archive.replace(b"Message-ID: <two@x>\n", b"Status: RO\nMessage-ID: <two@x>\nX-Status: F\n"))
-        self.assertIn("0 added", self.run_script("mail.py", self.path, path, expect=1))
+        self.assertIn("0 added, 2 unchanged", self.run_script("mail.py", self.path, path))
         self.write("mail.mbox", archive.replace(b"text of two", b"text of too"))
-        self.assertIn("0 added, 1 changed", self.run_script("mail.py", self.path, path, expect=1))
+        self.assertIn("0 added, 1 changed, 1 unchanged", self.run_script("mail.py", self.path, path))
 
     def test_maildir(self):
         box = mailbox.Maildir(self.at("Mail"), create=True)
