@@ -415,7 +415,7 @@ def bring(tool, path, source, documents, whole):
         return write_lines(log, documents, whole)
     try:
         with Index(path, create=True) as index, Interrupts(index) as interrupts:
-            stamps = Stamps(f"{path}.stamps")
+            stamps = Stamps(f"{os.path.realpath(path)}.stamps")
             work = Import(index, stamps, source, whole, log)
             work.run(documents, interrupts)
             work.report()

@@ -178,7 +178,8 @@ def documents(messages):
         found, body = parted(raw)
         if found:
             kept = b"".join(field for field in found if not NOTED.match(field))
-            stamp = digest(kept + b"\n" + body).encode()
+            # The empty line before the next message is there only when there is a next one.
+            stamp = digest(kept + b"\n" + body.rstrip(b"\r\n")).encode()
             name = decoded(re.sub(rb"^.*<|>.*$", b"", value(found, b"message-id")).strip())
             yield Document(
                 name or f"message-{stamp.decode()}", stamp, lambda found=found, body=body: text_of_message(found, body)

@@ -406,6 +406,7 @@ class Mail(Case):
             (b"", []),
             (b"From a Mon Jan 1 00:00\nA: b\n\nc\n", [b"A: b\n\nc\n"]),
             (b"From a Mon Jan 1 00:00\nA: b\n\nFrom here on\nit is text\n", [b"A: b\n\nFrom here on\nit is text\n"]),
+            (b"From a\nA: b\n\nc\nFrom d\nE: f\n", [b"A: b\n\nc\nFrom d\nE: f\n"]),
             (b"From a\nA: b\n\nc\n\nFrom d\nE: f\n\ng", [b"A: b\n\nc\n\n", b"E: f\n\ng"]),
             (b"From a\r\nA: b\r\n\r\nc\r\n\r\nFrom d\r\nE: f\r\n", [b"A: b\r\n\r\nc\r\n\r\n", b"E: f\r\n"]),
             (b"A: b\n\nc\n", [b"A: b\n\nc\n"]),
@@ -496,6 +497,9 @@ class Mail(Case):
         self.assertIn("0 added, 2 unchanged", self.run_script("mail.py", self.path, path))
         self.write("mail.mbox", archive.replace(b"text of two", b"text of too"))
         self.assertIn("0 added, 1 changed, 1 unchanged", self.run_script("mail.py", self.path, path))
+        # Nor is an empty line at the end, before a message that has come.
+        self.write("mail.mbox", archive + b"\n" + LETTER % (b"new", b"new", b"new"))
+        self.assertIn("1 added, 1 changed, 1 unchanged", self.run_script("mail.py", self.path, path))
 
     def test_maildir(self):
         box = mailbox.Maildir(self.at("Mail"), create=True)
@@ -603,7 +607,7 @@ class RealProgram(Case):
         counts = {kind: int(number) for number, kind in re.findall(r"(\d+) ([a-z ]+)", said.split("documents: ")[1])}
         self.assertEqual(sum(counts.values()), 1000, said)
         self.assertLessEqual(counts.get("added again", 0), 64)
-        self.assertIn("0 added, 1000 unchanged", self.run_script("mail.py", self.path, path))
+        self.assertIn("0 added, 1,000 unchanged", self.run_script("mail.py", self.path, path))
         names = [row.split()[1] for row in self.found("letter")]
         self.assertEqual(sorted(names), sorted(f"{number}@x" for number in range(1000)))
         self.assertEqual([row.split()[1] for row in self.found("w77 OR title:77")], ["77@x"])
