@@ -1,0 +1,934 @@
+"""An index of Buncocedar, from Python.
+
+    with Index("notes.alta", create=True) as index:
+        index.add("first", "Red Fox", "the quick red fox")
+        for number, name in index.search('"red fox"'):
+            print(number, name)
+
+An `Index` starts the program, gives it command lines and reads its replies. A line that is refused raises a `Refused`, and
+changed nothing; a program that ends raises an `Ended` for its status. `add`, `delete` and the other calls answer when the
+program has; `send_add`, `send_delete` and `add_all` keep many lines under way at a time. Needs a POSIX system, Python 3.9
+and its standard library.
+"""
+
+import fcntl
+import os
+import re
+import select
+import signal
+import subprocess
+import sys
+import tempfile
+import time
+import unicodedata
+from collections import deque
+from typing import NamedTuple
+
+LINE_LIMIT = 65_535  # bytes of a command line
+TITLE_ROOM = 4_096  # bytes that a title keeps where its line is cut
+LINES_UNDER_WAY = 64  # lines without a reply, at most
+BYTES_WAITING = 262_144  # bytes of lines that wait to be written, before one more is sent
+
+_NAME = re.compile(r"[!-~]{1,64}")
+_NUMBER = r"(0|[1-9][0-9]*)"
+_ADDED = re.compile(f"added {_NUMBER}")
+_DELETED = re.compile(f"deleted {_NUMBER}")
+_ROW = re.compile(f"{_NUMBER} ([!-~]{{1,64}})")
+_FOUND = re.compile(f"found {_NUMBER}")
+_STATS = re.compile(f"documents {_NUMBER} words {_NUMBER} next {_NUMBER}")
+_CURSOR = re.compile(f"cursor {_NUMBER}")
+_CLOSED = re.compile(f"closed {_NUMBER}")
+_PAGE_END = re.compile("more|end")
+_OK = re.compile("ok")
+_ANYTHING = re.compile(".*", re.DOTALL)
+
+
+class Error(Exception):
+    """What may go wrong between a caller, this client and the program."""
+
+
+# --- Refusals: the line changed nothing, and the index goes on.
+
+
+class Refused(Error):
+    """A line that was refused. `reply` is the program's reply, also where this client refuses the line before it is sent."""
+
+    def __init__(self, reply, about=""):
+        super().__init__(f"{reply}: {about}" if about else reply)
+        self.reply = reply
+
+
+class LineTooLong(Refused):
+    """The line has more than 65,535 bytes; `length` is how many, where this client refused it."""
+
+    length = None
+
+
+class NotUtf8(Refused):
+    """The bytes are no UTF-8."""
+
+
+class UnknownCommand(Refused):
+    """The program does not know the command: it is older than this client."""
+
+
+class BadLine(Refused):
+    """The line has not the form of its command."""
+
+
+class BadName(Refused):
+    """The name is not 1 to 64 graphic ASCII bytes."""
+
+
+class NameTaken(Refused):
+    """A document has the name."""
+
+
+class NoNumbersLeft(Refused):
+    """The index has given out its last number."""
+
+
+class NoSuchDocument(Refused):
+    """No document has the name."""
+
+
+class TooManyCursors(Refused):
+    """64 cursors are open."""
+
+
+class NoSuchCursor(Refused):
+    """No open cursor has the number."""
+
+
+_REFUSALS = {
+    "! line too long": LineTooLong,
+    "! not UTF-8": NotUtf8,
+    "! unknown command": UnknownCommand,
+    "! bad line": BadLine,
+    "! bad name": BadName,
+    "! name taken": NameTaken,
+    "! no numbers left": NoNumbersLeft,
+    "! no such document": NoSuchDocument,
+    "! too many cursors": TooManyCursors,
+    "! no such cursor": NoSuchCursor,
+}
+
+_CAUSES = {
+    "Empty": "the query is empty",
+    "Word": "a text without a word, or with one of more than 128 bytes",
+    "Prefix": "before a * stands one whole word of two characters or more",
+    "Near": "NEAR/k stands between two words or prefixes, with k from 1 to 1,000",
+    "Name": "what stands behind name: is no name",
+    "Quote": "a quote is not closed",
+    "Paren": "a ) closes nothing, or a ( is not closed",
+    "Operand": "something to look for is missing",
+    "Deep": "more than 32 parentheses and NOT are open",
+    "Many": "there are more than 64 words",
+}
+
+
+class QueryFault(Refused):
+    """A query that cannot be read: `query` its text, `place` the byte of its first fault, `cause` the cause's word."""
+
+    def __init__(self, query, place, cause):
+        super().__init__(f"! query {place} {cause}", f"{_CAUSES.get(cause, cause)}\n{marked(query, place)}")
+        self.query = query
+        self.place = place
+        self.cause = cause
+
+
+_QUERY_FAULT = re.compile(f"! query {_NUMBER} ([A-Za-z]+)")
+
+
+def _refusal(reply, command, query):
+    fault = _QUERY_FAULT.fullmatch(reply)
+    if fault and query is not None:
+        return QueryFault(query, int(fault[1]), fault[2])
+    kind = _REFUSALS.get(reply)
+    if kind is None:
+        return ProtocolFault(command, reply)
+    older = ", by a program that is older than this client" if kind is UnknownCommand else ""
+    return kind(reply, command + older)
+
+
+# --- Ends: the program runs no more. What was answered stands in the index.
+
+
+class Ended(Error):
+    """The program ended, by `status`: its exit status, or a signal's number below 0. `line` is what it said.
+
+    A line that has no reply then may be done, if it is the first of them, or else is not.
+    """
+
+    advice = "what was answered is stored; open the index again"
+
+    def __init__(self, status, line=""):
+        said = line or (f"ended by signal {-status}" if status < 0 else "ended without a word")
+        super().__init__(f"{said} (status {status}): {self.advice}")
+        self.status = status
+        self.line = line
+
+
+class Usage(Ended):
+    """Status 1."""
+
+    advice = "the program does not know the words that it was started with, or the path is no UTF-8"
+
+
+class DiskFault(Ended):
+    """Status 2: a call of the disk failed."""
+
+    advice = "the file could not be read or written; what was answered is stored"
+
+
+class InputFault(Ended):
+    """Status 3."""
+
+    advice = "the program could not read its lines; what was answered is stored"
+
+
+class OutputFault(Ended):
+    """Status 4."""
+
+    advice = "the program could not write its replies; what was answered is stored"
+
+
+class OutOfMemory(Ended):
+    """Status 5."""
+
+    advice = "what was answered is stored; with more memory the index opens again"
+
+
+class Damaged(Ended):
+    """Status 6: `place` is the first byte of the file that breaks a rule of the format, or None."""
+
+    advice = "the file was changed by something else; use a copy of it, or make the index again"
+
+    def __init__(self, status, line=""):
+        super().__init__(status, line)
+        self.place = next(iter(_numbers(line)), None)
+
+
+class NoIndex(Ended):
+    """Status 7."""
+
+    advice = "the file is no index; if making it was stopped, delete it and make it again"
+
+
+class Full(Ended):
+    """Status 8: the next record has `need` bytes, and there is room for `gap`. No line without a reply was done."""
+
+    advice = "the index is full; what was answered is stored, and the rest needs another index"
+
+    def __init__(self, status, line=""):
+        super().__init__(status, line)
+        self.need, self.gap = (_numbers(line) + [None, None])[:2]
+
+
+class InputTooLong(Ended):
+    """Status 9: more than 2^40 bytes of lines in one run."""
+
+    advice = "what was answered is stored; open the index again"
+
+
+class IndexExists(Ended):
+    """Status 10: the file that was to be made is an index already."""
+
+    advice = "an index is never written over"
+
+
+_ENDS = {
+    1: Usage,
+    2: DiskFault,
+    3: InputFault,
+    4: OutputFault,
+    5: OutOfMemory,
+    6: Damaged,
+    7: NoIndex,
+    8: Full,
+    9: InputTooLong,
+    10: IndexExists,
+}
+
+
+def _ended(status, line):
+    return _ENDS.get(status, Ended)(status, line)
+
+
+def _numbers(line):
+    return [int(digits) for digits in re.findall("[0-9]+", line)]
+
+
+class ProtocolFault(Error):
+    """A reply that is none to its line: the program is another one, or a newer one. The index is closed then."""
+
+    def __init__(self, command, reply):
+        super().__init__(f"{reply[:200]!r} is no reply to {command}")
+
+
+class InUse(Error):
+    """Another client, or the program that it left, has the index open."""
+
+
+class Closed(Error):
+    """The index was closed."""
+
+
+# --- Texts.
+
+
+def name_ok(name):
+    """Whether the text is a name: 1 to 64 graphic ASCII characters."""
+    return _NAME.fullmatch(name) is not None
+
+
+def one_line(text):
+    """The text as it stands in a line: tabs, newlines and carriage returns are spaces, and lone surrogates U+FFFD."""
+    text = text.translate({9: " ", 10: " ", 13: " "})
+    try:
+        text.encode()
+    except UnicodeEncodeError:
+        text = text.encode("utf-16", "surrogatepass").decode("utf-16", "replace")
+    return text
+
+
+def fitted(text, room):
+    """The text where it has at most so many bytes, and else its front up to a word's end, or what fits of its first word."""
+    data = text.encode()
+    if len(data) <= room:
+        return text
+    end = data.rfind(b" ", 0, room + 1)
+    front = data[:end].rstrip(b" ") if end > 0 else b""
+    return (front or data[:room]).decode(errors="ignore")
+
+
+def add_line(name, title, body, cut=False):
+    """The line that adds a document, as bytes with its newline, and how many bytes of title and body were cut off.
+
+    Raises `BadName`, and `LineTooLong` where the line has more than 65,535 bytes. With `cut` such a line is cut at the end
+    of a word instead: the title to 4,096 bytes, and the body to what is left.
+    """
+    if not name_ok(name):
+        raise BadName("! bad name", ascii(name[:80]))
+    title, body = one_line(title), one_line(body)
+    line = f"add {name}\t{title}\t{body}".encode()
+    whole = len(line)
+    if whole > LINE_LIMIT:
+        if not cut:
+            raise _too_long(whole, f"add {name}")
+        head = f"add {name}\t{fitted(title, TITLE_ROOM)}\t"
+        line = (head + fitted(body, LINE_LIMIT - len(head.encode()))).encode()
+    return line + b"\n", whole - len(line)
+
+
+def _too_long(length, command):
+    error = LineTooLong("! line too long", f"{command}, {length:,} bytes where {LINE_LIMIT:,} may be")
+    error.length = length
+    return error
+
+
+def columns(text):
+    """How many columns of a terminal the text takes: two for a wide character, none for one that is put on another."""
+    return sum(map(_columns_of, text))
+
+
+def _columns_of(character):
+    if unicodedata.category(character) in ("Mn", "Me") or "\u1160" <= character <= "\u11ff":
+        return 0
+    return 2 if unicodedata.east_asian_width(character) in "WF" else 1
+
+
+def marked(text, place):
+    """The text on a line and a mark on the next, under the character at this byte of its UTF-8, or behind its end.
+
+    Of a long text only what is near the mark is shown. What cannot be printed is a U+FFFD.
+    """
+    data = text.encode(errors="replace")
+    before, after = (_printable(part.decode(errors="replace")) for part in (data[:place], data[place:]))
+    if len(before) > 60:
+        before = "..." + before[-57:]
+    if len(after) > 60:
+        after = after[:57] + "..."
+    return f"  {before}{after}\n  {' ' * columns(before)}^"
+
+
+def _printable(text):
+    return "".join(character if character.isprintable() else " " if character == "\t" else "\ufffd" for character in text)
+
+
+# --- Replies.
+
+
+class Added(int):
+    """A document's number; `dropped` is how many bytes of its title and body were cut off."""
+
+    dropped = 0
+
+
+class Stats(NamedTuple):
+    """Live documents, the words that they have, and the number that the next document gets."""
+
+    documents: int
+    words: int
+    next: int
+
+
+class Page(NamedTuple):
+    """Rows (number, name) of a cursor, and whether there are more."""
+
+    rows: list
+    more: bool
+
+
+class Reply:
+    """The reply to a line that was sent. Replies come in the order of their lines."""
+
+    def __init__(self, index, line, command, last, made, row=None, query=None, after_refusal=False):
+        self.command = command
+        self.rows = deque()
+        self.answered = False  # the program has given the whole reply, be it a refusal
+        self.settled = False  # it is answered, or never will be
+        self.error = None  # the refusal, or what came in place of a reply
+        self._index = index
+        self._line = line
+        self._last = last
+        self._made = made
+        self._row = row
+        self._query = query
+        self._after_refusal = after_refusal
+        self._begun = False
+        self._value = None
+
+    def result(self):
+        """Waits for the reply and gives its value, or raises its refusal, or the end of the program that came before it."""
+        while not self.settled:
+            self._index._turn()
+        if not self.answered:
+            self._index._told = True
+        if self.error is not None:
+            raise self.error
+        return self._value
+
+    def begin(self):
+        """Waits for the first line of the reply, and raises as `result` where there is no more to come."""
+        while not (self._begun or self.settled):
+            self._index._turn()
+        if self.settled:
+            self.result()
+
+    def each(self):
+        """The rows as they come, up to the end of the reply."""
+        while True:
+            while self.rows:
+                yield self.rows.popleft()
+            if self.settled:
+                break
+            self._index._turn()
+        self.result()
+
+    def _take(self, line):
+        """Takes the next line of the reply, and tells whether it was the last."""
+        first = not self._begun
+        self._begun = True
+        if first and line.startswith("! "):
+            self.error = _refusal(line, self.command, self._query)
+            if isinstance(self.error, ProtocolFault):
+                raise self.error
+            return not self._after_refusal
+        last = self._last.fullmatch(line)
+        if last:
+            self._value = None if self.error else self._made(last)
+            return True
+        row = self._row.fullmatch(line) if self._row and not self.error else None
+        if not row:
+            raise ProtocolFault(self.command, line)
+        self.rows.append((int(row[1]), row[2]) if self._row is _ROW else line)
+        return False
+
+    def _settle(self, error=None):
+        """Marks it as answered, or as one that never will be for this reason."""
+        self.answered = error is None
+        self.error = self.error or error
+        self.settled = True
+
+
+# --- The index.
+
+
+class Index:
+    """An index in a file, by a program of its own that ends with `close` or at the end of a `with`.
+
+    `create` makes the index where there is no file, or an empty one. `program` is the program's path: by default what the
+    variable BUNCOCEDAR_PROGRAM says, or else `alta` beside the folder of this client. The file is locked for the life of the
+    program; where another client has it, `patience` says how many seconds to wait before `InUse`.
+
+    Not to be called by two threads at once. Raises `Ended` where the index does not open.
+    """
+
+    def __init__(self, path, create=False, program=None, patience=10.0):
+        self.path = os.fspath(path)
+        self._program = program or default_program()
+        self._fresh = deque()  # replies to lines that no turn has looked at yet
+        self._pending = deque()  # replies to the lines before them
+        self._out = bytearray()
+        self._in = bytearray()
+        self._end = None
+        self._told = False
+        if create and not _holds_bytes(self.path):
+            _make(self._program, self.path)
+        if not os.path.exists(self.path):
+            raise NoIndex(7, f"there is no file {self.path}")
+        lock = _locked(self.path, patience)
+        try:
+            self._process = _started(self._program, self.path, "run", pass_fds=(lock,))
+        finally:
+            os.close(lock)
+        self._said = _Said(self._process.stderr.fileno())
+        for pipe in (self._process.stdin, self._process.stdout, self._process.stderr):
+            os.set_blocking(pipe.fileno(), False)
+        try:
+            self.stats()
+        except BaseException:
+            self.kill()
+            raise
+
+    def __enter__(self):
+        return self
+
+    def __exit__(self, kind, value, trace):
+        if kind is None:
+            self.close()
+        else:
+            self.kill()
+
+    # -- Documents.
+
+    def add(self, name, title, body, cut=False):
+        """Stores a document and answers its number, an `Added`: it is stored when this returns.
+
+        Tabs, newlines and carriage returns in title and body become spaces. Raises `BadName`, `NameTaken`, `NoNumbersLeft`,
+        and `LineTooLong` where the line is too long; with `cut` it is cut at a word's end, and `dropped` says how much.
+        """
+        return self.send_add(name, title, body, cut).result()
+
+    def delete(self, name):
+        """Deletes the document of this name and answers its number. Raises `BadName` and `NoSuchDocument`."""
+        return self.send_delete(name).result()
+
+    def send_add(self, name, title, body, cut=False):
+        """Sends what `add` sends, and answers its `Reply` at once, or when one of those under way has come."""
+        line, dropped = add_line(name, title, body, cut)
+
+        def made(last):
+            number = Added(last[1])
+            number.dropped = dropped
+            return number
+
+        return self._send(line, f"add {name}", _ADDED, made)
+
+    def send_delete(self, name):
+        """Sends what `delete` sends, and answers its `Reply` at once, or when one of those under way has come."""
+        if not name_ok(name):
+            raise BadName("! bad name", ascii(name[:80]))
+        return self._send(f"delete {name}\n".encode(), f"delete {name}", _DELETED, _first_number)
+
+    def add_all(self, documents, cut=False):
+        """Adds documents, each a (name, title, body), with many under way, and gives for each in order (name, outcome).
+
+        The outcome is the `Added` number or the `Refused`. Where the program ends, its `Ended` is raised behind the outcome
+        of the last document that was answered.
+        """
+        sent = deque()
+        for name, title, body in documents:
+            try:
+                sent.append((name, self.send_add(name, title, body, cut)))
+            except Refused as refusal:
+                sent.append((name, refusal))
+            except Ended:
+                break
+            while sent and _is_settled(sent[0][1]):
+                name, outcome = sent.popleft()
+                yield name, _outcome(outcome)
+        for name, outcome in sent:
+            yield name, _outcome(outcome)
+        if self._end is not None:
+            self._check()
+
+    def under_way(self):
+        """How many lines were sent that have no reply yet: 64 at most."""
+        return len(self._fresh) + len(self._pending)
+
+    def settle(self):
+        """Waits until every line that was sent is answered, or will not be."""
+        while self.under_way():
+            self._turn()
+
+    # -- Queries.
+
+    def search(self, query):
+        """The live documents that match, as an iterator of (number, name) in order of number. Raises `QueryFault`."""
+        reply = self._ask("search", query, _FOUND, _first_number, _ROW)
+        reply.begin()
+        return reply.each()
+
+    def count(self, query):
+        """How many live documents match. Raises `QueryFault`."""
+        return self._ask("count", query, _FOUND, _first_number).result()
+
+    def explain(self, query):
+        """The query's canonical spelling and, in the lines behind it, its plan. Raises `QueryFault`."""
+        # The reply's end shows only by the next reply's begin.
+        reply = self._ask("explain", query, _STATS, _nothing, _ANYTHING, more="stats\n", after_refusal=True)
+        reply.result()
+        return "\n".join(reply.rows)
+
+    def cursor(self, query):
+        """A `Cursor` over the documents that match now. Raises `QueryFault` and `TooManyCursors`."""
+        return Cursor(self, self._ask("open", query, _CURSOR, _first_number).result())
+
+    def stats(self):
+        """The `Stats` of the index."""
+        return self._say("stats", _STATS, lambda last: Stats(int(last[1]), int(last[2]), int(last[3])))
+
+    # -- Upkeep.
+
+    def flush(self):
+        """Writes the journal's documents as a level, and empties the journal."""
+        self._say("flush", _OK, _nothing)
+
+    def merge(self):
+        """Joins all levels and the journal into one level, without the deleted documents."""
+        self._say("merge", _OK, _nothing)
+
+    def step(self, terms):
+        """Moves the joining of the two oldest levels on by so many terms, 1 to 1,000,000."""
+        self._say(f"step {terms}", _OK, _nothing)
+
+    # -- The end.
+
+    def close(self):
+        """Waits until every line is answered, and ends the program. Raises its `Ended` where nothing raised it yet."""
+        self.settle()
+        if self._end is None:
+            self._process.stdin.close()
+        while self._end is None:
+            self._turn()
+        if not self._told and not isinstance(self._end, Closed):
+            self._check()
+
+    def kill(self):
+        """Ends the program at once. A line that has no reply may be done, if it is the first of them, or else is not."""
+        self._told = True
+        if self._end is None:
+            _kill(self._process)
+        while self._end is None:
+            self._turn()
+
+    def break_off(self):
+        """Ends the program from a signal handler: the calls that wait for it then go on as where it was killed."""
+        _kill(self._process)
+
+    # -- Lines and replies.
+
+    def _ask(self, word, query, last, made, row=None, more="", after_refusal=False):
+        query = one_line(query)
+        line = f"{word} {query}\n{more}".encode()
+        length = len(line) - len(more) - 1
+        if length > LINE_LIMIT:
+            raise _too_long(length, word)
+        return self._send(line, word, last, made, row, query, after_refusal)
+
+    def _say(self, line, last, made):
+        return self._send(f"{line}\n".encode(), line, last, made).result()
+
+    def _send(self, line, command, last, made, row=None, query=None, after_refusal=False):
+        self._check()
+        reply = Reply(self, line, command, last, made, row, query, after_refusal)
+        while self.under_way() >= LINES_UNDER_WAY or len(self._out) > BYTES_WAITING:
+            self._turn()
+            self._check()
+        # One step, so that an interrupt leaves no line without its reply and no reply without its line.
+        self._fresh.append(reply)
+        self._turn(0)
+        return reply
+
+
+    def _check(self):
+        """Raises the end of the program where it has ended."""
+        if self._end is not None:
+            self._told = True
+            raise self._end
+
+    def _turn(self, seconds=None):
+        """Waits until the program takes or gives something, or so many seconds, and moves all that can be moved.
+
+        The one place that reads and writes, so that neither side waits for the other. A call that is interrupted in
+        here may have lost a piece of a reply: nothing is read any more then, and the program is ended.
+        """
+        if self._end is not None:
+            return
+        try:
+            self._move(seconds)
+        except BaseException as error:
+            _kill(self._process)
+            self._finish(error if isinstance(error, Error) else Ended(-signal.SIGKILL, "ended after an interrupt"))
+            if not isinstance(error, Error):
+                raise
+
+    def _move(self, seconds):
+        while self._fresh:
+            reply = self._fresh.popleft()
+            self._pending.append(reply)
+            self._out += reply._line
+            reply._line = None
+        stdin, stdout = self._process.stdin, self._process.stdout
+        poll = select.poll()
+        poll.register(stdout, select.POLLIN)
+        if self._said.open:
+            poll.register(self._said.file, select.POLLIN)
+        if self._out and not stdin.closed:
+            poll.register(stdin, select.POLLOUT)
+        for file, _ in poll.poll(None if seconds is None else seconds * 1000):
+            if self._end is not None:
+                break
+            if file == stdout.fileno():
+                self._read(file)
+            elif file == self._said.file:
+                self._said.take()
+            else:
+                self._write(file)
+
+    def _write(self, file):
+        try:
+            del self._out[: os.write(file, self._out)]
+        except BlockingIOError:
+            pass
+        except BrokenPipeError:
+            # The program has ended or takes no more; what it gave is still to be read.
+            self._out.clear()
+            self._process.stdin.close()
+
+    def _read(self, file):
+        data = os.read(file, 1 << 16)
+        if not data:
+            self._finish(None)
+            return
+        *lines, rest = data.split(b"\n")
+        if lines:
+            lines[0] = bytes(self._in) + lines[0]
+            self._in.clear()
+        self._in += rest
+        for line in lines:
+            text = line.decode(errors="replace")
+            if not self._pending:
+                raise ProtocolFault("no line", text)
+            if self._pending[0]._take(text):
+                self._pending.popleft()._settle()
+
+    def _finish(self, error):
+        """Takes the end of the program, once its output has ended or it was killed. What is under way gets no reply."""
+        self._process.stdin.close()
+        try:
+            status = self._process.wait(5)
+        except subprocess.TimeoutExpired:
+            _kill(self._process)
+            status = self._process.wait()
+        self._said.take_all()
+        if error is None:
+            asked = status == 0 and not self.under_way()
+            error = Closed("the index was closed") if asked else _ended(status, self._said.line)
+        self._end = error
+        for replies in (self._pending, self._fresh):
+            while replies:
+                replies.popleft()._settle(error)
+        self._out.clear()
+        self._process.stdout.close()
+        self._process.stderr.close()
+
+
+class Cursor:
+    """The answers of a query as they were when it was opened, page by page, whatever is added and deleted meanwhile.
+
+    At most 64 are open at once; `close` gives one back, and so does the end of a `with`.
+    """
+
+    def __init__(self, index, number):
+        self.number = number
+        self._index = index
+
+    def __enter__(self):
+        return self
+
+    def __exit__(self, kind, value, trace):
+        if self._index._end is None:
+            self.close()
+
+    def page(self, count):
+        """The next `Page`, of at most so many rows, 1 to 1,000,000. Raises `NoSuchCursor` where it was closed."""
+        line = f"fetch {self.number} {count}"
+        reply = self._index._send(f"{line}\n".encode(), line, _PAGE_END, lambda last: last[0] == "more", _ROW)
+        more = reply.result()
+        return Page(list(reply.rows), more)
+
+    def pages(self, count):
+        """The pages up to the end, none of them empty."""
+        more = True
+        while more:
+            page = self.page(count)
+            more = page.more
+            if page.rows:
+                yield page
+
+    def __iter__(self):
+        for page in self.pages(1000):
+            yield from page.rows
+
+    def close(self):
+        """Gives the cursor back."""
+        self._index._say(f"close {self.number}", _CLOSED, _nothing)
+
+
+def _first_number(last):
+    return int(last[1])
+
+
+def _nothing(last):
+    return None
+
+
+def _is_settled(outcome):
+    return not isinstance(outcome, Reply) or outcome.settled
+
+
+def _outcome(outcome):
+    """The number or the refusal of a document that was sent or refused."""
+    if not isinstance(outcome, Reply):
+        return outcome
+    try:
+        return outcome.result()
+    except Refused as refusal:
+        return refusal
+
+
+# --- The program.
+
+
+def default_program():
+    """The path of the program: the variable BUNCOCEDAR_PROGRAM, or `alta` beside the folder of this client."""
+    top = os.path.dirname(os.path.dirname(os.path.abspath(__file__)))
+    return os.environ.get("BUNCOCEDAR_PROGRAM") or os.path.join(top, "alta")
+
+
+class _Said:
+    """What the program says on its standard error. Its status line is kept; all else, as that it is built, is handed on."""
+
+    status_line = re.compile(
+        "alta: (usage: .*|(disk|input|output) fault|out of memory|damaged at [0-9]+|no index|"
+        "full, need [0-9]+, greatest gap [0-9]+|input too long|index exists)"
+    )
+
+    def __init__(self, file):
+        self.file = file
+        self.open = True
+        self.line = ""
+        self._rest = b""
+
+    def take(self):
+        """Takes what is there, and tells whether there may be more."""
+        try:
+            data = os.read(self.file, 1 << 16)
+        except BlockingIOError:
+            return False
+        self.open = bool(data)
+        *lines, self._rest = (self._rest + data).split(b"\n")
+        for line in lines:
+            self._hear(line.decode(errors="replace"))
+        return self.open
+
+    def take_all(self):
+        while self.open and self.take():
+            pass
+
+    def _hear(self, line):
+        if self.status_line.fullmatch(line):
+            self.line = line
+        else:
+            print(line, file=sys.stderr)
+
+
+def _started(program, path, word, **options):
+    """The program, in a session of its own, so that an interrupt from the terminal ends this client first."""
+    return subprocess.Popen(
+        [program, path, word],
+        stdin=subprocess.PIPE,
+        stdout=subprocess.PIPE,
+        stderr=subprocess.PIPE,
+        bufsize=0,
+        start_new_session=True,
+        **options,
+    )
+
+
+def _kill(process):
+    """Ends the program, and what it has started where it is still being built."""
+    if process.poll() is None:
+        try:
+            os.killpg(process.pid, signal.SIGKILL)
+        except ProcessLookupError:
+            pass
+
+
+def _holds_bytes(path):
+    return os.path.exists(path) and os.path.getsize(path) > 0
+
+
+def _make(program, path):
+    """Makes an index at the path: whole, or not at all. Where it is stopped, a folder of an odd name may stay."""
+    folder = os.path.dirname(os.path.abspath(path))
+    with tempfile.TemporaryDirectory(prefix=".making-", dir=folder) as place:
+        fresh = os.path.join(place, "index.alta")
+        process = _started(program, fresh, "init")
+        said = _Said(process.stderr.fileno())
+        try:
+            process.stdin.close()
+            said.take_all()
+            status = process.wait()
+        except BaseException:
+            _kill(process)
+            process.wait()
+            raise
+        finally:
+            process.stdout.close()
+            process.stderr.close()
+        if status != 0:
+            raise _ended(status, said.line)
+        os.rename(fresh, path)
+    handle = os.open(folder, os.O_RDONLY)
+    try:
+        os.fsync(handle)
+    finally:
+        os.close(handle)
+
+
+def _locked(path, patience):
+    """A handle of the file, locked. The program keeps it too: it may outlive a client that was killed.
+
+    Where there is no file there is nothing to lock: the program then says that there is no index.
+    """
+    try:
+        handle = os.open(path, os.O_RDWR)
+    except OSError:
+        return os.open(os.devnull, os.O_RDWR)
+    until = time.monotonic() + patience
+    while True:
+        try:
+            fcntl.flock(handle, fcntl.LOCK_EX | fcntl.LOCK_NB)
+            return handle
+        except BlockingIOError:
+            if time.monotonic() >= until:
+                os.close(handle)
+                raise InUse(f"{path} is open in another client, or in the program that it left") from None
+            time.sleep(0.02)
+        except OSError:
+            # The file system has no locks.
+            return handle

@@ -1,0 +1,486 @@
+#!/usr/bin/env python3
+"""Tests of `client/buncocedar.py`: with a program that misbehaves as told, and with the real one.
+
+usage: tests/client.py [--program PATH]
+
+Without --program the tests of the real program are left out, and that is said.
+"""
+
+import contextlib
+import faulthandler
+import io
+import json
+import os
+import signal
+import subprocess
+import sys
+import tempfile
+import time
+import unittest
+
+TOP = os.path.dirname(os.path.dirname(os.path.abspath(__file__)))
+sys.path.insert(0, os.path.join(TOP, "client"))
+
+import buncocedar  # noqa: E402
+import fake  # noqa: E402
+from buncocedar import Index  # noqa: E402
+
+FAKE = fake.installed()
+PROGRAM = None
+PATIENCE = 60  # seconds after which what should have come counts as missing
+
+
+def until(done):
+    """Waits until this is so. The tests rest on what happened, and never on how long it took."""
+    end = time.monotonic() + PATIENCE
+    while not done():
+        if time.monotonic() > end:
+            raise AssertionError("it does not come")
+        time.sleep(0.01)
+
+
+class Case(unittest.TestCase):
+    def setUp(self):
+        self.folder = tempfile.TemporaryDirectory()
+        self.addCleanup(self.folder.cleanup)
+        self.path = os.path.join(self.folder.name, "x.alta")
+        self.mark = os.path.join(self.folder.name, "mark")
+
+    def fake(self, **do):
+        """An open index over the fake program, which does this."""
+        before = os.environ.get("FAKE")
+        os.environ["FAKE"] = json.dumps(do)
+        try:
+            return Index(self.path, create=True, program=FAKE, patience=PATIENCE)
+        finally:
+            if before is None:
+                del os.environ["FAKE"]
+            else:
+                os.environ["FAKE"] = before
+
+
+class Texts(unittest.TestCase):
+    def test_lines(self):
+        for title, body, line in [
+            ("Red Fox", "the quick red fox", b"add a\tRed Fox\tthe quick red fox\n"),
+            ("", "", b"add a\t\t\n"),
+            ("a\tb", "one\r\ntwo\tthree\n", b"add a\ta b\tone  two three \n"),
+            ("\0", "stra\u00dfe \U0001f98a", "add a\t\0\tstra\u00dfe \U0001f98a\n".encode()),
+            ("\ud83e\udd8a", "lone \udcff", "add a\t\U0001f98a\tlone \ufffd\n".encode()),
+        ]:
+            self.assertEqual(buncocedar.add_line("a", title, body), (line, 0))
+        for name in ["", "a b", "a\nb", "\u00e9", "x" * 65, "a\t"]:
+            with self.assertRaises(buncocedar.BadName):
+                buncocedar.add_line(name, "", "")
+
+    def test_too_long(self):
+        room = buncocedar.LINE_LIMIT - len("add a\t\t")
+        line, dropped = buncocedar.add_line("a", "", "x" * room)
+        self.assertEqual((len(line) - 1, dropped), (65_535, 0))
+        with self.assertRaises(buncocedar.LineTooLong) as raised:
+            buncocedar.add_line("a", "", "x" * (room + 1))
+        self.assertEqual(raised.exception.length, 65_536)
+        self.assertIn("65,536 bytes", str(raised.exception))
+
+    def test_cut(self):
+        words = "word " * 20_000
+        line, dropped = buncocedar.add_line("a", "title", words, cut=True)
+        self.assertLessEqual(len(line) - 1, 65_535)
+        self.assertTrue(line.endswith(b" word\n"))
+        self.assertEqual(len("add a\ttitle\t") + len(words) - dropped, len(line) - 1)
+        # A title gives way only where its line is too long, and a text without blanks is cut between characters.
+        line, dropped = buncocedar.add_line("a", words, "body", cut=True)
+        self.assertEqual(len(line.split(b"\t")[1]), 4_094)
+        self.assertTrue(line.endswith(b"word\tbody\n"))
+        line, dropped = buncocedar.add_line("a", "", "\u65e5" * 40_000, cut=True)
+        self.assertEqual(line.decode().count("\u65e5"), (65_535 - 7) // 3)
+        self.assertEqual(buncocedar.fitted("red fox", 5), "red")
+        self.assertEqual(buncocedar.fitted("red fox", 3), "red")
+        self.assertEqual(buncocedar.fitted("red  fox", 4), "red")
+        self.assertEqual(buncocedar.fitted("red", 2), "re")
+        self.assertEqual(buncocedar.fitted(" reddish", 3), " re")
+
+    def test_marks(self):
+        for text, place, shown in [
+            ("(fox", 4, "  (fox\n      ^"),
+            ("", 0, "  \n  ^"),
+            ("stra\u00dfe )", 8, "  stra\u00dfe )\n         ^"),
+            ("\u65e5\u672c )", 7, "  \u65e5\u672c )\n       ^"),
+            ("e\u0301 )", 4, "  e\u0301 )\n    ^"),
+            ("\U0001f98a)", 4, "  \U0001f98a)\n    ^"),
+            ("a\t)", 2, "  a )\n    ^"),
+            ("\x1b[1m)", 4, "  \ufffd[1m)\n      ^"),
+        ]:
+            self.assertEqual(buncocedar.marked(text, place), shown)
+        long = buncocedar.marked("a " * 300 + ")" + " b" * 300, 600)
+        front, mark = long.split("\n")
+        self.assertEqual(front[mark.index("^")], ")")
+        self.assertLess(len(front), 130)
+
+
+class Calls(Case):
+    def test_documents_and_queries(self):
+        with self.fake() as index:
+            number = index.add("a", "Red Fox", "the quick\tred\nfox")
+            self.assertEqual((number, number.dropped), (1, 0))
+            self.assertEqual(index.add("b", "", "word " * 20_000, cut=True).dropped, 100_000 - 13_105 * 5 + 1)
+            self.assertEqual(list(index.search("red fox")), [(1, "a")])
+            self.assertEqual(list(index.search("no such words")), [])
+            self.assertEqual(index.count("word"), 1)
+            self.assertEqual(index.explain("fox"), '"fox"\nfound D Wfox\n  x1 <= x0')
+            self.assertEqual(index.stats(), (2, 6 + 13_105, 3))
+            self.assertEqual(index.delete("b"), 2)
+            self.assertEqual(index.stats(), buncocedar.Stats(documents=1, words=6, next=3))
+            for upkeep in (index.flush, index.merge, lambda: index.step(1000)):
+                self.assertIsNone(upkeep())
+        for call in (index.stats, lambda: index.add("c", "", "")):
+            with self.assertRaises(buncocedar.Closed):
+                call()
+        # What was answered stands in the file.
+        with self.fake() as index:
+            self.assertEqual(index.stats().documents, 1)
+
+    def test_cursors(self):
+        with self.fake() as index:
+            for name in "abcde":
+                index.add(name, "", "x")
+            with index.cursor("x") as cursor:
+                self.assertEqual(cursor.page(2), ([(1, "a"), (2, "b")], True))
+                index.delete("d")
+                self.assertEqual(list(cursor.pages(2)), [([(3, "c"), (4, "d")], True), ([(5, "e")], False)])
+                self.assertEqual(cursor.page(2), ([], False))
+                self.assertEqual(list(index.cursor("x")), [(1, "a"), (2, "b"), (3, "c"), (5, "e")])
+            with self.assertRaises(buncocedar.NoSuchCursor):
+                cursor.page(1)
+            opened = [index.cursor("x") for _ in range(63)]
+            with self.assertRaises(buncocedar.TooManyCursors):
+                index.cursor("x")
+            self.assertEqual(opened[0].number, 1)
+
+    def test_a_search_that_is_left(self):
+        with self.fake() as index:
+            for name in "abc":
+                index.add(name, "", "x")
+            rows = index.search("x")
+            self.assertEqual(next(rows), (1, "a"))
+            self.assertEqual(index.count("x"), 3)
+            self.assertEqual(list(rows), [(2, "b"), (3, "c")])
+
+    def test_refusals(self):
+        for reply, kind in buncocedar._REFUSALS.items():
+            with self.fake(say=[1, reply]) as index:
+                with self.assertRaises(kind) as raised:
+                    index.add("a", "", "")
+                self.assertEqual(raised.exception.reply, reply)
+                self.assertEqual(index.stats().documents, 0)
+        with self.fake(old=True) as index:
+            for call in (index.flush, index.merge, lambda: index.step(1), lambda: index.cursor("x")):
+                with self.assertRaises(buncocedar.UnknownCommand) as raised:
+                    call()
+                self.assertIn("older than this client", str(raised.exception))
+
+    def test_faults_of_queries(self):
+        with self.fake() as index:
+            for call in (index.search, index.count, index.explain, index.cursor):
+                with self.assertRaises(buncocedar.QueryFault) as raised:
+                    call("fault 8 Paren\n\u65e5)")
+                fault = raised.exception
+                self.assertEqual((fault.place, fault.cause, fault.query), (8, "Paren", "fault 8 Paren \u65e5)"))
+                self.assertEqual(str(fault).split("\n")[1:], ["  fault 8 Paren \u65e5)", "          ^"])
+            with self.assertRaises(buncocedar.LineTooLong):
+                index.count("x " * 40_000)
+            self.assertEqual(index.stats().documents, 0)
+
+    def test_ends(self):
+        for status, kind in {**buncocedar._ENDS, -9: buncocedar.Ended, 0: buncocedar.Ended, 77: buncocedar.Ended}.items():
+            index = self.fake(end=[2, status])
+            answered = index.send_add(f"n{status}", "", "")
+            lost = [index.send_add(f"m{status}", "", ""), index.send_delete("zz")]
+            self.assertGreater(answered.result(), 0)
+            for reply in lost:
+                with self.assertRaises(kind) as raised:
+                    reply.result()
+                self.assertEqual(raised.exception.status, status)
+                self.assertFalse(reply.answered)
+            with self.assertRaises(kind):
+                index.stats()
+            index.close()
+            if status == 6:
+                self.assertEqual(raised.exception.place, 8193)
+            if status == 8:
+                self.assertEqual((raised.exception.need, raised.exception.gap), (321, 123))
+        with self.fake() as index:
+            self.assertEqual(sorted(index.search("NOT name:!")), sorted(index.search("NOT name:!")))
+            self.assertEqual(index.stats().documents, 13)
+
+    def test_an_end_that_nobody_saw_is_raised_by_close(self):
+        with self.assertRaises(buncocedar.Full):
+            with self.fake(room=1) as index:
+                index.send_add("a", "", "")
+                index.send_add("b", "", "")
+
+    def test_opening(self):
+        with self.assertRaises(buncocedar.NoIndex):
+            Index(self.path, program=FAKE)
+        self.assertFalse(os.path.exists(self.path))
+        # A file that is no index is not made one.
+        with open(self.path, "w") as file:
+            file.write("my notes\n")
+        with self.assertRaises(buncocedar.NoIndex):
+            Index(self.path, create=True, program=FAKE)
+        with open(self.path) as file:
+            self.assertEqual(file.read(), "my notes\n")
+        open(self.path, "w").close()
+        self.fake().close()
+        self.assertEqual(os.listdir(self.folder.name), ["x.alta"])
+        with self.assertRaises(OSError):
+            Index(self.path, program=os.path.join(self.folder.name, "nothing"))
+
+    def test_what_a_program_says_beside(self):
+        told = io.StringIO()
+        with contextlib.redirect_stderr(told):
+            with self.fake(loud=True, room=3000) as index:
+                outcomes = [outcome for _, outcome in index.add_all((f"n{i}", "", "") for i in range(3000))]
+                self.assertEqual(outcomes, list(range(1, 3001)))
+                with self.assertRaises(buncocedar.Full):
+                    index.add("b", "", "")
+        self.assertEqual(told.getvalue().count("fake: "), 3002)
+        self.assertNotIn("alta: full", told.getvalue())
+
+
+class UnderWay(Case):
+    def add_many(self, index, count, body=""):
+        outcomes = []
+        for name, outcome in index.add_all((f"n{i}", "", body) for i in range(count)):
+            self.assertLessEqual(index.under_way(), buncocedar.LINES_UNDER_WAY)
+            self.assertEqual(name, f"n{len(outcomes)}")
+            outcomes.append(outcome)
+        return outcomes
+
+    def test_slow_and_stubborn(self):
+        # Replies that come byte by byte, and replies that come only behind many further lines.
+        for do in ({"slow": True}, {"hold": 1}, {"hold": 40}, {"hold": 64}):
+            os.path.exists(self.path) and os.remove(self.path)
+            with self.fake(**do) as index:
+                self.assertEqual(self.add_many(index, 640), list(range(1, 641)))
+
+    def test_long_lines_and_long_replies(self):
+        # More lines than a pipe holds wait, while the program gives more rows than a pipe holds.
+        with self.fake() as index:
+            self.assertEqual(len(list(index.add_all((f"{i:060}", "", "x") for i in range(3000)))), 3000)
+            searches = [index.search("x") for _ in range(8)]
+            sent = [index.send_add(f"long{i}", "", "y" * 60_000) for i in range(100)]
+            searches += [index.search("x") for _ in range(8)]
+            self.assertEqual([reply.result() for reply in sent], list(range(3001, 3101)))
+            for rows in searches:
+                self.assertEqual(len(list(rows)), 3000)
+
+    def test_refusals_stand_in_their_order(self):
+        documents = [("a", "", ""), ("a", "", ""), ("b c", "", ""), ("d", "", "x" * 70_000), ("e", "", "")]
+        with self.fake() as index:
+            outcomes = list(index.add_all(documents))
+        kinds = [type(outcome) for _, outcome in outcomes]
+        added, taken, bad, long = buncocedar.Added, buncocedar.NameTaken, buncocedar.BadName, buncocedar.LineTooLong
+        self.assertEqual(kinds, [added, taken, bad, long, added])
+        self.assertEqual((outcomes[0][1], outcomes[4][1]), (1, 2))
+
+    def test_an_end_in_the_middle(self):
+        # The line that was not answered is done or not; what was answered is told, and nothing else.
+        for do, stored in [
+            ({"end": [21, -9]}, 20),
+            ({"end": [21, -9], "done": True}, 21),
+            ({"end": [21, 2], "done": True, "cut": True}, 21),
+            ({"room": 20}, 20),
+        ]:
+            os.path.exists(self.path) and os.remove(self.path)
+            index = self.fake(**do)
+            numbers = []
+            with self.assertRaises(buncocedar.Ended):
+                for _, outcome in index.add_all((f"n{i}", "", "") for i in range(200)):
+                    numbers.append(outcome)
+            index.close()
+            self.assertEqual(numbers, list(range(1, 21)))
+            with self.fake() as index:
+                self.assertEqual(index.stats().documents, stored)
+
+    def test_a_reply_that_is_none(self):
+        for do in ("what is this", "added", "added 01", "! no", "deleted 1"):
+            os.path.exists(self.path) and os.remove(self.path)
+            index = self.fake(say=[3, do])
+            replies = [index.send_add(name, "", "") for name in "abcd"]
+            index.kill()
+            self.assertEqual([reply.answered for reply in replies[2:]], [False, False])
+            index = self.fake(say=[1, do])
+            with self.assertRaises(buncocedar.ProtocolFault):
+                index.add("z", "", "")
+            with self.assertRaises(buncocedar.ProtocolFault):
+                index.stats()
+            index.close()
+
+    def test_killing(self):
+        with self.fake(silent=3, mark=self.mark) as index:
+            replies = [index.send_add(name, "", "") for name in "abcd"]
+            until(lambda: os.path.exists(self.mark))
+            index.kill()
+            self.assertEqual([reply.answered for reply in replies], [True, True, False, False])
+            with self.assertRaises(buncocedar.Ended):
+                replies[2].result()
+
+    def test_interrupts(self):
+        # A program that answers no more, and a caller that is interrupted while it waits.
+        script = (
+            "import sys; sys.path.insert(0, sys.argv[1]); from buncocedar import Index\n"
+            "index = Index(sys.argv[2], create=True, program=sys.argv[3])\n"
+            "replies = [index.send_add(name, '', '') for name in 'abcd']\n"
+            "try:\n    index.settle()\n"
+            "except KeyboardInterrupt:\n    print([reply.answered for reply in replies], index.under_way())\n"
+        )
+        process = subprocess.Popen(
+            [sys.executable, "-c", script, os.path.join(TOP, "client"), self.path, FAKE],
+            env={**os.environ, "FAKE": json.dumps({"silent": 3, "mark": self.mark})},
+            stdout=subprocess.PIPE,
+        )
+        until(lambda: os.path.exists(self.mark))
+        process.send_signal(signal.SIGINT)
+        out, _ = process.communicate(timeout=PATIENCE)
+        self.assertEqual(out, b"[True, True, False, False] 0\n")
+
+    def test_locks(self):
+        with self.fake() as index:
+            with self.assertRaises(buncocedar.InUse):
+                Index(self.path, program=FAKE, patience=0)
+            index.add("a", "", "")
+        with self.fake() as index:
+            self.assertEqual(index.stats().documents, 1)
+        # The program of a client that was killed keeps the lock as long as it runs.
+        script = (
+            "import sys; sys.path.insert(0, sys.argv[1]); from buncocedar import Index\n"
+            "Index(sys.argv[2], program=sys.argv[3]).add('b', '', '')\n"
+        )
+        process = subprocess.Popen(
+            [sys.executable, "-c", script, os.path.join(TOP, "client"), self.path, FAKE],
+            env={**os.environ, "FAKE": json.dumps({"silent": 1, "mark": self.mark})},
+        )
+        until(lambda: os.path.exists(self.mark))
+        process.kill()
+        process.wait()
+        with self.assertRaises(buncocedar.InUse):
+            Index(self.path, program=FAKE, patience=0.1)
+        with open(self.mark) as file:
+            os.kill(int(file.read()), signal.SIGKILL)
+        self.fake().close()
+
+
+class RealProgram(Case):
+    """What the program itself answers, as far as it is built."""
+
+    def setUp(self):
+        if PROGRAM is None:
+            self.skipTest("no program")
+        super().setUp()
+
+    def index(self):
+        return Index(self.path, create=True, program=PROGRAM)
+
+    def test_documents_and_queries(self):
+        with self.index() as index:
+            self.assertEqual(index.add("a", "Red Fox", "the quick red fox"), 1)
+            self.assertEqual(index.add("b", "Fox", "quick\nbrown\tdog"), 2)
+            self.assertEqual(index.add("s", "", "Stra\u00dfe \0 \udcff"), 3)
+            for query, rows in [
+                ("fox", [(1, "a"), (2, "b")]),
+                ('"red fox" NOT brown', [(1, "a")]),
+                ("qui* OR dog", [(1, "a"), (2, "b")]),
+                ("strasse", [(3, "s")]),
+                ("quick NEAR/1 brown", [(2, "b")]),
+                ("name:b", [(2, "b")]),
+                ("NOT name:! OR name:!", [(1, "a"), (2, "b"), (3, "s")]),
+                ("zebra", []),
+            ]:
+                self.assertEqual(list(index.search(query)), rows)
+                self.assertEqual(index.count(query), len(rows))
+            self.assertEqual(index.explain("red AND\nfox").split("\n")[:2], ['"red" "fox"', "found D Wred Wfox"])
+            self.assertEqual(index.delete("a"), 1)
+            with self.assertRaises(buncocedar.NameTaken):
+                index.add("b", "", "")
+            with self.assertRaises(buncocedar.NoSuchDocument):
+                index.delete("a")
+            self.assertEqual(index.stats(), (2, 5, 4))
+        with self.index() as index:
+            self.assertEqual(index.stats(), (2, 5, 4))
+
+    def test_faults_of_queries(self):
+        with self.index() as index:
+            for query, place, cause, column in [
+                ("", 0, "Empty", 0),
+                ("fox !!", 4, "Word", 4),
+                ("q*", 0, "Prefix", 0),
+                ("red NEAR/0 fox", 4, "Near", 4),
+                ("name:", 0, "Name", 0),
+                ('red "fox', 4, "Quote", 4),
+                ("(fox", 4, "Paren", 4),
+                ("fox OR", 6, "Operand", 6),
+                ("NOT " * 33 + "a", 128, "Deep", 60),
+                ("a " * 65, 128, "Many", 60),
+                ("\u65e5\u672c\u8a9e stra\u00dfe )", 18, "Paren", 14),
+            ]:
+                for call in (index.search, index.count, index.explain):
+                    with self.assertRaises(buncocedar.QueryFault) as raised:
+                        call(query)
+                    fault = raised.exception
+                    self.assertEqual((fault.place, fault.cause), (place, cause), query)
+                    self.assertEqual(str(fault).split("\n")[2], " " * (column + 2) + "^", query)
+
+    def test_limits(self):
+        with self.index() as index:
+            body = "x " * 40_000
+            with self.assertRaises(buncocedar.LineTooLong):
+                index.add("a", "", body)
+            self.assertEqual(index.add("a", "", body, cut=True).dropped, 80_000 - 65_527)
+            self.assertEqual(index.count("x"), 1)
+
+    def test_pipelined(self):
+        with self.index() as index:
+            outcomes = [outcome for _, outcome in index.add_all((f"n{i}", "", "x") for i in range(2000))]
+            self.assertEqual(outcomes, list(range(1, 2001)))
+            self.assertEqual(len(list(index.search("x"))), 2000)
+
+    def test_ends(self):
+        with self.assertRaises(buncocedar.NoIndex):
+            Index(self.path, program=PROGRAM)
+        self.index().close()
+        with open(self.path, "r+b") as file:
+            file.seek(8192)
+            file.write(b"\xa5\xff\xff\xff\xff")
+        with self.assertRaises(buncocedar.Damaged) as raised:
+            self.index()
+        self.assertEqual(raised.exception.place, 8193)
+
+    def test_killed(self):
+        index = self.index()
+        replies = [index.send_add(f"n{i}", "", "x") for i in range(60)]
+        replies[20].result()
+        index.kill()
+        answered = sum(reply.answered for reply in replies)
+        self.assertGreaterEqual(answered, 21)
+        with self.index() as index:
+            rows = list(index.search("x"))
+            # Each line is answered before the next is looked at, so at most one is done without an answer.
+            self.assertIn(len(rows), (answered, answered + 1))
+            self.assertEqual(rows, [(i + 1, f"n{i}") for i in range(len(rows))])
+
+
+def main():
+    global PROGRAM
+    faulthandler.dump_traceback_later(10 * PATIENCE, exit=True)
+    words = sys.argv[1:]
+    if words[:1] == ["--program"]:
+        PROGRAM = os.path.abspath(words[1])
+        words = words[2:]
+    else:
+        print("client: without the real program", file=sys.stderr)
+    unittest.main(argv=[sys.argv[0], *words])
+
+
+if __name__ == "__main__":
+    main()

@@ -1,0 +1,209 @@
+#!/usr/bin/env python3
+"""A program that speaks the lines of the index program, and misbehaves as it is told: for the tests of the client.
+
+It takes the words `PATH init` and `PATH run`, and keeps what it stores as lines of the file. A search finds the documents
+that have all words of the query, and one with `NOT name:!` all. The variable FAKE has what it is to do, as
+JSON:
+
+room N      ends with status 8 at the document that would be stored as the N+1st
+end [N, S]  ends with status S (a signal, where it is below 0) in place of the N+1st reply
+done        then stores first what that line asks for
+cut         then gives the first half of that reply
+slow        gives its replies in pieces of one byte
+hold N      gives no reply before it has read N lines more, or the end
+silent N    gives no reply after the Nth, and takes no further line
+say [N, R]  gives R in place of the N+1st reply, and does not do what its line asks for
+old         does not know the commands that are built last
+loud        says something on its standard error for each line
+mark PATH   makes this file when it falls silent, with its process number
+"""
+
+import atexit
+import json
+import os
+import shutil
+import signal
+import sys
+import tempfile
+import time
+
+STATUS_LINES = {
+    1: "alta: usage: alta_cli PATH init | run | demo N",
+    2: "alta: disk fault",
+    3: "alta: input fault",
+    4: "alta: output fault",
+    5: "alta: out of memory",
+    6: "alta: damaged at 8193",
+    7: "alta: no index",
+    8: "alta: full, need 321, greatest gap 123",
+    9: "alta: input too long",
+    10: "alta: index exists",
+}
+DO = json.loads(os.environ.get("FAKE", "{}"))
+
+
+def end(status):
+    sys.stdout.flush()
+    if status < 0:
+        os.kill(os.getpid(), -status)
+    if status in STATUS_LINES:
+        print(STATUS_LINES[status], file=sys.stderr, flush=True)
+    os._exit(status)
+
+
+def installed():
+    """The path of a copy that this Python runs itself, without looking for one: it starts sooner so."""
+    folder = tempfile.mkdtemp()
+    atexit.register(shutil.rmtree, folder)
+    path = os.path.join(folder, "fake")
+    with open(__file__) as source, open(path, "w") as copy:
+        copy.write(source.read().replace("#!/usr/bin/env python3", f"#!{sys.executable} -SE", 1))
+    os.chmod(path, 0o755)
+    return path
+
+
+class Store:
+    def __init__(self, path):
+        self.file = open(path, "r+b")
+        if self.file.readline() != b"fake\n":
+            end(7)
+        self.documents = {}
+        self.stored = 0
+        for line in self.file:
+            self.replay(line.rstrip(b"\n"))
+        self.cursors = {}
+
+    def replay(self, line):
+        word, _, rest = line.partition(b" ")
+        if word == b"add":
+            name, title, body = rest.split(b"\t", 2)
+            self.stored += 1
+            self.documents[name.decode()] = (self.stored, f"{title.decode()} {body.decode()}".lower().split())
+        else:
+            del self.documents[rest.decode()]
+
+    def commit(self, line):
+        os.write(self.file.fileno(), line + b"\n")
+        self.replay(line)
+
+    def found(self, query):
+        words = query.lower().split()
+        every = "NOT name:!" in query
+        rows = [
+            f"{number} {name}"
+            for name, (number, text) in self.documents.items()
+            if every or all(word in text for word in words)
+        ]
+        return sorted(rows, key=lambda row: int(row.split()[0]))
+
+    def reply(self, line):
+        """The reply lines; the line is done first."""
+        if len(line) > 65_535:
+            return ["! line too long"]
+        word, blank, rest = line.decode().partition(" ")
+        if word in ("flush", "merge", "step", "open", "fetch", "close") and DO.get("old"):
+            return ["! unknown command"]
+        if word == "add":
+            name = rest.split("\t")[0]
+            if name in self.documents:
+                return ["! name taken"]
+            if self.stored >= DO.get("room", 1 << 32):
+                end(8)
+            self.commit(line)
+            return [f"added {self.stored}"]
+        if word == "delete":
+            if rest not in self.documents:
+                return ["! no such document"]
+            number = self.documents[rest][0]
+            self.commit(line)
+            return [f"deleted {number}"]
+        if word in ("search", "count", "open", "explain"):
+            if rest.startswith("fault "):
+                _, place, cause = rest.split(" ")[:3]
+                return [f"! query {place} {cause}"]
+            rows = self.found(rest)
+            if word == "search":
+                return rows + [f"found {len(rows)}"]
+            if word == "count":
+                return [f"found {len(rows)}"]
+            if word == "explain":
+                return [f'"{rest}"', f"found D W{rest}", "  x1 <= x0"]
+            number = min(set(range(1, 65)) - set(self.cursors), default=None)
+            if number is None:
+                return ["! too many cursors"]
+            self.cursors[number] = rows
+            return [f"cursor {number}"]
+        if word == "fetch":
+            number, count = map(int, rest.split())
+            if number not in self.cursors:
+                return ["! no such cursor"]
+            rows = self.cursors[number]
+            self.cursors[number] = rows[count:]
+            return rows[:count] + ["more" if rows[count:] else "end"]
+        if word == "close":
+            if int(rest) not in self.cursors:
+                return ["! no such cursor"]
+            del self.cursors[int(rest)]
+            return [f"closed {rest}"]
+        if word in ("flush", "merge", "step"):
+            return ["ok"]
+        if word == "stats":
+            words = sum(len(text) for _, text in self.documents.values())
+            return [f"documents {len(self.documents)} words {words} next {self.stored + 1}"]
+        return ["! unknown command"]
+
+
+def give(text):
+    data = text.encode()
+    step = 1 if DO.get("slow") else max(1, len(data))
+    for at in range(0, len(data), step):
+        os.write(1, data[at : at + step])
+
+
+def run(path):
+    store = Store(path)
+    given = 0
+    held = []
+    for line in sys.stdin.buffer:
+        line = line.rstrip(b"\n")
+        if DO.get("loud"):
+            print(f"fake: {len(line)} bytes", file=sys.stderr, flush=True)
+        if "silent" in DO and given >= DO["silent"]:
+            if "mark" in DO:
+                with open(DO["mark"] + ".new", "w") as file:
+                    file.write(str(os.getpid()))
+                os.rename(DO["mark"] + ".new", DO["mark"])
+            while True:
+                time.sleep(60)
+        last = "end" in DO and given >= DO["end"][0]
+        if last and not DO.get("done"):
+            end(DO["end"][1])
+        if "say" in DO and given == DO["say"][0]:
+            reply = DO["say"][1] + "\n"
+        else:
+            reply = "\n".join(store.reply(line)) + "\n"
+        if last:
+            give(reply[: len(reply) // 2] if DO.get("cut") else "")
+            end(DO["end"][1])
+        given += 1
+        held.append(reply)
+        # The first reply, which opens the client, is not held back.
+        if given == 1 or len(held) >= DO.get("hold", 0):
+            give("".join(held))
+            held = []
+    give("".join(held))
+
+
+def main():
+    path, word = sys.argv[1:]
+    if word == "init":
+        if os.path.exists(path) and os.path.getsize(path):
+            end(10)
+        with open(path, "wb") as file:
+            file.write(b"fake\n")
+    else:
+        run(path)
+
+
+if __name__ == "__main__":
+    main()
