@@ -1,2 +1,12 @@
+pub mod Contents
+pub mod Documents
+pub mod Elements
+pub mod Folds
+pub mod Gathered
+mod JoinRows
+pub mod Kept
+pub mod Order
 pub mod Outside
+pub mod Ranges
+pub mod Rises
 pub mod Searches

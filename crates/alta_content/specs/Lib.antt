@@ -1,5 +1,6 @@
 pub mod Cells
 pub mod Joining
+pub mod Laws
 pub mod Lists
 pub mod Parts
 pub mod Rows

@@ -4,6 +4,7 @@
 
 mod content;
 mod document;
+mod laws;
 mod lists;
 mod spans;
 #[cfg(test)]
@@ -11,5 +12,6 @@ mod tests;
 
 pub use content::{Content, TermList};
 pub use document::DocRow;
+pub use laws::joins_keep_contents;
 pub use lists::{DocRows, Locations, TermLists};
-pub use spans::{Span, keep_locations, keep_rows, spans_of};
+pub use spans::{Span, keep_locations, keep_rows, put_locations, spans_of};

@@ -1,5 +1,5 @@
 // The spans of the deleted documents, and what stands outside of them.
-ghost use Rattle.std.specs.Prelude.{◌≡◌, nat_eq, not, IfOk};
+ghost use Rattle.std.specs.Prelude.{◌≡◌, ◌++◌, nat_eq, not, IfOk, OnOk};
 ghost use Rattle.std.specs.List.{filter, list_any};
 ghost use Rattle.std.specs.List.Sorted.{IsSorted};
 ghost use Rattle.std.specs.Ordering.{nat_cmp};
@@ -19,7 +19,7 @@ pub struct Span {
 
 impl Span {
     /// The locations of the row's document.
-    fn of(row: &DocRow) -> Span
+    pub fn of(row: &DocRow) -> Span
         requires { IsPlaced row.now }
         ensures { result ≡ span_of row.now }
     {
@@ -87,4 +87,25 @@ pub fn keep_locations(locations: &mut Vec<Loc>, spans: &[Span])
         return;
     }
     locations.retain(|location| !within(spans, *location));
+}
+
+/// Appends the locations outside of the spans.
+pub fn put_locations(
+    all: &mut Vec<Loc>,
+    locations: &[Loc],
+    spans: &[Span],
+) -> Result<(), AllocError>
+    requires { SpansRise spans.now }
+    ensures { OnOk result (all.new.items ≡ all.old.items ++ outside_of spans.now locations.now) }
+{
+    if spans.is_empty() {
+        all.extend_from_slice(locations)?;
+        return Ok(());
+    }
+    for location in locations {
+        if !within(spans, *location) {
+            all.push(*location)?;
+        }
+    }
+    Ok(())
 }

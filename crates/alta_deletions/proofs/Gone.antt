@@ -14,7 +14,7 @@ use Rattle.std.proofs.lemmas.List.Elements.{filter_agree}
 use Rattle.alta_codec.specs.Rising.{IsRising}
 use Rattle.alta_deletions.specs.Ends.{without_ends}
 use Rattle.alta_deletions.proofs.Places.{Found}
-use Rattle.alta_deletions.proofs.Rises.{filter-rises}
+use Rattle.alta_content.proofs.Rises.{filter-rises}
 
 at_any : (xs : List ℕ) (k x d : ℕ) → k < length xs → (get_or xs k 0 ≡ x → ⊥) → nat_eq (get_or xs k d) x ≡ false
 at_any xs k x d l h = rw (get_or_default xs k d 0 l) (ne_eqb (get_or xs k 0) x h)

@@ -1,3 +1,2 @@
 pub mod Gone
 pub mod Places
-pub mod Rises

@@ -15,7 +15,7 @@ use Rattle.std.proofs.lemmas.List.Sorted.{searched}
 use Rattle.alta_codec.specs.declared.location.TheConstants.{TOP}
 use Rattle.alta_codec.specs.Rising.{IsRising}
 use Rattle.alta_deletions.specs.Ends.{with_end}
-use Rattle.alta_deletions.proofs.Rises.{RisesAbove, above_from_rising, above_each, rising_from_above, filter-yes, filter-no, filter-has, filter-keeps, Contains-head, Contains-tail, Contains-cases}
+use Rattle.alta_content.proofs.Rises.{RisesAbove, above_from_rising, above_each, rising_from_above, filter-yes, filter-no, filter-has, filter-keeps, Contains-head, Contains-tail, Contains-cases}
 
 none_below : (e low : ℕ) (xs : List ℕ) → e ≤ low → RisesAbove low xs → filter (λ x. nat_lt x e) xs ≡ []
 none_below e low [] h r = refl
