@@ -1,5 +1,5 @@
 -- One location more in a stream, and the place of its block.
-use Rattle.std.proofs.Common.{◌≡◌, ⊎_elim, ℕ, zero, suc, ◌+◌, ◌-◌, ◌*◌, ◌%◌, ◌<◌, List, [], ◌∷◌, ◌++◌, length, take, get_or, sym, subst, ap, ◌∙◌, arith, length-append, append_assoc, append-nil}
+use Rattle.std.proofs.Common.{◌≡◌, ⊎_elim, ℕ, zero, suc, ◌+◌, ◌-◌, ◌*◌, ◌%◌, ◌<◌, List, [], ◌∷◌, ◌++◌, length, take, get_or, refl, sym, subst, ap, ◌∙◌, arith, length-append, append_assoc, append-nil}
 use Rattle.std.proofs.lemmas.Bool.{cases_lt}
 use Rattle.std.proofs.lemmas.List.{get_or_append_left, get_or-append-add}
 use Rattle.alta_codec.specs.Numbers.{number_bytes}
@@ -20,6 +20,18 @@ stream_more k before x xs old new l o b n =
     let e : suc k ≡ k + 1 = omega arith in
     n ∙ ap (λ t. t ++ number_bytes (get_or xs k 0 - before)) o ∙ ap (λ (y : ℕ). stream_bytes 0 (take k xs) ++ number_bytes (get_or xs k 0 - y)) b
     ∙ sym (stream_suc 0 k xs l) ∙ ap (λ i. stream_bytes 0 (take i xs)) e
+
+pub stream_none : (xs old : List ℕ) → old ≡ old ++ stream_bytes 0 (take 0 xs)
+unfolding stream_bytes
+stream_none xs old = sym (append-nil old)
+
+-- the same behind bytes that stand already
+pub append_more : (k before : ℕ) (xs start old new : List ℕ) → k < length xs → old ≡ start ++ stream_bytes 0 (take k xs) → before ≡ get_or (0 ∷ xs) k 0
+    → new ≡ old ++ number_bytes (get_or xs k 0 - before) → new ≡ start ++ stream_bytes 0 (take (k + 1) xs)
+append_more k before xs start old new l o b n =
+    let s = stream_bytes 0 (take k xs) in
+    let e = number_bytes (get_or xs k 0 - before) in
+    n ∙ ap (λ t. t ++ e) o ∙ append_assoc start s e ∙ ap (λ t. start ++ t) (stream_more k before 0 xs s (s ++ e) l refl b refl)
 
 pub last_more : (k : ℕ) (xs : List ℕ) → get_or xs k 0 ≡ get_or (0 ∷ xs) (k + 1) 0
 last_more k xs = let e : suc k ≡ k + 1 = omega arith in ap (λ i. get_or (0 ∷ xs) i 0) e

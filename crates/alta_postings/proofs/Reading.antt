@@ -224,6 +224,17 @@ shows_top s at before n e bytes l h p t =
 pub shows_code : (s : List ℕ) (at before : ℕ) (f : CodeFault) → at < length s → number_from 9 at (drop at s) ≡ Err f → fault_from at 0 before (drop at s) ≡ Some (fault_at at (cause_of f))
 shows_code s at before f l h = fault_code at before (drop at s) f (omega (arith, length-drop at s)) h
 
+-- what a number of bytes that spell a list is: not 0, and no way to TOP
+pub record IsSound (before n : ℕ) : Type 0 where
+  pub positive : 0 < n
+  pub low : before + n < TOP
+
+pub sound_at : (s : List ℕ) (at before n e : ℕ) → AreBytes s → at < length s → number_from 9 at (drop at s) ≡ read_ok n e → fault_from at 0 before (drop at s) ≡ None
+    → IsSound before n
+sound_at s at before n e bytes l h none =
+    let r = next_number at before (drop at s) n e (bytes_behind s at bytes) h none in
+    record { positive = r.positive; low = r.low }
+
 -- bytes with a fault spell no list
 pub no_list : (bs xs : List ℕ) (f : StreamFault) → first_fault bs ≡ Some f → Spells bs xs → ⊥
 no_list bs xs f h s = let w : Some f ≡ None = sym h ∙ (spelling_reads bs xs s).0 in cc

@@ -11,7 +11,8 @@ mod stream;
 mod tests;
 
 pub use block::{BlockSpan, scan_block};
-pub use coding::{Coded, encode};
+pub use coding::{Coded, encode, mark, put_stream};
 pub use fault::{StreamCause, StreamFault};
 pub use places::Places;
+pub use step::read_location;
 pub use stream::Stream;

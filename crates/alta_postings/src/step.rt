@@ -67,7 +67,8 @@ pub fn read_location(bytes: &[u8], at: usize, before: u64) -> Result<(u64, usize
     }
 }
 
-/// The location that is spelled at a place of a stream, behind the location `before`, and the place after it.
+/// The location that is spelled at a place of a stream, behind the location `before`, and the place after it. Bytes that
+/// spell a list have no difference of 0 and none that leads to `TOP`, so neither is tested.
 #[inline(always)]
 pub fn next_location(bytes: &[u8], at: usize, before: u64) -> (u64, usize)
     requires within { at < length bytes.now }
@@ -75,8 +76,8 @@ pub fn next_location(bytes: &[u8], at: usize, before: u64) -> (u64, usize)
     requires spelled { fault_from at 0 before (drop at bytes.now) ≡ None }
     ensures { IsStep bytes.now at before result.0 result.1 }
 {
-    match read_location(bytes, at, before) {
-        Ok(step) => step,
-        Err(_) => (before, at),
+    match number_at(bytes, at) {
+        Ok((difference, next)) => (before + difference, next),
+        Err(_fault) => (before, at),
     }
 }
