@@ -22,7 +22,7 @@ use Rattle.alta_memlevel.specs.Added.{Added, places_of, list_of, IsSpace, HasCon
 use Rattle.alta_memlevel.proofs.Contents.{list_of_rises}
 
 -- ---- rows
-rows_live : (deleted : List ℕ) (added : List Added) → map (λ a. a.row) (live_of deleted added) ≡ filter (λ r. not (ends_among deleted r)) (map (λ a. a.row) added)
+pub rows_live : (deleted : List ℕ) (added : List Added) → map (λ a. a.row) (live_of deleted added) ≡ filter (λ r. not (ends_among deleted r)) (map (λ a. a.row) added)
 rows_live deleted [] = refl
 rows_live deleted (a ∷ more) =
     ⊎_elim

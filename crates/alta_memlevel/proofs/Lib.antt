@@ -1,5 +1,13 @@
+pub mod Behind
+pub mod Cells
+mod ContentRows
 pub mod Contents
 pub mod Drained
 pub mod Keyed
+pub mod Live
+pub mod Made
 pub mod Moved
+pub mod One
+pub mod Part
 pub mod Prefixes
+pub mod Read

@@ -1,2 +1,4 @@
 pub mod Added
+pub mod Documents
+pub mod Laws
 pub mod Lists

@@ -1,10 +1,12 @@
 //! The newest documents as an inverted index in memory.
 #![tactic(auto)]
 
+mod laws;
 mod level;
 mod lists;
 mod moving;
 #[cfg(test)]
 mod tests;
 
+pub use laws::drained_documents_are_kept;
 pub use level::MemLevel;
