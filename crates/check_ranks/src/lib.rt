@@ -1,0 +1,5 @@
+//! Scores of documents by readers of plain lists.
+#![tactic(auto)]
+
+#[cfg(test)]
+mod tests;
