@@ -3,7 +3,7 @@
 
 usage: bench/adds.py [--program PATH] [--lines FILE] [--count N] [--folder FOLDER]
 
-FILE has `add` lines, as the scripts of examples/ write them; without one, lines of about 400 bytes are made. Both the
+FILE has `add` lines, as `examples/packages.py - /var/lib/dpkg/status` writes them; without one, lines of about 400 bytes are made. Both the
 program and the loop write to files in FOLDER (a new one in the current folder by default, so that both are on the same
 file system): a record behind its gate, a data sync, the gate, a data sync.
 
@@ -101,7 +101,7 @@ def main():
     else:
         lines = list(made_lines(options.count))
     records = [record_of(line) for line in lines]
-    fitting = [end for end in itertools.accumulate(map(len, records)) if end < JOURNAL_BYTES - 1]
+    fitting = [end for end in itertools.accumulate(map(len, records)) if end < JOURNAL_BYTES]
     lines, records = lines[: len(fitting)], records[: len(fitting)]
     data = b"".join(lines)
     print(f"{len(lines)} documents, {len(data)} bytes of input")

@@ -3,7 +3,7 @@
 
 usage: bench/searches.py [--program PATH] [--lines FILE] [--count N] [--repeat N]
 
-FILE has `add` lines, as the scripts of examples/ write them. As many of its first N documents as fit in one journal half go
+FILE has `add` lines, as `examples/packages.py - /var/lib/dpkg/status` writes them. As many of its first N documents as fit in one journal half go
 into a new index of the program and into a new FTS5 table of Python's sqlite3, whose words are cut by its `unicode61`. Each
 query is asked so many times in one run of the program, and as often of SQLite; the time of the same run without it is
 taken off. Prints the milliseconds a query of both, and what both count; the counts differ where the two cut words in
@@ -35,9 +35,9 @@ QUERIES = [
 
 
 def fitting(lines):
-    """As many of the lines as one journal half has room for: a record has 10 bytes more than its line."""
-    sizes = itertools.accumulate(len(line) + 10 for line in lines)
-    return [line for line, size in zip(lines, sizes) if size < JOURNAL_BYTES - 1]
+    """As many of the lines as one journal half has room for: a record has eight bytes more than its line and newline."""
+    sizes = itertools.accumulate(len(line) + 8 for line in lines)
+    return [line for line, size in zip(lines, sizes) if size < JOURNAL_BYTES]
 
 
 def run(program, path, data):

@@ -883,7 +883,10 @@ def _holds_bytes(path):
 
 
 def _make(program, path):
-    """Makes an index at the path: whole, or not at all. Where it is stopped, a folder of an odd name may stay."""
+    """Makes an index at the path: whole, or not at all. Where it is stopped, a folder of an odd name may stay.
+
+    Where another client has made one meanwhile, that one stays.
+    """
     folder = os.path.dirname(os.path.abspath(path))
     with tempfile.TemporaryDirectory(prefix=".making-", dir=folder) as place:
         fresh = os.path.join(place, "index.alta")
@@ -902,12 +905,32 @@ def _make(program, path):
             process.stderr.close()
         if status != 0:
             raise _ended(status, said.line)
-        os.rename(fresh, path)
+        if os.path.exists(path):
+            _replace_empty(fresh, path)
+        else:
+            _put(fresh, path)
     handle = os.open(folder, os.O_RDONLY)
     try:
         os.fsync(handle)
     finally:
         os.close(handle)
+
+
+def _put(fresh, path):
+    """Moves a file to a path where there is none."""
+    try:
+        os.link(fresh, path)
+    except FileExistsError:
+        pass
+    except OSError:
+        # The file system has no links.
+        os.rename(fresh, path)
+
+
+def _replace_empty(fresh, path):
+    """Moves a file to the place of an empty one."""
+    if not _holds_bytes(path):
+        os.replace(fresh, path)
 
 
 def _locked(path, patience):

@@ -231,7 +231,12 @@ class Calls(Case):
         with open(self.path) as file:
             self.assertEqual(file.read(), "my notes\n")
         open(self.path, "w").close()
-        self.fake().close()
+        with self.fake() as index:
+            index.add("a", "", "")
+        # Where one was made meanwhile, it stays.
+        buncocedar._make(FAKE, self.path)
+        with self.fake() as index:
+            self.assertEqual(index.stats().documents, 1)
         self.assertEqual(os.listdir(self.folder.name), ["x.alta"])
         with self.assertRaises(OSError):
             Index(self.path, program=os.path.join(self.folder.name, "nothing"))
@@ -455,6 +460,56 @@ class RealProgram(Case):
         with self.assertRaises(buncocedar.Damaged) as raised:
             self.index()
         self.assertEqual(raised.exception.place, 8193)
+        with self.assertRaises(buncocedar.DiskFault):
+            Index(self.folder.name, program=PROGRAM)
+
+    def test_full(self):
+        # The records of the documents and the first gate fill the half to its last byte but the gap.
+        with self.index() as index:
+            sizes = [len(buncocedar.add_line(f"n{i}", "", "x" * 50_000)[0]) + 8 for i in range(30)]
+            outcomes = []
+            with self.assertRaises(buncocedar.Full) as raised:
+                for name, outcome in index.add_all((f"n{i}", "", "x" * 50_000) for i in range(30)):
+                    outcomes.append(outcome)
+        count = len(outcomes)
+        self.assertEqual(outcomes, list(range(1, count + 1)))
+        self.assertEqual(raised.exception.need, sizes[count])
+        self.assertEqual(sum(sizes[:count]) + 1 + raised.exception.gap, 1_048_576)
+        with self.index() as index:
+            self.assertEqual(index.stats().documents, count)
+
+    def known(self, call):
+        """What a call answers that the program may not know yet."""
+        try:
+            return call()
+        except buncocedar.UnknownCommand as refusal:
+            self.skipTest(str(refusal))
+
+    def test_upkeep(self):
+        with self.index() as index:
+            for name in "ab":
+                index.add(name, "", "quick")
+            self.assertIsNone(self.known(index.flush))
+            self.assertIsNone(self.known(lambda: index.step(1)))
+            self.assertIsNone(self.known(index.merge))
+            self.assertEqual(list(index.search("quick")), [(1, "a"), (2, "b")])
+
+    def test_cursors(self):
+        with self.index() as index:
+            for name in "ab":
+                index.add(name, "", "quick")
+            cursor = self.known(lambda: index.cursor("quick"))
+            index.delete("a")
+            self.assertEqual(cursor.page(1), ([(1, "a")], True))
+            self.assertEqual(cursor.page(5), ([(2, "b")], False))
+            self.assertEqual(cursor.page(5), ([], False))
+            cursor.close()
+            with self.assertRaises(buncocedar.NoSuchCursor):
+                cursor.page(1)
+            cursors = [index.cursor("quick") for _ in range(64)]
+            with self.assertRaises(buncocedar.TooManyCursors):
+                index.cursor("quick")
+            self.assertEqual([cursor.number for cursor in cursors], list(range(1, 65)))
 
     def test_killed(self):
         index = self.index()

@@ -49,6 +49,20 @@ def until(done):
         time.sleep(0.01)
 
 
+def read_all(terminal):
+    """What is shown on a terminal until its other end is closed."""
+    shown = b""
+    while True:
+        try:
+            data = os.read(terminal, 4096)
+        except OSError:
+            data = b""
+        if not data:
+            os.close(terminal)
+            return shown.decode()
+        shown += data
+
+
 class Case(unittest.TestCase):
     program = FAKE
 
@@ -377,19 +391,10 @@ class Folders(Case):
         ours, theirs = pty.openpty()
         process = self.start("folder.py", self.path, notes, stderr=theirs)
         os.close(theirs)
-        said = b""
-        while True:
-            try:
-                data = os.read(ours, 4096)
-            except OSError:
-                break
-            if not data:
-                break
-            said += data
+        said = read_all(ours)
         process.communicate(timeout=PATIENCE)
-        os.close(ours)
-        self.assertRegex(said.decode(), r"\r\x1b\[K1 document, 0 stored, [\d,]+ kB a second, 0 refused")
-        self.assertRegex(said.decode(), r"\r\x1b\[Kfolder: 50 documents: 50 added\r\n$")
+        self.assertRegex(said, r"\r\x1b\[K1 document, 0 stored, [\d,]+ kB a second, 0 refused")
+        self.assertRegex(said, r"\r\x1b\[Kfolder: 50 documents: 50 added\r\n$")
 
 
 LETTER = b"""From a@b Mon Jan  1 00:00:00 2024
@@ -571,6 +576,27 @@ class Find(Case):
             said = self.run_script("find.py", self.path, stdin=file)
         self.assertEqual(self.out, "1 c.txt\nfound 1\nfound 0\n1 c.txt\nfound 1\n")
         self.assertIn("! query 0 Word", said)
+
+    def test_terminal(self):
+        for number in range(25):
+            self.write(f"notes/{number:02}", "quick")
+        self.run_script("folder.py", self.path, self.at("notes"))
+        ours, theirs = pty.openpty()
+        process = self.start("find.py", self.path, stdin=theirs, stdout=theirs)
+        os.close(theirs)
+        shown = ""
+        for typed in (b"quick\n", b"fault 2 Word\n", b"\x04"):
+            # Typed only at the prompt, which sets how the terminal reads.
+            while not shown.endswith("find> "):
+                shown += os.read(ours, 4096).decode()
+            os.write(ours, typed)
+            shown += " "
+        shown += read_all(ours)
+        said = process.communicate(timeout=PATIENCE)[1]
+        self.assertEqual(process.returncode, 2)
+        self.assertIn("find> ", shown)
+        self.assertIn("20 19\r\n... and 5 more\r\nfound 25\r\n", shown)
+        self.assertIn("! query 2 Word", said)
 
 
 class RealProgram(Case):
