@@ -1,0 +1,15 @@
+use Rattle.std.proofs.Common.{◌<◌, get_or, length, ap, arith}
+use Rattle.std.proofs.lemmas.List.{length-map}
+use Rattle.alta_table.specs.Documents.{end_of}
+use Rattle.alta_rows.proofs.Levels.{read_at}
+use Rattle.alta_rows.proofs.level.ends_of.Goals as goal
+
+pub end_of-requires-clause-some : goal.end_of-requires-clause-some
+end_of-requires-clause-some c =
+    let i = c.loop-row.row-index in let d = c.row-item.result in
+    omega (arith, c.requires.positive i (omega (arith, c.loop-row-test.true, length-map c.args.rows.now end_of)), read_at end_of c.args.rows.now i d c.loop-row-test.true, ap end_of c.row-item.is)
+
+pub end_of-requires-clause-below : goal.end_of-requires-clause-below
+end_of-requires-clause-below c =
+    let i = c.loop-row.row-index in let d = c.row-item.result in
+    omega (arith, c.requires.below i (omega (arith, c.loop-row-test.true, length-map c.args.rows.now end_of)), read_at end_of c.args.rows.now i d c.loop-row-test.true, ap end_of c.row-item.is)

@@ -1,0 +1,35 @@
+-- The rows of several levels, one behind the other, and a walk along them.
+use Rattle.std.specs.Prelude.{◌≡◌, ℕ, ◌+◌, ◌<◌, ◌≤◌, List, [], map, take, length, slice_index, slice_index_or}
+use Rattle.std.specs.List.{flat_map}
+use Rattle.std.specs.declared.alloc.Global.{Global}
+use Rattle.std.specs.declared.rc.Rc.{Rc}
+use Rattle.alta_rows.specs.declared.level.LevelRows.{LevelRows}
+use Rattle.alta_table.specs.Documents.{end_of}
+use Rattle.alta_table.specs.declared.document.DocRow.{DocRow}
+
+-- the rows of a shared level
+abbrev pub rows_in : Rc LevelRows Global → List DocRow
+rows_in level = level.value
+
+-- the rows of all levels
+abbrev pub joined : List (List DocRow) → List DocRow
+joined levels = flat_map (λ rows. rows) levels
+
+-- the ends of documents
+abbrev pub ends_of : List DocRow → List ℕ
+ends_of rows = map end_of rows
+
+-- rows, and how many of them a walk has passed
+pub record Walked : Type 0 where
+  pub rows : List DocRow
+  pub at : ℕ
+
+-- Of each row that was passed the end is below the place.
+abbrev pub IsPast : Walked → ℕ → Type 0
+IsPast w place = (k : ℕ) → k < w.at → slice_index (ends_of w.rows) k < place
+
+-- A place in levels: the number of a level, how many rows the levels before it have, and how many rows of its own stand before the place.
+pub record IsPlace (levels : List (List DocRow)) (number before index : ℕ) : Type 0 where
+  pub level : number ≤ length levels
+  pub passed : before ≡ length (joined (take number levels))
+  pub inside : index ≤ length (slice_index_or levels number [])

@@ -1,0 +1,77 @@
+// The rows of several levels.
+ghost use Rattle.std.specs.Prelude.{◌≡◌, ◌<◌, map, length, slice_get, Some, IfOk};
+ghost use Rattle.alta_codec.specs.Rising.{IsRising};
+ghost use Rattle.alta_rows.specs.All.{rows_in, joined, ends_of};
+
+use crate::level::LevelRows;
+use crate::walk::RowWalk;
+use alta_table::DocRow;
+use std::alloc::{AllocError, Global};
+use std::marker::Model;
+use std::rc::Rc;
+
+/// The rows of all levels, that of the oldest level first, each level's rows shared with whoever else keeps them. All ends rise.
+/// Contracts see the list of all rows.
+#[derive(Drop)]
+pub struct AllRows {
+    levels: Rc<Vec<Rc<LevelRows>>>,
+}
+
+impl Model for AllRows {
+    ghost use Rattle.std.specs.Prelude.{List, map};
+    ghost use Rattle.alta_codec.specs.Rising.{IsRising};
+    ghost use Rattle.alta_rows.specs.All.{rows_in, joined, ends_of};
+    ghost use Rattle.alta_table.specs.declared.document.DocRow.{DocRow};
+
+    ghost Value = { List DocRow };
+
+    ghost view = { λ r. joined (map rows_in r.levels.value.items) };
+
+    ghost invariant = { λ r. IsRising (ends_of (joined (map rows_in r.levels.value.items))) };
+}
+
+impl AllRows {
+    /// The rows of these levels, without a copy. Fails for want of memory alone.
+    pub fn new(alloc: Global, levels: Vec<Rc<LevelRows>>) -> Result<AllRows, AllocError>
+        requires { IsRising (ends_of (joined (map rows_in levels.items))) }
+        ensures { IfOk result (λ r. r ≡ joined (map rows_in levels.items)) }
+    {
+        match Rc::new(alloc, levels) {
+            Ok(levels) => Ok(AllRows { levels }),
+            Err(_) => Err(AllocError),
+        }
+    }
+
+    /// The same rows, shared. Fails for want of memory alone.
+    pub fn share(&self) -> Result<AllRows, AllocError>
+        ensures { IfOk result (λ r. r ≡ self.now) }
+    {
+        Ok(AllRows {
+            levels: self.levels.clone()?,
+        })
+    }
+
+    /// The row at an index.
+    pub fn row(&self, index: usize) -> &DocRow
+        requires { index < length self.now }
+        ensures { slice_get self.now index ≡ Some result.now }
+    {
+        let mut left = index;
+        for level in self.levels.as_slice() {
+            if left < level.len() {
+                return &level.as_slice()[left];
+            }
+            left -= level.len();
+        }
+        unreachable!()
+    }
+
+    /// A walk along the rows, in front of the first.
+    pub fn walk(&self) -> RowWalk<'_>
+        ensures rows { result.rows ≡ self.now }
+        ensures at { result.at ≡ 0 }
+        ensures rising { IsRising (ends_of self.now) }
+    {
+        RowWalk::new(&self.levels)
+    }
+}

@@ -1,0 +1,36 @@
+// A search forward in a rising list, whose cost grows with the distance to the answer alone.
+ghost use Rattle.std.specs.Prelude.{◌≡◌, ℕ, ◌+◌, ◌<◌, ◌≤◌, length, slice_index};
+ghost use Rattle.alta_codec.specs.Rising.{IsRising};
+
+/// The first index whose element is at or above `to`, the length where there is none.
+/// It looks at about 2 log d elements, d being the distance from `from` to the answer.
+pub(crate) fn index_from(list: &[u64], from: usize, to: u64) -> usize
+    requires rising { IsRising list.now }
+    requires within { from ≤ length list.now }
+    requires passed { (k : ℕ) → k < from → slice_index list.now k < to }
+    ensures within { result ≤ length list.now }
+    ensures after { from ≤ result }
+    ensures before { (k : ℕ) → k < result → slice_index list.now k < to }
+    ensures found { result < length list.now → to ≤ slice_index list.now result }
+{
+    let mut low = from;
+    let mut high = from;
+    'gallop: while high < list.len() && list[high] < to {
+        low = high + 1;
+        let distance = high - from;
+        high = if list.len() - low > distance {
+            low + distance
+        } else {
+            list.len()
+        };
+    }
+    'halve: while low < high {
+        let middle = low + (high - low) / 2;
+        if list[middle] < to {
+            low = middle + 1;
+        } else {
+            high = middle;
+        }
+    }
+    low
+}

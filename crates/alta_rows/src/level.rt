@@ -1,0 +1,92 @@
+// The rows of a level.
+ghost use Rattle.std.specs.Prelude.{◌≡◌, ◌<◌, ◌↔◌, [], map, length, IsTrue, IfOk};
+ghost use Rattle.alta_codec.specs.Rising.{IsRising};
+ghost use Rattle.alta_codec.specs.declared.location.TheConstants.{TOP};
+ghost use Rattle.alta_table.specs.Documents.{end_of};
+
+use alta_codec::Loc;
+use alta_table::DocRow;
+use std::alloc::{AllocError, Global};
+use std::marker::Model;
+
+/// The rows of the documents of a level, in rising order of their ends. The ends stand beside them in a list of their own, so
+/// that a look-up reads eight bytes a row. Contracts see the list of rows.
+#[derive(Drop)]
+pub struct LevelRows {
+    rows: Vec<DocRow>,
+    ends: Vec<Loc>,
+}
+
+impl Model for LevelRows {
+    ghost use Rattle.std.specs.Prelude.{List, map, ◌≡◌};
+    ghost use Rattle.alta_codec.specs.Rising.{IsRising};
+    ghost use Rattle.alta_table.specs.Documents.{end_of};
+    ghost use Rattle.alta_table.specs.declared.document.DocRow.{DocRow};
+
+    ghost Value = { List DocRow };
+
+    ghost view = { λ r. r.rows.items };
+
+    ghost invariant = { λ r. (r.ends.items ≡ map end_of r.rows.items) × IsRising (map end_of r.rows.items) };
+}
+
+/// The location of a document's last cell.
+fn end_of(row: &DocRow) -> Loc
+    requires some { 0 < end_of row.now }
+    requires below { end_of row.now < TOP }
+    ensures { result ≡ end_of row.now }
+{
+    row.first + row.cells - 1
+}
+
+/// The ends of the documents.
+fn ends_of(alloc: Global, rows: &[DocRow]) -> Result<Vec<Loc>, AllocError>
+    requires { IsRising (map end_of rows.now) }
+    ensures { IfOk result (λ ends. ends.items ≡ map end_of rows.now) }
+{
+    let mut ends = Vec::with_capacity(alloc, rows.len())?;
+    for row in rows {
+        ends.push(end_of(row))?;
+    }
+    Ok(ends)
+}
+
+impl LevelRows {
+    /// These rows, without a copy. It takes eight bytes a row, and fails for want of memory alone.
+    pub fn new(alloc: Global, rows: Vec<DocRow>) -> Result<LevelRows, AllocError>
+        requires { IsRising (map end_of rows.items) }
+        ensures { IfOk result (λ r. r ≡ rows.items) }
+    {
+        let ends = ends_of(alloc, &rows)?;
+        Ok(LevelRows { rows, ends })
+    }
+
+    /// How many rows there are.
+    pub fn len(&self) -> usize
+        ensures { result ≡ length self.now }
+    {
+        self.rows.len()
+    }
+
+    /// Whether there is no row.
+    pub fn is_empty(&self) -> bool
+        ensures { IsTrue result ↔ (self.now ≡ []) }
+    {
+        self.rows.is_empty()
+    }
+
+    /// The rows, borrowed.
+    pub fn as_slice(&self) -> &[DocRow]
+        ensures { result.now ≡ self.now }
+    {
+        &self.rows
+    }
+
+    /// The ends of the documents.
+    pub(crate) fn ends(&self) -> &[Loc]
+        ensures value { result.now ≡ map end_of self.now }
+        ensures rising { IsRising result.now }
+    {
+        &self.ends
+    }
+}

@@ -1,0 +1,11 @@
+//! The rows of documents, shared by level, and found by where a document ends.
+#![tactic(auto)]
+
+mod all;
+mod gallop;
+mod level;
+mod walk;
+
+pub use all::AllRows;
+pub use level::LevelRows;
+pub use walk::RowWalk;
