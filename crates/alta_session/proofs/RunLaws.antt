@@ -177,6 +177,7 @@ runs_stopped tells limit a b c d la lb lc ld e f h s0 s1 kept taken piece status
       grew = grew_on a b c d run gives (Taken piece) goes.grew took stops.gave.1;
       read = read_on la lb lc ld run gives (Taken piece) piece goes.read more same taken_now;
       too_long = (λ long. absurd (ends_not_long status ends long), λ past. absurd (omega arith));
+      last = λ past. absurd (omega arith);
       each = λ s tell agrees. let one : GoingFrom tells e f s0 s1 run s = goes.each s tell agrees in
           after_from tells limit e f h s0 s1 run gives (Taken piece) stops.given later status s one (stops.each (after s (whole bytes)) tell one.agrees) stops.gave.2 stops.gave.3 refl lines (λ done. absurd (ends_not_done status ends done)) (inl ends);
     }
@@ -198,6 +199,7 @@ runs_past tells limit a b c la lb lc e f s0 s1 kept taken piece lawful goes took
       grew = grew_on a b c c run [] (Taken piece) goes.grew took (grows_none c);
       read = read_on la lb lc lc run [] (Taken piece) piece goes.read more refl taken_now;
       too_long = (λ long. omega (arith, goes.taken_is, ap length taken_now, length-append bytes piece), λ over. refl);
+      last = λ over. record { before = run; piece = piece; run_is = refl; within = goes.within };
       each = λ s tell agrees. let one : GoingFrom tells e f s0 s1 run s = goes.each s tell agrees in
           after_from tells limit e f f s0 s1 run [] (Taken piece) stops.given [] TooLong s one (stops.each (after s (whole bytes)) tell one.agrees) tt refl refl lines (λ done. absurd cc) (inr (omega arith));
     }
@@ -225,6 +227,7 @@ ended_with tells limit a b c d la lb lc ld e f h s0 s1 kept taken status goes to
       grew = grew_on a b c d run gives Ended goes.grew took stops.gave.1;
       read = read_on la lb lc ld run gives Ended [] goes.read more same taken_now;
       too_long = (λ long. absurd (not_long long), λ past. absurd (omega arith));
+      last = λ past. absurd (omega arith);
       each = λ s tell agrees. let one : GoingFrom tells e f s0 s1 run s = goes.each s tell agrees in
           after_from tells limit e f h s0 s1 run gives Ended stops.given later status s one (stops.each (after s (whole bytes)) tell one.agrees) stops.gave.2 stops.gave.3 refl lines (λ done. (ended, all (after s (whole bytes)) tell one.agrees done))
           (ends (after s (whole bytes)) tell one.agrees);
@@ -259,6 +262,7 @@ runs_failed tells limit a b c la lb lc e f s0 s1 kept taken status lawful goes s
       grew = subst (λ (t : Option (List Event)). Grows a t run) (sym same) goes.grew;
       read = subst (λ (l : Option (List ℕ)). Consumes la l bytes) (sym kept_input) goes.read;
       too_long = (λ long. absurd (not_long long), λ past. absurd (omega (arith, goes.within)));
+      last = λ past. absurd (omega (arith, goes.within));
       each = λ s tell agrees. let one : GoingFrom tells e f s0 s1 run s = goes.each s tell agrees in
           runs_from limit e f s0 run status s one.in_time
           (subst (λ (l : List (List ℕ)). Progress s l (given_in run) f.images) (sym lines) (subst (λ (l : List ℕ). Progress s (whole bytes) l f.images) (sym one.given_is) (progress_full s (whole bytes) f.images (images_stand tells f s1.store (after s (whole bytes)) lawful one.agrees))))

@@ -35,6 +35,7 @@ serves_none tells limit told left d e status lawful passes not_done not_long not
   grew = grows_none told;
   read = consumes_none left;
   too_long = (λ long. absurd (not_long long), λ past. absurd (omega arith));
+  last = λ past. absurd (omega arith);
   replies = λ s tell stands. record { begin = ([], refl); all = λ done. absurd (not_done done); in_time = λ k t. absurd t };
   full = λ s room tell stands left. full_exactly room s [] [] status (λ need gap is. absurd (not_full need gap is)) (inr (omega arith));
   keeps = λ s tell stands. record {
@@ -67,6 +68,7 @@ serves_opened tells limit told told_now left left_now d m e session status lawfu
   grew = runs.grew;
   read = runs.read;
   too_long = runs.too_long;
+  last = runs.last;
   replies = λ s tell stands. (runs.each s tell (agrees s tell stands)).replies;
   full = λ s room tell stands left.
       let P : ℕ → Type 0 = λ n. IsFullExactly n s (lines_in limit runs.run) (given_in runs.run) status in

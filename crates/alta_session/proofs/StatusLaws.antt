@@ -1,6 +1,6 @@
 -- Laws of statuses.
 use Rattle.std.proofs.Common.{◌≡◌, ◌≢◌, ◌⊎◌, ℕ, inl, inr, refl, ap, sym, subst, ◌∙◌, Result, Ok, Err}
-use Rattle.alta_session.specs.Status.{EndsLine, EndsRunning, EndsRun, EndsInit, IsOpened, Completes, Yields, status_for}
+use Rattle.alta_session.specs.Status.{EndsLine, EndsRunning, EndsRun, EndsInit, IsOpened, IsUnopened, Completes, Yields, status_for}
 use Rattle.alta_session.specs.declared.status.Status.{Status}
 use Rattle.alta_session.specs.declared.status.Status.TheVariants.{Done, Usage, DiskFault, TakeFault, GiveFault, Memory, Damaged, NoRoot, Full, TooLong, Exists}
 use Rattle.alta_store.specs.Answers.{IsOutside, AnswersFault}
@@ -37,6 +37,10 @@ running_never status (inr (inr (inr (inl is)))) = (λ other. cc, λ other. cc)
 running_never status (inr (inr (inr (inr (inl is))))) = (λ other. cc, λ other. cc)
 running_never status (inr (inr (inr (inr (inr (inl is)))))) = (λ other. cc, λ other. cc)
 running_never status (inr (inr (inr (inr (inr (inr (need, gap, is))))))) = (λ other. cc, λ other. cc)
+
+pub opened_not : (status : Status) → IsOpened status → IsUnopened status → ⊥
+opened_not status opened (inl is) = opened.rooted is
+opened_not status opened (inr (place, is)) = opened.whole place is
 
 -- where no call fails
 pub running_completes : (status : Status) (takes gives disk : Type 0) → EndsRunning status → (status ≡ TakeFault → takes) → (status ≡ GiveFault → gives) → (status ≡ DiskFault → disk) → (takes → ⊥) → (gives → ⊥) → (disk → ⊥) → Completes status

@@ -1,9 +1,10 @@
 -- A whole run of a console and a disk.
-use Rattle.std.specs.Prelude.{◌≡◌, ◌<◌, ◌≤◌, ◌↔◌, ◌⊎◌, ℕ, true, List, [], Option, length, take}
+use Rattle.std.specs.Prelude.{◌≡◌, ◌<◌, ◌≤◌, ◌↔◌, ◌⊎◌, ℕ, true, List, [], ◌∷◌, ◌++◌, Option, length, take}
 use Rattle.alta_console.specs.Lines.{whole}
 use Rattle.alta_console.specs.Replies.{joined, IsPrefix, IsAcked}
 use Rattle.alta_console.specs.Transcript.{given_in, taken_in, has_ended, lines_in, TakesAt, Grows, Consumes}
 use Rattle.alta_console.specs.declared.event.Event.{Event}
+use Rattle.alta_console.specs.declared.event.Event.TheVariants.{Taken}
 use Rattle.alta_disk.specs.Disk.{DiskState, Each, Same, Stands, Passes, LeavesOnly}
 use Rattle.alta_meta.specs.declared.document.State.{State}
 use Rattle.alta_session.specs.Agreement.{AgreesOn, room_in}
@@ -38,6 +39,18 @@ pub record Keeps (limit : ℕ) (start : State) (run : List Event) (disk disk_now
   pub now : Each disk_now.images (KeepsAnswered limit start run)
   pub ever : LeavesOnly (StandsAfterSome start (lines_in limit run)) disk disk_now
 
+-- The content is as it was, where it is told, and no image is new.
+pub record KeepsDisk (tells : Type 0) (disk disk_now : DiskState) : Type 0 where
+  pub content : tells → disk_now.content ≡ disk.content
+  pub images : Passes Same disk disk_now
+
+-- The take that passed the limit is the last event.
+pub record EndsPast (limit : ℕ) (run : List Event) : Type 0 where
+  pub before : List Event
+  pub piece : List ℕ
+  pub run_is : run ≡ before ++ Taken piece ∷ []
+  pub within : length (taken_in before) ≤ limit
+
 -- The run of an open session.
 pub record RunsFrom (limit : ℕ) (disk disk_now : DiskState) (session : Session) (run : List Event) (status : Status) (s : State) : Type 0 where
   pub replies : Replies limit s run status
@@ -49,6 +62,7 @@ pub record Runs (tells : Type 0) (limit : ℕ) (told told_now : Option (List Eve
   pub grew : Grows told told_now run
   pub read : Consumes left left_now (taken_in run)
   pub too_long : (status ≡ TooLong) ↔ (limit < length (taken_in run))
+  pub last : limit < length (taken_in run) → EndsPast limit run
   pub each : (s : State) → tells → AgreesOn tells disk session s → RunsFrom limit disk disk_now session run status s
 
 -- no line was taken, and what the disk may hold now it might have held before
@@ -72,6 +86,7 @@ pub record Serves (tells : Type 0) (limit : ℕ) (told told_now : Option (List E
   pub grew : Grows told told_now run
   pub read : Consumes left left_now (taken_in run)
   pub too_long : (status ≡ TooLong) ↔ (limit < length (taken_in run))
+  pub last : limit < length (taken_in run) → EndsPast limit run
   -- where the content stands for a state
   pub replies : (s : State) → tells → StandsFor s disk.content → Replies limit s run status
   -- and its journal has this room

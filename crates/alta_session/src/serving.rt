@@ -9,8 +9,8 @@ ghost use Rattle.alta_session.specs.Fed.{Fed};
 ghost use Rattle.alta_session.specs.Keeping.{clip};
 ghost use Rattle.alta_session.specs.Fullness.{IsFull};
 ghost use Rattle.alta_session.specs.Progress.{StopsWithin};
-ghost use Rattle.alta_session.specs.Run.{Runs, Serves};
-ghost use Rattle.alta_session.specs.Status.{EndsLine, EndsRunning, IsOpened, Completes, Yields};
+ghost use Rattle.alta_session.specs.Run.{KeepsDisk, Runs, Serves};
+ghost use Rattle.alta_session.specs.Status.{EndsLine, EndsRunning, IsOpened, IsUnopened, Completes, Yields};
 ghost use Rattle.alta_store.specs.Brokenness.{HasNoIndex, IsBrokenAt};
 ghost use Rattle.alta_store.specs.Meaning.{StandsFor};
 
@@ -291,7 +291,8 @@ fn answer_lines<C: Console, D: Disk>(
 }
 
 /// Opens the index of a disk, and answers the command lines of a console until its input ends. No more than `limit`
-/// bytes of input are read, up to 2 to the 40th: the piece that passes the limit ends the run and is not looked at.
+/// bytes of input are read, up to 2 to the 40th: the take that passes the limit is the last, and its piece is not looked
+/// at.
 ///
 /// Each line is answered before the next piece is taken, with the reply of the abstract machine. However the run
 /// ends, what the disk may then hold stands for the state after a prefix of the lines that holds each line whose
@@ -300,7 +301,7 @@ fn answer_lines<C: Console, D: Disk>(
 /// It ends with `Done` where the input was read to its end and every reply was given, `TooLong` where more bytes were
 /// taken than the limit, `DiskFault`, `TakeFault` or `GiveFault` where such a call failed, `Memory` where there was no
 /// memory, `NoRoot` where the disk has no index, `Damaged` where the index breaks a rule of the format, with the first
-/// place that shows it, and `Full` where the record of a line that adds or deletes a document does not fit in what the
+/// place that shows it (after these two nothing was taken or given, and the disk holds what it held), and `Full` where the record of a line that adds or deletes a document does not fit in what the
 /// journal has left behind the lines before it: with the bytes of that record, which are the line's and nine more where it
 /// adds and 14 where it deletes, and those left.
 pub fn serve<C: Console, D: Disk>(
@@ -317,6 +318,8 @@ pub fn serve<C: Console, D: Disk>(
     ensures rooted { D.tells → HasNoIndex (D.state disk.old).content → (result ≡ Status.NoRoot) ⊎ Yields result }
     ensures damaged { (place : ℕ) → D.tells → result ≡ Status.Damaged place → IsBrokenAt (D.state disk.old).content place }
     ensures undamaged { (place : ℕ) → D.tells → IsBrokenAt (D.state disk.old).content place → (result ≡ Status.Damaged place) ⊎ Yields result }
+    // Then console and disk are as they were.
+    ensures unopened { IsUnopened result → (console.new ≡ console.old) × KeepsDisk D.tells (D.state disk.old) (D.state disk.new) }
     // Where the content stands for a state, it is opened.
     ensures stands { (s : State) → D.tells → StandsFor s (D.state disk.old).content → IsOpened result }
     ensures never { (result ≢ Status.Usage) × (result ≢ Status.Exists) }
