@@ -59,6 +59,17 @@ opening_ends e (inl (inr is)) = subst EndsRun (sym is) tt
 opening_ends e (inr (inl is)) = subst EndsRun (sym is) tt
 opening_ends e (inr (inr (place, is))) = subst EndsRun (sym is) tt
 
+-- what a fault of a line becomes
+pub line_ends_run : (e : StoreFault) → IsOutside e ⊎ ((need gap : ℕ) × (e ≡ StoreFull need gap)) → EndsRun e
+line_ends_run e (inl (inl is)) = subst EndsRun (sym is) tt
+line_ends_run e (inl (inr is)) = subst EndsRun (sym is) tt
+line_ends_run e (inr (need, gap, is)) = subst EndsRun (sym is) tt
+
+pub line_ends : (r : Status) (e : StoreFault) → r ≡ status_for e → IsOutside e ⊎ ((need gap : ℕ) × (e ≡ StoreFull need gap)) → EndsLine r
+line_ends r e is (inl (inl memory)) = inl (is ∙ ap status_for memory)
+line_ends r e is (inl (inr disk)) = inr (inl (is ∙ ap status_for disk))
+line_ends r e is (inr (need, gap, full)) = inr (inr (inr (need, gap, is ∙ ap status_for full)))
+
 -- it is not full: nothing was to be written
 pub opening_not_full : (e : StoreFault) (status : Status) (need gap : ℕ) → IsOutside e ⊎ ((e ≡ StoreNoRoot) ⊎ ((place : ℕ) × (e ≡ StoreDamaged place))) → status ≡ status_for e → status ≡ Full need gap → ⊥
 opening_not_full e status need gap (inl (inl is)) for_e full = let same : status_for e ≡ Memory = ap status_for is in cc

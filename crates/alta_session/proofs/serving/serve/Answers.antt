@@ -60,14 +60,8 @@ returns-in-Err-start g c = record {
   same_limit = c.start.ensures.same_limit;
 }
 
-pub answer_lines-requires-clause-sound : goal.answer_lines-requires-clause-sound
-answer_lines-requires-clause-sound g c = c.in-Ok-start.ensures.sound
-
-pub answer_lines-requires-clause-agrees : goal.answer_lines-requires-clause-agrees
-answer_lines-requires-clause-agrees g c = c.in-Ok-start.ensures.some
-
-pub answer_lines-requires-clause-limit : goal.answer_lines-requires-clause-limit
-answer_lines-requires-clause-limit g c = c.in-Ok-start.ensures.limit
+pub answer_lines-requires-clause-can : goal.answer_lines-requires-clause-can
+answer_lines-requires-clause-can g c = c.in-Ok-start.ensures.can
 
 -- it was opened
 pub returns : goal.returns
