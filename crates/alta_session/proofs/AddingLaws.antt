@@ -115,15 +115,15 @@ leaves_adding d d_now name title body s named leaves same =
     ] refl
 
 -- a refusal comes from a name that is taken, or for want of numbers
-added_is_none : (s : State) → IsRefusal (codes "added " ++ decimal s.next ++ codes "\n") → ⊥
-added_is_none s refusal = cc
+pub added_is_none : (n : ℕ) → IsRefusal (codes "added " ++ decimal n ++ codes "\n") → ⊥
+added_is_none n refusal = cc
 
 pub refused_for : (P : Type 0) (name title body : List ℕ) (s : State) → IsName name → (has_name name s ≡ true → P) → ((has_name name s ≡ false) × (4294967296 ≤ s.next) → P) → IsRefusal (adding name title body s).1 → P
 refused_for P name title body s named taken full refusal =
     elim (has_name name s) as (λ b. has_name name s ≡ b → P) [
       | true ↦ taken
       | false ↦ λ free. elim (cases_lt s.next 4294967296) [
-        | inl room ↦ absurd (added_is_none s (subst (λ (p : State × List ℕ). IsRefusal p.1) (adding_added name title body s named free room) refusal))
+        | inl room ↦ absurd (added_is_none s.next (subst (λ (p : State × List ℕ). IsRefusal p.1) (adding_added name title body s named free room) refusal))
         | inr none ↦ full (free, none)
       ]
     ] refl

@@ -93,7 +93,7 @@ leaves_deleting d d_now name s named leaves same =
     ] refl
 
 -- a refusal comes from a name that no document has
-deleted_is_none : (n : ℕ) → IsRefusal (codes "deleted " ++ decimal n ++ codes "\n") → ⊥
+pub deleted_is_none : (n : ℕ) → IsRefusal (codes "deleted " ++ decimal n ++ codes "\n") → ⊥
 deleted_is_none n refusal = cc
 
 pub missing_for : (P : Type 0) (name : List ℕ) (s : State) → IsName name → (has_name name s ≡ false → P) → IsRefusal (deleting name s).1 → P

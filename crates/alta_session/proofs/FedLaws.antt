@@ -7,12 +7,11 @@ use Rattle.alta_console.proofs.GivingLaws.{gives_on, gives_none}
 use Rattle.alta_console.proofs.ReplyLaws.{joined_append}
 use Rattle.alta_disk.specs.Disk.{DiskState, LeavesOnly, IsLawful, Each}
 use Rattle.alta_disk.proofs.Moments.{leaves_start, leaves_then, leaves_as}
-use Rattle.alta_meta.specs.declared.document.State.{State}
 use Rattle.alta_session.specs.Agreement.{AgreesOn, room_in}
 use Rattle.alta_session.specs.Fed.{Fed, FedFrom}
 use Rattle.alta_session.specs.Fullness.{record_bytes, IsFullOnly}
 use Rattle.alta_session.specs.Keeping.{clip}
-use Rattle.alta_session.specs.Machine.{step, after, replies}
+use Rattle.alta_session.specs.Machine.{Machine, step, after, replies}
 use Rattle.alta_session.specs.Progress.{StandsAfterSome, Progress, StopsWithin, StopsWithinFrom}
 use Rattle.alta_session.specs.declared.session.Session.{Session}
 use Rattle.alta_session.specs.declared.status.Status.{Status}
@@ -27,31 +26,31 @@ use Rattle.alta_store.proofs.Agreements.{images_stand}
 pub leaves_now : (tells : Type 0) (a b : DiskState) (P : List ℕ → Type 0) → IsLawful tells b → LeavesOnly P a b → Each b.images P
 leaves_now tells a b P lawful leaves = λ c here. leaves.each c (lawful.counts_now a.clock c leaves.later here)
 
--- from one state on, images of lines and then of more
-pub leaves_on : (a b c : DiskState) (s : State) (xs ys : List (List ℕ)) → LeavesOnly (StandsAfterSome s xs) a b → LeavesOnly (StandsAfterSome (after s xs) ys) b c → LeavesOnly (StandsAfterSome s (xs ++ ys)) a c
-leaves_on a b c s xs ys one two =
-    leaves_then a b c (StandsAfterSome s (xs ++ ys)) (leaves_as a b (StandsAfterSome s xs) (StandsAfterSome s (xs ++ ys)) one (λ z here. some_more s xs ys z here))
-    (leaves_as b c (StandsAfterSome (after s xs) ys) (StandsAfterSome s (xs ++ ys)) two (λ z here. some_on s xs ys z here))
+-- from one machine on, images of lines and then of more
+pub leaves_on : (a b c : DiskState) (m : Machine) (xs ys : List (List ℕ)) → LeavesOnly (StandsAfterSome m xs) a b → LeavesOnly (StandsAfterSome (after m xs) ys) b c → LeavesOnly (StandsAfterSome m (xs ++ ys)) a c
+leaves_on a b c m xs ys one two =
+    leaves_then a b c (StandsAfterSome m (xs ++ ys)) (leaves_as a b (StandsAfterSome m xs) (StandsAfterSome m (xs ++ ys)) one (λ z here. some_more m xs ys z here))
+    (leaves_as b c (StandsAfterSome (after m xs) ys) (StandsAfterSome m (xs ++ ys)) two (λ z here. some_on m xs ys z here))
 
-pub leaves_none : (tells : Type 0) (d : DiskState) (session : Session) (s : State) (lines : List (List ℕ)) → IsLawful tells d → AgreesOn tells d session s → LeavesOnly (StandsAfterSome s lines) d d
-leaves_none tells d session s lines lawful agrees = leaves_start tells d (StandsAfterSome s lines) lawful (λ c here. some_none s lines c (images_stand tells d session.store s lawful agrees c here))
+pub leaves_none : (tells : Type 0) (d : DiskState) (session : Session) (m : Machine) (lines : List (List ℕ)) → IsLawful tells d → AgreesOn tells d session m → LeavesOnly (StandsAfterSome m lines) d d
+leaves_none tells d session m lines lawful agrees = leaves_start tells d (StandsAfterSome m lines) lawful (λ c here. some_none m lines c (images_stand tells d session.store m.state lawful agrees.store c here))
 
 pub fed_none : (tells : Type 0) (told : Option (List Event)) (d : DiskState) (session : Session) → IsLawful tells d → Fed tells told told d d session session []
 fed_none tells told d session lawful = record {
   given = [];
   gave = gives_none told;
-  each = λ s tell agrees. record { given_is = refl; agrees = agrees; images = leaves_none tells d session s [] lawful agrees; room = omega arith };
+  each = λ m tell agrees. record { given_is = refl; agrees = agrees; images = leaves_none tells d session m [] lawful agrees; room = omega arith };
 }
 
 pub fed_clip : (tells : Type 0) (a b : Option (List Event)) (d e : DiskState) (s0 s1 : Session) (xs ys : List (List ℕ)) → map clip xs ≡ map clip ys → Fed tells a b d e s0 s1 xs → Fed tells a b d e s0 s1 ys
 fed_clip tells a b d e s0 s1 xs ys same fed = record {
   given = fed.given;
   gave = fed.gave;
-  each = λ s tell agrees. let one : FedFrom tells d e s0 s1 xs fed.given s = fed.each s tell agrees in record {
-    given_is = one.given_is ∙ ap joined (replies_same s xs ys same);
-    agrees = subst (λ (t : State). AgreesOn tells e s1 t) (after_same s xs ys same) one.agrees;
-    images = leaves_as d e (StandsAfterSome s xs) (StandsAfterSome s ys) one.images (λ z here. some_clip s xs ys z same here);
-    room = omega (arith, one.room, records_same s xs ys same);
+  each = λ m tell agrees. let one : FedFrom tells d e s0 s1 xs fed.given m = fed.each m tell agrees in record {
+    given_is = one.given_is ∙ ap joined (replies_same m xs ys same);
+    agrees = subst (λ (t : Machine). AgreesOn tells e s1 t) (after_same m xs ys same) one.agrees;
+    images = leaves_as d e (StandsAfterSome m xs) (StandsAfterSome m ys) one.images (λ z here. some_clip m xs ys z same here);
+    room = omega (arith, one.room, records_same m xs ys same);
   };
 }
 
@@ -59,14 +58,14 @@ pub fed_on : (tells : Type 0) (a b c : Option (List Event)) (d e f : DiskState) 
 fed_on tells a b c d e f s0 s1 s2 xs ys first then_ = record {
   given = first.given ++ then_.given;
   gave = gives_on a b c first.given then_.given first.gave then_.gave;
-  each = λ s tell agrees.
-      let one : FedFrom tells d e s0 s1 xs first.given s = first.each s tell agrees in
-      let two : FedFrom tells e f s1 s2 ys then_.given (after s xs) = then_.each (after s xs) tell one.agrees in
+  each = λ m tell agrees.
+      let one : FedFrom tells d e s0 s1 xs first.given m = first.each m tell agrees in
+      let two : FedFrom tells e f s1 s2 ys then_.given (after m xs) = then_.each (after m xs) tell one.agrees in
       record {
-        given_is = ap (λ (l : List ℕ). l ++ then_.given) one.given_is ∙ ap (λ (l : List ℕ). joined (replies s xs) ++ l) two.given_is ∙ sym (joined_append (replies s xs) (replies (after s xs) ys)) ∙ ap joined (sym (replies_append s xs ys));
-        agrees = subst (λ (t : State). AgreesOn tells f s2 t) (sym (after_append s xs ys)) two.agrees;
-        images = leaves_on d e f s xs ys one.images two.images;
-        room = omega (arith, one.room, two.room, records_append s xs ys);
+        given_is = ap (λ (l : List ℕ). l ++ then_.given) one.given_is ∙ ap (λ (l : List ℕ). joined (replies m xs) ++ l) two.given_is ∙ sym (joined_append (replies m xs) (replies (after m xs) ys)) ∙ ap joined (sym (replies_append m xs ys));
+        agrees = subst (λ (t : Machine). AgreesOn tells f s2 t) (sym (after_append m xs ys)) two.agrees;
+        images = leaves_on d e f m xs ys one.images two.images;
+        room = omega (arith, one.room, two.room, records_append m xs ys);
       };
 }
 
@@ -75,13 +74,13 @@ pub stops_on : (tells : Type 0) (a b c : Option (List Event)) (d e f : DiskState
 stops_on tells a b c d e f s0 s1 xs ys status first stops = record {
   given = first.given ++ stops.given;
   gave = gives_on a b c first.given stops.given first.gave stops.gave;
-  each = λ s tell agrees.
-      let one : FedFrom tells d e s0 s1 xs first.given s = first.each s tell agrees in
-      let two : StopsWithinFrom e f s1 ys stops.given status (after s xs) = stops.each (after s xs) tell one.agrees in
+  each = λ m tell agrees.
+      let one : FedFrom tells d e s0 s1 xs first.given m = first.each m tell agrees in
+      let two : StopsWithinFrom e f s1 ys stops.given status (after m xs) = stops.each (after m xs) tell one.agrees in
       record {
-        progress = subst (λ (l : List ℕ). Progress s (xs ++ ys) (l ++ stops.given) f.images) (sym one.given_is) (progress_on s xs ys stops.given f.images two.progress);
-        images = leaves_on d e f s xs ys one.images two.images;
-        full = subst (λ (l : List ℕ). IsFullOnly (room_in s0) s (xs ++ ys) (l ++ stops.given) status) (sym one.given_is) (full_on (room_in s0) (room_in s1) s xs ys stops.given status one.room two.full);
+        progress = subst (λ (l : List ℕ). Progress m (xs ++ ys) (l ++ stops.given) f.images) (sym one.given_is) (progress_on m xs ys stops.given f.images two.progress);
+        images = leaves_on d e f m xs ys one.images two.images;
+        full = subst (λ (l : List ℕ). IsFullOnly (room_in s0) m (xs ++ ys) (l ++ stops.given) status) (sym one.given_is) (full_on (room_in s0) (room_in s1) m xs ys stops.given status one.room two.full);
       };
 }
 
@@ -90,10 +89,10 @@ pub stops_more : (tells : Type 0) (a b : Option (List Event)) (d e : DiskState) 
 stops_more tells a b d e s0 xs ys status stops = record {
   given = stops.given;
   gave = stops.gave;
-  each = λ s tell agrees. let one : StopsWithinFrom d e s0 xs stops.given status s = stops.each s tell agrees in record {
-    progress = progress_more s xs ys stops.given e.images one.progress;
-    images = leaves_as d e (StandsAfterSome s xs) (StandsAfterSome s (xs ++ ys)) one.images (λ z here. some_more s xs ys z here);
-    full = full_more (room_in s0) s xs ys stops.given status one.full;
+  each = λ m tell agrees. let one : StopsWithinFrom d e s0 xs stops.given status m = stops.each m tell agrees in record {
+    progress = progress_more m xs ys stops.given e.images one.progress;
+    images = leaves_as d e (StandsAfterSome m xs) (StandsAfterSome m (xs ++ ys)) one.images (λ z here. some_more m xs ys z here);
+    full = full_more (room_in s0) m xs ys stops.given status one.full;
   };
 }
 
@@ -101,10 +100,10 @@ pub stops_clip : (tells : Type 0) (a b : Option (List Event)) (d e : DiskState) 
 stops_clip tells a b d e s0 xs ys status same stops = record {
   given = stops.given;
   gave = stops.gave;
-  each = λ s tell agrees. let one : StopsWithinFrom d e s0 xs stops.given status s = stops.each s tell agrees in record {
-    progress = progress_clip s xs ys stops.given e.images same one.progress;
-    images = leaves_as d e (StandsAfterSome s xs) (StandsAfterSome s ys) one.images (λ z here. some_clip s xs ys z same here);
-    full = full_clip (room_in s0) s xs ys stops.given status same one.full;
+  each = λ m tell agrees. let one : StopsWithinFrom d e s0 xs stops.given status m = stops.each m tell agrees in record {
+    progress = progress_clip m xs ys stops.given e.images same one.progress;
+    images = leaves_as d e (StandsAfterSome m xs) (StandsAfterSome m ys) one.images (λ z here. some_clip m xs ys z same here);
+    full = full_clip (room_in s0) m xs ys stops.given status same one.full;
   };
 }
 
@@ -113,9 +112,9 @@ unfoldable pub stops_none : (tells : Type 0) (told : Option (List Event)) (d : D
 stops_none tells told d session lines status lawful not_full = record {
   given = [];
   gave = gives_none told;
-  each = λ s tell agrees. record {
-    progress = progress_none s lines d.images (images_stand tells d session.store s lawful agrees);
-    images = leaves_none tells d session s lines lawful agrees;
+  each = λ m tell agrees. record {
+    progress = progress_none m lines d.images (images_stand tells d session.store m.state lawful agrees.store);
+    images = leaves_none tells d session m lines lawful agrees;
     full = λ need gap is. absurd (not_full need gap is);
   };
 }
@@ -125,45 +124,45 @@ unfoldable pub stops_full : (tells : Type 0) (a b : Option (List Event)) (d e : 
 stops_full tells a b d e s0 s1 lines status lawful not_full fed = record {
   given = fed.given;
   gave = fed.gave;
-  each = λ s tell agrees. let one : FedFrom tells d e s0 s1 lines fed.given s = fed.each s tell agrees in record {
-    progress = subst (λ (l : List ℕ). Progress s lines l e.images) (sym one.given_is) (progress_full s lines e.images (images_stand tells e s1.store (after s lines) lawful one.agrees));
+  each = λ m tell agrees. let one : FedFrom tells d e s0 s1 lines fed.given m = fed.each m tell agrees in record {
+    progress = subst (λ (l : List ℕ). Progress m lines l e.images) (sym one.given_is) (progress_full m lines e.images (images_stand tells e s1.store (after m lines).state lawful one.agrees.store));
     images = one.images;
     full = λ need gap is. absurd (not_full need gap is);
   };
 }
 
 -- a line was answered
-pub fed_line : (tells : Type 0) (a b : Option (List Event)) (d e : DiskState) (s0 s1 : Session) (line reply : List ℕ) → Gives a b reply → ((s : State) → tells → AgreesOn tells d s0 s → reply ≡ (step s line).1)
-    → ((s : State) → tells → AgreesOn tells d s0 s → AgreesOn tells e s1 (step s line).0) → ((s : State) → tells → AgreesOn tells d s0 s → LeavesOnly (StandsForEither s (step s line).0) d e)
-    → ((s : State) → tells → AgreesOn tells d s0 s → room_in s1 + record_bytes s line ≡ room_in s0) → Fed tells a b d e s0 s1 (line ∷ [])
+pub fed_line : (tells : Type 0) (a b : Option (List Event)) (d e : DiskState) (s0 s1 : Session) (line reply : List ℕ) → Gives a b reply → ((m : Machine) → tells → AgreesOn tells d s0 m → reply ≡ (step m line).1)
+    → ((m : Machine) → tells → AgreesOn tells d s0 m → AgreesOn tells e s1 (step m line).0) → ((m : Machine) → tells → AgreesOn tells d s0 m → LeavesOnly (StandsForEither m.state (step m line).0.state) d e)
+    → ((m : Machine) → tells → AgreesOn tells d s0 m → room_in s1 + record_bytes m line ≡ room_in s0) → Fed tells a b d e s0 s1 (line ∷ [])
 fed_line tells a b d e s0 s1 line reply gave is now leaves room = record {
   given = reply;
   gave = gave;
-  each = λ s tell agrees. record {
-    given_is = is s tell agrees ∙ sym (append-nil (step s line).1);
-    agrees = now s tell agrees;
-    images = leaves_as d e (StandsForEither s (step s line).0) (StandsAfterSome s (line ∷ [])) (leaves s tell agrees) (λ z here. some_either s line [] z here);
-    room = omega (arith, room s tell agrees);
+  each = λ m tell agrees. record {
+    given_is = is m tell agrees ∙ sym (append-nil (step m line).1);
+    agrees = now m tell agrees;
+    images = leaves_as d e (StandsForEither m.state (step m line).0.state) (StandsAfterSome m (line ∷ [])) (leaves m tell agrees) (λ z here. some_either m line [] z here);
+    room = omega (arith, room m tell agrees);
   };
 }
 
 -- less than its reply was given
-pub stops_line : (tells : Type 0) (a b : Option (List Event)) (d e : DiskState) (s0 : Session) (line part : List ℕ) (status : Status) → IsLawful tells e → Gives a b part → ((s : State) → tells → AgreesOn tells d s0 s → (left : List ℕ) × ((step s line).1 ≡ part ++ left) × (0 < length left))
-    → ((s : State) → tells → AgreesOn tells d s0 s → LeavesOnly (StandsForEither s (step s line).0) d e)
-    → ((s : State) → tells → AgreesOn tells d s0 s → IsFullOnly (room_in s0) s (line ∷ []) part status) → StopsWithin tells a b d e s0 (line ∷ []) status
+pub stops_line : (tells : Type 0) (a b : Option (List Event)) (d e : DiskState) (s0 : Session) (line part : List ℕ) (status : Status) → IsLawful tells e → Gives a b part → ((m : Machine) → tells → AgreesOn tells d s0 m → (left : List ℕ) × ((step m line).1 ≡ part ++ left) × (0 < length left))
+    → ((m : Machine) → tells → AgreesOn tells d s0 m → LeavesOnly (StandsForEither m.state (step m line).0.state) d e)
+    → ((m : Machine) → tells → AgreesOn tells d s0 m → IsFullOnly (room_in s0) m (line ∷ []) part status) → StopsWithin tells a b d e s0 (line ∷ []) status
 stops_line tells a b d e s0 line part status lawful gave is leaves full = record {
   given = part;
   gave = gave;
-  each = λ s tell agrees. let rest = is s tell agrees in record {
-    progress = progress_stop s line [] part rest.0 e.images rest.1 rest.2 (leaves_now tells d e (StandsForEither s (step s line).0) lawful (leaves s tell agrees));
-    images = leaves_as d e (StandsForEither s (step s line).0) (StandsAfterSome s (line ∷ [])) (leaves s tell agrees) (λ z here. some_either s line [] z here);
-    full = full s tell agrees;
+  each = λ m tell agrees. let rest = is m tell agrees in record {
+    progress = progress_stop m line [] part rest.0 e.images rest.1 rest.2 (leaves_now tells d e (StandsForEither m.state (step m line).0.state) lawful (leaves m tell agrees));
+    images = leaves_as d e (StandsForEither m.state (step m line).0.state) (StandsAfterSome m (line ∷ [])) (leaves m tell agrees) (λ z here. some_either m line [] z here);
+    full = full m tell agrees;
   };
 }
 
 -- none of it was given
-pub stops_unanswered : (tells : Type 0) (a : Option (List Event)) (d e : DiskState) (s0 : Session) (line : List ℕ) (status : Status) → IsLawful tells e → ((s : State) → tells → AgreesOn tells d s0 s → LeavesOnly (StandsForEither s (step s line).0) d e)
-    → ((s : State) (need gap : ℕ) → tells → AgreesOn tells d s0 s → status ≡ Full need gap → (need ≡ record_bytes s line) × (gap ≡ room_in s0) × (gap < need)) → StopsWithin tells a a d e s0 (line ∷ []) status
+pub stops_unanswered : (tells : Type 0) (a : Option (List Event)) (d e : DiskState) (s0 : Session) (line : List ℕ) (status : Status) → IsLawful tells e → ((m : Machine) → tells → AgreesOn tells d s0 m → LeavesOnly (StandsForEither m.state (step m line).0.state) d e)
+    → ((m : Machine) (need gap : ℕ) → tells → AgreesOn tells d s0 m → status ≡ Full need gap → (need ≡ record_bytes m line) × (gap ≡ room_in s0) × (gap < need)) → StopsWithin tells a a d e s0 (line ∷ []) status
 stops_unanswered tells a d e s0 line status lawful leaves full =
-    stops_line tells a a d e s0 line [] status lawful (gives_none a) (λ s tell agrees. ((step s line).1, refl, reply_some s line)) leaves
-    (λ s tell agrees need gap is. let found = full s need gap tell agrees is in (0, over_first (room_in s0) s line need gap found.0 found.1 found.2, refl))
+    stops_line tells a a d e s0 line [] status lawful (gives_none a) (λ m tell agrees. ((step m line).1, refl, reply_some m line)) leaves
+    (λ m tell agrees need gap is. let found = full m need gap tell agrees is in (0, over_first (room_in s0) m line need gap found.0 found.1 found.2, refl))

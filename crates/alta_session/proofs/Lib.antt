@@ -1,4 +1,6 @@
 pub mod AddingLaws
+pub mod AgreementLaws
+pub mod AnsweringLaws
 pub mod AskLaws
 pub mod DeletingLaws
 pub mod FedLaws
@@ -10,4 +12,5 @@ pub mod ProgressLaws
 pub mod RunLaws
 pub mod SearchLaws
 pub mod ServeLaws
+pub mod StateLaws
 pub mod StatusLaws

@@ -9,26 +9,26 @@ use Rattle.alta_model.specs.Lines.{Reading, asks, refuses, reading_of}
 use Rattle.alta_model.specs.declared.line.LineFault.{LineFault}
 use Rattle.alta_model.specs.declared.line.LineFault.TheVariants.{TooLong, NotUtf8, Unknown, Bad}
 use Rattle.alta_session.specs.Keeping.{clip}
-use Rattle.alta_session.specs.Machine.{refusal, adding, obeyed, answered, step, after, replies}
+use Rattle.alta_session.specs.Machine.{Machine, refusal, adding, obeyed, answered, step, after, replies}
 use Rattle.alta_session.proofs.DeletingLaws.{deleting_some, stats_some}
 use Rattle.alta_session.proofs.SearchLaws.{searching_some, counting_some, explaining_some}
 
-pub after_append : (s : State) (xs ys : List (List ℕ)) → after s (xs ++ ys) ≡ after (after s xs) ys
-after_append s [] ys = refl
-after_append s (x ∷ xs) ys = after_append (step s x).0 xs ys
+pub after_append : (m : Machine) (xs ys : List (List ℕ)) → after m (xs ++ ys) ≡ after (after m xs) ys
+after_append m [] ys = refl
+after_append m (x ∷ xs) ys = after_append (step m x).0 xs ys
 
-pub replies_append : (s : State) (xs ys : List (List ℕ)) → replies s (xs ++ ys) ≡ replies s xs ++ replies (after s xs) ys
-replies_append s [] ys = refl
-replies_append s (x ∷ xs) ys = ap (λ (l : List (List ℕ)). (step s x).1 ∷ l) (replies_append (step s x).0 xs ys)
+pub replies_append : (m : Machine) (xs ys : List (List ℕ)) → replies m (xs ++ ys) ≡ replies m xs ++ replies (after m xs) ys
+replies_append m [] ys = refl
+replies_append m (x ∷ xs) ys = ap (λ (l : List (List ℕ)). (step m x).1 ∷ l) (replies_append (step m x).0 xs ys)
 
-pub length_replies : (s : State) (xs : List (List ℕ)) → length (replies s xs) ≡ length xs
-length_replies s [] = refl
-length_replies s (x ∷ xs) = ap suc (length_replies (step s x).0 xs)
+pub length_replies : (m : Machine) (xs : List (List ℕ)) → length (replies m xs) ≡ length xs
+length_replies m [] = refl
+length_replies m (x ∷ xs) = ap suc (length_replies (step m x).0 xs)
 
 -- a line is answered by its reading
-pub step_reads : (s : State) (line : List ℕ) (reading : Reading) → reading_of line ≡ reading → step s line ≡ answered s reading
+pub step_reads : (m : Machine) (line : List ℕ) (reading : Reading) → reading_of line ≡ reading → step m line ≡ answered m reading
 unfolding step
-step_reads s line reading is = ap (λ (r : Reading). answered s r) is
+step_reads m line reading is = ap (λ (r : Reading). answered m r) is
 
 -- a reply has at least its newline
 refusal_some : (fault : LineFault) → 0 < length (refusal fault)
@@ -41,27 +41,27 @@ adding_some : (name title body : List ℕ) (s : State) → 0 < length (adding na
 unfolding adding
 adding_some name title body s = grind (arith, common_steps)
 
-obeyed_some : (s : State) (command : Command) → 0 < length (obeyed s command).1
-obeyed_some s (adds name title body) = adding_some name title body s
-obeyed_some s (deletes name) = deleting_some name s
-obeyed_some s (searches query) = searching_some query s.documents
-obeyed_some s (counts query) = counting_some query s.documents
-obeyed_some s (explains query) = explaining_some query
-obeyed_some s (opens query) = lit< tt
-obeyed_some s (fetches cursor count) = lit< tt
-obeyed_some s (closes cursor) = lit< tt
-obeyed_some s flushes = lit< tt
-obeyed_some s merges = lit< tt
-obeyed_some s (steps count) = lit< tt
-obeyed_some s asks_stats = stats_some s
+obeyed_some : (m : Machine) (command : Command) → 0 < length (obeyed m command).1
+obeyed_some m (adds name title body) = adding_some name title body m.state
+obeyed_some m (deletes name) = deleting_some name m.state
+obeyed_some m (searches query) = searching_some query m.state.documents
+obeyed_some m (counts query) = counting_some query m.state.documents
+obeyed_some m (explains query) = explaining_some query
+obeyed_some m (opens query) = lit< tt
+obeyed_some m (fetches cursor count) = lit< tt
+obeyed_some m (closes cursor) = lit< tt
+obeyed_some m flushes = lit< tt
+obeyed_some m merges = lit< tt
+obeyed_some m (steps count) = lit< tt
+obeyed_some m asks_stats = stats_some m.state
 
-answered_some : (s : State) (reading : Reading) → 0 < length (answered s reading).1
-answered_some s (asks command) = obeyed_some s command
-answered_some s (refuses fault) = refusal_some fault
+answered_some : (m : Machine) (reading : Reading) → 0 < length (answered m reading).1
+answered_some m (asks command) = obeyed_some m command
+answered_some m (refuses fault) = refusal_some fault
 
-pub reply_some : (s : State) (line : List ℕ) → 0 < length (step s line).1
+pub reply_some : (m : Machine) (line : List ℕ) → 0 < length (step m line).1
 unfolding step
-reply_some s line = answered_some s (reading_of line)
+reply_some m line = answered_some m (reading_of line)
 
 -- the machine does not see past the first 65,536 bytes of a line
 reading_long : (line : List ℕ) → 65535 < length line → reading_of line ≡ refuses TooLong
@@ -69,8 +69,8 @@ unfolding reading_of
 reading_long line l = grind (arith, common_steps)
 
 -- a line that is too long is refused
-pub step_long : (s : State) (line : List ℕ) → 65535 < length line → (reply : List ℕ) × (step s line ≡ (s, reply))
-step_long s line l = (refusal TooLong, step_reads s line (refuses TooLong) (reading_long line l))
+pub step_long : (m : Machine) (line : List ℕ) → 65535 < length line → (reply : List ℕ) × (step m line ≡ (m, reply))
+step_long m line l = (refusal TooLong, step_reads m line (refuses TooLong) (reading_long line l))
 
 reading_take : (n : ℕ) (line : List ℕ) → 65535 < n → reading_of (take n line) ≡ reading_of line
 reading_take n line l =
@@ -83,30 +83,30 @@ reading_clip : (line : List ℕ) → reading_of (clip line) ≡ reading_of line
 unfolding clip
 reading_clip line = reading_take 65536 line (lit< tt)
 
-pub step_clip : (s : State) (line : List ℕ) → step s (clip line) ≡ step s line
+pub step_clip : (m : Machine) (line : List ℕ) → step m (clip line) ≡ step m line
 unfolding step
-step_clip s line = ap (λ (r : Reading). answered s r) (reading_clip line)
+step_clip m line = ap (λ (r : Reading). answered m r) (reading_clip line)
 
-pub replies_clip : (s : State) (lines : List (List ℕ)) → replies s (map clip lines) ≡ replies s lines
-replies_clip s [] = refl
-replies_clip s (x ∷ xs) =
-    ap (λ (p : State × List ℕ). p.1 ∷ replies p.0 (map clip xs)) (step_clip s x) ∙ ap (λ (l : List (List ℕ)). (step s x).1 ∷ l) (replies_clip (step s x).0 xs)
+pub replies_clip : (m : Machine) (lines : List (List ℕ)) → replies m (map clip lines) ≡ replies m lines
+replies_clip m [] = refl
+replies_clip m (x ∷ xs) =
+    ap (λ (p : Machine × List ℕ). p.1 ∷ replies p.0 (map clip xs)) (step_clip m x) ∙ ap (λ (l : List (List ℕ)). (step m x).1 ∷ l) (replies_clip (step m x).0 xs)
 
-pub after_clip : (s : State) (lines : List (List ℕ)) → after s (map clip lines) ≡ after s lines
-after_clip s [] = refl
-after_clip s (x ∷ xs) = ap (λ (t : State). after t (map clip xs)) (ap (λ (p : State × List ℕ). p.0) (step_clip s x)) ∙ after_clip (step s x).0 xs
+pub after_clip : (m : Machine) (lines : List (List ℕ)) → after m (map clip lines) ≡ after m lines
+after_clip m [] = refl
+after_clip m (x ∷ xs) = ap (λ (t : Machine). after t (map clip xs)) (ap (λ (p : Machine × List ℕ). p.0) (step_clip m x)) ∙ after_clip (step m x).0 xs
 
 -- lines that are the same up to a clip have the same replies, and leave the same state
-pub replies_same : (s : State) (xs ys : List (List ℕ)) → map clip xs ≡ map clip ys → replies s xs ≡ replies s ys
-replies_same s xs ys same = sym (replies_clip s xs) ∙ ap (λ (l : List (List ℕ)). replies s l) same ∙ replies_clip s ys
+pub replies_same : (m : Machine) (xs ys : List (List ℕ)) → map clip xs ≡ map clip ys → replies m xs ≡ replies m ys
+replies_same m xs ys same = sym (replies_clip m xs) ∙ ap (λ (l : List (List ℕ)). replies m l) same ∙ replies_clip m ys
 
-pub after_same : (s : State) (xs ys : List (List ℕ)) → map clip xs ≡ map clip ys → after s xs ≡ after s ys
-after_same s xs ys same = sym (after_clip s xs) ∙ ap (λ (l : List (List ℕ)). after s l) same ∙ after_clip s ys
+pub after_same : (m : Machine) (xs ys : List (List ℕ)) → map clip xs ≡ map clip ys → after m xs ≡ after m ys
+after_same m xs ys same = sym (after_clip m xs) ∙ ap (λ (l : List (List ℕ)). after m l) same ∙ after_clip m ys
 
 -- the states after the first of lines that are the same up to a clip
-pub after_take : (s : State) (k : ℕ) (xs ys : List (List ℕ)) → map clip xs ≡ map clip ys → after s (take k xs) ≡ after s (take k ys)
-after_take s k xs ys same =
-    sym (after_clip s (take k xs)) ∙ ap (λ (l : List (List ℕ)). after s l) (sym (take-map clip k xs) ∙ ap (λ (l : List (List ℕ)). take k l) same ∙ take-map clip k ys) ∙ after_clip s (take k ys)
+pub after_take : (m : Machine) (k : ℕ) (xs ys : List (List ℕ)) → map clip xs ≡ map clip ys → after m (take k xs) ≡ after m (take k ys)
+after_take m k xs ys same =
+    sym (after_clip m (take k xs)) ∙ ap (λ (l : List (List ℕ)). after m l) (sym (take-map clip k xs) ∙ ap (λ (l : List (List ℕ)). take k l) same ∙ take-map clip k ys) ∙ after_clip m (take k ys)
 
-pub length_same : (s : State) (xs ys : List (List ℕ)) → map clip xs ≡ map clip ys → length xs ≡ length ys
-length_same s xs ys same = sym (length_replies s xs) ∙ ap length (sym (replies_clip s xs) ∙ ap (λ (l : List (List ℕ)). replies s l) same ∙ replies_clip s ys) ∙ length_replies s ys
+pub length_same : (m : Machine) (xs ys : List (List ℕ)) → map clip xs ≡ map clip ys → length xs ≡ length ys
+length_same m xs ys same = sym (length_replies m xs) ∙ ap length (sym (replies_clip m xs) ∙ ap (λ (l : List (List ℕ)). replies m l) same ∙ replies_clip m ys) ∙ length_replies m ys

@@ -11,13 +11,12 @@ use Rattle.alta_console.proofs.LineLaws.{whole_from_append, begun_from_append}
 use Rattle.alta_console.proofs.ReplyLaws.{joined_append}
 use Rattle.alta_console.proofs.RunLaws.{given_takes_none, given_ends_none, given_takes_at, ended_append, takes_in, takes_later, within_all, open_lines, ended_lines, lines_past, taken_on}
 use Rattle.alta_disk.specs.Disk.{DiskState, LeavesOnly, IsLawful}
-use Rattle.alta_meta.specs.declared.document.State.{State}
 use Rattle.alta_session.specs.Agreement.{AgreesOn, room_in}
 use Rattle.alta_session.specs.Fed.{Fed, FedFrom}
 use Rattle.alta_session.specs.Fullness.{records_bytes, IsFullOnly, IsFullExactly}
 use Rattle.alta_session.specs.Going.{Goes, GoingFrom}
 use Rattle.alta_session.specs.Keeping.{clip}
-use Rattle.alta_session.specs.Machine.{after, replies}
+use Rattle.alta_session.specs.Machine.{Machine, after, replies}
 use Rattle.alta_session.specs.Progress.{StandsAfterSome, Progress, StopsWithin, StopsWithinFrom}
 use Rattle.alta_session.specs.Run.{AnswersInTime, Runs, RunsFrom}
 use Rattle.alta_session.specs.Status.{EndsLine}
@@ -33,31 +32,31 @@ use Rattle.alta_session.proofs.StatusLaws.{ends_not_done, ends_not_long}
 use Rattle.alta_store.proofs.Agreements.{images_stand}
 
 -- A run that was in time goes on by a take, and then by gives: it is in time where all was answered before the take.
-in_time_on : (s : State) (run : List Event) (event : Event) (gives : List Event) → AnswersInTime s run → given_in run ≡ joined (replies s (whole (taken_in run))) → AllGiven gives → AnswersInTime s (run ++ event ∷ gives)
-in_time_on s run event gives before now given k t =
-    let P : List Event → Type 0 = λ l. given_in l ≡ joined (replies s (whole (taken_in l))) in
+in_time_on : (m : Machine) (run : List Event) (event : Event) (gives : List Event) → AnswersInTime m run → given_in run ≡ joined (replies m (whole (taken_in run))) → AllGiven gives → AnswersInTime m (run ++ event ∷ gives)
+in_time_on m run event gives before now given k t =
+    let P : List Event → Type 0 = λ l. given_in l ≡ joined (replies m (whole (taken_in l))) in
     elim (takes_in run (event ∷ gives) k t) [ inl here ↦ subst P (sym here.1) (before k here.0) | inr there ↦ subst P (sym there.2) (at_event there.0 there.1) ]
   where
-    at_event : (j : ℕ) → TakesAt (event ∷ gives) j → given_in (run ++ take j (event ∷ gives)) ≡ joined (replies s (whole (taken_in (run ++ take j (event ∷ gives)))))
+    at_event : (j : ℕ) → TakesAt (event ∷ gives) j → given_in (run ++ take j (event ∷ gives)) ≡ joined (replies m (whole (taken_in (run ++ take j (event ∷ gives)))))
     at_event zero t =
-        let P : List Event → Type 0 = λ l. given_in l ≡ joined (replies s (whole (taken_in l))) in
+        let P : List Event → Type 0 = λ l. given_in l ≡ joined (replies m (whole (taken_in l))) in
         subst P (sym (append-nil run)) now
     at_event (suc j) t = absurd (given_takes_at gives j given (takes_later event gives j t))
 
--- what a run from a state keeps
-runs_from : (limit : ℕ) (d e : DiskState) (session : Session) (run : List Event) (status : Status) (s : State) → AnswersInTime s run → Progress s (lines_in limit run) (given_in run) e.images
-    → (status ≡ Done → (has_ended run ≡ true) × (given_in run ≡ joined (replies s (lines_in limit run)))) → LeavesOnly (StandsAfterSome s (lines_in limit run)) d e
-    → IsFullExactly (room_in session) s (lines_in limit run) (given_in run) status → RunsFrom limit d e session run status s
-runs_from limit d e session run status s time p done leaves full = record {
+-- what a run from a machine keeps
+runs_from : (limit : ℕ) (d e : DiskState) (session : Session) (run : List Event) (status : Status) (m : Machine) → AnswersInTime m run → Progress m (lines_in limit run) (given_in run) e.images
+    → (status ≡ Done → (has_ended run ≡ true) × (given_in run ≡ joined (replies m (lines_in limit run)))) → LeavesOnly (StandsAfterSome m (lines_in limit run)) d e
+    → IsFullExactly (room_in session) m (lines_in limit run) (given_in run) status → RunsFrom limit d e session run status m
+runs_from limit d e session run status m time p done leaves full = record {
   replies = record {
-    begin = progress_begins s (lines_in limit run) (given_in run) e.images p;
+    begin = progress_begins m (lines_in limit run) (given_in run) e.images p;
     all = done;
     in_time = time;
   };
   keeps = record {
     now = λ c here. record {
       answered = p.answered;
-      is_acked = progress_acked s (lines_in limit run) (given_in run) e.images p;
+      is_acked = progress_acked m (lines_in limit run) (given_in run) e.images p;
       stands = p.stand c here;
     };
     ever = leaves;
@@ -66,34 +65,34 @@ runs_from limit d e session run status s time p done leaves full = record {
 }
 
 -- it ended in answering a line, or all that came before fitted too
-ends_on : (room later : ℕ) (s : State) (xs ys : List (List ℕ)) (status : Status) → later + records_bytes s xs ≡ room → EndsLine status ⊎ (records_bytes (after s xs) ys ≤ later) → EndsLine status ⊎ (records_bytes s (xs ++ ys) ≤ room)
-ends_on room later s xs ys status fit (inl ends) = inl ends
-ends_on room later s xs ys status fit (inr more) = inr (omega (arith, fit, more, records_append s xs ys))
+ends_on : (room later : ℕ) (m : Machine) (xs ys : List (List ℕ)) (status : Status) → later + records_bytes m xs ≡ room → EndsLine status ⊎ (records_bytes (after m xs) ys ≤ later) → EndsLine status ⊎ (records_bytes m (xs ++ ys) ≤ room)
+ends_on room later m xs ys status fit (inl ends) = inl ends
+ends_on room later m xs ys status fit (inr more) = inr (omega (arith, fit, more, records_append m xs ys))
 
 -- a run that goes on, then a take, and then gives
 given_on : (run gives : List Event) (event : Event) (given : List ℕ) → given_in (event ∷ []) ≡ [] → given_in gives ≡ given → given_in (run ++ event ∷ gives) ≡ given_in run ++ given
 given_on run gives event given none is =
     given_in_append run (event ∷ gives) ∙ ap (λ (l : List ℕ). given_in run ++ l) (given_in_append (event ∷ []) gives ∙ ap (λ (l : List ℕ). l ++ given_in gives) none ∙ is)
 
-after_from : (tells : Type 0) (limit : ℕ) (d e f : DiskState) (s0 s1 : Session) (run gives : List Event) (event : Event) (given : List ℕ) (later : List (List ℕ)) (status : Status) (s : State) → GoingFrom tells d e s0 s1 run s
-    → StopsWithinFrom e f s1 later given status (after s (whole (taken_in run))) → AllGiven gives → given_in gives ≡ given → given_in (event ∷ []) ≡ [] → lines_in limit (run ++ event ∷ gives) ≡ whole (taken_in run) ++ later
-    → (status ≡ Done → (has_ended (run ++ event ∷ gives) ≡ true) × (given ≡ joined (replies (after s (whole (taken_in run))) later)))
-    → EndsLine status ⊎ (records_bytes (after s (whole (taken_in run))) later ≤ room_in s1) → RunsFrom limit d f s0 (run ++ event ∷ gives) status s
-after_from tells limit d e f s0 s1 run gives event given later status s going stops all_given gave none lines done ends =
+after_from : (tells : Type 0) (limit : ℕ) (d e f : DiskState) (s0 s1 : Session) (run gives : List Event) (event : Event) (given : List ℕ) (later : List (List ℕ)) (status : Status) (m : Machine) → GoingFrom tells d e s0 s1 run m
+    → StopsWithinFrom e f s1 later given status (after m (whole (taken_in run))) → AllGiven gives → given_in gives ≡ given → given_in (event ∷ []) ≡ [] → lines_in limit (run ++ event ∷ gives) ≡ whole (taken_in run) ++ later
+    → (status ≡ Done → (has_ended (run ++ event ∷ gives) ≡ true) × (given ≡ joined (replies (after m (whole (taken_in run))) later)))
+    → EndsLine status ⊎ (records_bytes (after m (whole (taken_in run))) later ≤ room_in s1) → RunsFrom limit d f s0 (run ++ event ∷ gives) status m
+after_from tells limit d e f s0 s1 run gives event given later status m going stops all_given gave none lines done ends =
     let before : List (List ℕ) = whole (taken_in run) in
     let now : List Event = run ++ event ∷ gives in
-    let given_is : given_in now ≡ joined (replies s before) ++ given = given_on run gives event given none gave ∙ ap (λ (l : List ℕ). l ++ given) going.given_is in
-    let P : List (List ℕ) → Type 0 = λ l. Progress s l (given_in now) f.images in
-    let Q : List ℕ → Type 0 = λ l. Progress s (before ++ later) l f.images in
-    let R : List (List ℕ) → Type 0 = λ l. LeavesOnly (StandsAfterSome s l) d f in
-    let F : List (List ℕ) → Type 0 = λ l. IsFullExactly (room_in s0) s l (given_in now) status in
-    let G : List ℕ → Type 0 = λ l. IsFullOnly (room_in s0) s (before ++ later) l status in
-    runs_from limit d f s0 now status s (in_time_on s run event gives going.in_time going.given_is all_given)
-    (subst P (sym lines) (subst Q (sym given_is) (progress_on s before later given f.images stops.progress)))
-    (λ is. ((done is).0, given_is ∙ ap (λ (l : List ℕ). joined (replies s before) ++ l) (done is).1 ∙ sym (joined_append (replies s before) (replies (after s before) later)) ∙ ap joined (sym (replies_append s before later) ∙ ap (λ (l : List (List ℕ)). replies s l) (sym lines))))
-    (subst R (sym lines) (leaves_on d e f s before later going.images stops.images))
-    (subst F (sym lines) (full_exactly (room_in s0) s (before ++ later) (given_in now) status
-    (subst G (sym given_is) (full_on (room_in s0) (room_in s1) s before later given status going.room stops.full)) (ends_on (room_in s0) (room_in s1) s before later status going.room ends)))
+    let given_is : given_in now ≡ joined (replies m before) ++ given = given_on run gives event given none gave ∙ ap (λ (l : List ℕ). l ++ given) going.given_is in
+    let P : List (List ℕ) → Type 0 = λ l. Progress m l (given_in now) f.images in
+    let Q : List ℕ → Type 0 = λ l. Progress m (before ++ later) l f.images in
+    let R : List (List ℕ) → Type 0 = λ l. LeavesOnly (StandsAfterSome m l) d f in
+    let F : List (List ℕ) → Type 0 = λ l. IsFullExactly (room_in s0) m l (given_in now) status in
+    let G : List ℕ → Type 0 = λ l. IsFullOnly (room_in s0) m (before ++ later) l status in
+    runs_from limit d f s0 now status m (in_time_on m run event gives going.in_time going.given_is all_given)
+    (subst P (sym lines) (subst Q (sym given_is) (progress_on m before later given f.images stops.progress)))
+    (λ is. ((done is).0, given_is ∙ ap (λ (l : List ℕ). joined (replies m before) ++ l) (done is).1 ∙ sym (joined_append (replies m before) (replies (after m before) later)) ∙ ap joined (sym (replies_append m before later) ∙ ap (λ (l : List (List ℕ)). replies m l) (sym lines))))
+    (subst R (sym lines) (leaves_on d e f m before later going.images stops.images))
+    (subst F (sym lines) (full_exactly (room_in s0) m (before ++ later) (given_in now) status
+    (subst G (sym given_is) (full_on (room_in s0) (room_in s1) m before later given status going.room stops.full)) (ends_on (room_in s0) (room_in s1) m before later status going.room ends)))
 
 -- at the start
 pub goes_none : (tells : Type 0) (limit : ℕ) (told : Option (List Event)) (left : Option (List ℕ)) (d : DiskState) (session : Session) → IsLawful tells d → Goes tells limit told told left left d d session session [] 0
@@ -105,7 +104,7 @@ goes_none tells limit told left d session lawful = record {
   within = omega arith;
   kept_is = refl;
   not_ended = refl;
-  each = λ s tell agrees. record { given_is = refl; in_time = λ k t. absurd t; agrees = agrees; images = leaves_none tells d session s [] lawful agrees; room = omega arith };
+  each = λ m tell agrees. record { given_is = refl; in_time = λ k t. absurd t; agrees = agrees; images = leaves_none tells d session m [] lawful agrees; room = omega arith };
 }
 
 same_whole : (kept bytes piece : List ℕ) → clip kept ≡ clip (begun bytes) → map clip (whole_from kept piece) ≡ map clip (whole_from (begun bytes) piece)
@@ -144,17 +143,17 @@ goes_on tells limit a b c d la lb lc ld e f h s0 s1 s2 kept kept_now taken piece
       within = omega (arith, goes.taken_is, ap length taken_now, length-append bytes piece);
       kept_is = kept_is ∙ begun_from_clip kept (begun bytes) piece goes.kept_is ∙ ap clip (sym (ap begun taken_now ∙ begun_from_append [] bytes piece));
       not_ended = ended_append run (Taken piece ∷ gives) goes.not_ended ∙ given_ends_none gives fed_now.gave.2;
-      each = λ s tell agrees.
-          let one : GoingFrom tells e f s0 s1 run s = goes.each s tell agrees in
-          let two : FedFrom tells f h s1 s2 later fed_now.given (after s (whole bytes)) = fed_now.each (after s (whole bytes)) tell one.agrees in
+      each = λ m tell agrees.
+          let one : GoingFrom tells e f s0 s1 run m = goes.each m tell agrees in
+          let two : FedFrom tells f h s1 s2 later fed_now.given (after m (whole bytes)) = fed_now.each (after m (whole bytes)) tell one.agrees in
           record {
             given_is = given_on run gives (Taken piece) fed_now.given refl fed_now.gave.3 ∙ ap (λ (l : List ℕ). l ++ fed_now.given) one.given_is
-                ∙ ap (λ (l : List ℕ). joined (replies s (whole bytes)) ++ l) two.given_is ∙ sym (joined_append (replies s (whole bytes)) (replies (after s (whole bytes)) later))
-                ∙ ap joined (sym (replies_append s (whole bytes) later) ∙ ap (λ (l : List (List ℕ)). replies s l) (sym lines));
-            in_time = in_time_on s run (Taken piece) gives one.in_time one.given_is fed_now.gave.2;
-            agrees = subst (λ (t : State). AgreesOn tells h s2 t) (sym (after_append s (whole bytes) later) ∙ ap (λ (l : List (List ℕ)). after s l) (sym lines)) two.agrees;
-            images = subst (λ (l : List (List ℕ)). LeavesOnly (StandsAfterSome s l) e h) (sym lines) (leaves_on e f h s (whole bytes) later one.images two.images);
-            room = omega (arith, one.room, two.room, records_append s (whole bytes) later, ap (λ (l : List (List ℕ)). records_bytes s l) lines);
+                ∙ ap (λ (l : List ℕ). joined (replies m (whole bytes)) ++ l) two.given_is ∙ sym (joined_append (replies m (whole bytes)) (replies (after m (whole bytes)) later))
+                ∙ ap joined (sym (replies_append m (whole bytes) later) ∙ ap (λ (l : List (List ℕ)). replies m l) (sym lines));
+            in_time = in_time_on m run (Taken piece) gives one.in_time one.given_is fed_now.gave.2;
+            agrees = subst (λ (t : Machine). AgreesOn tells h s2 t) (sym (after_append m (whole bytes) later) ∙ ap (λ (l : List (List ℕ)). after m l) (sym lines)) two.agrees;
+            images = subst (λ (l : List (List ℕ)). LeavesOnly (StandsAfterSome m l) e h) (sym lines) (leaves_on e f h m (whole bytes) later one.images two.images);
+            room = omega (arith, one.room, two.room, records_append m (whole bytes) later, ap (λ (l : List (List ℕ)). records_bytes m l) lines);
           };
     }
 
@@ -177,8 +176,9 @@ runs_stopped tells limit a b c d la lb lc ld e f h s0 s1 kept taken piece status
       grew = grew_on a b c d run gives (Taken piece) goes.grew took stops.gave.1;
       read = read_on la lb lc ld run gives (Taken piece) piece goes.read more same taken_now;
       too_long = (λ long. absurd (ends_not_long status ends long), λ past. absurd (omega arith));
-      each = λ s tell agrees. let one : GoingFrom tells e f s0 s1 run s = goes.each s tell agrees in
-          after_from tells limit e f h s0 s1 run gives (Taken piece) stops.given later status s one (stops.each (after s (whole bytes)) tell one.agrees) stops.gave.2 stops.gave.3 refl lines (λ done. absurd (ends_not_done status ends done)) (inl ends);
+      last = λ past. absurd (omega arith);
+      each = λ m tell agrees. let one : GoingFrom tells e f s0 s1 run m = goes.each m tell agrees in
+          after_from tells limit e f h s0 s1 run gives (Taken piece) stops.given later status m one (stops.each (after m (whole bytes)) tell one.agrees) stops.gave.2 stops.gave.3 refl lines (λ done. absurd (ends_not_done status ends done)) (inl ends);
     }
 
 -- a piece passed the limit
@@ -198,8 +198,9 @@ runs_past tells limit a b c la lb lc e f s0 s1 kept taken piece lawful goes took
       grew = grew_on a b c c run [] (Taken piece) goes.grew took (grows_none c);
       read = read_on la lb lc lc run [] (Taken piece) piece goes.read more refl taken_now;
       too_long = (λ long. omega (arith, goes.taken_is, ap length taken_now, length-append bytes piece), λ over. refl);
-      each = λ s tell agrees. let one : GoingFrom tells e f s0 s1 run s = goes.each s tell agrees in
-          after_from tells limit e f f s0 s1 run [] (Taken piece) stops.given [] TooLong s one (stops.each (after s (whole bytes)) tell one.agrees) tt refl refl lines (λ done. absurd cc) (inr (omega arith));
+      last = λ over. record { before = run; piece = piece; run_is = refl; within = goes.within };
+      each = λ m tell agrees. let one : GoingFrom tells e f s0 s1 run m = goes.each m tell agrees in
+          after_from tells limit e f f s0 s1 run [] (Taken piece) stops.given [] TooLong m one (stops.each (after m (whole bytes)) tell one.agrees) tt refl refl lines (λ done. absurd cc) (inr (omega arith));
     }
 
 ended_on : (run gives : List Event) → AllGiven gives → taken_in (run ++ Ended ∷ gives) ≡ taken_in run ++ []
@@ -207,8 +208,8 @@ ended_on run gives given = taken_in_append run (Ended ∷ gives) ∙ ap (λ (l :
 
 -- the input ended, and of a last line some was answered
 ended_with : (tells : Type 0) (limit : ℕ) (a b c d : Option (List Event)) (la lb lc ld : Option (List ℕ)) (e f h : DiskState) (s0 s1 : Session) (kept : List ℕ) (taken : ℕ) (status : Status) (goes : Goes tells limit a b la lb e f s0 s1 kept taken) → Grows b c (Ended ∷ []) → Consumes lb lc []
-    → (stops : StopsWithin tells c d f h s1 (last_piece (begun (taken_in goes.run))) status) → ld ≡ lc → ((s : State) → tells → AgreesOn tells f s1 s → status ≡ Done → stops.given ≡ joined (replies s (last_piece (begun (taken_in goes.run))))) → (status ≡ TooLong → ⊥)
-    → ((s : State) → tells → AgreesOn tells f s1 s → EndsLine status ⊎ (records_bytes s (last_piece (begun (taken_in goes.run))) ≤ room_in s1)) → Runs tells limit a d la ld e h s0 status
+    → (stops : StopsWithin tells c d f h s1 (last_piece (begun (taken_in goes.run))) status) → ld ≡ lc → ((m : Machine) → tells → AgreesOn tells f s1 m → status ≡ Done → stops.given ≡ joined (replies m (last_piece (begun (taken_in goes.run))))) → (status ≡ TooLong → ⊥)
+    → ((m : Machine) → tells → AgreesOn tells f s1 m → EndsLine status ⊎ (records_bytes m (last_piece (begun (taken_in goes.run))) ≤ room_in s1)) → Runs tells limit a d la ld e h s0 status
 ended_with tells limit a b c d la lb lc ld e f h s0 s1 kept taken status goes took more stops same all not_long ends =
     let run : List Event = goes.run in
     let bytes : List ℕ = taken_in run in
@@ -225,9 +226,10 @@ ended_with tells limit a b c d la lb lc ld e f h s0 s1 kept taken status goes to
       grew = grew_on a b c d run gives Ended goes.grew took stops.gave.1;
       read = read_on la lb lc ld run gives Ended [] goes.read more same taken_now;
       too_long = (λ long. absurd (not_long long), λ past. absurd (omega arith));
-      each = λ s tell agrees. let one : GoingFrom tells e f s0 s1 run s = goes.each s tell agrees in
-          after_from tells limit e f h s0 s1 run gives Ended stops.given later status s one (stops.each (after s (whole bytes)) tell one.agrees) stops.gave.2 stops.gave.3 refl lines (λ done. (ended, all (after s (whole bytes)) tell one.agrees done))
-          (ends (after s (whole bytes)) tell one.agrees);
+      last = λ past. absurd (omega arith);
+      each = λ m tell agrees. let one : GoingFrom tells e f s0 s1 run m = goes.each m tell agrees in
+          after_from tells limit e f h s0 s1 run gives Ended stops.given later status m one (stops.each (after m (whole bytes)) tell one.agrees) stops.gave.2 stops.gave.3 refl lines (λ done. (ended, all (after m (whole bytes)) tell one.agrees done))
+          (ends (after m (whole bytes)) tell one.agrees);
     }
 
 pub runs_ended : (tells : Type 0) (limit : ℕ) (a b c d : Option (List Event)) (la lb lc ld : Option (List ℕ)) (e f h : DiskState) (s0 s1 : Session) (kept : List ℕ) (taken : ℕ) (status : Status) → Goes tells limit a b la lb e f s0 s1 kept taken → Grows b c (Ended ∷ []) → Consumes lb lc []
@@ -235,7 +237,7 @@ pub runs_ended : (tells : Type 0) (limit : ℕ) (a b c d : Option (List Event)) 
 runs_ended tells limit a b c d la lb lc ld e f h s0 s1 kept taken status goes took more stops same ends =
     let line : List ℕ = begun (taken_in goes.run) in
     ended_with tells limit a b c d la lb lc ld e f h s0 s1 kept taken status goes took more (stops_clip tells c d f h s1 (last_piece kept) (last_piece line) status (last_same kept line goes.kept_is) stops) same
-    (λ s tell agrees done. absurd (ends_not_done status ends done)) (ends_not_long status ends) (λ s tell agrees. inl ends)
+    (λ m tell agrees done. absurd (ends_not_done status ends done)) (ends_not_long status ends) (λ m tell agrees. inl ends)
 
 -- and all of it
 pub runs_done : (tells : Type 0) (limit : ℕ) (a b c d : Option (List Event)) (la lb lc ld : Option (List ℕ)) (e f h : DiskState) (s0 s1 s2 : Session) (kept : List ℕ) (taken : ℕ) → IsLawful tells h → Goes tells limit a b la lb e f s0 s1 kept taken → Grows b c (Ended ∷ []) → Consumes lb lc []
@@ -245,7 +247,7 @@ runs_done tells limit a b c d la lb lc ld e f h s0 s1 s2 kept taken lawful goes 
     let line : List ℕ = begun (taken_in goes.run) in
     let fed_now : Fed tells c d f h s1 s2 (last_piece line) = fed_clip tells c d f h s1 s2 (last_piece kept) (last_piece line) (last_same kept line goes.kept_is) fed in
     ended_with tells limit a b c d la lb lc ld e f h s0 s1 kept taken Done goes took more (stops_full tells c d f h s1 s2 (last_piece line) Done lawful (λ need gap is. cc) fed_now) same
-    (λ s tell agrees done. (fed_now.each s tell agrees).given_is) (λ long. cc) (λ s tell agrees. inr (omega (arith, (fed_now.each s tell agrees).room)))
+    (λ m tell agrees done. (fed_now.each m tell agrees).given_is) (λ long. cc) (λ m tell agrees. inr (omega (arith, (fed_now.each m tell agrees).room)))
 
 -- a take failed
 pub runs_failed : (tells : Type 0) (limit : ℕ) (a b c : Option (List Event)) (la lb lc : Option (List ℕ)) (e f : DiskState) (s0 s1 : Session) (kept : List ℕ) (taken : ℕ) (status : Status) → IsLawful tells f → Goes tells limit a b la lb e f s0 s1 kept taken → c ≡ b → lc ≡ lb → (status ≡ Done → ⊥) → (status ≡ TooLong → ⊥) → ((need gap : ℕ) → status ≡ Full need gap → ⊥)
@@ -259,9 +261,10 @@ runs_failed tells limit a b c la lb lc e f s0 s1 kept taken status lawful goes s
       grew = subst (λ (t : Option (List Event)). Grows a t run) (sym same) goes.grew;
       read = subst (λ (l : Option (List ℕ)). Consumes la l bytes) (sym kept_input) goes.read;
       too_long = (λ long. absurd (not_long long), λ past. absurd (omega (arith, goes.within)));
-      each = λ s tell agrees. let one : GoingFrom tells e f s0 s1 run s = goes.each s tell agrees in
-          runs_from limit e f s0 run status s one.in_time
-          (subst (λ (l : List (List ℕ)). Progress s l (given_in run) f.images) (sym lines) (subst (λ (l : List ℕ). Progress s (whole bytes) l f.images) (sym one.given_is) (progress_full s (whole bytes) f.images (images_stand tells f s1.store (after s (whole bytes)) lawful one.agrees))))
-          (λ done. absurd (not_done done)) (subst (λ (l : List (List ℕ)). LeavesOnly (StandsAfterSome s l) e f) (sym lines) one.images)
-          (full_exactly (room_in s0) s (lines_in limit run) (given_in run) status (λ need gap is. absurd (not_full need gap is)) (inr (omega (arith, one.room, ap (λ (l : List (List ℕ)). records_bytes s l) lines))));
+      last = λ past. absurd (omega (arith, goes.within));
+      each = λ m tell agrees. let one : GoingFrom tells e f s0 s1 run m = goes.each m tell agrees in
+          runs_from limit e f s0 run status m one.in_time
+          (subst (λ (l : List (List ℕ)). Progress m l (given_in run) f.images) (sym lines) (subst (λ (l : List ℕ). Progress m (whole bytes) l f.images) (sym one.given_is) (progress_full m (whole bytes) f.images (images_stand tells f s1.store (after m (whole bytes)).state lawful one.agrees.store))))
+          (λ done. absurd (not_done done)) (subst (λ (l : List (List ℕ)). LeavesOnly (StandsAfterSome m l) e f) (sym lines) one.images)
+          (full_exactly (room_in s0) m (lines_in limit run) (given_in run) status (λ need gap is. absurd (not_full need gap is)) (inr (omega (arith, one.room, ap (λ (l : List (List ℕ)). records_bytes m l) lines))));
     }

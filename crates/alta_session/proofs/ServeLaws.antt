@@ -11,6 +11,7 @@ use Rattle.alta_journal.proofs.Unique.{one_reading}
 use Rattle.alta_meta.specs.declared.document.State.{State}
 use Rattle.alta_session.specs.Agreement.{AgreesOn, room_in}
 use Rattle.alta_session.specs.Fullness.{IsFullExactly}
+use Rattle.alta_session.specs.Machine.{Machine, started_at}
 use Rattle.alta_session.specs.Progress.{StandsAfterSome}
 use Rattle.alta_session.specs.Run.{Runs, Serves, Keeps}
 use Rattle.alta_session.specs.declared.session.Session.{Session}
@@ -35,15 +36,16 @@ serves_none tells limit told left d e status lawful passes not_done not_long not
   grew = grows_none told;
   read = consumes_none left;
   too_long = (λ long. absurd (not_long long), λ past. absurd (omega arith));
+  last = λ past. absurd (omega arith);
   replies = λ s tell stands. record { begin = ([], refl); all = λ done. absurd (not_done done); in_time = λ k t. absurd t };
-  full = λ s room tell stands left. full_exactly room s [] [] status (λ need gap is. absurd (not_full need gap is)) (inr (omega arith));
+  full = λ s room tell stands left. full_exactly room (started_at s) [] [] status (λ need gap is. absurd (not_full need gap is)) (inr (omega arith));
   keeps = λ s tell stands. record {
     now = λ c here. record {
       answered = 0;
       is_acked = record { within = omega arith; begins = ([], refl); greatest = λ j h begins. h };
       stands = record { reached = 0; least = omega arith; most = omega arith; within = omega arith; stands = same_stands (StandsFor s) d e passes stands.images c here };
     };
-    ever = opens_only tells d e (StandsAfterSome s []) lawful passes (λ c here. some_none s [] c (stands.images c here));
+    ever = opens_only tells d e (StandsAfterSome (started_at s) []) lawful passes (λ c here. some_none (started_at s) [] c (stands.images c here));
   };
   reopened = λ s tell stands. inl (record { none = refl; same = passes });
 }
@@ -54,32 +56,33 @@ older tells d m c lawful passes here =
     ⊎_elim (λ old. lawful.only_now c old) (λ from. subst (λ (z : List ℕ). d.images z) (sym from.2) from.1) (passes.between d.clock c (omega arith) here)
 
 -- the room of a session is what the journal of its disk has left
-room_is : (tells : Type 0) (d : DiskState) (session : Session) (s : State) (room : ℕ) → tells → AgreesOn tells d session s → HasRoom d.content room → room_in session ≡ room
-room_is tells d session s room tell agrees left =
-    let held = agrees.content tell in
+room_is : (tells : Type 0) (d : DiskState) (session : Session) (m : Machine) (room : ℕ) → tells → AgreesOn tells d session m → HasRoom d.content room → room_in session ≡ room
+room_is tells d session m room tell agrees left =
+    let held = agrees.store.content tell in
     ap (λ (place : ℕ). left_behind START_A place) (one_reading START_A session.store.tail.place left.place held.view.entries left.entries d.content held.is.journal left.journal).0 ∙ sym left.room_is
 
 -- it was opened, and then it ran
-pub serves_opened : (tells : Type 0) (limit : ℕ) (told told_now : Option (List Event)) (left left_now : Option (List ℕ)) (d m e : DiskState) (session : Session) (status : Status) → IsLawful tells d → Passes Same d m → ((s : State) → tells → StandsFor s d.content → AgreesOn tells m session s) → (tells → m.content ≡ d.content)
+pub serves_opened : (tells : Type 0) (limit : ℕ) (told told_now : Option (List Event)) (left left_now : Option (List ℕ)) (d m e : DiskState) (session : Session) (status : Status) → IsLawful tells d → Passes Same d m → ((s : State) → tells → StandsFor s d.content → AgreesOn tells m session (started_at s)) → (tells → m.content ≡ d.content)
     → Runs tells limit told told_now left left_now m e session status → Serves tells limit told told_now left left_now d e status
 serves_opened tells limit told told_now left left_now d m e session status lawful passes agrees same runs = record {
   run = runs.run;
   grew = runs.grew;
   read = runs.read;
   too_long = runs.too_long;
-  replies = λ s tell stands. (runs.each s tell (agrees s tell stands)).replies;
+  last = runs.last;
+  replies = λ s tell stands. (runs.each (started_at s) tell (agrees s tell stands)).replies;
   full = λ s room tell stands left.
-      let P : ℕ → Type 0 = λ n. IsFullExactly n s (lines_in limit runs.run) (given_in runs.run) status in
-      subst P (room_is tells m session s room tell (agrees s tell stands) (subst (λ (c : List ℕ). HasRoom c room) (sym (same tell)) left)) (runs.each s tell (agrees s tell stands)).full;
+      let P : ℕ → Type 0 = λ n. IsFullExactly n (started_at s) (lines_in limit runs.run) (given_in runs.run) status in
+      subst P (room_is tells m session (started_at s) room tell (agrees s tell stands) (subst (λ (c : List ℕ). HasRoom c room) (sym (same tell)) left)) (runs.each (started_at s) tell (agrees s tell stands)).full;
   keeps = λ s tell stands.
-      let one : Keeps limit s runs.run m e = (runs.each s tell (agrees s tell (stands.content tell))).keeps in
+      let one : Keeps limit (started_at s) runs.run m e = (runs.each (started_at s) tell (agrees s tell (stands.content tell))).keeps in
       let lines : List (List ℕ) = lines_in limit runs.run in
       record {
         now = one.now;
-        ever = leaves_then d m e (StandsAfterSome s lines) (opens_only tells d m (StandsAfterSome s lines) lawful passes (λ c here. some_none s lines c (stands.images c here))) one.ever;
+        ever = leaves_then d m e (StandsAfterSome (started_at s) lines) (opens_only tells d m (StandsAfterSome (started_at s) lines) lawful passes (λ c here. some_none (started_at s) lines c (stands.images c here))) one.ever;
       };
   reopened = λ s tell stands.
-      let one : Keeps limit s runs.run m e = (runs.each s tell (agrees s tell stands)).keeps in
+      let one : Keeps limit (started_at s) runs.run m e = (runs.each (started_at s) tell (agrees s tell stands)).keeps in
       inr (record {
         moment = m.clock;
         not_before = passes.later;

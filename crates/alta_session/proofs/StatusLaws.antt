@@ -1,6 +1,6 @@
 -- Laws of statuses.
 use Rattle.std.proofs.Common.{◌≡◌, ◌≢◌, ◌⊎◌, ℕ, inl, inr, refl, ap, sym, subst, ◌∙◌, Result, Ok, Err}
-use Rattle.alta_session.specs.Status.{EndsLine, EndsRunning, EndsRun, EndsInit, IsOpened, Completes, Yields, status_for}
+use Rattle.alta_session.specs.Status.{EndsLine, EndsRunning, EndsRun, EndsInit, IsOpened, IsUnopened, Completes, Yields, status_for}
 use Rattle.alta_session.specs.declared.status.Status.{Status}
 use Rattle.alta_session.specs.declared.status.Status.TheVariants.{Done, Usage, DiskFault, TakeFault, GiveFault, Memory, Damaged, NoRoot, Full, TooLong, Exists}
 use Rattle.alta_store.specs.Answers.{IsOutside, AnswersFault}
@@ -38,6 +38,10 @@ running_never status (inr (inr (inr (inr (inl is))))) = (λ other. cc, λ other.
 running_never status (inr (inr (inr (inr (inr (inl is)))))) = (λ other. cc, λ other. cc)
 running_never status (inr (inr (inr (inr (inr (inr (need, gap, is))))))) = (λ other. cc, λ other. cc)
 
+pub opened_not : (status : Status) → IsOpened status → IsUnopened status → ⊥
+opened_not status opened (inl is) = opened.rooted is
+opened_not status opened (inr (place, is)) = opened.whole place is
+
 -- where no call fails
 pub running_completes : (status : Status) (takes gives disk : Type 0) → EndsRunning status → (status ≡ TakeFault → takes) → (status ≡ GiveFault → gives) → (status ≡ DiskFault → disk) → (takes → ⊥) → (gives → ⊥) → (disk → ⊥) → Completes status
 running_completes status takes gives disk (inl is) t g d no_take no_give no_disk = inl is
@@ -54,6 +58,17 @@ opening_ends e (inl (inl is)) = subst EndsRun (sym is) tt
 opening_ends e (inl (inr is)) = subst EndsRun (sym is) tt
 opening_ends e (inr (inl is)) = subst EndsRun (sym is) tt
 opening_ends e (inr (inr (place, is))) = subst EndsRun (sym is) tt
+
+-- what a fault of a line becomes
+pub line_ends_run : (e : StoreFault) → IsOutside e ⊎ ((need gap : ℕ) × (e ≡ StoreFull need gap)) → EndsRun e
+line_ends_run e (inl (inl is)) = subst EndsRun (sym is) tt
+line_ends_run e (inl (inr is)) = subst EndsRun (sym is) tt
+line_ends_run e (inr (need, gap, is)) = subst EndsRun (sym is) tt
+
+pub line_ends : (r : Status) (e : StoreFault) → r ≡ status_for e → IsOutside e ⊎ ((need gap : ℕ) × (e ≡ StoreFull need gap)) → EndsLine r
+line_ends r e is (inl (inl memory)) = inl (is ∙ ap status_for memory)
+line_ends r e is (inl (inr disk)) = inr (inl (is ∙ ap status_for disk))
+line_ends r e is (inr (need, gap, full)) = inr (inr (inr (need, gap, is ∙ ap status_for full)))
 
 -- it is not full: nothing was to be written
 pub opening_not_full : (e : StoreFault) (status : Status) (need gap : ℕ) → IsOutside e ⊎ ((e ≡ StoreNoRoot) ⊎ ((place : ℕ) × (e ≡ StoreDamaged place))) → status ≡ status_for e → status ≡ Full need gap → ⊥

@@ -1,17 +1,19 @@
 -- What a session means.
-use Rattle.std.specs.Prelude.{◌≡◌, ℕ, true}
+use Rattle.std.specs.Prelude.{◌≡◌, ℕ, true, []}
 use Rattle.alta_disk.specs.Disk.{DiskState}
-use Rattle.alta_meta.specs.declared.document.State.{State}
+use Rattle.alta_session.specs.Machine.{Machine}
 use Rattle.alta_session.specs.declared.session.Session.{Session}
 use Rattle.alta_store.specs.Agreement.{Agrees, is_sound, room_of}
 
--- the session and the disk agree on this state: nothing is pending, and the disk stands for it where it tells
-abbrev pub AgreesOn : Type 0 → DiskState → Session → State → Type 0
-AgreesOn tells disk session s = Agrees tells disk session.store s
+-- Session and disk agree on this machine: nothing is pending, the disk stands for its state where it tells, and no cursor is
+-- open.
+pub record AgreesOn (tells : Type 0) (disk : DiskState) (session : Session) (m : Machine) : Type 0 where
+  pub store : Agrees tells disk session.store m.state
+  pub cursors : m.cursors ≡ []
 
--- there is a state on which they agree
+-- there is a machine on which they agree
 abbrev pub AgreesOnSome : Type 0 → DiskState → Session → Type 0
-AgreesOnSome tells disk session = (s : State) × AgreesOn tells disk session s
+AgreesOnSome tells disk session = (m : Machine) × AgreesOn tells disk session m
 
 -- how many bytes the journal has left for a record
 abbrev pub room_in : Session → ℕ

@@ -4,21 +4,21 @@ use Rattle.alta_console.specs.Giving.{Gives}
 use Rattle.alta_console.specs.Replies.{joined}
 use Rattle.alta_console.specs.declared.event.Event.{Event}
 use Rattle.alta_disk.specs.Disk.{DiskState, LeavesOnly}
-use Rattle.alta_meta.specs.declared.document.State.{State}
 use Rattle.alta_session.specs.Agreement.{AgreesOn, room_in}
 use Rattle.alta_session.specs.Fullness.{records_bytes}
-use Rattle.alta_session.specs.Machine.{after, replies}
+use Rattle.alta_session.specs.Machine.{Machine, after, replies}
 use Rattle.alta_session.specs.Progress.{StandsAfterSome}
 use Rattle.alta_session.specs.declared.session.Session.{Session}
 
--- From this state the lines were answered, their records fitted, and at no moment was there an image of another state than after some.
-pub record FedFrom (tells : Type 0) (disk disk_now : DiskState) (session session_now : Session) (lines : List (List ℕ)) (given : List ℕ) (s : State) : Type 0 where
-  pub given_is : given ≡ joined (replies s lines)
-  pub agrees : AgreesOn tells disk_now session_now (after s lines)
-  pub images : LeavesOnly (StandsAfterSome s lines) disk disk_now
-  pub room : room_in session_now + records_bytes s lines ≡ room_in session
+-- From this machine on the lines were answered, their records fitted, and at no moment was there an image of another state
+-- than after some.
+pub record FedFrom (tells : Type 0) (disk disk_now : DiskState) (session session_now : Session) (lines : List (List ℕ)) (given : List ℕ) (m : Machine) : Type 0 where
+  pub given_is : given ≡ joined (replies m lines)
+  pub agrees : AgreesOn tells disk_now session_now (after m lines)
+  pub images : LeavesOnly (StandsAfterSome m lines) disk disk_now
+  pub room : room_in session_now + records_bytes m lines ≡ room_in session
 
 pub record Fed (tells : Type 0) (told told_now : Option (List Event)) (disk disk_now : DiskState) (session session_now : Session) (lines : List (List ℕ)) : Type 0 where
   pub given : List ℕ
   pub gave : Gives told told_now given
-  pub each : (s : State) → tells → AgreesOn tells disk session s → FedFrom tells disk disk_now session session_now lines given s
+  pub each : (m : Machine) → tells → AgreesOn tells disk session m → FedFrom tells disk disk_now session session_now lines given m

@@ -5,22 +5,21 @@ use Rattle.alta_console.specs.Replies.{joined}
 use Rattle.alta_console.specs.Transcript.{given_in, taken_in, has_ended, Grows, Consumes}
 use Rattle.alta_console.specs.declared.event.Event.{Event}
 use Rattle.alta_disk.specs.Disk.{DiskState, LeavesOnly}
-use Rattle.alta_meta.specs.declared.document.State.{State}
 use Rattle.alta_session.specs.Agreement.{AgreesOn, room_in}
 use Rattle.alta_session.specs.Fullness.{records_bytes}
 use Rattle.alta_session.specs.Keeping.{clip}
-use Rattle.alta_session.specs.Machine.{after, replies}
+use Rattle.alta_session.specs.Machine.{Machine, after, replies}
 use Rattle.alta_session.specs.Progress.{StandsAfterSome}
 use Rattle.alta_session.specs.Run.{AnswersInTime}
 use Rattle.alta_session.specs.declared.session.Session.{Session}
 
--- From this state every whole line taken so far was answered.
-pub record GoingFrom (tells : Type 0) (disk disk_now : DiskState) (session session_now : Session) (run : List Event) (s : State) : Type 0 where
-  pub given_is : given_in run ≡ joined (replies s (whole (taken_in run)))
-  pub in_time : AnswersInTime s run
-  pub agrees : AgreesOn tells disk_now session_now (after s (whole (taken_in run)))
-  pub images : LeavesOnly (StandsAfterSome s (whole (taken_in run))) disk disk_now
-  pub room : room_in session_now + records_bytes s (whole (taken_in run)) ≡ room_in session
+-- From this machine on every whole line taken so far was answered.
+pub record GoingFrom (tells : Type 0) (disk disk_now : DiskState) (session session_now : Session) (run : List Event) (m : Machine) : Type 0 where
+  pub given_is : given_in run ≡ joined (replies m (whole (taken_in run)))
+  pub in_time : AnswersInTime m run
+  pub agrees : AgreesOn tells disk_now session_now (after m (whole (taken_in run)))
+  pub images : LeavesOnly (StandsAfterSome m (whole (taken_in run))) disk disk_now
+  pub room : room_in session_now + records_bytes m (whole (taken_in run)) ≡ room_in session
 
 -- A run that took this many bytes, and may take more. `kept` is kept of the line that has begun.
 pub record Goes (tells : Type 0) (limit : ℕ) (told told_now : Option (List Event)) (left left_now : Option (List ℕ)) (disk disk_now : DiskState) (session session_now : Session) (kept : List ℕ) (taken : ℕ) : Type 0 where
@@ -31,4 +30,4 @@ pub record Goes (tells : Type 0) (limit : ℕ) (told told_now : Option (List Eve
   pub within : length (taken_in run) ≤ limit
   pub kept_is : clip kept ≡ clip (begun (taken_in run))
   pub not_ended : has_ended run ≡ false
-  pub each : (s : State) → tells → AgreesOn tells disk session s → GoingFrom tells disk disk_now session session_now run s
+  pub each : (m : Machine) → tells → AgreesOn tells disk session m → GoingFrom tells disk disk_now session session_now run m

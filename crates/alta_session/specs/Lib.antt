@@ -1,4 +1,5 @@
 pub mod Agreement
+pub mod Answering
 pub mod Asking
 pub mod Fed
 pub mod Fullness

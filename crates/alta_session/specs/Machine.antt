@@ -1,13 +1,28 @@
--- The abstract machine: what each line answers, and the state after it.
-use Rattle.std.specs.Prelude.{◌≡◌, ◌⊎◌, ℕ, Bool, true, ◌&&◌, List, [], ◌∷◌, ◌++◌, length, if◌then◌else◌, nat_le, nat_eq, codes, decimal, Option, Some, None}
+-- The abstract machine: what each line answers, and the machine after it.
+use Rattle.std.specs.Prelude.{◌≡◌, ℕ, Bool, true, ◌&&◌, List, [], ◌∷◌, ◌++◌, length, if◌then◌else◌, nat_le, nat_eq, codes, decimal, Option, Some, None}
 use Rattle.std.specs.List.{list_all, starts_with}
+use Rattle.alta_meta.specs.declared.document.Document.{Document}
 use Rattle.alta_meta.specs.declared.document.State.{State}
-use Rattle.alta_model.specs.Command.{Command, adds, deletes, searches, counts, explains, asks_stats}
+use Rattle.alta_model.specs.Command.{Command, adds, deletes, searches, counts, explains, opens, fetches, closes, flushes, merges, steps, asks_stats}
 use Rattle.alta_model.specs.Lines.{Reading, asks, refuses, reading_of}
 use Rattle.alta_model.specs.declared.line.LineFault.{LineFault}
 use Rattle.alta_model.specs.declared.line.LineFault.TheVariants.{TooLong, NotUtf8, Unknown, Bad}
 use Rattle.alta_session.specs.Searching.{searching, counting, explaining}
 use Rattle.alta_store.specs.States.{has_name, number_of, words_in, with_added, with_deleted}
+
+-- A cursor that is open: its number, and the answers to its query that are still to come.
+pub record Cursor : Type 0 where
+  pub number : ℕ
+  pub left : List Document
+
+-- The machine between two lines: a state, and the cursors that are open. No command opens one yet.
+pub record Machine : Type 0 where
+  pub state : State
+  pub cursors : List Cursor
+
+-- with this state, and no cursor
+abbrev pub started_at : State → Machine
+started_at s = record { state = s; cursors = [] }
 
 -- 1 to 64 graphic ASCII bytes
 unfoldable pub is_name : List ℕ → Bool
@@ -43,38 +58,59 @@ unfoldable pub stats_of : State → List ℕ
 stats_of s =
     codes "documents " ++ decimal (length s.documents) ++ codes " words " ++ decimal (words_in s) ++ codes " next " ++ decimal s.next ++ codes "\n"
 
--- the state after a command, and the reply
-abbrev pub obeyed : State → Command → State × List ℕ
-obeyed s (adds name title body) = adding name title body s
-obeyed s (deletes name) = deleting name s
-obeyed s (searches text) = (s, searching text s.documents)
-obeyed s (counts text) = (s, counting text s.documents)
-obeyed s (explains text) = (s, explaining text)
-obeyed s asks_stats = (s, stats_of s)
-obeyed s _ = (s, codes "! unknown command\n")
+-- the machine after a change of its state, and the reply
+abbrev pub changed_by : Machine → State × List ℕ → Machine × List ℕ
+changed_by m change = (record { state = change.0; cursors = m.cursors }, change.1)
 
-abbrev pub answered : State → Reading → State × List ℕ
-answered s (asks command) = obeyed s command
-answered s (refuses fault) = (s, refusal fault)
+-- the machine after a command, and the reply
+abbrev pub obeyed : Machine → Command → Machine × List ℕ
+obeyed m (adds name title body) = changed_by m (adding name title body m.state)
+obeyed m (deletes name) = changed_by m (deleting name m.state)
+obeyed m (searches text) = (m, searching text m.state.documents)
+obeyed m (counts text) = (m, counting text m.state.documents)
+obeyed m (explains text) = (m, explaining text)
+obeyed m (opens text) = (m, refusal Unknown)
+obeyed m (fetches cursor count) = (m, refusal Unknown)
+obeyed m (closes cursor) = (m, refusal Unknown)
+obeyed m flushes = (m, refusal Unknown)
+obeyed m merges = (m, refusal Unknown)
+obeyed m (steps count) = (m, refusal Unknown)
+obeyed m asks_stats = (m, stats_of m.state)
 
--- the state after a line, and the reply
-unfoldable pub step : State → List ℕ → State × List ℕ
-step s line = answered s (reading_of line)
+abbrev pub answered : Machine → Reading → Machine × List ℕ
+answered m (asks command) = obeyed m command
+answered m (refuses fault) = (m, refusal fault)
 
--- the state after lines
-abbrev pub after : State → List (List ℕ) → State
-after s [] = s
-after s (line ∷ lines) = after (step s line).0 lines
+-- the machine after a line, and the reply
+unfoldable pub step : Machine → List ℕ → Machine × List ℕ
+step m line = answered m (reading_of line)
+
+-- the machine after lines
+abbrev pub after : Machine → List (List ℕ) → Machine
+after m [] = m
+after m (line ∷ lines) = after (step m line).0 lines
 
 -- the replies to lines
-abbrev pub replies : State → List (List ℕ) → List (List ℕ)
-replies s [] = []
-replies s (line ∷ lines) = (step s line).1 ∷ replies (step s line).0 lines
+abbrev pub replies : Machine → List (List ℕ) → List (List ℕ)
+replies m [] = []
+replies m (line ∷ lines) = (step m line).1 ∷ replies (step m line).0 lines
 
 -- the reply refuses its line
 abbrev pub IsRefusal : List ℕ → Type 0
 IsRefusal reply = starts_with nat_eq reply (codes "! ") ≡ true
 
--- the line asks for the counts, or for the plan of a query
-abbrev pub IsStatsOrExplain : List ℕ → Type 0
-IsStatsOrExplain line = (reading_of line ≡ asks asks_stats) ⊎ ((text : List ℕ) × (reading_of line ≡ asks (explains text)))
+-- the command looks at the documents, or at nothing
+abbrev pub IsLook : Command → Type 0
+IsLook (searches text) = Unit {0}
+IsLook (counts text) = Unit {0}
+IsLook (explains text) = Unit {0}
+IsLook asks_stats = Unit {0}
+IsLook _ = ⊥
+
+abbrev pub LooksIn : Reading → Type 0
+LooksIn (asks command) = IsLook command
+LooksIn (refuses fault) = ⊥
+
+-- the line asks for the answers of a query, for their count, for its plan, or for the counts
+abbrev pub Looks : List ℕ → Type 0
+Looks line = LooksIn (reading_of line)

@@ -4,31 +4,30 @@ use Rattle.alta_console.specs.Giving.{Gives}
 use Rattle.alta_console.specs.Replies.{joined, IsPartOfFirst}
 use Rattle.alta_console.specs.declared.event.Event.{Event}
 use Rattle.alta_disk.specs.Disk.{DiskState, LeavesOnly}
-use Rattle.alta_meta.specs.declared.document.State.{State}
 use Rattle.alta_session.specs.Agreement.{AgreesOn, room_in}
 use Rattle.alta_session.specs.Fullness.{IsFullOnly}
-use Rattle.alta_session.specs.Machine.{after, replies}
+use Rattle.alta_session.specs.Machine.{Machine, after, replies}
 use Rattle.alta_session.specs.declared.session.Session.{Session}
 use Rattle.alta_session.specs.declared.status.Status.{Status}
 use Rattle.alta_store.specs.Meaning.{StandsFor}
 
 -- the image stands for the state after some of the lines, in order from the first
-pub record StandsAfterSome (start : State) (lines : List (List ℕ)) (image : List ℕ) : Type 0 where
+pub record StandsAfterSome (start : Machine) (lines : List (List ℕ)) (image : List ℕ) : Type 0 where
   pub reached : ℕ
   pub within : reached ≤ length lines
-  pub stands : StandsFor (after start (take reached lines)) image
+  pub stands : StandsFor (after start (take reached lines)).state image
 
 -- the image stands for the state after this many of the lines, or after one more
-pub record StandsAfter (answered : ℕ) (start : State) (lines : List (List ℕ)) (image : List ℕ) : Type 0 where
+pub record StandsAfter (answered : ℕ) (start : Machine) (lines : List (List ℕ)) (image : List ℕ) : Type 0 where
   pub reached : ℕ
   pub least : answered ≤ reached
   pub most : reached ≤ answered + 1
   pub within : reached ≤ length lines
-  pub stands : StandsFor (after start (take reached lines)) image
+  pub stands : StandsFor (after start (take reached lines)).state image
 
 -- Of the replies to lines some were given whole, and then less than the whole next one. Each of the images stands for
 -- the state after the lines of the whole replies, or after one more.
-pub record Progress (start : State) (lines : List (List ℕ)) (given : List ℕ) (images : List ℕ → Type 0) : Type 0 where
+pub record Progress (start : Machine) (lines : List (List ℕ)) (given : List ℕ) (images : List ℕ → Type 0) : Type 0 where
   pub answered : ℕ
   pub part : List ℕ
   pub some : answered ≤ length lines
@@ -37,12 +36,12 @@ pub record Progress (start : State) (lines : List (List ℕ)) (given : List ℕ)
   pub stand : (image : List ℕ) → images image → StandsAfter answered start lines image
 
 -- Of lines some were answered, and it ended with this status.
-pub record StopsWithinFrom (disk disk_now : DiskState) (session : Session) (lines : List (List ℕ)) (given : List ℕ) (status : Status) (s : State) : Type 0 where
-  pub progress : Progress s lines given disk_now.images
-  pub images : LeavesOnly (StandsAfterSome s lines) disk disk_now
-  pub full : IsFullOnly (room_in session) s lines given status
+pub record StopsWithinFrom (disk disk_now : DiskState) (session : Session) (lines : List (List ℕ)) (given : List ℕ) (status : Status) (m : Machine) : Type 0 where
+  pub progress : Progress m lines given disk_now.images
+  pub images : LeavesOnly (StandsAfterSome m lines) disk disk_now
+  pub full : IsFullOnly (room_in session) m lines given status
 
 pub record StopsWithin (tells : Type 0) (told told_now : Option (List Event)) (disk disk_now : DiskState) (session : Session) (lines : List (List ℕ)) (status : Status) : Type 0 where
   pub given : List ℕ
   pub gave : Gives told told_now given
-  pub each : (s : State) → tells → AgreesOn tells disk session s → StopsWithinFrom disk disk_now session lines given status s
+  pub each : (m : Machine) → tells → AgreesOn tells disk session m → StopsWithinFrom disk disk_now session lines given status m

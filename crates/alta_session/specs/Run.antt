@@ -1,14 +1,15 @@
 -- A whole run of a console and a disk.
-use Rattle.std.specs.Prelude.{◌≡◌, ◌<◌, ◌≤◌, ◌↔◌, ◌⊎◌, ℕ, true, List, [], Option, length, take}
+use Rattle.std.specs.Prelude.{◌≡◌, ◌<◌, ◌≤◌, ◌↔◌, ◌⊎◌, ℕ, true, List, [], ◌∷◌, ◌++◌, Option, length, take}
 use Rattle.alta_console.specs.Lines.{whole}
 use Rattle.alta_console.specs.Replies.{joined, IsPrefix, IsAcked}
 use Rattle.alta_console.specs.Transcript.{given_in, taken_in, has_ended, lines_in, TakesAt, Grows, Consumes}
 use Rattle.alta_console.specs.declared.event.Event.{Event}
+use Rattle.alta_console.specs.declared.event.Event.TheVariants.{Taken}
 use Rattle.alta_disk.specs.Disk.{DiskState, Each, Same, Stands, Passes, LeavesOnly}
 use Rattle.alta_meta.specs.declared.document.State.{State}
 use Rattle.alta_session.specs.Agreement.{AgreesOn, room_in}
 use Rattle.alta_session.specs.Fullness.{IsFullExactly}
-use Rattle.alta_session.specs.Machine.{replies}
+use Rattle.alta_session.specs.Machine.{Machine, started_at, replies}
 use Rattle.alta_session.specs.Progress.{StandsAfterSome, StandsAfter}
 use Rattle.alta_session.specs.declared.session.Session.{Session}
 use Rattle.alta_session.specs.declared.status.Status.{Status}
@@ -17,39 +18,52 @@ use Rattle.alta_store.specs.Agreement.{HasRoom}
 use Rattle.alta_store.specs.Meaning.{StandsFor}
 
 -- At each take, what was given so far is the replies to the whole lines taken so far.
-abbrev pub AnswersInTime : State → List Event → Type 0
+abbrev pub AnswersInTime : Machine → List Event → Type 0
 AnswersInTime start run = (k : ℕ) → TakesAt run k → given_in (take k run) ≡ joined (replies start (whole (taken_in (take k run))))
 
--- What a run gives that begins at this state and ends with this status: the replies of the machine.
-pub record Replies (limit : ℕ) (start : State) (run : List Event) (status : Status) : Type 0 where
+-- What a run gives that begins at this machine and ends with this status: the replies of the machine.
+pub record Replies (limit : ℕ) (start : Machine) (run : List Event) (status : Status) : Type 0 where
   pub begin : IsPrefix (given_in run) (joined (replies start (lines_in limit run)))
   pub all : status ≡ Done → (has_ended run ≡ true) × (given_in run ≡ joined (replies start (lines_in limit run)))
   pub in_time : AnswersInTime start run
 
 -- The image stands for the state after a prefix of the lines that holds each line whose reply was given whole, and at
 -- most one more.
-pub record KeepsAnswered (limit : ℕ) (start : State) (run : List Event) (image : List ℕ) : Type 0 where
+pub record KeepsAnswered (limit : ℕ) (start : Machine) (run : List Event) (image : List ℕ) : Type 0 where
   pub answered : ℕ
   pub is_acked : IsAcked answered (replies start (lines_in limit run)) (given_in run)
   pub stands : StandsAfter answered start (lines_in limit run) image
 
--- What the disk may hold after a run from this state, and at any moment from one on.
-pub record Keeps (limit : ℕ) (start : State) (run : List Event) (disk disk_now : DiskState) : Type 0 where
+-- What the disk may hold after a run from this machine, and at any moment from one on.
+pub record Keeps (limit : ℕ) (start : Machine) (run : List Event) (disk disk_now : DiskState) : Type 0 where
   pub now : Each disk_now.images (KeepsAnswered limit start run)
   pub ever : LeavesOnly (StandsAfterSome start (lines_in limit run)) disk disk_now
 
+-- The content is as it was, where it is told, and no image is new.
+pub record KeepsDisk (tells : Type 0) (disk disk_now : DiskState) : Type 0 where
+  pub content : tells → disk_now.content ≡ disk.content
+  pub images : Passes Same disk disk_now
+
+-- The take that passed the limit is the last event.
+pub record EndsPast (limit : ℕ) (run : List Event) : Type 0 where
+  pub before : List Event
+  pub piece : List ℕ
+  pub run_is : run ≡ before ++ Taken piece ∷ []
+  pub within : length (taken_in before) ≤ limit
+
 -- The run of an open session.
-pub record RunsFrom (limit : ℕ) (disk disk_now : DiskState) (session : Session) (run : List Event) (status : Status) (s : State) : Type 0 where
-  pub replies : Replies limit s run status
-  pub keeps : Keeps limit s run disk disk_now
-  pub full : IsFullExactly (room_in session) s (lines_in limit run) (given_in run) status
+pub record RunsFrom (limit : ℕ) (disk disk_now : DiskState) (session : Session) (run : List Event) (status : Status) (m : Machine) : Type 0 where
+  pub replies : Replies limit m run status
+  pub keeps : Keeps limit m run disk disk_now
+  pub full : IsFullExactly (room_in session) m (lines_in limit run) (given_in run) status
 
 pub record Runs (tells : Type 0) (limit : ℕ) (told told_now : Option (List Event)) (left left_now : Option (List ℕ)) (disk disk_now : DiskState) (session : Session) (status : Status) : Type 0 where
   pub run : List Event
   pub grew : Grows told told_now run
   pub read : Consumes left left_now (taken_in run)
   pub too_long : (status ≡ TooLong) ↔ (limit < length (taken_in run))
-  pub each : (s : State) → tells → AgreesOn tells disk session s → RunsFrom limit disk disk_now session run status s
+  pub last : limit < length (taken_in run) → EndsPast limit run
+  pub each : (m : Machine) → tells → AgreesOn tells disk session m → RunsFrom limit disk disk_now session run status m
 
 -- no line was taken, and what the disk may hold now it might have held before
 pub record NotOpened (disk disk_now : DiskState) (run : List Event) : Type 0 where
@@ -58,7 +72,7 @@ pub record NotOpened (disk disk_now : DiskState) (run : List Event) : Type 0 whe
 
 -- It was opened at this moment, and from then on no image stood for another state than that after some of the lines.
 -- Before, each was one of the start.
-pub record KeepsSince (limit : ℕ) (start : State) (run : List Event) (disk disk_now : DiskState) : Type 0 where
+pub record KeepsSince (limit : ℕ) (start : Machine) (run : List Event) (disk disk_now : DiskState) : Type 0 where
   pub moment : ℕ
   pub not_before : disk.clock ≤ moment
   pub not_after : moment ≤ disk_now.clock
@@ -72,11 +86,12 @@ pub record Serves (tells : Type 0) (limit : ℕ) (told told_now : Option (List E
   pub grew : Grows told told_now run
   pub read : Consumes left left_now (taken_in run)
   pub too_long : (status ≡ TooLong) ↔ (limit < length (taken_in run))
+  pub last : limit < length (taken_in run) → EndsPast limit run
   -- where the content stands for a state
-  pub replies : (s : State) → tells → StandsFor s disk.content → Replies limit s run status
+  pub replies : (s : State) → tells → StandsFor s disk.content → Replies limit (started_at s) run status
   -- and its journal has this room
-  pub full : (s : State) (room : ℕ) → tells → StandsFor s disk.content → HasRoom disk.content room → IsFullExactly room s (lines_in limit run) (given_in run) status
+  pub full : (s : State) (room : ℕ) → tells → StandsFor s disk.content → HasRoom disk.content room → IsFullExactly room (started_at s) (lines_in limit run) (given_in run) status
   -- where each image stands for a state
-  pub keeps : (s : State) → tells → Stands tells disk (StandsFor s) → Keeps limit s run disk disk_now
+  pub keeps : (s : State) → tells → Stands tells disk (StandsFor s) → Keeps limit (started_at s) run disk disk_now
   -- where the content does, whatever was pending
-  pub reopened : (s : State) → tells → StandsFor s disk.content → NotOpened disk disk_now run ⊎ KeepsSince limit s run disk disk_now
+  pub reopened : (s : State) → tells → StandsFor s disk.content → NotOpened disk disk_now run ⊎ KeepsSince limit (started_at s) run disk disk_now

@@ -48,6 +48,14 @@ pub record IsOpened (status : Status) : Type 0 where
   pub rooted : status ≢ NoRoot
   pub whole : (place : ℕ) → status ≢ Damaged place
 
+-- there is no index, or it is damaged
+abbrev pub IsUnopened : Status → Type 0
+IsUnopened status = (status ≡ NoRoot) ⊎ ((place : ℕ) × (status ≡ Damaged place))
+
+-- no index was made: there is one already, or the disk is too small
+abbrev pub IsUnmade : Status → Type 0
+IsUnmade status = (status ≡ Exists) ⊎ ((need gap : ℕ) × (status ≡ Full need gap))
+
 -- want of memory, or a fault of the disk, which is counted
 abbrev pub Yields : Status → Type 0
 Yields status = (status ≡ Memory) ⊎ (status ≡ DiskFault)

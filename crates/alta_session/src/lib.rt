@@ -2,12 +2,14 @@
 #![tactic(auto)]
 
 mod giving;
+mod laws;
 mod searching;
 mod serving;
 mod session;
 mod status;
 mod top;
 
+pub use laws::a_line_keeps_a_state;
 pub use serving::serve;
 pub use session::Session;
 pub use status::{Status, status_line};

@@ -8,6 +8,7 @@ ghost use Rattle.alta_query.specs.Answer.{fault_in};
 ghost use Rattle.alta_query.specs.Spelling.{canonical};
 ghost use Rattle.alta_query.specs.Texts.{HasTextTerms};
 ghost use Rattle.alta_query.specs.View.{shape};
+ghost use Rattle.alta_session.specs.Answering.{IsReply};
 ghost use Rattle.alta_session.specs.Searching.{answer_lines, cause_name, found_line, query_refusal, searching, counting, explaining};
 
 use alta_codec::Text;
@@ -21,8 +22,7 @@ use std::alloc::{AllocError, Global};
 /// The reply to a search: a line for each document that matches, with its number and name, and how many they are, or that
 /// the text is no query. It fails for want of memory alone.
 pub fn search(alloc: Global, documents: &Documents, text: &str) -> Result<Text, StoreFault>
-    ensures reply { IfOk result (λ reply. reply ≡ searching text.now documents.now) }
-    ensures memory { IfErr result (λ e. e ≡ StoreFault.Memory) }
+    ensures { IsReply (searching text.now documents.now) result }
 {
     match parse(alloc, text) {
         Ok(query) => written(listed(alloc, documents, &query)),
@@ -32,8 +32,7 @@ pub fn search(alloc: Global, documents: &Documents, text: &str) -> Result<Text, 
 
 /// The reply to a count: how many documents match, or that the text is no query. It fails for want of memory alone.
 pub fn count(alloc: Global, documents: &Documents, text: &str) -> Result<Text, StoreFault>
-    ensures reply { IfOk result (λ reply. reply ≡ counting text.now documents.now) }
-    ensures memory { IfErr result (λ e. e ≡ StoreFault.Memory) }
+    ensures { IsReply (counting text.now documents.now) result }
 {
     match parse(alloc, text) {
         Ok(query) => written(counted(alloc, documents, &query)),
@@ -44,8 +43,7 @@ pub fn count(alloc: Global, documents: &Documents, text: &str) -> Result<Text, S
 /// The reply to an explain: the canonical spelling of the query and the lines of its plan, or that the text is no query. It
 /// fails for want of memory alone.
 pub fn explain(alloc: Global, text: &str) -> Result<Text, StoreFault>
-    ensures reply { IfOk result (λ reply. reply ≡ explaining text.now) }
-    ensures memory { IfErr result (λ e. e ≡ StoreFault.Memory) }
+    ensures { IsReply (explaining text.now) result }
 {
     match parse(alloc, text) {
         Ok(query) => written(with_plan(alloc, &query)),

@@ -4,13 +4,13 @@ ghost use Rattle.alta_codec.specs.Faults.{Rose};
 ghost use Rattle.alta_console.specs.Lines.{NoNewline, whole_from, begun_from, last_piece};
 ghost use Rattle.alta_disk.specs.Disk.{DiskState};
 ghost use Rattle.alta_meta.specs.declared.document.State.{State};
-ghost use Rattle.alta_session.specs.Agreement.{AgreesOnSome, IsSound};
+ghost use Rattle.alta_session.specs.Answering.{CanAnswer};
 ghost use Rattle.alta_session.specs.Fed.{Fed};
 ghost use Rattle.alta_session.specs.Keeping.{clip};
 ghost use Rattle.alta_session.specs.Fullness.{IsFull};
 ghost use Rattle.alta_session.specs.Progress.{StopsWithin};
-ghost use Rattle.alta_session.specs.Run.{Runs, Serves};
-ghost use Rattle.alta_session.specs.Status.{EndsLine, EndsRunning, IsOpened, Completes, Yields};
+ghost use Rattle.alta_session.specs.Run.{KeepsDisk, Runs, Serves};
+ghost use Rattle.alta_session.specs.Status.{EndsLine, EndsRunning, IsOpened, IsUnopened, Completes, Yields};
 ghost use Rattle.alta_store.specs.Brokenness.{HasNoIndex, IsBrokenAt};
 ghost use Rattle.alta_store.specs.Meaning.{StandsFor};
 
@@ -37,13 +37,10 @@ fn answer<C: Console, D: Disk>(
     line: &[u8],
 ) -> Result<(), Status>
     requires one_line { NoNewline line.now }
-    requires sound { IsSound session.old }
-    requires agrees { AgreesOnSome D.tells (D.state disk.old) session.old }
-    requires limit { 2105344 ≤ (D.state disk.old).limit }
+    requires can { CanAnswer D.tells (D.state disk.old) session.old }
     ensures ok { OnOk result (Fed D.tells (C.told console.old) (C.told console.new) (D.state disk.old) (D.state disk.new) session.old session.new (line.now ∷ [])) }
     ensures err { IfErr result (StopsWithin D.tells (C.told console.old) (C.told console.new) (D.state disk.old) (D.state disk.new) session.old (line.now ∷ [])) }
-    ensures some { OnOk result (AgreesOnSome D.tells (D.state disk.new) session.new) }
-    ensures sound { OnOk result (IsSound session.new) }
+    ensures can { OnOk result (CanAnswer D.tells (D.state disk.new) session.new) }
     ensures ends { IfErr result EndsLine }
     ensures full { (need gap : ℕ) → D.tells → result ≡ Err (Status.Full need gap) → IsFull (D.state disk.new).content need gap }
     ensures give_fault { result ≡ Err Status.GiveFault → Rose (C.give_faults console.old) (C.give_faults console.new) }
@@ -89,14 +86,11 @@ fn end_line<C: Console, D: Disk>(
     requires short { length begun.old.items ≤ 65536 }
     requires begun_free { NoNewline begun.old.items }
     requires rest_free { NoNewline rest.now }
-    requires sound { IsSound session.old }
-    requires agrees { AgreesOnSome D.tells (D.state disk.old) session.old }
-    requires limit { 2105344 ≤ (D.state disk.old).limit }
+    requires can { CanAnswer D.tells (D.state disk.old) session.old }
     ensures ok { OnOk result (Fed D.tells (C.told console.old) (C.told console.new) (D.state disk.old) (D.state disk.new) session.old session.new ((begun.old.items ++ rest.now) ∷ [])) }
     ensures err { IfErr result (StopsWithin D.tells (C.told console.old) (C.told console.new) (D.state disk.old) (D.state disk.new) session.old ((begun.old.items ++ rest.now) ∷ [])) }
     ensures none_begun { OnOk result (begun.new.items ≡ []) }
-    ensures some { OnOk result (AgreesOnSome D.tells (D.state disk.new) session.new) }
-    ensures sound { OnOk result (IsSound session.new) }
+    ensures can { OnOk result (CanAnswer D.tells (D.state disk.new) session.new) }
     ensures ends { IfErr result EndsLine }
     ensures full { (need gap : ℕ) → D.tells → result ≡ Err (Status.Full need gap) → IsFull (D.state disk.new).content need gap }
     ensures give_fault { result ≡ Err Status.GiveFault → Rose (C.give_faults console.old) (C.give_faults console.new) }
@@ -136,9 +130,7 @@ fn feed_line<C: Console, D: Disk>(
     requires some_bytes { 0 < length bytes.now }
     requires short { length begun.old.items ≤ 65536 }
     requires free { NoNewline begun.old.items }
-    requires sound { IsSound session.old }
-    requires agrees { AgreesOnSome D.tells (D.state disk.old) session.old }
-    requires limit { 2105344 ≤ (D.state disk.old).limit }
+    requires can { CanAnswer D.tells (D.state disk.old) session.old }
     ensures within { IfOk result (λ n. n ≤ length bytes.now) }
     ensures more { IfOk result (λ n. 0 < n) }
     ensures ok { IfOk result (λ n. Fed D.tells (C.told console.old) (C.told console.new) (D.state disk.old) (D.state disk.new) session.old session.new (whole_from begun.old.items (take n bytes.now))) }
@@ -146,8 +138,7 @@ fn feed_line<C: Console, D: Disk>(
     ensures err { IfErr result (StopsWithin D.tells (C.told console.old) (C.told console.new) (D.state disk.old) (D.state disk.new) session.old (whole_from begun.old.items bytes.now)) }
     ensures short { OnOk result (length begun.new.items ≤ 65536) }
     ensures free { OnOk result (NoNewline begun.new.items) }
-    ensures some { OnOk result (AgreesOnSome D.tells (D.state disk.new) session.new) }
-    ensures sound { OnOk result (IsSound session.new) }
+    ensures can { OnOk result (CanAnswer D.tells (D.state disk.new) session.new) }
     ensures ends { IfErr result EndsLine }
     ensures full { (need gap : ℕ) → D.tells → result ≡ Err (Status.Full need gap) → IsFull (D.state disk.new).content need gap }
     ensures give_fault { result ≡ Err Status.GiveFault → Rose (C.give_faults console.old) (C.give_faults console.new) }
@@ -181,16 +172,13 @@ fn feed<C: Console, D: Disk>(
 ) -> Result<(), Status>
     requires short { length begun.old.items ≤ 65536 }
     requires free { NoNewline begun.old.items }
-    requires sound { IsSound session.old }
-    requires agrees { AgreesOnSome D.tells (D.state disk.old) session.old }
-    requires limit { 2105344 ≤ (D.state disk.old).limit }
+    requires can { CanAnswer D.tells (D.state disk.old) session.old }
     ensures ok { OnOk result (Fed D.tells (C.told console.old) (C.told console.new) (D.state disk.old) (D.state disk.new) session.old session.new (whole_from begun.old.items piece.now)) }
     ensures begun { OnOk result (clip begun.new.items ≡ clip (begun_from begun.old.items piece.now)) }
     ensures err { IfErr result (StopsWithin D.tells (C.told console.old) (C.told console.new) (D.state disk.old) (D.state disk.new) session.old (whole_from begun.old.items piece.now)) }
     ensures short { OnOk result (length begun.new.items ≤ 65536) }
     ensures free { OnOk result (NoNewline begun.new.items) }
-    ensures some { OnOk result (AgreesOnSome D.tells (D.state disk.new) session.new) }
-    ensures sound { OnOk result (IsSound session.new) }
+    ensures can { OnOk result (CanAnswer D.tells (D.state disk.new) session.new) }
     ensures ends { IfErr result EndsLine }
     ensures full { (need gap : ℕ) → D.tells → result ≡ Err (Status.Full need gap) → IsFull (D.state disk.new).content need gap }
     ensures give_fault { result ≡ Err Status.GiveFault → Rose (C.give_faults console.old) (C.give_faults console.new) }
@@ -220,9 +208,7 @@ fn finish<C: Console, D: Disk>(
     begun: &[u8],
 ) -> Result<(), Status>
     requires free { NoNewline begun.now }
-    requires sound { IsSound session.old }
-    requires agrees { AgreesOnSome D.tells (D.state disk.old) session.old }
-    requires limit { 2105344 ≤ (D.state disk.old).limit }
+    requires can { CanAnswer D.tells (D.state disk.old) session.old }
     ensures ok { OnOk result (Fed D.tells (C.told console.old) (C.told console.new) (D.state disk.old) (D.state disk.new) session.old session.new (last_piece begun.now)) }
     ensures err { IfErr result (StopsWithin D.tells (C.told console.old) (C.told console.new) (D.state disk.old) (D.state disk.new) session.old (last_piece begun.now)) }
     ensures ends { IfErr result EndsLine }
@@ -251,9 +237,7 @@ fn answer_lines<C: Console, D: Disk>(
     buffer: &mut [u8],
 ) -> Status
     requires room { 0 < length buffer.old }
-    requires sound { IsSound session.old }
-    requires agrees { AgreesOnSome D.tells (D.state disk.old) session.old }
-    requires limit { 2105344 ≤ (D.state disk.old).limit }
+    requires can { CanAnswer D.tells (D.state disk.old) session.old }
     ensures run { Runs D.tells limit (C.told console.old) (C.told console.new) (C.left console.old) (C.left console.new) (D.state disk.old) (D.state disk.new) session.old result }
     ensures ends { EndsRunning result }
     ensures full { (need gap : ℕ) → D.tells → result ≡ Status.Full need gap → IsFull (D.state disk.new).content need gap }
@@ -291,7 +275,8 @@ fn answer_lines<C: Console, D: Disk>(
 }
 
 /// Opens the index of a disk, and answers the command lines of a console until its input ends. No more than `limit`
-/// bytes of input are read, up to 2 to the 40th: the piece that passes the limit ends the run and is not looked at.
+/// bytes of input are read, up to 2 to the 40th: the take that passes the limit is the last, and its piece is not looked
+/// at.
 ///
 /// Each line is answered before the next piece is taken, with the reply of the abstract machine. However the run
 /// ends, what the disk may then hold stands for the state after a prefix of the lines that holds each line whose
@@ -300,7 +285,7 @@ fn answer_lines<C: Console, D: Disk>(
 /// It ends with `Done` where the input was read to its end and every reply was given, `TooLong` where more bytes were
 /// taken than the limit, `DiskFault`, `TakeFault` or `GiveFault` where such a call failed, `Memory` where there was no
 /// memory, `NoRoot` where the disk has no index, `Damaged` where the index breaks a rule of the format, with the first
-/// place that shows it, and `Full` where the record of a line that adds or deletes a document does not fit in what the
+/// place that shows it (after these two nothing was taken or given, and the disk holds what it held), and `Full` where the record of a line that adds or deletes a document does not fit in what the
 /// journal has left behind the lines before it: with the bytes of that record, which are the line's and nine more where it
 /// adds and 14 where it deletes, and those left.
 pub fn serve<C: Console, D: Disk>(
@@ -317,6 +302,8 @@ pub fn serve<C: Console, D: Disk>(
     ensures rooted { D.tells → HasNoIndex (D.state disk.old).content → (result ≡ Status.NoRoot) ⊎ Yields result }
     ensures damaged { (place : ℕ) → D.tells → result ≡ Status.Damaged place → IsBrokenAt (D.state disk.old).content place }
     ensures undamaged { (place : ℕ) → D.tells → IsBrokenAt (D.state disk.old).content place → (result ≡ Status.Damaged place) ⊎ Yields result }
+    // Then console and disk are as they were.
+    ensures unopened { IsUnopened result → (console.new ≡ console.old) × KeepsDisk D.tells (D.state disk.old) (D.state disk.new) }
     // Where the content stands for a state, it is opened.
     ensures stands { (s : State) → D.tells → StandsFor s (D.state disk.old).content → IsOpened result }
     ensures never { (result ≢ Status.Usage) × (result ≢ Status.Exists) }

@@ -1,19 +1,19 @@
 // A session: a line changes the state, and has a reply.
-ghost use Rattle.std.specs.Prelude.{◌≡◌, ◌⊎◌, ◌+◌, ◌≤◌, ◌++◌, ℕ, length, codes, decimal, Result, Ok, Err, IfOk, IfErr, OnOk, OnErr, IsTrue, ◌↔◌};
+ghost use Rattle.std.specs.Prelude.{◌≡◌, ◌⊎◌, ◌+◌, ◌≤◌, ◌++◌, ℕ, length, codes, decimal, Result, Err, IfOk, IfErr, OnErr, IsTrue, ◌↔◌};
 ghost use Rattle.alta_codec.specs.Faults.{Rose};
 ghost use Rattle.alta_codec.specs.Name.{IsName};
 ghost use Rattle.alta_console.specs.Lines.{NoNewline};
-ghost use Rattle.alta_disk.specs.Disk.{DiskState, Same, Passes, LeavesOnly};
+ghost use Rattle.alta_disk.specs.Disk.{DiskState, Same, Passes};
 ghost use Rattle.alta_journal.specs.Record.{body_of};
 ghost use Rattle.alta_journal.specs.declared.entry.Entry.TheVariants.{Add};
 ghost use Rattle.alta_meta.specs.declared.document.State.{State};
-ghost use Rattle.alta_session.specs.Agreement.{AgreesOn, AgreesOnSome, IsSound, room_in};
+ghost use Rattle.alta_session.specs.Agreement.{AgreesOn, IsSound};
+ghost use Rattle.alta_session.specs.Answering.{Answers, CanAnswer, IsReply};
 ghost use Rattle.alta_session.specs.Asking.{Asks};
-ghost use Rattle.alta_session.specs.Fullness.{IsFull, bytes_of_change, record_bytes};
-ghost use Rattle.alta_session.specs.Machine.{step, adding, deleting, IsRefusal, IsStatsOrExplain};
+ghost use Rattle.alta_session.specs.Machine.{Machine, started_at, step, changed_by, adding, deleting, Looks};
 ghost use Rattle.alta_store.specs.Answers.{IsOutside, AnswersFault};
 ghost use Rattle.alta_store.specs.Brokenness.{HasNoIndex, IsBrokenAt};
-ghost use Rattle.alta_store.specs.Meaning.{StandsFor, StandsForEither};
+ghost use Rattle.alta_store.specs.Meaning.{StandsFor};
 ghost use Rattle.alta_store.specs.States.{IsDocument};
 
 use crate::searching::{count, explain, search};
@@ -38,10 +38,8 @@ impl Session {
     /// `Disk` where a call of the disk failed. `Memory` where there is no memory. `NoRoot` where the disk has no
     /// index. `Damaged` where the content breaks a rule of the format, with the first place that shows it.
     pub fn start<D: Disk>(alloc: Global, disk: &mut D) -> Result<Session, StoreFault>
-        ensures agrees { (s : State) → (D.tells → StandsFor s (D.state disk.old).content) → IfOk result (λ session. AgreesOn D.tells (D.state disk.new) session s) }
-        ensures some { IfOk result (λ session. AgreesOnSome D.tells (D.state disk.new) session) }
-        ensures sound { IfOk result (λ session. IsSound session) }
-        ensures limit { OnOk result (2105344 ≤ (D.state disk.new).limit) }
+        ensures agrees { (s : State) → (D.tells → StandsFor s (D.state disk.old).content) → IfOk result (λ session. AgreesOn D.tells (D.state disk.new) session (started_at s)) }
+        ensures can { IfOk result (λ session. CanAnswer D.tells (D.state disk.new) session) }
 
         ensures stands { (s : State) → D.tells → StandsFor s (D.state disk.old).content → IfErr result IsOutside }
         ensures no_root { D.tells → result ≡ Err StoreFault.NoRoot → HasNoIndex (D.state disk.old).content }
@@ -76,7 +74,8 @@ impl Session {
     /// `Disk` where a call of the disk failed. `Memory` where there is no memory. `Full` where the record of the line does
     /// not fit in the journal: with the bytes of that record, which are the line's and nine more where it adds and 14
     /// where it deletes, and those left. Then the index is as before the line or as after it, and the session is not
-    /// sound. `stats` and `explain` call no disk and fail for want of memory alone, and so does each line that is refused.
+    /// sound. `search`, `count`, `explain` and `stats` call no disk and fail for want of memory alone, and so does each line
+    /// that is refused.
     pub fn line<D: Disk>(
         &mut self,
         alloc: Global,
@@ -84,26 +83,10 @@ impl Session {
         line: &[u8],
     ) -> Result<Text, StoreFault>
         requires one_line { NoNewline line.now }
-        requires sound { IsSound self.old }
-        requires agrees { AgreesOnSome D.tells (D.state disk.old) self.old }
-        requires limit { 2105344 ≤ (D.state disk.old).limit }
-        ensures reply { (s : State) → D.tells → AgreesOn D.tells (D.state disk.old) self.old s → IfOk result (λ reply. reply ≡ (step s line.now).1) }
-        ensures agrees { (s : State) → D.tells → AgreesOn D.tells (D.state disk.old) self.old s → OnOk result (AgreesOn D.tells (D.state disk.new) self.new (step s line.now).0) }
-        ensures images { (s : State) → D.tells → AgreesOn D.tells (D.state disk.old) self.old s → LeavesOnly (StandsForEither s (step s line.now).0) (D.state disk.old) (D.state disk.new) }
-        ensures some { OnOk result (AgreesOnSome D.tells (D.state disk.new) self.new) }
-        ensures sound { OnOk result (IsSound self.new) }
+        requires can { CanAnswer D.tells (D.state disk.old) self.old }
+        ensures answers { Answers D.tells D.state disk.old disk.new self.old self.new (length line.now + 9) result (λ m. step m line.now) }
         ensures not_sound { OnErr result (¬ (IsSound self.new)) }
-        ensures refused { IfOk result (λ reply. IsRefusal reply → (disk.new ≡ disk.old) × (self.new ≡ self.old)) }
-        ensures unchanged { (s : State) → D.tells → AgreesOn D.tells (D.state disk.old) self.old s → IsRefusal (step s line.now).1 → disk.new ≡ disk.old }
-        ensures no_disk { IsStatsOrExplain line.now → (disk.new ≡ disk.old) × IfErr result (λ e. e ≡ StoreFault.Memory) }
-        ensures refused_memory { (s : State) → D.tells → AgreesOn D.tells (D.state disk.old) self.old s → IsRefusal (step s line.now).1 → IfErr result (λ e. e ≡ StoreFault.Memory) }
-        ensures only { IfErr result (λ e. IsOutside e ⊎ ((need gap : ℕ) × (e ≡ StoreFault.Full need gap))) }
-        ensures full { (need gap : ℕ) → D.tells → result ≡ Err (StoreFault.Full need gap) → IsFull (D.state disk.new).content need gap }
-        ensures need { (s : State) → (need gap : ℕ) → D.tells → AgreesOn D.tells (D.state disk.old) self.old s → result ≡ Err (StoreFault.Full need gap) → (need ≡ record_bytes s line.now) × (gap ≡ room_in self.old) }
-        ensures room { (s : State) → D.tells → AgreesOn D.tells (D.state disk.old) self.old s → OnOk result (room_in self.new + record_bytes s line.now ≡ room_in self.old) }
-        ensures cause { result ≡ Err StoreFault.Disk → Rose (D.state disk.old).faults (D.state disk.new).faults }
-        ensures faults { (D.state disk.old).faults ≤ (D.state disk.new).faults }
-        ensures same_limit { (D.state disk.new).limit ≡ (D.state disk.old).limit }
+        ensures no_disk { Looks line.now → (disk.new ≡ disk.old) × IfErr result (λ e. e ≡ StoreFault.Memory) }
     {
         match self.reply(alloc, disk, line) {
             Ok(reply) => Ok(reply),
@@ -122,25 +105,9 @@ impl Session {
         line: &[u8],
     ) -> Result<Text, StoreFault>
         requires one_line { NoNewline line.now }
-        requires sound { IsSound self.old }
-        requires agrees { AgreesOnSome D.tells (D.state disk.old) self.old }
-        requires limit { 2105344 ≤ (D.state disk.old).limit }
-        ensures reply { (s : State) → D.tells → AgreesOn D.tells (D.state disk.old) self.old s → IfOk result (λ reply. reply ≡ (step s line.now).1) }
-        ensures agrees { (s : State) → D.tells → AgreesOn D.tells (D.state disk.old) self.old s → OnOk result (AgreesOn D.tells (D.state disk.new) self.new (step s line.now).0) }
-        ensures images { (s : State) → D.tells → AgreesOn D.tells (D.state disk.old) self.old s → LeavesOnly (StandsForEither s (step s line.now).0) (D.state disk.old) (D.state disk.new) }
-        ensures some { OnOk result (AgreesOnSome D.tells (D.state disk.new) self.new) }
-        ensures sound { OnOk result (IsSound self.new) }
-        ensures refused { IfOk result (λ reply. IsRefusal reply → (disk.new ≡ disk.old) × (self.new ≡ self.old)) }
-        ensures unchanged { (s : State) → D.tells → AgreesOn D.tells (D.state disk.old) self.old s → IsRefusal (step s line.now).1 → disk.new ≡ disk.old }
-        ensures no_disk { IsStatsOrExplain line.now → (disk.new ≡ disk.old) × IfErr result (λ e. e ≡ StoreFault.Memory) }
-        ensures refused_memory { (s : State) → D.tells → AgreesOn D.tells (D.state disk.old) self.old s → IsRefusal (step s line.now).1 → IfErr result (λ e. e ≡ StoreFault.Memory) }
-        ensures only { IfErr result (λ e. IsOutside e ⊎ ((need gap : ℕ) × (e ≡ StoreFault.Full need gap))) }
-        ensures full { (need gap : ℕ) → D.tells → result ≡ Err (StoreFault.Full need gap) → IsFull (D.state disk.new).content need gap }
-        ensures need { (s : State) → (need gap : ℕ) → D.tells → AgreesOn D.tells (D.state disk.old) self.old s → result ≡ Err (StoreFault.Full need gap) → (need ≡ record_bytes s line.now) × (gap ≡ room_in self.old) }
-        ensures room { (s : State) → D.tells → AgreesOn D.tells (D.state disk.old) self.old s → OnOk result (room_in self.new + record_bytes s line.now ≡ room_in self.old) }
-        ensures cause { result ≡ Err StoreFault.Disk → Rose (D.state disk.old).faults (D.state disk.new).faults }
-        ensures faults { (D.state disk.old).faults ≤ (D.state disk.new).faults }
-        ensures same_limit { (D.state disk.new).limit ≡ (D.state disk.old).limit }
+        requires can { CanAnswer D.tells (D.state disk.old) self.old }
+        ensures answers { Answers D.tells D.state disk.old disk.new self.old self.new (length line.now + 9) result (λ m. step m line.now) }
+        ensures no_disk { Looks line.now → (disk.new ≡ disk.old) × IfErr result (λ e. e ≡ StoreFault.Memory) }
     {
         match asked(line) {
             Ask::Add { name, title, body } => self.add(alloc, disk, name, title, body),
@@ -163,24 +130,8 @@ impl Session {
         body: &str,
     ) -> Result<Text, StoreFault>
         requires document { IsName name.now → IsDocument name.now title.now body.now }
-        requires sound { IsSound self.old }
-        requires agrees { AgreesOnSome D.tells (D.state disk.old) self.old }
-        requires limit { 2105344 ≤ (D.state disk.old).limit }
-        ensures reply { (s : State) → D.tells → AgreesOn D.tells (D.state disk.old) self.old s → IfOk result (λ reply. reply ≡ (adding name.now title.now body.now s).1) }
-        ensures agrees { (s : State) → D.tells → AgreesOn D.tells (D.state disk.old) self.old s → OnOk result (AgreesOn D.tells (D.state disk.new) self.new (adding name.now title.now body.now s).0) }
-        ensures images { (s : State) → D.tells → AgreesOn D.tells (D.state disk.old) self.old s → LeavesOnly (StandsForEither s (adding name.now title.now body.now s).0) (D.state disk.old) (D.state disk.new) }
-        ensures some { OnOk result (AgreesOnSome D.tells (D.state disk.new) self.new) }
-        ensures sound { OnOk result (IsSound self.new) }
-        ensures refused { IfOk result (λ reply. IsRefusal reply → (disk.new ≡ disk.old) × (self.new ≡ self.old)) }
-        ensures unchanged { (s : State) → D.tells → AgreesOn D.tells (D.state disk.old) self.old s → IsRefusal (adding name.now title.now body.now s).1 → disk.new ≡ disk.old }
-        ensures refused_memory { (s : State) → D.tells → AgreesOn D.tells (D.state disk.old) self.old s → IsRefusal (adding name.now title.now body.now s).1 → IfErr result (λ e. e ≡ StoreFault.Memory) }
-        ensures only { IfErr result (λ e. IsOutside e ⊎ ((need gap : ℕ) × (e ≡ StoreFault.Full need gap))) }
-        ensures full { (need gap : ℕ) → D.tells → result ≡ Err (StoreFault.Full need gap) → IsFull (D.state disk.new).content need gap }
-        ensures need { (s : State) → (need gap : ℕ) → D.tells → AgreesOn D.tells (D.state disk.old) self.old s → result ≡ Err (StoreFault.Full need gap) → (need ≡ bytes_of_change (length (body_of (Add name.now title.now body.now))) s (adding name.now title.now body.now s).0) × (gap ≡ room_in self.old) }
-        ensures room { (s : State) → D.tells → AgreesOn D.tells (D.state disk.old) self.old s → OnOk result (room_in self.new + bytes_of_change (length (body_of (Add name.now title.now body.now))) s (adding name.now title.now body.now s).0 ≡ room_in self.old) }
-        ensures cause { result ≡ Err StoreFault.Disk → Rose (D.state disk.old).faults (D.state disk.new).faults }
-        ensures faults { (D.state disk.old).faults ≤ (D.state disk.new).faults }
-        ensures same_limit { (D.state disk.new).limit ≡ (D.state disk.old).limit }
+        requires can { CanAnswer D.tells (D.state disk.old) self.old }
+        ensures { Answers D.tells D.state disk.old disk.new self.old self.new (length (body_of (Add name.now title.now body.now))) result (λ m. changed_by m (adding name.now title.now body.now m.state)) }
     {
         if !name_ok(name.as_bytes()) {
             return text(alloc, "! bad name\n");
@@ -202,24 +153,8 @@ impl Session {
         disk: &mut D,
         name: &str,
     ) -> Result<Text, StoreFault>
-        requires sound { IsSound self.old }
-        requires agrees { AgreesOnSome D.tells (D.state disk.old) self.old }
-        requires limit { 2105344 ≤ (D.state disk.old).limit }
-        ensures reply { (s : State) → D.tells → AgreesOn D.tells (D.state disk.old) self.old s → IfOk result (λ reply. reply ≡ (deleting name.now s).1) }
-        ensures agrees { (s : State) → D.tells → AgreesOn D.tells (D.state disk.old) self.old s → OnOk result (AgreesOn D.tells (D.state disk.new) self.new (deleting name.now s).0) }
-        ensures images { (s : State) → D.tells → AgreesOn D.tells (D.state disk.old) self.old s → LeavesOnly (StandsForEither s (deleting name.now s).0) (D.state disk.old) (D.state disk.new) }
-        ensures some { OnOk result (AgreesOnSome D.tells (D.state disk.new) self.new) }
-        ensures sound { OnOk result (IsSound self.new) }
-        ensures refused { IfOk result (λ reply. IsRefusal reply → (disk.new ≡ disk.old) × (self.new ≡ self.old)) }
-        ensures unchanged { (s : State) → D.tells → AgreesOn D.tells (D.state disk.old) self.old s → IsRefusal (deleting name.now s).1 → disk.new ≡ disk.old }
-        ensures refused_memory { (s : State) → D.tells → AgreesOn D.tells (D.state disk.old) self.old s → IsRefusal (deleting name.now s).1 → IfErr result (λ e. e ≡ StoreFault.Memory) }
-        ensures only { IfErr result (λ e. IsOutside e ⊎ ((need gap : ℕ) × (e ≡ StoreFault.Full need gap))) }
-        ensures full { (need gap : ℕ) → D.tells → result ≡ Err (StoreFault.Full need gap) → IsFull (D.state disk.new).content need gap }
-        ensures need { (bytes : ℕ) → (s : State) → (need gap : ℕ) → D.tells → AgreesOn D.tells (D.state disk.old) self.old s → result ≡ Err (StoreFault.Full need gap) → (need ≡ bytes_of_change bytes s (deleting name.now s).0) × (gap ≡ room_in self.old) }
-        ensures room { (bytes : ℕ) → (s : State) → D.tells → AgreesOn D.tells (D.state disk.old) self.old s → OnOk result (room_in self.new + bytes_of_change bytes s (deleting name.now s).0 ≡ room_in self.old) }
-        ensures cause { result ≡ Err StoreFault.Disk → Rose (D.state disk.old).faults (D.state disk.new).faults }
-        ensures faults { (D.state disk.old).faults ≤ (D.state disk.new).faults }
-        ensures same_limit { (D.state disk.new).limit ≡ (D.state disk.old).limit }
+        requires { CanAnswer D.tells (D.state disk.old) self.old }
+        ensures { (bytes : ℕ) → Answers D.tells D.state disk.old disk.new self.old self.new bytes result (λ m. changed_by m (deleting name.now m.state)) }
     {
         if !name_ok(name.as_bytes()) {
             return text(alloc, "! bad name\n");
@@ -274,8 +209,7 @@ fn asked(bytes: &[u8]) -> Ask<'_>
 
 // The reply to a line that adds.
 fn added(alloc: Global, number: u64) -> Result<Text, StoreFault>
-    ensures reply { IfOk result (λ reply. reply ≡ codes "added " ++ decimal number ++ codes "\n") }
-    ensures memory { IfErr result (λ e. e ≡ StoreFault.Memory) }
+    ensures { IsReply (codes "added " ++ decimal number ++ codes "\n") result }
 {
     match format!(in alloc; "added {number}\n") {
         Ok(reply) => Ok(Text::from_string(reply)),
@@ -285,8 +219,7 @@ fn added(alloc: Global, number: u64) -> Result<Text, StoreFault>
 
 // The reply to a line that deletes.
 fn deleted(alloc: Global, number: u64) -> Result<Text, StoreFault>
-    ensures reply { IfOk result (λ reply. reply ≡ codes "deleted " ++ decimal number ++ codes "\n") }
-    ensures memory { IfErr result (λ e. e ≡ StoreFault.Memory) }
+    ensures { IsReply (codes "deleted " ++ decimal number ++ codes "\n") result }
 {
     match format!(in alloc; "deleted {number}\n") {
         Ok(reply) => Ok(Text::from_string(reply)),
@@ -308,8 +241,7 @@ fn stats(alloc: Global, counts: (u64, u64, u64)) -> Result<Text, StoreFault>
 
 // A reply that refuses a line.
 fn text(alloc: Global, reply: &str) -> Result<Text, StoreFault>
-    ensures reply { IfOk result (λ text. text ≡ reply.now) }
-    ensures memory { IfErr result (λ e. e ≡ StoreFault.Memory) }
+    ensures { IsReply reply.now result }
 {
     match String::from_str(alloc, reply) {
         Ok(text) => Ok(Text::from_string(text)),

@@ -61,7 +61,7 @@ fn disk_of(alloc: Global, content: Vec<u8>) -> Result<MemoryDisk, Fail> {
 #[test]
 fn lines_are_answered_in_order(rt: HostRuntime) -> Result<(), Fail> {
     let alloc = rt.alloc();
-    let rows: [(&[u8], &[u8]); 12] = [
+    let rows: [(&[u8], &[u8]); 13] = [
         (b"", b""),
         (BOTH, b"added 1\nadded 2\n"),
         (b"add a\tx\ty", b"added 1\n"),
@@ -76,6 +76,7 @@ fn lines_are_answered_in_order(rt: HostRuntime) -> Result<(), Fail> {
         (b"search \xff\n", b"! not UTF-8\n"),
         (b"find fox\n\n", b"! unknown command\n! unknown command\n"),
         (b"flush now\n", b"! bad line\n"),
+        (b"step 1\n", b"! unknown command\n"),
         (b"\nadd a\t\t", b"! unknown command\nadded 1\n"),
     ];
     for (input, want) in rows {
@@ -157,7 +158,11 @@ fn each_fault_has_its_status(rt: HostRuntime) -> Result<(), Fail> {
         assert_eq!(rt; status, want);
         assert_eq!(rt; given.as_slice(), out);
     }
-    for (limit, want) in [(2, Status::Done), (1, Status::TooLong)] {
+    let rows: [(u64, Status, &[u8]); 2] = [
+        (2, Status::Done, b"! unknown command\n"),
+        (1, Status::TooLong, b""),
+    ];
+    for (limit, want, out) in rows {
         let mut disk = made(alloc)?;
         let mut console = MemoryConsole::new(
             alloc,
@@ -166,6 +171,7 @@ fn each_fault_has_its_status(rt: HostRuntime) -> Result<(), Fail> {
             Vec::new(alloc),
         );
         assert_eq!(rt; serve(alloc, &mut console, &mut disk, limit), want);
+        assert_eq!(rt; console.given(), out);
     }
     Ok(())
 }

@@ -4,8 +4,8 @@ ghost use Rattle.alta_codec.specs.Faults.{Rose};
 ghost use Rattle.alta_disk.specs.Disk.{DiskState, Stands};
 ghost use Rattle.alta_meta.specs.declared.document.State.{State};
 ghost use Rattle.alta_session.specs.Fullness.{IsFull};
-ghost use Rattle.alta_session.specs.Run.{Serves};
-ghost use Rattle.alta_session.specs.Status.{IsOpened, Completes, Yields, EndsInit};
+ghost use Rattle.alta_session.specs.Run.{KeepsDisk, Serves};
+ghost use Rattle.alta_session.specs.Status.{IsOpened, IsUnopened, IsUnmade, Completes, Yields, EndsInit};
 ghost use Rattle.alta_store.specs.Brokenness.{HasNoIndex, IsBrokenAt};
 ghost use Rattle.alta_store.specs.Meaning.{StandsFor};
 ghost use Rattle.alta_store.specs.States.{empty};
@@ -28,7 +28,8 @@ const INDEX_SIZE: u64 = 2_105_344;
 /// of words it answers `Usage` and calls nothing.
 ///
 /// `init` ends with `Done` where the index was made, `Exists` where there is one already, `Full` where the disk is too
-/// small for one, and `DiskFault` where a call of the disk failed. It takes and gives nothing.
+/// small for one, and `DiskFault` where a call of the disk failed. After `Exists` and `Full` the disk holds what it held.
+/// It takes and gives nothing.
 pub fn alta<C: Console, D: Disk>(
     alloc: Global,
     words: &[Text],
@@ -43,6 +44,7 @@ pub fn alta<C: Console, D: Disk>(
     ensures exists { D.tells → result ≡ Status.Exists → ¬ (HasNoIndex (D.state disk.old).content) }
     ensures found { words.now ≡ codes "init" ∷ [] → D.tells → ¬ (HasNoIndex (D.state disk.old).content) → (result ≡ Status.Exists) ⊎ (result ≡ Status.DiskFault) }
     ensures too_small { words.now ≡ codes "init" ∷ [] → (need gap : ℕ) → result ≡ Status.Full need gap → (need ≡ 2105344) × (gap ≡ (D.state disk.old).limit) × ((D.state disk.old).limit < 2105344) }
+    ensures kept { words.now ≡ codes "init" ∷ [] → IsUnmade result → KeepsDisk D.tells (D.state disk.old) (D.state disk.new) }
     ensures small { words.now ≡ codes "init" ∷ [] → (D.state disk.old).limit < 2105344 → (result ≡ Status.Exists) ⊎ ((result ≡ Status.Full 2105344 (D.state disk.old).limit) ⊎ (result ≡ Status.DiskFault)) }
 
     ensures run { words.now ≡ codes "run" ∷ [] → Serves D.tells (2 ^ 40) (C.told console.old) (C.told console.new) (C.left console.old) (C.left console.new) (D.state disk.old) (D.state disk.new) result }
@@ -52,6 +54,7 @@ pub fn alta<C: Console, D: Disk>(
     ensures rooted { words.now ≡ codes "run" ∷ [] → D.tells → HasNoIndex (D.state disk.old).content → (result ≡ Status.NoRoot) ⊎ Yields result }
     ensures damaged { (place : ℕ) → D.tells → result ≡ Status.Damaged place → IsBrokenAt (D.state disk.old).content place }
     ensures undamaged { (place : ℕ) → words.now ≡ codes "run" ∷ [] → D.tells → IsBrokenAt (D.state disk.old).content place → (result ≡ Status.Damaged place) ⊎ Yields result }
+    ensures unopened { IsUnopened result → (console.new ≡ console.old) × KeepsDisk D.tells (D.state disk.old) (D.state disk.new) }
     ensures stands { (s : State) → D.tells → StandsFor s (D.state disk.old).content → IsOpened result }
     ensures full { (need gap : ℕ) → words.now ≡ codes "run" ∷ [] → D.tells → result ≡ Status.Full need gap → IsFull (D.state disk.new).content need gap }
     ensures complete { (s : State) → words.now ≡ codes "run" ∷ [] → D.tells → StandsFor s (D.state disk.old).content → ¬ (Rose (C.take_faults console.old) (C.take_faults console.new)) → ¬ (Rose (C.give_faults console.old) (C.give_faults console.new)) → ¬ (Rose (D.state disk.old).faults (D.state disk.new).faults) → Completes result }
@@ -86,6 +89,7 @@ fn init<D: Disk>(disk: &mut D) -> Status
     ensures exists { D.tells → result ≡ Status.Exists → ¬ (HasNoIndex (D.state disk.old).content) }
     ensures found { D.tells → ¬ (HasNoIndex (D.state disk.old).content) → (result ≡ Status.Exists) ⊎ (result ≡ Status.DiskFault) }
     ensures too_small { (need gap : ℕ) → result ≡ Status.Full need gap → (need ≡ 2105344) × (gap ≡ (D.state disk.old).limit) × ((D.state disk.old).limit < 2105344) }
+    ensures kept { IsUnmade result → KeepsDisk D.tells (D.state disk.old) (D.state disk.new) }
     ensures small { (D.state disk.old).limit < 2105344 → (result ≡ Status.Exists) ⊎ ((result ≡ Status.Full 2105344 (D.state disk.old).limit) ⊎ (result ≡ Status.DiskFault)) }
     ensures disk_fault { result ≡ Status.DiskFault → Rose (D.state disk.old).faults (D.state disk.new).faults }
 {

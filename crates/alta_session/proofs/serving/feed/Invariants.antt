@@ -1,6 +1,6 @@
 use Rattle.std.proofs.Common.{◌≡◌, ◌≤◌, ◌-◌, length, take}
 use Rattle.alta_console.specs.Lines.{NoNewline, whole_from, begun_from}
-use Rattle.alta_session.specs.Agreement.{AgreesOnSome, IsSound}
+use Rattle.alta_session.specs.Answering.{CanAnswer}
 use Rattle.alta_session.specs.Fed.{Fed}
 use Rattle.alta_session.specs.Keeping.{clip}
 use Rattle.alta_session.proofs.serving.feed.Given as goal
@@ -12,8 +12,7 @@ invariant-lines g l = record {
   begun : clip l.begun.items ≡ clip (begun_from l.fn.begun.items (take l.at l.piece));
   short : length l.begun.items ≤ 65536;
   free : NoNewline l.begun.items;
-  some : AgreesOnSome g.D.Disk.tells (g.D.Disk.state l.disk) l.session;
-  sound : IsSound l.session;
+  can : CanAnswer g.D.Disk.tells (g.D.Disk.state l.disk) l.session;
   input_kept : g.C.Console.left l.console ≡ g.C.Console.left l.fn.console;
   take_count : g.C.Console.take_faults l.fn.console ≤ g.C.Console.take_faults l.console;
   give_count : g.C.Console.give_faults l.fn.console ≤ g.C.Console.give_faults l.console;

@@ -4,7 +4,7 @@ use Rattle.alta_disk.specs.Disk.{Same}
 use Rattle.alta_disk.proofs.Moments.{passes_start}
 use Rattle.alta_session.specs.declared.status.Status.TheVariants.{Done, Usage, TakeFault, GiveFault, TooLong, Exists}
 use Rattle.alta_session.proofs.ServeLaws.{serves_none, serves_opened}
-use Rattle.alta_session.proofs.StatusLaws.{running_opened, running_never, running_completes, opening_ends, opening_not_full, status_not, status_rooted, status_damaged, status_disk, answers_status, ok_answers, outside_opened, outside_completes}
+use Rattle.alta_session.proofs.StatusLaws.{running_opened, opened_not, running_never, running_completes, opening_ends, opening_not_full, status_not, status_rooted, status_damaged, status_disk, answers_status, ok_answers, outside_opened, outside_completes}
 use Rattle.alta_store.specs.declared.fault.StoreFault.TheVariants.{NoRoot as StoreNoRoot, Damaged as StoreDamaged}
 use Rattle.alta_session.proofs.serving.serve.Goals as goal
 
@@ -18,6 +18,7 @@ returns-in-Err g c = record {
   rooted = λ tell none. inr (inl refl);
   damaged = λ place tell is. absurd cc;
   undamaged = λ place tell broken. inr (inl refl);
+  unopened = λ is. absurd (opened_not _ (record { rooted = λ none. cc; whole = λ place broken. cc }) is);
   stands = λ s tell stands. record { rooted = λ is. cc; whole = λ place is. cc };
   never = (λ is. cc, λ is. cc);
   full = λ need gap tell is. absurd cc;
@@ -45,6 +46,7 @@ returns-in-Err-start g c = record {
   rooted = λ tell none. answers_status _ c.in-Err-start.fault StoreNoRoot c.status_of.ensures c.start.result c.in-Err-start.is (c.start.ensures.rooted tell none);
   damaged = λ place tell is. c.start.ensures.damaged place tell (c.in-Err-start.is ∙ ap Err (status_damaged _ c.in-Err-start.fault place c.status_of.ensures is));
   undamaged = λ place tell broken. answers_status _ c.in-Err-start.fault (StoreDamaged place) c.status_of.ensures c.start.result c.in-Err-start.is (c.start.ensures.undamaged place tell broken);
+  unopened = λ is. (refl, record { content = c.start.ensures.content; images = c.start.ensures.images });
   stands = λ s tell stands. outside_opened _ c.in-Err-start.fault c.status_of.ensures (c.in-Err-start.ensures.stands s tell stands);
   never = (status_not _ c.in-Err-start.fault c.status_of.ensures Usage tt, status_not _ c.in-Err-start.fault c.status_of.ensures Exists tt);
   full = λ need gap tell is. absurd (opening_not_full c.in-Err-start.fault c.status_of.result need gap c.in-Err-start.ensures.only c.status_of.ensures is);
@@ -58,14 +60,8 @@ returns-in-Err-start g c = record {
   same_limit = c.start.ensures.same_limit;
 }
 
-pub answer_lines-requires-clause-sound : goal.answer_lines-requires-clause-sound
-answer_lines-requires-clause-sound g c = c.in-Ok-start.ensures.sound
-
-pub answer_lines-requires-clause-agrees : goal.answer_lines-requires-clause-agrees
-answer_lines-requires-clause-agrees g c = c.in-Ok-start.ensures.some
-
-pub answer_lines-requires-clause-limit : goal.answer_lines-requires-clause-limit
-answer_lines-requires-clause-limit g c = c.in-Ok-start.ensures.limit
+pub answer_lines-requires-clause-can : goal.answer_lines-requires-clause-can
+answer_lines-requires-clause-can g c = c.in-Ok-start.ensures.can
 
 -- it was opened
 pub returns : goal.returns
@@ -77,6 +73,7 @@ returns g c = record {
   rooted = λ tell none. absurd (ok_answers c.in-Ok-start.session StoreNoRoot c.start.result c.in-Ok-start.is (c.start.ensures.rooted tell none));
   damaged = λ place tell is. absurd ((running_opened c.answer_lines.result c.answer_lines.ensures.ends).whole place is);
   undamaged = λ place tell broken. absurd (ok_answers c.in-Ok-start.session (StoreDamaged place) c.start.result c.in-Ok-start.is (c.start.ensures.undamaged place tell broken));
+  unopened = λ is. absurd (opened_not c.answer_lines.result (running_opened c.answer_lines.result c.answer_lines.ensures.ends) is);
   stands = λ s tell stands. running_opened c.answer_lines.result c.answer_lines.ensures.ends;
   never = running_never c.answer_lines.result c.answer_lines.ensures.ends;
   full = c.answer_lines.ensures.full;

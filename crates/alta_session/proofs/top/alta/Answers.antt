@@ -1,5 +1,5 @@
 use Rattle.std.proofs.Common.{◌≡◌, ◌≢◌, ℕ, List, [], ◌∷◌, length, codes, refl, ap, sym, ◌∙◌, rules, arith}
-use Rattle.alta_session.proofs.StatusLaws.{init_opened, init_never}
+use Rattle.alta_session.proofs.StatusLaws.{init_opened, opened_not, init_never}
 use Rattle.alta_session.proofs.top.alta.Goals as goal
 
 abbrev first_length : List (List ℕ) → ℕ
@@ -22,6 +22,7 @@ returns-then-is_word g c =
       exists = c.init.ensures.exists;
       found = λ init. c.init.ensures.found;
       too_small = λ init. c.init.ensures.too_small;
+      kept = λ init. c.init.ensures.kept;
       small = λ init. c.init.ensures.small;
       run = λ run. absurd (other run);
       read_all = λ run is. absurd (other run);
@@ -30,6 +31,7 @@ returns-then-is_word g c =
       rooted = λ run tell none. absurd (other run);
       damaged = λ place tell is. absurd ((init_opened c.init.result c.init.ensures.ends).whole place is);
       undamaged = λ place run tell broken. absurd (other run);
+      unopened = λ is. absurd (opened_not c.init.result (init_opened c.init.result c.init.ensures.ends) is);
       stands = λ s tell stands. init_opened c.init.result c.init.ensures.ends;
       full = λ need gap run tell is. absurd (other run);
       complete = λ s run tell stands takes gives disk. absurd (other run);
@@ -50,6 +52,7 @@ returns-then-is_word-2 g c =
       exists = λ tell is. absurd (c.serve.ensures.never.1 is);
       found = λ init tell none. absurd (other init);
       too_small = λ init need gap is. absurd (other init);
+      kept = λ init unmade. absurd (other init);
       small = λ init less. absurd (other init);
       run = λ run. c.serve.ensures.run;
       read_all = λ run. c.serve.ensures.read_all;
@@ -58,6 +61,7 @@ returns-then-is_word-2 g c =
       rooted = λ run. c.serve.ensures.rooted;
       damaged = c.serve.ensures.damaged;
       undamaged = λ place run. c.serve.ensures.undamaged place;
+      unopened = c.serve.ensures.unopened;
       stands = c.serve.ensures.stands;
       full = λ need gap run. c.serve.ensures.full need gap;
       complete = λ s run. c.serve.ensures.complete s;
@@ -78,6 +82,7 @@ returns g c =
       exists = λ tell is. absurd cc;
       found = λ init tell none. absurd (init_not init);
       too_small = λ init need gap is. absurd (init_not init);
+      kept = λ init unmade. absurd (init_not init);
       small = λ init less. absurd (init_not init);
       run = λ run. absurd (run_not run);
       read_all = λ run is. absurd (run_not run);
@@ -86,6 +91,7 @@ returns g c =
       rooted = λ run tell none. absurd (run_not run);
       damaged = λ place tell is. absurd cc;
       undamaged = λ place run tell broken. absurd (run_not run);
+      unopened = λ is. absurd (opened_not _ (record { rooted = λ none. cc; whole = λ place broken. cc }) is);
       stands = λ s tell stands. record { rooted = λ is. cc; whole = λ place is. cc };
       full = λ need gap run tell is. absurd (run_not run);
       complete = λ s run tell stands takes gives disk. absurd (run_not run);

@@ -1,6 +1,19 @@
+use Rattle.std.proofs.Common.{refl}
 use Rattle.alta_store.specs.declared.fault.StoreFault.TheVariants.{Damaged}
+use Rattle.alta_session.specs.Machine.{started_at}
+use Rattle.alta_session.proofs.AgreementLaws.{agrees_started}
 use Rattle.alta_session.proofs.StatusLaws.{ok_answers, err_answers}
 use Rattle.alta_session.proofs.session.Session.start.Goals as goal
+
+pub returns-in-Ok-clause-agrees : goal.returns-in-Ok-clause-agrees
+returns-in-Ok-clause-agrees g c = λ s stands. agrees_started _ _ _ s (c.in-Ok.ensures.agrees s stands)
+
+pub returns-in-Ok-clause-can : goal.returns-in-Ok-clause-can
+returns-in-Ok-clause-can g c = record {
+  sound = (refl, c.in-Ok.ensures.sound);
+  agrees = (started_at c.in-Ok.ensures.some.0, agrees_started _ _ _ c.in-Ok.ensures.some.0 c.in-Ok.ensures.some.1);
+  limit = c.in-Ok.ensures.limit;
+}
 
 pub returns-in-Ok-clause-undamaged : goal.returns-in-Ok-clause-undamaged
 returns-in-Ok-clause-undamaged g c = λ place tell broken. absurd (ok_answers c.in-Ok.store (Damaged place) c.open.result c.in-Ok.is (c.open.ensures.undamaged place tell broken))

@@ -1,0 +1,147 @@
+-- Laws of what the calls of a session do.
+use Rattle.std.proofs.Common.{◌≡◌, ◌+◌, ◌≤◌, ℕ, inl, List, refl, ap, sym, subst, ◌∙◌, arith, Result, Ok, Err, IfOk, IfErr, OnOk}
+use Rattle.std.proofs.lemmas.Result.{IfOk-weaker}
+use Rattle.alta_disk.specs.Disk.{DiskState, LeavesOnly, IsLawful}
+use Rattle.alta_disk.proofs.Moments.{leaves_start}
+use Rattle.alta_meta.specs.declared.document.State.{State}
+use Rattle.alta_session.specs.Agreement.{AgreesOn, room_in}
+use Rattle.alta_session.specs.Answering.{CanAnswer, IsReply, AnswersFrom, Answers}
+use Rattle.alta_session.specs.Fullness.{bytes_of_change}
+use Rattle.alta_session.specs.Machine.{Machine, changed_by, IsRefusal}
+use Rattle.alta_session.specs.declared.session.Session.{Session}
+use Rattle.alta_session.proofs.AgreementLaws.{agrees_changed}
+use Rattle.alta_session.proofs.FullnessLaws.{none_added}
+use Rattle.alta_store.specs.Agreement.{Agrees}
+use Rattle.alta_store.specs.Answers.{IsOutside}
+use Rattle.alta_store.specs.Meaning.{StandsForEither}
+use Rattle.alta_store.specs.declared.fault.StoreFault.{StoreFault}
+use Rattle.alta_store.specs.declared.fault.StoreFault.TheVariants.{Disk, Memory, Full}
+use Rattle.alta_store.specs.declared.store.Store.{Store}
+use Rattle.alta_store.proofs.Agreements.{images_stand}
+
+pub if_so : {T E : Type 0} (r : Result T E) (P : Type 0) → P → OnOk r P
+if_so (Ok x) P here = here
+if_so (Err e) P here = tt
+
+if_all : {T E : Type 0} (r : Result T E) (P : T → Type 0) → ((x : T) → P x) → IfOk r P
+if_all (Ok x) P all = all x
+if_all (Err e) P all = tt
+
+err_weaker : {T E : Type 0} (r : Result T E) (P Q : E → Type 0) → ((e : E) → P e → Q e) → IfErr r P → IfErr r Q
+err_weaker (Ok x) P Q weaker here = tt
+err_weaker (Err e) P Q weaker here = weaker e here
+
+pub is_memory : {T : Type 0} (r : Result T StoreFault) (e : StoreFault) → IfErr r (λ f. f ≡ Memory) → r ≡ Err e → e ≡ Memory
+is_memory (Ok x) e only is = absurd cc
+is_memory (Err f) e only is = cc
+
+pub same_fault : {T E : Type 0} (r : Result T E) (e f : E) → r ≡ Err e → r ≡ Err f → e ≡ f
+same_fault r e f is other = cc (sym is ∙ other)
+
+-- the disk stays as it is
+pub stays : (tells : Type 0) (d : DiskState) (store : Store) (s : State) → IsLawful tells d → Agrees tells d store s → LeavesOnly (StandsForEither s s) d d
+stays tells d store s lawful agrees = leaves_start tells d (StandsForEither s s) lawful (λ c here. inl (images_stand tells d store s lawful agrees c here))
+
+-- The machine stays as it is, and this is the reply.
+pub record Rests (m : Machine) (stepped : Machine × List ℕ) (text : List ℕ) : Type 0 where
+  pub state : stepped.0.state ≡ m.state
+  pub cursors : stepped.0.cursors ≡ m.cursors
+  pub reply : stepped.1 ≡ text
+
+none_written : (bytes : ℕ) (s t : State) → t ≡ s → bytes_of_change bytes s t ≡ 0
+none_written bytes s t is = ap (λ (x : State). bytes_of_change bytes s x) is ∙ none_added bytes s
+
+pub looked : {D : Type 0} (tells : Type 0) (state : D → DiskState) (disk : D) (session : Session) (bytes : ℕ) (result : Result (List ℕ) StoreFault) (steps : Machine → Machine × List ℕ) (text : List ℕ) → IsLawful tells (state disk) → CanAnswer tells (state disk) session → IsReply text result
+    → ((m : Machine) → tells → AgreesOn tells (state disk) session m → Rests m (steps m) text) → Answers tells state disk disk session session bytes result steps
+looked tells state disk session bytes result steps text lawful can reply rests = record {
+  from = λ m tell agrees.
+      let rest : Rests m (steps m) text = rests m tell agrees in
+      let now : AgreesOn tells (state disk) session (steps m).0 = record { store = subst (λ (s : State). Agrees tells (state disk) session.store s) (sym rest.state) agrees.store; cursors = rest.cursors ∙ agrees.cursors } in
+      record {
+        reply = IfOk-weaker result (λ r. r ≡ text) (λ r. r ≡ (steps m).1) (λ r is. is ∙ sym rest.reply) reply.reply;
+        agrees = if_so result (AgreesOn tells (state disk) session (steps m).0) now;
+        images = subst (λ (s : State). LeavesOnly (StandsForEither m.state s) (state disk) (state disk)) (sym rest.state) (stays tells (state disk) session.store m.state lawful agrees.store);
+        refused = λ refusal. (refl, reply.memory);
+        need = λ need gap is. let wanting : Full need gap ≡ Memory = is_memory result (Full need gap) reply.memory is in absurd cc;
+        room = if_so result _ (omega (arith, none_written bytes m.state (steps m).0.state rest.state));
+      };
+  can = if_so result (CanAnswer tells (state disk) session) can;
+  unchanged = if_all result _ (λ r refusal. (refl, refl));
+  only = err_weaker result (λ e. e ≡ Memory) _ (λ e is. inl (inl is)) reply.memory;
+  full = λ need gap tell is. let wanting : Full need gap ≡ Memory = is_memory result (Full need gap) reply.memory is in absurd cc;
+  cause = λ is. let wanting : Disk ≡ Memory = is_memory result Disk reply.memory is in absurd cc;
+  faults = omega arith;
+  same_limit = refl;
+}
+
+-- where disk and session came out as they were
+pub same_store : (session : Session) (store : Store) → store ≡ session.store → record { store = store; sound = session.sound } ≡ session
+same_store session store same = ap (λ (x : Store). record { store = x; sound = session.sound }) same
+
+pub answers_same : {D : Type 0} (tells : Type 0) (state : D → DiskState) (disk disk_now : D) (session session_now : Session) (bytes : ℕ) (result : Result (List ℕ) StoreFault) (steps : Machine → Machine × List ℕ) → disk_now ≡ disk → session_now ≡ session
+    → Answers tells state disk disk session session bytes result steps → Answers tells state disk disk_now session session_now bytes result steps
+answers_same {D} tells state disk disk_now session session_now bytes result steps same_disk same_session answers =
+    subst (λ (d : D). Answers tells state disk d session session_now bytes result steps) (sym same_disk) (subst (λ (x : Session). Answers tells state disk disk session x bytes result steps) (sym same_session) answers)
+
+-- by another name of the step
+pub answers_by : {D : Type 0} (tells : Type 0) (state : D → DiskState) (disk disk_now : D) (session session_now : Session) (bytes : ℕ) (result : Result (List ℕ) StoreFault) (steps by : Machine → Machine × List ℕ) → ((m : Machine) → steps m ≡ by m)
+    → Answers tells state disk disk_now session session_now bytes result steps → Answers tells state disk disk_now session session_now bytes result by
+answers_by tells state disk disk_now session session_now bytes result steps by is answers = record {
+  from = λ m tell agrees. subst (λ (p : Machine × List ℕ). AnswersFrom tells state disk disk_now session session_now bytes result m p) (is m) (answers.from m tell agrees);
+  can = answers.can;
+  unchanged = answers.unchanged;
+  only = answers.only;
+  full = answers.full;
+  cause = answers.cause;
+  faults = answers.faults;
+  same_limit = answers.same_limit;
+}
+
+-- after an error nothing is said of the session
+pub answers_failed : {D : Type 0} (tells : Type 0) (state : D → DiskState) (disk disk_now : D) (session session_now later : Session) (bytes : ℕ) (e : StoreFault) (steps : Machine → Machine × List ℕ) → Answers tells state disk disk_now session session_now bytes (Err e) steps → Answers tells state disk disk_now session later bytes (Err e) steps
+answers_failed tells state disk disk_now session session_now later bytes e steps answers = record {
+  from = λ m tell agrees. let one : AnswersFrom tells state disk disk_now session session_now bytes (Err e) m (steps m) = answers.from m tell agrees in record { reply = tt; agrees = tt; images = one.images; refused = one.refused; need = one.need; room = tt };
+  can = tt;
+  unchanged = tt;
+  only = answers.only;
+  full = answers.full;
+  cause = answers.cause;
+  faults = answers.faults;
+  same_limit = answers.same_limit;
+}
+
+pub changed_rests : (m : Machine) (change : State × List ℕ) (text : List ℕ) → change ≡ (m.state, text) → Rests m (changed_by m change) text
+changed_rests m change text is = record { state = ap (λ (p : State × List ℕ). p.0) is; cursors = refl; reply = ap (λ (p : State × List ℕ). p.1) is }
+
+pub step_rests : (m : Machine) (stepped : Machine × List ℕ) (text : List ℕ) → stepped ≡ (m, text) → Rests m stepped text
+step_rests m stepped text is = record { state = ap (λ (p : Machine × List ℕ). p.0.state) is; cursors = ap (λ (p : Machine × List ℕ). p.0.cursors) is; reply = ap (λ (p : Machine × List ℕ). p.1) is }
+
+-- The state was changed on the disk, and this is the reply.
+pub record Changes (tells : Type 0) (disk disk_now : DiskState) (session session_now : Session) (bytes : ℕ) (text : List ℕ) (m : Machine) (change : State × List ℕ) : Type 0 where
+  pub reply : change.1 ≡ text
+  pub agrees : Agrees tells disk_now session_now.store change.0
+  pub images : LeavesOnly (StandsForEither m.state change.0) disk disk_now
+  pub room : room_in session_now + bytes_of_change bytes m.state change.0 ≡ room_in session
+
+pub changed : {D : Type 0} (tells : Type 0) (state : D → DiskState) (disk disk_now : D) (session session_now : Session) (bytes : ℕ) (result : Result (List ℕ) StoreFault) (change : State → State × List ℕ) (text : List ℕ) → IsReply text result → (IsRefusal text → ⊥)
+    → CanAnswer tells (state disk_now) session_now → (state disk).faults ≤ (state disk_now).faults → (state disk_now).limit ≡ (state disk).limit
+    → ((m : Machine) → tells → AgreesOn tells (state disk) session m → Changes tells (state disk) (state disk_now) session session_now bytes text m (change m.state))
+    → Answers tells state disk disk_now session session_now bytes result (λ m. changed_by m (change m.state))
+changed tells state disk disk_now session session_now bytes result change text reply no_refusal can faults same_limit changes = record {
+  from = λ m tell agrees.
+      let one : Changes tells (state disk) (state disk_now) session session_now bytes text m (change m.state) = changes m tell agrees in record {
+        reply = IfOk-weaker result (λ r. r ≡ text) (λ r. r ≡ (change m.state).1) (λ r is. is ∙ sym one.reply) reply.reply;
+        agrees = if_so result _ (agrees_changed tells (state disk_now) session_now m (change m.state) agrees.cursors one.agrees);
+        images = one.images;
+        refused = λ refusal. absurd (no_refusal (subst IsRefusal one.reply refusal));
+        need = λ need gap is. let wanting : Full need gap ≡ Memory = is_memory result (Full need gap) reply.memory is in absurd cc;
+        room = if_so result _ one.room;
+      };
+  can = if_so result (CanAnswer tells (state disk_now) session_now) can;
+  unchanged = IfOk-weaker result (λ r. r ≡ text) (λ r. IsRefusal r → (disk_now ≡ disk) × (session_now ≡ session)) (λ r is refusal. absurd (no_refusal (subst IsRefusal is refusal))) reply.reply;
+  only = err_weaker result (λ e. e ≡ Memory) _ (λ e is. inl (inl is)) reply.memory;
+  full = λ need gap tell is. let wanting : Full need gap ≡ Memory = is_memory result (Full need gap) reply.memory is in absurd cc;
+  cause = λ is. let wanting : Disk ≡ Memory = is_memory result Disk reply.memory is in absurd cc;
+  faults = faults;
+  same_limit = same_limit;
+}
