@@ -1,4 +1,5 @@
 pub mod Bytes
+pub mod Decimal
 pub mod Faults
 pub mod Name
 pub mod Numbers

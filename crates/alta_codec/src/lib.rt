@@ -1,8 +1,9 @@
-//! What all layers share: locations, numbers in bytes, owned bytes and text, names, extents, the answer of a failed
+//! What all layers share: locations, numbers in bytes and in decimal digits, owned bytes and text, names, extents, the answer of a failed
 //! call, and the counter of steps.
 #![tactic(auto)]
 
 mod bytes;
+mod decimal;
 mod extent;
 mod failed;
 mod location;
@@ -14,6 +15,7 @@ mod tests;
 mod text;
 
 pub use bytes::Bytes;
+pub use decimal::read_count;
 pub use extent::Extent;
 pub use failed::Failed;
 pub use location::{DocNumber, Loc, TOP};

@@ -1,9 +1,11 @@
 -- One event more.
-use Rattle.std.proofs.Common.{◌≡◌, ◌⊎◌, inl, inr, ℕ, zero, suc, ◌<◌, get_or, ◌+◌, ◌≤◌, Bool, true, false, Vec, Global, List, [], ◌∷◌, ◌++◌, length, take, drop, refl, sym, ◌∙◌, ap, subst, arith, length-append}
+use Rattle.std.proofs.Common.{◌≡◌, ◌⊎◌, ⊎_elim, inl, inr, ℕ, zero, suc, ◌<◌, get_or, ◌+◌, ◌≤◌, Bool, true, false, Vec, Global, List, [], ◌∷◌, ◌++◌, length, take, drop, refl, sym, ◌∙◌, ap, subst, arith, length-append}
 use Rattle.std.specs.Prelude.{nat_le, if◌then◌else◌}
 use Rattle.std.proofs.lemmas.Bool.Decides.{nat_tests}
-use Rattle.std.proofs.lemmas.Bool.{and_parts, and_from}
+use Rattle.std.proofs.lemmas.Bool.{and_parts, and_from, cases_lt}
 use Rattle.std.proofs.lemmas.List.{take_more, take_all, drop_all, take-append-le, drop-append-le}
+use Rattle.alta_codec.specs.Bytes.{AreBytes}
+use Rattle.alta_codec.proofs.ByteLaws.{AreBytes-append, AreBytes-take, AreBytes-drop}
 use Rattle.alta_disk.specs.Disk.{After, Same, Torn, Holds, Passes}
 use Rattle.alta_disk.specs.MediaLaws.{image_after, torn_same}
 use Rattle.alta_disk.specs.Media.{Media, start, put, step, after, begins_inside, is_sound, IsImage, MayLeave, MayHaveLeft, state_of, ranges_after, IsKept}
@@ -76,14 +78,25 @@ ranges_push earlier (Synced ∷ es) e = ranges_push earlier es e
 
 -- what is kept agrees with one event more, after which the same is firm
 module _ (first content : List ℕ) (es : List Event) (synced : ℕ) (kept : IsKept first content es synced) where
-  kept_more : (content' : List ℕ) (items : List Event) (e : Event) → items ≡ es ++ e ∷ [] → begins_inside (after (start first) es) e ≡ true → content' ≡ (step (after (start first) es) e).content
+  content_bytes : AreBytes content
+  content_bytes = subst AreBytes (sym (kept.seen ∙ sym (ap (λ (l : List Event). (after (start first) l).content) (take_all (length es) es (omega arith))))) (kept.bytes (length es))
+
+  -- content after one event more is bytes at each moment
+  bytes_more : (content' : List ℕ) (items : List Event) (e : Event) → items ≡ es ++ e ∷ [] → content' ≡ (after (start first) items).content → AreBytes content' → (k : ℕ) → AreBytes (after (start first) (take k items)).content
+  bytes_more content' items e is seen fits k =
+      ⊎_elim (λ old. subst (λ (l : List Event). AreBytes (after (start first) l).content) (sym (ap (λ (l : List Event). take k l) is ∙ take-append-le k es (e ∷ []) (omega (arith, old)))) (kept.bytes k))
+      (λ new. subst (λ (l : List Event). AreBytes (after (start first) l).content) (sym (take_all k items (omega (arith, new, ap length is, length-append es (e ∷ []))))) (subst AreBytes seen fits))
+      (cases_lt k (length es + 1))
+
+  kept_more : (content' : List ℕ) (items : List Event) (e : Event) → AreBytes content' → items ≡ es ++ e ∷ [] → begins_inside (after (start first) es) e ≡ true → content' ≡ (step (after (start first) es) e).content
       → (step (after (start first) es) e).firm ≡ (after (start first) es).firm → (step (after (start first) es) e).pending ≡ ranges_after (after (start first) es).pending (e ∷ [])
       → IsKept first content' items synced
-  kept_more content' items e is inside content_is firm_is pending_is =
+  kept_more content' items e fits is inside content_is firm_is pending_is =
       let pushed = after_pushed (start first) es items e is in
       record {
         seen = content_is ∙ sym (ap (λ (m : Media). m.content) pushed);
         sound = sound_pushed (start first) es items e is kept.sound inside;
+        bytes = bytes_more content' items e is (content_is ∙ sym (ap (λ (m : Media). m.content) pushed)) fits;
         within = omega (arith, kept.within, ap length is, length-append es (e ∷ []));
         firm = ap (λ (m : Media). m.firm) pushed ∙ firm_is ∙ kept.firm ∙ ap (λ (l : List Event). (after (start first) l).content) (sym (ap (λ (l : List Event). take synced l) is ∙ take-append-le synced es (e ∷ []) kept.within));
         pending = ap (λ (m : Media). m.pending) pushed ∙ pending_is ∙ ap (λ (r : List (ℕ × ℕ)). ranges_after r (e ∷ [])) kept.pending ∙ sym (ranges_push [] (drop synced es) e)
@@ -91,16 +104,20 @@ module _ (first content : List ℕ) (es : List Event) (synced : ℕ) (kept : IsK
       }
 
   -- after a write that is done
-  pub kept_wrote : (content' : List ℕ) (items : List Event) (at : ℕ) (v : Vec ℕ Global) (bytes : List ℕ) → items ≡ es ++ Wrote at v ∷ [] → v.items ≡ bytes → at ≤ length content → Holds content at bytes content'
+  pub kept_wrote : (content' : List ℕ) (items : List Event) (at : ℕ) (v : Vec ℕ Global) (bytes : List ℕ) → AreBytes bytes → items ≡ es ++ Wrote at v ∷ [] → v.items ≡ bytes → at ≤ length content → Holds content at bytes content'
       → IsKept first content' items synced
-  kept_wrote content' items at v bytes is copied inside holds =
-      kept_more content' items (Wrote at v) is (inside_test at content (after (start first) es) kept.seen inside)
+  kept_wrote content' items at v bytes fits is copied inside holds =
+      kept_more content' items (Wrote at v) (subst AreBytes (sym holds) put_fits) is (inside_test at content (after (start first) es) kept.seen inside)
       (holds ∙ ap (λ (l : List ℕ). put l at bytes) kept.seen ∙ ap (λ (l : List ℕ). put (after (start first) es).content at l) (sym copied)) refl refl
+    where
+      put_fits : AreBytes (put content at bytes)
+      put_fits =
+          AreBytes-append (take at content ++ bytes) (drop (at + length bytes) content) (AreBytes-append (take at content) bytes (AreBytes-take at content content_bytes) fits) (AreBytes-drop (at + length bytes) content content_bytes)
 
   -- after a write that failed, if there was room to keep it
   pub kept_tore : (content' : List ℕ) (items : List Event) (at n : ℕ) (room : Bool) → items ≡ (if room then es ++ Tore at n ∷ [] else es) → at ≤ length content → content' ≡ content
       → IsKept first content' items synced
-  kept_tore content' items at n true is inside same = kept_more content' items (Tore at n) is (inside_test at content (after (start first) es) kept.seen inside) (same ∙ kept.seen) refl refl
+  kept_tore content' items at n true is inside same = kept_more content' items (Tore at n) (subst AreBytes (sym same) content_bytes) is (inside_test at content (after (start first) es) kept.seen inside) (same ∙ kept.seen) refl refl
   kept_tore content' items at n false is inside same =
       subst (λ (l : List ℕ). IsKept first l items synced) (sym same) (subst (λ (l : List Event). IsKept first content l synced) (sym is) kept)
 
@@ -111,6 +128,7 @@ module _ (first content : List ℕ) (es : List Event) (synced : ℕ) (kept : IsK
       record {
         seen = kept.seen ∙ sym (ap (λ (m : Media). m.content) pushed);
         sound = sound_pushed (start first) es items Synced is kept.sound refl;
+        bytes = bytes_more content items Synced is (kept.seen ∙ sym (ap (λ (m : Media). m.content) pushed)) content_bytes;
         within = omega (arith, all);
         firm = ap (λ (m : Media). m.firm) pushed ∙ sym (ap (λ (m : Media). m.content) pushed) ∙ ap (λ (l : List Event). (after (start first) l).content) (sym (take_all n items (omega (arith, all))));
         pending = ap (λ (m : Media). m.pending) pushed ∙ ap (λ (l : List Event). ranges_after [] l) (sym (drop_all n items (omega (arith, all))));
@@ -129,15 +147,15 @@ synced_only first first' es items same is c here =
     subst (λ (m : Media). MayLeave m c) (after_pushed (start first) es items Synced is) (subst (λ (f : List ℕ). MayLeave (after (start f) items) c) same here)
 
 -- each image after a sync is the content, which was one of the images
-pub synced_moves : (first : List ℕ) (es : List Event) → is_sound (start first) es ≡ true → (c : List ℕ) → MayLeave (step (after (start first) es) Synced) c → After (MayLeave (after (start first) es)) Same c
-synced_moves first es sound c here = ((after (start first) es).content, image_after (start first) es refl sound, here)
+pub synced_moves : (first : List ℕ) (es : List Event) → is_sound (start first) es ≡ true → ((k : ℕ) → AreBytes (after (start first) (take k es)).content) → (c : List ℕ) → MayLeave (step (after (start first) es) Synced) c → After (MayLeave (after (start first) es)) Same c
+synced_moves first es sound fits c here = ((after (start first) es).content, image_after (start first) es refl sound fits, here)
 
 -- each image after a write is one from before it, torn
 pub wrote_moves : (first : List ℕ) (es : List Event) (at : ℕ) (v : Vec ℕ Global) (bytes : List ℕ) → v.items ≡ bytes → (c : List ℕ) → MayLeave (step (after (start first) es) (Wrote at v)) c → After (MayLeave (after (start first) es)) (Torn at (length bytes)) c
-wrote_moves first es at v bytes copied c here = subst (λ (l : List ℕ). After (MayLeave (after (start first) es)) (Torn at (length l)) c) copied here
+wrote_moves first es at v bytes copied c (d, before, (torn, fits)) = subst (λ (l : List ℕ). After (MayLeave (after (start first) es)) (Torn at (length l)) c) copied (d, before, torn)
 
 pub tore_moves : (first : List ℕ) (es : List Event) (at n : ℕ) (c : List ℕ) → MayLeave (step (after (start first) es) (Tore at n)) c → After (MayLeave (after (start first) es)) (Torn at n) c
-tore_moves first es at n c here = here
+tore_moves first es at n c (d, before, (torn, fits)) = (d, before, torn)
 
 -- the next event of a replay
 pub after_more : (m : Media) (es : List Event) (i : ℕ) (e : Event) → i < length es → e ≡ get_or es i e → after m (take (i + 1) es) ≡ step (after m (take i es)) e
@@ -189,13 +207,13 @@ pub ranges_more : (es : List Event) (i : ℕ) (e : Event) → i < length es → 
 ranges_more es i e inside item = ap (λ (l : List Event). ranges_after [] l) (take_more es i e inside ∙ ap (λ (x : Event). take i es ++ x ∷ []) (sym item)) ∙ ranges_push [] (take i es) e
 
 -- the firm bytes are one of the images
-firm_image : (firm : List ℕ) (ranges : List (ℕ × ℕ)) → IsImage firm ranges firm
-firm_image firm [] = refl
-firm_image firm (range ∷ ranges) = (firm, firm_image firm ranges, torn_same range.0 range.1 firm)
+firm_image : (firm : List ℕ) (ranges : List (ℕ × ℕ)) → AreBytes firm → IsImage firm ranges firm
+firm_image firm [] fits = refl
+firm_image firm (range ∷ ranges) fits = (firm, firm_image firm ranges fits, (torn_same range.0 range.1 firm, fits))
 
-pub firm_left : (m : Media) (image : List ℕ) → image ≡ m.firm → MayLeave m image
-firm_left m image is = subst (λ (l : List ℕ). MayLeave m l) (sym is) (firm_image m.firm m.pending)
+pub firm_left : (m : Media) (image : List ℕ) → AreBytes m.firm → image ≡ m.firm → MayLeave m image
+firm_left m image fits is = subst (λ (l : List ℕ). MayLeave m l) (sym is) (firm_image m.firm m.pending fits)
 
 -- so is the content
-pub content_left : (first : List ℕ) (events : List Event) (image : List ℕ) → is_sound (start first) events ≡ true → image ≡ (after (start first) events).content → MayLeave (after (start first) events) image
-content_left first events image sound is = subst (λ (l : List ℕ). MayLeave (after (start first) events) l) (sym is) (image_after (start first) events refl sound)
+pub content_left : (first : List ℕ) (events : List Event) (image : List ℕ) → is_sound (start first) events ≡ true → ((k : ℕ) → AreBytes (after (start first) (take k events)).content) → image ≡ (after (start first) events).content → MayLeave (after (start first) events) image
+content_left first events image sound fits is = subst (λ (l : List ℕ). MayLeave (after (start first) events) l) (sym is) (image_after (start first) events refl sound fits)

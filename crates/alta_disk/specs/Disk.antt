@@ -1,5 +1,6 @@
 -- What a disk means, and what its calls and the layers above do to it.
 use Rattle.std.specs.Prelude.{◌≡◌, ◌⊎◌, ℕ, ◌+◌, ◌≤◌, max, List, ◌++◌, length, take, drop}
+use Rattle.alta_codec.specs.Bytes.{AreBytes}
 
 -- A disk at one moment. A disk that does not tell its content has no images.
 pub record DiskState : Type 1 where
@@ -77,3 +78,5 @@ pub record IsLawful (tells : Type 0) (state : DiskState) : Type 0 where
   pub counts_now : (t : ℕ) (c : List ℕ) → t ≤ state.clock → state.images c → state.since t c
   -- since this moment there is no other
   pub only_now : (c : List ℕ) → state.since state.clock c → state.images c
+  -- an image of any moment is bytes
+  pub bytes : (t : ℕ) (c : List ℕ) → state.since t c → AreBytes c

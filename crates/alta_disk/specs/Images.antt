@@ -1,7 +1,8 @@
 -- What a stop may leave of a disk in memory, said byte by byte.
 use Rattle.std.specs.Prelude.{◌≡◌, ◌⊎◌, ◌↔◌, ℕ, ◌+◌, ◌≤◌, ◌<◌, max, List, [], ◌∷◌, length, get_or}
-use Rattle.alta_disk.specs.Disk.{Torn, After}
-use Rattle.alta_disk.specs.Media.{Media, MayLeave}
+use Rattle.alta_codec.specs.Bytes.{AreBytes}
+use Rattle.alta_disk.specs.Disk.{After}
+use Rattle.alta_disk.specs.Media.{Media, MayLeave, TornBytes}
 
 -- the byte at this index stands in one of these ranges
 abbrev pub IsPending : List (ℕ × ℕ) → ℕ → Type 0
@@ -13,12 +14,13 @@ abbrev pub end_of : ℕ → List (ℕ × ℕ) → ℕ
 end_of n [] = n
 end_of n (range ∷ ranges) = max (end_of n ranges) (range.0 + range.1)
 
--- Outside the written ranges, and below the old end, the firm bytes. A length between the old end and the greatest end
--- that was written.
+-- Bytes: outside the written ranges, and below the old end, the firm ones. A length between the old end and the greatest
+-- end that was written.
 pub record IsLeft (firm : List ℕ) (pending : List (ℕ × ℕ)) (image : List ℕ) : Type 0 where
   pub outside : (i : ℕ) → i < length firm → ¬ (IsPending pending i) → get_or image i 0 ≡ get_or firm i 0
   pub no_shorter : length firm ≤ length image
   pub no_longer : length image ≤ end_of (length firm) pending
+  pub bytes : AreBytes image
 
 -- the content with each pending byte as this one
 pub record IsFilled (byte : ℕ) (pending : List (ℕ × ℕ)) (content image : List ℕ) : Type 0 where
@@ -34,7 +36,7 @@ Exactly wanted images = (c : List ℕ) → images c ↔ wanted c
 pub record Pends (at n : ℕ) (old new : Media) : Type 0 where
   pub firm : new.firm ≡ old.firm
   pub pending : new.pending ≡ (at, n) ∷ old.pending
-  pub images : Exactly (After (MayLeave old) (Torn at n)) (MayLeave new)
+  pub images : Exactly (After (MayLeave old) (TornBytes at n)) (MayLeave new)
 
 -- so it was left by a write that failed
 pub record Tears (at n : ℕ) (old new : Media) : Type 0 where

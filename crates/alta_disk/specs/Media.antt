@@ -1,6 +1,7 @@
 -- The writes and syncs of a disk in memory, and the images that they may leave.
 use Rattle.std.proofs.Common.{Vec, Global}
 use Rattle.std.specs.Prelude.{Option, Some, None, ◌≡◌, ℕ, ◌+◌, ◌≤◌, Bool, true, ◌&&◌, nat_le, IsTrue, List, [], ◌∷◌, ◌++◌, length, take, drop}
+use Rattle.alta_codec.specs.Bytes.{AreBytes}
 use Rattle.alta_disk.specs.Disk.{DiskState, Torn}
 use Rattle.alta_disk.specs.declared.event.Event.{Event}
 use Rattle.alta_disk.specs.declared.event.Event.TheVariants.{Wrote, Tore, Synced}
@@ -38,10 +39,14 @@ abbrev pub is_sound : Media → List Event → Bool
 is_sound m [] = true
 is_sound m (e ∷ es) = begins_inside m e && is_sound (step m e) es
 
+-- torn, and bytes again
+abbrev pub TornBytes : ℕ → ℕ → List ℕ → List ℕ → Type 0
+TornBytes at n old new = Torn at n old new × AreBytes new
+
 -- what the firm bytes become where each pending write is torn
 abbrev pub IsImage : List ℕ → List (ℕ × ℕ) → List ℕ → Type 0
 IsImage firm [] c = c ≡ firm
-IsImage firm (range ∷ ranges) c = (d : List ℕ) × IsImage firm ranges d × Torn range.0 range.1 d c
+IsImage firm (range ∷ ranges) c = (d : List ℕ) × IsImage firm ranges d × TornBytes range.0 range.1 d c
 
 abbrev pub MayLeave : Media → List ℕ → Type 0
 MayLeave m c = IsImage m.firm m.pending c
@@ -78,5 +83,6 @@ pub record IsKept (first content : List ℕ) (events : List Event) (synced : ℕ
   pub seen : content ≡ (after (start first) events).content
   pub sound : IsTrue (is_sound (start first) events)
   pub within : synced ≤ length events
+  pub bytes : (k : ℕ) → AreBytes (after (start first) (take k events)).content
   pub firm : (after (start first) events).firm ≡ (after (start first) (take synced events)).content
   pub pending : (after (start first) events).pending ≡ ranges_after [] (drop synced events)

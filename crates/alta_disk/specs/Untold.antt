@@ -15,4 +15,5 @@ untold_lawful faults taken limit = record {
   told = λ c here. absurd here;
   counts_now = λ t c le here. here;
   only_now = λ c here. here;
+  bytes = λ t c here. absurd here;
 }

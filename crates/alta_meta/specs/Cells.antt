@@ -1,12 +1,12 @@
 -- The cells of a document: the words and marks that stand at its places.
-use Rattle.std.specs.Prelude.{ℕ, Bool, ◌||◌, nat_lt, nat_eq, if◌then◌else◌, List, [], ◌∷◌, ◌++◌, length, map}
+use Rattle.std.specs.Prelude.{ℕ, ◌≤◌, Bool, ◌||◌, nat_lt, nat_eq, if◌then◌else◌, List, [], ◌∷◌, ◌++◌, length, map}
 use Rattle.std.specs.List.{list_any, starts_with}
 use Rattle.std.specs.Str.{bytes_eq}
 use Rattle.alta_codec.specs.Order.{Precedes}
 use Rattle.alta_text.specs.Words.{words_of}
 use Rattle.alta_meta.specs.declared.cell.Terms.{Terms}
 use Rattle.alta_meta.specs.declared.cell.Terms.TheVariants.{Empty, One, Two}
-use Rattle.alta_meta.specs.declared.kinds.TheConstants.{WORD, WRITTEN, NAME, START, TITLE_END, DOCUMENT_END, WORD_LIMIT}
+use Rattle.alta_meta.specs.declared.kinds.TheConstants.{WORD, WRITTEN, NAME, START, TITLE_END, DOCUMENT_END, WORD_LIMIT, CELL_LIMIT}
 
 -- the terms of a cell in order
 abbrev pub terms_of : Terms → List (List ℕ)
@@ -14,12 +14,16 @@ terms_of Empty = []
 terms_of (One only) = only ∷ []
 terms_of (Two first second) = first ∷ second ∷ []
 
--- at most two terms, the first before the second
-abbrev pub IsCell : List (List ℕ) → Type 0
-IsCell [] = Unit {0}
-IsCell (first ∷ []) = Unit {0}
-IsCell (first ∷ second ∷ []) = Precedes first second
-IsCell (first ∷ second ∷ third ∷ more) = ⊥
+-- each term precedes the next
+abbrev pub AreInOrder : List (List ℕ) → Type 0
+AreInOrder [] = Unit {0}
+AreInOrder (term ∷ []) = Unit {0}
+AreInOrder (term ∷ next ∷ terms) = Precedes term next × AreInOrder (next ∷ terms)
+
+-- Terms in their order, and no more than a cell may have.
+pub record IsCell (terms : List (List ℕ)) : Type 0 where
+  pub ordered : AreInOrder terms
+  pub few : length terms ≤ CELL_LIMIT
 
 -- the cell of a word, as written and folded: empty where either is too long, else the folding, and the spelling where it differs
 abbrev pub word_cell : List ℕ × List ℕ → List (List ℕ)

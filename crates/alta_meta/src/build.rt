@@ -5,7 +5,7 @@ ghost use Rattle.alta_meta.specs.Cells.{cells_of, word_cell};
 ghost use Rattle.alta_text.specs.Words.{folded_of, words_of};
 
 use crate::cell::Cell;
-use crate::kinds::{DOCUMENT_END, NAME, START, TITLE_END, WORD, WORD_LIMIT, WRITTEN};
+use crate::kinds::{DOCUMENT_END, NAME, START, TITLE_END, WORD, WORD_LIMIT, WRITTEN, term};
 use alta_codec::{Bytes, name_ok};
 use alta_text::put_folded;
 use std::alloc::{AllocError, Global};
@@ -51,25 +51,15 @@ fn document_cells(
     ensures { IfOk result (λ all. all.items ≡ cells_of name.now title.now body.now) }
 {
     let mut all = Vec::new(alloc);
-    let first = Cell::two(term(alloc, NAME, name)?, term(alloc, START, "")?);
+    let first = Cell::two(term(alloc, NAME, name.as_bytes())?, term(alloc, START, b"")?);
     all.push(first)?;
     put_words(alloc, &mut all, title)?;
-    let title_end = Cell::one(term(alloc, TITLE_END, "")?);
+    let title_end = Cell::one(term(alloc, TITLE_END, b"")?);
     all.push(title_end)?;
     put_words(alloc, &mut all, body)?;
-    let document_end = Cell::one(term(alloc, DOCUMENT_END, "")?);
+    let document_end = Cell::one(term(alloc, DOCUMENT_END, b"")?);
     all.push(document_end)?;
     Ok(all)
-}
-
-/// The term of a kind with the rest behind it.
-fn term(alloc: Global, kind: u8, rest: &str) -> Result<Bytes, AllocError>
-    ensures { IfOk result (λ term. term ≡ kind ∷ rest.now) }
-{
-    let mut bytes = Vec::with_capacity(alloc, 1 + rest.len())?;
-    bytes.push(kind)?;
-    bytes.extend_from_slice(rest.as_bytes())?;
-    Ok(Bytes::from_vec(bytes))
 }
 
 /// The term of a word's folding.
@@ -110,6 +100,6 @@ fn cell_of(alloc: Global, written: &str) -> Result<Cell, AllocError>
     if written.as_bytes() == folded {
         return Ok(Cell::one(folding));
     }
-    let spelling = term(alloc, WRITTEN, written)?;
+    let spelling = term(alloc, WRITTEN, written.as_bytes())?;
     Ok(Cell::two(folding, spelling))
 }

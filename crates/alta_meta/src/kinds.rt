@@ -1,4 +1,8 @@
-//! The kinds of terms, each the first byte of its terms, and how long a word may be.
+//! The kinds of terms, each the first byte of its terms, how long a word may be, and how many terms a cell may have.
+ghost use Rattle.std.specs.Prelude.{◌≡◌, ◌∷◌, IfOk};
+
+use alta_codec::Bytes;
+use std::alloc::{AllocError, Global};
 
 /// The kind of a word's term: the folding follows.
 pub const WORD: u8 = b'W';
@@ -20,3 +24,16 @@ pub const DOCUMENT_END: u8 = b'D';
 
 /// How many bytes a word may have, as written and as folded. The cell of a longer word is empty.
 pub const WORD_LIMIT: usize = 128;
+
+/// How many terms a cell may have.
+pub const CELL_LIMIT: usize = 2;
+
+/// The term of a kind with the rest behind it.
+pub fn term(alloc: Global, kind: u8, rest: &[u8]) -> Result<Bytes, AllocError>
+    ensures { IfOk result (λ term. term ≡ kind ∷ rest.now) }
+{
+    let mut bytes = Vec::with_capacity(alloc, 1 + rest.len())?;
+    bytes.push(kind)?;
+    bytes.extend_from_slice(rest)?;
+    Ok(Bytes::from_vec(bytes))
+}

@@ -29,4 +29,4 @@ returns-in-Ok-clause-images c =
     let old = c.args.self.now.written in
     let first : c.sync.new.self.first.items ≡ old.first.items = cc (c.sync.ensures.first, c.fails_now.ensures.new) in
     let events : c.sync.new.self.events.items ≡ old.events.items ++ Synced ∷ [] = cc (c.in-Ok.ensures.ok, c.fails_now.ensures.new) in
-    passes_pushed old.first.items _ old.events.items _ Synced Same _ _ _ _ _ _ first events (synced_moves old.first.items old.events.items old.kept.sound)
+    passes_pushed old.first.items _ old.events.items _ Synced Same _ _ _ _ _ _ first events (synced_moves old.first.items old.events.items old.kept.sound old.kept.bytes)
