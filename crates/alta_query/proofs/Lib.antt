@@ -17,3 +17,4 @@ pub mod Sides
 pub mod Names
 pub mod Counted
 pub mod Texts
+pub mod Members

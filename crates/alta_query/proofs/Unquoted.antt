@@ -13,7 +13,9 @@ use Rattle.std.proofs.lemmas.Bool.Decides.{nat_tests}
 use Rattle.std.proofs.Math.Seq.{take-append_seam}
 use Rattle.alta_query.specs.Shape.{name}
 use Rattle.alta_query.specs.Token.{Token, operand, near_word}
-use Rattle.alta_query.specs.Spots.{is_blank, is_solid, is_quote, is_run, is_graphic, first_token, first_len, run_token, is_name, name_token, near_token, value_of, is_quoted_title}
+use Rattle.alta_codec.specs.Decimal.{value_of}
+use Rattle.alta_codec.specs.Name.{is_graphic, is_name}
+use Rattle.alta_query.specs.Spots.{is_blank, is_solid, is_quote, is_run, first_token, first_len, run_token, name_token, near_token, is_quoted_title}
 use Rattle.alta_query.specs.Spelling.{spelled}
 use Rattle.alta_query.proofs.Reread.{IsEnd, Spells}
 use Rattle.alta_query.proofs.Quoted.{both}

@@ -1,5 +1,6 @@
 -- Which cells a query matches.
-use Rattle.std.specs.Prelude.{◌⊎◌, ℕ, List}
+use Rattle.std.specs.Prelude.{◌⊎◌, ℕ, ◌+◌, ◌≤◌, List}
+use Rattle.std.specs.Str.{IsUtf8}
 use Rattle.alta_query.specs.Shape.{Shape, Shapes, atom, all, any, negated, none, more}
 use Rattle.alta_query.specs.Patterns.{Satisfies, pattern_of}
 use Rattle.alta_query.specs.Token.{tokens_of}
@@ -22,6 +23,22 @@ abbrev mutual
   AnyMatches cells none = ⊥
   AnyMatches cells (more q qs) = Matches cells q ⊎ AnyMatches cells qs
 
--- some text is read as this query
+-- some UTF-8 text is read as this query
 abbrev pub IsWellFormed : Shape → Type 0
-IsWellFormed q = (text : List ℕ) × Reads (tokens_of (spots text)) q
+IsWellFormed q = (text : List ℕ) × IsUtf8 text × Reads (tokens_of (spots text)) q
+
+abbrev pub count_of : Shapes → ℕ
+count_of none = 0
+count_of (more q qs) = 1 + count_of qs
+
+-- each And and Or has two members at least
+abbrev mutual
+  pub HasMembers : Shape → Type 0
+  HasMembers (atom a) = Unit {0}
+  HasMembers (all qs) = (2 ≤ count_of qs) × HaveMembers qs
+  HasMembers (any qs) = (2 ≤ count_of qs) × HaveMembers qs
+  HasMembers (negated q) = HasMembers q
+
+  pub HaveMembers : Shapes → Type 0
+  HaveMembers none = Unit {0}
+  HaveMembers (more q qs) = HasMembers q × HaveMembers qs

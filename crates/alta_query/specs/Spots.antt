@@ -1,8 +1,9 @@
 -- How a text is cut into tokens.
-use Rattle.std.specs.Prelude.{ℕ, zero, suc, ◌+◌, ◌-◌, ◌*◌, List, [], ◌∷◌, length, take, drop, Bool, true, false, not, ◌||◌, ◌&&◌, ◌==◌, nat_lt, nat_le, nat_eq, if◌then◌else◌, codes, slice_index}
-use Rattle.std.specs.List.{prefix_len, take_while, position_or_len, before_first, starts_with, ends_with, list_all, fold}
-use Rattle.std.specs.Char.{is_ascii_digit}
+use Rattle.std.specs.Prelude.{ℕ, zero, suc, ◌+◌, ◌-◌, ◌*◌, List, [], ◌∷◌, length, take, drop, Bool, true, false, not, ◌||◌, ◌&&◌, ◌==◌, nat_lt, nat_eq, if◌then◌else◌, codes}
+use Rattle.std.specs.List.{prefix_len, take_while, position_or_len, before_first, starts_with, ends_with}
 use Rattle.std.specs.Str.{bytes_eq}
+use Rattle.alta_codec.specs.Decimal.{is_count, value_of}
+use Rattle.alta_codec.specs.Name.{is_name}
 use Rattle.alta_query.specs.Shape.{words, prefix, name}
 use Rattle.alta_query.specs.Words.{has_words, tests_of, is_stem, stem_test}
 use Rattle.alta_query.specs.Token.{Token, open_paren, close_paren, and_word, or_word, not_word, near_word, operand, faulty, Spot, at}
@@ -22,10 +23,6 @@ is_quote b = b == 34
 abbrev pub is_run : ℕ → Bool
 is_run b = not (is_blank b || b == 40 || b == 41 || is_quote b)
 
--- a name has 1 to 64 of these
-abbrev pub is_graphic : ℕ → Bool
-is_graphic b = nat_le 33 b && nat_le b 126
-
 -- a words atom
 unfoldable pub words_token : Bool → List ℕ → Token
 words_token title text = if has_words text then operand (words title text (tests_of text)) else faulty cause.Word
@@ -37,21 +34,13 @@ prefix_token title stem = if is_stem stem then operand (prefix title stem (stem_
 unfoldable pub plain_token : Bool → List ℕ → Token
 plain_token title text = if ends_with nat_eq text (codes "*") then prefix_token title (take (length text - 1) text) else words_token title text
 
-unfoldable pub is_name : List ℕ → Bool
-is_name text = nat_le 1 (length text) && nat_le (length text) 64 && list_all is_graphic text
-
 unfoldable pub name_token : List ℕ → Token
 name_token text = if is_name text then operand (name text) else faulty cause.Name
-
--- the number that digits spell
-abbrev pub value_of : List ℕ → ℕ
-value_of digits = fold (λ n b. n * 10 + (b - 48)) 0 digits
 
 -- a number from 1 to 1,000 without leading zeros
 unfoldable pub near_token : List ℕ → Token
 near_token digits =
-    if nat_le 1 (length digits) && nat_le (length digits) 4 && list_all is_ascii_digit digits && not (slice_index digits 0 == 48) && nat_le (value_of digits) 1000 then near_word (value_of digits)
-    else faulty cause.Near
+    if is_count 4 1000 digits then near_word (value_of digits) else faulty cause.Near
 
 unfoldable pub run_token : List ℕ → Token
 run_token text =

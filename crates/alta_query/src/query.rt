@@ -1,4 +1,8 @@
 // Queries.
+ghost use Rattle.std.specs.Prelude.{◌≡◌};
+ghost use Rattle.alta_query.specs.Patterns.{test_of};
+ghost use Rattle.alta_query.specs.View.{side_view};
+
 use crate::test::{Test, Tests};
 use alta_codec::Text;
 
@@ -19,6 +23,18 @@ pub enum Side {
         /// The test of it.
         test: Test,
     },
+}
+
+impl Side {
+    /// The test of the side.
+    pub fn test(&self) -> &Test
+        ensures { result.now ≡ test_of (side_view self.now) }
+    {
+        match self {
+            Side::Word { test, .. } => test,
+            Side::Stem { test, .. } => test,
+        }
+    }
 }
 
 /// What a query asks for at one place or at neighbouring ones. In a query that was read the tests are those of the text.

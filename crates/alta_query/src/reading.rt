@@ -11,6 +11,7 @@ ghost use Rattle.alta_query.specs.Token.{tokens_of};
 ghost use Rattle.alta_query.specs.Machine.{parse_of};
 ghost use Rattle.alta_query.specs.Reading.{query_of};
 ghost use Rattle.alta_query.specs.Answer.{Gives, IsMemory, fault_in};
+ghost use Rattle.alta_query.specs.Matches.{IsWellFormed, HasMembers};
 ghost use Rattle.alta_query.specs.Texts.{HasTextTerms};
 
 use crate::fault::{Cause, QueryFault};
@@ -87,4 +88,10 @@ pub fn one_or_other()
 pub fn a_query_is_read_one_way()
     ensures read { (text : List ℕ) (q : Shape) → (query_of text ≡ Ok q) ↔ Reads (tokens_of (spots text)) q }
     ensures refused { (text : List ℕ) (f : Fault) → (query_of text ≡ Err f) ↔ (fault_of (spots text) (length text) ≡ Some f) }
+{}
+
+/// A law, and nothing to run: of a well-formed query, one that some UTF-8 text is read as, each And and Or has two members
+/// at least.
+pub fn a_query_has_members()
+    ensures { (q : Shape) → IsWellFormed q → HasMembers q }
 {}

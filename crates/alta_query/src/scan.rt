@@ -1,15 +1,14 @@
 // From text to tokens.
 ghost use Rattle.std.specs.Prelude.{◌≡◌, ℕ, ◌+◌, ◌-◌, ◌<◌, ◌≤◌, length, take, drop, true, false, get_or, codes, nat_eq, option_map, IsTrue, IfOk};
-ghost use Rattle.std.specs.Char.{is_ascii_digit};
-ghost use Rattle.std.specs.List.{prefix_len, take_while, position_or_len, list_all, starts_with, ends_with};
+ghost use Rattle.std.specs.List.{prefix_len, take_while, position_or_len, starts_with, ends_with};
 ghost use Rattle.std.specs.Str.{IsCharBoundary};
 ghost use Rattle.alta_query.specs.Token.{side_of, atom_weight};
-ghost use Rattle.alta_query.specs.Spots.{is_blank, is_solid, is_quote, is_run, first_token, first_len, run_token, plain_token, prefix_token, words_token, name_token, near_token, quoted_token, quoted_len, value_of};
+ghost use Rattle.alta_query.specs.Spots.{is_blank, is_solid, is_quote, is_run, first_token, first_len, run_token, plain_token, prefix_token, words_token, name_token, near_token, quoted_token, quoted_len};
 ghost use Rattle.alta_query.specs.Pieces.{token_of, atom_in, side_in};
 
 use crate::fault::Cause;
 use crate::word::{count_words, has_short_words, is_whole_word};
-use alta_codec::name_ok;
+use alta_codec::{name_ok, read_count};
 use std::alloc::{AllocError, Global};
 
 /// An operand of one token, whose text is lent.
@@ -326,41 +325,12 @@ fn named(name: &str) -> Kind<'_>
 }
 
 /// The distance of a NEAR.
-#[tactic(auto, unfolding(crate::specs::Spots::near_token))]
+#[tactic(auto, unfolding(crate::specs::Spots::near_token, alta_codec::specs::Decimal::count_in))]
 fn near(digits: &[u8]) -> Kind<'_>
     ensures { token_of result ≡ near_token digits.now }
 {
-    if digits.is_empty() || digits.len() > 4 || !are_digits(digits) || digits[0] == b'0' {
-        return Kind::Faulty(Cause::Near);
+    match read_count(digits, 4, 1000) {
+        Some(distance) => Kind::Near(distance as u16),
+        None => Kind::Faulty(Cause::Near),
     }
-    let distance = value(digits);
-    if distance <= 1000 {
-        Kind::Near(distance)
-    } else {
-        Kind::Faulty(Cause::Near)
-    }
-}
-
-fn are_digits(text: &[u8]) -> bool
-    ensures { result ≡ list_all is_ascii_digit text.now }
-{
-    for b in text {
-        if !b.is_ascii_digit() {
-            return false;
-        }
-    }
-    true
-}
-
-/// The number that digits spell.
-fn value(digits: &[u8]) -> u16
-    requires short { length digits.now ≤ 4 }
-    requires digits { list_all is_ascii_digit digits.now ≡ true }
-    ensures { result ≡ value_of digits.now }
-{
-    let mut n = 0;
-    for b in digits {
-        n = n * 10 + (*b - b'0') as u16;
-    }
-    n
 }

@@ -1,5 +1,5 @@
 // Tests that the cells of a document have to meet.
-ghost use Rattle.std.specs.Prelude.{◌≡◌, ◌∷◌, ◌++◌, [], length, slice_get, OnOk, OnErr};
+ghost use Rattle.std.specs.Prelude.{◌≡◌, ◌∷◌, ◌++◌, [], length, slice_get, IfOk, OnOk, OnErr};
 ghost use Rattle.std.specs.Option.{option_copied};
 
 use alta_codec::Bytes;
@@ -13,6 +13,18 @@ pub enum Test {
     Is(Bytes),
     /// The cell holds a term that begins with these bytes.
     Begins(Bytes),
+}
+
+impl Test {
+    /// An equal test, in memory of its own.
+    pub fn copy(&self) -> Result<Test, AllocError>
+        ensures { IfOk result (λ t. t ≡ self.now) }
+    {
+        match self {
+            Test::Is(term) => Ok(Test::Is(term.copy()?)),
+            Test::Begins(start) => Ok(Test::Begins(start.copy()?)),
+        }
+    }
 }
 
 /// Tests, as those of the words of a phrase in order. Contracts see the list of them.

@@ -9,7 +9,7 @@ ghost use Rattle.alta_query.specs.Words.{has_words, is_stem};
 
 use crate::test::{Test, Tests};
 use alta_codec::Bytes;
-use alta_meta::kinds::{WORD, WORD_LIMIT, WRITTEN};
+use alta_meta::kinds::{WORD, WORD_LIMIT, WRITTEN, term};
 use alta_text::{Word, folded, words};
 use std::alloc::{AllocError, Global};
 use unicode_segmentation::UnicodeSegmentation;
@@ -83,22 +83,19 @@ fn word_term(alloc: Global, written: &str, folded: &str) -> Result<Bytes, AllocE
     ensures text { IfOk result IsUtf8 }
 {
     if written == folded {
-        term(alloc, WORD, folded)
+        text_term(alloc, WORD, folded)
     } else {
-        term(alloc, WRITTEN, written)
+        text_term(alloc, WRITTEN, written)
     }
 }
 
-/// The term of a kind with the rest behind it.
-fn term(alloc: Global, kind: u8, rest: &str) -> Result<Bytes, AllocError>
+/// The term of a kind with a text behind it.
+fn text_term(alloc: Global, kind: u8, rest: &str) -> Result<Bytes, AllocError>
     requires ascii { kind < 128 }
     ensures term { IfOk result (λ t. t ≡ kind ∷ rest.now) }
     ensures text { IfOk result IsUtf8 }
 {
-    let mut bytes = Vec::with_capacity(alloc, 1 + rest.len())?;
-    bytes.push(kind)?;
-    bytes.extend_from_slice(rest.as_bytes())?;
-    Ok(Bytes::from_vec(bytes))
+    term(alloc, kind, rest.as_bytes())
 }
 
 /// The tests of a text, one for each word.
