@@ -1,4 +1,5 @@
 pub mod Drafts
+pub mod Ends
 pub mod Gathered
 pub mod Joins
 pub mod Lines
@@ -7,3 +8,4 @@ pub mod Parts
 pub mod Solved
 pub mod Spaces
 pub mod Texts
+pub mod Whole

@@ -1,5 +1,5 @@
 -- The plan of a query whose terms are text is text.
-use Rattle.std.proofs.Common.{◌≡◌, ℕ, zero, suc, ◌+◌, ◌-◌, ◌/◌, ◌%◌, ◌<◌, ◌==◌, List, [], ◌∷◌, ◌++◌, refl, arith, lit<, Bool, true, false, if◌then◌else◌, codes}
+use Rattle.std.proofs.Common.{◌≡◌, ℕ, zero, suc, ◌-◌, ◌/◌, ◌%◌, ◌<◌, ◌==◌, List, [], ◌∷◌, ◌++◌, refl, arith, lit<, Bool, true, false, if◌then◌else◌, codes}
 use Rattle.std.specs.Fmt.{decimal, digits, digits_onto, digit_glyph}
 use Rattle.std.specs.List.{All, list_all}
 use Rattle.std.specs.Prelude.{nat_lt}
@@ -9,7 +9,7 @@ use Rattle.std.proofs.lemmas.List.Elements.{All-nil, All-cons, All-append, All-h
 use Rattle.std.proofs.lemmas.Nat.{mod_below}
 use Rattle.std.proofs.lemmas.Str.{IsUtf8-append, IsUtf8-from_ascii, IsUtf8-nil}
 use Rattle.std.proofs.lemmas.Str.Ascii.{IsAscii-from_all}
-use Rattle.alta_query.specs.Patterns.{Pattern, pattern_of}
+use Rattle.alta_query.specs.Patterns.{Pattern}
 use Rattle.alta_query.specs.Shape.{Shape, Shapes, atom, all, any, negated, none, more}
 use Rattle.alta_query.specs.Texts.{HasTextTerm, HasTextTerms, HaveTextTerms}
 use Rattle.alta_query.specs.declared.test.Test.{Test}

@@ -5,3 +5,4 @@ pub mod PlanOf
 pub mod Space
 pub mod Tree
 pub mod View
+pub mod Whole

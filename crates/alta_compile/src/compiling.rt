@@ -1,6 +1,6 @@
 // From query to plan.
 ghost use Rattle.std.specs.Prelude.{◌≡◌, ◌↔◌, List, map, IfOk, OnOk, Contains};
-ghost use Rattle.alta_query.specs.Matches.{Matches};
+ghost use Rattle.alta_query.specs.Matches.{IsWellFormed, Matches};
 ghost use Rattle.alta_query.specs.Patterns.{pattern_of};
 ghost use Rattle.alta_query.specs.Shape.{all, shapes_of};
 ghost use Rattle.alta_query.specs.View.{shape, atom_view};
@@ -11,22 +11,26 @@ ghost use Rattle.alta_compile.specs.Space.{Placed, IsSpace, end_of};
 ghost use Rattle.alta_compile.specs.Tree as spec;
 ghost use Rattle.alta_compile.specs.Tree.{plan_list, trees_of};
 ghost use Rattle.alta_compile.specs.View.{tree};
+ghost use Rattle.alta_compile.specs.Whole.{IsWhole};
 
 use crate::draft::Draft;
-use crate::laws::finds_what_matches;
+use crate::laws::{a_plan_is_whole, finds_what_matches};
 use crate::plan::{FoundPlan, Plan, Plans};
 use alta_query::{Atom, Query};
 use std::alloc::{AllocError, Global};
 
 /// The plan of a query: an atom is a Found of its own, the atoms of an And are one Found together, an Or is an AnyOf of
 /// its members, and a NOT is a Without of its operand. In each space of documents the end of a document is in the plan's
-/// list exactly where the query matches the document. Fails for want of memory alone. The time is linear in the query.
+/// list exactly where the query matches the document. The plan of a query that some text is read as has a part in each
+/// AllOf and each AnyOf. Fails for want of memory alone. The time is linear in the query.
 pub fn compile(alloc: Global, query: &Query) -> Result<Plan, AllocError>
     ensures plan { IfOk result (λ p. tree p ≡ plan_of (shape query.now)) }
     ensures meaning { IfOk result (λ p. (space : List Placed) (d : Placed) → IsSpace space → Contains space d
         → Contains (plan_list space (tree p)) (end_of d) ↔ Matches d.cells (shape query.now)) }
+    ensures whole { IfOk result (λ p. IsWellFormed (shape query.now) → IsWhole (tree p)) }
 {
     finds_what_matches();
+    a_plan_is_whole();
     plan(alloc, query)
 }
 

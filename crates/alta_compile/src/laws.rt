@@ -1,17 +1,19 @@
 // What the plan of a query finds. Each function is a law, and has nothing to run.
 ghost use Rattle.std.specs.Prelude.{◌≡◌, ◌↔◌, ℕ, List, [], ◌∷◌, map, All, Any, Contains};
 ghost use Rattle.std.specs.Str.{IsUtf8};
+ghost use Rattle.alta_codec.specs.Rising.{IsRising};
 ghost use Rattle.alta_compound.specs.Union.{union_of};
 ghost use Rattle.alta_docread.specs.Kept.{common};
-ghost use Rattle.alta_query.specs.Matches.{Matches};
+ghost use Rattle.alta_query.specs.Matches.{IsWellFormed, Matches};
 ghost use Rattle.alta_query.specs.Patterns.{Satisfies, pattern_of};
 ghost use Rattle.alta_query.specs.Shape.{Atom, Shape};
 ghost use Rattle.alta_query.specs.Texts.{HasTextTerms};
 ghost use Rattle.alta_compile.specs.Explained.{explained};
 ghost use Rattle.alta_compile.specs.Joined.{joined, SatisfiesEach};
 ghost use Rattle.alta_compile.specs.PlanOf.{found_of, plan_of};
-ghost use Rattle.alta_compile.specs.Space.{Placed, IsSpace, end_of};
+ghost use Rattle.alta_compile.specs.Space.{Placed, IsSpace, end_of, ends_of};
 ghost use Rattle.alta_compile.specs.Tree.{Tree, found, without, plan_list};
+ghost use Rattle.alta_compile.specs.Whole.{IsWhole};
 
 /// One atom: a document's end is in the list of its bounds exactly where the document satisfies the atom's pattern. The
 /// two bounds of each variable place all of them in one document.
@@ -52,4 +54,15 @@ pub fn finds_what_matches()
 /// The plan of a query whose terms are UTF-8, in words, is UTF-8. So are the terms of each query that was read.
 pub fn a_plan_is_text()
     ensures { (q : Shape) → HasTextTerms q → IsUtf8 (explained [] (plan_of q)) }
+{}
+
+/// A plan's list rises, and holds ends of documents alone.
+pub fn a_plan_lists_ends()
+    ensures rises { (space : List Placed) (t : Tree) → IsSpace space → IsRising (plan_list space t) }
+    ensures ends { (space : List Placed) (t : Tree) (e : ℕ) → IsSpace space → Contains (plan_list space t) e → Contains (ends_of space) e }
+{}
+
+/// The plan of a query that some text is read as has a part in each AllOf and each AnyOf.
+pub fn a_plan_is_whole()
+    ensures { (q : Shape) → IsWellFormed q → IsWhole (plan_of q) }
 {}

@@ -10,7 +10,7 @@ use Rattle.alta_docread.specs.KeptLaws.{less-rises, common-rises}
 use Rattle.alta_docread.specs.SolutionLaws.{walk_rises, walk_place, walk_within}
 use Rattle.alta_docread.specs.Tree.{Tree, Trees, found, all_of, any_of, without, none, more, tree_list, lists_of, tree_place, reader_places, tree_all, tree_left, IsOneFound, IsSound, AreSound}
 
-union-all-rises : (ls : List (List ℕ)) → All (λ l. IsRising l) ls → IsRising (union_of ls)
+pub union-all-rises : (ls : List (List ℕ)) → All (λ l. IsRising l) ls → IsRising (union_of ls)
 unfolding union_of
 union-all-rises [] r = rising_from_above [] tt
 union-all-rises (l ∷ ls) r =
