@@ -536,7 +536,7 @@ class Index:
         """Adds documents, each a (name, title, body), with many under way, and gives for each in order (name, outcome).
 
         The outcome is the `Added` number or the `Refused`. Where the program ends, its `Ended` is raised behind the outcome
-        of the last document that was answered.
+        of the last document that was answered, and no further document is taken.
         """
         sent = deque()
         for name, title, body in documents:
@@ -544,7 +544,7 @@ class Index:
                 sent.append((name, self.send_add(name, title, body, cut)))
             except Refused as refusal:
                 sent.append((name, refusal))
-            except Ended:
+            except Error:
                 break
             while sent and _is_settled(sent[0][1]):
                 name, outcome = sent.popleft()

@@ -321,6 +321,25 @@ class UnderWay(Case):
             with self.assertRaises(buncocedar.ProtocolFault):
                 index.stats()
             index.close()
+            numbers = []
+            with self.assertRaises(buncocedar.ProtocolFault):
+                with self.fake(say=[4, do]) as index:
+                    for _, outcome in index.add_all((f"m{i}", "", "") for i in range(100)):
+                        numbers.append(outcome)
+            self.assertEqual(len(numbers), 3)
+
+    def test_a_program_that_takes_no_more(self):
+        # It has closed its input and still gives replies: what it gives counts, and what it did not take does not.
+        go = os.path.join(self.folder.name, "go")
+        index = self.fake(deaf=[2, go], mark=self.mark)
+        replies = [index.send_add(name, "", "") for name in "ab"]
+        until(lambda: os.path.exists(self.mark))
+        replies += [index.send_add(name, "", "") for name in "cd"]
+        open(go, "w").close()
+        self.assertEqual([reply.result() for reply in replies[:2]], [1, 2])
+        for reply in replies[2:]:
+            with self.assertRaises(buncocedar.DiskFault):
+                reply.result()
 
     def test_killing(self):
         with self.fake(silent=3, mark=self.mark) as index:

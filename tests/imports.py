@@ -503,8 +503,9 @@ class Mail(Case):
         self.write("mail.mbox", archive.replace(b"text of two", b"text of too"))
         self.assertIn("0 added, 1 changed, 1 unchanged", self.run_script("mail.py", self.path, path))
         # Nor is an empty line at the end, before a message that has come.
-        self.write("mail.mbox", archive + b"\n" + LETTER % (b"new", b"new", b"new"))
-        self.assertIn("1 added, 1 changed, 1 unchanged", self.run_script("mail.py", self.path, path))
+        with open(path, "ab") as file:
+            file.write(b"\n" + LETTER % (b"new", b"new", b"new"))
+        self.assertIn("1 added, 2 unchanged", self.run_script("mail.py", self.path, path))
 
     def test_maildir(self):
         box = mailbox.Maildir(self.at("Mail"), create=True)
