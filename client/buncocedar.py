@@ -160,7 +160,7 @@ class Ended(Error):
     A line that has no reply then may be done, if it is the first of them, or else is not.
     """
 
-    advice = "what was answered is stored; open the index again"
+    advice = "what was answered is stored"
 
     def __init__(self, status, line=""):
         said = line or (f"ended by signal {-status}" if status < 0 else "ended without a word")
@@ -228,7 +228,7 @@ class Full(Ended):
 class InputTooLong(Ended):
     """Status 9: more than 2^40 bytes of lines in one run."""
 
-    advice = "what was answered is stored; open the index again"
+    advice = "what was answered is stored; the index opens again"
 
 
 class IndexExists(Ended):
@@ -252,7 +252,9 @@ _ENDS = {
 
 
 def _ended(status, line):
-    return _ENDS.get(status, Ended)(status, line)
+    """The end with this status. Only the program itself says why, save where it has no memory for that."""
+    known = line or status == 5
+    return (_ENDS.get(status, Ended) if known else Ended)(status, line)
 
 
 def _numbers(line):

@@ -210,8 +210,16 @@ class Calls(Case):
             if status == 8:
                 self.assertEqual((raised.exception.need, raised.exception.gap), (321, 123))
         with self.fake() as index:
-            self.assertEqual(sorted(index.search("NOT name:!")), sorted(index.search("NOT name:!")))
             self.assertEqual(index.stats().documents, 13)
+
+    def test_an_end_without_a_word(self):
+        # As of a script before the program, which could not start it: nothing is known of the disk.
+        for status, kind in [(2, buncocedar.Ended), (5, buncocedar.OutOfMemory)]:
+            index = self.fake(end=[1, status], mute=True)
+            with self.assertRaises(buncocedar.Ended) as raised:
+                index.add("a", "", "")
+            self.assertEqual((type(raised.exception), raised.exception.status), (kind, status))
+            index.close()
 
     def test_an_end_that_nobody_saw_is_raised_by_close(self):
         with self.assertRaises(buncocedar.Full):

@@ -7,6 +7,7 @@ JSON:
 
 room N      ends with status 8 at the document that would be stored as the N+1st
 end [N, S]  ends with status S (a signal, where it is below 0) in place of the N+1st reply
+mute        gives no line for its status
 done        then stores first what that line asks for
 cut         then gives the first half of that reply
 slow        gives its replies in pieces of one byte
@@ -47,7 +48,7 @@ def end(status):
     sys.stdout.flush()
     if status < 0:
         os.kill(os.getpid(), -status)
-    if status in STATUS_LINES:
+    if status in STATUS_LINES and not DO.get("mute"):
         print(STATUS_LINES[status], file=sys.stderr, flush=True)
     os._exit(status)
 

@@ -90,7 +90,8 @@ class Case(unittest.TestCase):
         """A script of examples/ over the fake program, which does this."""
         environment = {**os.environ, "BUNCOCEDAR_PROGRAM": self.program, "FAKE": json.dumps(do or {})}
         options = {"stdin": subprocess.DEVNULL, "stdout": subprocess.PIPE, "stderr": subprocess.PIPE, **options}
-        command = [sys.executable, os.path.join(TOP, "examples", script), *words]
+        # Without what is installed beside Python, which the scripts do without.
+        command = [sys.executable, "-S", os.path.join(TOP, "examples", script), *words]
         return subprocess.Popen(command, env=environment, text=True, errors="replace", **options)
 
     def run_script(self, script, *words, do=None, expect=0, **options):
