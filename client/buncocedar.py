@@ -160,7 +160,7 @@ class Ended(Error):
     A line that has no reply then may be done, if it is the first of them, or else is not.
     """
 
-    advice = "what was answered is stored; open the index again"
+    advice = "what was answered is stored"
 
     def __init__(self, status, line=""):
         said = line or (f"ended by signal {-status}" if status < 0 else "ended without a word")
@@ -228,7 +228,7 @@ class Full(Ended):
 class InputTooLong(Ended):
     """Status 9: more than 2^40 bytes of lines in one run."""
 
-    advice = "what was answered is stored; open the index again"
+    advice = "what was answered is stored; the index opens again"
 
 
 class IndexExists(Ended):
@@ -252,7 +252,9 @@ _ENDS = {
 
 
 def _ended(status, line):
-    return _ENDS.get(status, Ended)(status, line)
+    """The end with this status. Only the program itself says why, save where it has no memory for that."""
+    known = line or status == 5
+    return (_ENDS.get(status, Ended) if known else Ended)(status, line)
 
 
 def _numbers(line):
@@ -536,7 +538,7 @@ class Index:
         """Adds documents, each a (name, title, body), with many under way, and gives for each in order (name, outcome).
 
         The outcome is the `Added` number or the `Refused`. Where the program ends, its `Ended` is raised behind the outcome
-        of the last document that was answered.
+        of the last document that was answered, and no further document is taken.
         """
         sent = deque()
         for name, title, body in documents:
@@ -544,7 +546,7 @@ class Index:
                 sent.append((name, self.send_add(name, title, body, cut)))
             except Refused as refusal:
                 sent.append((name, refusal))
-            except Ended:
+            except Error:
                 break
             while sent and _is_settled(sent[0][1]):
                 name, outcome = sent.popleft()

@@ -210,8 +210,16 @@ class Calls(Case):
             if status == 8:
                 self.assertEqual((raised.exception.need, raised.exception.gap), (321, 123))
         with self.fake() as index:
-            self.assertEqual(sorted(index.search("NOT name:!")), sorted(index.search("NOT name:!")))
             self.assertEqual(index.stats().documents, 13)
+
+    def test_an_end_without_a_word(self):
+        # As of a script before the program, which could not start it: nothing is known of the disk.
+        for status, kind in [(2, buncocedar.Ended), (5, buncocedar.OutOfMemory)]:
+            index = self.fake(end=[1, status], mute=True)
+            with self.assertRaises(buncocedar.Ended) as raised:
+                index.add("a", "", "")
+            self.assertEqual((type(raised.exception), raised.exception.status), (kind, status))
+            index.close()
 
     def test_an_end_that_nobody_saw_is_raised_by_close(self):
         with self.assertRaises(buncocedar.Full):
@@ -321,6 +329,25 @@ class UnderWay(Case):
             with self.assertRaises(buncocedar.ProtocolFault):
                 index.stats()
             index.close()
+            numbers = []
+            with self.assertRaises(buncocedar.ProtocolFault):
+                with self.fake(say=[4, do]) as index:
+                    for _, outcome in index.add_all((f"m{i}", "", "") for i in range(100)):
+                        numbers.append(outcome)
+            self.assertEqual(len(numbers), 3)
+
+    def test_a_program_that_takes_no_more(self):
+        # It has closed its input and still gives replies: what it gives counts, and what it did not take does not.
+        go = os.path.join(self.folder.name, "go")
+        index = self.fake(deaf=[2, go], mark=self.mark)
+        replies = [index.send_add(name, "", "") for name in "ab"]
+        until(lambda: os.path.exists(self.mark))
+        replies += [index.send_add(name, "", "") for name in "cd"]
+        open(go, "w").close()
+        self.assertEqual([reply.result() for reply in replies[:2]], [1, 2])
+        for reply in replies[2:]:
+            with self.assertRaises(buncocedar.DiskFault):
+                reply.result()
 
     def test_killing(self):
         with self.fake(silent=3, mark=self.mark) as index:

@@ -7,15 +7,17 @@ JSON:
 
 room N      ends with status 8 at the document that would be stored as the N+1st
 end [N, S]  ends with status S (a signal, where it is below 0) in place of the N+1st reply
+mute        gives no line for its status
 done        then stores first what that line asks for
 cut         then gives the first half of that reply
 slow        gives its replies in pieces of one byte
 hold N      gives no reply before it has read N lines more, or the end
 silent N    gives no reply after the Nth, and takes no further line
+deaf [N, P] closes its input in place of the N+1st reply, gives it when the file P is there, and ends with status 2
 say [N, R]  gives R in place of the N+1st reply, and does not do what its line asks for
 old         does not know the commands that are built last
 loud        says something on its standard error for each line
-mark PATH   makes this file when it falls silent, with its process number
+mark PATH   makes this file when it falls silent or deaf, with its process number
 """
 
 import atexit
@@ -46,7 +48,7 @@ def end(status):
     sys.stdout.flush()
     if status < 0:
         os.kill(os.getpid(), -status)
-    if status in STATUS_LINES:
+    if status in STATUS_LINES and not DO.get("mute"):
         print(STATUS_LINES[status], file=sys.stderr, flush=True)
     os._exit(status)
 
@@ -160,6 +162,13 @@ def give(text):
         os.write(1, data[at : at + step])
 
 
+def make_mark():
+    if "mark" in DO:
+        with open(DO["mark"] + ".new", "w") as file:
+            file.write(str(os.getpid()))
+        os.rename(DO["mark"] + ".new", DO["mark"])
+
+
 def run(path):
     store = Store(path)
     given = 0
@@ -169,15 +178,19 @@ def run(path):
         if DO.get("loud"):
             print(f"fake: {len(line)} bytes", file=sys.stderr, flush=True)
         if "silent" in DO and given >= DO["silent"]:
-            if "mark" in DO:
-                with open(DO["mark"] + ".new", "w") as file:
-                    file.write(str(os.getpid()))
-                os.rename(DO["mark"] + ".new", DO["mark"])
+            make_mark()
             while True:
                 time.sleep(60)
         last = "end" in DO and given >= DO["end"][0]
         if last and not DO.get("done"):
             end(DO["end"][1])
+        if "deaf" in DO and given >= DO["deaf"][0]:
+            os.close(0)
+            make_mark()
+            while not os.path.exists(DO["deaf"][1]):
+                time.sleep(0.01)
+            give("\n".join(store.reply(line)) + "\n")
+            end(2)
         if "say" in DO and given == DO["say"][0]:
             reply = DO["say"][1] + "\n"
         else:
