@@ -77,6 +77,30 @@ impl<'a> Summary<'a> {
         }
     }
 
+    /// The last location of one row.
+    pub fn last(&self, i: usize) -> u64
+        requires { i < self.now.count }
+        ensures { result ≡ field_at self.now.bytes.now (3 * i + 1) }
+    {
+        field(self.bytes, 3 * i + 1)
+    }
+
+    /// The first row whose last location is at or above `to`, where that of `row` is below. It looks at the next row before
+    /// it searches.
+    pub fn find_after(&self, row: usize, to: u64) -> usize
+        requires within { row + 1 < self.now.count }
+        requires passed { field_at self.now.bytes.now (3 * row + 1) < to }
+        requires there { to ≤ field_at self.now.bytes.now (3 * (self.now.count - 1) + 1) }
+        ensures within { result < self.now.count }
+        ensures found { to ≤ field_at self.now.bytes.now (3 * result + 1) }
+        ensures before { (i : ℕ) → i < result → field_at self.now.bytes.now (3 * i + 1) < to }
+    {
+        if self.last(row + 1) >= to {
+            return row + 1;
+        }
+        self.find(to)
+    }
+
     /// The first row whose last location is at or above `to`.
     pub fn find(&self, to: u64) -> usize
         requires some { 0 < self.now.count }

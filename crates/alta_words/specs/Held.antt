@@ -1,6 +1,7 @@
 -- What a reader of a coded list is.
-use Rattle.std.specs.Prelude.{ℕ, ◌+◌, ◌*◌, List, slice_index_or}
+use Rattle.std.specs.Prelude.{◌≡◌, ℕ, ◌+◌, ◌*◌, List, slice_index_or}
 use Rattle.alta_codec.specs.declared.location.TheConstants.{TOP}
+use Rattle.alta_codec.specs.Rising.{pred_of}
 use Rattle.alta_postings.specs.Deltas.{locations_of}
 use Rattle.alta_words.specs.declared.word.WordReader.{WordReader}
 use Rattle.alta_words.specs.Word.{IsPosting, HoldsBlock}
@@ -11,6 +12,8 @@ word_list s = locations_of s.stream.bytes.now
 abbrev pub word_place : WordReader → ℕ
 word_place s = slice_index_or (locations_of s.stream.bytes.now) (64 * s.row + s.index) TOP
 
+-- the reader is at a block of the list, and keeps where it stands and the list's last location
 abbrev pub IsSoundWord : WordReader → Type 0
 IsSoundWord s =
     IsPosting s.stream.bytes.now s.summary.bytes.now s.summary.count × HoldsBlock (locations_of s.stream.bytes.now) s.block.items s.row s.index s.before
+    × (s.at ≡ word_place s) × (s.end ≡ pred_of (word_list s) TOP)

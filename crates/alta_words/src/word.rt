@@ -16,8 +16,8 @@ use alta_summary::Summary;
 use arrayvec::ArrayVec;
 use std::sync::ledger::Ledger;
 
-/// A reader of a coded list, whose bytes it borrows. It holds the block in which it stands, and the location before
-/// that block.
+/// A reader of a coded list, whose bytes it borrows. It holds the block in which it stands, the location before that
+/// block, where it stands, and the last location of the list.
 #[derive(Drop)]
 pub struct WordReader<'a> {
     stream: Stream<'a>,
@@ -26,6 +26,8 @@ pub struct WordReader<'a> {
     row: usize,
     index: usize,
     before: u64,
+    at: Loc,
+    end: Loc,
 }
 
 /// The first block of a list, none where the list is empty. It adds one step.
@@ -51,7 +53,7 @@ fn before_row(summary: &Summary<'_>, row: usize) -> u64
     if row == 0 {
         return 0;
     }
-    summary.row(row - 1).last
+    summary.last(row - 1)
 }
 
 impl<'a> WordReader<'a> {
@@ -70,14 +72,19 @@ impl<'a> WordReader<'a> {
         ensures steps { steps.new ≡ steps.old + 1 }
     {
         let block = first_block(&stream, steps);
-        WordReader {
+        let mut reader = WordReader {
             stream,
             summary,
             block,
             row: 0,
             index: 0,
             before: 0,
-        }
+            at: 0,
+            end: 0,
+        };
+        reader.end = reader.list_last();
+        reader.at = reader.here();
+        reader
     }
 
     /// The greatest location of the list, 0 where it is empty.
@@ -85,9 +92,18 @@ impl<'a> WordReader<'a> {
         requires { IsSoundWord self.now }
         ensures { result ≡ pred_of (word_list self.now) TOP }
     {
+        self.end
+    }
+
+    /// The greatest location of the list, read from the last row, or from the only block.
+    fn list_last(&self) -> Loc
+        requires posting { IsPosting self.now.stream.bytes.now self.now.summary.bytes.now self.now.summary.count }
+        requires holds { HoldsBlock (locations_of self.now.stream.bytes.now) self.now.block.items self.now.row self.now.index self.now.before }
+        ensures { result ≡ pred_of (word_list self.now) TOP }
+    {
         let rows = self.summary.rows();
         if rows > 0 {
-            return self.summary.row(rows - 1).last;
+            return self.summary.last(rows - 1);
         }
         let held = self.block.len();
         if held == 0 {
@@ -96,12 +112,25 @@ impl<'a> WordReader<'a> {
         self.block.as_slice()[held - 1]
     }
 
+    /// The location at the index in the block, `TOP` behind the last block.
+    fn here(&self) -> Loc
+        requires { HoldsBlock (locations_of self.now.stream.bytes.now) self.now.block.items self.now.row self.now.index self.now.before }
+        ensures { result ≡ word_place self.now }
+    {
+        if self.index < self.block.len() {
+            self.block.as_slice()[self.index]
+        } else {
+            TOP
+        }
+    }
+
     /// Holds another block, and stands at its first location. It adds one step.
     fn load<L: Ledger>(&mut self, row: usize, steps: &mut Steps<L>)
         requires posting { IsPosting self.old.stream.bytes.now self.old.summary.bytes.now self.old.summary.count }
         requires within { row < self.old.summary.count }
         ensures stream { self.new.stream ≡ self.old.stream }
         ensures summary { self.new.summary ≡ self.old.summary }
+        ensures end { self.new.end ≡ self.old.end }
         ensures row { self.new.row ≡ row }
         ensures index { self.new.index ≡ 0 }
         ensures holds { HoldsBlock (locations_of self.old.stream.bytes.now) self.new.block.items row 0 self.new.before }
@@ -122,6 +151,7 @@ impl<'a> WordReader<'a> {
         requires below { slice_index_or (locations_of self.old.stream.bytes.now) (64 * self.old.row + self.old.index) TOP < TOP }
         ensures stream { self.new.stream ≡ self.old.stream }
         ensures summary { self.new.summary ≡ self.old.summary }
+        ensures end { self.new.end ≡ self.old.end }
         ensures holds { HoldsBlock (locations_of self.old.stream.bytes.now) self.new.block.items self.new.row self.new.index self.new.before }
         ensures place { 64 * self.new.row + self.new.index ≡ 64 * self.old.row + self.old.index + 1 }
         ensures steps { steps.new ≡ steps.old + 1 }
@@ -138,10 +168,12 @@ impl<'a> WordReader<'a> {
     fn go_seek<L: Ledger>(&mut self, to: Loc, steps: &mut Steps<L>)
         requires posting { IsPosting self.old.stream.bytes.now self.old.summary.bytes.now self.old.summary.count }
         requires holds { HoldsBlock (locations_of self.old.stream.bytes.now) self.old.block.items self.old.row self.old.index self.old.before }
+        requires end { self.old.end ≡ pred_of (locations_of self.old.stream.bytes.now) TOP }
         requires above { slice_index_or (locations_of self.old.stream.bytes.now) (64 * self.old.row + self.old.index) TOP < to }
         requires top { to ≤ TOP }
         ensures stream { self.new.stream ≡ self.old.stream }
         ensures summary { self.new.summary ≡ self.old.summary }
+        ensures end { self.new.end ≡ self.old.end }
         ensures holds { HoldsBlock (locations_of self.old.stream.bytes.now) self.new.block.items self.new.row self.new.index self.new.before }
         ensures place { slice_index_or (locations_of self.old.stream.bytes.now) (64 * self.new.row + self.new.index) TOP ≡ first_from (locations_of self.old.stream.bytes.now) to }
         ensures steps { steps.new ≡ steps.old + 1 }
@@ -158,12 +190,12 @@ impl<'a> WordReader<'a> {
             self.index = held;
             return;
         }
-        if self.summary.row(rows - 1).last < to {
+        if self.end < to {
             self.load(rows - 1, steps);
             self.index = self.block.len();
             return;
         }
-        let row = self.summary.find(to);
+        let row = self.summary.find_after(self.row, to);
         self.load(row, steps);
         self.index = index_from(self.block.as_slice(), 0, to);
     }
@@ -183,11 +215,7 @@ impl<'a> Reader for WordReader<'a> {
     ghost cost = { λ s. 1 };
 
     fn loc(&self) -> Loc {
-        if self.index < self.block.len() {
-            self.block.as_slice()[self.index]
-        } else {
-            TOP
-        }
+        self.at
     }
 
     /// Goes to the next location, or to `TOP` past the last. It adds exactly one step, and reads a block where it leaves
@@ -205,11 +233,12 @@ impl<'a> Reader for WordReader<'a> {
         ensures one { steps.new ≡ steps.old + 1 }
     {
         self.go_next(steps);
+        self.at = self.here();
     }
 
     /// Goes to the least location at or above `to`, or to `TOP` past the last. It adds exactly one step. Outside the block
-    /// that it holds, it finds the row that reaches `to` in the summary, by halving groups and then rows, and reads that
-    /// block alone.
+    /// that it holds, it finds the row that reaches `to` in the summary: the next one, or by halving groups and then rows. It
+    /// reads that block alone.
     fn seek<L: Ledger>(&mut self, to: Loc, steps: &mut Steps<L>)
         requires sound { ⟦<WordReader<'a> as Reader>⟧.sound self.old }
         requires above { ⟦<WordReader<'a> as Reader>⟧.location self.old < to }
@@ -224,6 +253,7 @@ impl<'a> Reader for WordReader<'a> {
         ensures one { steps.new ≡ steps.old + 1 }
     {
         self.go_seek(to, steps);
+        self.at = self.here();
     }
 
     ghost rises = { λ s h. h.1.rising };

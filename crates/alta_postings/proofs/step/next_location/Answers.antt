@@ -1,6 +1,5 @@
-use Rattle.std.proofs.Common.{◌≡◌, ◌<◌, drop, sym, ◌∙◌, arith}
+use Rattle.std.proofs.Common.{◌≡◌, sym, ◌∙◌, arith}
 use Rattle.std.specs.Prelude.{Some, None}
-use Rattle.alta_codec.specs.declared.location.TheConstants.{TOP}
 use Rattle.alta_postings.specs.Deltas.{cause_of, fault_at}
 use Rattle.alta_postings.proofs.Reading.{sound_at, step_at, shows_code}
 use Rattle.alta_postings.proofs.step.next_location.Goals as goal
