@@ -654,7 +654,6 @@ class Index:
         self._turn(0)
         return reply
 
-
     def _check(self):
         """Raises the end of the program where it has ended."""
         if self._end is not None:

@@ -25,7 +25,7 @@ CONTEXT_COLUMNS = 100
 
 
 def wanted_terms(plan):
-    """The words that a plan looks for, each with whether more may follow and whether it is folded, without those under a NOT."""
+    """The words that a plan looks for, without those under a NOT, each with whether more may follow and whether it is folded."""
     terms = []
     without = None
     for line in plan.split("\n")[1:]:

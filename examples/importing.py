@@ -391,7 +391,7 @@ class Import:
         if self.fault:
             self.log.say(f"stopped: {self.fault}")
         if isinstance(self.end, Full):
-            self.log.say("the rest needs an index of its own; this one goes on from here when there is room and this is run again")
+            self.log.say("the rest needs an index of its own; run again when there is room, this one goes on from here")
         elif self.interrupted:
             self.log.say("interrupted: run this again, and it goes on from here")
         elif self.end is not None or self.fault:
@@ -469,5 +469,5 @@ def arguments(tool, describe, *names):
     parser.add_argument("index", metavar="INDEX", help="made where there is none; - writes the add lines to standard output")
     for name, about in names:
         parser.add_argument(name.lower().strip("[]"), metavar=name.strip("[]"), nargs="?" if "[" in name else None, help=about)
-    parser.add_argument("--whole", action="store_true", help="refuse a document that is too long for a line, in place of cutting it")
+    parser.add_argument("--whole", action="store_true", help="refuse what is too long for a line, in place of cutting it")
     return parser

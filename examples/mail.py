@@ -110,10 +110,14 @@ def heading(data):
         pieces = email.header.decode_header(text)
     except (email.errors.MessageError, ValueError):
         return text
-    return "".join(
-        piece if isinstance(piece, str) else decoded(piece, charset) if charset else piece.decode("raw-unicode-escape", "replace")
-        for piece, charset in pieces
-    )
+    return "".join(heading_piece(piece, charset) for piece, charset in pieces)
+
+
+def heading_piece(piece, charset):
+    """A piece of a header's value, as `decode_header` gives it: an encoded word, or what stands between two."""
+    if isinstance(piece, str):
+        return piece
+    return decoded(piece, charset) if charset else piece.decode("raw-unicode-escape", "replace")
 
 
 class Shown(html.parser.HTMLParser):

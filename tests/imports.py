@@ -457,7 +457,8 @@ class Mail(Case):
         parts = (
             b"Subject: x\nContent-Type: multipart/mixed; boundary=b\n\n--b\n"
             b"Content-Type: text/plain\n\nfirst\n--b\nContent-Type: text/html\n\n<p>no\n--b\n"
-            b"Content-Disposition: attachment; filename=a.txt\n\nattached\n--b\nContent-Type: image/png\n\nno\n--b\n\nlast\n--b--\n"
+            b"Content-Disposition: attachment; filename=a.txt\n\nattached\n--b\n"
+            b"Content-Type: image/png\n\nno\n--b\n\nlast\n--b--\n"
         )
         self.assertEqual(next(mail.documents([parts])).load().body, "first\nlast")
 
@@ -478,7 +479,9 @@ class Mail(Case):
                 b"From a@b Mon Jan  1 00:00:00 2024\n" + deep,
                 b"From a@b Mon Jan  1 00:00:00 2024\nMessage-ID: <long@x>\n\n" + b"word " * 4_200_000 + b"\n",
                 b"From a@b Mon Jan  1 00:00:00 2024\nMessage-ID: <big@x>\nContent-Type: multipart/mixed; boundary=b\n\n"
-                b"--b\n\nthe text of it\n--b\nContent-Type: image/png\nContent-Transfer-Encoding: base64\n\n" + attached + b"--b--\n",
+                b"--b\n\nthe text of it\n--b\nContent-Type: image/png\nContent-Transfer-Encoding: base64\n\n"
+                + attached
+                + b"--b--\n",
                 LETTER % (b"last", b"last", b"last"),
             ]
         )
