@@ -5,6 +5,7 @@ use Rattle.std.specs.Str.{IsUtf8, is_utf8}
 use Rattle.std.proofs.lemmas.Bool.{false≢true}
 use Rattle.std.proofs.lemmas.Bool.Decides.{nat_tests}
 use Rattle.std.proofs.lemmas.Str.{IsUtf8-from_is_utf8, is_utf8-from_IsUtf8}
+use Rattle.alta_model.specs.declared.line.TheConstants.{LINE_LIMIT}
 use Rattle.alta_model.specs.Command.{Command, Reads, adds}
 use Rattle.alta_model.specs.Faults.{IsText, IsRefused, is_verb, word_of}
 use Rattle.alta_model.specs.Lines.{Reading, asks, refuses, asks_or_refuses, reading_of}
@@ -14,16 +15,16 @@ use Rattle.alta_model.specs.declared.line.LineFault.TheVariants.{TooLong, NotUtf
 use Rattle.alta_model.proofs.Law.{reading_reads, reads_reading}
 use Rattle.alta_model.proofs.Refusals.{not_refused, refusal, only_refusal}
 
-long : (line : List ℕ) → 65535 < length line → nat_lt 65535 (length line) ≡ true
+long : (line : List ℕ) → LINE_LIMIT < length line → nat_lt LINE_LIMIT (length line) ≡ true
 long line h = grind (arith, nat_tests)
 
-not_long : (line : List ℕ) → length line ≤ 65535 → nat_lt 65535 (length line) ≡ false
+not_long : (line : List ℕ) → length line ≤ LINE_LIMIT → nat_lt LINE_LIMIT (length line) ≡ false
 not_long line h = grind (arith, nat_tests)
 
-is_long : (line : List ℕ) → nat_lt 65535 (length line) ≡ true → 65535 < length line
+is_long : (line : List ℕ) → nat_lt LINE_LIMIT (length line) ≡ true → LINE_LIMIT < length line
 is_long line e = grind (arith, nat_tests)
 
-is_not_long : (line : List ℕ) → nat_lt 65535 (length line) ≡ false → length line ≤ 65535
+is_not_long : (line : List ℕ) → nat_lt LINE_LIMIT (length line) ≡ false → length line ≤ LINE_LIMIT
 is_not_long line e = grind (arith, nat_tests)
 
 no_text : (line : List ℕ) (b : Bool) → is_utf8 line ≡ b → ¬ (IsUtf8 line) → is_utf8 line ≡ false
@@ -34,7 +35,7 @@ is_no_text : (line : List ℕ) → is_utf8 line ≡ false → ¬ (IsUtf8 line)
 is_no_text line e h = false≢true (sym e ∙ is_utf8-from_IsUtf8 line h)
 
 -- the reading where the three tests come out so
-pub reading_is : (line : List ℕ) (long text : Bool) (o : Option Command) → nat_lt 65535 (length line) ≡ long → is_utf8 line ≡ text → command_in line ≡ o
+pub reading_is : (line : List ℕ) (long text : Bool) (o : Option Command) → nat_lt LINE_LIMIT (length line) ≡ long → is_utf8 line ≡ text → command_in line ≡ o
     → reading_of line ≡ (if long then refuses TooLong else (if text then asks_or_refuses (is_verb (word_of line)) o else refuses NotUtf8))
 unfolding reading_of
 reading_is line long text o e f g =
@@ -42,10 +43,10 @@ reading_is line long text o e f g =
     ∙ ap (λ (b : Bool). if long then refuses TooLong else (if b then asks_or_refuses (is_verb (word_of line)) (command_in line) else refuses NotUtf8)) f
     ∙ ap (λ (q : Option Command). if long then refuses TooLong else (if text then asks_or_refuses (is_verb (word_of line)) q else refuses NotUtf8)) g
 
-pub reading_long : (line : List ℕ) → 65535 < length line → reading_of line ≡ refuses TooLong
+pub reading_long : (line : List ℕ) → LINE_LIMIT < length line → reading_of line ≡ refuses TooLong
 reading_long line h = reading_is line true (is_utf8 line) (command_in line) (long line h) refl refl
 
-pub reading_not_utf8 : (line : List ℕ) → length line ≤ 65535 → ¬ (IsUtf8 line) → reading_of line ≡ refuses NotUtf8
+pub reading_not_utf8 : (line : List ℕ) → length line ≤ LINE_LIMIT → ¬ (IsUtf8 line) → reading_of line ≡ refuses NotUtf8
 reading_not_utf8 line short h = reading_is line false false (command_in line) (not_long line short) (no_text line (is_utf8 line) refl h) refl
 
 pub reading_text : (line : List ℕ) (o : Option Command) → IsText line → command_in line ≡ o → reading_of line ≡ asks_or_refuses (is_verb (word_of line)) o
@@ -75,7 +76,7 @@ not_both : (f : LineFault) (c : Command) → refuses f ≡ asks c → ⊥
 unfolding is_asked
 not_both f c e = false≢true (ap is_asked e)
 
-asked_only : (line : List ℕ) (c : Command) (b t : Bool) (o : Option Command) → nat_lt 65535 (length line) ≡ b → is_utf8 line ≡ t → command_in line ≡ o
+asked_only : (line : List ℕ) (c : Command) (b t : Bool) (o : Option Command) → nat_lt LINE_LIMIT (length line) ≡ b → is_utf8 line ≡ t → command_in line ≡ o
     → reading_of line ≡ asks c → IsText line × Reads line c
 asked_only line c true t o e f g h = absurd (not_both TooLong c (sym (reading_is line true t o e f g) ∙ h))
 asked_only line c false false o e f g h = absurd (not_both NotUtf8 c (sym (reading_is line false false o e f g) ∙ h))
@@ -88,11 +89,11 @@ asked_only line c false true None e f g h =
 -- a line asks for a command exactly where it is a text that spells it
 pub asked : (line : List ℕ) (c : Command) → (reading_of line ≡ asks c → IsText line × Reads line c) × (IsText line × Reads line c → reading_of line ≡ asks c)
 asked line c = (
-  asked_only line c (nat_lt 65535 (length line)) (is_utf8 line) (command_in line) refl refl refl,
+  asked_only line c (nat_lt LINE_LIMIT (length line)) (is_utf8 line) (command_in line) refl refl refl,
   λ h. reading_text line (Some c) h.0 (reads_reading line c h.1),
 )
 
-refused_only : (line : List ℕ) (fault : LineFault) (b t : Bool) (o : Option Command) → nat_lt 65535 (length line) ≡ b → is_utf8 line ≡ t → command_in line ≡ o
+refused_only : (line : List ℕ) (fault : LineFault) (b t : Bool) (o : Option Command) → nat_lt LINE_LIMIT (length line) ≡ b → is_utf8 line ≡ t → command_in line ≡ o
     → reading_of line ≡ refuses fault → IsRefused line fault
 refused_only line fault true t o e f g h =
     subst (IsRefused line) (refuses_same TooLong fault (sym (reading_is line true t o e f g) ∙ h)) (is_long line e)
@@ -117,6 +118,6 @@ by_fault line Bad h = refused_by line Bad (command_in line) refl h.0 h
 -- a line is refused exactly for the first cause that applies
 pub refused : (line : List ℕ) (fault : LineFault) → (reading_of line ≡ refuses fault → IsRefused line fault) × (IsRefused line fault → reading_of line ≡ refuses fault)
 refused line fault = (
-  refused_only line fault (nat_lt 65535 (length line)) (is_utf8 line) (command_in line) refl refl refl,
+  refused_only line fault (nat_lt LINE_LIMIT (length line)) (is_utf8 line) (command_in line) refl refl refl,
   by_fault line fault,
 )

@@ -5,6 +5,7 @@ use Rattle.alta_model.specs.Command.{Command}
 use Rattle.alta_model.specs.Faults.{is_verb, word_of}
 use Rattle.alta_model.specs.Reading.{command_in}
 use Rattle.alta_model.specs.Seen.{command_of}
+use Rattle.alta_model.specs.declared.line.TheConstants.{LINE_LIMIT}
 use Rattle.alta_model.specs.declared.line.Line.{Line}
 use Rattle.alta_model.specs.declared.line.LineFault.{LineFault}
 use Rattle.alta_model.specs.declared.line.LineFault.TheVariants.{TooLong, NotUtf8, Unknown, Bad}
@@ -21,7 +22,7 @@ asks_or_refuses verb None = refuses (if verb then Bad else Unknown)
 -- the reading of a line of bytes
 unfoldable pub reading_of : List ℕ → Reading
 reading_of line =
-    if nat_lt 65535 (length line) then refuses TooLong
+    if nat_lt LINE_LIMIT (length line) then refuses TooLong
     else (if is_utf8 line then asks_or_refuses (is_verb (word_of line)) (command_in line)
     else refuses NotUtf8)
 

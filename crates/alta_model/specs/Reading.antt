@@ -1,22 +1,16 @@
--- The reading of a text step by step. No public clause cites it.
+-- The reading of a text step by step.
 use Rattle.std.specs.Prelude.{ℕ, ◌+◌, ◌-◌, ◌*◌, Bool, not, ◌&&◌, ◌==◌, nat_le, nat_lt, if◌then◌else◌, List, length, codes, slice_index, Option, Some, None, option_map}
 use Rattle.std.specs.Char.{is_ascii_digit}
 use Rattle.std.specs.List.{list_all, fold, before_first, after_first, position_or_len}
 use Rattle.std.specs.Option.{option_or}
 use Rattle.std.specs.Str.{bytes_eq}
+use Rattle.alta_codec.specs.Decimal.{count_in}
 use Rattle.alta_model.specs.Command.{Command, adds, deletes, searches, counts, explains, opens, fetches, closes, flushes, merges, steps, asks_stats, is_tab}
 use Rattle.alta_model.specs.Faults.{is_space}
 
-abbrev pub value_of : List ℕ → ℕ
-value_of digits = fold (λ n b. n * 10 + (b - 48)) 0 digits
-
 -- a number from 1 to 1,000,000 without leading zeros
-abbrev pub is_count : List ℕ → Bool
-is_count digits =
-    nat_le 1 (length digits) && nat_le (length digits) 7 && list_all is_ascii_digit digits && not (slice_index digits 0 == 48) && nat_le (value_of digits) 1000000
-
 unfoldable pub count_of : List ℕ → Option ℕ
-count_of digits = if is_count digits then Some (value_of digits) else None
+count_of text = count_in 7 1000000 text
 
 -- the parts around the first such byte
 unfoldable pub parted : (ℕ → Bool) → List ℕ → Option (List ℕ × List ℕ)

@@ -2,15 +2,15 @@
 ghost use Rattle.std.specs.Prelude.{◌≡◌, ◌↔◌, ◌∷◌, [], ◌≤◌, length, take, IsTrue};
 ghost use Rattle.alta_model.specs.Near.{IsLast};
 ghost use Rattle.alta_model.specs.Phrase.{has_phrase};
-ghost use Rattle.alta_query.specs.Patterns.{Satisfies, in_title, phrase_pattern, pattern_of, test_of, title_end, titled};
-ghost use Rattle.alta_query.specs.View.{atom_view, side_view};
+ghost use Rattle.alta_query.specs.Patterns.{Satisfies, in_title, phrase_pattern, pattern_of, title_end, titled};
+ghost use Rattle.alta_query.specs.View.{atom_view};
 ghost use Rattle.alta_query.specs.Words.{name_test};
 
 use crate::near::{holds_near, later};
 use crate::phrase::has_phrase;
 use alta_meta::Cell;
 use alta_meta::kinds::{NAME, TITLE_END};
-use alta_query::{Atom, Side, Test};
+use alta_query::{Atom, Test};
 use std::slice::from_ref;
 
 /// Whether some cells answer the pattern of the atom.
@@ -24,17 +24,8 @@ pub fn atom_matches(atom: &Atom, cells: &[Cell]) -> bool
             left,
             distance,
             right,
-        } => holds_near(test_of(left), *distance, test_of(right), cells),
+        } => holds_near(left.test(), *distance, right.test(), cells),
         Atom::Name { name } => holds_name(name.as_str(), cells),
-    }
-}
-
-fn test_of(side: &Side) -> &Test
-    ensures { result.now ≡ test_of (side_view side.now) }
-{
-    match side {
-        Side::Word { test, .. } => test,
-        Side::Stem { test, .. } => test,
     }
 }
 

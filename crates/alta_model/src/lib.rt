@@ -7,11 +7,10 @@ mod laws;
 mod line;
 mod matching;
 mod near;
-mod number;
 mod phrase;
 #[cfg(test)]
 mod tests;
 
 pub use laws::{a_line_is_read_one_way, a_match_is_decided};
-pub use line::{Line, LineFault, read_line};
+pub use line::{LINE_LIMIT, Line, LineFault, read_line};
 pub use matching::matches;

@@ -3,12 +3,15 @@ ghost use Rattle.std.specs.Prelude.{◌≡◌, ◌↔◌, option_map, IfOk, OnOk
 ghost use Rattle.std.specs.Str.{IsUtf8};
 ghost use Rattle.alta_model.specs.Command.{Command, Reads, is_tab};
 ghost use Rattle.alta_model.specs.Faults.{IsRefused, IsText, is_space, is_verb, word_of};
-ghost use Rattle.alta_model.specs.Reading.{command_in, parted, alone, with_rest, document_of, text_of, number_of, fetch_of};
+ghost use Rattle.alta_model.specs.Reading.{command_in, parted, alone, with_rest, document_of, text_of, number_of, fetch_of, count_of};
 ghost use Rattle.alta_model.specs.Lines.{reading_of, reading_in};
 ghost use Rattle.alta_model.specs.Seen.{command_of};
 
-use crate::number::count;
+use alta_codec::read_count;
 use simdutf8::compat::from_utf8;
+
+/// How many bytes a line may have, without its newline.
+pub const LINE_LIMIT: usize = 65_535;
 
 /// What a line asks for, with its parts as they stand in the line.
 #[derive(Clone, Copy, Debug, Drop)]
@@ -60,8 +63,8 @@ pub enum LineFault {
 /// Reads a line, without its newline, as a command. The parts that a command names are borrowed from the line. It takes
 /// no memory.
 ///
-/// It is refused for the first of these that applies: `TooLong` where it has more than 65,535 bytes, `NotUtf8` where it
-/// is not UTF-8, `Unknown` where the bytes up to its first space, or all, are no command's word, `Bad` where the rest
+/// It is refused for the first of these that applies: `TooLong` where it has more than [`LINE_LIMIT`] bytes, `NotUtf8`
+/// where it is not UTF-8, `Unknown` where the bytes up to its first space, or all, are no command's word, `Bad` where the rest
 /// has not the form of that command.
 pub fn read_line(line: &[u8]) -> Result<Line<'_>, LineFault>
     ensures reading { reading_in result ≡ reading_of line.now }
@@ -69,7 +72,7 @@ pub fn read_line(line: &[u8]) -> Result<Line<'_>, LineFault>
     ensures only { (command : Command) → IsText line.now → Reads line.now command → IfOk result (λ l. command_of l ≡ command) }
     ensures refused { (fault : LineFault) → (result ≡ Err fault) ↔ IsRefused line.now fault }
 {
-    if line.len() > 65_535 {
+    if line.len() > LINE_LIMIT {
         return Err(LineFault::TooLong);
     }
     let Ok(text) = from_utf8(line) else {
@@ -216,4 +219,12 @@ fn fetch(rest: &str) -> Option<Line<'_>>
     let cursor = count(cursor.as_bytes())?;
     let count = count(number.as_bytes())?;
     Some(Line::Fetch { cursor, count })
+}
+
+// The count from 1 to 1,000,000 that the text spells.
+#[tactic(auto, unfolding(crate::specs::Reading::count_of))]
+fn count(text: &[u8]) -> Option<u64>
+    ensures { result ≡ count_of text.now }
+{
+    read_count(text, 7, 1_000_000)
 }
