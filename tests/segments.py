@@ -175,10 +175,8 @@ def read_summary(content, at, end):
     return rows
 
 
-def rows_of(locations, places):
-    """The rows that a stream has: none up to 64 locations, else one for each block."""
-    if len(locations) <= BLOCK:
-        return []
+def blocks_of(locations, places):
+    """The blocks of a stream, of 64 locations each: the first location, the last, and the place of the first number."""
     starts = range(0, len(locations), BLOCK)
     return [(locations[i], locations[i : i + BLOCK][-1], places[i] - places[0]) for i in starts]
 
@@ -188,9 +186,11 @@ def read_list(content, ranges, term, stated, bounds):
     start, middle, end = bounds
     locations, places = read_stream(content, start, middle)
     rows = read_summary(content, middle, end)
-    want = rows_of(locations, places)
-    for index in range(max(len(rows), len(want))):
-        rule(rows[index : index + 1] == want[index : index + 1], middle + 24 * index)
+    want = blocks_of(locations, places)
+    # one block alone has no table; beside a table it is its block 0
+    if rows or len(want) > 1:
+        for index in range(max(len(rows), len(want))):
+            rule(rows[index : index + 1] == want[index : index + 1], middle + 24 * index)
     rule(len(locations) == stated, start)
     rule(all(any(first <= x <= last for first, last in ranges) for x in locations), start)
     rule(term != b"D" or locations == [last for _, last in ranges], start)
@@ -238,7 +238,7 @@ def blocks(locations):
     places = [0]
     for before, x in zip([0] + locations, locations):
         places.append(places[-1] + len(spelled(x - before)))
-    return rows_of(locations, places)
+    return blocks_of(locations, places) if len(locations) > BLOCK else []
 
 
 def segment(documents, terms):
@@ -359,6 +359,7 @@ def segments():
         "no_summary": with_list(b"Wbother", (many, coded, b"")),
         "row_too_many": with_list(b"Wbother", (many, coded, summary(blocks(MANY) + [(600, 601, 200)]))),
         "rows_of_a_short_list": with_list(b"Wboth", (3, stream([131, 132, 502]), summary([(131, 132, 0), (502, 502, 2)]))),
+        "row_behind_the_one_block": segment([(1, 1, 4, b"a")], [(b"D", [4]), (b"Wa", (2, stream([1, 2]), summary([(1, 2, 0), (3, 4, 1)])))]),
         "row_missing": segment(wide_documents, [wide[0], (b"Wall", (4163, stream(wide[1][1]), summary(blocks(wide[1][1])[:-1])))]),
         # groups of more than 64 rows
         "two_groups": segment(wide_documents, wide),

@@ -161,7 +161,13 @@ parts_are p bytes place total fits below exact e names streams =
     record {
       names_are = names ∙ ap (λ (k : ℕ). name_places (k + 32) start p.documents.items) (sym a.at);
       streams_are = streams ∙ ap (λ (k : ℕ). stream_places k p.terms.items) from;
-      terms_stand = a.keeps.terms_stand;
+      keeps = record {
+        some = a.keeps.some;
+        documents_stand = a.keeps.documents_stand;
+        terms_stand = a.keeps.terms_stand;
+        has_end = a.keeps.has_end;
+        filled = refl;
+      };
       below = omega (arith, a.keeps.filled, a.at, below);
     }
 

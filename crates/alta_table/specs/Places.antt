@@ -7,8 +7,8 @@ use Rattle.alta_table.specs.declared.parts.Parts.{Parts}
 use Rattle.alta_table.specs.declared.term.TermRow.{TermRow}
 use Rattle.alta_table.specs.Documents.{row_bytes, documents_bytes}
 use Rattle.alta_content.specs.Rows.{Before, behind_row, start}
-use Rattle.alta_table.specs.Terms.{streams_of, summaries_of, data_of, data_bytes, AreTerms}
-use Rattle.alta_table.specs.Tables.{Tables, tables_bytes}
+use Rattle.alta_table.specs.Terms.{streams_of, summaries_of, data_of}
+use Rattle.alta_table.specs.Tables.{KeepRules, Tables, tables_bytes, total_of}
 
 -- the place of a document's name: its row ends with it
 abbrev pub name_place : Tables → ℕ → ℕ
@@ -42,9 +42,9 @@ stream_places from (row ∷ rows) = from ∷ stream_places (from + data_of row) 
 abbrev pub tables_in : Parts → Tables
 tables_in p = record { place = p.place; documents = p.documents.items; terms = p.terms.items }
 
--- the rows have their places beside them, the terms rise, and the segment ends on the disk
+-- the rows have their places beside them and keep the rules of a segment, which ends on the disk
 pub record AreParts (p : Parts) : Type 0 where
   pub names_are : p.names.items ≡ name_places (p.place + 32) start p.documents.items
   pub streams_are : p.streams.items ≡ stream_places (p.place + length (tables_bytes p.documents.items p.terms.items)) p.terms.items
-  pub terms_stand : AreTerms p.terms.items
-  pub below : p.place + length (tables_bytes p.documents.items p.terms.items) + data_bytes p.terms.items < 2 ^ 64
+  pub keeps : KeepRules (total_of p.documents.items p.terms.items) p.documents.items p.terms.items
+  pub below : p.place + total_of p.documents.items p.terms.items < 2 ^ 64

@@ -33,6 +33,10 @@ head_of documents terms = record {
 abbrev pub tables_bytes : List DocRow → List TermRow → List ℕ
 tables_bytes documents terms = head_bytes (head_of documents terms) ++ documents_bytes documents ++ terms_bytes terms
 
+-- how many bytes the segment of such tables has: the streams and summaries of all terms stand behind them
+abbrev pub total_of : List DocRow → List TermRow → ℕ
+total_of documents terms = length (tables_bytes documents terms) + data_bytes terms
+
 -- ---- the rules
 
 -- these are the tables of a segment of so many bytes: streams and summaries stand behind them, and fill it
@@ -41,7 +45,7 @@ pub record KeepRules (total : ℕ) (documents : List DocRow) (terms : List TermR
   pub documents_stand : AreDocuments documents
   pub terms_stand : AreTerms terms
   pub has_end : HasEnd terms
-  pub filled : length (tables_bytes documents terms) + data_bytes terms ≡ total
+  pub filled : total_of documents terms ≡ total
 
 -- The bytes begin with head and tables of a segment of so many bytes at a place.
 pub record AreTables (bytes : List ℕ) (place total : ℕ) (tables : Tables) : Type 0 where

@@ -1,9 +1,9 @@
 // The head of a segment.
 ghost use Rattle.std.specs.Prelude.{◌≡◌, ℕ, ◌+◌, ◌<◌, ◌≤◌, ◌^◌, length, nat_le, IfOk};
 ghost use Rattle.alta_format.specs.Gives.{Gives, NeverMemory};
-ghost use Rattle.alta_format.specs.Format.{read};
-ghost use Rattle.alta_table.specs.Answers.{AlwaysAnswers};
-ghost use Rattle.alta_table.specs.Tables.{head_format, read_head};
+ghost use Rattle.alta_format.specs.Format.{FirstBroken, read};
+ghost use Rattle.alta_table.specs.Answers.{AlwaysAnswers, IfDamaged};
+ghost use Rattle.alta_table.specs.Tables.{HasHead, head_format, head_part, read_head};
 
 use crate::fault::LevelFault;
 use crate::sizes::Head;
@@ -46,12 +46,8 @@ fn head_at(bytes: &[u8], total: u64) -> Result<(Head, &[u8]), ReadFault>
     ))
 }
 
-/// Reads the head of a segment of `total` bytes that begins at a place of the disk. `bytes` begins with the segment's
-/// bytes; the head is the first 32 of them, or all where there are fewer, and then the field that is cut or missing
-/// breaks the rule that it be there. `Damaged` has the place of the first field that breaks a rule: a number of
-/// documents that is 0, or a part that, with the head and the part before it, is longer than the segment. It takes no
-/// memory, and never answers `Memory`.
-pub fn head(bytes: &[u8], place: u64, total: u64) -> Result<Head, LevelFault>
+// The head at the front of the bytes.
+fn read_front(bytes: &[u8], place: u64, total: u64) -> Result<Head, LevelFault>
     requires { place + total < 2 ^ 64 }
     ensures exact { AlwaysAnswers (λ h. h) result (read_head bytes.now place total) }
     ensures fits { IfOk result (λ h. 32 + h.document_bytes + h.term_bytes ≤ total) }
@@ -63,4 +59,22 @@ pub fn head(bytes: &[u8], place: u64, total: u64) -> Result<Head, LevelFault>
         Err(ReadFault::Memory) => Err(LevelFault::Memory),
         Err(ReadFault::Broken(left)) => Err(LevelFault::Damaged(place + (len - left) as u64)),
     }
+}
+
+/// Reads the head of a segment of `total` bytes that begins at a place of the disk. `bytes` begins with the segment's
+/// bytes; the head is the first 32 of them, or all where there are fewer, and then the field that is cut or missing
+/// breaks the rule that it be there. `Damaged` has the place of the first field that breaks a rule: a number of
+/// documents that is 0, or a part that, with the head and the part before it, is longer than the segment. It takes no
+/// memory, and never answers `Memory`.
+pub fn head(bytes: &[u8], place: u64, total: u64) -> Result<Head, LevelFault>
+    requires { place + total < 2 ^ 64 }
+    // What is read is spelled so, and keeps the rules.
+    ensures found { IfOk result (HasHead bytes.now total) }
+    // The damage is the first.
+    ensures first { IfDamaged result (FirstBroken (head_format total) (head_part bytes.now total) place) }
+    // The same in one fact.
+    ensures exact { AlwaysAnswers (λ h. h) result (read_head bytes.now place total) }
+    ensures fits { IfOk result (λ h. 32 + h.document_bytes + h.term_bytes ≤ total) }
+{
+    read_front(bytes, place, total)
 }

@@ -4,7 +4,7 @@ ghost use Rattle.std.specs.List.{list_any, starts_with};
 ghost use Rattle.alta_table.specs.Answers.{Answers, IfDamaged, IsDamaged, IsFound};
 ghost use Rattle.alta_content.specs.Rows.{start};
 ghost use Rattle.alta_table.specs.Terms.{counts_of, data_bytes, is_end, terms_of};
-ghost use Rattle.alta_table.specs.Tables.{AreTables, IsDamage, Tables, read_head, tables_bytes, tables_of};
+ghost use Rattle.alta_table.specs.Tables.{AreTables, IsDamage, KeepRules, Tables, read_head, tables_bytes, tables_of, total_of};
 ghost use Rattle.alta_table.specs.Places.{name_place, name_places, stream_extent, stream_places, summary_extent, tables_in};
 ghost use Rattle.alta_table.specs.Search.{IsPrefixRange};
 ghost use Rattle.alta_table.specs.declared.sizes.Head.{Head};
@@ -114,7 +114,9 @@ impl Table {
 
     /// The documents, in rising order of number and of location.
     pub fn documents(&self) -> &[DocRow]
-        ensures { result.now ≡ self.now.documents }
+        ensures rows { result.now ≡ self.now.documents }
+        // They keep the rules, and so do the terms, of which one is `D`.
+        ensures kept { KeepRules (total_of self.now.documents self.now.terms) self.now.documents self.now.terms }
     {
         &self.parts.documents
     }
@@ -185,8 +187,9 @@ impl Table {
         requires { row < length self.now.terms }
         ensures stream { result.0 ≡ stream_extent self.now row }
         ensures summary { result.1 ≡ summary_extent self.now row }
-        // They lie behind the tables, where the streams and summaries of all rows are.
-        ensures within { result.1.place + result.1.bytes ≤ self.now.place + length (tables_bytes self.now.documents self.now.terms) + data_bytes self.now.terms }
+        // They end within the segment, the summary behind the stream.
+        ensures beside { result.1.place ≡ result.0.place + result.0.bytes }
+        ensures within { result.1.place + result.1.bytes ≤ self.now.place + total_of self.now.documents self.now.terms }
     {
         let place = self.parts.streams[row];
         let term = &self.parts.terms[row];

@@ -1,11 +1,19 @@
-use Rattle.std.proofs.Common.{take, length-take, arith}
-use Rattle.alta_format.specs.FormatLaws.{left_fits, AreBytes-take}
-use Rattle.alta_table.specs.Tables.{head_format}
+use Rattle.std.proofs.Common.{min, arith}
+use Rattle.alta_format.specs.Format.{FirstBroken}
+use Rattle.alta_format.specs.FormatLaws.{AreBytes-take, part_first, part_found}
+use Rattle.alta_table.specs.Tables.{HasHead, head_format, head_part, read_head}
+use Rattle.alta_table.specs.declared.sizes.Head.{Head}
+use Rattle.alta_table.proofs.Opened.{always_first, always_read}
 use Rattle.alta_table.proofs.heading.head.Goals as goal
 
-pub overflow_sub-result : goal.overflow_sub-result
-overflow_sub-result c =
-    let gives = rw c.in-Err-Broken.field-0-is at c.in-Err-Broken.ensures.gives in
-    let fits = AreBytes-take c.min-len.result c.args.bytes.now (λ i. omega (arith, c.type_inv.bytes i)) in
-    let le = left_fits (head_format c.args.total) (take c.min-len.result c.args.bytes.now) c.in-Err-Broken.left fits (rw c.split_at.ensures.front at gives) in
-    omega (arith, le, length-take c.min-len.result c.args.bytes.now)
+pub returns-clause-found : goal.returns-clause-found
+returns-clause-found c =
+    always_read (λ (h : Head). h) c.read_front.result (read_head c.args.bytes.now c.args.place c.args.total) (HasHead c.args.bytes.now c.args.total)
+    (λ h e. part_found (head_format c.args.total) (head_part c.args.bytes.now c.args.total) c.args.place h (AreBytes-take (min 32 c.args.total) c.args.bytes.now (λ i. omega (arith, c.type_inv.bytes i))) e)
+    c.read_front.ensures.exact
+
+pub returns-clause-first : goal.returns-clause-first
+returns-clause-first c =
+    always_first (λ (h : Head). h) c.read_front.result (read_head c.args.bytes.now c.args.place c.args.total) (FirstBroken (head_format c.args.total) (head_part c.args.bytes.now c.args.total) c.args.place)
+    (λ p e. part_first (head_format c.args.total) (head_part c.args.bytes.now c.args.total) c.args.place p (AreBytes-take (min 32 c.args.total) c.args.bytes.now (λ i. omega (arith, c.type_inv.bytes i))) e)
+    c.read_front.ensures.exact

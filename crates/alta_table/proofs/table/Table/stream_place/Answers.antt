@@ -1,7 +1,6 @@
 use Rattle.std.proofs.Common.{◌+◌, ◌<◌, ◌≤◌, length, ap, subst, ◌∙◌, arith}
 use Rattle.alta_table.specs.Places.{stream_extent, summary_extent}
-use Rattle.alta_table.specs.Tables.{Tables, tables_bytes}
-use Rattle.alta_table.specs.Terms.{data_bytes}
+use Rattle.alta_table.specs.Tables.{Tables, total_of}
 use Rattle.alta_table.proofs.PlaceLaws.{streams-len, stream_ends, data_within, stream_extent_is, summary_extent_is}
 use Rattle.alta_table.proofs.table.Table.stream_place.Goals as goal
 
@@ -28,5 +27,5 @@ returns-clause-summary c =
 pub returns-clause-within : goal.returns-clause-within
 returns-clause-within c =
     let lt : c.args.row < length c.self.inside.parts.terms.items = omega (arith, c.requires, ap (λ (t : Tables). length t.terms) c.self.view_is) in
-    let within : Tables → Type 0 = λ t. c.index-place.result.now + c.index-term.result.now.stream + c.index-term.result.now.summary ≤ t.place + length (tables_bytes t.documents t.terms) + data_bytes t.terms in
-    subst within c.self.view_is (data_within c.self.inside.parts c.args.row c.index-place.result.now c.index-term.result.now c.self.invariant lt c.index-place.ensures c.index-term.ensures)
+    let within : Tables → Type 0 = λ t. c.index-place.result.now + c.index-term.result.now.stream + c.index-term.result.now.summary ≤ t.place + total_of t.documents t.terms in
+    subst within c.self.view_is (omega (arith, data_within c.self.inside.parts c.args.row c.index-place.result.now c.index-term.result.now c.self.invariant lt c.index-place.ensures c.index-term.ensures))
