@@ -157,7 +157,8 @@ def _refusal(reply, command, query):
 class Ended(Error):
     """The program ended, by `status`: its exit status, or a signal's number below 0. `line` is what it said.
 
-    A line that has no reply then may be done, if it is the first of them, or else is not.
+    Of the lines without a reply the first one may be done, and no other. Only where this client was interrupted while it read,
+    as by a KeyboardInterrupt, may it have lost replies, so that any of them may be done.
     """
 
     advice = "what was answered is stored"
@@ -178,7 +179,7 @@ class Usage(Ended):
 class DiskFault(Ended):
     """Status 2: a call of the disk failed."""
 
-    advice = "the file could not be read or written; what was answered is stored"
+    advice = "the file could not be read or written, as on a full disk; what was answered is stored"
 
 
 class InputFault(Ended):
@@ -619,7 +620,7 @@ class Index:
             self._check()
 
     def kill(self):
-        """Ends the program at once. A line that has no reply may be done, if it is the first of them, or else is not."""
+        """Ends the program at once. Of the lines without a reply the first one may be done, and no other."""
         self._told = True
         if self._end is None:
             _kill(self._process)

@@ -364,8 +364,10 @@ class UnderWay(Case):
             "import sys; sys.path.insert(0, sys.argv[1]); from buncocedar import Index\n"
             "index = Index(sys.argv[2], create=True, program=sys.argv[3])\n"
             "replies = [index.send_add(name, '', '') for name in 'abcd']\n"
-            "try:\n    index.settle()\n"
-            "except KeyboardInterrupt:\n    print([reply.answered for reply in replies], index.under_way())\n"
+            "replies[1].result()\n"
+            "try:\n    print('waiting', flush=True)\n    index.settle()\n"
+            "except KeyboardInterrupt:\n    index.kill()\n"
+            "    print([reply.answered for reply in replies], index.under_way())\n"
         )
         process = subprocess.Popen(
             [sys.executable, "-c", script, os.path.join(TOP, "client"), self.path, FAKE],
@@ -373,6 +375,7 @@ class UnderWay(Case):
             stdout=subprocess.PIPE,
         )
         until(lambda: os.path.exists(self.mark))
+        self.assertEqual(process.stdout.readline(), b"waiting\n")
         process.send_signal(signal.SIGINT)
         out, _ = process.communicate(timeout=PATIENCE)
         self.assertEqual(out, b"[True, True, False, False] 0\n")

@@ -352,7 +352,9 @@ class Folders(Case):
         process.send_signal(signal.SIGINT)
         said = ""
         while "once more ends the program" not in said:
-            said += process.stderr.readline()
+            line = process.stderr.readline()
+            self.assertTrue(line, said)
+            said += line
         process.send_signal(signal.SIGINT)
         said += process.communicate(timeout=PATIENCE)[1]
         self.assertEqual(process.returncode, 130, said)
@@ -635,7 +637,8 @@ class RealProgram(Case):
         process.kill()
         process.communicate()
         said = self.run_script("mail.py", self.path, path)
-        counts = {kind: int(number) for number, kind in re.findall(r"(\d+) ([a-z ]+)", said.split("documents: ")[1])}
+        parts = re.findall(r"([\d,]+) ([a-z ]+)", said.split("documents: ")[1])
+        counts = {kind: int(number.replace(",", "")) for number, kind in parts}
         self.assertEqual(sum(counts.values()), 1000, said)
         self.assertLessEqual(counts.get("added again", 0), 64)
         self.assertIn("0 added, 1,000 unchanged", self.run_script("mail.py", self.path, path))
