@@ -7,8 +7,8 @@ use Rattle.std.proofs.lemmas.List.{take_more, append-nil, length-append, length-
 use Rattle.std.proofs.lemmas.List.Concat.{flat_map-append, get_or-flat_map}
 use Rattle.alta_codec.specs.Rising.{IsRising}
 use Rattle.alta_codec.specs.declared.location.TheConstants.{TOP}
-use Rattle.alta_table.specs.Documents.{end_of}
-use Rattle.alta_table.specs.declared.document.DocRow.{DocRow}
+use Rattle.alta_content.specs.Rows.{end_of}
+use Rattle.alta_content.specs.declared.document.DocRow.{DocRow}
 use Rattle.alta_rows.specs.All.{joined, ends_of, IsPlace}
 
 -- what is read at an index

@@ -4,8 +4,8 @@ use Rattle.std.specs.List.{flat_map}
 use Rattle.std.specs.declared.alloc.Global.{Global}
 use Rattle.std.specs.declared.rc.Rc.{Rc}
 use Rattle.alta_rows.specs.declared.level.LevelRows.{LevelRows}
-use Rattle.alta_table.specs.Documents.{end_of}
-use Rattle.alta_table.specs.declared.document.DocRow.{DocRow}
+use Rattle.alta_content.specs.Rows.{end_of}
+use Rattle.alta_content.specs.declared.document.DocRow.{DocRow}
 
 -- the rows of a shared level
 abbrev pub rows_in : Rc LevelRows Global → List DocRow

@@ -5,7 +5,7 @@ ghost use Rattle.alta_rows.specs.All.{rows_in, joined, ends_of};
 
 use crate::level::LevelRows;
 use crate::walk::RowWalk;
-use alta_table::DocRow;
+use alta_content::DocRow;
 use std::alloc::{AllocError, Global};
 use std::marker::Model;
 use std::rc::Rc;
@@ -21,7 +21,7 @@ impl Model for AllRows {
     ghost use Rattle.std.specs.Prelude.{List, map};
     ghost use Rattle.alta_codec.specs.Rising.{IsRising};
     ghost use Rattle.alta_rows.specs.All.{rows_in, joined, ends_of};
-    ghost use Rattle.alta_table.specs.declared.document.DocRow.{DocRow};
+    ghost use Rattle.alta_content.specs.declared.document.DocRow.{DocRow};
 
     ghost Value = { List DocRow };
 

@@ -2,10 +2,10 @@
 ghost use Rattle.std.specs.Prelude.{◌≡◌, ◌<◌, ◌↔◌, [], map, length, IsTrue, IfOk};
 ghost use Rattle.alta_codec.specs.Rising.{IsRising};
 ghost use Rattle.alta_codec.specs.declared.location.TheConstants.{TOP};
-ghost use Rattle.alta_table.specs.Documents.{end_of};
+ghost use Rattle.alta_content.specs.Rows.{end_of};
 
 use alta_codec::Loc;
-use alta_table::DocRow;
+use alta_content::DocRow;
 use std::alloc::{AllocError, Global};
 use std::marker::Model;
 
@@ -20,8 +20,8 @@ pub struct LevelRows {
 impl Model for LevelRows {
     ghost use Rattle.std.specs.Prelude.{List, map, ◌≡◌};
     ghost use Rattle.alta_codec.specs.Rising.{IsRising};
-    ghost use Rattle.alta_table.specs.Documents.{end_of};
-    ghost use Rattle.alta_table.specs.declared.document.DocRow.{DocRow};
+    ghost use Rattle.alta_content.specs.Rows.{end_of};
+    ghost use Rattle.alta_content.specs.declared.document.DocRow.{DocRow};
 
     ghost Value = { List DocRow };
 

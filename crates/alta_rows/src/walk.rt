@@ -3,7 +3,7 @@ ghost use Rattle.std.specs.Prelude.{◌≡◌, ℕ, ◌+◌, ◌<◌, ◌≤◌,
 ghost use Rattle.alta_codec.specs.Rising.{IsRising};
 ghost use Rattle.alta_codec.specs.declared.location.TheConstants.{TOP};
 ghost use Rattle.alta_rows.specs.All.{rows_in, joined, ends_of, IsPlace};
-ghost use Rattle.alta_table.specs.Documents.{end_of};
+ghost use Rattle.alta_content.specs.Rows.{end_of};
 
 use crate::gallop::index_from;
 use crate::level::LevelRows;
@@ -88,7 +88,7 @@ impl<'a> Model for RowWalk<'a> {
 
 impl<'a> RowWalk<'a> {
     ghost use Rattle.alta_rows.specs.All.{IsPast};
-    ghost use Rattle.alta_table.specs.Documents.{end_of};
+    ghost use Rattle.alta_content.specs.Rows.{end_of};
 
     /// A walk that stands in front of the first row.
     pub(crate) fn new(levels: &'a [Rc<LevelRows>]) -> RowWalk<'a>

@@ -1,6 +1,6 @@
 use Rattle.std.proofs.Common.{◌<◌, get_or, length, ap, arith}
 use Rattle.std.proofs.lemmas.List.{length-map}
-use Rattle.alta_table.specs.Documents.{end_of}
+use Rattle.alta_content.specs.Rows.{end_of}
 use Rattle.alta_rows.proofs.Levels.{read_at}
 use Rattle.alta_rows.proofs.level.ends_of.Goals as goal
 

@@ -1,5 +1,5 @@
 use Rattle.std.proofs.Common.{◌≡◌, map, take}
-use Rattle.alta_table.specs.Documents.{end_of}
+use Rattle.alta_content.specs.Rows.{end_of}
 use Rattle.alta_rows.proofs.level.ends_of.Given as goal
 
 abbrev pub invariant-loop-row : goal.invariant-loop-row

@@ -1,6 +1,6 @@
 use Rattle.std.proofs.Common.{◌≡◌, ◌+◌, ◌<◌, ◌≤◌, [], map, length, get_or, sym, ap, ◌∙◌, arith}
 use Rattle.std.proofs.lemmas.List.{length-map}
-use Rattle.alta_table.specs.Documents.{end_of}
+use Rattle.alta_content.specs.Rows.{end_of}
 use Rattle.alta_rows.specs.All.{rows_in, joined, ends_of}
 use Rattle.alta_rows.proofs.Levels.{map_at, read_at, level_fits, index_fits, end_is, rows_fit, none_here}
 use Rattle.alta_rows.proofs.walk.index_of.Goals as goal
