@@ -51,7 +51,10 @@ fn document_cells(
     ensures { IfOk result (λ all. all.items ≡ cells_of name.now title.now body.now) }
 {
     let mut all = Vec::new(alloc);
-    let first = Cell::two(term(alloc, NAME, name.as_bytes())?, term(alloc, START, b"")?);
+    let first = Cell::two(
+        term(alloc, NAME, name.as_bytes())?,
+        term(alloc, START, b"")?,
+    );
     all.push(first)?;
     put_words(alloc, &mut all, title)?;
     let title_end = Cell::one(term(alloc, TITLE_END, b"")?);
