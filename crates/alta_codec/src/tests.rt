@@ -116,3 +116,22 @@ fn each_fault_of_a_number_names_its_byte(rt: HostRuntime) {
         assert_eq!(rt; get_number(bytes, from), Err(want), "at {bytes:?}");
     }
 }
+
+#[test]
+fn a_count_has_no_leading_zero(rt: HostRuntime) {
+    let rows: [(&[u8], Option<u64>); 10] = [
+        (b"", None),
+        (b"0", None),
+        (b"1", Some(1)),
+        (b"+1", None),
+        (b"1 ", None),
+        (b"07", None),
+        (b"907", Some(907)),
+        (b"1000", Some(1000)),
+        (b"1001", None),
+        (b"00001", None),
+    ];
+    for (text, want) in rows {
+        assert_eq!(rt; read_count(text, 4, 1000), want, "at {text:?}");
+    }
+}

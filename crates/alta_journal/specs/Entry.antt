@@ -1,7 +1,7 @@
 -- What a record says: its bytes, and the rules that it keeps.
-use Rattle.std.specs.Prelude.{◌≢◌, ℕ, ◌<◌, ◌≤◌, ◌^◌, List, ◌∷◌, ◌++◌, length, IsUtf8}
-use Rattle.std.specs.List.{All}
+use Rattle.std.specs.Prelude.{ℕ, ◌<◌, ◌≤◌, ◌^◌, List, ◌∷◌, ◌++◌, length, IsUtf8}
 use Rattle.std.specs.Int.{w32, w64, to_be_bytes}
+pub use Rattle.alta_codec.specs.Bytes.{Lacks}
 use Rattle.alta_codec.specs.Name.{IsName}
 use Rattle.alta_journal.specs.declared.entry.Entry.{Entry}
 use Rattle.alta_journal.specs.declared.entry.Entry.TheVariants.{Add, Delete}
@@ -22,10 +22,6 @@ measured bytes = four_bytes (length bytes) ++ bytes
 abbrev pub payload_of : Entry → List ℕ
 payload_of (Add name title body) = 1 ∷ length name ∷ name ++ measured title ++ measured body
 payload_of (Delete number) = 2 ∷ eight_bytes number
-
--- no byte has this value
-abbrev pub Lacks : ℕ → List ℕ → Type 0
-Lacks value bytes = All (λ b. b ≢ value) bytes
 
 -- The rules on an entry that its type does not keep: the name is one, title and body have no newline, the title has no
 -- tab, and the payload of an add is not too long.

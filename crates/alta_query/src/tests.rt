@@ -1,6 +1,7 @@
 // Each row stands in the rules of the language: a text with the place and the cause of its first fault, or with its
 // canonical spelling.
-use crate::{Atom, Cause, Query, QueryFault, Side, Test, parse, print};
+use crate::{Atom, Cause, Query, QueryFault, Side, Test, a_query_has_members, parse, print};
+use alta_codec::Bytes;
 use std::alloc::Global;
 use std::test::Fail;
 
@@ -164,8 +165,8 @@ fn is_phrase(alloc: Global, text: &str, first: &str, second: &str) -> bool {
 fn is_near(alloc: Global, text: &str, start: &str, term: &str) -> bool {
     match parse(alloc, text) {
         Ok(Query::Atom(Atom::Near { left, right, .. })) => match (&left, &right) {
-            (Side::Stem { test: a, .. }, Side::Word { test: b, .. }) => {
-                is_start(a, start) && is_term(b, term)
+            (Side::Stem { .. }, Side::Word { .. }) => {
+                is_start(left.test(), start) && is_term(right.test(), term)
             }
             _ => false,
         },
@@ -174,8 +175,12 @@ fn is_near(alloc: Global, text: &str, start: &str, term: &str) -> bool {
 }
 
 #[test]
-fn tests_of_atoms(rt: HostRuntime) {
+fn tests_of_atoms(rt: HostRuntime) -> Result<(), Fail> {
     let alloc = rt.alloc();
     assert!(rt; is_phrase(alloc, "title:\"Straße, red\"", "XStraße", "Wred"));
     assert!(rt; is_near(alloc, "Re* NEAR/2 fox!", "XRe", "Wfox"));
+    let start = Test::Begins(Bytes::from_vec(Vec::from_slice(alloc, b"Wre")?));
+    assert!(rt; is_start(&start.copy()?, "Wre"));
+    a_query_has_members();
+    Ok(())
 }
