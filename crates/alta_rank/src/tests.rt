@@ -45,10 +45,7 @@ fn uses_of_queries(rt: HostRuntime) -> Result<(), Fail> {
         ("quick NOT red", "Wquick "),
         ("NOT (a NOT b)", ""),
         ("red NEAR/3 fo* OR name:b", "Wred Wfo* Nb "),
-        (
-            "a title:br* (c OR NOT d) \"e f\"",
-            "Wa t:Wbr* Wc We Wf ",
-        ),
+        ("a title:br* (c OR NOT d) \"e f\"", "Wa t:Wbr* Wc We Wf "),
     ];
     for (text, want) in rows {
         let seen = used(rt.alloc(), text)?;
