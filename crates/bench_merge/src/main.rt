@@ -1,0 +1,135 @@
+//! Joins the contents of two segments, so that its allocations and its time can be measured: `bench_merge OLDER NEWER` reads the
+//! two files and prints how many terms each has. With `begin` behind it also begins their join, and then takes a step of so many
+//! terms for each further word, and prints whether no term is left. With `read N` it reads them N times more, with `join N` it
+//! also joins them each time, and prints how many terms came of it in all. bench/merge.py runs it.
+#![tactic(auto)]
+
+ghost use Rattle.std.specs.Prelude.{◌≤◌, length, IfOk};
+ghost use Rattle.alta_content.specs.Parts.{IsPart};
+
+use alta_content::Content;
+use alta_level::read_content;
+use alta_merge::{Job, may_join};
+use std::alloc::{AllocError, Global};
+use std::process::ExitCode;
+use std::{env, fs, io};
+
+// The longest file that is read.
+const MOST: usize = 1 << 32;
+
+// The content of a segment. A damaged one counts as want of memory.
+fn read(alloc: Global, bytes: &[u8]) -> Result<Content, AllocError>
+    requires { length bytes.now ≤ MOST }
+    ensures { IfOk result IsPart }
+{
+    match read_content(alloc, bytes, 0) {
+        Ok(content) => Ok(content),
+        Err(_fault) => Err(AllocError),
+    }
+}
+
+// The join that begins, none where the contents may not be joined.
+fn begin(alloc: Global, older: &[u8], newer: &[u8]) -> Result<Option<Job>, AllocError>
+    requires older { length older.now ≤ MOST }
+    requires newer { length newer.now ≤ MOST }
+{
+    let a = read(alloc, older)?;
+    let b = read(alloc, newer)?;
+    if !may_join(&a, &b) {
+        return Ok(None);
+    }
+    let job = Job::new(alloc, a, b, &[])?;
+    Ok(Some(job))
+}
+
+// How many terms the two have.
+fn terms(alloc: Global, older: &[u8], newer: &[u8]) -> Result<(usize, usize), AllocError>
+    requires older { length older.now ≤ MOST }
+    requires newer { length newer.now ≤ MOST }
+{
+    let a = read(alloc, older)?;
+    let b = read(alloc, newer)?;
+    Ok((a.lists.len(), b.lists.len()))
+}
+
+// How many terms their join has.
+fn joined(alloc: Global, older: &[u8], newer: &[u8]) -> Result<usize, AllocError>
+    requires older { length older.now ≤ MOST }
+    requires newer { length newer.now ≤ MOST }
+{
+    let Some(mut job) = begin(alloc, older, newer)? else {
+        return Ok(0);
+    };
+    let done = job.step(u64::MAX)?;
+    if !done || !job.done() {
+        return Ok(0);
+    }
+    Ok(job.finish().lists.len())
+}
+
+// Reads the two so often, and joins them each time if asked.
+fn repeat(
+    alloc: Global,
+    older: &[u8],
+    newer: &[u8],
+    joins: bool,
+    rounds: u64,
+) -> Result<u64, AllocError>
+    requires older { length older.now ≤ MOST }
+    requires newer { length newer.now ≤ MOST }
+{
+    let mut sum: u64 = 0;
+    for _ in 0..rounds {
+        let count = if joins {
+            joined(alloc, older, newer)?
+        } else {
+            let (a, b) = terms(alloc, older, newer)?;
+            a.wrapping_add(b)
+        };
+        sum = sum.wrapping_add(count as u64);
+    }
+    Ok(sum)
+}
+
+// Takes the steps of the words that are left.
+fn take_steps(rt: &HostRuntime, mut job: Job, words: env::Args) -> io::Result<()> {
+    for word in words {
+        let n = word.as_str().parse::<u64>().unwrap_or(1);
+        let done = job.step(n)?;
+        println!(rt; "{done}")?;
+    }
+    Ok(())
+}
+
+fn main(rt: HostRuntime) -> io::Result<ExitCode> {
+    let alloc = rt.alloc();
+    let mut words = env::args(&rt)?;
+    let _program = words.next();
+    let (Some(older), Some(newer)) = (words.next(), words.next()) else {
+        return Ok(ExitCode::from(2));
+    };
+    let older = fs::read(&rt, older.as_str())?;
+    let newer = fs::read(&rt, newer.as_str())?;
+    if older.len() > MOST || newer.len() > MOST {
+        return Ok(ExitCode::from(2));
+    }
+    let (a, b) = terms(alloc, &older, &newer)?;
+    println!(rt; "{a} {b}")?;
+    let Some(mode) = words.next() else {
+        return Ok(ExitCode::SUCCESS);
+    };
+    if mode.as_str() == "begin" {
+        if let Some(job) = begin(alloc, &older, &newer)? {
+            take_steps(&rt, job, words)?;
+        }
+        return Ok(ExitCode::SUCCESS);
+    }
+    let joins = mode.as_str() == "join";
+    let rounds = match words.next() {
+        Some(word) => word.as_str().parse::<u64>().unwrap_or(1),
+        None => 1,
+    };
+    let sum = repeat(alloc, &older, &newer, joins, rounds)?;
+    println!(rt; "{sum}")?;
+    Ok(ExitCode::SUCCESS)
+}
