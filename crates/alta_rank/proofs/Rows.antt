@@ -1,9 +1,8 @@
 -- The definitions at two documents: `Red Fox` with the body `the quick red fox`, and `Fox` with the body `quick brown dog`.
-use Rattle.std.proofs.Common.{◌≡◌, ℕ, Bool, true, false, List, [], ◌∷◌, refl}
+use Rattle.std.proofs.Common.{◌≡◌, ℕ, true, false, List, [], ◌∷◌, refl}
 use Rattle.std.specs.Prelude.{codes}
-use Rattle.alta_query.specs.Shape.{Shape, words, prefix, lone, atom, all, negated, shapes_of}
-use Rattle.alta_query.specs.declared.test.Test.{Test}
-use Rattle.alta_query.specs.declared.test.Test.TheVariants.{Is, Begins}
+use Rattle.alta_query.specs.Shape.{words, lone, atom, all, negated, shapes_of}
+use Rattle.alta_query.specs.declared.test.Test.TheVariants.{Is}
 use Rattle.alta_rank.specs.Cells.{use_score, score_of}
 use Rattle.alta_rank.specs.Locations.{range_score}
 use Rattle.alta_rank.specs.Ranked.{placed, ranked}
