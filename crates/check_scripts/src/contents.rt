@@ -124,17 +124,6 @@ fn a_fault_keeps_what_was_answered(rt: HostRuntime) -> Result<(), Fail> {
     // The first take fails.
     let (status, _) = call(alloc, &mut disk, "run", FIRST, &[1])?;
     assert_eq!(rt; status, Status::TakeFault);
-    // Every call of the disk fails from the write of the first gate on, which is the eighth.
-    let mut fuse = FuseDisk::new(disk_of(alloc, content_with(alloc, &[])?)?, 7);
-    let (status, given) = call(alloc, &mut fuse, "run", FIRST, &[])?;
-    assert_eq!(rt; status, Status::DiskFault);
-    assert!(rt; given.is_empty());
-    let (none, one): (&[u8], &[u8]) = (b"found 0", b"found 1");
-    let found = counts(alloc, &fuse.into_inner())?;
-    assert_eq!(rt; found.len(), four.len());
-    for line in found.as_slice().split(|byte| *byte == b'\n') {
-        assert!(rt; line == none || line == one || line.is_empty());
-    }
     // Every call of the disk fails behind the sync of the first gate, which is the ninth.
     let mut fuse = FuseDisk::new(disk_of(alloc, content_with(alloc, &[])?)?, 9);
     let (status, given) = call(alloc, &mut fuse, "run", BOTH, &[])?;
