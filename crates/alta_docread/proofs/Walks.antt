@@ -1,6 +1,6 @@
 -- A step of a walk over the solutions.
-use Rattle.std.proofs.Common.{◌≡◌, inl, inr, ℕ, ◌+◌, ◌<◌, ◌≤◌, List, length, get_or, set, refl, sym, subst, ap, ◌∙◌, arith}
-use Rattle.std.specs.Prelude.{slice_index}
+use Rattle.std.proofs.Common.{◌≡◌, ⊎_elim, inl, inr, ℕ, ◌+◌, ◌<◌, ◌≤◌, List, length, get_or, set, refl, sym, subst, ap, ◌∙◌, arith}
+use Rattle.std.specs.Prelude.{slice_index, Contains}
 use Rattle.std.specs.List.{concat}
 use Rattle.std.proofs.lemmas.List.{get_or-set_same}
 use Rattle.alta_codec.specs.declared.location.TheConstants.{TOP}
@@ -9,8 +9,8 @@ use Rattle.alta_codec.proofs.Places.{first_from-above, first_from-is, first_from
 use Rattle.alta_solver.specs.Inequality.{Inequality}
 use Rattle.alta_solver.specs.Solution.{list_at, IsSolution, IsAtLeast, IsLeast}
 use Rattle.alta_solver.proofs.Raised.{set_at_least, first_from-le_place}
-use Rattle.alta_docread.specs.Solutions.{found_list, IsHeld, Walk, IsWalking, IsSoundWalk, IsWalked}
-use Rattle.alta_docread.specs.SolutionLaws.{found-leads, leads-found}
+use Rattle.alta_docread.specs.Solutions.{found_list, IsHeld, IsReadyFrom, Walk, IsWalking, IsSoundWalk, IsWalked}
+use Rattle.alta_docread.specs.SolutionLaws.{found-leads, leads-found, solution_below, solution_above}
 
 -- the first place after a raise
 pub raised_to : (xs old new : List ℕ) (to : ℕ) → 0 < length old → to ≤ TOP → new ≡ set old 0 (first_from xs to) → to ≤ get_or new 0 0
@@ -23,13 +23,24 @@ pub raised_keeps : (lists : List (List ℕ)) (bounds : List Inequality) (old new
 raised_keeps lists bounds old new x to some here e s above h =
     set_at_least old new x 0 (first_from (list_at lists 0) to) here e h (first_from-le_place (list_at lists 0) to (slice_index x 0) (s.places 0 some) above)
 
+-- a raise of the second place from a solution's first place to the one behind it passes no solution that is led from there
+pub raised_second : (lists : List (List ℕ)) (bounds : List Inequality) (old new x : List ℕ) (at to : ℕ) → IsHeld (length lists) bounds → 1 < length lists → 1 < length old
+    → new ≡ set old 1 (first_from (list_at lists 1) to) → Contains (list_at lists 0) at → to ≡ at + 1
+    → IsSolution lists bounds x → to ≤ slice_index x 0 → IsAtLeast old x → IsAtLeast new x
+raised_second lists bounds old new x at to held some here e m behind s above h =
+    let low : at < slice_index x 1 = solution_above lists bounds x 1 at held s (omega arith) some m (omega (arith, behind, above)) in
+    set_at_least old new x 1 (first_from (list_at lists 1) to) here e h
+    (first_from-le_place (list_at lists 1) to (slice_index x 1) (s.places 1 some) (omega (arith, low, behind)))
+
 module _ (lists : List (List ℕ)) (bounds : List Inequality) (mid new : List ℕ) (to : ℕ) (some : 0 < length lists) (here : 0 < length mid) (top : to ≤ TOP)
-    (reached : to ≤ get_or mid 0 0)
+    (held : IsHeld (length lists) bounds) (sized : length mid ≡ length lists) (reached : IsReadyFrom to mid)
     (keeps : (x : List ℕ) → IsSolution lists bounds x → to ≤ slice_index x 0 → IsAtLeast mid x) where
   -- the least solution from there on leads to the first place of the list
   pub walk_settled : IsLeast lists bounds mid new → IsWalking lists bounds new (get_or new 0 0) × (get_or new 0 0 ≡ first_from (found_list lists bounds) to)
   walk_settled l =
-      let on : to ≤ get_or new 0 0 = omega (arith, l.above 0 here, reached) in
+      let on : to ≤ get_or new 0 0 =
+      ⊎_elim (λ r. omega (arith, l.above 0 here, r))
+      (λ r. omega (arith, l.above 1 r.0, r.1, solution_below lists bounds new 1 held l.solution (omega (arith, r.0, sized)))) reached in
       let size : 0 < length new = omega (arith, l.solution.sized, some) in (
         record {
           ahead = λ x s h. l.least x s (keeps x s (omega (arith, on, h)));

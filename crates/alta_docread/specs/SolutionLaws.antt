@@ -1,14 +1,14 @@
 -- Laws of the first places of all solutions.
-use Rattle.std.proofs.Common.{◌≡◌, ⊎_elim, inl, inr, ℕ, zero, suc, ◌<◌, ◌≤◌, Bool, true, ◌&&◌, nat_eq, List, [], ◌∷◌, ◌++◌, length, refl, sym, subst, ap, ◌∙◌, arith}
+use Rattle.std.proofs.Common.{◌≡◌, ⊎_elim, inl, inr, ℕ, zero, suc, ◌+◌, ◌<◌, ◌≤◌, Bool, true, ◌&&◌, nat_eq, List, [], ◌∷◌, ◌++◌, length, refl, sym, subst, ap, ◌∙◌, arith}
 use Rattle.std.specs.Prelude.{Contains, All, slice_index, ◌↔◌}
 use Rattle.std.proofs.lemmas.List.{get_or_default}
 use Rattle.std.proofs.lemmas.List.Elements.{All-nil, All-cons, All-head, All-tail, Contains-append_cases, Contains-append_left, Contains-append_right}
 use Rattle.std.proofs.lemmas.Bool.{cases_lt}
 use Rattle.alta_codec.specs.declared.location.TheConstants.{TOP}
-use Rattle.alta_codec.specs.Rising.{IsRising, IsPlace}
-use Rattle.alta_codec.proofs.Places.{Contains-head, Contains-tail, Contains-cases, not-Contains-nil}
+use Rattle.alta_codec.specs.Rising.{IsRising, IsPlace, pred_of}
+use Rattle.alta_codec.proofs.Places.{Contains-head, Contains-tail, Contains-cases, not-Contains-nil, pred_of-greatest}
 use Rattle.alta_solver.specs.Inequality.{Inequality}
-use Rattle.alta_solver.specs.declared.form.Form.TheVariants.{LocLoc}
+use Rattle.alta_solver.specs.declared.form.Form.TheVariants.{LocLoc, PrevLoc}
 use Rattle.alta_solver.specs.Solution.{low_side, high_side, list_at, Holds, IsSolution}
 use Rattle.alta_docread.specs.KeptLaws.{true_or_false, kept-has, kept-keeps, kept-rises}
 use Rattle.alta_docread.specs.Solutions.{some, some_row, keeps_all, leads, found_list, Leads, IsHeld, Walk, walk_list, IsSoundWalk}
@@ -165,3 +165,23 @@ pub walk_within : (w : Walk) → IsSoundWalk w → 0 < w.at → w.at < TOP → A
 walk_within w s begun below k d l =
     let (x, e) = s.walking.stands begun below in
     omega (arith, e, get_or_default w.places k d 0 l, solution_below w.lists w.bounds w.places k s.held x (omega (arith, l, x.sized)))
+
+bound_above : (lists : List (List ℕ)) (x : List ℕ) (b : Inequality) (i : ℕ) → b.form ≡ PrevLoc → b.i ≡ 0 → b.j ≡ i → b.minus ≡ b.plus + 1 → Holds lists x b
+    → pred_of (list_at lists 0) (slice_index x 0) < slice_index x i
+bound_above lists x b i form low high same h =
+    let l : low_side b.form (list_at lists b.i) (slice_index x b.i) ≡ pred_of (list_at lists 0) (slice_index x 0) =
+    ap (λ f. low_side f (list_at lists b.i) (slice_index x b.i)) form ∙ ap (λ k. pred_of (list_at lists k) (slice_index x k)) low in
+    let r : high_side b.form (list_at lists b.j) (slice_index x b.j) ≡ slice_index x i =
+    ap (λ f. high_side f (list_at lists b.j) (slice_index x b.j)) form ∙ ap (λ k. slice_index x k) high in
+    omega (arith, h, l, r, same)
+
+-- at a solution each other reader stands above each element of the first list that is below the first place
+pub solution_above : (lists : List (List ℕ)) (bounds : List Inequality) (x : List ℕ) (i at : ℕ) → IsHeld (length lists) bounds → IsSolution lists bounds x
+    → 0 < i → i < length lists → Contains (list_at lists 0) at → at < slice_index x 0 → at < slice_index x i
+solution_above lists bounds x i at h s some l m lt =
+    let (k, b, w, e, (form, low, high, same)) = h.lower i some l in
+    omega (
+      arith,
+      bound_above lists x b i form low high same (subst (λ c. Holds lists x c) e (s.bounded k b w)),
+      pred_of-greatest (list_at lists 0) (slice_index x 0) at m lt,
+    )

@@ -1,5 +1,5 @@
 -- The list of the places of the first variable over all solutions.
-use Rattle.std.specs.Prelude.{◌≡◌, ℕ, ◌+◌, ◌<◌, ◌≤◌, Bool, true, ◌||◌, ◌&&◌, nat_eq, nat_le, nat_lt, false, List, [], ◌∷◌, ◌++◌, length, slice_index, Any}
+use Rattle.std.specs.Prelude.{◌≡◌, ◌⊎◌, ℕ, ◌+◌, ◌<◌, ◌≤◌, Bool, true, ◌||◌, ◌&&◌, nat_eq, nat_le, nat_lt, false, List, [], ◌∷◌, ◌++◌, length, slice_index, Any}
 use Rattle.std.specs.List.{concat}
 use Rattle.alta_codec.specs.declared.location.TheConstants.{TOP}
 use Rattle.alta_codec.specs.Rising.{IsRising, first_from, count_from}
@@ -49,6 +49,10 @@ IsLower i b = (b.form ≡ PrevLoc) × (b.i ≡ 0) × (b.j ≡ i) × (b.minus ≡
 pub record IsHeld (n : ℕ) (bounds : List Inequality) : Type 0 where
   pub upper : (i : ℕ) → 0 < i → i < n → Any (IsUpper i) bounds
   pub lower : (i : ℕ) → 0 < i → i < n → Any (IsLower i) bounds
+
+-- the first reader stands at or above the place, or the second does, which the first does not stand below in a solution
+abbrev pub IsReadyFrom : ℕ → List ℕ → Type 0
+IsReadyFrom to places = (to ≤ slice_index places 0) ⊎ ((1 < length places) × (to ≤ slice_index places 1))
 
 -- Where a walk over the solutions stands: no solution at or above the place was passed, and the place is 0 before the
 -- first move, then that of the solution at which the readers stand, or TOP.

@@ -4,7 +4,7 @@ ghost use Rattle.std.specs.List.{concat};
 ghost use Rattle.alta_codec.specs.Rising.{IsRising, IsPlace, first_from, count_from};
 ghost use Rattle.alta_solver.specs.Solution.{list_at, IsSolution, IsAtLeast};
 ghost use Rattle.alta_docread.specs.FoundView.{walk_of, solver_of};
-ghost use Rattle.alta_docread.specs.Solutions.{found_list, walk_list, walk_all, Leads, IsHeld, IsWalking, IsSoundWalk, IsWalked};
+ghost use Rattle.alta_docread.specs.Solutions.{found_list, walk_list, walk_all, Leads, IsHeld, IsReadyFrom, IsWalking, IsSoundWalk, IsWalked};
 ghost use Rattle.alta_docread.specs.SolutionLaws.{walk_rises, walk_place};
 ghost use Rattle.alta_docread.specs.Tree.{found, IsUnmoved};
 
@@ -33,6 +33,37 @@ fn raise_first<R: BackReader, L: Ledger>(solver: &mut Solver<R>, to: Loc, steps:
     }
 }
 
+/// Brings readers on towards the solutions whose first place is at or above `to`. From a solution to the place behind it, it
+/// moves the second reader and not the first: in each later solution that one stands behind the place that the first leaves,
+/// and the first follows it, so that it is not brought to each of its places.
+fn approach<R: BackReader, L: Ledger>(
+    solver: &mut Solver<R>,
+    at: Loc,
+    to: Loc,
+    steps: &mut Steps<L>,
+)
+    requires held { IsHeld (length solver.old.readers) solver.old.bounds }
+    requires walking { IsWalking (map R.list solver.old.readers) solver.old.bounds (map R.location solver.old.readers) at }
+    requires above { at < to }
+    requires top { to ≤ TOP }
+    ensures system { solver.new.bounds ≡ solver.old.bounds }
+    ensures lists { map R.list solver.new.readers ≡ map R.list solver.old.readers }
+    ensures alls { map R.all solver.new.readers ≡ map R.all solver.old.readers }
+    ensures some { 0 < length solver.new.readers }
+    ensures reached { IsReadyFrom to (map R.location solver.new.readers) }
+    ensures keeps { (x : List ℕ) → IsSolution (map R.list solver.old.readers) solver.old.bounds x → to ≤ slice_index x 0
+        → IsAtLeast (map R.location solver.old.readers) x → IsAtLeast (map R.location solver.new.readers) x }
+    ensures left { sum_by R.left solver.new.readers ≤ sum_by R.left solver.old.readers }
+    ensures falls { slice_index (map R.location solver.old.readers) 0 < to → 0 < at → sum_by R.left solver.new.readers < sum_by R.left solver.old.readers }
+    ensures steps { steps.new + sum_by R.left solver.new.readers ≤ steps.old + sum_by R.left solver.old.readers }
+{
+    if at == 0 || at + 1 < to || solver.len() < 2 {
+        raise_first(solver, to, steps);
+        return;
+    }
+    solver.raise(1, to, steps);
+}
+
 /// Goes on to the first solution whose first place is at or above `to`, and answers that place, TOP where there is none.
 fn walk<R: BackReader, L: Ledger>(
     solver: &mut Solver<R>,
@@ -54,7 +85,7 @@ fn walk<R: BackReader, L: Ledger>(
     ensures falls { 0 < at → sum_by R.left solver.new.readers < sum_by R.left solver.old.readers }
     ensures steps { steps.new + sum_by R.left solver.new.readers ≤ steps.old + sum_by R.left solver.old.readers }
 {
-    raise_first(solver, to, steps);
+    approach(solver, at, to, steps);
     if solver.settle(steps) {
         solver.first()
     } else {
@@ -65,7 +96,8 @@ fn walk<R: BackReader, L: Ledger>(
 /// A reader of the first places of all solutions of a system: with the ends of documents first, of the ends of the
 /// documents that have a solution.
 ///
-/// It stands nowhere, at 0, until its first move. A move is a raise of the first reader and one settling of the system.
+/// It stands nowhere, at 0, until its first move. A move is a raise of the first reader, or of the second from one solution
+/// to the next, and one settling of the system.
 /// While it stands below `TOP` it has passed no element of its readers' leaves at or above where it stands.
 #[derive(Drop)]
 pub struct Found<R: BackReader> {

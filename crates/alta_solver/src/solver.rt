@@ -55,6 +55,13 @@ impl<R: BackReader> Solver<R> {
         })
     }
 
+    /// How many readers there are.
+    pub fn len(&self) -> usize
+        ensures { result ≡ length self.now.readers }
+    {
+        self.readers.len()
+    }
+
     /// Where reader `i` stands.
     pub fn loc(&self, i: usize) -> Loc
         requires { i < length self.now.readers }
