@@ -113,15 +113,18 @@ fn main(rt: HostRuntime) -> io::Result<ExitCode> {
     if older.len() > MOST || newer.len() > MOST {
         return Ok(ExitCode::from(2));
     }
-    let (a, b) = terms(alloc, &older, &newer)?;
-    println!(rt; "{a} {b}")?;
+    let a = read(alloc, &older)?;
+    let b = read(alloc, &newer)?;
+    println!(rt; "{} {}", a.lists.len(), b.lists.len())?;
     let Some(mode) = words.next() else {
         return Ok(ExitCode::SUCCESS);
     };
     if mode.as_str() == "begin" {
-        if let Some(job) = begin(alloc, &older, &newer)? {
-            take_steps(&rt, job, words)?;
+        if !may_join(&a, &b) {
+            return Ok(ExitCode::SUCCESS);
         }
+        let job = Job::new(alloc, a, b, &[])?;
+        take_steps(&rt, job, words)?;
         return Ok(ExitCode::SUCCESS);
     }
     let joins = mode.as_str() == "join";
