@@ -25,5 +25,5 @@ returns-clause-count g c = λ space shows.
     ∙ ap (λ gone. length (answers_in (tree_list u) gone (tree_place u) s.rows)) c.gone.ensures.value
     ∙ count_is (tree c.args.plan.now) s (map (lists_at c.uses.result.0.now) c.uses.result.1.now) (map (lists_at c.uses.result.0.now) c.in_ok-node._rest.now)
     (read c.in_ok-node.node) u v 0
-    c.args.steps.now c.node.new.steps c.start-reader.new.steps c.tally-count.new.steps c.in_ok-node.ensures.planted c.start-reader.ensures c.tally-count.ensures.onward (omega arith)
+    c.args.steps.now c.node.new.steps c.start-reader.new.steps c.tally-count.new.steps c.in_ok-node.ensures.planted c.start-reader.ensures.started c.tally-count.ensures.onward (omega arith)
     (sym c.uses.ensures.cuts) c.requires space shows

@@ -46,6 +46,7 @@ loop-told-preserved g c =
       rows = r.rows ∙ inv.rows;
       past = past_more c.reach.new.rows here (tree_place (tree c.next.new.self.node))
           (goes_up (tree_list (tree c.reach.new.reader.node)) here (tree_place (tree c.next.new.self.node)) below e.location) r.past;
+      at = e.sound.2;
     }
 
 pub returns-clause-count : goal.returns-clause-count

@@ -12,4 +12,5 @@ invariant-loop-told g l =
       counting : IsCounting (tree l.fn.reader.node) (tree l.reader.node) l.gone l.fn.rows.rows l.told l.fn.steps l.steps;
       rows : l.rows.rows ≡ l.fn.rows.rows;
       past : IsPast l.rows (tree_place (tree l.reader.node));
+      at : l.reader.at ≡ tree_place (tree l.reader.node);
     }
