@@ -1,0 +1,62 @@
+-- A disk that was formatted stands for the state without documents.
+use Rattle.std.proofs.Common.{inl, ℕ, List, [], length, take, refl, ap, ◌∙◌, arith}
+use Rattle.std.proofs.lemmas.List.Elements.{All-nil, All-cons}
+use Rattle.alta_journal.specs.Entry.{IsSound as IsSoundEntry}
+use Rattle.alta_journal.specs.declared.places.TheConstants.{START_A}
+use Rattle.alta_level.specs.Segments.{IsSegment}
+use Rattle.alta_postings.specs.Deltas.{fault_from, first_fault, list_from, locations_of}
+use Rattle.alta_root.specs.Places.{fields_at}
+use Rattle.alta_root.specs.Root.{body_of, IsSound, IsWord, no_extent}
+use Rattle.alta_root.specs.Slots.{Counts}
+use Rattle.alta_root.specs.declared.slot.Slot.TheVariants.{A}
+use Rattle.alta_root.proofs.SpellLaws.{body_says}
+use Rattle.alta_store.specs.Levels.{Level}
+use Rattle.alta_store.specs.States.{empty}
+use Rattle.alta_images.specs.Opened.{Opened, IsNamed, bytes_at, deleted_in}
+use Rattle.alta_images.specs.Standing.{StandsFor}
+use Rattle.alta_images.specs.Switching.{empty_root, IsFormatted}
+
+empty_sound : (size : ℕ) → IsSound size empty_root
+empty_sound size = record { few = omega arith; number = (omega arith, omega arith); location = (omega arith, omega arith); deletions = inl refl; levels = tt }
+
+formatted_counts : (image : List ℕ) → IsFormatted image → Counts A empty_root image
+formatted_counts image is = record {
+  whole = is.whole;
+  is_open = is.first;
+  says =
+      body_says (length image) 1 empty_root (body_of empty_root) (fields_at A image) (empty_sound (length image)) (omega arith) (All-cons IsWord no_extent [] (omega arith, omega arith) (All-nil IsWord)) refl
+      (is.fields ∙ ap (λ n. take n (body_of empty_root)) is.long);
+  later = λ second. absurd (is.second second);
+}
+
+formatted_opened : Opened
+formatted_opened = record { slot = A; root = empty_root; deleted = []; levels = []; entries = []; tail = START_A }
+
+formatted_named : (image : List ℕ) → IsFormatted image → IsNamed formatted_opened image
+unfolding deleted_in first_fault fault_from list_from locations_of formatted_opened
+formatted_named image is = record {
+  list = refl;
+  tables = refl;
+  ends = refl;
+  journal = record {
+    starts = omega arith;
+    begins = record { records = refl; sound = All-nil IsSoundEntry; gate = is.closed.0 };
+    closed = is.closed;
+    whole = is.whole;
+  };
+  known = record { next = 1; live = [] };
+  admitted = refl;
+}
+
+pub formatted_stands : (image : List ℕ) → IsFormatted image → StandsFor empty image
+unfolding formatted_opened
+formatted_stands image is = record {
+  opened = formatted_opened;
+  counts = formatted_counts image is;
+  means = record {
+    named = formatted_named image is;
+    levels = [];
+    are = record { extents = refl; tables = refl; segments = All-nil (λ (l : Level). IsSegment (bytes_at l.extent image) l.content) };
+    state_is = refl;
+  };
+}

@@ -1,0 +1,188 @@
+-- What is known before and behind entries, beside the state that they make.
+use Rattle.std.proofs.Common.{◌≡◌, ◌≢◌, ⊎_elim, ℕ, ◌+◌, ◌<◌, ◌≤◌, Bool, true, false, cond, List, [], ◌∷◌, ◌++◌, length, map, refl, sym, ap, subst, ◌∙◌, arith, Result, Ok, Err}
+use Rattle.std.specs.Prelude.{not, ◌&&◌, ◌||◌, ◌==◌, nat_lt}
+use Rattle.std.specs.List.{All, filter, list_any}
+use Rattle.std.specs.Str.{bytes_eq}
+use Rattle.std.proofs.lemmas.Bool.{cases_lt, lt-ltb, le-ltb, false≢true}
+use Rattle.std.proofs.lemmas.List.{map-append}
+use Rattle.std.proofs.lemmas.List.Elements.{All-nil, All-cons, All-head, All-tail, All-append, All-filter}
+use Rattle.alta_journal.specs.Placed.{placed}
+use Rattle.alta_journal.specs.Record.{record_of}
+use Rattle.alta_journal.specs.declared.entry.Entry.{Entry}
+use Rattle.alta_journal.specs.declared.entry.Entry.TheVariants.{Add, Delete}
+use Rattle.alta_journal.specs.declared.placed.Placed.{Placed}
+use Rattle.alta_meta.specs.declared.document.Document.{Document}
+use Rattle.alta_meta.specs.declared.document.State.{State}
+use Rattle.alta_store.specs.Entries.{Allows, AllowsAll, after_entry, after_entries}
+use Rattle.alta_store.specs.States.{with_deleted}
+use Rattle.alta_store.specs.declared.lists.NameRow.{NameRow}
+use Rattle.alta_store.proofs.DocumentLaws.{by_test, filter_keep, filter_drop, bytes_same}
+use Rattle.alta_images.specs.Known.{Known, named, is_taken, is_live, admits, known_behind, replayed, named_of, known_of}
+use Rattle.alta_images.specs.Ordered.{IsBefore, AreOrdered, IsOrdered}
+use Rattle.alta_images.proofs.Steps.{one_value, not_failed}
+
+-- ---- names and numbers of documents
+
+taken_of : (name : List ℕ) (ds : List Document) → is_taken name (map named_of ds) ≡ list_any (λ (d : Document). bytes_eq name d.name) ds
+taken_of name [] = refl
+taken_of name (d ∷ ds) = ap (λ (b : Bool). bytes_eq name d.name || b) (taken_of name ds)
+
+live_of : (number : ℕ) (ds : List Document) → is_live number (map named_of ds) ≡ list_any (λ (d : Document). d.number == number) ds
+live_of number [] = refl
+live_of number (d ∷ ds) = ap (λ (b : Bool). (d.number == number) || b) (live_of number ds)
+
+left_of : (p : NameRow → Bool) (ds : List Document) → map named_of (filter (λ (d : Document). p (named_of d)) ds) ≡ filter p (map named_of ds)
+left_of p [] = refl
+left_of p (d ∷ ds) =
+    by_test (p (named_of d))
+    (λ yes. ap (λ (xs : List Document). map named_of xs) (filter_keep (λ (d : Document). p (named_of d)) d ds yes) ∙ ap (λ (rows : List NameRow). named_of d ∷ rows) (left_of p ds)
+    ∙ sym (filter_keep p (named_of d) (map named_of ds) yes))
+    (λ no. ap (λ (xs : List Document). map named_of xs) (filter_drop (λ (d : Document). p (named_of d)) d ds no) ∙ left_of p ds ∙ sym (filter_drop p (named_of d) (map named_of ds) no))
+
+known_with : ℕ → List NameRow → Known
+known_with next live = record { next = next; live = live }
+
+-- what is known of the state behind an entry is what is known behind it
+pub known_entry : (s : State) (entry : Entry) → known_of (after_entry s entry) ≡ known_behind (known_of s) entry
+unfolding known_with
+known_entry s (Add name title body) = ap (known_with (s.next + 1)) (map-append named_of s.documents _)
+known_entry s (Delete number) = ap (known_with s.next) (left_of (λ (row : NameRow). not (row.number == number)) s.documents)
+
+-- ---- an entry is admitted where the state allows it
+
+not_true : (b : Bool) → not b ≡ true → b ≡ false
+not_true true e = absurd (false≢true e)
+not_true false e = refl
+
+and_left : (a b : Bool) → (a && b) ≡ true → a ≡ true
+and_left true b e = refl
+and_left false b e = absurd (false≢true e)
+
+and_right : (a b : Bool) → (a && b) ≡ true → b ≡ true
+and_right true b e = e
+and_right false b e = absurd (false≢true e)
+
+and_both : (a b : Bool) → a ≡ true → b ≡ true → (a && b) ≡ true
+and_both true true e f = refl
+and_both true false e f = f
+and_both false b e f = absurd (false≢true e)
+
+below_from : (a b : ℕ) → nat_lt a b ≡ true → a < b
+below_from a b e = ⊎_elim (λ below. below) (λ above. absurd (false≢true (sym (le-ltb a b above) ∙ e))) (cases_lt a b)
+
+pub allowed_from : (s : State) (entry : Entry) → admits (known_of s) entry ≡ true → Allows s entry
+allowed_from s (Add name title body) e = (
+  sym (taken_of name s.documents) ∙ not_true (is_taken name (map named_of s.documents)) (and_left (not (is_taken name (map named_of s.documents))) (nat_lt s.next 4294967296) e),
+  below_from s.next 4294967296 (and_right (not (is_taken name (map named_of s.documents))) (nat_lt s.next 4294967296) e),
+)
+allowed_from s (Delete number) e = sym (live_of number s.documents) ∙ e
+
+pub admitted_from : (s : State) (entry : Entry) → Allows s entry → admits (known_of s) entry ≡ true
+admitted_from s (Add name title body) allows =
+    and_both (not (is_taken name (map named_of s.documents))) (nat_lt s.next 4294967296) (ap not (taken_of name s.documents ∙ allows.0)) (lt-ltb s.next 4294967296 allows.1)
+admitted_from s (Delete number) allows = live_of number s.documents ∙ allows
+
+-- ---- entries one after the other
+
+abbrev replay_at : Known → Placed → List Placed → Bool → Result Known ℕ
+replay_at known p more b = cond b (replayed (known_behind known p.entry) more) (Err (p.place + 5))
+
+-- entries that are admitted are those that the state allows
+pub allows_replayed : (s : State) (place : ℕ) (entries : List Entry) (known : Known) → replayed (known_of s) (placed place entries) ≡ Ok known → AllowsAll s entries × (known ≡ known_of (after_entries s entries))
+allows_replayed s place [] known e = (tt, sym (one_value {E = ℕ} (Ok (known_of s)) (known_of s) known refl e))
+allows_replayed s place (entry ∷ entries) known e =
+    by_test (admits (known_of s) entry)
+    (λ yes. let rest : replayed (known_behind (known_of s) entry) (placed (place + length (record_of entry)) entries) ≡ Ok known =
+    sym (ap (replay_at (known_of s) (record { place = place; entry = entry }) (placed (place + length (record_of entry)) entries)) yes) ∙ e in
+    let more = allows_replayed (after_entry s entry) (place + length (record_of entry)) entries known (ap (λ (k : Known). replayed k (placed (place + length (record_of entry)) entries)) (known_entry s entry) ∙ rest) in
+    ((allowed_from s entry yes, more.0), more.1))
+    (λ no. absurd (not_failed (replayed (known_of s) (placed place (entry ∷ entries))) known (place + 5) e
+    (ap (replay_at (known_of s) (record { place = place; entry = entry }) (placed (place + length (record_of entry)) entries)) no)))
+
+pub replayed_allows : (s : State) (place : ℕ) (entries : List Entry) → AllowsAll s entries → replayed (known_of s) (placed place entries) ≡ Ok (known_of (after_entries s entries))
+replayed_allows s place [] all = refl
+replayed_allows s place (entry ∷ entries) all =
+    ap (replay_at (known_of s) (record { place = place; entry = entry }) (placed (place + length (record_of entry)) entries)) (admitted_from s entry all.0)
+    ∙ ap (λ (k : Known). replayed k (placed (place + length (record_of entry)) entries)) (sym (known_entry s entry))
+    ∙ replayed_allows (after_entry s entry) (place + length (record_of entry)) entries all.1
+
+-- ---- order
+
+pub ordered_snoc : (rows : List NameRow) (row : NameRow) → AreOrdered rows → All (λ (earlier : NameRow). IsBefore earlier row) rows → AreOrdered (rows ++ row ∷ [])
+ordered_snoc [] row ordered before = (All-nil (IsBefore row), tt)
+ordered_snoc (r ∷ rows) row ordered before = (
+  All-append (IsBefore r) rows (row ∷ []) ordered.0 (All-cons (IsBefore r) row [] (All-head (λ (earlier : NameRow). IsBefore earlier row) r rows before) (All-nil (IsBefore r))),
+  ordered_snoc rows row ordered.1 (All-tail (λ (earlier : NameRow). IsBefore earlier row) r rows before),
+)
+
+pub ordered_left : (p : NameRow → Bool) (rows : List NameRow) → AreOrdered rows → AreOrdered (filter p rows)
+ordered_left p [] ordered = tt
+ordered_left p (row ∷ rows) ordered =
+    by_test (p row)
+    (λ yes. subst AreOrdered (sym (filter_keep p row rows yes)) (All-filter p (IsBefore row) rows ordered.0, ordered_left p rows ordered.1))
+    (λ no. subst AreOrdered (sym (filter_drop p row rows no)) (ordered_left p rows ordered.1))
+
+abbrev pub IsWithin : ℕ → NameRow → Type 0
+IsWithin next row = (1 ≤ row.number) × (row.number < next)
+
+pub all_weaker : {X : Type 0} (P Q : X → Type 0) (xs : List X) → ((x : X) → P x → Q x) → All P xs → All Q xs
+all_weaker P Q [] weaker all = All-nil Q
+all_weaker P Q (x ∷ xs) weaker all = All-cons Q x xs (weaker x (All-head P x xs all)) (all_weaker P Q xs weaker (All-tail P x xs all))
+
+or_false_left : (a b : Bool) → (a || b) ≡ false → a ≡ false
+or_false_left true b e = e
+or_false_left false b e = refl
+
+or_false_right : (a b : Bool) → (a || b) ≡ false → b ≡ false
+or_false_right true b e = absurd (false≢true (sym e))
+or_false_right false b e = e
+
+-- none of the live documents has the name
+pub all_others : (name : List ℕ) (rows : List NameRow) → is_taken name rows ≡ false → All (λ (row : NameRow). row.name ≢ name) rows
+all_others name [] none = All-nil (λ (row : NameRow). row.name ≢ name)
+all_others name (row ∷ rows) none =
+    All-cons (λ (row : NameRow). row.name ≢ name) row rows
+    (λ same. false≢true (sym (or_false_left (bytes_eq name row.name) (is_taken name rows) none) ∙ ap (λ (n : List ℕ). bytes_eq name n) same ∙ bytes_same name))
+    (all_others name rows (or_false_right (bytes_eq name row.name) (is_taken name rows) none))
+
+pub all_both : {X : Type 0} (P Q : X → Type 0) (xs : List X) → All P xs → All Q xs → All (λ x. P x × Q x) xs
+all_both P Q [] p q = All-nil (λ x. P x × Q x)
+all_both P Q (x ∷ xs) p q = All-cons (λ x. P x × Q x) x xs (All-head P x xs p, All-head Q x xs q) (all_both P Q xs (All-tail P x xs p) (All-tail Q x xs q))
+
+-- order is kept by an entry that is admitted
+pub ordered_entry : (known : Known) (entry : Entry) → IsOrdered known → admits known entry ≡ true → 1 ≤ known.next → IsOrdered (known_behind known entry)
+ordered_entry known (Add name title body) ordered admitted some = record {
+  ordered =
+      ordered_snoc known.live (named name known.next) ordered.ordered
+      (all_both (λ (row : NameRow). row.number < known.next) (λ (row : NameRow). row.name ≢ name) known.live (all_weaker (IsWithin known.next) (λ (row : NameRow). row.number < known.next) known.live (λ row w. w.1) ordered.within)
+      (all_others name known.live (not_true (is_taken name known.live) (and_left (not (is_taken name known.live)) (nat_lt known.next 4294967296) admitted))));
+  within =
+      All-append (IsWithin (known.next + 1)) known.live (named name known.next ∷ []) (all_weaker (IsWithin known.next) (IsWithin (known.next + 1)) known.live (λ row w. (w.0, omega (arith, w.1))) ordered.within)
+      (All-cons (IsWithin (known.next + 1)) (named name known.next) [] (some, omega arith) (All-nil (IsWithin (known.next + 1))));
+}
+ordered_entry known (Delete number) ordered admitted some = record {
+  ordered = ordered_left (λ (row : NameRow). not (row.number == number)) known.live ordered.ordered;
+  within = All-filter (λ (row : NameRow). not (row.number == number)) (IsWithin known.next) known.live ordered.within;
+}
+
+-- the state of a command keeps order
+pub ordered_allowed : (s : State) (entry : Entry) → IsOrdered (known_of s) → 1 ≤ s.next → Allows s entry → IsOrdered (known_of (after_entry s entry))
+ordered_allowed s entry ordered some allows = subst IsOrdered (sym (known_entry s entry)) (ordered_entry (known_of s) entry ordered (admitted_from s entry allows) some)
+
+next_grows : (s : State) (entry : Entry) → 1 ≤ s.next → 1 ≤ (after_entry s entry).next
+next_grows s (Add name title body) some = omega (arith, some)
+next_grows s (Delete number) some = some
+
+pub ordered_all : (s : State) (entries : List Entry) → IsOrdered (known_of s) → 1 ≤ s.next → AllowsAll s entries → IsOrdered (known_of (after_entries s entries))
+ordered_all s [] ordered some all = ordered
+ordered_all s (entry ∷ entries) ordered some all = ordered_all (after_entry s entry) entries (ordered_allowed s entry ordered some all.0) (next_grows s entry some) all.1
+
+-- and so does one that leaves out a name
+pub ordered_deleted : (s : State) (name : List ℕ) → IsOrdered (known_of s) → IsOrdered (known_of (with_deleted name s))
+unfolding known_with
+ordered_deleted s name ordered =
+    subst IsOrdered (ap (known_with s.next) (sym (left_of (λ (row : NameRow). not (bytes_eq name row.name)) s.documents)))
+    (record {
+      ordered = ordered_left (λ (row : NameRow). not (bytes_eq name row.name)) (map named_of s.documents) ordered.ordered;
+      within = All-filter (λ (row : NameRow). not (bytes_eq name row.name)) (IsWithin s.next) (map named_of s.documents) ordered.within;
+    })

@@ -1,0 +1,10 @@
+pub mod Broken
+pub mod Calls
+pub mod Chain
+pub mod Holding
+pub mod Known
+pub mod Opened
+pub mod Ordered
+pub mod Standing
+pub mod Switching
+pub mod Working
