@@ -1,69 +1,25 @@
 -- Laws of lines that add.
-use Rattle.std.proofs.Common.{◌≡◌, ◌≢◌, ℕ, zero, suc, ◌<◌, ◌≤◌, ◌⊎◌, inl, inr, Bool, true, false, ◌&&◌, ◌||◌, ◌==◌, nat_le, List, [], ◌∷◌, ◌++◌, length, refl, ap, sym, subst, ◌∙◌, arith, codes, decimal, if◌then◌else◌, length-append, slice_index_or}
+use Rattle.std.proofs.Common.{◌≡◌, ◌≢◌, ℕ, ◌<◌, ◌≤◌, ◌⊎◌, inl, inr, Bool, true, false, ◌||◌, ◌==◌, nat_le, List, [], ◌∷◌, ◌++◌, length, refl, ap, sym, subst, ◌∙◌, arith, codes, decimal, if◌then◌else◌, length-append}
 use Rattle.std.proofs.lemmas.Bool.{cases_lt}
 use Rattle.std.proofs.lemmas.Grind.{common_steps}
-use Rattle.std.specs.List.{All, list_all, list_any}
-use Rattle.alta_codec.specs.Name.{IsName, IsGraphic}
+use Rattle.std.specs.List.{list_any}
+use Rattle.alta_codec.specs.Name.{IsName}
 use Rattle.alta_console.specs.Lines.{NoNewline}
 use Rattle.alta_disk.specs.Disk.{DiskState, LeavesOnly}
 use Rattle.alta_meta.specs.declared.document.State.{State}
 use Rattle.alta_model.specs.Command.{Reads, adds}
 use Rattle.alta_model.specs.Faults.{IsText}
-use Rattle.alta_session.specs.Machine.{is_name, adding, IsRefusal}
+use Rattle.alta_codec.proofs.NameLaws.{name_is, name_is_not}
+use Rattle.alta_session.specs.Machine.{adding, IsRefusal}
 use Rattle.alta_store.specs.Meaning.{StandsForEither}
 use Rattle.alta_store.specs.States.{has_name, with_added, IsDocument}
-
--- a name, as a test
-graphic_is : (b : ℕ) → IsGraphic b → (nat_le 33 b && nat_le b 126) ≡ true
-graphic_is b between = let low : 33 ≤ b = between.0 in let high : b ≤ 126 = between.1 in grind (arith, common_steps)
-
-graphic_of : (b : ℕ) → (nat_le 33 b && nat_le b 126) ≡ true → IsGraphic b
-graphic_of b test = (grind (arith, common_steps), grind (arith, common_steps))
-
-all_graphic : (xs : List ℕ) → All IsGraphic xs → list_all (λ b. nat_le 33 b && nat_le b 126) xs ≡ true
-all_graphic [] all = refl
-all_graphic (x ∷ xs) all =
-    let first : (nat_le 33 x && nat_le x 126) ≡ true = graphic_is x (all 0 0 (omega arith)) in
-    let rest : list_all (λ b. nat_le 33 b && nat_le b 126) xs ≡ true = all_graphic xs (λ k d l. all (suc k) d (omega arith)) in
-    ap (λ (t : Bool). t && list_all (λ b. nat_le 33 b && nat_le b 126) xs) first ∙ rest
-
-graphic_at : (x : ℕ) (xs : List ℕ) → IsGraphic x → All IsGraphic xs → (k d : ℕ) → k < length (x ∷ xs) → IsGraphic (slice_index_or (x ∷ xs) k d)
-graphic_at x xs first rest zero d l = first
-graphic_at x xs first rest (suc k) d l = rest k d (omega arith)
-
-all_graphic_of : (xs : List ℕ) → list_all (λ b. nat_le 33 b && nat_le b 126) xs ≡ true → All IsGraphic xs
-all_graphic_of [] test = λ k d l. absurd (omega arith)
-all_graphic_of (x ∷ xs) test =
-    let first : (nat_le 33 x && nat_le x 126) ≡ true = grind (arith, common_steps) in
-    let rest : list_all (λ b. nat_le 33 b && nat_le b 126) xs ≡ true = grind (arith, common_steps) in
-    graphic_at x xs (graphic_of x first) (all_graphic_of xs rest)
-
-pub name_is : (name : List ℕ) → IsName name → is_name name ≡ true
-unfolding is_name
-name_is name named =
-    let all : list_all (λ b. nat_le 33 b && nat_le b 126) name ≡ true = all_graphic name named.2 in
-    let low : 1 ≤ length name = named.0 in
-    let high : length name ≤ 64 = named.1 in
-    grind (arith, common_steps)
-
-name_of : (name : List ℕ) → is_name name ≡ true → IsName name
-unfolding is_name
-name_of name test = (
-  grind (arith, common_steps),
-  grind (arith, common_steps),
-  all_graphic_of name (let all : list_all (λ b. nat_le 33 b && nat_le b 126) name ≡ true = grind (arith, common_steps) in all),
-)
-
-pub name_is_not : (name : List ℕ) → (IsName name → ⊥) → (b : Bool) → is_name name ≡ b → b ≡ false
-name_is_not name other true test = absurd (other (name_of name test))
-name_is_not name other false test = refl
 
 -- what adding answers
 pub adding_bad : (name title body : List ℕ) (s : State) → (IsName name → ⊥) → adding name title body s ≡ (s, codes "! bad name\n")
 unfolding adding
 adding_bad name title body s other =
     ap (λ (b : Bool). if b then (if has_name name s then (s, codes "! name taken\n") else (if nat_le 4294967296 s.next then (s, codes "! no numbers left\n") else (with_added name title body s, codes "added " ++ decimal s.next ++ codes "\n"))) else (s, codes "! bad name\n"))
-    (name_is_not name other (is_name name) refl)
+    (name_is_not name other)
 
 adding_named : (name title body : List ℕ) (s : State) → IsName name
     → adding name title body s ≡ (if has_name name s then (s, codes "! name taken\n") else (if nat_le 4294967296 s.next then (s, codes "! no numbers left\n") else (with_added name title body s, codes "added " ++ decimal s.next ++ codes "\n")))

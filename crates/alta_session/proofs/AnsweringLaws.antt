@@ -12,7 +12,6 @@ use Rattle.alta_session.specs.declared.session.Session.{Session}
 use Rattle.alta_session.proofs.AgreementLaws.{agrees_changed}
 use Rattle.alta_session.proofs.FullnessLaws.{none_added}
 use Rattle.alta_store.specs.Agreement.{Agrees}
-use Rattle.alta_store.specs.Answers.{IsOutside}
 use Rattle.alta_store.specs.Meaning.{StandsForEither}
 use Rattle.alta_store.specs.declared.fault.StoreFault.{StoreFault}
 use Rattle.alta_store.specs.declared.fault.StoreFault.TheVariants.{Disk, Memory, Full}

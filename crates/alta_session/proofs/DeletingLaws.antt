@@ -8,10 +8,11 @@ use Rattle.alta_codec.specs.Name.{IsName}
 use Rattle.alta_disk.specs.Disk.{DiskState, LeavesOnly}
 use Rattle.alta_meta.specs.declared.document.Document.{Document}
 use Rattle.alta_meta.specs.declared.document.State.{State}
-use Rattle.alta_session.specs.Machine.{is_name, deleted_as, deleting, stats_of, IsRefusal}
+use Rattle.alta_codec.specs.Name.{is_name}
+use Rattle.alta_codec.proofs.NameLaws.{name_is, name_is_not}
+use Rattle.alta_session.specs.Machine.{deleted_as, deleting, stats_of, IsRefusal}
 use Rattle.alta_store.specs.Meaning.{StandsForEither}
 use Rattle.alta_store.specs.States.{has_name, number_of, words_in, with_deleted}
-use Rattle.alta_session.proofs.AddingLaws.{name_is, name_is_not}
 use Rattle.alta_session.proofs.SearchLaws.{some_behind}
 
 -- what is found, and what is left out, in a list
@@ -65,7 +66,7 @@ numbered_named name s n is = elim (has_name name s) as (λ b. has_name name s �
 pub deleting_bad : (name : List ℕ) (s : State) → (IsName name → ⊥) → deleting name s ≡ (s, codes "! bad name\n")
 unfolding deleting
 deleting_bad name s other =
-    ap (λ (b : Bool). if b then deleted_as (number_of name s) name s else (s, codes "! bad name\n")) (name_is_not name other (is_name name) refl)
+    ap (λ (b : Bool). if b then deleted_as (number_of name s) name s else (s, codes "! bad name\n")) (name_is_not name other)
 
 deleting_named : (name : List ℕ) (s : State) → IsName name → deleting name s ≡ deleted_as (number_of name s) name s
 unfolding deleting

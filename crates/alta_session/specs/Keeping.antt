@@ -1,6 +1,7 @@
 -- What is kept of a line that has begun.
-use Rattle.std.specs.Prelude.{ℕ, List, take}
+use Rattle.std.specs.Prelude.{ℕ, ◌+◌, List, take}
+use Rattle.alta_model.specs.declared.line.TheConstants.{LINE_LIMIT}
 
 -- one byte more than a line may have
 unfoldable pub clip : List ℕ → List ℕ
-clip line = take 65536 line
+clip line = take (LINE_LIMIT + 1) line

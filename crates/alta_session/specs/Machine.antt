@@ -1,6 +1,7 @@
 -- The abstract machine: what each line answers, and the machine after it.
-use Rattle.std.specs.Prelude.{◌≡◌, ℕ, Bool, true, ◌&&◌, List, [], ◌∷◌, ◌++◌, length, if◌then◌else◌, nat_le, nat_eq, codes, decimal, Option, Some, None}
-use Rattle.std.specs.List.{list_all, starts_with}
+use Rattle.std.specs.Prelude.{◌≡◌, ℕ, true, List, [], ◌∷◌, ◌++◌, length, if◌then◌else◌, nat_le, nat_eq, codes, decimal, Option, Some, None}
+use Rattle.std.specs.List.{starts_with}
+use Rattle.alta_codec.specs.Name.{is_name}
 use Rattle.alta_meta.specs.declared.document.Document.{Document}
 use Rattle.alta_meta.specs.declared.document.State.{State}
 use Rattle.alta_model.specs.Command.{Command, adds, deletes, searches, counts, explains, opens, fetches, closes, flushes, merges, steps, asks_stats}
@@ -23,10 +24,6 @@ pub record Machine : Type 0 where
 -- with this state, and no cursor
 abbrev pub started_at : State → Machine
 started_at s = record { state = s; cursors = [] }
-
--- 1 to 64 graphic ASCII bytes
-unfoldable pub is_name : List ℕ → Bool
-is_name name = nat_le 1 (length name) && nat_le (length name) 64 && list_all (λ b. nat_le 33 b && nat_le b 126) name
 
 -- the reply to a line that is refused
 abbrev pub refusal : LineFault → List ℕ

@@ -6,6 +6,7 @@ ghost use Rattle.alta_disk.specs.Disk.{DiskState};
 ghost use Rattle.alta_meta.specs.declared.document.State.{State};
 ghost use Rattle.alta_session.specs.Answering.{CanAnswer};
 ghost use Rattle.alta_session.specs.Fed.{Fed};
+ghost use Rattle.alta_model.specs.declared.line.TheConstants.{LINE_LIMIT};
 ghost use Rattle.alta_session.specs.Keeping.{clip};
 ghost use Rattle.alta_session.specs.Fullness.{IsFull};
 ghost use Rattle.alta_session.specs.Progress.{StopsWithin};
@@ -19,11 +20,12 @@ use crate::status::status_of;
 use crate::{Session, Status};
 use alta_console::Console;
 use alta_disk::Disk;
+use alta_model::LINE_LIMIT;
 use memchr::memchr;
 use std::alloc::Global;
 
 // A line of more bytes than this is refused, and no more of it is kept.
-const KEPT: usize = 65_536;
+const KEPT: usize = LINE_LIMIT + 1;
 
 // How many bytes a take asks for.
 const PIECE: usize = 65_536;
@@ -63,7 +65,7 @@ fn answer<C: Console, D: Disk>(
 
 // Keeps more of a line that has begun, as far as it may still be answered.
 fn keep(begun: &mut Vec<u8>, bytes: &[u8]) -> Result<(), Status>
-    requires { length begun.old.items ≤ 65536 }
+    requires { length begun.old.items ≤ LINE_LIMIT + 1 }
     ensures kept { OnOk result (begun.new.items ≡ clip (begun.old.items ++ bytes.now)) }
     ensures memory { IfErr result (λ status. status ≡ Status.Memory) }
 {
@@ -83,7 +85,7 @@ fn end_line<C: Console, D: Disk>(
     begun: &mut Vec<u8>,
     rest: &[u8],
 ) -> Result<(), Status>
-    requires short { length begun.old.items ≤ 65536 }
+    requires short { length begun.old.items ≤ LINE_LIMIT + 1 }
     requires begun_free { NoNewline begun.old.items }
     requires rest_free { NoNewline rest.now }
     requires can { CanAnswer D.tells (D.state disk.old) session.old }
@@ -128,7 +130,7 @@ fn feed_line<C: Console, D: Disk>(
     bytes: &[u8],
 ) -> Result<usize, Status>
     requires some_bytes { 0 < length bytes.now }
-    requires short { length begun.old.items ≤ 65536 }
+    requires short { length begun.old.items ≤ LINE_LIMIT + 1 }
     requires free { NoNewline begun.old.items }
     requires can { CanAnswer D.tells (D.state disk.old) session.old }
     ensures within { IfOk result (λ n. n ≤ length bytes.now) }
@@ -136,7 +138,7 @@ fn feed_line<C: Console, D: Disk>(
     ensures ok { IfOk result (λ n. Fed D.tells (C.told console.old) (C.told console.new) (D.state disk.old) (D.state disk.new) session.old session.new (whole_from begun.old.items (take n bytes.now))) }
     ensures begun { IfOk result (λ n. clip begun.new.items ≡ clip (begun_from begun.old.items (take n bytes.now))) }
     ensures err { IfErr result (StopsWithin D.tells (C.told console.old) (C.told console.new) (D.state disk.old) (D.state disk.new) session.old (whole_from begun.old.items bytes.now)) }
-    ensures short { OnOk result (length begun.new.items ≤ 65536) }
+    ensures short { OnOk result (length begun.new.items ≤ LINE_LIMIT + 1) }
     ensures free { OnOk result (NoNewline begun.new.items) }
     ensures can { OnOk result (CanAnswer D.tells (D.state disk.new) session.new) }
     ensures ends { IfErr result EndsLine }
@@ -170,13 +172,13 @@ fn feed<C: Console, D: Disk>(
     begun: &mut Vec<u8>,
     piece: &[u8],
 ) -> Result<(), Status>
-    requires short { length begun.old.items ≤ 65536 }
+    requires short { length begun.old.items ≤ LINE_LIMIT + 1 }
     requires free { NoNewline begun.old.items }
     requires can { CanAnswer D.tells (D.state disk.old) session.old }
     ensures ok { OnOk result (Fed D.tells (C.told console.old) (C.told console.new) (D.state disk.old) (D.state disk.new) session.old session.new (whole_from begun.old.items piece.now)) }
     ensures begun { OnOk result (clip begun.new.items ≡ clip (begun_from begun.old.items piece.now)) }
     ensures err { IfErr result (StopsWithin D.tells (C.told console.old) (C.told console.new) (D.state disk.old) (D.state disk.new) session.old (whole_from begun.old.items piece.now)) }
-    ensures short { OnOk result (length begun.new.items ≤ 65536) }
+    ensures short { OnOk result (length begun.new.items ≤ LINE_LIMIT + 1) }
     ensures free { OnOk result (NoNewline begun.new.items) }
     ensures can { OnOk result (CanAnswer D.tells (D.state disk.new) session.new) }
     ensures ends { IfErr result EndsLine }

@@ -1,4 +1,4 @@
-use Rattle.std.proofs.Common.{◌≡◌, ◌⊎◌, ◌+◌, ℕ, false, List, inl, inr, length, ap, sym, subst, ◌∙◌, Err, rules, arith}
+use Rattle.std.proofs.Common.{◌≡◌, ◌⊎◌, ◌+◌, ℕ, List, inl, inr, length, ap, sym, subst, ◌∙◌, Err, rules, arith}
 use Rattle.std.specs.Prelude.{Some}
 use Rattle.alta_disk.specs.Disk.{LeavesOnly}
 use Rattle.alta_journal.specs.Record.{body_of}

@@ -1,4 +1,4 @@
-use Rattle.std.proofs.Common.{◌+◌, ℕ, List, length, subst, Result, Err}
+use Rattle.std.proofs.Common.{◌+◌, ℕ, List, length, subst, Result}
 use Rattle.alta_session.specs.Answering.{Answers}
 use Rattle.alta_session.specs.Machine.{step}
 use Rattle.alta_store.specs.declared.fault.StoreFault.{StoreFault}
