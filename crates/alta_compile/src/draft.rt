@@ -2,8 +2,7 @@
 ghost use Rattle.std.specs.Prelude.{◌≡◌, ℕ, suc, ◌+◌, ◌<◌, ◌≤◌, List, [], ◌∷◌, ◌++◌, map, length, IfOk, OnOk};
 ghost use Rattle.alta_docread.specs.Solutions.{IsHeld};
 ghost use Rattle.alta_query.specs.Patterns.{neighbours, before_end, title_end, near_pattern, phrase_pattern, titled, pattern_of};
-ghost use Rattle.alta_query.specs.View.{atom_view, side_view};
-ghost use Rattle.alta_query.specs.Patterns as pattern;
+ghost use Rattle.alta_query.specs.View.{atom_view};
 ghost use Rattle.alta_query.specs.declared.test.Test.TheVariants.{Is};
 ghost use Rattle.alta_solver.specs.Inequality.{IsNamed};
 ghost use Rattle.alta_solver.specs.declared.form.Form.TheVariants.{LocLoc};
@@ -12,39 +11,18 @@ ghost use Rattle.alta_compile.specs.PlanOf.{upper, lower, held};
 
 use crate::plan::FoundPlan;
 use alta_codec::Bytes;
-use alta_meta::kinds::{NAME, TITLE_END};
-use alta_query::{Atom, Side, Test, Tests};
+use alta_meta::kinds::{NAME, TITLE_END, term};
+use alta_query::{Atom, Test, Tests};
 use alta_solver::{Bound, Form, System};
 use std::alloc::{AllocError, Global};
 use std::slice;
-
-/// A test again, in memory of its own.
-fn copy_test(test: &Test) -> Result<Test, AllocError>
-    ensures { IfOk result (λ t. t ≡ test.now) }
-{
-    match test {
-        Test::Is(term) => Ok(Test::Is(term.copy()?)),
-        Test::Begins(start) => Ok(Test::Begins(start.copy()?)),
-    }
-}
-
-/// The term of a kind with the rest behind it.
-fn term(alloc: Global, kind: u8, rest: &[u8]) -> Result<Bytes, AllocError>
-    ensures { IfOk result (λ t. t ≡ kind ∷ rest.now) }
-{
-    let mut bytes = Vec::with_capacity(alloc, 1 + rest.len())?;
-    bytes.push(kind)?;
-    bytes.extend_from_slice(rest)?;
-    Ok(Bytes::from_vec(bytes))
-}
 
 /// Tests again, behind those that are there.
 fn push_tests(out: &mut Vec<Test>, tests: &[Test]) -> Result<(), AllocError>
     ensures { OnOk result (out.new.items ≡ out.old.items ++ tests.now) }
 {
     for test in tests {
-        let copy = copy_test(test)?;
-        out.push(copy)?;
+        out.push(test.copy()?)?;
     }
     Ok(())
 }
@@ -98,15 +76,6 @@ fn push_held(out: &mut Vec<Bound>, count: usize) -> Result<(), AllocError>
     Ok(())
 }
 
-/// The test of a side of a NEAR.
-fn test_of(side: &Side) -> &Test
-    ensures { result.now ≡ pattern.test_of (side_view side.now) }
-{
-    match side {
-        Side::Word { test, .. } | Side::Stem { test, .. } => test,
-    }
-}
-
 /// Tests, and bounds between the variables of them: variable 0 is the end of a document, variable i has test i - 1.
 #[derive(Drop)]
 pub(crate) struct Draft {
@@ -141,7 +110,7 @@ impl Draft {
                 left,
                 distance,
                 right,
-            } => self.add_near(test_of(left), *distance, test_of(right)),
+            } => self.add_near(left.test(), *distance, right.test()),
             Atom::Name { name } => {
                 let term = term(alloc, NAME, name.as_str().as_bytes())?;
                 self.add_term(term)
@@ -169,8 +138,8 @@ impl Draft {
         ensures { OnOk result (IsAdded self.old self.new (near_pattern left.now distance right.now)) }
     {
         let base = self.tests.len();
-        self.tests.push(copy_test(left)?)?;
-        self.tests.push(copy_test(right)?)?;
+        self.tests.push(left.copy()?)?;
+        self.tests.push(right.copy()?)?;
         self.bounds.push(within(base + 1, base + 2, distance))?;
         self.bounds.push(within(base + 2, base + 1, distance))?;
         Ok(())

@@ -1,14 +1,12 @@
 // From query to uses.
 ghost use Rattle.std.specs.Prelude.{◌≡◌, ◌∷◌, ◌++◌, [], false, map, IfOk, OnOk};
-ghost use Rattle.alta_query.specs.Patterns as pattern;
-ghost use Rattle.alta_query.specs.View.{shape, atom_view, side_view};
+ghost use Rattle.alta_query.specs.View.{shape, atom_view};
 ghost use Rattle.alta_query.specs.Words.{name_test};
 ghost use Rattle.alta_rank.specs.Uses.{use_of, atom_uses, uses_of};
 
 use crate::usage::{Use, Uses};
-use alta_codec::Bytes;
-use alta_meta::kinds::NAME;
-use alta_query::{Atom, Query, Side, Test};
+use alta_meta::kinds::{NAME, term};
+use alta_query::{Atom, Query, Test};
 use std::alloc::{AllocError, Global};
 use std::slice::from_ref;
 
@@ -45,7 +43,7 @@ fn push_atom(alloc: Global, out: &mut Vec<Use>, atom: &Atom) -> Result<(), Alloc
     match atom {
         Atom::Words { title, tests, .. } => push_tests(out, *title, tests.as_slice()),
         Atom::Prefix { title, test, .. } => push_tests(out, *title, from_ref(test)),
-        Atom::Near { left, right, .. } => push_near(out, test_of(left), test_of(right)),
+        Atom::Near { left, right, .. } => push_near(out, left.test(), right.test()),
         Atom::Name { name } => push_name(alloc, out, name.as_str()),
     }
 }
@@ -55,7 +53,7 @@ fn push_tests(out: &mut Vec<Use>, title: bool, tests: &[Test]) -> Result<(), All
     ensures { OnOk result (out.new.items ≡ out.old.items ++ map (use_of title) tests.now) }
 {
     for test in tests {
-        let test = copy_test(test)?;
+        let test = test.copy()?;
         out.push(Use { title, test })?;
     }
     Ok(())
@@ -73,36 +71,7 @@ fn push_near(out: &mut Vec<Use>, left: &Test, right: &Test) -> Result<(), AllocE
 fn push_name(alloc: Global, out: &mut Vec<Use>, name: &str) -> Result<(), AllocError>
     ensures { OnOk result (out.new.items ≡ out.old.items ++ use_of false (name_test name.now) ∷ []) }
 {
-    let test = Test::Is(name_term(alloc, name)?);
+    let test = Test::Is(term(alloc, NAME, name.as_bytes())?);
     out.push(Use { title: false, test })?;
     Ok(())
-}
-
-/// The term of a name.
-fn name_term(alloc: Global, name: &str) -> Result<Bytes, AllocError>
-    ensures { IfOk result (λ t. t ≡ NAME ∷ name.now) }
-{
-    let mut bytes = Vec::with_capacity(alloc, 1 + name.len())?;
-    bytes.push(NAME)?;
-    bytes.extend_from_slice(name.as_bytes())?;
-    Ok(Bytes::from_vec(bytes))
-}
-
-/// A test again, in memory of its own.
-fn copy_test(test: &Test) -> Result<Test, AllocError>
-    ensures { IfOk result (λ t. t ≡ test.now) }
-{
-    match test {
-        Test::Is(term) => Ok(Test::Is(term.copy()?)),
-        Test::Begins(start) => Ok(Test::Begins(start.copy()?)),
-    }
-}
-
-/// The test of a side of a NEAR.
-fn test_of(side: &Side) -> &Test
-    ensures { result.now ≡ pattern.test_of (side_view side.now) }
-{
-    match side {
-        Side::Word { test, .. } | Side::Stem { test, .. } => test,
-    }
 }
