@@ -1,0 +1,7 @@
+//! Searches of snapshots that are made by hand, compared with the plain match of a query with a document.
+#![tactic(auto)]
+
+#[cfg(test)]
+mod tests;
+#[cfg(test)]
+mod worked;

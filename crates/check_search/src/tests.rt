@@ -1,0 +1,168 @@
+// What searches, counts and pages of the two documents answer, beside what their queries match.
+ghost use Rattle.std.specs.Prelude.{◌≡◌, ◌<◌};
+
+use crate::worked::{deleted, snapshot};
+use alta_codec::{Steps, Text};
+use alta_compile::{Plan, compile};
+use alta_meta::{Cells, Document, cells};
+use alta_model::matches;
+use alta_query::{Query, parse};
+use alta_search::{Cursor, Page, count, search};
+use std::alloc::{AllocError, Global};
+use std::marker::Brand;
+use std::sync::ledger::{Blank, Ledger};
+use std::test::Fail;
+
+/// A document of its texts.
+fn document(alloc: Global, name: &str, title: &str, body: &str) -> Result<Document, Fail> {
+    match cells(alloc, name, title, body) {
+        Ok(all) => Ok(Document {
+            number: 1,
+            name: Text::from_string(String::from_str(alloc, name)?),
+            cells: Cells::from_vec(all),
+        }),
+        Err(_) => Err(Fail::new("no cells")),
+    }
+}
+
+/// The names of the documents that the query matches and that are not deleted.
+fn matched(alloc: Global, query: &Query, gone: u8) -> Result<String, Fail> {
+    let first = document(alloc, "a", "Red Fox", "the quick red fox")?;
+    let second = document(alloc, "b", "Fox", "quick brown dog")?;
+    let mut names = String::new(alloc);
+    if gone != 1 && matches(query, &first) {
+        names.push_str("a")?;
+    }
+    if gone != 2 && matches(query, &second) {
+        names.push_str("b")?;
+    }
+    Ok(names)
+}
+
+/// Adds the names on a page, and a `+` where more are left.
+fn tell(told: &mut String, page: &Page) -> Result<(), AllocError> {
+    for i in 0..page.answers.len() {
+        told.push_str(page.answers.row(i).name.as_str())?;
+    }
+    if page.more {
+        told.push_str("+")?;
+    }
+    Ok(())
+}
+
+/// Adds what three pages of so many answers tell, each behind a `/`.
+fn tell_pages<L: Ledger>(
+    alloc: Global,
+    told: &mut String,
+    plan: Plan,
+    gone: u8,
+    size: u64,
+    steps: &mut Steps<L>,
+) -> Result<(), AllocError> {
+    let snapshot = snapshot(alloc, &plan, deleted(gone))?;
+    let mut cursor = Cursor::new(plan, snapshot);
+    for _page in 0..3u8 {
+        let page = cursor.fetch(alloc, size, steps)?;
+        told.push_str("/")?;
+        tell(told, &page)?;
+    }
+    Ok(())
+}
+
+/// What a search tells, and then one name fewer or more where the count is another.
+fn searched<L: Ledger>(
+    alloc: Global,
+    plan: &Plan,
+    gone: u8,
+    steps: &mut Steps<L>,
+) -> Result<String, AllocError> {
+    let mut told = String::new(alloc);
+    let snapshot = snapshot(alloc, plan, deleted(gone))?;
+    let page = search(alloc, plan, &snapshot, steps)?;
+    tell(&mut told, &page)?;
+    if count(alloc, plan, &snapshot, steps)? != page.answers.len() as u64 {
+        told.push_str("?")?;
+    }
+    Ok(told)
+}
+
+/// What a search tells, then pages of one answer, and pages of two.
+fn told<L: Ledger>(
+    alloc: Global,
+    query: &Query,
+    gone: u8,
+    steps: &mut Steps<L>,
+) -> Result<String, AllocError> {
+    let mut told = searched(alloc, &compile(alloc, query)?, gone, steps)?;
+    tell_pages(alloc, &mut told, compile(alloc, query)?, gone, 1, steps)?;
+    tell_pages(alloc, &mut told, compile(alloc, query)?, gone, 2, steps)?;
+    Ok(told)
+}
+
+fn counted<L: Ledger>(
+    alloc: Global,
+    query: &Query,
+    gone: u8,
+    blank: Blank,
+) -> Result<String, AllocError>
+    requires name { blank.name ≡ L.name }
+    requires parts { blank.parts ≡ L.parts }
+    requires shared { 0 < L.parts }
+{
+    let mut steps = Steps::<L>::new(blank);
+    told(alloc, query, gone, &mut steps)
+}
+
+/// The same, where nobody counts.
+fn uncounted(alloc: Global, query: &Query, gone: u8) -> Result<String, AllocError> {
+    counted::<Brand>(alloc, query, gone, Blank::new(1))
+}
+
+/// What is to be told where these are the answers.
+fn telling(names: &str) -> &'static str {
+    match names {
+        "ab" => "ab/a+/b//ab//",
+        "a" => "a/a///a//",
+        "b" => "b/b///b//",
+        _ => "//////",
+    }
+}
+
+/// A query, which document is deleted, and the answers.
+fn asked(k: u8) -> (&'static str, u8, &'static str) {
+    match k {
+        0 => ("fox", 0, "ab"),
+        1 => ("\"fox quick\"", 0, ""),
+        2 => ("\"red fox\" NOT brown", 0, "a"),
+        3 => ("red-fox NOT brown", 0, "a"),
+        4 => ("NOT zebra", 0, "ab"),
+        5 => ("qui* OR dog", 0, "ab"),
+        6 => ("title:quick", 0, ""),
+        7 => ("title:fox", 0, "ab"),
+        8 => ("name:b", 0, "b"),
+        9 => ("red NEAR/1 red", 0, "a"),
+        10 => ("Red", 0, "a"),
+        11 => ("RED", 0, ""),
+        12 => ("quick NOT red", 1, "b"),
+        13 => ("quick", 1, "b"),
+        14 => ("quick", 2, "a"),
+        15 => ("red OR brown", 1, "b"),
+        _ => ("zebra", 0, ""),
+    }
+}
+
+#[test]
+fn answers_are_the_matches(rt: HostRuntime) -> Result<(), Fail> {
+    let alloc = rt.alloc();
+    for k in 0..17 {
+        let (text, gone, names) = asked(k);
+        let Ok(query) = parse(alloc, text) else {
+            return Err(Fail::new("no query"));
+        };
+        let matched = matched(alloc, &query, gone)?;
+        assert_eq!(rt; matched.as_str(), names, "{text}");
+        let told = uncounted(alloc, &query, gone)?;
+        assert_eq!(rt; told.as_str(), telling(names), "{text}");
+    }
+    Ok(())
+}
