@@ -1,12 +1,14 @@
 -- Terms that are put behind one another.
-use Rattle.std.proofs.Common.{◌≡◌, ℕ, ◌<◌, List, [], ◌∷◌, ◌++◌, map, length, sym, subst, ap, ◌∙◌}
+use Rattle.std.proofs.Common.{◌≡◌, ℕ, ◌<◌, ◌≤◌, List, [], ◌∷◌, ◌++◌, map, length, get_or, sym, subst, ap, ◌∙◌, arith}
 use Rattle.std.specs.Prelude.{All}
 use Rattle.std.specs.List.{concat}
 use Rattle.std.specs.List.Sorted.{IsStrictlyIncreasing}
 use Rattle.std.proofs.lemmas.List.{map_push}
-use Rattle.std.proofs.lemmas.List.Elements.{All-nil, All-map}
+use Rattle.std.proofs.lemmas.List.Elements.{All-nil, All-map, All-head, All-tail, All-push}
 use Rattle.alta_codec.specs.Order.{Precedes}
 use Rattle.alta_codec.specs.Rising.{IsRising}
+use Rattle.alta_codec.specs.declared.location.TheConstants.{TOP}
+use Rattle.alta_compound.specs.Unions.{RisesAbove, rising_from_above, above_from_rising}
 use Rattle.alta_search.specs.Lists.{IsCut, AreKeys, key_of, term_in, term_lists}
 use Rattle.alta_search.specs.declared.lists.TermLists.{TermLists}
 use Rattle.alta_search.proofs.Cuts.{keys_none, keys_push}
@@ -25,3 +27,27 @@ put_keyed old new t term pushed keyed behind e levels =
     subst (λ x. All (λ q. Precedes q x) (map term_in (map key_of old))) (sym e)
     (All-map (λ q. Precedes q term) term_in (map key_of old) (All-map (λ k. Precedes (term_in k) term) key_of old behind)) in
     subst AreKeys (sym (ap (map key_of) pushed ∙ map_push key_of old t)) (keys_push (map key_of old) (key_of t) keyed named levels)
+
+-- ---- locations that are put behind one another
+
+rises_push : (low : ℕ) (xs : List ℕ) (x : ℕ) → RisesAbove low xs → All (λ y. y < x) xs → low < x → x < TOP → RisesAbove low (xs ++ x ∷ [])
+rises_push low [] x r h l t = (l, t, tt)
+rises_push low (y ∷ ys) x (a, b, r) h l t = (a, b, rises_push y ys x r (All-tail (λ z. z < x) y ys h) (All-head (λ z. z < x) y ys h) t)
+
+-- the list rises, and its elements are below the bound
+abbrev pub RisesBelow : ℕ → List ℕ → Type 0
+RisesBelow bound xs = IsRising xs × All (λ y. y < bound) xs
+
+pub none_rise : (bound : ℕ) → RisesBelow bound []
+none_rise bound = (rising_from_above [] tt, All-nil (λ y. y < bound))
+
+-- one more, at or above the bound
+pub put_rising : (xs ys : List ℕ) (bound x more : ℕ) → ys ≡ xs ++ x ∷ [] → RisesBelow bound xs → bound ≤ x → 0 < x → x < TOP → x < more → RisesBelow more ys
+put_rising xs ys bound x more pushed (r, h) le some top lt =
+    subst (RisesBelow more) (sym pushed) (
+      rising_from_above (xs ++ x ∷ []) (rises_push 0 xs x (above_from_rising xs r) (λ k d l. below_up bound x (get_or xs k d) (h k d l) le) some top),
+      All-push (λ y. y < more) xs x (λ k d l. below_up bound more (get_or xs k d) (h k d l) (omega arith)) lt,
+    )
+  where
+    below_up : (a b y : ℕ) → y < a → a ≤ b → y < b
+    below_up a b y p q = omega arith

@@ -1,7 +1,7 @@
 // What searches, counts and pages of the two documents answer, beside what their queries match.
 ghost use Rattle.std.specs.Prelude.{◌≡◌, ◌<◌};
 
-use crate::worked::{deleted, snapshot};
+use crate::worked::{deleted, many, snapshot};
 use alta_codec::{Steps, Text};
 use alta_compile::{Plan, compile};
 use alta_meta::{Cells, Document, cells};
@@ -151,6 +151,38 @@ fn asked(k: u8) -> (&'static str, u8, &'static str) {
     }
 }
 
+/// The first of a thousand answers, and whether more are left.
+fn first_of_many<L: Ledger>(
+    alloc: Global,
+    query: &Query,
+    blank: Blank,
+) -> Result<String, AllocError>
+    requires name { blank.name ≡ L.name }
+    requires parts { blank.parts ≡ L.parts }
+    requires shared { 0 < L.parts }
+{
+    let mut steps = Steps::<L>::new(blank);
+    let plan = compile(alloc, query)?;
+    let snapshot = many(alloc, &plan)?;
+    let mut told = String::new(alloc);
+    if count(alloc, &plan, &snapshot, &mut steps)? != 1000 {
+        told.push_str("?")?;
+    }
+    let page = Cursor::new(plan, snapshot).fetch(alloc, 1, &mut steps)?;
+    if page.answers.len() == 1 && page.answers.row(0).number == 1 {
+        told.push_str("1")?;
+    }
+    if page.more {
+        told.push_str("+")?;
+    }
+    Ok(told)
+}
+
+/// The same, where nobody counts.
+fn uncounted_first(alloc: Global, query: &Query) -> Result<String, AllocError> {
+    first_of_many::<Brand>(alloc, query, Blank::new(1))
+}
+
 #[test]
 fn answers_are_the_matches(rt: HostRuntime) -> Result<(), Fail> {
     let alloc = rt.alloc();
@@ -164,5 +196,10 @@ fn answers_are_the_matches(rt: HostRuntime) -> Result<(), Fail> {
         let told = uncounted(alloc, &query, gone)?;
         assert_eq!(rt; told.as_str(), telling(names), "{text}");
     }
+    let Ok(query) = parse(alloc, "x") else {
+        return Err(Fail::new("no query"));
+    };
+    let first = uncounted_first(alloc, &query)?;
+    assert_eq!(rt; first.as_str(), "1+");
     Ok(())
 }

@@ -152,13 +152,45 @@ fn terms(alloc: Global, test: &Test) -> Result<Vec<TermLists>, AllocError>
     Ok(terms)
 }
 
+/// The lists of a term of a thousand documents of four cells each, of which the body is `x`: it stands in each, this far
+/// behind the one before.
+fn thousand(alloc: Global, term: &[u8], offset: u64) -> Result<Vec<TermLists>, AllocError>
+    requires { (0 < offset) × (offset < 5) }
+    ensures cut { IfOk result (λ ts. IsCut (map term_lists ts.items)) }
+    ensures keyed { IfOk result (λ ts. AreKeys (map key_of ts.items)) }
+{
+    let mut locs = Vec::new(alloc);
+    for k in 0..1000u64 {
+        locs.push(4 * k + offset)?;
+    }
+    let mut terms = Vec::new(alloc);
+    terms.push(one(alloc, term, 0, Stored::Plain(locs))?)?;
+    Ok(terms)
+}
+
+/// Of a thousand documents the lists of the term of document ends where it meets the test, or else those of `x`.
+fn many_terms(alloc: Global, test: &Test) -> Result<Vec<TermLists>, AllocError>
+    ensures cut { IfOk result (λ ts. IsCut (map term_lists ts.items)) }
+    ensures keyed { IfOk result (λ ts. AreKeys (map key_of ts.items)) }
+{
+    if meets(test, b"D") {
+        thousand(alloc, b"D", 4)
+    } else {
+        thousand(alloc, b"Wx", 3)
+    }
+}
+
 /// A test with its lists.
-fn lists(alloc: Global, test: Test) -> Result<TestLists, AllocError>
+fn lists(alloc: Global, test: Test, many: bool) -> Result<TestLists, AllocError>
     ensures test { IfOk result (λ t. test_in t ≡ test) }
     ensures cut { IfOk result (λ t. IsCut (test_lists t)) }
     ensures keyed { IfOk result (λ t. AreKeys (test_keys t)) }
 {
-    let terms = terms(alloc, &test)?;
+    let terms = if many {
+        many_terms(alloc, &test)?
+    } else {
+        terms(alloc, &test)?
+    };
     Ok(TestLists { test, terms })
 }
 
@@ -201,20 +233,20 @@ pub(crate) fn snapshot(alloc: Global, plan: &Plan, gone: &[Loc]) -> Result<Snaps
     ensures { IfOk result (λ s. s.tests ≡ tests_of (tree plan.now)) }
 {
     let (tests, uses) = loading_order(alloc, plan)?.into_parts();
-    let tests = tested(alloc, tests.into_vec())?;
+    let tests = tested(alloc, tests.into_vec(), false)?;
     let rows = documents(alloc)?;
     Ok(Snapshot::new(tests, uses, rows, Vec::from_slice(alloc, gone)?))
 }
 
 /// The tests with their lists.
-fn tested(alloc: Global, order: Vec<Test>) -> Result<Vec<TestLists>, AllocError>
+fn tested(alloc: Global, order: Vec<Test>, many: bool) -> Result<Vec<TestLists>, AllocError>
     ensures tests { IfOk result (λ ts. map test_in ts.items ≡ order.items) }
     ensures cut { IfOk result (λ ts. All IsCut (map test_lists ts.items)) }
     ensures keyed { IfOk result (λ ts. All AreKeys (map test_keys ts.items)) }
 {
     let mut tests = Vec::new(alloc);
     for test in order {
-        tests.push(lists(alloc, test)?)?;
+        tests.push(lists(alloc, test, many)?)?;
     }
     Ok(tests)
 }
@@ -226,6 +258,14 @@ fn level(alloc: Global, row: DocRow) -> Result<Rc<LevelRows>, AllocError>
 {
     let mut rows = Vec::new(alloc);
     rows.push(row)?;
+    level_of(alloc, rows)
+}
+
+/// These rows as a level.
+fn level_of(alloc: Global, rows: Vec<DocRow>) -> Result<Rc<LevelRows>, AllocError>
+    requires { IsRising (map end_of rows.items) }
+    ensures { IfOk result (λ level. level.value ≡ rows.items) }
+{
     match Rc::new(alloc, LevelRows::new(alloc, rows)?) {
         Ok(level) => Ok(level),
         Err(_) => Err(AllocError),
@@ -242,6 +282,29 @@ fn documents(alloc: Global) -> Result<AllRows, AllocError>
     levels.push(old)?;
     levels.push(new)?;
     AllRows::new(alloc, levels)
+}
+
+/// The rows of a thousand documents, in one level.
+fn many_documents(alloc: Global) -> Result<AllRows, AllocError>
+    ensures { IfOk result (λ rows. IsRising (ends_of rows)) }
+{
+    let mut rows = Vec::new(alloc);
+    for k in 0..1000u64 {
+        rows.push(document(alloc, k + 1, 4 * k + 1, 4, "x")?)?;
+    }
+    let mut levels = Vec::new(alloc);
+    levels.push(level_of(alloc, rows)?)?;
+    AllRows::new(alloc, levels)
+}
+
+/// The snapshot of a thousand documents for a plan.
+pub(crate) fn many(alloc: Global, plan: &Plan) -> Result<Snapshot, AllocError>
+    ensures { IfOk result (λ s. s.tests ≡ tests_of (tree plan.now)) }
+{
+    let (tests, uses) = loading_order(alloc, plan)?.into_parts();
+    let tests = tested(alloc, tests.into_vec(), true)?;
+    let rows = many_documents(alloc)?;
+    Ok(Snapshot::new(tests, uses, rows, Vec::new(alloc)))
 }
 
 /// One of three lists of deleted ends.
