@@ -1,8 +1,9 @@
 -- Documents that were made of texts, the content that they make up, and what is read back from one.
-use Rattle.std.specs.Prelude.{◌≡◌, ℕ, ◌<◌, ◌≤◌, List, length, map}
+use Rattle.std.specs.Prelude.{◌≡◌, ℕ, ◌<◌, ◌≤◌, IsTrue, List, length, map}
 use Rattle.std.specs.List.{All, flat_map}
 use Rattle.alta_codec.specs.declared.location.TheConstants.{TOP}
 use Rattle.alta_codec.specs.Name.{IsName}
+use Rattle.alta_codec.specs.Rising.{IsRising}
 use Rattle.alta_content.specs.declared.content.Content.{Content}
 use Rattle.alta_content.specs.declared.content.TermList.{TermList}
 use Rattle.alta_content.specs.declared.document.DocRow.{DocRow}
@@ -11,7 +12,7 @@ use Rattle.alta_content.specs.Joining.{in_order}
 use Rattle.alta_content.specs.Rows.{end_of}
 use Rattle.alta_meta.specs.Cells.{cells_of}
 use Rattle.alta_meta.specs.declared.document.Document.{Document}
-use Rattle.alta_memlevel.specs.Added.{Added, IsSpace, list_of}
+use Rattle.alta_memlevel.specs.Added.{Added, HasContent, IsSpace, Level, list_of, live_of}
 
 -- a document of a name, a title and a body: its cells are theirs, not too many, and its number is from 1 to below TOP
 pub record IsMade (a : Added) : Type 0 where
@@ -43,6 +44,16 @@ IsBefore number location row = (row.number < number) × (end_of row < location)
 -- the document that was added
 abbrev pub document_in : Added → Document
 document_in a = record { number = a.row.number; name = a.row.name; cells = a.cells }
+
+-- The level can be used, its content is that of documents that were made of texts, and those of them that are not deleted are these,
+-- in order.
+pub record HasDocuments (gone : List ℕ) (documents : List Document) (level : Level) : Type 0 where
+  pub added : List Added
+  pub sound : IsTrue level.sound
+  pub content : HasContent added level.content
+  pub made : AreMade added
+  pub rising : IsRising gone
+  pub live : map document_in (live_of gone added) ≡ documents
 
 -- the document of a row, whose cells are read off the lists
 abbrev pub document_of : List TermList → DocRow → Document

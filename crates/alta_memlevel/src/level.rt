@@ -88,6 +88,13 @@ impl MemLevel {
         Ok(())
     }
 
+    /// The rows of the documents that were added, in order, borrowed.
+    pub fn rows(&self) -> &[DocRow]
+        ensures { result.now ≡ self.now.content.documents }
+    {
+        self.rows.as_slice()
+    }
+
     /// The locations of a term, rising, without a copy: none where no cell holds it.
     #[tactic(auto, using(crate::proofs::Keyed::located, crate::proofs::Keyed::not_located))]
     pub fn get(&self, term: &[u8]) -> &[Loc]
