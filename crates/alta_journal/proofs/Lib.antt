@@ -4,6 +4,7 @@ pub mod HalfLaws
 pub mod Moments
 pub mod ReadingLaws
 pub mod ReadingSteps
+pub mod SoundLaws
 pub mod Spelling
 pub mod Steps
 pub mod Total

@@ -15,14 +15,16 @@ use Rattle.alta_journal.specs.declared.places.TheConstants.{START_A}
 use Rattle.alta_journal.proofs.Frames.{ends_closed}
 use Rattle.alta_journal.proofs.Spelling.{add_long, body_long, delete_long}
 use Rattle.alta_meta.specs.declared.document.State.{State}
-use Rattle.alta_store.specs.Agreement.{Agrees, Holds, Knows}
+use Rattle.alta_store.specs.Agreement.{Agrees, Holds, IsIntact, Knows}
 use Rattle.alta_store.specs.Entries.{Allows, after_entry}
+use Rattle.alta_store.specs.Following.{Follows}
 use Rattle.alta_store.specs.Meaning.{View, IsView, StandsForEither, rooted, with_entry}
-use Rattle.alta_store.specs.States.{IsDocument, with_added, with_deleted}
+use Rattle.alta_store.specs.States.{IsDocument, with_added, with_deleted, without}
+use Rattle.alta_store.specs.declared.catalog.Catalog.{Catalog}
 use Rattle.alta_store.specs.declared.store.Store.{Store}
 use Rattle.alta_store.proofs.Additions.{either_stands, view_with, after_more}
 use Rattle.alta_store.proofs.Agreements.{stands_of}
-use Rattle.alta_store.proofs.KnowledgeLaws.{deleted_is, is_numbered}
+use Rattle.alta_store.proofs.FollowingLaws.{free_name, live_number, same_deleted}
 use Rattle.alta_store.proofs.NameLaws.{All-has_byte}
 use Rattle.alta_store.proofs.OneWay.{one_view}
 
@@ -91,7 +93,7 @@ module _ (tells : Type 0) (a : DiskState) (lawful : IsLawful tells a) (store : S
       module _ (lawful_b : IsLawful tells b) (durable : Only b.content b.images)
           (appended : tells → Appended (start_of store.tail.half) store.tail.place entry a.content b.content)
           (later : Store) (place_is : later.tail.place ≡ store.tail.place + length (record_of entry)) (half_is : later.tail.half ≡ store.tail.half)
-          (knows : tells → Knows later.next later.names later.documents t) where
+          (knows : tells → Knows later t) (intact : IsIntact later) where
         holds : tells → Holds later t b.content
         holds told =
             let held = agrees.content told in
@@ -104,22 +106,27 @@ module _ (tells : Type 0) (a : DiskState) (lawful : IsLawful tells a) (store : S
 
         -- store and disk agree on the state after
         pub agrees_after : Agrees tells b later t
-        agrees_after = record { settled = durable; content = holds; half = half_is ∙ agrees.half }
+        agrees_after = record { settled = durable; content = holds; half = half_is ∙ agrees.half; intact = intact }
 
   -- an add of a name that is free, while numbers are left
   module _ (name title body : List ℕ) (entry : Entry) (entry_is : entry ≡ Add name title body) where
     pub added_is : tells → after_entry s entry ≡ with_added name title body s
     added_is told = ap (after_entry s) entry_is
 
-    pub add_allowed : is_some (get_by_text store.names name) ≡ false → store.next < 4294967296 → tells → Allows s entry
+    pub add_allowed : is_some (get_by_text store.catalog.names name) ≡ false → store.catalog.next < 4294967296 → tells → Allows s entry
     add_allowed free fits told =
-        let knows = (agrees.content told).knows in
-        subst (Allows s) (sym entry_is) (sym (knows.names name) ∙ free, omega (arith, knows.next, fits))
+        let follows = (agrees.content told).knows in
+        subst (Allows s) (sym entry_is) (sym (free_name store.catalog s follows name) ∙ free, omega (arith, follows.knows.next, fits))
 
   -- a delete of the document with a name
-  module _ (name : List ℕ) (number : ℕ) (entry : Entry) (entry_is : entry ≡ Delete number) (named : get_by_text store.names name ≡ Some number) where
+  module _ (name : List ℕ) (number : ℕ) (entry : Entry) (entry_is : entry ≡ Delete number) (named : get_by_text store.catalog.names name ≡ Some number) where
     pub delete_allowed : tells → Allows s entry
-    delete_allowed told = subst (Allows s) (sym entry_is) (is_numbered store.next store.names store.documents s (agrees.content told).knows name number named)
+    delete_allowed told = subst (Allows s) (sym entry_is) (live_number store.catalog s (agrees.content told).knows name number named)
 
     pub deleted_after : tells → after_entry s entry ≡ with_deleted name s
-    deleted_after told = ap (after_entry s) entry_is ∙ deleted_is store.next store.names store.documents s (agrees.content told).knows name number named
+    deleted_after told = ap (after_entry s) entry_is ∙ same_deleted store.catalog s (agrees.content told).knows name number named
+
+-- a catalog without a document stands at the state without it
+pub knows_deleted : (old : Store) (new : Catalog) (s : State) → Knows old s → (name : List ℕ) (number : ℕ) → get_by_text old.catalog.names name ≡ Some number
+    → ((t : State) → Knows old t → Follows new (without number t)) → Follows new (with_deleted name s)
+knows_deleted old new s knows name number named after = subst (Follows new) (same_deleted old.catalog s knows name number named) (after s knows)

@@ -14,7 +14,7 @@ use Rattle.std.proofs.lemmas.Cmp.{ranked}
 use Rattle.std.proofs.lemmas.List.Folds.{list_any_none}
 use Rattle.std.proofs.lemmas.Slice.Eq.{bytes_eq-Decides}
 use Rattle.alta_meta.specs.declared.document.Document.{Document}
-use Rattle.alta_store.specs.Agreement.{AreFound, RiseWithin}
+use Rattle.alta_store.specs.Following.{AreFound, RiseWithin}
 use Rattle.alta_store.specs.States.{has_number_in}
 
 -- one case for each answer of a test

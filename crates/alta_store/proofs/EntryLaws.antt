@@ -5,8 +5,8 @@ use Rattle.std.proofs.lemmas.List.{take_more, drop_more, map-append}
 use Rattle.alta_journal.specs.declared.entry.Entry.{Entry}
 use Rattle.alta_journal.specs.declared.placed.Placed.{Placed}
 use Rattle.alta_meta.specs.declared.document.State.{State}
-use Rattle.alta_store.specs.Replaying.{Follows}
-use Rattle.alta_store.specs.declared.replaying.Replay.{Replay}
+use Rattle.alta_store.specs.Following.{Follows}
+use Rattle.alta_store.specs.declared.catalog.Catalog.{Catalog}
 use Rattle.alta_store.specs.Entries.{Allows, AllowsAll, after_entry, after_entries, entries_in, IsRefusedAt}
 use Rattle.alta_store.specs.declared.fault.StoreFault.{StoreFault}
 use Rattle.alta_store.specs.declared.fault.StoreFault.TheVariants.{Damaged}
@@ -18,12 +18,12 @@ module _ (s : State) (found : List Placed) (i : ℕ) (p : Placed) (inside : i < 
       ap entries_in (take_more found i p inside ∙ ap (λ (x : Placed). take i found ++ x ∷ []) (sym is))
       ∙ map-append (λ (x : Placed). x.entry) (take i found) (p ∷ [])
 
-  pub applied_step : (replay : Replay) → AllowsAll s (entries_in (take i found)) → Allows (after_entries s (entries_in (take i found))) p.entry
-      → Follows replay (after_entry (after_entries s (entries_in (take i found))) p.entry)
-      → AllowsAll s (entries_in (take (i + 1) found)) × Follows replay (after_entries s (entries_in (take (i + 1) found)))
-  applied_step replay all allowed follows =
-      subst (λ (es : List Entry). AllowsAll s es × Follows replay (after_entries s es)) (sym entries_more)
-      (allows_more s (entries_in (take i found)) p.entry all allowed, subst (Follows replay) (sym (after_more s (entries_in (take i found)) p.entry)) follows)
+  pub applied_step : (catalog : Catalog) → AllowsAll s (entries_in (take i found)) → Allows (after_entries s (entries_in (take i found))) p.entry
+      → Follows catalog (after_entry (after_entries s (entries_in (take i found))) p.entry)
+      → AllowsAll s (entries_in (take (i + 1) found)) × Follows catalog (after_entries s (entries_in (take (i + 1) found)))
+  applied_step catalog all allowed follows =
+      subst (λ (es : List Entry). AllowsAll s es × Follows catalog (after_entries s es)) (sym entries_more)
+      (allows_more s (entries_in (take i found)) p.entry all allowed, subst (Follows catalog) (sym (after_more s (entries_in (take i found)) p.entry)) follows)
 
   pub refused_step : (place : ℕ) → AllowsAll s (entries_in (take i found)) → (Allows (after_entries s (entries_in (take i found))) p.entry → ⊥) → place ≡ p.place + 5 → IsRefusedAt s found place
   refused_step place all not_allowed place_is = record {

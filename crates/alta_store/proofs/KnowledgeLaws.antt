@@ -9,7 +9,7 @@ use Rattle.std.proofs.lemmas.Bool.{false≢true}
 use Rattle.alta_meta.specs.Cells.{cells_of}
 use Rattle.alta_meta.specs.declared.document.Document.{Document}
 use Rattle.alta_meta.specs.declared.document.State.{State}
-use Rattle.alta_store.specs.Agreement.{AreFound, Knows, RiseWithin}
+use Rattle.alta_store.specs.Following.{AreFound, Knows, RiseWithin}
 use Rattle.alta_store.specs.States.{has_name, has_number, has_number_in, number_of, with_added, with_deleted, without}
 use Rattle.alta_store.proofs.DocumentLaws.{by_test, bytes_from, found_left, found_more, left_at, name_gone, name_stays, number_found, numbered_as, rise_left, rise_more, same_left}
 use Rattle.alta_store.proofs.NameLaws.{has_name-with_added, is_some-noted}

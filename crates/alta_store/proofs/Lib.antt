@@ -3,7 +3,9 @@ pub mod Agreements
 pub mod Commits
 pub mod ContentLaws
 pub mod DocumentLaws
+pub mod EndLaws
 pub mod EntryLaws
+pub mod FollowingLaws
 pub mod Formatted
 pub mod KnowledgeLaws
 pub mod Loads
@@ -11,8 +13,6 @@ pub mod NameLaws
 pub mod Naming
 pub mod OneWay
 pub mod OpeningLaws
-pub mod ReplayLaws
-pub mod SlotLaws
 pub mod StateLaws
 pub mod Total
 pub mod WordCounts

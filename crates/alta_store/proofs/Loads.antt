@@ -24,8 +24,6 @@ use Rattle.alta_store.specs.Answers.{IsOutside, AnswersFault, of_opening}
 use Rattle.alta_store.specs.Brokenness.{HasNoIndex, HasRoot, IsBrokenAt}
 use Rattle.alta_store.specs.Entries.{AllowsAll, after_entries, entries_in, IsRefusedAt}
 use Rattle.alta_store.specs.Meaning.{StandsFor, start_at}
-use Rattle.alta_store.specs.Replaying.{Follows, Keeps}
-use Rattle.alta_store.specs.declared.replaying.Replay.{Replay}
 use Rattle.alta_store.specs.declared.fault.StoreFault.{StoreFault}
 use Rattle.alta_store.specs.declared.fault.StoreFault.TheVariants.{NoRoot, Damaged}
 use Rattle.alta_store.specs.declared.store.Store.{Store}
@@ -47,20 +45,9 @@ small_places found tail content (entries, is, ends) =
     subst (λ (xs : List Placed). All (λ p. p.place < 4294967296) xs) (sym is)
     (λ k d within. omega (arith, placed_below START_A (START_A + HALF_BYTES) entries (omega (arith, bytes)) k d within))
 
--- what is kept of a replay
-pub kept_tail : (r : Result Store StoreFault) (tail : Tail) (left : Replay) (store : Store) → IfOk r (λ store. Keeps store tail left) → r ≡ Ok store → store.tail ≡ tail
-kept_tail r tail left store kept is = (IfOk-at_ok (λ (store : Store). Keeps store tail left) is kept).0
-
-pub kept_knows : (r : Result Store StoreFault) (tail : Tail) (left : Replay) (store : Store) (s : State) → IfOk r (λ store. Keeps store tail left) → r ≡ Ok store → Follows left s → Knows store.next store.names store.documents s
-kept_knows r tail left store s kept is follows =
-    let same = IfOk-at_ok (λ (store : Store). Keeps store tail left) is kept in
-    subst (λ (n : ℕ). Knows n store.names store.documents s) (sym same.1)
-    (subst (λ (known : BTreeMap (String Global) ℕ). Knows left.next known store.documents s) (sym same.2)
-    (subst (λ (ds : List Document). Knows left.next left.names ds s) (sym same.3) follows.knows))
-
 module _ (content : List ℕ) (n l : ℕ) (found : List Placed) (root : HasRoot n l content) where
   pub loads : (store : Store) → IsReplay START_A found store.tail.place content
-      → AllowsAll (start_at n) (entries_in found) × Knows store.next store.names store.documents (after_entries (start_at n) (entries_in found)) → Holds store (after_entries (start_at n) (entries_in found)) content
+      → AllowsAll (start_at n) (entries_in found) × Knows store (after_entries (start_at n) (entries_in found)) → Holds store (after_entries (start_at n) (entries_in found)) content
   loads store (entries, is, ends) (allowed, knows) =
       let same : entries_in found ≡ entries = ap entries_in is ∙ entries_in-placed START_A entries in
       record {

@@ -17,7 +17,7 @@ use Rattle.std.proofs.lemmas.Map.Lookups.{exact_bytes}
 use Rattle.alta_codec.specs.Order.{Precedes}
 use Rattle.alta_meta.specs.declared.document.Document.{Document}
 use Rattle.alta_meta.specs.declared.document.State.{State}
-use Rattle.alta_store.specs.Agreement.{Knows}
+use Rattle.alta_store.specs.Following.{Knows}
 use Rattle.alta_store.specs.Naming.{Ascend, AreNames, row_of}
 use Rattle.alta_store.specs.States.{has_name, number_of}
 use Rattle.alta_store.specs.declared.lists.NameRow.{NameRow}

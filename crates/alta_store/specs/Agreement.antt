@@ -1,36 +1,19 @@
 -- A store and its disk.
-use Rattle.std.proofs.Common.{Global}
-use Rattle.std.specs.Prelude.{◌≡◌, ℕ, ◌+◌, ◌-◌, ◌≤◌, true, List, [], ◌∷◌, Bool, String, is_some, Some}
-use Rattle.std.specs.BTreeMap.{BTreeMap, get_by_text}
+use Rattle.std.specs.Prelude.{◌≡◌, ℕ, ◌+◌, ◌-◌, ◌≤◌, true, List, Bool}
 use Rattle.alta_disk.specs.Disk.{DiskState, Only}
 use Rattle.alta_journal.specs.Journal.{EndsAt}
 use Rattle.alta_journal.specs.Places.{left_behind}
 use Rattle.alta_journal.specs.declared.entry.Entry.{Entry}
 use Rattle.alta_journal.specs.declared.half.Half.TheVariants.{A}
 use Rattle.alta_journal.specs.declared.places.TheConstants.{START_A, HALF_BYTES, HEAD_BYTES}
-use Rattle.alta_meta.specs.declared.document.Document.{Document}
 use Rattle.alta_meta.specs.declared.document.State.{State}
+use Rattle.alta_store.specs.Following.{Follows}
 use Rattle.alta_store.specs.Meaning.{View, IsView, state_of}
-use Rattle.alta_store.specs.States.{has_name}
 use Rattle.alta_store.specs.declared.store.Store.{Store}
 
--- each document's number is found by its name
-abbrev pub AreFound : BTreeMap (String Global) ℕ → List Document → Type 0
-AreFound known [] = Unit {0}
-AreFound known (document ∷ documents) = (get_by_text known document.name ≡ Some document.number) × AreFound known documents
-
--- the numbers of the documents rise, from at least `low` to below `next`
-abbrev pub RiseWithin : ℕ → List Document → ℕ → Type 0
-RiseWithin low [] next = low ≤ next
-RiseWithin low (document ∷ documents) next = (low ≤ document.number) × RiseWithin (document.number + 1) documents next
-
--- This is the next number of the state, these are its documents, and these are their names.
-pub record Knows (number : ℕ) (known : BTreeMap (String Global) ℕ) (kept : List Document) (s : State) : Type 0 where
-  pub next : number ≡ s.next
-  pub documents : kept ≡ s.documents
-  pub names : (name : List ℕ) → is_some (get_by_text known name) ≡ has_name name s
-  pub numbers : AreFound known s.documents
-  pub rising : RiseWithin 0 s.documents s.next
+-- the store's catalog stands at this state
+abbrev pub Knows : Store → State → Type 0
+Knows store s = Follows store.catalog s
 
 -- The store holds this view of an image: the image has it, and its journal ends where the store goes on.
 abbrev pub HasView : Store → View → List ℕ → Type 0
@@ -41,13 +24,18 @@ pub record Holds (store : Store) (s : State) (image : List ℕ) : Type 0 where
   pub view : View
   pub is : HasView store view image
   pub state_is : state_of view ≡ s
-  pub knows : Knows store.next store.names store.documents s
+  pub knows : Knows store s
+
+-- the store's catalog stands at some state, also where the disk does not tell what it holds
+abbrev pub IsIntact : Store → Type 0
+IsIntact store = (s : State) × Knows store s
 
 -- Store and disk agree on this state: nothing is pending.
 pub record Agrees (tells : Type 0) (disk : DiskState) (store : Store) (s : State) : Type 0 where
   pub settled : Only disk.content disk.images
   pub content : tells → Holds store s disk.content
   pub half : store.tail.half ≡ A
+  pub intact : IsIntact store
 
 -- The journal of this content has so many bytes left behind the gate of its next record.
 pub record HasRoom (content : List ℕ) (room : ℕ) : Type 0 where

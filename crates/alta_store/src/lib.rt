@@ -1,7 +1,7 @@
 //! An index on a disk. Each image that a stop may leave stands for the state before a call or after it.
 #![tactic(auto)]
 
-mod documents;
+mod catalog;
 mod fault;
 mod formatting;
 mod laws;

@@ -1,5 +1,5 @@
 // What a disk holds at opening.
-ghost use Rattle.std.specs.Prelude.{◌≡◌, ◌≢◌, ◌⊎◌, ◌↔◌, ◌<◌, ◌≤◌, ◌+◌, ℕ, true, false, length, get_or, Err, IfOk, IfErr, OnOk};
+ghost use Rattle.std.specs.Prelude.{◌≡◌, ◌≢◌, ◌⊎◌, ◌↔◌, ◌<◌, ◌≤◌, ◌+◌, ◌-◌, ◌*◌, ℕ, true, false, length, get_or, Err, IfOk, IfErr, OnOk};
 ghost use Rattle.alta_codec.specs.Faults.{HasCause, Rose};
 ghost use Rattle.alta_disk.specs.Disk.{DiskState, Same, Passes};
 ghost use Rattle.alta_journal.specs.declared.places.TheConstants.{HEAD_BYTES};
@@ -18,7 +18,8 @@ use alta_journal::{GATE_OPEN, HEAD_BYTES};
 // Reads the root: the length is tested against the slots, the gates, the length against the journal, and then the slots.
 pub(crate) fn read_root<D: Disk>(disk: &mut D) -> Result<Root, StoreFault>
     ensures root { D.tells → IfOk result (λ root. HasRoot root.next root.location (D.state disk.old).content) }
-    ensures fits { IfOk result (λ root. root.next ≤ 4294967296) }
+    ensures next { IfOk result (λ root. (1 ≤ root.next) × (root.next ≤ 4294967296)) }
+    ensures location { IfOk result (λ root. (1 ≤ root.location) × (root.location ≤ 1 + (root.next - 1) * 262146)) }
     ensures indexed { D.tells → OnOk result (HasNoIndex (D.state disk.old).content → ⊥) }
     ensures no_root { D.tells → result ≡ Err NoRoot → HasNoIndex (D.state disk.old).content }
     ensures damaged { D.tells → (place : ℕ) → result ≡ Err (Damaged place) → (HasNoIndex (D.state disk.old).content → ⊥) × HasBadRoot (D.state disk.old).content place }
@@ -53,6 +54,8 @@ fn root_of(fields: &[u8], second: u8, size: u64) -> Result<Root, StoreFault>
     requires fields { length fields.now ≡ 40 }
     requires size { 8192 ≤ size }
     ensures root { IfOk result (λ root. IsRoot root.next root.location fields.now × (second ≢ 165) × (HEAD_BYTES ≤ size)) }
+    ensures next { IfOk result (λ root. (1 ≤ root.next) × (root.next ≤ 4294967296)) }
+    ensures location { IfOk result (λ root. (1 ≤ root.location) × (root.location ≤ 1 + (root.next - 1) * 262146)) }
     ensures no_root { (result ≡ Err NoRoot) ↔ ((get_or fields.now 0 0 ≢ 165) × (second ≢ 165)) }
     ensures damaged { (place : ℕ) → result ≡ Err (Damaged place) → ((size < HEAD_BYTES) × (place ≡ size))
         ⊎ ((HEAD_BYTES ≤ size) × ((second ≢ 165) → (next location : ℕ) → IsRoot next location fields.now → ⊥) × (place ≡ 0)) }

@@ -9,43 +9,40 @@ ghost use Rattle.alta_journal.specs.declared.entry.Entry.TheVariants.{Add, Delet
 ghost use Rattle.alta_journal.specs.declared.places.TheConstants.{HALF_BYTES, HEAD_BYTES};
 ghost use Rattle.alta_journal.specs.declared.half.Half.TheVariants.{A};
 ghost use Rattle.alta_meta.specs.declared.document.State.{State};
-ghost use Rattle.alta_store.specs.Agreement.{Agrees, HasView, Holds, Knows, HasRoom, is_sound, room_of};
+ghost use Rattle.alta_memlevel.specs.Documents.{HasDocuments};
+ghost use Rattle.alta_store.specs.Agreement.{Agrees, HasView, Holds, IsIntact, Knows, HasRoom, is_sound, room_of};
 ghost use Rattle.alta_store.specs.Answers.{IsOutside, AnswersFault};
 ghost use Rattle.alta_store.specs.Brokenness.{HasNoIndex, IsBrokenAt};
 ghost use Rattle.alta_store.specs.Meaning.{View, IsView, StandsFor, StandsForEither, with_entry};
 ghost use Rattle.alta_store.specs.Naming.{AreNames};
-ghost use Rattle.alta_store.specs.Replaying.{Keeps};
 ghost use Rattle.alta_store.specs.States.{has_name, number_of, words_in, with_added, with_deleted, without, IsDocument};
 ghost use Rattle.alta_store.specs.declared.fault.StoreFault.TheVariants.{Disk as DiskFault, Memory, NoRoot, Damaged, Taken, Missing, Numbers, Full};
 
 use crate::StoreFault;
-use crate::documents::{document_of, index_of, remove_at, words_of};
+use crate::catalog::Catalog;
 use crate::fault::opening_fault;
 use crate::lists::Names;
-use crate::names::{forget, note, rows_in};
+use crate::names::rows_in;
 use crate::opening::read_root;
 use crate::places::LAST_NEXT;
-use crate::replaying::{Replay, apply_entries, documents_in};
-use alta_codec::Text;
+use crate::replaying::apply_entries;
+use alta_codec::{Loc, Text};
 use alta_disk::Disk;
 use alta_journal::{Entry, Half, JournalFault, Ready, Tail, append, ready, replay};
-use alta_meta::Documents;
+use alta_memlevel::MemLevel;
 use std::alloc::{AllocError, Global};
-use std::collections::BTreeMap;
 
-/// The live documents of an index, and where its journal goes on.
+/// The documents of an index in memory, and where its journal goes on.
 #[derive(Drop)]
 pub struct Store {
     alloc: Global,
     tail: Tail,
-    next: u64,
-    names: BTreeMap<String, u64>,
-    documents: Documents,
+    catalog: Catalog,
     sound: bool,
 }
 
 impl Store {
-    ghost use Rattle.alta_store.specs.Agreement.{Agrees, is_sound, room_of};
+    ghost use Rattle.alta_store.specs.Agreement.{Agrees, Knows, is_sound, room_of};
 
     /// Whether the store may be used: false after an error of the disk, of memory, or for want of room.
     pub fn sound(&self) -> bool
@@ -54,19 +51,19 @@ impl Store {
         self.sound
     }
 
-    /// The live documents, in rising order of number.
-    pub fn documents(&self) -> &Documents
-        ensures { (s : State) (image : List ℕ) → Holds self.now s image → result.now ≡ s.documents }
+    /// The newest documents as a level in memory, and the ends of those that are deleted, in order.
+    pub fn newest(&self) -> (&MemLevel, &[Loc])
+        ensures { (s : State) → Knows self.now s → HasDocuments result.1.now s.documents result.0.now }
     {
-        &self.documents
+        self.catalog.newest()
     }
 
-    /// How many live documents there are, how many words they have in all, and the number that the next document gets.
+    /// How many live documents there are, how many words they have in all, and the number that the next document gets. All three
+    /// are kept, and no document is looked at.
     pub fn counts(&self) -> (u64, u64, u64)
-        ensures { (s : State) (image : List ℕ) → Holds self.now s image → result ≡ (length s.documents, words_in s, s.next) }
+        ensures { (s : State) → Knows self.now s → result ≡ (length s.documents, words_in s, s.next) }
     {
-        let documents = self.documents.as_slice();
-        (documents.len() as u64, words_of(documents), self.next)
+        (self.catalog.count, self.catalog.words, self.catalog.next)
     }
 
     /// The names of the live documents with their numbers, in the order of bytes, each once. One pass over the names, which
@@ -76,9 +73,9 @@ impl Store {
     ///
     /// `AllocError` where there was no memory left for the list.
     pub fn names(&self, alloc: Global) -> Result<Names, AllocError>
-        ensures { (s : State) (image : List ℕ) → Holds self.now s image → IfOk result (AreNames s) }
+        ensures { (s : State) → Knows self.now s → IfOk result (AreNames s) }
     {
-        rows_in(alloc, &self.names)
+        rows_in(alloc, &self.catalog.names)
     }
 
     // The store may no longer be used.
@@ -171,10 +168,10 @@ impl Store {
         ensures read { (D.state disk.new).taken ≡ (D.state disk.old).taken }
         ensures same_limit { (D.state disk.new).limit ≡ (D.state disk.old).limit }
     {
-        if self.names.contains_key(name) {
+        if self.catalog.names.contains_key(name) {
             return Err(StoreFault::Taken);
         }
-        if self.next >= LAST_NEXT {
+        if self.catalog.next >= LAST_NEXT {
             return Err(StoreFault::Numbers);
         }
         match self.commit(disk, name, title, body) {
@@ -193,13 +190,13 @@ impl Store {
     ) -> Result<u64, StoreFault>
         requires document { IsDocument name.now title.now body.now }
         requires agrees { (s : State) × Agrees D.tells (D.state disk.old) self.old s }
-        requires free { is_some (get_by_text self.old.names name.now) ≡ false }
-        requires number { self.old.next < 4294967296 }
+        requires free { is_some (get_by_text self.old.catalog.names name.now) ≡ false }
+        requires number { self.old.catalog.next < 4294967296 }
         requires limit { HEAD_BYTES ≤ (D.state disk.old).limit }
 
         ensures agrees { (s : State) → Agrees D.tells (D.state disk.old) self.old s → OnOk result (Agrees D.tells (D.state disk.new) self.new (with_added name.now title.now body.now s)) }
         ensures view { (view : View) → Stands D.tells (D.state disk.old) (HasView self.old view) → OnOk result (Stands D.tells (D.state disk.new) (HasView self.new (with_entry view (Add name.now title.now body.now)))) }
-        ensures number { IfOk result (λ n. n ≡ self.old.next) }
+        ensures number { IfOk result (λ n. n ≡ self.old.catalog.next) }
         ensures sound { is_sound self.new ≡ is_sound self.old }
         ensures images { (s : State) → Agrees D.tells (D.state disk.old) self.old s → LeavesOnly (StandsForEither s (with_added name.now title.now body.now s)) (D.state disk.old) (D.state disk.new) }
         ensures full { (need gap : ℕ) → result ≡ Err (Full need gap) → (need ≡ length (body_of (Add name.now title.now body.now))) × (gap ≡ room_of self.old) × (gap < need) }
@@ -212,24 +209,15 @@ impl Store {
         ensures read { (D.state disk.new).taken ≡ (D.state disk.old).taken }
         ensures same_limit { (D.state disk.new).limit ≡ (D.state disk.old).limit }
     {
-        let number = self.next;
+        let number = self.catalog.next;
         let Ok(ready) = record_of_add(self.alloc, name, title, body) else {
             return Err(StoreFault::Memory);
         };
-        let Ok(document) = document_of(self.alloc, number, name, title, body) else {
-            return Err(StoreFault::Memory);
-        };
-        let Ok(()) = note(self.alloc, &mut self.names, name, number) else {
-            return Err(StoreFault::Memory);
-        };
-        let Ok(()) = self.documents.push(document) else {
+        let Ok(()) = self.catalog.add(self.alloc, name, title, body) else {
             return Err(StoreFault::Memory);
         };
         match append(disk, &mut self.tail, &ready) {
-            Ok(()) => {
-                self.next = number + 1;
-                Ok(number)
-            }
+            Ok(()) => Ok(number),
             Err(JournalFault::Full { need, left }) => Err(StoreFault::Full { need, gap: left }),
             Err(JournalFault::Disk) => Err(StoreFault::Disk),
         }
@@ -272,24 +260,13 @@ impl Store {
         ensures read { (D.state disk.new).taken ≡ (D.state disk.old).taken }
         ensures same_limit { (D.state disk.new).limit ≡ (D.state disk.old).limit }
     {
-        let Some((number, index)) = self.find(name) else {
+        let Some(number) = self.catalog.names.get(name).copied() else {
             return Err(StoreFault::Missing);
         };
-        match self.remove(disk, name, number, index) {
+        match self.remove(disk, name, number) {
             Ok(()) => Ok(number),
             Err(fault) => Err(self.failed(fault)),
         }
-    }
-
-    // The number of the document with this name, and where it stands.
-    fn find(&self, name: &str) -> Option<(u64, usize)>
-        ensures { MatchOption result
-            ((s : State) → Knows self.now.next self.now.names self.now.documents s → has_name name.now s ≡ false)
-            (λ p. (get_by_text self.now.names name.now ≡ Some p.0) × (p.1 < length self.now.documents) × HoldsAt (λ d. d.number ≡ p.0) self.now.documents p.1) }
-    {
-        let number = *self.names.get(name)?;
-        let index = index_of(self.documents.as_slice(), number)?;
-        Some((number, index))
     }
 
     // Deletes a document that was found. All memory is taken before the first write.
@@ -298,12 +275,9 @@ impl Store {
         disk: &mut D,
         name: &str,
         number: u64,
-        index: usize,
     ) -> Result<(), StoreFault>
         requires agrees { (s : State) × Agrees D.tells (D.state disk.old) self.old s }
-        requires named { get_by_text self.old.names name.now ≡ Some number }
-        requires inside { index < length self.old.documents }
-        requires at { HoldsAt (λ d. d.number ≡ number) self.old.documents index }
+        requires named { get_by_text self.old.catalog.names name.now ≡ Some number }
         requires limit { HEAD_BYTES ≤ (D.state disk.old).limit }
 
         ensures agrees { (s : State) → Agrees D.tells (D.state disk.old) self.old s → OnOk result (Agrees D.tells (D.state disk.new) self.new (with_deleted name.now s)) }
@@ -323,12 +297,11 @@ impl Store {
         let Ok(ready) = ready(self.alloc, &Entry::Delete { number }) else {
             return Err(StoreFault::Memory);
         };
+        let Ok(()) = self.catalog.remove(number) else {
+            return Err(StoreFault::Memory);
+        };
         match append(disk, &mut self.tail, &ready) {
-            Ok(()) => {
-                forget(&mut self.names, name);
-                remove_at(self.alloc, &mut self.documents, index);
-                Ok(())
-            }
+            Ok(()) => Ok(()),
             Err(JournalFault::Full { need, left }) => Err(StoreFault::Full { need, gap: left }),
             Err(JournalFault::Disk) => Err(StoreFault::Disk),
         }
@@ -357,6 +330,7 @@ fn text_of(alloc: Global, text: &str) -> Result<Text, AllocError>
 // Reads the store that a disk holds.
 fn load<D: Disk>(alloc: Global, disk: &mut D) -> Result<Store, StoreFault>
     ensures loaded { IfOk result (λ store. (s : State) × (D.tells → Holds store s (D.state disk.old).content)) }
+    ensures intact { IfOk result IsIntact }
     ensures half { IfOk result (λ store. store.tail.half ≡ A) }
     ensures sound { IfOk result (λ store. is_sound store ≡ true) }
     ensures limit { OnOk result (HEAD_BYTES ≤ (D.state disk.old).limit) }
@@ -378,27 +352,14 @@ fn load<D: Disk>(alloc: Global, disk: &mut D) -> Result<Store, StoreFault>
         Ok(read) => read,
         Err(fault) => return Err(opening_fault(fault)),
     };
-    let mut left = Replay::new(alloc, root.next);
-    match apply_entries(alloc, &mut left, &found) {
-        Ok(()) => kept(alloc, tail, left),
-        Err(fault) => Err(fault),
-    }
-}
-
-// The store of what a replay left.
-fn kept(alloc: Global, tail: Tail, left: Replay) -> Result<Store, StoreFault>
-    ensures kept { IfOk result (λ store. Keeps store tail left) }
-    ensures only { IfErr result (λ e. e ≡ Memory) }
-{
-    match documents_in(alloc, left.slots) {
-        Ok(documents) => Ok(Store {
+    let mut catalog = Catalog::new(alloc, root);
+    match apply_entries(alloc, &mut catalog, &found) {
+        Ok(()) => Ok(Store {
             alloc,
             tail,
-            next: left.next,
-            names: left.names,
-            documents,
+            catalog,
             sound: true,
         }),
-        Err(_) => Err(StoreFault::Memory),
+        Err(fault) => Err(fault),
     }
 }

@@ -8,6 +8,7 @@ use Rattle.alta_journal.specs.declared.entry.Entry.{Entry}
 use Rattle.alta_journal.specs.declared.placed.Placed.{Placed}
 use Rattle.alta_journal.specs.declared.places.TheConstants.{GATE_OPEN}
 use Rattle.alta_journal.proofs.ReadingSteps.{Stands, stands, read_more, damaged_here, damage_at}
+use Rattle.alta_journal.proofs.SoundLaws.{reading_sound}
 use Rattle.alta_journal.proofs.replaying.read_records.Goals as goal
 
 pub returns-in_default-2-clause-damaged : goal.returns-in_default-2-clause-damaged
@@ -35,3 +36,6 @@ loop-at-preserved c =
     ap (λ (k : ℕ). c.loop-at.entries.items ++ (record { place = k + c.loop-at.at; entry = c.in-Some-2.entry }) ∷ []) (sym c.start-start.ensures) ∙ sym c.in_ok-push.ensures.items in
     let end : c.loop-at.at + 5 + length payload ≡ c.loop-at.at + (5 + length payload) = omega arith in
     subst (λ (k : ℕ). IsReading start c.push.new.self.items k bytes) end (subst (λ (l : List Placed). IsReading start l (c.loop-at.at + 5 + length payload) bytes) items more)
+
+pub returns-clause-rules : goal.returns-clause-rules
+returns-clause-rules c = reading_sound (start_of c.args.half) c.loop-at.at c.loop-at.entries.items c.args.bytes.now c.loop-at.invariant

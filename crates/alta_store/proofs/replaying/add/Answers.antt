@@ -1,10 +1,6 @@
-use Rattle.std.proofs.Common.{refl, sym, ◌∙◌, arith}
-use Rattle.alta_store.proofs.ReplayLaws.{follows_added}
+use Rattle.std.proofs.Common.{arith}
+use Rattle.alta_journal.proofs.Spelling.{add_long}
 use Rattle.alta_store.proofs.replaying.add.Goals as goal
 
-pub returns-clause-allowed : goal.returns-clause-allowed
-returns-clause-allowed c = λ s follows allowed. (
-  (sym (follows.knows.names c.args.name.now) ∙ sym c.if-contains_key.ensures, omega (arith, follows.knows.next, c.if-number-ge-LAST_NEXT.false)),
-  follows_added c.args.replay.now _ s follows refl c.args.name.now c.args.title.now c.args.body.now (sym c.if-contains_key.ensures) c.in_ok-note.ensures
-      c.in_ok-document.document c.in_ok-document.ensures refl c.in-Ok.ensures.items,
-)
+pub add-requires-clause-short : goal.add-requires-clause-short
+add-requires-clause-short c = omega (arith, add_long c.args.name.now c.args.title.now c.args.body.now, c.requires.sound.0)

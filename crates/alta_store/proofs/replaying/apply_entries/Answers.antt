@@ -15,3 +15,6 @@ loop-placed-preserved c = λ s follows.
     let so_far = c.loop-placed.invariant s follows in
     let more = c.in-Ok-true.ensures.allowed _ so_far.1 c.in-Ok-true.field-0-test in
     applied_step s c.args.found.now c.loop-placed.placed-index c.placed-item.result c.loop-placed-test.true c.placed-item.is _ so_far.0 more.0 more.1
+
+pub apply_entry-requires-clause-follows : goal.apply_entry-requires-clause-follows
+apply_entry-requires-clause-follows c = (_, (c.loop-placed.invariant c.requires.follows.0 c.requires.follows.1).1)

@@ -10,7 +10,7 @@ use Rattle.alta_store.specs.Agreement.{Holds}
 use Rattle.alta_store.specs.Entries.{after_entries, entries_in}
 use Rattle.alta_store.specs.Meaning.{start_at}
 use Rattle.alta_store.specs.declared.store.Store.{Store}
-use Rattle.alta_store.proofs.Loads.{if_ok, kept_tail, kept_knows, small_places, loads, damaged_record, refused_entry, of_damaged, same_error}
+use Rattle.alta_store.proofs.Loads.{small_places, loads, damaged_record, refused_entry, of_damaged, same_error}
 use Rattle.alta_store.proofs.store.load.Goals as goal
 
 pub returns-in-Err-replay-clause-damaged : goal.returns-in-Err-replay-clause-damaged
@@ -23,16 +23,14 @@ pub returns-in-Ok-apply_entries-clause-loaded : goal.returns-in-Ok-apply_entries
 returns-in-Ok-apply_entries-clause-loaded g c =
     let n = c.in-Ok.root.next in
     let found = c.deref.result.now in
-    if_ok c.kept.result (λ (store : Store). (s : State) × (g.D.Disk.tells → Holds store s (g.D.Disk.state c.args.disk.now).content)) (λ store is. (
+    let applied = c.in-Ok-apply_entries.ensures.applied (start_at n) c.new-catalog.ensures in (
       after_entries (start_at n) (entries_in found),
       λ told.
-          let applied = c.in-Ok-apply_entries.ensures.applied (start_at n) c.new-left.ensures in
-          loads (g.D.Disk.state c.args.disk.now).content n c.in-Ok.root.location found (c.in-Ok.ensures.root told) store
-          (subst (λ (place : ℕ). IsReplay START_A found place (g.D.Disk.state c.args.disk.now).content) (sym (ap (λ (t : Tail). t.place) (kept_tail c.kept.result c.in-Ok-replay.read.1 c.apply_entries.new.replay store c.kept.ensures.kept is)))
+          loads (g.D.Disk.state c.args.disk.now).content n c.in-Ok.root.location found (c.in-Ok.ensures.root told) _
           (subst (λ (image : List ℕ). IsReplay START_A found c.in-Ok-replay.read.1.place image) (c.read_root.ensures.content told)
-          (subst (λ (xs : List Placed). IsReplay START_A xs c.in-Ok-replay.read.1.place (g.D.Disk.state c.read_root.new.disk).content) (sym c.deref.ensures.value) (c.in-Ok-replay.ensures.read told))))
-          (applied.0, kept_knows c.kept.result c.in-Ok-replay.read.1 c.apply_entries.new.replay store (after_entries (start_at n) (entries_in found)) c.kept.ensures.kept is applied.1),
-    ))
+          (subst (λ (xs : List Placed). IsReplay START_A xs c.in-Ok-replay.read.1.place (g.D.Disk.state c.read_root.new.disk).content) (sym c.deref.ensures.value) (c.in-Ok-replay.ensures.read told)))
+          applied,
+    )
 
 pub returns-clause-damaged : goal.returns-clause-damaged
 returns-clause-damaged g c = λ told place e.
@@ -43,5 +41,8 @@ returns-clause-damaged g c = λ told place e.
     subst (λ (image : List ℕ). IsReplay START_A found c.in-Ok-replay.read.1.place image) (c.read_root.ensures.content told)
     (subst (λ (xs : List Placed). IsReplay START_A xs c.in-Ok-replay.read.1.place (g.D.Disk.state c.read_root.new.disk).content) (sym c.deref.ensures.value) (c.in-Ok-replay.ensures.read told)) in
     refused_entry content n c.in-Ok.root.location found (c.in-Ok.ensures.root told) place c.in-Ok-replay.read.1.place (c.in-Ok.ensures.indexed told) replay
-    (c.in-Err-apply_entries.ensures.damaged (start_at n) c.new-left.ensures
+    (c.in-Err-apply_entries.ensures.damaged (start_at n) c.new-catalog.ensures
     (small_places found c.in-Ok-replay.read.1.place content replay) place (ap Err (same_error _ _ e)))
+
+pub returns-in-Ok-apply_entries-clause-intact : goal.returns-in-Ok-apply_entries-clause-intact
+returns-in-Ok-apply_entries-clause-intact g c = (_, (c.in-Ok-apply_entries.ensures.applied (start_at c.in-Ok.root.next) c.new-catalog.ensures).1)

@@ -1,7 +1,6 @@
 use Rattle.alta_journal.specs.declared.entry.Entry.TheVariants.{Add}
 use Rattle.alta_store.specs.States.{with_added}
 use Rattle.alta_store.proofs.Commits.{closed, either, agrees_after, views_after, add_allowed, added_is}
-use Rattle.alta_store.proofs.KnowledgeLaws.{knows_more}
 use Rattle.alta_store.proofs.store.Store.commit.Goals as goal
 
 pub append-requires-clause-closed : goal.append-requires-clause-closed
@@ -16,8 +15,8 @@ returns-in-Ok-append-clause-agrees g c = λ s agrees.
     (add_allowed g.D.Disk.tells (g.D.Disk.state c.args.disk.now) (g.met.D.Disk.lawful c.args.disk.now) c.args.self.now s agrees c.args.name.now c.args.title.now c.args.body.now c.in-Ok.ready.entry c.in-Ok.ensures c.requires.free c.requires.number)
     (g.D.Disk.state c.append.new.disk) c.in-Ok-append.ensures.images (g.met.D.Disk.lawful c.append.new.disk) c.in-Ok-append.ensures.durable c.in-Ok-append.ensures.appended
     _ c.in-Ok-append.ensures.tail c.in-Ok-append.ensures.half
-    (λ told. knows_more c.args.self.now.next c.args.self.now.names c.args.self.now.documents s (agrees.content told).knows _ c.args.name.now c.args.title.now c.args.body.now c.requires.free c.in-Ok-note.ensures
-    c.in-Ok-document_of.document c.in-Ok-document_of.ensures _ c.in-Ok-push.ensures.pushed)
+    (λ told. c.in-Ok-add.ensures s (agrees.content told).knows)
+    (with_added c.args.name.now c.args.title.now c.args.body.now agrees.intact.0, c.in-Ok-add.ensures agrees.intact.0 agrees.intact.1)
 
 pub returns-in-Ok-append-clause-view : goal.returns-in-Ok-append-clause-view
 returns-in-Ok-append-clause-view g c = λ view stands.

@@ -1,6 +1,6 @@
-use Rattle.alta_store.proofs.WordCounts.{counts_are}
+use Rattle.std.proofs.Common.{◌∙◌}
+use Rattle.alta_store.proofs.FollowingLaws.{counts_are}
 use Rattle.alta_store.proofs.store.Store.counts.Goals as goal
 
 pub returns : goal.returns
-returns c = λ s image holds.
-    counts_are c.args.self.now s image holds _ c.as_slice-documents.ensures _ c.words_of.ensures
+returns c = λ s follows. counts_are c.args.self.now.catalog s follows

@@ -4,7 +4,7 @@ use Rattle.alta_disk.specs.Disk.{Stands}
 use Rattle.alta_disk.proofs.Moments.{only_same}
 use Rattle.alta_journal.specs.declared.half.Half.TheVariants.{A}
 use Rattle.alta_meta.specs.declared.document.State.{State}
-use Rattle.alta_store.specs.Agreement.{Agrees, HasView, Holds}
+use Rattle.alta_store.specs.Agreement.{Agrees, HasView, Holds, IsIntact}
 use Rattle.alta_store.specs.Brokenness.{HasNoIndex, IsBrokenAt}
 use Rattle.alta_store.specs.Meaning.{IsView, StandsFor}
 use Rattle.alta_store.specs.declared.store.Store.{Store}
@@ -22,6 +22,7 @@ returns-clause-agrees g c = λ s stands.
           (held_as g.D.Disk.tells (g.D.Disk.state c.sync.new.self).content c.load.result c.load.ensures.loaded c.load.ensures.no_root c.load.ensures.damaged c.load.ensures.only
           s store (λ told. subst (StandsFor s) (sym (c.sync.ensures.content told)) (stands told)) is told);
       half = IfOk-at_ok (λ (store : Store). store.tail.half ≡ A) is c.load.ensures.half;
+      intact = IfOk-at_ok IsIntact is c.load.ensures.intact;
     })
 
 pub returns-clause-some : goal.returns-clause-some
@@ -35,6 +36,7 @@ returns-clause-some g c =
             (g.D.Disk.state c.load.new.disk) c.load.ensures.images c.load.ensures.content;
         content = λ told. subst (Holds store held.0) (sym (c.load.ensures.content told)) (held.1 told);
         half = IfOk-at_ok (λ (store : Store). store.tail.half ≡ A) is c.load.ensures.half;
+        intact = IfOk-at_ok IsIntact is c.load.ensures.intact;
       },
     ))
 

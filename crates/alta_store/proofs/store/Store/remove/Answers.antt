@@ -2,13 +2,18 @@ use Rattle.std.proofs.Common.{ap}
 use Rattle.alta_journal.specs.Record.{Record}
 use Rattle.alta_journal.specs.declared.entry.Entry.TheVariants.{Delete}
 use Rattle.alta_store.specs.States.{with_deleted}
-use Rattle.alta_store.proofs.Commits.{closed, either, agrees_after, views_after, delete_allowed, deleted_after}
-use Rattle.alta_store.proofs.KnowledgeLaws.{knows_gone}
+use Rattle.alta_store.proofs.Commits.{closed, either, agrees_after, knows_deleted, views_after, delete_allowed, deleted_after}
+use Rattle.alta_store.proofs.FollowingLaws.{live_number}
 use Rattle.alta_store.proofs.store.Store.remove.Goals as goal
 
 pub append-requires-clause-closed : goal.append-requires-clause-closed
 append-requires-clause-closed g c =
     closed g.D.Disk.tells (g.D.Disk.state c.args.disk.now) (g.met.D.Disk.lawful c.args.disk.now) c.args.self.now c.requires.agrees.0 c.requires.agrees.1
+
+pub remove-requires : goal.remove-requires
+remove-requires g c =
+    let intact = c.requires.agrees.1.intact in
+    (intact.0, intact.1, live_number c.args.self.now.catalog intact.0 intact.1 c.args.name.now c.args.number c.requires.named)
 
 pub returns-in-Ok-append-clause-agrees : goal.returns-in-Ok-append-clause-agrees
 returns-in-Ok-append-clause-agrees g c = λ s agrees.
@@ -19,8 +24,8 @@ returns-in-Ok-append-clause-agrees g c = λ s agrees.
     (delete_allowed g.D.Disk.tells (g.D.Disk.state c.args.disk.now) (g.met.D.Disk.lawful c.args.disk.now) c.args.self.now s agrees c.args.name.now c.args.number c.in-Ok.ready.entry entry_is c.requires.named)
     (g.D.Disk.state c.append.new.disk) c.in-Ok-append.ensures.images (g.met.D.Disk.lawful c.append.new.disk) c.in-Ok-append.ensures.durable c.in-Ok-append.ensures.appended
     _ c.in-Ok-append.ensures.tail c.in-Ok-append.ensures.half
-    (λ told. knows_gone c.args.self.now.next c.args.self.now.names c.args.self.now.documents s (agrees.content told).knows c.forget.new.names c.args.name.now c.args.number c.requires.named c.forget.ensures
-    _ c.args.index c.requires.inside c.requires.at c.remove_at.ensures)
+    (λ told. knows_deleted c.args.self.now c.remove.new.self s (agrees.content told).knows c.args.name.now c.args.number c.requires.named c.in-Ok-remove.ensures)
+    (with_deleted c.args.name.now agrees.intact.0, knows_deleted c.args.self.now c.remove.new.self agrees.intact.0 agrees.intact.1 c.args.name.now c.args.number c.requires.named c.in-Ok-remove.ensures)
 
 pub returns-in-Ok-append-clause-view : goal.returns-in-Ok-append-clause-view
 returns-in-Ok-append-clause-view g c = λ view stands.
