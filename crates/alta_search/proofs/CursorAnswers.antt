@@ -1,20 +1,25 @@
 -- Open cursors as lists of answers: opening, fetching and closing change both alike.
-use Rattle.std.proofs.Common.{◌≡◌, ◌≢◌, ⊎_elim, ℕ, zero, suc, ◌+◌, ◌<◌, ◌≤◌, Bool, true, false, not, cond, List, [], ◌∷◌, ◌++◌, map, length, get_or, take, drop, refl, sym, subst, ap, ◌∙◌, arith}
-use Rattle.std.specs.Prelude.{All, AllPairs, Option, Some, None, IsSome, IsTrue, filter, ◌==◌, ◌↔◌}
+use Rattle.std.proofs.Common.{◌≡◌, ◌≢◌, ⊎_elim, ℕ, zero, suc, ◌+◌, ◌-◌, ◌<◌, ◌≤◌, Bool, true, false, not, cond, List, [], ◌∷◌, ◌++◌, map, length, get_or, take, drop, refl, sym, subst, ap, ◌∙◌, arith}
+use Rattle.std.specs.Prelude.{All, AllPairs, Option, Some, None, IsSome, IsTrue, filter, ◌==◌, ◌||◌, ◌↔◌}
+use Rattle.std.specs.List.{list_any}
 use Rattle.std.proofs.Math.ListN.{set}
 use Rattle.std.proofs.lemmas.Bool.{eqb-true, eq-eqb, ne_eqb, cases_eq, cond-true, cond-false}
-use Rattle.std.proofs.lemmas.List.Elements.{All-head, All-tail}
+use Rattle.std.proofs.lemmas.List.{map_push}
+use Rattle.std.proofs.lemmas.List.Elements.{All-head, All-tail, All-filter}
+use Rattle.std.proofs.lemmas.List.Kept.{AllPairs-filter}
 use Rattle.alta_compile.specs.Space.{Placed}
 use Rattle.alta_compile.specs.View.{tree}
 use Rattle.alta_meta.specs.declared.document.Document.{Document}
 use Rattle.alta_search.specs.Answers.{IsPage, coming}
 use Rattle.alta_search.specs.Documents.{AreToCome, told}
-use Rattle.alta_search.specs.Open.{OpenAnswers, AreLeft, AreOpen, IsOpen, IsPageOf, fetched, first_free, least_free, left_of, number_in, number_of, with_opened, with_fetched, without_cursor, work_of}
+use Rattle.alta_search.specs.Open.{OpenAnswers, AreLeft, AreNumbers, AreOpen, IsFetch, IsFetched, IsOpen, IsPageOf, is_taken, fetched, first_free, least_free, left_of, number_in, number_of, with_opened, with_fetched, without_cursor, work_of}
 use Rattle.alta_search.specs.Plans.{lists, locations}
 use Rattle.alta_search.specs.Told.{AnswerRow, answer_of}
 use Rattle.alta_search.specs.View.{CursorView, Shows}
 use Rattle.alta_search.specs.declared.cursors.OpenCursor.{OpenCursor}
+use Rattle.alta_search.specs.declared.cursors.TheConstants.{CURSORS}
 use Rattle.alta_search.specs.declared.page.Page.{Page}
+use Rattle.alta_search.proofs.CursorNumbers.{free_from_one, free_small, left_taken, taken_left, numbers_push}
 
 -- ---- lists that go together
 
@@ -103,11 +108,10 @@ none_fetched x count (c ∷ cs) (a ∷ all) none (here, h) =
 
 -- ---- a cursor has the number
 
--- what an index in the list says
-pub record IsAt (x : ℕ) (cs : List OpenCursor) (i : ℕ) (c : OpenCursor) : Type 0 where
+-- the cursor at the index has the number
+pub record IsAt (x : ℕ) (cs : List OpenCursor) (i : ℕ) (d : OpenCursor) : Type 0 where
   pub within : i < length cs
-  pub is : get_or cs i c ≡ c
-  pub number : c.number ≡ x
+  pub number : (get_or cs i d).number ≡ x
 
 pairs_head : (n : ℕ) (ns : List ℕ) → AllPairs (λ a b. a ≢ b) (n ∷ ns) → (k : ℕ) (d : ℕ) → k < length ns → n ≢ get_or ns k d
 pairs_head n ns h k d l = h 0 (suc k) d (omega arith) (omega (arith, l))
@@ -127,63 +131,77 @@ others_behind c cs h k d l e =
 
 -- the first has another number than one behind it
 other_first : (x i : ℕ) (c : OpenCursor) (cs : List OpenCursor) (d : OpenCursor) → AllPairs (λ a b. a ≢ b) (map number_in (c ∷ cs)) → IsAt x cs i d → c.number ≢ x
-other_first x i c cs d h at e =
-    others_behind c cs h i d at.within (ap (λ (o : OpenCursor). o.number) at.is ∙ at.number ∙ sym e)
+other_first x i c cs d h at e = others_behind c cs h i d at.within (at.number ∙ sym e)
 
 back : (x i : ℕ) (c : OpenCursor) (cs : List OpenCursor) (d : OpenCursor) → IsAt x (c ∷ cs) (suc i) d → IsAt x cs i d
-back x i c cs d at = record { within = let l = at.within in omega (arith, l); is = at.is; number = at.number }
+back x i c cs d at = record { within = let l = at.within in omega (arith, l); number = at.number }
 
 -- the answers of the cursor at the index are those that the number finds
-pub record IsLeftAt (x count : ℕ) (cs : List OpenCursor) (i : ℕ) (c new : OpenCursor) (all : List OpenAnswers) : Type 0 where
-  pub left : List Document
-  pub finds : left_of x all ≡ Some left
-  pub are : AreLeft c.cursor left
-  pub then : AreLeft new.cursor (drop count left) → AreOpen (set cs i new) (with_fetched x count all)
+record IsLeftAt (x count : ℕ) (cs : List OpenCursor) (i : ℕ) (d new : OpenCursor) (all : List OpenAnswers) : Type 0 where
+  left : List Document
+  finds : left_of x all ≡ Some left
+  are : AreLeft (get_or cs i d).cursor left
+  then : AreLeft new.cursor (drop count left) → AreOpen (set cs i new) (with_fetched x count all)
 
-pub left_at : (x count : ℕ) (cs : List OpenCursor) (i : ℕ) (c new : OpenCursor) (all : List OpenAnswers) → AllPairs (λ a b. a ≢ b) (map number_in cs) → IsAt x cs i c
-    → new.number ≡ c.number → AreOpen cs all → IsLeftAt x count cs i c new all
-left_at x count [] i c new all pairs at same h = absurd (let l = at.within in omega (arith, l))
-left_at x count (b ∷ cs) i c new [] pairs at same h = absurd h
-left_at x count (b ∷ cs) zero c new (a ∷ all) pairs at same (here, h) =
-    let is : b ≡ c = at.is in
-    let hit : a.number ≡ x = sym here.number ∙ ap (λ (o : OpenCursor). o.number) is ∙ at.number in
-    let none : All (λ (d : OpenCursor). d.number ≢ x) cs =
-    subst (λ n. All (λ (d : OpenCursor). d.number ≢ n) cs) (here.number ∙ hit) (others_behind b cs pairs) in
-    let moved : fetched x count a ≡ record { number = a.number; left = drop count a.left } =
-    cond-true (a.number == x) (record { number = a.number; left = drop count a.left }) a (eq-eqb a.number x hit) in
+left_at : (x count : ℕ) (cs : List OpenCursor) (i : ℕ) (d new : OpenCursor) (all : List OpenAnswers) → AllPairs (λ a b. a ≢ b) (map number_in cs) → IsAt x cs i d
+    → new.number ≡ (get_or cs i d).number → AreOpen cs all → IsLeftAt x count cs i d new all
+left_at x count [] i d new all pairs at same h = absurd (let l = at.within in omega (arith, l))
+left_at x count (c ∷ cs) i d new [] pairs at same h = absurd h
+left_at x count (c ∷ cs) zero d new (a ∷ all) pairs at same (here, h) =
+    let hit : a.number ≡ x = sym here.number ∙ at.number in
+    let none : All (λ (o : OpenCursor). o.number ≢ x) cs = subst (λ n. All (λ (o : OpenCursor). o.number ≢ n) cs) at.number (others_behind c cs pairs) in
+    let less : OpenAnswers = record { number = a.number; left = drop count a.left } in
+    let moved : fetched x count a ≡ less = cond-true (a.number == x) less a (eq-eqb a.number x hit) in
     record {
       left = a.left;
       finds = cond-true (a.number == x) (Some a.left) (left_of x all) (eq-eqb a.number x hit);
-      are = subst (λ (o : OpenCursor). AreLeft o.cursor a.left) is here.left;
+      are = here.left;
       then = λ left.
-          subst (λ l. AreOpen (new ∷ cs) l) (sym (ap (λ d. d ∷ with_fetched x count all) moved ∙ ap (λ l. record { number = a.number; left = drop count a.left } ∷ l) (none_fetched x count cs all none h)))
-          (record { number = same ∙ sym (ap (λ (o : OpenCursor). o.number) is) ∙ here.number; left = left }, h);
+          subst (AreOpen (new ∷ cs)) (sym (ap (λ b. b ∷ with_fetched x count all) moved ∙ ap (λ l. less ∷ l) (none_fetched x count cs all none h)))
+          (record { number = same ∙ here.number; left = left }, h);
     }
-left_at x count (b ∷ cs) (suc i) c new (a ∷ all) pairs at same (here, h) =
-    let at_rest = back x i b cs c at in
-    let other : b.number ≢ x = other_first x i b cs c pairs at_rest in
+left_at x count (c ∷ cs) (suc i) d new (a ∷ all) pairs at same (here, h) =
+    let at_rest = back x i c cs d at in
+    let other = other_first x i c cs d pairs at_rest in
+    let less : OpenAnswers = record { number = a.number; left = drop count a.left } in
     let miss : (a.number == x) ≡ false = ne_eqb a.number x (λ e. other (here.number ∙ e)) in
-    let rest = left_at x count cs i c new all (pairs_tail b.number (map number_in cs) pairs) at_rest same h in
+    let rest = left_at x count cs i d new all (pairs_tail c.number (map number_in cs) pairs) at_rest same h in
     record {
       left = rest.left;
       finds = cond-false (a.number == x) (Some a.left) (left_of x all) miss ∙ rest.finds;
       are = rest.are;
-      then = λ left.
-          subst (λ d. AreOpen (b ∷ set cs i new) (d ∷ with_fetched x count all)) (sym (cond-false (a.number == x) (record { number = a.number; left = drop count a.left }) a miss))
-          (here, rest.then left);
+      then = λ left. subst (λ b. AreOpen (c ∷ set cs i new) (b ∷ with_fetched x count all)) (sym (cond-false (a.number == x) less a miss)) (here, rest.then left);
     }
 
-pub work_at : (x : ℕ) (cs : List OpenCursor) (i : ℕ) (c : OpenCursor) → AllPairs (λ a b. a ≢ b) (map number_in cs) → IsAt x cs i c
-    → work_of x cs ≡ locations c.cursor.snapshot.cuts + lists c.cursor.snapshot.cuts
-work_at x [] i c pairs at = absurd (let l = at.within in omega (arith, l))
-work_at x (b ∷ cs) zero c pairs at =
-    let is : b ≡ c = at.is in
-    cond-true (b.number == x) (locations b.cursor.snapshot.cuts + lists b.cursor.snapshot.cuts) (work_of x cs) (eq-eqb b.number x (ap (λ (o : OpenCursor). o.number) is ∙ at.number))
-    ∙ ap (λ (o : OpenCursor). locations o.cursor.snapshot.cuts + lists o.cursor.snapshot.cuts) is
-work_at x (b ∷ cs) (suc i) c pairs at =
-    let at_rest = back x i b cs c at in
-    cond-false (b.number == x) (locations b.cursor.snapshot.cuts + lists b.cursor.snapshot.cuts) (work_of x cs) (ne_eqb b.number x (other_first x i b cs c pairs at_rest))
-    ∙ work_at x cs i c (pairs_tail b.number (map number_in cs) pairs) at_rest
+-- what a page of a cursor says, in words of documents
+abbrev pub IsTold : ℕ → Page → CursorView → CursorView → Type 0
+IsTold count page old new = (left : List Document) → AreLeft old left → IsPageOf count left page × AreLeft new (drop count left)
+
+pub fetch_some : (x count : ℕ) (cs : List OpenCursor) (i : ℕ) (d new : OpenCursor) (page : Page) → AllPairs (λ a b. a ≢ b) (map number_in cs) → IsAt x cs i d
+    → new.number ≡ (get_or cs i d).number → IsTold count page (get_or cs i d).cursor new.cursor → IsFetch x count cs (set cs i new) (Some page)
+fetch_some x count cs i d new page pairs at same is = record {
+  page = λ all h. let l = left_at x count cs i d new all pairs at same h in subst (λ o. IsFetched count o (Some page)) (sym l.finds) (is l.left l.are).0;
+  left = λ all h. let l = left_at x count cs i d new all pairs at same h in l.then (is l.left l.are).1;
+  none = λ h. absurd cc;
+}
+
+pub fetch_none : (x count : ℕ) (cs : List OpenCursor) → All (λ c. c.number ≢ x) cs → IsFetch x count cs cs None
+fetch_none x count cs none = record {
+  page = λ all h. subst (λ o. IsFetched count o None) (sym (none_left x cs all none h)) tt;
+  left = λ all h. subst (AreOpen cs) (sym (none_fetched x count cs all none h)) h;
+  none = λ _. refl;
+}
+
+abbrev pub cursor_work : OpenCursor → ℕ
+cursor_work c = locations c.cursor.snapshot.cuts + lists c.cursor.snapshot.cuts
+
+pub work_at : (x : ℕ) (cs : List OpenCursor) (i : ℕ) (d : OpenCursor) → AllPairs (λ a b. a ≢ b) (map number_in cs) → IsAt x cs i d → work_of x cs ≡ cursor_work (get_or cs i d)
+work_at x [] i d pairs at = absurd (let l = at.within in omega (arith, l))
+work_at x (c ∷ cs) zero d pairs at = cond-true (c.number == x) (cursor_work c) (work_of x cs) (eq-eqb c.number x at.number)
+work_at x (c ∷ cs) (suc i) d pairs at =
+    let at_rest = back x i c cs d at in
+    cond-false (c.number == x) (cursor_work c) (work_of x cs) (ne_eqb c.number x (other_first x i c cs d pairs at_rest))
+    ∙ work_at x cs i d (pairs_tail c.number (map number_in cs) pairs) at_rest
 
 -- ---- a page
 
@@ -227,3 +245,74 @@ page_documents old new count page before after left plan snapshot is h =
         answers = ap (λ q. map answer_of (coming h.space (tree q) new.snapshot new.from)) plan ∙ ap (λ s. map answer_of (coming h.space t s new.from)) snapshot ∙ dropped;
       },
     )
+
+-- ---- the calls
+
+pub any_number : (x : ℕ) (cs : List OpenCursor) → list_any (λ c. c.number == x) cs ≡ is_taken x (map number_in cs)
+any_number x [] = refl
+any_number x (c ∷ cs) = ap (λ b. (c.number == x) || b) (any_number x cs)
+
+pub had_is : (x : ℕ) (held cs : List OpenCursor) (all : List OpenAnswers) (had : Bool) → had ≡ list_any (λ c. c.number == x) held → held ≡ cs → AreOpen cs all
+    → IsTrue had ↔ IsSome (left_of x all)
+had_is x held cs all had found same h =
+    let is : had ≡ is_taken x (map number_of all) =
+    found ∙ any_number x held ∙ ap (λ (l : List OpenCursor). is_taken x (map number_in l)) same ∙ ap (is_taken x) (same_numbers cs all h) in
+    (λ yes. left_taken x all (sym is ∙ yes), λ some. is ∙ taken_left x all some)
+
+pub numbers_kept : (x : ℕ) (cs new : List OpenCursor) → new ≡ filter (λ c. not (c.number == x)) cs → AreNumbers (map number_in cs) → AreNumbers (map number_in new)
+numbers_kept x cs new kept h =
+    subst AreNumbers (sym (ap (map number_in) kept ∙ numbers_filter x cs))
+    (record {
+      within = All-filter (λ n. not (n == x)) (λ n. (1 ≤ n) × (n ≤ CURSORS)) (map number_in cs) h.within;
+      different = AllPairs-filter (λ a b. a ≢ b) (λ n. not (n == x)) (map number_in cs) h.different;
+    })
+
+pub open_kept : (x : ℕ) (held cs new : List OpenCursor) (all : List OpenAnswers) → new ≡ filter (λ c. not (c.number == x)) held → held ≡ cs → AreOpen cs all
+    → AreOpen new (without_cursor x all)
+open_kept x held cs new all kept same h =
+    subst (λ l. AreOpen l (without_cursor x all)) (sym kept) (open_filter x held all (subst (λ l. AreOpen l all) (sym same) h))
+
+-- what the free number of cursors is
+abbrev pub free_in : List OpenCursor → ℕ
+free_in cs = first_free (length cs) 1 (map number_in cs)
+
+pub free_range : (cs : List OpenCursor) (n : ℕ) → n ≡ free_in cs → length cs < CURSORS → (1 ≤ n) × (n ≤ CURSORS)
+free_range cs n is few =
+    let ns = map number_in cs in
+    let same : first_free (length ns) 1 ns ≡ free_in cs = ap (λ k. first_free k 1 ns) (length_numbers cs) in
+    let low = free_from_one ns in let high = free_small ns in
+    (omega (arith, is, same, low), omega (arith, is, same, high, few, length_numbers cs))
+
+pub numbers_opened : (cs new : List OpenCursor) (c : OpenCursor) → new ≡ cs ++ c ∷ [] → c.number ≡ free_in cs → length cs < CURSORS → AreNumbers (map number_in cs)
+    → AreNumbers (map number_in new)
+numbers_opened cs new c pushed is few h =
+    let ns = map number_in cs in
+    let number : first_free (length ns) 1 ns ≡ c.number = ap (λ k. first_free k 1 ns) (length_numbers cs) ∙ sym is in
+    subst AreNumbers (sym (ap (map number_in) pushed ∙ map_push number_in cs c))
+    (subst (λ n. AreNumbers (ns ++ n ∷ [])) number (numbers_push ns h (omega (arith, few, length_numbers cs))))
+
+pub opened_is : (cs new : List OpenCursor) (c : OpenCursor) (all : List OpenAnswers) (documents : List Document) → new ≡ cs ++ c ∷ [] → c.number ≡ free_in cs
+    → AreOpen cs all → AreLeft c.cursor documents → AreOpen new (with_opened documents all)
+opened_is cs new c all documents pushed is h left =
+    subst (λ l. AreOpen l (with_opened documents all)) (sym pushed)
+    (open_push cs all c (record { number = least_free all; left = documents }) h (record { number = is ∙ same_free cs all h; left = left }))
+
+-- a number that is taken leads on to the next one
+pub free_step : (size tried free : ℕ) (held : List OpenCursor) → tried < size → list_any (λ c. c.number == tried + 1) held ≡ true
+    → first_free (size - tried) (tried + 1) (map number_in held) ≡ free → first_free (size - (tried + 1)) (tried + 1 + 1) (map number_in held) ≡ free
+free_step size tried free held lt taken h =
+    let ns = map number_in held in
+    let rest = first_free (size - (tried + 1)) (tried + 1 + 1) ns in
+    let more : size - tried ≡ suc (size - (tried + 1)) = omega arith in
+    sym (cond-true (is_taken (tried + 1) ns) rest (tried + 1) (sym (any_number (tried + 1) held) ∙ taken))
+    ∙ ap (λ k. first_free k (tried + 1) ns) (sym more) ∙ h
+
+-- a number that is not taken is the free one
+pub free_here : (size tried free : ℕ) (held : List OpenCursor) → tried < size → list_any (λ c. c.number == tried + 1) held ≡ false
+    → first_free (size - tried) (tried + 1) (map number_in held) ≡ free → tried + 1 ≡ free
+free_here size tried free held lt none h =
+    let ns = map number_in held in
+    let rest = first_free (size - (tried + 1)) (tried + 1 + 1) ns in
+    let more : size - tried ≡ suc (size - (tried + 1)) = omega arith in
+    sym (cond-false (is_taken (tried + 1) ns) rest (tried + 1) (sym (any_number (tried + 1) held) ∙ none))
+    ∙ ap (λ k. first_free k (tried + 1) ns) (sym more) ∙ h

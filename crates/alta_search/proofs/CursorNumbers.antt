@@ -1,6 +1,6 @@
 -- The numbers of open cursors: the least free one is free, and is at most one more than they are.
 use Rattle.std.proofs.Common.{◌≡◌, ◌≢◌, ⊎_elim, ℕ, zero, suc, ◌+◌, ◌<◌, ◌≤◌, Bool, true, false, not, cond, List, [], ◌∷◌, ◌++◌, map, length, get_or, refl, sym, subst, ap, ◌∙◌, arith}
-use Rattle.std.specs.Prelude.{All, AllPairs, Some, None, IsSome, filter, ◌==◌}
+use Rattle.std.specs.Prelude.{All, AllPairs, Some, None, IsSome, is_some, filter, ◌==◌}
 use Rattle.std.proofs.lemmas.Bool.{eqb-true, eqb-false, eq-eqb, ne_eqb, cases_eq, cases_lt, cases_Bool, both_ways, cond_both, cond-true, cond-false, or_cases, or_left, or_right}
 use Rattle.std.proofs.lemmas.List.Elements.{All-push}
 use Rattle.std.proofs.lemmas.List.Quantifiers.{all_pairs_push}
@@ -137,12 +137,16 @@ left_free x (c ∷ cs) h =
     ∙ left_free x cs (⊎_elim (λ t. absurd (both_ways (is_taken x (map number_of (c ∷ cs))) h (taken_tail x c.number (map number_of cs) t))) (λ f. f) (cases_Bool (is_taken x (map number_of cs)))))
     (cases_eq c.number x)
 
-left_taken : (x : ℕ) (cs : List OpenAnswers) → is_taken x (map number_of cs) ≡ true → IsSome (left_of x cs)
+pub left_taken : (x : ℕ) (cs : List OpenAnswers) → is_taken x (map number_of cs) ≡ true → IsSome (left_of x cs)
 left_taken x [] h = absurd cc
 left_taken x (c ∷ cs) h =
     cond_both (c.number == x) (Some c.left) (left_of x cs) IsSome
     (λ _. refl)
     (λ no. left_taken x cs (⊎_elim (λ yes. absurd (both_ways (c.number == x) no yes)) (λ t. t) (or_cases (c.number == x) (is_taken x (map number_of cs)) h)))
+
+pub taken_left : (x : ℕ) (cs : List OpenAnswers) → IsSome (left_of x cs) → is_taken x (map number_of cs) ≡ true
+taken_left x cs some =
+    ⊎_elim (λ t. t) (λ f. absurd (let none = left_free x cs f in let bad : is_some (left_of x cs) ≡ false = ap is_some none in both_ways (is_some (left_of x cs)) bad some)) (cases_Bool (is_taken x (map number_of cs)))
 
 length_numbers : (cs : List OpenAnswers) → length (map number_of cs) ≡ length cs
 length_numbers [] = refl

@@ -1,7 +1,8 @@
 // The open cursors of a run.
-ghost use Rattle.std.specs.Prelude.{◌≡◌, ◌≢◌, ◌↔◌, ℕ, ◌+◌, ◌<◌, ◌≤◌, List, [], map, length, drop, All, AllPairs, HoldsAt, IsTrue, IsSome, IfSome, IfNone, IfOk, OnOk, OnErr};
+ghost use Rattle.std.specs.Prelude.{◌≡◌, ◌≢◌, ◌↔◌, ℕ, ◌+◌, ◌<◌, ◌≤◌, ◌==◌, List, [], map, length, drop, All, AllPairs, HoldsAt, IsTrue, IsSome, IfSome, IfNone, IfOk, OnOk, OnErr};
+ghost use Rattle.std.specs.List.{list_any};
 ghost use Rattle.alta_meta.specs.declared.document.Document.{Document};
-ghost use Rattle.alta_search.specs.Open.{OpenAnswers, AreLeft, AreOpen, IsPageOf, IsFetch, number_in, is_taken, first_free, least_free, left_of, with_opened, without_cursor, work_of};
+ghost use Rattle.alta_search.specs.Open.{OpenAnswers, AreLeft, AreOpen, IsPageOf, IsFetch, number_in, first_free, least_free, left_of, with_opened, without_cursor, work_of};
 ghost use Rattle.alta_search.specs.Plans.{lists, locations};
 
 use crate::cursor::Cursor;
@@ -27,7 +28,7 @@ pub struct OpenCursor {
 /// in the order in which they were opened.
 #[derive(Drop)]
 pub struct Cursors {
-    open: Vec<OpenCursor>,
+    cursors: Vec<OpenCursor>,
 }
 
 impl Model for Cursors {
@@ -41,9 +42,9 @@ impl Model for Cursors {
 
     ghost coded = { Prim.hlevel (codes, e.the_row.coded) };
 
-    ghost view = { λ c. c.open.items };
+    ghost view = { λ c. c.cursors.items };
 
-    ghost invariant = { λ c. AreNumbers (map number_in c.open.items) };
+    ghost invariant = { λ c. AreNumbers (map number_in c.cursors.items) };
 }
 
 impl Cursors {
@@ -52,7 +53,7 @@ impl Cursors {
         ensures { result ≡ [] }
     {
         Cursors {
-            open: Vec::new(alloc),
+            cursors: Vec::new(alloc),
         }
     }
 
@@ -61,7 +62,7 @@ impl Cursors {
         ensures full { IsTrue result ↔ (CURSORS ≤ length self.now) }
         ensures answers { (all : List OpenAnswers) → AreOpen self.now all → IsTrue result ↔ (CURSORS ≤ length all) }
     {
-        self.open.len() >= CURSORS
+        self.cursors.len() >= CURSORS
     }
 
     /// Opens a cursor, and gives it the least number from 1 on that no open cursor has. Fails for want of memory alone; no
@@ -73,8 +74,8 @@ impl Cursors {
         ensures range { IfOk result (λ number. (1 ≤ number) × (number ≤ CURSORS)) }
         ensures kept { OnErr result (self.new ≡ self.old) }
     {
-        let number = free_number(&self.open);
-        self.open.push(OpenCursor { number, cursor })?;
+        let number = free_number(&self.cursors);
+        self.cursors.push(OpenCursor { number, cursor })?;
         Ok(number)
     }
 
@@ -92,7 +93,7 @@ impl Cursors {
         ensures most { steps.new ≤ steps.old + work_of number self.old }
         ensures kept { OnErr result (self.new ≡ self.old) }
     {
-        fetch_from(&mut self.open, alloc, number, count, steps)
+        fetch_from(&mut self.cursors, alloc, number, count, steps)
     }
 
     /// Closes the cursor with this number. Whether an open cursor has it.
@@ -100,39 +101,39 @@ impl Cursors {
         ensures had { (all : List OpenAnswers) → AreOpen self.old all → IsTrue result ↔ IsSome (left_of number all) }
         ensures closed { (all : List OpenAnswers) → AreOpen self.old all → AreOpen self.new (without_cursor number all) }
     {
-        let had = has(&self.open, number);
-        self.open.retain(|open| open.number != number);
+        let had = has(&self.cursors, number);
+        self.cursors.retain(|other| other.number != number);
         had
     }
 }
 
 /// The least number from 1 on that none of these cursors has.
-fn free_number(open: &[OpenCursor]) -> u64
-    requires { length open.now < CURSORS }
-    ensures { result ≡ first_free (length open.now) 1 (map number_in open.now) }
+fn free_number(cursors: &[OpenCursor]) -> u64
+    requires { length cursors.now < CURSORS }
+    ensures { result ≡ first_free (length cursors.now) 1 (map number_in cursors.now) }
 {
-    for tried in 0..open.len() as u64 {
-        if !has(open, tried + 1) {
+    for tried in 0..cursors.len() as u64 {
+        if !has(cursors, tried + 1) {
             return tried + 1;
         }
     }
-    open.len() as u64 + 1
+    cursors.len() as u64 + 1
 }
 
 /// Whether one of these cursors has the number.
-fn has(open: &[OpenCursor], number: u64) -> bool
-    ensures { result ≡ is_taken number (map number_in open.now) }
+fn has(cursors: &[OpenCursor], number: u64) -> bool
+    ensures { result ≡ list_any (λ c. c.number == number) cursors.now }
 {
-    open.iter().any(|other| other.number == number)
+    cursors.iter().any(|other| other.number == number)
 }
 
 /// The index of the cursor with this number, if it is there.
-fn place_of(open: &[OpenCursor], number: u64) -> Option<usize>
-    ensures inside { IfSome result (λ place. place < length open.now) }
-    ensures there { IfSome result (HoldsAt (λ c. c.number ≡ number) open.now) }
-    ensures none { IfNone result (All (λ c. c.number ≢ number) open.now) }
+fn place_of(cursors: &[OpenCursor], number: u64) -> Option<usize>
+    ensures inside { IfSome result (λ place. place < length cursors.now) }
+    ensures there { IfSome result (HoldsAt (λ c. c.number ≡ number) cursors.now) }
+    ensures none { IfNone result (All (λ c. c.number ≢ number) cursors.now) }
 {
-    for (place, other) in open.iter().enumerate() {
+    for (place, other) in cursors.iter().enumerate() {
         if other.number == number {
             return Some(place);
         }
@@ -156,22 +157,22 @@ fn page_of<L: Ledger>(
 
 /// The next answers of the cursor with this number.
 fn fetch_from<L: Ledger>(
-    open: &mut [OpenCursor],
+    cursors: &mut [OpenCursor],
     alloc: Global,
     number: u64,
     count: u64,
     steps: &mut Steps<L>,
 ) -> Result<Option<Page>, AllocError>
-    requires { AllPairs (λ a b. a ≢ b) (map number_in open.old) }
-    ensures fetched { IfOk result (IsFetch number count open.old open.new) }
-    ensures numbers { map number_in open.new ≡ map number_in open.old }
-    ensures most { steps.new ≤ steps.old + work_of number open.old }
-    ensures kept { OnErr result (open.new ≡ open.old) }
+    requires { AllPairs (λ a b. a ≢ b) (map number_in cursors.old) }
+    ensures fetched { IfOk result (IsFetch number count cursors.old cursors.new) }
+    ensures numbers { map number_in cursors.new ≡ map number_in cursors.old }
+    ensures most { steps.new ≤ steps.old + work_of number cursors.old }
+    ensures kept { OnErr result (cursors.new ≡ cursors.old) }
 {
-    match place_of(open, number) {
+    match place_of(cursors, number) {
         None => Ok(None),
         Some(place) => {
-            let page = page_of(&mut open[place].cursor, alloc, count, steps)?;
+            let page = page_of(&mut cursors[place].cursor, alloc, count, steps)?;
             Ok(Some(page))
         }
     }

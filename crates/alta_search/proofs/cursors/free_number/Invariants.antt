@@ -4,4 +4,4 @@ use Rattle.alta_search.proofs.cursors.free_number.Given as goal
 
 abbrev pub invariant-loop-tried : goal.invariant-loop-tried
 invariant-loop-tried l =
-    first_free (length l.open - l.tried) (l.tried + 1) (map number_in l.open) ≡ first_free (length l.open) 1 (map number_in l.open)
+    first_free (length l.cursors - l.tried) (l.tried + 1) (map number_in l.cursors) ≡ first_free (length l.cursors) 1 (map number_in l.cursors)
