@@ -1,9 +1,9 @@
 -- Open cursors as lists of answers: opening, fetching and closing change both alike.
-use Rattle.std.proofs.Common.{◌≡◌, ◌≢◌, ⊎_elim, ℕ, zero, suc, ◌+◌, ◌-◌, ◌<◌, ◌≤◌, Bool, true, false, not, cond, List, [], ◌∷◌, ◌++◌, map, length, get_or, take, drop, refl, sym, subst, ap, ◌∙◌, arith}
-use Rattle.std.specs.Prelude.{All, AllPairs, Option, Some, None, IsSome, IsTrue, filter, ◌==◌, ◌||◌, ◌↔◌}
+use Rattle.std.proofs.Common.{◌≡◌, ◌≢◌, ⊎_elim, ℕ, zero, suc, ◌+◌, ◌-◌, ◌<◌, ◌≤◌, Bool, true, false, not, List, [], ◌∷◌, ◌++◌, map, length, get_or, take, drop, refl, sym, subst, ap, ◌∙◌, arith}
+use Rattle.std.specs.Prelude.{All, AllPairs, Some, None, IsSome, IsTrue, filter, ◌==◌, ◌||◌, ◌↔◌}
 use Rattle.std.specs.List.{list_any}
 use Rattle.std.proofs.Math.ListN.{set}
-use Rattle.std.proofs.lemmas.Bool.{eqb-true, eq-eqb, ne_eqb, cases_eq, cond-true, cond-false}
+use Rattle.std.proofs.lemmas.Bool.{eq-eqb, ne_eqb, cases_eq, cond-true, cond-false}
 use Rattle.std.proofs.lemmas.List.{map_push}
 use Rattle.std.proofs.lemmas.List.Elements.{All-head, All-tail, All-filter}
 use Rattle.std.proofs.lemmas.List.Kept.{AllPairs-filter}
@@ -11,10 +11,10 @@ use Rattle.alta_compile.specs.Space.{Placed}
 use Rattle.alta_compile.specs.View.{tree}
 use Rattle.alta_meta.specs.declared.document.Document.{Document}
 use Rattle.alta_search.specs.Answers.{IsPage, coming}
-use Rattle.alta_search.specs.Documents.{AreToCome, told}
+use Rattle.alta_search.specs.Documents.{told}
 use Rattle.alta_search.specs.Open.{OpenAnswers, AreLeft, AreNumbers, AreOpen, IsFetch, IsFetched, IsOpen, IsPageOf, is_taken, fetched, first_free, least_free, left_of, number_in, number_of, with_opened, with_fetched, without_cursor, work_of}
 use Rattle.alta_search.specs.Plans.{lists, locations}
-use Rattle.alta_search.specs.Told.{AnswerRow, answer_of}
+use Rattle.alta_search.specs.Told.{answer_of}
 use Rattle.alta_search.specs.View.{CursorView, Shows}
 use Rattle.alta_search.specs.declared.cursors.OpenCursor.{OpenCursor}
 use Rattle.alta_search.specs.declared.cursors.TheConstants.{CURSORS}
@@ -233,8 +233,7 @@ page_documents old new count page before after left plan snapshot is h =
     let dropped : map answer_of rest ≡ map told (drop count left) =
     ap (map answer_of) p.left ∙ map_drop answer_of count some ∙ ap (drop count) h.answers ∙ sym (map_drop told count left) in
     let size : length rest ≡ length (drop count left) =
-    sym (length_map answer_of rest) ∙ ap length dropped ∙ length_map told (drop count left) in
-    (
+    sym (length_map answer_of rest) ∙ ap length dropped ∙ length_map told (drop count left) in (
       record {
         answers = p.answers ∙ taken;
         more = (λ yes. let l = p.more.0 yes in omega (arith, l, size), λ l. p.more.1 (omega (arith, l, size)));

@@ -68,7 +68,7 @@ pub record IsLeastFree (number : ℕ) (cursors : List OpenAnswers) : Type 0 wher
 abbrev pub number_in : OpenCursor → ℕ
 number_in c = c.number
 
--- the numbers of open cursors are from 1 on, and no two are the same
+-- the numbers of open cursors: each is from 1 to the greatest number of open cursors, and no two are the same
 pub record AreNumbers (numbers : List ℕ) : Type 0 where
   pub within : All (λ n. (1 ≤ n) × (n ≤ CURSORS)) numbers
   pub different : AllPairs (λ a b. a ≢ b) numbers

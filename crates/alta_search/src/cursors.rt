@@ -96,7 +96,7 @@ impl Cursors {
         fetch_from(&mut self.cursors, alloc, number, count, steps)
     }
 
-    /// Closes the cursor with this number. Whether an open cursor has it.
+    /// Closes the cursor with this number. Whether an open cursor had it.
     pub fn close(&mut self, number: u64) -> bool
         ensures had { (all : List OpenAnswers) → AreOpen self.old all → IsTrue result ↔ IsSome (left_of number all) }
         ensures closed { (all : List OpenAnswers) → AreOpen self.old all → AreOpen self.new (without_cursor number all) }

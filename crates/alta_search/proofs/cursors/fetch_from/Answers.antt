@@ -1,9 +1,8 @@
-use Rattle.std.proofs.Common.{refl, ap, ◌∙◌, sym, arith}
+use Rattle.std.proofs.Common.{refl, arith}
 use Rattle.std.proofs.Math.Seq.{map-set_same}
 use Rattle.alta_search.specs.Open.{number_in}
 use Rattle.alta_search.proofs.CursorAnswers.{IsAt, fetch_none, fetch_some, work_at}
 use Rattle.alta_search.proofs.cursors.fetch_from.Goals as goal
-use Rattle.alta_search.proofs.cursors.fetch_from.Given as given
 
 pub returns-in_err-page-in-Some-clause-most : goal.returns-in_err-page-in-Some-clause-most
 returns-in_err-page-in-Some-clause-most g c =

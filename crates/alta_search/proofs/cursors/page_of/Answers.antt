@@ -1,6 +1,5 @@
 use Rattle.std.specs.Prelude.{List}
 use Rattle.std.proofs.lemmas.Result.{IfOk-weaker}
-use Rattle.alta_meta.specs.declared.document.Document.{Document}
 use Rattle.alta_search.specs.Answers.{IsPage}
 use Rattle.alta_search.specs.declared.page.Page.{Page}
 use Rattle.alta_compile.specs.Space.{Placed}
