@@ -1,0 +1,31 @@
+use Rattle.std.proofs.Common.{refl, arith}
+use Rattle.std.proofs.Math.Seq.{map-set_same}
+use Rattle.alta_search.specs.Open.{number_in}
+use Rattle.alta_search.proofs.CursorAnswers.{IsAt, fetch_none, fetch_some, work_at}
+use Rattle.alta_search.proofs.cursors.fetch_from.Goals as goal
+
+pub returns-in_err-page-in-Some-clause-most : goal.returns-in_err-page-in-Some-clause-most
+returns-in_err-page-in-Some-clause-most g c =
+    let held = c.args.cursors.now in let d = c.index-cursors-place.result in
+    let at : IsAt c.args.number held c.in-Some.place d = record { within = c.in-Some.ensures.inside; number = c.in-Some.ensures.there d } in
+    let work = work_at c.args.number held c.in-Some.place d c.requires at in
+    omega (arith, work, c.page_of.ensures.most)
+
+pub returns-in-None-clause-fetched : goal.returns-in-None-clause-fetched
+returns-in-None-clause-fetched g c = fetch_none c.args.number c.args.count c.args.cursors.now c.in-None.ensures.none
+
+pub returns-in_ok-page-in-Some-clause-fetched : goal.returns-in_ok-page-in-Some-clause-fetched
+returns-in_ok-page-in-Some-clause-fetched g c =
+    let held = c.args.cursors.now in let d = c.index-cursors-place.result in
+    let at : IsAt c.args.number held c.in-Some.place d = record { within = c.in-Some.ensures.inside; number = c.in-Some.ensures.there d } in
+    fetch_some c.args.number c.args.count held c.in-Some.place d _ c.in_ok-page-in-Some.page c.requires at refl c.in_ok-page-in-Some.ensures.page
+
+pub returns-in_ok-page-in-Some-clause-numbers : goal.returns-in_ok-page-in-Some-clause-numbers
+returns-in_ok-page-in-Some-clause-numbers g c = map-set_same number_in c.args.cursors.now c.in-Some.place _ c.index-cursors-place.result refl
+
+pub returns-in_ok-page-in-Some-clause-most : goal.returns-in_ok-page-in-Some-clause-most
+returns-in_ok-page-in-Some-clause-most g c =
+    let held = c.args.cursors.now in let d = c.index-cursors-place.result in
+    let at : IsAt c.args.number held c.in-Some.place d = record { within = c.in-Some.ensures.inside; number = c.in-Some.ensures.there d } in
+    let work = work_at c.args.number held c.in-Some.place d c.requires at in
+    omega (arith, work, c.page_of.ensures.most)

@@ -1,0 +1,18 @@
+use Rattle.std.specs.Prelude.{List}
+use Rattle.std.proofs.lemmas.Result.{IfOk-weaker}
+use Rattle.alta_search.specs.Answers.{IsPage}
+use Rattle.alta_search.specs.declared.page.Page.{Page}
+use Rattle.alta_compile.specs.Space.{Placed}
+use Rattle.alta_compile.specs.View.{tree}
+use Rattle.alta_search.specs.View.{Shows}
+use Rattle.alta_search.proofs.CursorAnswers.{IsTold, page_documents}
+use Rattle.alta_search.proofs.cursors.page_of.Goals as goal
+
+pub returns-clause-page : goal.returns-clause-page
+returns-clause-page g c =
+    let old = c.args.cursor.now in let new = c.fetch.new.self in
+    IfOk-weaker c.fetch.result
+    (λ (page : Page). (space : List Placed) → Shows space old.snapshot → IsPage space (tree old.plan) old.snapshot old.from new.from c.args.count page c.args.steps.now c.fetch.new.steps)
+    (λ page. IsTold c.args.count page old new)
+    (λ page h left are. page_documents old new c.args.count page c.args.steps.now c.fetch.new.steps left c.fetch.ensures.plan c.fetch.ensures.snapshot h are)
+    c.fetch.ensures.page

@@ -1,0 +1,172 @@
+// Open cursors over three documents, of which each is an answer.
+ghost use Rattle.std.specs.Prelude.{◌≡◌, ◌<◌, [], ◌∷◌, length, IfOk};
+ghost use Rattle.alta_codec.specs.Rising.{IsRising};
+ghost use Rattle.alta_compile.specs.Space.{document_end};
+ghost use Rattle.alta_compile.specs.View.{tree};
+ghost use Rattle.alta_rows.specs.All.{ends_of};
+ghost use Rattle.alta_search.specs.Lists.{test_in, test_lists, test_keys, IsCut, AreKeys};
+ghost use Rattle.alta_search.specs.Plans.{tests_of};
+
+use crate::cursor::Cursor;
+use crate::cursors::{CURSORS, Cursors};
+use crate::lists::{LevelList, Stored, TermLists, TestLists};
+use crate::page::Page;
+use crate::snapshot::Snapshot;
+use alta_codec::{Bytes, Loc, Steps, Text};
+use alta_compile::Plan;
+use alta_content::DocRow;
+use alta_meta::kinds::DOCUMENT_END;
+use alta_query::Test;
+use alta_rows::{AllRows, LevelRows};
+use std::alloc::{AllocError, Global};
+use std::marker::Brand;
+use std::rc::Rc;
+use std::sync::ledger::{Blank, Ledger};
+use std::test::Fail;
+
+/// The ends of documents of two cells each.
+fn ends() -> &'static [Loc]
+    ensures rising { IsRising result.now }
+    ensures some { 0 < length result.now }
+{
+    &[2, 4, 6]
+}
+
+/// The plan of all documents.
+fn plan(alloc: Global) -> Result<Plan, AllocError>
+    ensures { IfOk result (λ plan. tests_of (tree plan) ≡ document_end ∷ []) }
+{
+    let none = Plan::AnyOf(Vec::new(alloc));
+    Ok(Plan::Without(Box::new(alloc, none)?))
+}
+
+/// The test of document ends with its lists.
+fn lists(alloc: Global) -> Result<TestLists, AllocError>
+    ensures test { IfOk result (λ t. test_in t ≡ document_end) }
+    ensures cut { IfOk result (λ t. IsCut (test_lists t)) }
+    ensures keyed { IfOk result (λ t. AreKeys (test_keys t)) }
+{
+    let test = Test::Is(Bytes::from_vec(Vec::from_slice(alloc, &[DOCUMENT_END])?));
+    let term = Bytes::from_vec(Vec::from_slice(alloc, &[DOCUMENT_END])?);
+    let stored = Stored::Plain(Vec::from_slice(alloc, ends())?);
+    let mut levels = Vec::new(alloc);
+    levels.push(LevelList { level: 0, stored })?;
+    let mut terms = Vec::new(alloc);
+    terms.push(TermLists { term, levels })?;
+    Ok(TestLists { test, terms })
+}
+
+/// A row of a document of two cells.
+fn row(alloc: Global, number: u64, first: Loc, name: &str) -> Result<DocRow, AllocError>
+    ensures first { IfOk result (λ r. r.first ≡ first) }
+    ensures cells { IfOk result (λ r. r.cells ≡ 2) }
+{
+    Ok(DocRow {
+        number,
+        first,
+        cells: 2,
+        name: Text::from_string(String::from_str(alloc, name)?),
+    })
+}
+
+/// The rows of the documents.
+fn rows(alloc: Global) -> Result<AllRows, AllocError>
+    ensures { IfOk result (λ rows. IsRising (ends_of rows)) }
+{
+    let mut rows = Vec::new(alloc);
+    rows.push(row(alloc, 1, 1, "a")?)?;
+    rows.push(row(alloc, 2, 3, "b")?)?;
+    rows.push(row(alloc, 3, 5, "c")?)?;
+    let Ok(level) = Rc::new(alloc, LevelRows::new(alloc, rows)?) else {
+        return Err(AllocError);
+    };
+    let mut levels = Vec::new(alloc);
+    levels.push(level)?;
+    AllRows::new(alloc, levels)
+}
+
+/// A cursor over the documents.
+fn cursor(alloc: Global) -> Result<Cursor, AllocError> {
+    let mut tests = Vec::new(alloc);
+    tests.push(lists(alloc)?)?;
+    let mut uses = Vec::new(alloc);
+    uses.push(0)?;
+    let snapshot = Snapshot::new(tests, uses, rows(alloc)?, Vec::new(alloc));
+    Ok(Cursor::new(plan(alloc)?, snapshot))
+}
+
+/// The number of one more cursor, or 0 where no further one may be opened.
+fn opened(alloc: Global, cursors: &mut Cursors) -> Result<u64, AllocError> {
+    if cursors.is_full() {
+        return Ok(0);
+    }
+    cursors.open(cursor(alloc)?)
+}
+
+/// Adds the names on a page, a `+` where more are left, and a `/`; or a `-` where there is no page.
+fn tell(told: &mut String, found: Option<Page>) -> Result<(), AllocError> {
+    let Some(page) = found else {
+        return told.push_str("-");
+    };
+    for i in 0..page.answers.len() {
+        told.push_str(page.answers.row(i).name.as_str())?;
+    }
+    if page.more {
+        told.push_str("+")?;
+    }
+    told.push_str("/")
+}
+
+/// What pages of a cursor tell, then of another one, and then of the first when it is closed.
+fn paged<L: Ledger>(alloc: Global, blank: Blank) -> Result<String, AllocError>
+    requires name { blank.name ≡ L.name }
+    requires parts { blank.parts ≡ L.parts }
+    requires shared { 0 < L.parts }
+{
+    let mut steps = Steps::<L>::new(blank);
+    let mut told = String::new(alloc);
+    let mut cursors = Cursors::new(alloc);
+    let first = opened(alloc, &mut cursors)?;
+    let second = opened(alloc, &mut cursors)?;
+    for _page in 0..4u8 {
+        tell(&mut told, cursors.fetch(alloc, first, 1, &mut steps)?)?;
+    }
+    tell(&mut told, cursors.fetch(alloc, second, 2, &mut steps)?)?;
+    cursors.close(first);
+    tell(&mut told, cursors.fetch(alloc, first, 1, &mut steps)?)?;
+    tell(&mut told, cursors.fetch(alloc, second, 2, &mut steps)?)?;
+    Ok(told)
+}
+
+/// The same, where nobody counts.
+fn uncounted(alloc: Global) -> Result<String, AllocError> {
+    paged::<Brand>(alloc, Blank::new(1))
+}
+
+#[test]
+fn pages_end_with_the_answers(rt: HostRuntime) -> Result<(), Fail> {
+    let told = uncounted(rt.alloc())?;
+    assert_eq!(rt; told.as_str(), "a+/b+/c//ab+/-c/");
+    Ok(())
+}
+
+#[test]
+fn numbers_are_the_least(rt: HostRuntime) -> Result<(), Fail> {
+    let alloc = rt.alloc();
+    let mut cursors = Cursors::new(alloc);
+    for number in 1..4u64 {
+        assert_eq!(rt; opened(alloc, &mut cursors)?, number);
+    }
+    assert!(rt; cursors.close(2));
+    assert!(rt; !cursors.close(2));
+    assert_eq!(rt; opened(alloc, &mut cursors)?, 2);
+    for number in 4..65u64 {
+        assert_eq!(rt; opened(alloc, &mut cursors)?, number);
+    }
+    assert_eq!(rt; CURSORS, 64);
+    assert!(rt; cursors.is_full());
+    assert_eq!(rt; opened(alloc, &mut cursors)?, 0);
+    assert!(rt; cursors.close(64));
+    assert_eq!(rt; opened(alloc, &mut cursors)?, 64);
+    Ok(())
+}
