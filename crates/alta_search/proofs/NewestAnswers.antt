@@ -166,20 +166,28 @@ module _ (p : DocRow → Bool) (gone : List ℕ) (q : Shape) where
   abbrev AnswersOf : List Added → Type 0
   AnswersOf added = map answer_of (filter p (map (λ a. a.row) added)) ≡ map told (answers (map document_in (live_of gone added)) q)
 
-  answers-more : (a : Added) (more : List Added) → p a.row ≡ is_left gone q a → AnswersOf more → AnswersOf (a ∷ more)
-  answers-more a more is rest =
-      ⊎_elim
-      (λ dead. rw (is, dead) rest)
-      (λ live. ⊎_elim
-      (λ yes. rw (is, live, yes) (ap (λ l. answer_of a.row ∷ l) rest))
-      (λ no. rw (is, live, no) rest)
-      (true_or_false (is_match a.cells q)))
-      (true_or_false (ends_among gone a.row))
+  module _ (a : Added) (more : List Added) (rest : AnswersOf more) where
+    rows : List DocRow
+    rows = filter p (map (λ b. b.row) more)
+
+    later : List Document
+    later = answers (map document_in (live_of gone more)) q
+
+    one-more : (e m : Bool) → is_match a.cells q ≡ m
+        → map answer_of (cond (not e && m) (a.row ∷ rows) rows) ≡ map told (answers (map document_in (cond (not e) (a ∷ live_of gone more) (live_of gone more))) q)
+    unfolding rows later
+    one-more true m is = rest
+    one-more false true is = ap (λ l. answer_of a.row ∷ l) rest ∙ sym (ap (λ b. map told (cond b (document_in a ∷ later) later)) is)
+    one-more false false is = rest ∙ sym (ap (λ b. map told (cond b (document_in a ∷ later) later)) is)
+
+    answers-more : p a.row ≡ is_left gone q a → AnswersOf (a ∷ more)
+    unfolding rows
+    answers-more is = ap (λ b. map answer_of (cond b (a.row ∷ rows) rows)) is ∙ one-more (ends_among gone a.row) (is_match a.cells q) refl
 
   pub answers-all : (added : List Added) → All (λ a. p a.row ≡ is_left gone q a) added → AnswersOf added
   answers-all [] h = refl
   answers-all (a ∷ more) h =
-      answers-more a more (All-head (λ b. p b.row ≡ is_left gone q b) a more h) (answers-all more (All-tail (λ b. p b.row ≡ is_left gone q b) a more h))
+      answers-more a more (answers-all more (All-tail (λ b. p b.row ≡ is_left gone q b) a more h)) (All-head (λ b. p b.row ≡ is_left gone q b) a more h)
 
 -- ---- the law
 
@@ -198,7 +206,7 @@ counted-each (a ∷ more) (d, numbers, behind, rest) = All-cons IsDocument a mor
 
 module _ (answers_match : AnswersMatch) (decided : MatchesAreDecided) (gone : List ℕ) (added : List Added) (content : Content) (tests : List Test) (q : Shape)
       (h : HasContent added content) (made : AreMade added) where
-  list : List ℕ
+  abbrev pub list : List ℕ
   list = plan_list (space_of added) (plan_of q)
 
   each-left : All (λ a. is_answer list gone 0 a.row ≡ is_left gone q a) added

@@ -39,11 +39,13 @@ places-same : (term : List ℕ) (first : ℕ) (cells : List (List (List ℕ))) �
 unfolding locations
 places-same term first [] = refl
 places-same term first (cell ∷ cells) =
+    let later = locations (Is term) (first + 1) cells in
     let rest = places-same term (first + 1) cells in
-    ⊎_elim
-    (λ yes. rw (yes, rest) refl)
-    (λ no. rw (no, rest) refl)
-    (true_or_false (cell_holds term cell))
+    ap (λ l. cond (cell_holds term cell) (first ∷ []) [] ++ l) rest ∙ one-more (cell_holds term cell) first later
+  where
+    one-more : (b : Bool) (x : ℕ) (xs : List ℕ) → cond b (x ∷ []) [] ++ xs ≡ cond b (x ∷ xs) xs
+    one-more true x xs = refl
+    one-more false x xs = refl
 
 pub lists-same : (term : List ℕ) (added : List Added) → mem.list_of added term ≡ list_of (space_of added) (Is term)
 unfolding list_of

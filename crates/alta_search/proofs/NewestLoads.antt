@@ -37,11 +37,11 @@ abbrev HasSome : TermList → Type 0
 HasSome l = 0 < length l.locations
 
 differs-back : (t u : List ℕ) → bytes_eq t u ≡ false → bytes_eq u t ≡ false
-differs-back t u no =
-    ⊎_elim (λ yes. absurd (let same : t ≡ u = sym ((bytes_decides u t).0 yes) in let h : true ≡ false = sym ((bytes_decides t u).1 same) ∙ no in cc)) (λ n. n) (true_or_false (bytes_eq u t))
+differs-back t u differs =
+    ⊎_elim (λ yes. absurd (let same : t ≡ u = sym ((bytes_decides u t).0 yes) in let h : true ≡ false = sym ((bytes_decides t u).1 same) ∙ differs in cc)) (λ n. n) (true_or_false (bytes_eq u t))
 
 skipped : (term t : List ℕ) (ts : List (List ℕ)) → bytes_eq t term ≡ false → filter (term_meets (Is term)) (t ∷ ts) ≡ filter (term_meets (Is term)) ts
-skipped term t ts no = cond-false (bytes_eq t term) (t ∷ filter (term_meets (Is term)) ts) (filter (term_meets (Is term)) ts) no
+skipped term t ts differs = cond-false (bytes_eq t term) (t ∷ filter (term_meets (Is term)) ts) (filter (term_meets (Is term)) ts) differs
 
 -- a term that has no list is none of them
 pub no-term : (lists : List TermList) (term : List ℕ) → All HasSome lists → length (locations_of lists term) ≡ 0 → terms_met lists (Is term) ≡ []

@@ -96,7 +96,7 @@ fn terms_met(alloc: Global, level: &MemLevel, test: &Test) -> Result<Vec<Bytes>,
 /// The term alone, or none where it has no list.
 fn look_up(alloc: Global, level: &MemLevel, term: &Bytes) -> Result<Vec<Bytes>, AllocError>
     requires { HasAdded level.now }
-    ensures { IfOk result (λ terms. terms.items ≡ terms_met level.now.content.lists (Is term.now)) }
+    ensures { IfOk result (λ terms. terms.items ≡ terms_met level.now.content.lists (Test.Is term.now)) }
 {
     if level.get(term.as_slice()).is_empty() {
         return Ok(Vec::new(alloc));
