@@ -26,8 +26,11 @@ use Rattle.alta_memlevel.specs.Added as mem
 use Rattle.alta_memlevel.proofs.Prefixes.{filter_rises}
 use Rattle.alta_query.specs.declared.test.Test.{Test}
 use Rattle.alta_query.specs.declared.test.Test.TheVariants.{Is}
-use Rattle.alta_search.specs.Lists.{AreKeys, IsCut, TermKey, term_in}
-use Rattle.alta_search.specs.Newest.{newest_key, newest_keys, newest_list, newest_lists, term_meets, terms_met}
+use Rattle.alta_search.specs.Lists.{AreKeys, IsCut, TermKey, term_in, test_in, test_keys, test_lists, test_at, keys_at, lists_at}
+use Rattle.alta_search.specs.Newest.{newest_key, newest_keys, newest_list, newest_lists, newest_view, term_meets, terms_met}
+use Rattle.alta_search.specs.Order.{Order, IsOrder, used}
+use Rattle.alta_search.specs.View.{View}
+use Rattle.alta_search.specs.declared.lists.TestLists.{TestLists}
 use Rattle.alta_search.proofs.NewestAnswers.{added-apart}
 use Rattle.alta_search.proofs.NewestLists.{Among, lists-same, space_of}
 
@@ -171,3 +174,28 @@ at-uses h ts zs d e [] is all = refl
 at-uses h ts zs d e (i ∷ is') is all =
     ap (λ x. x ∷ map (λ i. get_or zs i e) is') (ap (λ l. get_or l i e) is ∙ get_or-map h ts i d e (All-head (λ i. i < length ts) i is' all))
     ∙ ap (λ l. h (get_or ts i d) ∷ l) (at-uses h ts zs d e is' is (All-tail (λ i. i < length ts) i is' all))
+
+-- ---- the snapshot as a view
+
+same-view : (v : View) (tests : List Test) (keys : List (List TermKey)) (cuts : List (List (List (List ℕ)))) (rows : List DocRow) (gone : List ℕ)
+    → v.tests ≡ tests → v.keys ≡ keys → v.cuts ≡ cuts → v.rows ≡ rows → v.gone ≡ gone
+    → v ≡ record { tests = tests; keys = keys; cuts = cuts; rows = rows; gone = gone }
+same-view v tests keys cuts rows gone t k c r g =
+    ap (λ x. record { tests = x; keys = v.keys; cuts = v.cuts; rows = v.rows; gone = v.gone }) t
+    ∙ ap (λ x. record { tests = tests; keys = x; cuts = v.cuts; rows = v.rows; gone = v.gone }) k
+    ∙ ap (λ x. record { tests = tests; keys = keys; cuts = x; rows = v.rows; gone = v.gone }) c
+    ∙ ap (λ x. record { tests = tests; keys = keys; cuts = cuts; rows = x; gone = v.gone }) r
+    ∙ ap (λ x. record { tests = tests; keys = keys; cuts = cuts; rows = rows; gone = x }) g
+
+-- the snapshot of these tests and uses, where the tests were loaded
+pub loaded-view : (order : Order) (items : List TestLists) (uses : List ℕ) (content : Content) (gone : List ℕ) (all : List Test) (v : View)
+    → IsOrder order → uses ≡ order.uses → used order ≡ all
+    → map test_in items ≡ order.tests → map test_keys items ≡ map (newest_keys content.lists) order.tests → map test_lists items ≡ map (newest_lists content.lists) order.tests
+    → v.tests ≡ map (test_at items) uses → v.keys ≡ map (keys_at items) uses → v.cuts ≡ map (lists_at items) uses → v.rows ≡ content.documents → v.gone ≡ gone
+    → v ≡ newest_view all gone content
+loaded-view order items uses content gone all v is same used-all tests keys lists t k c r g =
+    same-view v all (map (newest_keys content.lists) all) (map (newest_lists content.lists) all) content.documents gone
+    (t ∙ ap (map (test_at items)) same ∙ ap (λ ts. map (λ i. get_or ts i document_end) order.uses) tests ∙ used-all)
+    (k ∙ ap (map (keys_at items)) same ∙ at-uses (newest_keys content.lists) order.tests (map test_keys items) document_end [] order.uses keys is.inside ∙ ap (map (newest_keys content.lists)) used-all)
+    (c ∙ ap (map (lists_at items)) same ∙ at-uses (newest_lists content.lists) order.tests (map test_lists items) document_end [] order.uses lists is.inside ∙ ap (map (newest_lists content.lists)) used-all)
+    r g
