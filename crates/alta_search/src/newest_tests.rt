@@ -23,26 +23,26 @@ use std::test::Fail;
 
 /// The text of a document: its name, its title and its body.
 #[derive(Clone, Copy)]
-struct Written {
+struct Source {
     name: &'static str,
     title: &'static str,
     body: &'static str,
 }
 
 /// The documents `a` at the locations 1 to 9, `b` at 10 to 16 and `c` at 17 to 25.
-fn written(k: u8) -> Written {
+fn written(k: u8) -> Source {
     match k {
-        0 => Written {
+        0 => Source {
             name: "a",
             title: "Red Fox",
             body: "the quick red fox",
         },
-        1 => Written {
+        1 => Source {
             name: "b",
             title: "Fox",
             body: "quick brown dog",
         },
-        _ => Written {
+        _ => Source {
             name: "c",
             title: "Red Dog",
             body: "the red dog barks",
@@ -57,7 +57,7 @@ fn put(
     number: u64,
     first: Loc,
     count: u64,
-    text: Written,
+    text: Source,
 ) -> Result<(), Fail>
     requires level { (documents : List Document) × HasDocuments [] documents level.old }
     requires before { All (IsBefore number first) level.old.content.documents }
@@ -118,7 +118,7 @@ fn deleted() -> &'static [Loc]
 }
 
 /// A document of a text.
-fn document(alloc: Global, text: Written) -> Result<Document, Fail> {
+fn document(alloc: Global, text: Source) -> Result<Document, Fail> {
     let Ok(cells) = cells(alloc, text.name, text.title, text.body) else {
         return Err(Fail::new("no cells"));
     };
@@ -183,7 +183,7 @@ fn asked(k: u8) -> (&'static str, &'static str) {
         2 => ("dog", "c"),
         3 => ("quick fox", "a"),
         4 => ("bro*", ""),
-        5 => ("r*", "ac"),
+        5 => ("re*", "ac"),
         6 => ("\"red fox\"", "a"),
         7 => ("\"red dog\"", "c"),
         8 => ("quick NEAR/2 fox", "a"),
@@ -205,7 +205,7 @@ fn the_newest_documents_answer(rt: HostRuntime) -> Result<(), Fail> {
     for k in 0..18 {
         let (text, names) = asked(k);
         let Ok(query) = parse(alloc, text) else {
-            return Err(Fail::new("no query"));
+            return Err(Fail::new(text));
         };
         let matched = matched(alloc, &query)?;
         assert_eq!(rt; matched.as_str(), names, "{text}");
