@@ -1,5 +1,5 @@
 // The open cursors of a run.
-ghost use Rattle.std.specs.Prelude.{◌≡◌, ◌≢◌, ◌↔◌, ℕ, ◌+◌, ◌<◌, ◌≤◌, ◌==◌, List, [], map, length, drop, All, AllPairs, HoldsAt, IsTrue, IsSome, IfSome, IfNone, IfOk, OnOk, OnErr};
+ghost use Rattle.std.specs.Prelude.{◌≡◌, ◌≢◌, ◌↔◌, ℕ, ◌+◌, ◌<◌, ◌≤◌, ◌==◌, false, List, [], map, length, drop, All, AllPairs, HoldsAt, IsTrue, IsSome, IfSome, IfNone, IfOk, OnOk, OnErr};
 ghost use Rattle.std.specs.List.{list_any};
 ghost use Rattle.alta_meta.specs.declared.document.Document.{Document};
 ghost use Rattle.alta_search.specs.Open.{OpenAnswers, AreLeft, AreOpen, IsPageOf, IsFetch, number_in, first_free, least_free, left_of, with_opened, without_cursor, work_of};
@@ -96,14 +96,17 @@ impl Cursors {
         fetch_from(&mut self.cursors, alloc, number, count, steps)
     }
 
-    /// Closes the cursor with this number. Whether an open cursor had it.
+    /// Closes the cursor with this number, and answers whether an open cursor had it. Where none had, all stay.
     pub fn close(&mut self, number: u64) -> bool
         ensures had { (all : List OpenAnswers) → AreOpen self.old all → IsTrue result ↔ IsSome (left_of number all) }
         ensures closed { (all : List OpenAnswers) → AreOpen self.old all → AreOpen self.new (without_cursor number all) }
+        ensures kept { result ≡ false → self.new ≡ self.old }
     {
-        let had = has(&self.cursors, number);
+        if !has(&self.cursors, number) {
+            return false;
+        }
         self.cursors.retain(|other| other.number != number);
-        had
+        true
     }
 }
 

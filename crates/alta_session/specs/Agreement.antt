@@ -1,15 +1,16 @@
 -- What a session means.
-use Rattle.std.specs.Prelude.{◌≡◌, ℕ, true, []}
+use Rattle.std.specs.Prelude.{◌≡◌, ℕ, true}
 use Rattle.alta_disk.specs.Disk.{DiskState}
+use Rattle.alta_search.specs.Open.{AreOpen}
 use Rattle.alta_session.specs.Machine.{Machine}
 use Rattle.alta_session.specs.declared.session.Session.{Session}
 use Rattle.alta_store.specs.Agreement.{Agrees, is_sound, room_of}
 
--- Session and disk agree on this machine: nothing is pending, the disk stands for its state where it tells, and no cursor is
--- open.
+-- Session and disk agree on this machine: nothing is pending, the disk stands for its state where it tells, and the cursors that
+-- are open have the answers to come that the machine's have.
 pub record AgreesOn (tells : Type 0) (disk : DiskState) (session : Session) (m : Machine) : Type 0 where
   pub store : Agrees tells disk session.store m.state
-  pub cursors : m.cursors ≡ []
+  pub cursors : AreOpen session.cursors m.cursors
 
 -- there is a machine on which they agree
 abbrev pub AgreesOnSome : Type 0 → DiskState → Session → Type 0

@@ -5,13 +5,15 @@ use Rattle.alta_journal.specs.Record.{body_of}
 use Rattle.alta_journal.specs.declared.entry.Entry.TheVariants.{Add as AddEntry}
 use Rattle.alta_model.specs.Command.{adds, deletes}
 use Rattle.alta_model.specs.Lines.{asks, reading_of}
-use Rattle.alta_session.specs.Machine.{Machine, step, changed_by, adding, deleting, stats_of}
+use Rattle.alta_session.specs.Machine.{Machine, step, changed_by, turned_by, adding, deleting, stats_of}
+use Rattle.alta_session.specs.Cursors.{opening, fetching, closing}
 use Rattle.alta_session.specs.declared.session.Ask.{Ask}
 use Rattle.alta_session.specs.Searching.{searching, counting, explaining}
-use Rattle.alta_session.specs.declared.session.Ask.TheVariants.{Add, Delete, Search, Count, Explain, Stats, Refused}
+use Rattle.alta_session.specs.declared.session.Ask.TheVariants.{Add, Delete, Search, Count, Explain, Open, Fetch, Close, Stats, Refused}
 use Rattle.alta_store.specs.States.{IsDocument}
 
--- the document that it adds or deletes, the query that it answers, the counts, or the reply that refuses it
+-- the document that it adds or deletes, the query that it answers, the cursor that it opens, reads or closes, the counts, or the reply that
+-- refuses it
 abbrev pub Asks : List ℕ → Ask → Type 0
 Asks line (Add name title body) =
     ((m : Machine) → step m line ≡ changed_by m (adding name.now title.now body.now m.state)) × (IsName name.now → IsDocument name.now title.now body.now)
@@ -20,5 +22,8 @@ Asks line (Delete name) = ((m : Machine) → step m line ≡ changed_by m (delet
 Asks line (Search text) = (m : Machine) → step m line ≡ (m, searching text.now m.state.documents)
 Asks line (Count text) = (m : Machine) → step m line ≡ (m, counting text.now m.state.documents)
 Asks line (Explain text) = (m : Machine) → step m line ≡ (m, explaining text.now)
+Asks line (Open text) = (m : Machine) → step m line ≡ turned_by m (opening text.now m.state.documents m.cursors)
+Asks line (Fetch cursor count) = (m : Machine) → step m line ≡ turned_by m (fetching cursor count m.cursors)
+Asks line (Close cursor) = (m : Machine) → step m line ≡ turned_by m (closing cursor m.cursors)
 Asks line Stats = (m : Machine) → step m line ≡ (m, stats_of m.state)
 Asks line (Refused reply) = (m : Machine) → step m line ≡ (m, reply.now)

@@ -2,24 +2,20 @@
 use Rattle.std.specs.Prelude.{◌≡◌, ℕ, true, List, [], ◌∷◌, ◌++◌, length, if◌then◌else◌, nat_le, nat_eq, codes, decimal, Option, Some, None}
 use Rattle.std.specs.List.{starts_with}
 use Rattle.alta_codec.specs.Name.{is_name}
-use Rattle.alta_meta.specs.declared.document.Document.{Document}
 use Rattle.alta_meta.specs.declared.document.State.{State}
 use Rattle.alta_model.specs.Command.{Command, adds, deletes, searches, counts, explains, opens, fetches, closes, flushes, merges, steps, asks_stats}
 use Rattle.alta_model.specs.Lines.{Reading, asks, refuses, reading_of}
 use Rattle.alta_model.specs.declared.line.LineFault.{LineFault}
 use Rattle.alta_model.specs.declared.line.LineFault.TheVariants.{TooLong, NotUtf8, Unknown, Bad}
+use Rattle.alta_search.specs.Open.{OpenAnswers}
+use Rattle.alta_session.specs.Cursors.{Turn, opening, fetching, closing}
 use Rattle.alta_session.specs.Searching.{searching, counting, explaining}
 use Rattle.alta_store.specs.States.{has_name, number_of, words_in, with_added, with_deleted}
 
--- A cursor that is open: its number, and the answers to its query that are still to come.
-pub record Cursor : Type 0 where
-  pub number : ℕ
-  pub left : List Document
-
--- The machine between two lines: a state, and the cursors that are open. No command opens one yet.
+-- The machine between two lines: a state, and the cursors that are open, each with the answers that are still to come.
 pub record Machine : Type 0 where
   pub state : State
-  pub cursors : List Cursor
+  pub cursors : List OpenAnswers
 
 -- with this state, and no cursor
 abbrev pub started_at : State → Machine
@@ -59,6 +55,10 @@ stats_of s =
 abbrev pub changed_by : Machine → State × List ℕ → Machine × List ℕ
 changed_by m change = (record { state = change.0; cursors = m.cursors }, change.1)
 
+-- the machine after a change of its cursors, and the reply
+abbrev pub turned_by : Machine → Turn → Machine × List ℕ
+turned_by m turn = (record { state = m.state; cursors = turn.0 }, turn.1)
+
 -- the machine after a command, and the reply
 abbrev pub obeyed : Machine → Command → Machine × List ℕ
 obeyed m (adds name title body) = changed_by m (adding name title body m.state)
@@ -66,9 +66,9 @@ obeyed m (deletes name) = changed_by m (deleting name m.state)
 obeyed m (searches text) = (m, searching text m.state.documents)
 obeyed m (counts text) = (m, counting text m.state.documents)
 obeyed m (explains text) = (m, explaining text)
-obeyed m (opens text) = (m, refusal Unknown)
-obeyed m (fetches cursor count) = (m, refusal Unknown)
-obeyed m (closes cursor) = (m, refusal Unknown)
+obeyed m (opens text) = turned_by m (opening text m.state.documents m.cursors)
+obeyed m (fetches cursor count) = turned_by m (fetching cursor count m.cursors)
+obeyed m (closes cursor) = turned_by m (closing cursor m.cursors)
 obeyed m flushes = (m, refusal Unknown)
 obeyed m merges = (m, refusal Unknown)
 obeyed m (steps count) = (m, refusal Unknown)
@@ -96,11 +96,14 @@ replies m (line ∷ lines) = (step m line).1 ∷ replies (step m line).0 lines
 abbrev pub IsRefusal : List ℕ → Type 0
 IsRefusal reply = starts_with nat_eq reply (codes "! ") ≡ true
 
--- the command looks at the documents, or at nothing
+-- the command looks at the documents, at a cursor, or at nothing
 abbrev pub IsLook : Command → Type 0
 IsLook (searches text) = Unit {0}
 IsLook (counts text) = Unit {0}
 IsLook (explains text) = Unit {0}
+IsLook (opens text) = Unit {0}
+IsLook (fetches cursor count) = Unit {0}
+IsLook (closes cursor) = Unit {0}
 IsLook asks_stats = Unit {0}
 IsLook _ = ⊥
 
@@ -108,6 +111,6 @@ abbrev pub LooksIn : Reading → Type 0
 LooksIn (asks command) = IsLook command
 LooksIn (refuses fault) = ⊥
 
--- the line asks for the answers of a query, for their count, for its plan, or for the counts
+-- the line asks for the answers of a query, all at once or by a cursor, for their count, for its plan, or for the counts
 abbrev pub Looks : List ℕ → Type 0
 Looks line = LooksIn (reading_of line)

@@ -1,5 +1,5 @@
 -- What queries are answered.
-use Rattle.std.specs.Prelude.{ℕ, List, [], ◌∷◌, ◌++◌, length, Result, Ok, Err, codes, decimal}
+use Rattle.std.specs.Prelude.{ℕ, List, [], ◌∷◌, ◌++◌, length, map, Result, Ok, Err, codes, decimal}
 use Rattle.alta_compile.specs.Explained.{explained}
 use Rattle.alta_compile.specs.PlanOf.{plan_of}
 use Rattle.alta_meta.specs.declared.document.Document.{Document}
@@ -10,11 +10,17 @@ use Rattle.alta_query.specs.Shape.{Shape}
 use Rattle.alta_query.specs.Spelling.{canonical}
 use Rattle.alta_query.specs.declared.fault.Cause.{Cause}
 use Rattle.alta_query.specs.declared.fault.Cause.TheVariants as cause
+use Rattle.alta_search.specs.Documents.{told}
+use Rattle.alta_search.specs.Told.{AnswerRow}
 
--- a line for each document, with its number and its name
+-- a line for each answer, with its number and its name
+abbrev pub row_lines : List AnswerRow → List ℕ
+row_lines [] = []
+row_lines (row ∷ rows) = decimal row.number ++ codes " " ++ row.name ++ codes "\n" ++ row_lines rows
+
+-- a line for each document
 abbrev pub answer_lines : List Document → List ℕ
-answer_lines [] = []
-answer_lines (d ∷ ds) = decimal d.number ++ codes " " ++ d.name ++ codes "\n" ++ answer_lines ds
+answer_lines documents = row_lines (map told documents)
 
 abbrev pub found_line : ℕ → List ℕ
 found_line count = codes "found " ++ decimal count ++ codes "\n"

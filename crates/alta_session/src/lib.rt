@@ -3,6 +3,8 @@
 
 mod giving;
 mod laws;
+mod paging;
+mod replying;
 mod searching;
 mod serving;
 mod session;

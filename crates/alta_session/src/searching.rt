@@ -1,48 +1,60 @@
-// Queries over documents in memory, one document after the other.
-ghost use Rattle.std.proofs.Common.{Global};
-ghost use Rattle.std.specs.Prelude.{◌≡◌, ◌++◌, [], codes, decimal, length, String, string_bytes, Ok, IfOk, IfErr, OnOk};
+// Queries over the documents of a store, answered by readers.
+ghost use Rattle.std.specs.Prelude.{◌≡◌, ◌++◌, ◌<◌, [], List, map, codes, length, string_bytes, IfOk};
 ghost use Rattle.alta_compile.specs.Explained.{explained};
 ghost use Rattle.alta_compile.specs.PlanOf.{plan_of};
+ghost use Rattle.alta_compile.specs.Space.{Placed};
+ghost use Rattle.alta_compile.specs.View.{tree};
+ghost use Rattle.alta_meta.specs.declared.document.State.{State};
 ghost use Rattle.alta_model.specs.Deciding.{answers};
-ghost use Rattle.alta_query.specs.Answer.{fault_in};
+ghost use Rattle.alta_query.specs.Shape.{Shape};
 ghost use Rattle.alta_query.specs.Spelling.{canonical};
 ghost use Rattle.alta_query.specs.Texts.{HasTextTerms};
 ghost use Rattle.alta_query.specs.View.{shape};
+ghost use Rattle.alta_search.specs.Answers.{coming};
+ghost use Rattle.alta_search.specs.Documents.{AreToCome};
+ghost use Rattle.alta_search.specs.Plans.{tests_of};
+ghost use Rattle.alta_search.specs.Told.{answer_of};
+ghost use Rattle.alta_search.specs.View.{Shows};
 ghost use Rattle.alta_session.specs.Answering.{IsReply};
-ghost use Rattle.alta_session.specs.Searching.{answer_lines, cause_name, found_line, query_refusal, searching, counting, explaining};
+ghost use Rattle.alta_session.specs.Searching.{answer_lines, found_line, searching, counting, explaining};
+ghost use Rattle.alta_store.specs.Agreement.{IsIntact, Knows};
 
-use alta_codec::Text;
-use alta_compile::{a_plan_is_text, compile};
-use alta_meta::{Document, Documents};
-use alta_model::matches;
-use alta_query::{Cause, Query, QueryFault, parse, print};
-use alta_store::StoreFault;
+use crate::replying::{put_answers, put_count, refused, written};
+use alta_codec::{Steps, Text};
+use alta_compile::{Plan, a_plan_is_text, compile};
+use alta_query::{Query, parse, print};
+use alta_search::{Page, Snapshot, load_newest};
+use alta_store::{Store, StoreFault};
 use std::alloc::{AllocError, Global};
+use std::marker::Brand;
+use std::sync::ledger::{Blank, Ledger};
 
 /// The reply to a search: a line for each document that matches, with its number and name, and how many they are, or that
 /// the text is no query. It fails for want of memory alone.
-pub fn search(alloc: Global, documents: &Documents, text: &str) -> Result<Text, StoreFault>
-    ensures { IsReply (searching text.now documents.now) result }
+pub(crate) fn search(alloc: Global, store: &Store, text: &str) -> Result<Text, StoreFault>
+    requires { IsIntact store.now }
+    ensures { (s : State) → Knows store.now s → IsReply (searching text.now s.documents) result }
 {
     match parse(alloc, text) {
-        Ok(query) => written(listed(alloc, documents, &query)),
+        Ok(query) => written(listed(alloc, store, &query)),
         Err(fault) => refused(alloc, fault),
     }
 }
 
 /// The reply to a count: how many documents match, or that the text is no query. It fails for want of memory alone.
-pub fn count(alloc: Global, documents: &Documents, text: &str) -> Result<Text, StoreFault>
-    ensures { IsReply (counting text.now documents.now) result }
+pub(crate) fn count(alloc: Global, store: &Store, text: &str) -> Result<Text, StoreFault>
+    requires { IsIntact store.now }
+    ensures { (s : State) → Knows store.now s → IsReply (counting text.now s.documents) result }
 {
     match parse(alloc, text) {
-        Ok(query) => written(counted(alloc, documents, &query)),
+        Ok(query) => written(counted(alloc, store, &query)),
         Err(fault) => refused(alloc, fault),
     }
 }
 
 /// The reply to an explain: the canonical spelling of the query and the lines of its plan, or that the text is no query. It
 /// fails for want of memory alone.
-pub fn explain(alloc: Global, text: &str) -> Result<Text, StoreFault>
+pub(crate) fn explain(alloc: Global, text: &str) -> Result<Text, StoreFault>
     ensures { IsReply (explaining text.now) result }
 {
     match parse(alloc, text) {
@@ -69,91 +81,78 @@ fn headed(alloc: Global, head: &str, lines: &str) -> Result<String, AllocError>
     format!(in alloc; "{head}\n{lines}")
 }
 
-fn written(reply: Result<String, AllocError>) -> Result<Text, StoreFault>
-    ensures reply { IfOk result (λ text. (r : String Global) × (reply ≡ Ok r) × (text ≡ string_bytes r)) }
-    ensures memory { IfErr result (λ e. e ≡ StoreFault.Memory) }
+// The answers of a query, a line for each, and how many they are.
+fn listed(alloc: Global, store: &Store, query: &Query) -> Result<String, AllocError>
+    requires { IsIntact store.now }
+    ensures { IfOk result (λ reply. (s : State) → Knows store.now s
+        → string_bytes reply ≡ answer_lines (answers s.documents (shape query.now)) ++ found_line (length (answers s.documents (shape query.now)))) }
 {
-    match reply {
-        Ok(reply) => Ok(Text::from_string(reply)),
-        Err(_) => Err(StoreFault::Memory),
-    }
-}
-
-// The answers, a line for each, and how many they are.
-fn listed(alloc: Global, documents: &Documents, query: &Query) -> Result<String, AllocError>
-    ensures { IfOk result (λ reply. string_bytes reply ≡ answer_lines (answers documents.now (shape query.now)) ++ found_line (length (answers documents.now (shape query.now)))) }
-{
+    let plan = compile(alloc, query)?;
+    let snapshot = load(alloc, store, &plan)?;
+    let page = found::<Brand>(alloc, &plan, &snapshot, Blank::new(1))?;
     let mut reply = String::new(alloc);
-    let mut count: usize = 0;
-    for document in documents.as_slice() {
-        if matches(query, document) {
-            put_answer(&mut reply, document)?;
-            count += 1;
-        }
-    }
-    put_count(&mut reply, count)?;
+    put_answers(&mut reply, &page.answers)?;
+    put_count(&mut reply, page.answers.len() as u64)?;
     Ok(reply)
 }
 
-fn counted(alloc: Global, documents: &Documents, query: &Query) -> Result<String, AllocError>
-    ensures { IfOk result (λ reply. string_bytes reply ≡ found_line (length (answers documents.now (shape query.now)))) }
+// How many answers a query has.
+fn counted(alloc: Global, store: &Store, query: &Query) -> Result<String, AllocError>
+    requires { IsIntact store.now }
+    ensures { IfOk result (λ reply. (s : State) → Knows store.now s → string_bytes reply ≡ found_line (length (answers s.documents (shape query.now)))) }
 {
-    let mut count: usize = 0;
-    for document in documents.as_slice() {
-        if matches(query, document) {
-            count += 1;
-        }
-    }
+    let plan = compile(alloc, query)?;
+    let snapshot = load(alloc, store, &plan)?;
+    let count = tallied::<Brand>(alloc, &plan, &snapshot, Blank::new(1))?;
     let mut reply = String::new(alloc);
     put_count(&mut reply, count)?;
     Ok(reply)
 }
 
-fn put_answer(reply: &mut String, document: &Document) -> Result<(), AllocError>
-    ensures { OnOk result (string_bytes reply.new ≡ string_bytes reply.old ++ decimal document.now.number ++ codes " " ++ document.now.name ++ codes "\n") }
+/// The snapshot of a store's documents for a plan. Over it the answers of the plan of a query are the documents that the query
+/// matches. It fails for want of memory alone.
+pub(crate) fn load(alloc: Global, store: &Store, plan: &Plan) -> Result<Snapshot, AllocError>
+    requires { IsIntact store.now }
+    ensures tests { IfOk result (λ snapshot. snapshot.tests ≡ tests_of (tree plan.now)) }
+    ensures answers { IfOk result (λ snapshot. (s : State) (q : Shape) → Knows store.now s → tree plan.now ≡ plan_of q → AreToCome (tree plan.now) snapshot 0 (answers s.documents q)) }
 {
-    let number = document.number;
-    let name = document.name.as_str();
-    write!(reply, "{number} {name}\n")
+    let (level, gone) = store.newest();
+    let snapshot = load_newest(alloc, plan, level, gone)?;
+    Ok(snapshot)
 }
 
-fn put_count(reply: &mut String, count: usize) -> Result<(), AllocError>
-    ensures { OnOk result (string_bytes reply.new ≡ string_bytes reply.old ++ found_line count) }
+// All answers of a plan. Nobody reads how many steps they took.
+fn found<L: Ledger>(
+    alloc: Global,
+    plan: &Plan,
+    snapshot: &Snapshot,
+    blank: Blank,
+) -> Result<Page, AllocError>
+    requires tests { snapshot.now.tests ≡ tests_of (tree plan.now) }
+    requires name { blank.name ≡ L.name }
+    requires parts { blank.parts ≡ L.parts }
+    requires shared { 0 < L.parts }
+    ensures { IfOk result (λ page. (space : List Placed) → Shows space snapshot.now → page.answers ≡ map answer_of (coming space (tree plan.now) snapshot.now 0)) }
 {
-    write!(reply, "found {count}\n")
+    let mut steps = Steps::<L>::new(blank);
+    let page = alta_search::search(alloc, plan, snapshot, &mut steps)?;
+    Ok(page)
 }
 
-// The reply to a text that is no query.
-fn refused(alloc: Global, fault: QueryFault) -> Result<Text, StoreFault>
-    ensures reply { IfOk result (λ reply. reply ≡ query_refusal (fault_in fault)) }
-    ensures memory { IfErr result (λ e. e ≡ StoreFault.Memory) }
-    ensures wanting { IfOk result (λ reply. fault.cause ≡ Cause.Memory → ⊥) }
+// How many answers a plan has.
+fn tallied<L: Ledger>(
+    alloc: Global,
+    plan: &Plan,
+    snapshot: &Snapshot,
+    blank: Blank,
+) -> Result<u64, AllocError>
+    requires tests { snapshot.now.tests ≡ tests_of (tree plan.now) }
+    requires name { blank.name ≡ L.name }
+    requires parts { blank.parts ≡ L.parts }
+    requires shared { 0 < L.parts }
+    ensures { IfOk result (λ n. (space : List Placed) → Shows space snapshot.now → n ≡ length (coming space (tree plan.now) snapshot.now 0)) }
 {
-    if fault.cause == Cause::Memory {
-        return Err(StoreFault::Memory);
-    }
-    let place = fault.place;
-    let cause = name_of(fault.cause);
-    match format!(in alloc; "! query {place} {cause}\n") {
-        Ok(reply) => Ok(Text::from_string(reply)),
-        Err(_) => Err(StoreFault::Memory),
-    }
-}
-
-fn name_of(cause: Cause) -> &'static str
-    ensures { result.now ≡ cause_name cause }
-{
-    match cause {
-        Cause::Empty => "Empty",
-        Cause::Word => "Word",
-        Cause::Prefix => "Prefix",
-        Cause::Near => "Near",
-        Cause::Name => "Name",
-        Cause::Quote => "Quote",
-        Cause::Paren => "Paren",
-        Cause::Operand => "Operand",
-        Cause::Deep => "Deep",
-        Cause::Many => "Many",
-        Cause::Memory => "Memory",
-    }
+    let mut steps = Steps::<L>::new(blank);
+    let count = alta_search::count(alloc, plan, snapshot, &mut steps)?;
+    Ok(count)
 }

@@ -16,17 +16,21 @@ ghost use Rattle.alta_store.specs.Brokenness.{HasNoIndex, IsBrokenAt};
 ghost use Rattle.alta_store.specs.Meaning.{StandsFor};
 ghost use Rattle.alta_store.specs.States.{IsDocument};
 
+use crate::paging::{close, fetch, open};
+use crate::replying::text;
 use crate::searching::{count, explain, search};
 use alta_codec::{Text, name_ok};
 use alta_disk::Disk;
 use alta_model::{Line, LineFault, read_line};
+use alta_search::Cursors;
 use alta_store::{Store, StoreFault};
 use std::alloc::Global;
 
-/// An open index that answers command lines.
+/// An open index that answers command lines, and the cursors that are open over it.
 #[derive(Drop)]
 pub struct Session {
     store: Store,
+    cursors: Cursors,
     sound: bool,
 }
 
@@ -55,7 +59,11 @@ impl Session {
         ensures same_limit { (D.state disk.new).limit ≡ (D.state disk.old).limit }
     {
         match Store::open(alloc, disk) {
-            Ok(store) => Ok(Session { store, sound: true }),
+            Ok(store) => Ok(Session {
+                store,
+                cursors: Cursors::new(alloc),
+                sound: true,
+            }),
             Err(fault) => Err(fault),
         }
     }
@@ -74,8 +82,8 @@ impl Session {
     /// `Disk` where a call of the disk failed. `Memory` where there is no memory. `Full` where the record of the line does
     /// not fit in the journal: with the bytes of that record, which are the line's and nine more where it adds and 14
     /// where it deletes, and those left. Then the index is as before the line or as after it, and the session is not
-    /// sound. `search`, `count`, `explain` and `stats` call no disk and fail for want of memory alone, and so does each line
-    /// that is refused.
+    /// sound. `search`, `count`, `explain`, `open`, `fetch`, `close` and `stats` call no disk and fail for want of memory alone,
+    /// and so does each line that is refused.
     pub fn line<D: Disk>(
         &mut self,
         alloc: Global,
@@ -112,9 +120,12 @@ impl Session {
         match asked(line) {
             Ask::Add { name, title, body } => self.add(alloc, disk, name, title, body),
             Ask::Delete(name) => self.delete(alloc, disk, name),
-            Ask::Search(text) => search(alloc, self.store.documents(), text),
-            Ask::Count(text) => count(alloc, self.store.documents(), text),
+            Ask::Search(text) => search(alloc, &self.store, text),
+            Ask::Count(text) => count(alloc, &self.store, text),
             Ask::Explain(text) => explain(alloc, text),
+            Ask::Open(text) => open(alloc, &self.store, &mut self.cursors, text),
+            Ask::Fetch { cursor, count } => fetch(alloc, &mut self.cursors, cursor, count),
+            Ask::Close(cursor) => close(alloc, &mut self.cursors, cursor),
             Ask::Stats => stats(alloc, self.store.counts()),
             Ask::Refused(reply) => text(alloc, reply),
         }
@@ -169,8 +180,8 @@ impl Session {
     }
 }
 
-// What a line asks for: a document to be added or deleted, a query to be answered or explained, the counts, or a reply
-// that refuses it.
+// What a line asks for: a document to be added or deleted, a query to be answered or explained, a cursor to be opened, read or
+// closed, the counts, or a reply that refuses it.
 enum Ask<'a> {
     Add {
         name: &'a str,
@@ -181,6 +192,12 @@ enum Ask<'a> {
     Search(&'a str),
     Count(&'a str),
     Explain(&'a str),
+    Open(&'a str),
+    Fetch {
+        cursor: u64,
+        count: u64,
+    },
+    Close(u64),
     Stats,
     Refused(&'static str),
 }
@@ -197,6 +214,9 @@ fn asked(bytes: &[u8]) -> Ask<'_>
             Line::Search { text } => Ask::Search(text),
             Line::Count { text } => Ask::Count(text),
             Line::Explain { text } => Ask::Explain(text),
+            Line::OpenCursor { text } => Ask::Open(text),
+            Line::Fetch { cursor, count } => Ask::Fetch { cursor, count },
+            Line::Close { cursor } => Ask::Close(cursor),
             Line::Stats => Ask::Stats,
             _ => Ask::Refused("! unknown command\n"),
         },
@@ -235,16 +255,6 @@ fn stats(alloc: Global, counts: (u64, u64, u64)) -> Result<Text, StoreFault>
     let (documents, words, next) = counts;
     match format!(in alloc; "documents {documents} words {words} next {next}\n") {
         Ok(reply) => Ok(Text::from_string(reply)),
-        Err(_) => Err(StoreFault::Memory),
-    }
-}
-
-// A reply that refuses a line.
-fn text(alloc: Global, reply: &str) -> Result<Text, StoreFault>
-    ensures { IsReply reply.now result }
-{
-    match String::from_str(alloc, reply) {
-        Ok(text) => Ok(Text::from_string(text)),
         Err(_) => Err(StoreFault::Memory),
     }
 }

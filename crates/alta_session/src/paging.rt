@@ -1,0 +1,151 @@
+// The commands on cursors.
+ghost use Rattle.std.specs.Prelude.{◌≡◌, ◌<◌, ◌++◌, ℕ, List, length, codes, decimal, IfOk, IfErr, OnOk, OnErr};
+ghost use Rattle.alta_meta.specs.declared.document.State.{State};
+ghost use Rattle.alta_model.specs.Deciding.{answers};
+ghost use Rattle.alta_query.specs.View.{shape};
+ghost use Rattle.alta_search.specs.Open.{AreOpen, IsFetch, OpenAnswers, least_free, with_opened};
+ghost use Rattle.alta_search.specs.declared.cursors.TheConstants.{CURSORS};
+ghost use Rattle.alta_session.specs.Answering.{IsReply};
+ghost use Rattle.alta_session.specs.Cursors.{Turns, closing, fetching, opened_over, opening};
+ghost use Rattle.alta_session.specs.Machine.{IsRefusal};
+ghost use Rattle.alta_session.specs.Searching.{row_lines};
+ghost use Rattle.alta_store.specs.Agreement.{IsIntact, Knows};
+
+use crate::replying::{put_answers, refused, text, written};
+use crate::searching::load;
+use alta_codec::{Steps, Text};
+use alta_compile::compile;
+use alta_query::{Query, parse};
+use alta_search::{Cursor, Cursors, Page};
+use alta_store::{Store, StoreFault};
+use std::alloc::{AllocError, Global};
+use std::marker::Brand;
+use std::sync::ledger::{Blank, Ledger};
+
+/// The reply to an open: the number of a cursor over the answers of the text, or that the text is no query, or that as many are
+/// open as may be. It fails for want of memory alone.
+pub(crate) fn open(
+    alloc: Global,
+    store: &Store,
+    cursors: &mut Cursors,
+    text: &str,
+) -> Result<Text, StoreFault>
+    requires { IsIntact store.now }
+    ensures turned { (s : State) (all : List OpenAnswers) → Knows store.now s → AreOpen cursors.old all → Turns (opening text.now s.documents all) cursors.new result }
+    ensures memory { IfErr result (λ e. e ≡ StoreFault.Memory) }
+    ensures refused { IfOk result (λ reply. IsRefusal reply → cursors.new ≡ cursors.old) }
+{
+    match parse(alloc, text) {
+        Ok(query) => open_query(alloc, store, cursors, &query),
+        Err(fault) => refused(alloc, fault),
+    }
+}
+
+// The reply to an open of a query.
+fn open_query(
+    alloc: Global,
+    store: &Store,
+    cursors: &mut Cursors,
+    query: &Query,
+) -> Result<Text, StoreFault>
+    requires { IsIntact store.now }
+    ensures turned { (s : State) (all : List OpenAnswers) → Knows store.now s → AreOpen cursors.old all → Turns (opened_over (answers s.documents (shape query.now)) all) cursors.new result }
+    ensures memory { IfErr result (λ e. e ≡ StoreFault.Memory) }
+    ensures refused { IfOk result (λ reply. IsRefusal reply → cursors.new ≡ cursors.old) }
+{
+    if cursors.is_full() {
+        return text(alloc, "! too many cursors\n");
+    }
+    match put_cursor(alloc, store, cursors, query) {
+        Ok(number) => numbered(alloc, "cursor", number),
+        Err(_) => Err(StoreFault::Memory),
+    }
+}
+
+// Opens a cursor over the answers of a query, and answers its number.
+fn put_cursor(
+    alloc: Global,
+    store: &Store,
+    cursors: &mut Cursors,
+    query: &Query,
+) -> Result<u64, AllocError>
+    requires intact { IsIntact store.now }
+    requires room { length cursors.old < CURSORS }
+    ensures opened { OnOk result ((s : State) (all : List OpenAnswers) → Knows store.now s → AreOpen cursors.old all → AreOpen cursors.new (with_opened (answers s.documents (shape query.now)) all)) }
+    ensures number { IfOk result (λ number. (all : List OpenAnswers) → AreOpen cursors.old all → number ≡ least_free all) }
+{
+    let plan = compile(alloc, query)?;
+    let snapshot = load(alloc, store, &plan)?;
+    let number = cursors.open(Cursor::new(plan, snapshot))?;
+    Ok(number)
+}
+
+// What was done, with a cursor's number.
+fn numbered(alloc: Global, done: &str, number: u64) -> Result<Text, StoreFault>
+    ensures { IsReply (done.now ++ codes " " ++ decimal number ++ codes "\n") result }
+{
+    match format!(in alloc; "{done} {number}\n") {
+        Ok(reply) => Ok(Text::from_string(reply)),
+        Err(_) => Err(StoreFault::Memory),
+    }
+}
+
+/// The reply to a fetch: the next answers of the cursor, so many at most, and whether more are left, or that no cursor has the
+/// number. It fails for want of memory alone.
+pub(crate) fn fetch(
+    alloc: Global,
+    cursors: &mut Cursors,
+    number: u64,
+    count: u64,
+) -> Result<Text, StoreFault>
+    ensures turned { (all : List OpenAnswers) → AreOpen cursors.old all → Turns (fetching number count all) cursors.new result }
+    ensures memory { IfErr result (λ e. e ≡ StoreFault.Memory) }
+    ensures refused { (all : List OpenAnswers) → AreOpen cursors.old all → IfOk result (λ reply. IsRefusal reply → cursors.new ≡ cursors.old) }
+{
+    match take_page::<Brand>(alloc, cursors, number, count, Blank::new(1)) {
+        Ok(Some(page)) => written(listed(alloc, &page)),
+        Ok(None) => text(alloc, "! no such cursor\n"),
+        Err(_) => Err(StoreFault::Memory),
+    }
+}
+
+// Takes a page off from the cursor with this number. Nobody reads how many steps it took.
+fn take_page<L: Ledger>(
+    alloc: Global,
+    cursors: &mut Cursors,
+    number: u64,
+    count: u64,
+    blank: Blank,
+) -> Result<Option<Page>, AllocError>
+    requires name { blank.name ≡ L.name }
+    requires parts { blank.parts ≡ L.parts }
+    requires shared { 0 < L.parts }
+    ensures { IfOk result (IsFetch number count cursors.old cursors.new) }
+{
+    let mut steps = Steps::<L>::new(blank);
+    let page = cursors.fetch(alloc, number, count, &mut steps)?;
+    Ok(page)
+}
+
+// The answers of a page, a line for each, and whether more are left.
+fn listed(alloc: Global, page: &Page) -> Result<String, AllocError>
+    ensures { IfOk result (λ reply. string_bytes reply ≡ row_lines page.now.answers ++ (if page.now.more then codes "more\n" else codes "end\n")) }
+{
+    let mut reply = String::new(alloc);
+    put_answers(&mut reply, &page.answers)?;
+    reply.push_str(if page.more { "more\n" } else { "end\n" })?;
+    Ok(reply)
+}
+
+/// The reply to a close: that the cursor is closed, or that no cursor has the number. It fails for want of memory alone.
+pub(crate) fn close(alloc: Global, cursors: &mut Cursors, number: u64) -> Result<Text, StoreFault>
+    ensures turned { (all : List OpenAnswers) → AreOpen cursors.old all → Turns (closing number all) cursors.new result }
+    ensures memory { IfErr result (λ e. e ≡ StoreFault.Memory) }
+    ensures refused { IfOk result (λ reply. IsRefusal reply → cursors.new ≡ cursors.old) }
+{
+    if cursors.close(number) {
+        numbered(alloc, "closed", number)
+    } else {
+        text(alloc, "! no such cursor\n")
+    }
+}
