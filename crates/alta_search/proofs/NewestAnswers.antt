@@ -1,7 +1,7 @@
 -- The answers over the snapshot of the newest documents.
-use Rattle.std.proofs.Common.{◌≡◌, ◌⊎◌, ⊎_elim, inl, inr, ℕ, zero, suc, ◌+◌, ◌-◌, ◌<◌, ◌≤◌, Bool, true, false, not, cond, ◌&&◌, ◌||◌, List, [], ◌∷◌, ◌++◌, map, length, get_or, refl, sym, subst, ap, ◌∙◌, arith, append-nil, lit≤}
+use Rattle.std.proofs.Common.{◌≡◌, ⊎_elim, inl, ℕ, ◌+◌, ◌-◌, ◌<◌, ◌≤◌, Bool, true, false, not, cond, ◌&&◌, ◌||◌, List, [], ◌∷◌, map, length, get_or, refl, sym, subst, ap, ◌∙◌, arith, append-nil, lit≤}
 use Rattle.std.specs.Prelude.{◌↔◌, Contains, IsTrue, nat_eq}
-use Rattle.std.specs.List.{All, filter, list_any}
+use Rattle.std.specs.List.{All, filter}
 use Rattle.std.proofs.lemmas.Bool.{or_cases, true≢false}
 use Rattle.std.proofs.lemmas.List.{get_or-map, length-map}
 use Rattle.std.proofs.lemmas.List.Elements.{All-nil, All-cons, All-head, All-tail, All-weaker}
@@ -9,10 +9,9 @@ use Rattle.alta_codec.specs.declared.location.TheConstants.{TOP}
 use Rattle.alta_codec.proofs.Places.{Contains-head, Contains-tail, Contains-cases, not-Contains-nil}
 use Rattle.alta_compile.specs.Space.{Placed, AreApart, IsSpace, document_end, locations, list_of, past}
 use Rattle.alta_compile.specs.Space as space
-use Rattle.alta_compile.specs.Tree.{Tree, plan_list}
+use Rattle.alta_compile.specs.Tree.{plan_list}
 use Rattle.alta_compile.specs.PlanOf.{plan_of}
 use Rattle.alta_compile.proofs.Spaces.{Has, HasAt, has_contains, list-has, has-list, at_met, met_at}
-use Rattle.alta_content.specs.Lists.{locations_of}
 use Rattle.alta_content.specs.Rows.{end_of, ends_among}
 use Rattle.alta_content.specs.declared.content.Content.{Content}
 use Rattle.alta_content.specs.declared.document.DocRow.{DocRow}
@@ -32,7 +31,7 @@ use Rattle.alta_search.specs.Documents.{told}
 use Rattle.alta_search.specs.Lists.{test_list}
 use Rattle.alta_search.specs.Newest.{newest_lists, newest_view}
 use Rattle.alta_search.specs.Readers.{Each}
-use Rattle.alta_search.specs.Told.{AnswerRow, answer_of}
+use Rattle.alta_search.specs.Told.{answer_of}
 use Rattle.alta_search.specs.View.{IsRowOf, Shows, View}
 use Rattle.alta_search.proofs.NewestLists.{placed_of, space_of, lists-same, newest-list}
 
@@ -46,7 +45,7 @@ space-apart (a ∷ more) low top h (d, numbers, behind, rest) =
       here,
       omega (arith, some, counted),
       space-apart more (past (placed_of a)) (omega (arith, some, counted, below))
-      (All-weaker (λ b. end_of a.row < b.row.first) (λ b. past (placed_of a) ≤ b.row.first) (λ b k. omega (arith, k, some, counted)) more behind) rest,
+          (All-weaker (λ b. end_of a.row < b.row.first) (λ b. past (placed_of a) ≤ b.row.first) (λ b k. omega (arith, k, some, counted)) more behind) rest,
     )
 
 first-positive : (added : List Added) → mem.IsSpace added → All (λ a. 1 ≤ a.row.first) added
@@ -205,7 +204,7 @@ counted-each [] s = All-nil IsDocument
 counted-each (a ∷ more) (d, numbers, behind, rest) = All-cons IsDocument a more d (counted-each more rest)
 
 module _ (answers_match : AnswersMatch) (decided : MatchesAreDecided) (gone : List ℕ) (added : List Added) (content : Content) (tests : List Test) (q : Shape)
-      (h : HasContent added content) (made : AreMade added) where
+    (h : HasContent added content) (made : AreMade added) where
   abbrev pub list : List ℕ
   list = plan_list (space_of added) (plan_of q)
 

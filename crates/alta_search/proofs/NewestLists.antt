@@ -1,18 +1,17 @@
 -- The lists that the terms of a level's content have: those of the space of its documents.
-use Rattle.std.proofs.Common.{◌≡◌, ◌⊎◌, ⊎_elim, inl, inr, ℕ, zero, suc, ◌+◌, ◌<◌, ◌≤◌, Bool, true, false, cond, ◌||◌, List, [], ◌∷◌, ◌++◌, map, length, get_or, refl, sym, subst, ap, ◌∙◌, arith, append-nil}
-use Rattle.std.specs.Prelude.{Contains, nat_eq}
+use Rattle.std.proofs.Common.{◌≡◌, ◌⊎◌, ⊎_elim, inl, inr, ℕ, zero, suc, ◌+◌, ◌<◌, ◌≤◌, Bool, true, false, cond, ◌||◌, List, [], ◌∷◌, ◌++◌, map, refl, sym, subst, ap, ◌∙◌, arith, append-nil}
+use Rattle.std.specs.Prelude.{Contains}
 use Rattle.std.specs.Cmp.Lexicographic.{bytes_decides}
-use Rattle.std.specs.List.{All, concat, filter, list_any, starts_with}
+use Rattle.std.specs.List.{concat, filter, list_any}
 use Rattle.std.specs.Str.{bytes_eq}
 use Rattle.std.proofs.lemmas.Bool.{or_cases, true≢false}
-use Rattle.alta_codec.specs.declared.location.TheConstants.{TOP}
 use Rattle.alta_codec.specs.Rising.{IsRising}
 use Rattle.alta_codec.proofs.Places.{Contains-head, Contains-tail, Contains-cases, not-Contains-nil}
 use Rattle.alta_compile.specs.Space.{Placed, AreApart, locations, list_of}
 use Rattle.alta_compile.proofs.Parts.{union-nil, union-both}
-use Rattle.alta_compile.proofs.Spaces.{Has, HasAt, list-has, has-list, list-rises}
-use Rattle.alta_compound.specs.Union.{union, union_of}
-use Rattle.alta_compound.specs.Unions.{RisesAbove, above_from_rising, rising_from_above, union-rises}
+use Rattle.alta_compile.proofs.Spaces.{HasAt, list-has, has-list, list-rises}
+use Rattle.alta_compound.specs.Union.{union_of}
+use Rattle.alta_compound.specs.Unions.{RisesAbove, above_from_rising, union-rises}
 use Rattle.alta_content.specs.Lists.{locations_of, terms_of}
 use Rattle.alta_content.specs.declared.content.TermList.{TermList}
 use Rattle.alta_docread.specs.KeptLaws.{true_or_false}

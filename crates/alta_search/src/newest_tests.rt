@@ -8,6 +8,7 @@ ghost use Rattle.alta_search.specs.Plans.{tests_of};
 
 use crate::cursor::{count, search};
 use crate::newest::load_newest;
+use crate::page::Page;
 use crate::snapshot::Snapshot;
 use alta_codec::{Loc, Steps, Text, name_ok};
 use alta_compile::{Plan, compile};
@@ -96,12 +97,7 @@ fn newest(alloc: Global) -> Result<MemLevel, Fail>
 }
 
 /// The snapshot of the level for a plan, where these ends are deleted.
-fn load(
-    alloc: Global,
-    plan: &Plan,
-    level: &MemLevel,
-    gone: &[Loc],
-) -> Result<Snapshot, AllocError>
+fn load(alloc: Global, plan: &Plan, level: &MemLevel, gone: &[Loc]) -> Result<Snapshot, AllocError>
     requires level { (documents : List Document) × HasDocuments [] documents level.now }
     requires gone { IsRising gone.now }
     ensures { IfOk result (λ snapshot. snapshot.tests ≡ tests_of (tree plan.now)) }
@@ -141,21 +137,24 @@ fn matched(alloc: Global, query: &Query) -> Result<String, Fail> {
     Ok(names)
 }
 
-/// The names that a search answers, and a `?` where the count is another or some are left.
-fn answered<L: Ledger>(
-    alloc: Global,
-    query: &Query,
-    steps: &mut Steps<L>,
-) -> Result<String, Fail> {
-    let level = newest(alloc)?;
-    let plan = compile(alloc, query)?;
-    let snapshot = load(alloc, &plan, &level, deleted())?;
-    let page = search(alloc, &plan, &snapshot, steps)?;
+/// The names on a page.
+fn named(alloc: Global, page: &Page) -> Result<String, AllocError> {
     let mut names = String::new(alloc);
     for i in 0..page.answers.len() {
         names.push_str(page.answers.row(i).name.as_str())?;
     }
-    if page.more || count(alloc, &plan, &snapshot, steps)? != page.answers.len() as u64 {
+    Ok(names)
+}
+
+/// The names that a search answers, and a `?` where the count is another or some are left.
+fn answered<L: Ledger>(alloc: Global, query: &Query, steps: &mut Steps<L>) -> Result<String, Fail> {
+    let level = newest(alloc)?;
+    let plan = compile(alloc, query)?;
+    let snapshot = load(alloc, &plan, &level, deleted())?;
+    let page = search(alloc, &plan, &snapshot, steps)?;
+    let count = count(alloc, &plan, &snapshot, steps)?;
+    let mut names = named(alloc, &page)?;
+    if page.more || count != page.answers.len() as u64 {
         names.push_str("?")?;
     }
     Ok(names)

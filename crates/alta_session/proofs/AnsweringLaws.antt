@@ -4,14 +4,17 @@ use Rattle.std.proofs.lemmas.Result.{IfOk-weaker}
 use Rattle.alta_disk.specs.Disk.{DiskState, LeavesOnly, IsLawful}
 use Rattle.alta_disk.proofs.Moments.{leaves_start}
 use Rattle.alta_meta.specs.declared.document.State.{State}
+use Rattle.alta_search.specs.Open.{AreOpen, OpenAnswers}
+use Rattle.alta_search.specs.declared.cursors.OpenCursor.{OpenCursor}
 use Rattle.alta_session.specs.Agreement.{AgreesOn, room_in}
 use Rattle.alta_session.specs.Answering.{CanAnswer, IsReply, AnswersFrom, Answers}
+use Rattle.alta_session.specs.Cursors.{Turn, Turns}
 use Rattle.alta_session.specs.Fullness.{bytes_of_change}
-use Rattle.alta_session.specs.Machine.{Machine, changed_by, IsRefusal}
+use Rattle.alta_session.specs.Machine.{Machine, changed_by, turned_by, IsRefusal}
 use Rattle.alta_session.specs.declared.session.Session.{Session}
 use Rattle.alta_session.proofs.AgreementLaws.{agrees_changed}
 use Rattle.alta_session.proofs.FullnessLaws.{none_added}
-use Rattle.alta_store.specs.Agreement.{Agrees}
+use Rattle.alta_store.specs.Agreement.{Agrees, Knows}
 use Rattle.alta_store.specs.Meaning.{StandsForEither}
 use Rattle.alta_store.specs.declared.fault.StoreFault.{StoreFault}
 use Rattle.alta_store.specs.declared.fault.StoreFault.TheVariants.{Disk, Memory, Full}
@@ -25,6 +28,10 @@ if_so (Err e) P here = tt
 if_all : {T E : Type 0} (r : Result T E) (P : T → Type 0) → ((x : T) → P x) → IfOk r P
 if_all (Ok x) P all = all x
 if_all (Err e) P all = tt
+
+ok_weaker : {T E : Type 0} (r : Result T E) (P Q : Type 0) → (P → Q) → OnOk r P → OnOk r Q
+ok_weaker (Ok x) P Q weaker here = weaker here
+ok_weaker (Err e) P Q weaker here = tt
 
 err_weaker : {T E : Type 0} (r : Result T E) (P Q : E → Type 0) → ((e : E) → P e → Q e) → IfErr r P → IfErr r Q
 err_weaker (Ok x) P Q weaker here = tt
@@ -50,32 +57,46 @@ pub record Rests (m : Machine) (stepped : Machine × List ℕ) (text : List ℕ)
 none_written : (bytes : ℕ) (s t : State) → t ≡ s → bytes_of_change bytes s t ≡ 0
 none_written bytes s t is = ap (λ (x : State). bytes_of_change bytes s x) is ∙ none_added bytes s
 
-pub looked : {D : Type 0} (tells : Type 0) (state : D → DiskState) (disk : D) (session : Session) (bytes : ℕ) (result : Result (List ℕ) StoreFault) (steps : Machine → Machine × List ℕ) (text : List ℕ) → IsLawful tells (state disk) → CanAnswer tells (state disk) session → IsReply text result
-    → ((m : Machine) → tells → AgreesOn tells (state disk) session m → Rests m (steps m) text) → Answers tells state disk disk session session bytes result steps
-looked tells state disk session bytes result steps text lawful can reply rests = record {
+-- A call that only looks, whose reply may depend on the machine.
+pub looked_at : {D : Type 0} (tells : Type 0) (state : D → DiskState) (disk : D) (session : Session) (bytes : ℕ) (result : Result (List ℕ) StoreFault) (steps : Machine → Machine × List ℕ) (text : Machine → List ℕ) → IsLawful tells (state disk) → CanAnswer tells (state disk) session
+    → IfErr result (λ e. e ≡ Memory)
+    → ((m : Machine) → tells → AgreesOn tells (state disk) session m → Rests m (steps m) (text m) × IfOk result (λ r. r ≡ text m)) → Answers tells state disk disk session session bytes result steps
+looked_at tells state disk session bytes result steps text lawful can memory rests = record {
   from = λ m tell agrees.
-      let rest : Rests m (steps m) text = rests m tell agrees in
-      let now : AgreesOn tells (state disk) session (steps m).0 = record { store = subst (λ (s : State). Agrees tells (state disk) session.store s) (sym rest.state) agrees.store; cursors = rest.cursors ∙ agrees.cursors } in
+      let rest : Rests m (steps m) (text m) = (rests m tell agrees).0 in
+      let now : AgreesOn tells (state disk) session (steps m).0 = record {
+        store = subst (λ (s : State). Agrees tells (state disk) session.store s) (sym rest.state) agrees.store;
+        cursors = subst (λ (l : List OpenAnswers). AreOpen session.cursors l) (sym rest.cursors) agrees.cursors;
+      } in
       record {
-        reply = IfOk-weaker result (λ r. r ≡ text) (λ r. r ≡ (steps m).1) (λ r is. is ∙ sym rest.reply) reply.reply;
+        reply = IfOk-weaker result (λ r. r ≡ text m) (λ r. r ≡ (steps m).1) (λ r is. is ∙ sym rest.reply) (rests m tell agrees).1;
         agrees = if_so result (AgreesOn tells (state disk) session (steps m).0) now;
         images = subst (λ (s : State). LeavesOnly (StandsForEither m.state s) (state disk) (state disk)) (sym rest.state) (stays tells (state disk) session.store m.state lawful agrees.store);
-        refused = λ refusal. (refl, reply.memory);
-        need = λ need gap is. let wanting : Full need gap ≡ Memory = is_memory result (Full need gap) reply.memory is in absurd cc;
+        refused = λ refusal. (refl, memory);
+        need = λ need gap is. let wanting : Full need gap ≡ Memory = is_memory result (Full need gap) memory is in absurd cc;
         room = if_so result _ (omega (arith, none_written bytes m.state (steps m).0.state rest.state));
       };
   can = if_so result (CanAnswer tells (state disk) session) can;
   unchanged = if_all result _ (λ r refusal. (refl, refl));
-  only = err_weaker result (λ e. e ≡ Memory) _ (λ e is. inl (inl is)) reply.memory;
-  full = λ need gap tell is. let wanting : Full need gap ≡ Memory = is_memory result (Full need gap) reply.memory is in absurd cc;
-  cause = λ is. let wanting : Disk ≡ Memory = is_memory result Disk reply.memory is in absurd cc;
+  only = err_weaker result (λ e. e ≡ Memory) _ (λ e is. inl (inl is)) memory;
+  full = λ need gap tell is. let wanting : Full need gap ≡ Memory = is_memory result (Full need gap) memory is in absurd cc;
+  cause = λ is. let wanting : Disk ≡ Memory = is_memory result Disk memory is in absurd cc;
   faults = omega arith;
   same_limit = refl;
 }
 
+pub looked : {D : Type 0} (tells : Type 0) (state : D → DiskState) (disk : D) (session : Session) (bytes : ℕ) (result : Result (List ℕ) StoreFault) (steps : Machine → Machine × List ℕ) (text : List ℕ) → IsLawful tells (state disk) → CanAnswer tells (state disk) session → IsReply text result
+    → ((m : Machine) → tells → AgreesOn tells (state disk) session m → Rests m (steps m) text) → Answers tells state disk disk session session bytes result steps
+looked tells state disk session bytes result steps text lawful can reply rests =
+    looked_at tells state disk session bytes result steps (λ m. text) lawful can reply.memory (λ m tell agrees. (rests m tell agrees, reply.reply))
+
 -- where disk and session came out as they were
-pub same_store : (session : Session) (store : Store) → store ≡ session.store → record { store = store; sound = session.sound } ≡ session
-same_store session store same = ap (λ (x : Store). record { store = x; sound = session.sound }) same
+pub same_store : (session : Session) (store : Store) → store ≡ session.store → record { store = store; cursors = session.cursors; sound = session.sound } ≡ session
+same_store session store same = ap (λ (x : Store). record { store = x; cursors = session.cursors; sound = session.sound }) same
+
+-- only its cursors changed
+abbrev pub with_cursors : Session → List OpenCursor → Session
+with_cursors session cursors = record { store = session.store; cursors = cursors; sound = session.sound }
 
 pub answers_same : {D : Type 0} (tells : Type 0) (state : D → DiskState) (disk disk_now : D) (session session_now : Session) (bytes : ℕ) (result : Result (List ℕ) StoreFault) (steps : Machine → Machine × List ℕ) → disk_now ≡ disk → session_now ≡ session
     → Answers tells state disk disk session session bytes result steps → Answers tells state disk disk_now session session_now bytes result steps
@@ -123,14 +144,14 @@ pub record Changes (tells : Type 0) (disk disk_now : DiskState) (session session
   pub room : room_in session_now + bytes_of_change bytes m.state change.0 ≡ room_in session
 
 pub changed : {D : Type 0} (tells : Type 0) (state : D → DiskState) (disk disk_now : D) (session session_now : Session) (bytes : ℕ) (result : Result (List ℕ) StoreFault) (change : State → State × List ℕ) (text : List ℕ) → IsReply text result → (IsRefusal text → ⊥)
-    → CanAnswer tells (state disk_now) session_now → (state disk).faults ≤ (state disk_now).faults → (state disk_now).limit ≡ (state disk).limit
+    → session_now.cursors ≡ session.cursors → CanAnswer tells (state disk_now) session_now → (state disk).faults ≤ (state disk_now).faults → (state disk_now).limit ≡ (state disk).limit
     → ((m : Machine) → tells → AgreesOn tells (state disk) session m → Changes tells (state disk) (state disk_now) session session_now bytes text m (change m.state))
     → Answers tells state disk disk_now session session_now bytes result (λ m. changed_by m (change m.state))
-changed tells state disk disk_now session session_now bytes result change text reply no_refusal can faults same_limit changes = record {
+changed tells state disk disk_now session session_now bytes result change text reply no_refusal same_cursors can faults same_limit changes = record {
   from = λ m tell agrees.
       let one : Changes tells (state disk) (state disk_now) session session_now bytes text m (change m.state) = changes m tell agrees in record {
         reply = IfOk-weaker result (λ r. r ≡ text) (λ r. r ≡ (change m.state).1) (λ r is. is ∙ sym one.reply) reply.reply;
-        agrees = if_so result _ (agrees_changed tells (state disk_now) session_now m (change m.state) agrees.cursors one.agrees);
+        agrees = if_so result _ (agrees_changed tells (state disk_now) session_now m (change m.state) (subst (λ (l : List OpenCursor). AreOpen l m.cursors) (sym same_cursors) agrees.cursors) one.agrees);
         images = one.images;
         refused = λ refusal. absurd (no_refusal (subst IsRefusal one.reply refusal));
         need = λ need gap is. let wanting : Full need gap ≡ Memory = is_memory result (Full need gap) reply.memory is in absurd cc;
@@ -144,3 +165,41 @@ changed tells state disk disk_now session session_now bytes result change text r
   faults = faults;
   same_limit = same_limit;
 }
+
+-- ---- cursors
+
+-- What was answered is this reply, or memory was wanting; and these cursors are open then.
+pub turned : {D : Type 0} (tells : Type 0) (state : D → DiskState) (disk : D) (session : Session) (cursors : List OpenCursor) (bytes : ℕ) (result : Result (List ℕ) StoreFault)
+    (steps : Machine → Machine × List ℕ) (turn : State → List OpenAnswers → Turn) → IsLawful tells (state disk) → CanAnswer tells (state disk) session
+    → IfErr result (λ e. e ≡ Memory) → ((all : List OpenAnswers) → AreOpen session.cursors all → IfOk result (λ reply. IsRefusal reply → cursors ≡ session.cursors))
+    → ((s : State) (all : List OpenAnswers) → Knows session.store s → AreOpen session.cursors all → Turns (turn s all) cursors result)
+    → ((m : Machine) → steps m ≡ turned_by m (turn m.state m.cursors)) → Answers tells state disk disk session (with_cursors session cursors) bytes result steps
+turned tells state disk session cursors bytes result steps turn lawful can memory refused turns is =
+    answers_by tells state disk disk session (with_cursors session cursors) bytes result (λ m. turned_by m (turn m.state m.cursors)) steps (λ m. sym (is m)) (record {
+      from = λ m tell agrees.
+          let one = turns m.state m.cursors (agrees.store.content tell).knows agrees.cursors in
+          record {
+            reply = one.reply;
+            agrees = ok_weaker result (AreOpen cursors (turn m.state m.cursors).0) _ (λ open_now. record { store = agrees.store; cursors = open_now }) one.open_now;
+            images = stays tells (state disk) session.store m.state lawful agrees.store;
+            refused = λ refusal. (refl, memory);
+            need = λ need gap is. let wanting : Full need gap ≡ Memory = is_memory result (Full need gap) memory is in absurd cc;
+            room = if_so result _ (omega (arith, none_added bytes m.state));
+          };
+      can =
+          let m = can.agrees.0 in
+          let agrees = can.agrees.1 in
+          let intact = agrees.store.intact in
+          ok_weaker result (AreOpen cursors (turn intact.0 m.cursors).0) _ (λ open_now. record {
+            sound = can.sound;
+            agrees = (record { state = m.state; cursors = (turn intact.0 m.cursors).0 }, record { store = agrees.store; cursors = open_now });
+            limit = can.limit;
+          }) (turns intact.0 m.cursors intact.1 agrees.cursors).open_now;
+      unchanged = IfOk-weaker result (λ reply. IsRefusal reply → cursors ≡ session.cursors) _ (λ reply same refusal. (refl, ap (with_cursors session) (same refusal)))
+          (refused can.agrees.0.cursors can.agrees.1.cursors);
+      only = err_weaker result (λ e. e ≡ Memory) _ (λ e is. inl (inl is)) memory;
+      full = λ need gap tell is. let wanting : Full need gap ≡ Memory = is_memory result (Full need gap) memory is in absurd cc;
+      cause = λ is. let wanting : Disk ≡ Memory = is_memory result Disk memory is in absurd cc;
+      faults = omega arith;
+      same_limit = refl;
+    })

@@ -19,6 +19,9 @@ pub record IsOther (l : Line) : Type 0 where
   pub searches : (text : Bor (List ℕ)) → l ≡ Search text → ⊥
   pub counts : (text : Bor (List ℕ)) → l ≡ Count text → ⊥
   pub explains : (text : Bor (List ℕ)) → l ≡ Explain text → ⊥
+  pub opens : (text : Bor (List ℕ)) → l ≡ OpenCursor text → ⊥
+  pub fetches : (cursor count : ℕ) → l ≡ Fetch cursor count → ⊥
+  pub closes : (cursor : ℕ) → l ≡ Close cursor → ⊥
   pub asks_stats : l ≡ Stats → ⊥
 
 other_line : (l : Line) (m : Machine) → IsOther l → obeyed m (command_of l) ≡ (m, codes "! unknown command\n")
@@ -27,9 +30,9 @@ other_line (Delete name) m other = absurd (other.deletes name refl)
 other_line (Search text) m other = absurd (other.searches text refl)
 other_line (Count text) m other = absurd (other.counts text refl)
 other_line (Explain text) m other = absurd (other.explains text refl)
-other_line (OpenCursor text) m other = refl
-other_line (Fetch cursor count) m other = refl
-other_line (Close cursor) m other = refl
+other_line (OpenCursor text) m other = absurd (other.opens text refl)
+other_line (Fetch cursor count) m other = absurd (other.fetches cursor count refl)
+other_line (Close cursor) m other = absurd (other.closes cursor refl)
 other_line Flush m other = refl
 other_line Merge m other = refl
 other_line (Step count) m other = refl

@@ -2,6 +2,7 @@ pub mod AddingLaws
 pub mod AgreementLaws
 pub mod AnsweringLaws
 pub mod AskLaws
+pub mod CursorLaws
 pub mod DeletingLaws
 pub mod FedLaws
 pub mod FeedLaws

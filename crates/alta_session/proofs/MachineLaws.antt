@@ -10,6 +10,7 @@ use Rattle.alta_model.specs.declared.line.LineFault.{LineFault}
 use Rattle.alta_model.specs.declared.line.LineFault.TheVariants.{TooLong, NotUtf8, Unknown, Bad}
 use Rattle.alta_session.specs.Keeping.{clip}
 use Rattle.alta_session.specs.Machine.{Machine, refusal, adding, obeyed, answered, step, after, replies}
+use Rattle.alta_session.proofs.CursorLaws.{opening_some, fetching_some, closing_some}
 use Rattle.alta_session.proofs.DeletingLaws.{deleting_some, stats_some}
 use Rattle.alta_session.proofs.SearchLaws.{searching_some, counting_some, explaining_some}
 
@@ -47,9 +48,9 @@ obeyed_some m (deletes name) = deleting_some name m.state
 obeyed_some m (searches query) = searching_some query m.state.documents
 obeyed_some m (counts query) = counting_some query m.state.documents
 obeyed_some m (explains query) = explaining_some query
-obeyed_some m (opens query) = lit< tt
-obeyed_some m (fetches cursor count) = lit< tt
-obeyed_some m (closes cursor) = lit< tt
+obeyed_some m (opens query) = opening_some query m.state.documents m.cursors
+obeyed_some m (fetches cursor count) = fetching_some cursor count m.cursors
+obeyed_some m (closes cursor) = closing_some cursor m.cursors
 obeyed_some m flushes = lit< tt
 obeyed_some m merges = lit< tt
 obeyed_some m (steps count) = lit< tt

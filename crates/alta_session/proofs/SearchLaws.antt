@@ -74,10 +74,10 @@ pub some_behind : (xs ys : List ℕ) → 0 < length ys → 0 < length (xs ++ ys)
 some_behind xs ys h = omega (arith, length-append xs ys, h)
 
 -- a reply has at least its newline
-refusal_some : (f : Fault) → 0 < length (query_refusal f)
+pub refusal_some : (f : Fault) → 0 < length (query_refusal f)
 refusal_some (fault place cause) = some_behind (codes "! query " ++ decimal place ++ codes " " ++ cause_name cause) (codes "\n") (lit< tt)
 
-found_some : (n : ℕ) → 0 < length (found_line n)
+pub found_some : (n : ℕ) → 0 < length (found_line n)
 found_some n = some_behind (codes "found " ++ decimal n) (codes "\n") (lit< tt)
 
 found_by_some : (documents : List Document) (r : Result Shape Fault) → 0 < length (found_by documents r)

@@ -1,8 +1,8 @@
-use Rattle.std.proofs.Common.{◌≡◌, ◌∷◌, [], map, ap, ◌∙◌, rules}
+use Rattle.std.proofs.Common.{◌≡◌, ◌∷◌, ap, rules}
 use Rattle.alta_search.specs.Lists.{TermKey, term_lists, key_of}
 use Rattle.alta_search.specs.Newest.{newest_key, newest_list}
 use Rattle.alta_search.specs.declared.lists.TermLists.{TermLists}
-use Rattle.alta_search.proofs.NewestLoads.{front-more, front-all, read-more}
+use Rattle.alta_search.proofs.NewestLoads.{front-more, read-more}
 use Rattle.alta_search.proofs.newest.load_terms.Goals as goal
 
 pub loop-term-preserved : goal.loop-term-preserved

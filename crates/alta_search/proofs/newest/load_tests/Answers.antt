@@ -1,7 +1,7 @@
-use Rattle.std.proofs.Common.{◌≡◌, ◌∷◌, [], map, ap, ◌∙◌, rules}
+use Rattle.std.proofs.Common.{◌≡◌, ◌∷◌, rules}
 use Rattle.alta_search.specs.Lists.{test_in, test_lists, test_keys}
 use Rattle.alta_search.specs.Newest.{newest_keys, newest_lists}
-use Rattle.alta_search.proofs.NewestLoads.{front-more, front-all, read-more}
+use Rattle.alta_search.proofs.NewestLoads.{front-more, read-more}
 use Rattle.alta_search.proofs.newest.load_tests.Goals as goal
 
 pub loop-test-preserved : goal.loop-test-preserved
@@ -14,4 +14,3 @@ loop-test-preserved c =
       keys = read-more test_in xs ys t pushed test_keys (newest_keys lists) c.in-Some.test is.test is.keys inv.keys;
       lists = read-more test_in xs ys t pushed test_lists (newest_lists lists) c.in-Some.test is.test is.lists inv.lists;
     }
-

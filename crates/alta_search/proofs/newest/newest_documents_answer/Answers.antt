@@ -1,6 +1,4 @@
-use Rattle.std.proofs.Common.{◌≡◌, map, subst, ap, ◌∙◌}
-use Rattle.alta_memlevel.specs.Documents.{document_in}
-use Rattle.alta_memlevel.specs.Added.{live_of}
+use Rattle.std.proofs.Common.{map, ap, ◌∙◌}
 use Rattle.alta_compile.specs.PlanOf.{plan_of}
 use Rattle.alta_model.specs.Deciding.{answers}
 use Rattle.alta_search.specs.Documents.{told}

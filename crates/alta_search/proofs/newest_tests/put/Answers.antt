@@ -1,6 +1,6 @@
-use Rattle.std.proofs.Common.{◌≡◌, ℕ, ◌+◌, ◌<◌, ◌≤◌, ◌∷◌, [], ◌++◌, List, length, map, refl, sym, subst, ap, ◌∙◌, arith, rules, lit≤}
-use Rattle.std.specs.Prelude.{All, string_bytes}
-use Rattle.std.proofs.lemmas.List.Elements.{All-nil, All-cons, All-push, All-weaker}
+use Rattle.std.proofs.Common.{◌≡◌, ◌+◌, ◌<◌, ◌≤◌, ◌∷◌, [], ◌++◌, length, map, refl, sym, subst, ap, ◌∙◌, arith, rules}
+use Rattle.std.specs.Prelude.{All}
+use Rattle.std.proofs.lemmas.List.Elements.{All-push, All-weaker}
 use Rattle.alta_codec.specs.Name.{IsName}
 use Rattle.alta_content.specs.Rows.{end_of}
 use Rattle.alta_content.specs.declared.document.DocRow.{DocRow}

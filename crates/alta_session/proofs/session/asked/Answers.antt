@@ -2,7 +2,7 @@ use Rattle.std.proofs.Common.{List, ℕ, subst}
 use Rattle.alta_model.specs.Command.{Reads}
 use Rattle.alta_model.specs.Seen.{command_of}
 use Rattle.alta_model.specs.declared.line.Line.{Line}
-use Rattle.alta_model.specs.declared.line.Line.TheVariants.{Add, Delete, Search, Count, Explain, Stats}
+use Rattle.alta_model.specs.declared.line.Line.TheVariants.{Add, Delete, Search, Count, Explain, OpenCursor, Fetch, Close, Stats}
 use Rattle.alta_model.specs.declared.line.LineFault.TheVariants.{TooLong, NotUtf8, Unknown, Bad}
 use Rattle.alta_session.proofs.AddingLaws.{line_is_document}
 use Rattle.alta_session.proofs.AskLaws.{step_other, step_asks, step_refuses, reading_is, record_of_line}
@@ -33,6 +33,15 @@ returns-in-Count c = step_asks c.args.bytes.now c.in-Ok.line (Count c.in-Count.t
 pub returns-in-Explain : goal.returns-in-Explain
 returns-in-Explain c = step_asks c.args.bytes.now c.in-Ok.line (Explain c.in-Explain.text) c.in-Ok.ensures.reading c.in-Explain.is
 
+pub returns-in-OpenCursor : goal.returns-in-OpenCursor
+returns-in-OpenCursor c = step_asks c.args.bytes.now c.in-Ok.line (OpenCursor c.in-OpenCursor.text) c.in-Ok.ensures.reading c.in-OpenCursor.is
+
+pub returns-in-Fetch : goal.returns-in-Fetch
+returns-in-Fetch c = step_asks c.args.bytes.now c.in-Ok.line (Fetch c.in-Fetch.cursor c.in-Fetch.count) c.in-Ok.ensures.reading c.in-Fetch.is
+
+pub returns-in-Close : goal.returns-in-Close
+returns-in-Close c = step_asks c.args.bytes.now c.in-Ok.line (Close c.in-Close.cursor) c.in-Ok.ensures.reading c.in-Close.is
+
 pub returns-in-Stats : goal.returns-in-Stats
 returns-in-Stats c = step_asks c.args.bytes.now c.in-Ok.line Stats c.in-Ok.ensures.reading c.in-Stats.is
 
@@ -44,6 +53,9 @@ returns-in_default c =
       searches = c.in_default.not-Search;
       counts = c.in_default.not-Count;
       explains = c.in_default.not-Explain;
+      opens = c.in_default.not-OpenCursor;
+      fetches = c.in_default.not-Fetch;
+      closes = c.in_default.not-Close;
       asks_stats = c.in_default.not-Stats;
     })
 
