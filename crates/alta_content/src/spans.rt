@@ -1,5 +1,5 @@
 // The spans of the deleted documents, and what stands outside of them.
-ghost use Rattle.std.specs.Prelude.{◌≡◌, ◌++◌, ℕ, ◌<◌, ◌≤◌, length, nat_eq, not, slice_index, IfOk, OnOk};
+ghost use Rattle.std.specs.Prelude.{◌≡◌, ◌++◌, ℕ, ◌<◌, ◌≤◌, length, nat_eq, not, slice_index, slice_set, IfOk, OnOk};
 ghost use Rattle.std.specs.List.{filter, list_any};
 ghost use Rattle.std.specs.List.Sorted.{IsSorted};
 ghost use Rattle.std.specs.Ordering.{nat_cmp};
@@ -159,7 +159,19 @@ fn has_at(spans: &[Span], at: usize, location: Loc) -> bool
     }
 }
 
-/// Leaves the locations outside of the spans, which are met by a walk beside the locations.
+// Puts the location at an index at a place in front of it, or leaves it there.
+fn put_back(locations: &mut Vec<Loc>, place: usize, i: usize)
+    requires place { place ≤ i }
+    requires within { i < length locations.old.items }
+    ensures { locations.new.items ≡ slice_set locations.old.items place (slice_index locations.old.items i) }
+{
+    if place < i {
+        locations[place] = locations[i];
+    }
+}
+
+/// Leaves the locations outside of the spans, which are met by a walk beside the locations. Where all are outside, none is
+/// written.
 pub fn keep_locations(locations: &mut Vec<Loc>, spans: &[Span])
     requires { SpansRise spans.now }
     ensures { locations.new.items ≡ outside_of spans.now locations.old.items }
@@ -173,7 +185,7 @@ pub fn keep_locations(locations: &mut Vec<Loc>, spans: &[Span])
         let location = locations[i];
         at = walk(spans, at, location);
         if !has_at(spans, at, location) {
-            locations[kept] = location;
+            put_back(locations, kept, i);
             kept += 1;
         }
     }
