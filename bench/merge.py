@@ -286,11 +286,15 @@ def left_of(parts, dead):
     return len({term for terms in parts for term, at in terms if any((x - 1) // 40 not in gone for x in at)})
 
 
-def joins(command, rounds):
-    """The seconds that the joins take."""
-    read, _ = seconds(command("read", rounds))
-    joined, _ = seconds(command("join", rounds))
-    return joined - read
+def joins(commands, rounds, turns):
+    """The seconds that the joins take by each command: the best of some turns, less the best that only read."""
+    best = {}
+    for _ in range(turns):
+        for name, command in commands.items():
+            for mode in ("read", "join"):
+                took, _ = seconds(command(mode, rounds))
+                best[name, mode] = min(best.get((name, mode), took), took)
+    return {name: best[name, "join"] - best[name, "read"] for name in commands}
 
 
 def compare(options, folder, parts, rows, dead, wanted, rounds, title):
@@ -310,13 +314,8 @@ def compare(options, folder, parts, rows, dead, wanted, rounds, title):
         _, answer = seconds(command("join", 1))
         if answer[-1] != wanted:
             sys.exit(f"the join of {name} has {answer[-1]} terms in place of {wanted}")
-    best = {}
-    for _ in range(options.turns):
-        for name, command in commands.items():
-            took = joins(command, rounds)
-            best[name] = min(best.get(name, took), took)
     locations = sum(len(list_) for part in parts for _, list_ in part)
-    speed = {name: locations * rounds / max(took, 1e-9) / 1e6 for name, took in best.items()}
+    speed = {name: locations * rounds / max(took, 1e-9) / 1e6 for name, took in joins(commands, rounds, options.turns).items()}
     print(f"{title}, {locations} locations")
     shown = ", ".join(f"{name} {value:.1f}" for name, value in speed.items())
     print(f"million locations a second: {shown}; own of C {speed['own'] / speed['C']:.2f}", flush=True)
