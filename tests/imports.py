@@ -7,8 +7,12 @@ Without --program the tests of the real program are left out, and that is said.
 """
 
 import base64
+import collections
 import contextlib
+import email.message
 import faulthandler
+import glob
+import gzip
 import io
 import json
 import mailbox
@@ -625,17 +629,39 @@ class RealProgram(Case):
         ]
         return self.write("mail.mbox", b"".join(parts))
 
+    def documentation(self, count):
+        """A mailbox of paragraphs of the changelogs that are installed, and the text of each name."""
+        paragraphs = []
+        for path in sorted(glob.glob("/usr/share/doc/*/changelog*.gz")):
+            with gzip.open(path, "rt", encoding="utf-8", errors="replace") as file:
+                entries = [" ".join(entry.split()) for entry in file.read(20_000).split("\n\n")]
+            paragraphs += [entry[:400] for entry in entries if 40 <= len(entry)][: count // 20]
+        if len(paragraphs) < count:
+            self.skipTest("too few changelogs are installed")
+        box = mailbox.mbox(self.at("doc.mbox"))
+        for number, paragraph in enumerate(paragraphs[:count]):
+            message = email.message.EmailMessage()
+            message["Message-ID"] = f"<{number}@doc>"
+            message["Subject"] = paragraph[:40]
+            message.set_content(paragraph)
+            box.add(message)
+        box.close()
+        return self.at("doc.mbox"), {f"{number}@doc": paragraph.casefold() for number, paragraph in enumerate(paragraphs[:count])}
+
     def found(self, query):
         self.run_script("find.py", self.path, query)
         return self.out.strip().split("\n")[:-1]
 
-    def test_killed_and_brought_in_again(self):
-        path = self.mailbox(1000, 20)
+    def kill_in_the_middle(self, path):
         process = self.start("mail.py", self.path, path)
         stamps = self.path + ".stamps"
         until(lambda: os.path.exists(stamps) and os.path.getsize(stamps) > 5_000 or process.poll() is not None)
         process.kill()
         process.communicate()
+
+    def test_killed_and_brought_in_again(self):
+        path = self.mailbox(1000, 20)
+        self.kill_in_the_middle(path)
         said = self.run_script("mail.py", self.path, path)
         parts = re.findall(r"([\d,]+) ([a-z ]+)", said.split("documents: ")[1])
         counts = {kind: int(number.replace(",", "")) for number, kind in parts}
@@ -645,6 +671,18 @@ class RealProgram(Case):
         names = [row.split()[1] for row in self.found("letter")]
         self.assertEqual(sorted(names), sorted(f"{number}@x" for number in range(1000)))
         self.assertEqual([row.split()[1] for row in self.found("w77 OR title:77")], ["77@x"])
+
+    def test_installed_documentation(self):
+        path, texts = self.documentation(1000)
+        self.kill_in_the_middle(path)
+        self.run_script("mail.py", self.path, path)
+        self.assertIn("0 added, 1,000 unchanged", self.run_script("mail.py", self.path, path))
+        words = collections.Counter(word for text in texts.values() for word in set(text.split()) if word.isascii() and word.isalpha())
+        for word, _ in words.most_common(8):
+            # A word that stands between blanks is found, and what is found has the word.
+            names = {row.split()[1] for row in self.found(word)}
+            self.assertLessEqual({name for name, text in texts.items() if word in text.split()}, names, word)
+            self.assertLessEqual(names, {name for name, text in texts.items() if word in text}, word)
 
     def test_more_than_fits(self):
         path = self.mailbox(200, 1000)

@@ -10,3 +10,4 @@ pub mod Outside
 pub mod Ranges
 pub mod Rises
 pub mod Searches
+pub mod Walks

@@ -11,6 +11,10 @@ abbrev pub SpansRise : List Span → Type 0
 SpansRise [] = Unit {0}
 SpansRise (span ∷ more) = (span.first ≤ span.last) × All (λ s. span.last < s.first) more × SpansRise more
 
+-- the last locations of spans
+abbrev pub lasts_of : List Span → List ℕ
+lasts_of spans = map (λ s. s.last) spans
+
 -- the location is one of the span's
 abbrev pub span_has : ℕ → Span → Bool
 span_has location span = nat_le span.first location && nat_le location span.last

@@ -21,7 +21,8 @@ pub use laws::{
     gaps_are_the_first_and_the_longest, slots_are_two,
 };
 pub use places::{
-    FIELDS_BYTES, GATE_CLOSED, GATE_OPEN, HEAD_BYTES, LEVEL_BYTES, SLOT_BYTES, SLOTS_BYTES,
+    DOCUMENT_CELLS, FIELDS_BYTES, GATE_CLOSED, GATE_OPEN, HEAD_BYTES, LAST_NEXT, LEVEL_BYTES,
+    SLOT_BYTES, SLOTS_BYTES,
 };
 pub use reading::read_roots;
 pub use root::{Root, Roots};

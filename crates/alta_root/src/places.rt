@@ -35,8 +35,8 @@ pub(crate) const LEVELS: usize = 16;
 /// The fewest bytes of a level.
 pub const LEVEL_BYTES: u64 = 32;
 
-// The greatest next number.
-pub(crate) const LAST_NEXT: u64 = 4_294_967_296;
+/// The greatest next number.
+pub const LAST_NEXT: u64 = 4_294_967_296;
 
-// The most cells of a document.
-pub(crate) const DOCUMENT_CELLS: u64 = 262_146;
+/// The most cells of a document.
+pub const DOCUMENT_CELLS: u64 = 262_146;

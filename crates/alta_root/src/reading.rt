@@ -1,11 +1,11 @@
 // Which of the two slots counts.
-ghost use Rattle.std.specs.Prelude.{◌≡◌, ◌≢◌, ◌⊎◌, ◌↔◌, ℕ, List, ◌+◌, ◌≤◌, ◌<◌, ◌*◌, true, length, take, drop, get_or, Result, Ok, Err, IsTrue};
+ghost use Rattle.std.specs.Prelude.{◌≡◌, ◌≢◌, ◌⊎◌, ◌↔◌, ℕ, List, ◌+◌, ◌≤◌, ◌<◌, ◌*◌, true, length, take, drop, get_or, Result, Ok, Err, IsTrue, IfOk};
 ghost use Rattle.alta_codec.specs.Faults.{Rose};
 ghost use Rattle.alta_disk.specs.Disk.{DiskState};
 ghost use Rattle.alta_disk.specs.Calls.{Reads};
 ghost use Rattle.alta_root.specs.Places.{slot_start};
-ghost use Rattle.alta_root.specs.Root.{next_sequence};
-ghost use Rattle.alta_root.specs.Slots.{Shows};
+ghost use Rattle.alta_root.specs.Root.{IsSound, next_sequence};
+ghost use Rattle.alta_root.specs.Slots.{Counts, Shows};
 ghost use Rattle.alta_root.specs.Answers.{AreRead, Says, SaysIfOpen, slot_bytes, chosen_of};
 ghost use Rattle.alta_root.specs.declared.fault.RootFault.TheVariants.{Disk as DiskFault};
 ghost use Rattle.alta_root.specs.declared.places.TheConstants.{READ_BYTES, SLOTS_BYTES};
@@ -17,8 +17,8 @@ use crate::places::{GATE_OPEN, HEAD_BYTES, READ_BYTES, SECOND_SEQUENCE, SLOTS_BY
 use crate::{Root, RootFault, Roots, Slot};
 use alta_disk::Disk;
 
-/// Reads both slots, and answers the one that counts, with its root. It takes no memory, and reads 592 bytes at most:
-/// what stands behind the fields of a slot is not looked at.
+/// Reads both slots, and answers the one that counts, with its root, which keeps the rules on slots. It takes no memory,
+/// and reads 592 bytes at most: what stands behind the fields of a slot is not looked at.
 ///
 /// # Errors
 ///
@@ -28,6 +28,8 @@ use alta_disk::Disk;
 /// disk failed.
 pub fn read_roots<D: Disk>(disk: &mut D) -> Result<Roots, RootFault>
     ensures answer { D.tells → (result ≡ Err DiskFault) ⊎ Shows (D.state disk.old).content result }
+    ensures counts { D.tells → IfOk result (λ roots. Counts roots.slot roots.root (D.state disk.old).content) }
+    ensures sound { D.tells → IfOk result (λ roots. IsSound (length (D.state disk.old).content) roots.root) }
     ensures exact { D.tells → (answer : Result Roots RootFault) → Shows (D.state disk.old).content answer → (result ≡ Err DiskFault) ⊎ (result ≡ answer) }
     ensures cause { result ≡ Err DiskFault → Rose (D.state disk.old).faults (D.state disk.new).faults }
     ensures reads { Reads D.tells (2 * READ_BYTES) (D.state disk.old) (D.state disk.new) }

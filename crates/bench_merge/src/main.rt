@@ -1,13 +1,15 @@
 //! Joins the contents of two segments, so that its allocations and its time can be measured: `bench_merge OLDER NEWER` reads the
 //! two files and prints how many terms each has. With `begin` behind it also begins their join, and then takes a step of so many
 //! terms for each further word, and prints whether no term is left. With `read N` it reads them N times more, with `join N` it
-//! also joins them each time, and prints how many terms came of it in all. bench/merge.py runs it.
+//! also joins them each time, and prints how many terms came of it in all. With a further number M behind, each Mth document
+//! of both is dead in these joins. bench/merge.py runs it.
 #![tactic(auto)]
 
 ghost use Rattle.std.specs.Prelude.{◌≤◌, length, IfOk};
 ghost use Rattle.alta_content.specs.Parts.{IsPart};
 
-use alta_content::Content;
+use alta_codec::Loc;
+use alta_content::{Content, DocRow};
 use alta_level::read_content;
 use alta_merge::{Job, may_join};
 use std::alloc::{AllocError, Global};
@@ -28,8 +30,21 @@ fn read(alloc: Global, bytes: &[u8]) -> Result<Content, AllocError>
     }
 }
 
+// Adds the end of each row whose place, counted from 1, is a multiple of `every`.
+fn put_ends(ends: &mut Vec<Loc>, rows: &[DocRow], every: u64) -> Result<(), AllocError> {
+    let mut left = every;
+    for row in rows {
+        left = left.saturating_sub(1);
+        if left == 0 {
+            left = every;
+            ends.push(row.first.wrapping_add(row.cells).wrapping_sub(1))?;
+        }
+    }
+    Ok(())
+}
+
 // The join that begins, none where the contents may not be joined.
-fn begin(alloc: Global, older: &[u8], newer: &[u8]) -> Result<Option<Job>, AllocError>
+fn begin(alloc: Global, older: &[u8], newer: &[u8], dead: &[Loc]) -> Result<Option<Job>, AllocError>
     requires older { length older.now ≤ MOST }
     requires newer { length newer.now ≤ MOST }
 {
@@ -38,7 +53,7 @@ fn begin(alloc: Global, older: &[u8], newer: &[u8]) -> Result<Option<Job>, Alloc
     if !may_join(&a, &b) {
         return Ok(None);
     }
-    let job = Job::new(alloc, a, b, &[])?;
+    let job = Job::new(alloc, a, b, dead)?;
     Ok(Some(job))
 }
 
@@ -53,11 +68,11 @@ fn terms(alloc: Global, older: &[u8], newer: &[u8]) -> Result<(usize, usize), Al
 }
 
 // How many terms their join has.
-fn joined(alloc: Global, older: &[u8], newer: &[u8]) -> Result<usize, AllocError>
+fn joined(alloc: Global, older: &[u8], newer: &[u8], dead: &[Loc]) -> Result<usize, AllocError>
     requires older { length older.now ≤ MOST }
     requires newer { length newer.now ≤ MOST }
 {
-    let Some(mut job) = begin(alloc, older, newer)? else {
+    let Some(mut job) = begin(alloc, older, newer, dead)? else {
         return Ok(0);
     };
     let done = job.step(u64::MAX)?;
@@ -74,6 +89,7 @@ fn repeat(
     newer: &[u8],
     joins: bool,
     rounds: u64,
+    dead: &[Loc],
 ) -> Result<u64, AllocError>
     requires older { length older.now ≤ MOST }
     requires newer { length newer.now ≤ MOST }
@@ -81,7 +97,7 @@ fn repeat(
     let mut sum: u64 = 0;
     for _ in 0..rounds {
         let count = if joins {
-            joined(alloc, older, newer)?
+            joined(alloc, older, newer, dead)?
         } else {
             let (a, b) = terms(alloc, older, newer)?;
             a.wrapping_add(b)
@@ -132,7 +148,13 @@ fn main(rt: HostRuntime) -> io::Result<ExitCode> {
         Some(word) => word.as_str().parse::<u64>().unwrap_or(1),
         None => 1,
     };
-    let sum = repeat(alloc, &older, &newer, joins, rounds)?;
+    let mut dead = Vec::new(alloc);
+    if let Some(word) = words.next() {
+        let every = word.as_str().parse::<u64>().unwrap_or(0);
+        put_ends(&mut dead, a.documents.as_slice(), every)?;
+        put_ends(&mut dead, b.documents.as_slice(), every)?;
+    }
+    let sum = repeat(alloc, &older, &newer, joins, rounds, &dead)?;
     println!(rt; "{sum}")?;
     Ok(ExitCode::SUCCESS)
 }
