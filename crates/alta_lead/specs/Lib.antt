@@ -1,0 +1,4 @@
+pub mod Having
+pub mod HavingLaws
+pub mod Moves
+pub mod Rounds

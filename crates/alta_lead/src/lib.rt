@@ -1,0 +1,5 @@
+//! A reader of the documents that have each of several words and none of some others, which one of the words leads.
+#![tactic(auto)]
+
+mod chains;
+
