@@ -1,2 +1,4 @@
 pub mod Bringing
+pub mod Going
 pub mod Moving
+pub mod Rounding

@@ -2,7 +2,9 @@
 use Rattle.std.proofs.Common.{◌≡◌, ⊎_elim, ℕ, zero, suc, ◌+◌, ◌*◌, ◌<◌, ◌≤◌, List, [], ◌∷◌, map, length, get_or, refl, sym, ap, ◌∙◌, arith}
 use Rattle.std.specs.Prelude.{All, sum_by}
 use Rattle.std.proofs.Math.Nat.{add-mul, mul-add, mul-le-mul_right}
-use Rattle.alta_lead.specs.Moves.{Chains, left_of, cost_of, MovesEach, IsMoved, AreMoved, AllMoved}
+use Rattle.alta_codec.specs.Rising.{pred_of, count_from}
+use Rattle.alta_lead.specs.Having.{ends_having}
+use Rattle.alta_lead.specs.Moves.{Chains, left_of, list_of, rest_of, cost_of, IsMoved, AreMoved, AllMoved}
 
 module _ {R : Type 0} (sound : R → Type 0) (list all : R → List ℕ) (left cost : R → ℕ) where
   pub still : (r : R) (most : ℕ) → sound r → IsMoved sound list all left cost most r r 0
@@ -50,17 +52,30 @@ module _ {R : Type 0} (sound : R → Type 0) (list all : R → List ℕ) (left c
     each = λ of h. omega (arith, f.each of h, mul-le-mul_right (sum_by of (map list xs)) l);
   }
 
-  pub both_moved : (c d e : Chains R) (a b p q r : ℕ) → AllMoved sound list all left cost a c d p q → AllMoved sound list all left cost b d e q r
-      → AllMoved sound list all left cost (a + b) c e p r
-  both_moved c d e a b p q r f s = record {
+  pub both_moved : (c d e : Chains R) (a b most p q r : ℕ) → a + b ≤ most → AllMoved sound list all left cost a c d p q → AllMoved sound list all left cost b d e q r
+      → AllMoved sound list all left cost most c e p r
+  both_moved c d e a b most p q r l f s = record {
     of_ends = f.of_ends + s.of_ends;
     of_words = f.of_words + s.of_words;
     of_negated = f.of_negated + s.of_negated;
-    ends = moved_then c.ends d.ends e.ends a b f.of_ends s.of_ends f.ends s.ends;
-    words = all_moved_then c.words d.words e.words a b f.of_words s.of_words f.words s.words;
-    negated = all_moved_then c.negated d.negated e.negated a b f.of_negated s.of_negated f.negated s.negated;
+    ends = moved_more c.ends e.ends (a + b) most (f.of_ends + s.of_ends) l (moved_then c.ends d.ends e.ends a b f.of_ends s.of_ends f.ends s.ends);
+    words = all_moved_more c.words e.words (a + b) most (f.of_words + s.of_words) l
+        (all_moved_then c.words d.words e.words a b f.of_words s.of_words f.words s.words);
+    negated = all_moved_more c.negated e.negated (a + b) most (f.of_negated + s.of_negated) l
+        (all_moved_then c.negated d.negated e.negated a b f.of_negated s.of_negated f.negated s.negated);
     steps = omega (arith, f.steps, s.steps);
   }
+
+  -- the list, and what is behind a place, stay
+  pub same_list_of : (c d : Chains R) (a p q : ℕ) → AllMoved sound list all left cost a c d p q → list_of list d ≡ list_of list c
+  same_list_of c d a p q m =
+      ap (λ e. ends_having e (map list d.words) (map list d.negated)) m.ends.same_list
+      ∙ ap (λ w. ends_having (list c.ends) w (map list d.negated)) m.words.lists ∙ ap (λ n. ends_having (list c.ends) (map list c.words) n) m.negated.lists
+
+  pub same_rest_of : (c d : Chains R) (a p q lead place : ℕ) → AllMoved sound list all left cost a c d p q → rest_of list d lead place ≡ rest_of list c lead place
+  same_rest_of c d a p q lead place m =
+      ap (λ e. count_from (get_or (map list d.words) lead []) (pred_of e place + 1)) m.ends.same_list
+      ∙ ap (λ w. count_from (get_or w lead []) (pred_of (list c.ends) place + 1)) m.words.lists
 
   -- what is left falls by at least the steps
   pub moved_left : (c d : Chains R) (a p q : ℕ) → AllMoved sound list all left cost a c d p q → q + left_of left d ≤ p + left_of left c

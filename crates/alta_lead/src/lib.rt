@@ -2,4 +2,5 @@
 #![tactic(auto)]
 
 mod chains;
+mod rounds;
 
