@@ -2,3 +2,4 @@ pub mod Having
 pub mod HavingLaws
 pub mod Moves
 pub mod Rounds
+pub mod View

@@ -2,5 +2,7 @@
 #![tactic(auto)]
 
 mod chains;
+mod reader;
 mod rounds;
 
+pub use reader::LeadReader;
