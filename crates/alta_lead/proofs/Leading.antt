@@ -186,3 +186,38 @@ on_ahead Sound list location s to h above top =
       words = λ i l z n k. u.words i l z n (omega arith);
       negated = λ i l z n k. u.negated i l z n (omega arith);
     }
+
+-- what holds of readers holds of equal ones
+pub of_equal : {R : Type 0} (P : Chains R → Type 0) (e : R) (ws vs ns ms : List R) → ws ≡ vs → ns ≡ ms
+    → P (record { ends = e; words = vs; negated = ms }) → P (record { ends = e; words = ws; negated = ns })
+of_equal P e ws vs ns ms f h p =
+    subst (λ xs. P (record { ends = e; words = xs; negated = ns })) (sym f) (subst (λ xs. P (record { ends = e; words = vs; negated = xs })) (sym h) p)
+
+-- the reader that was made
+module _ {R : Type 0} (Sound : R → Type 0) (list all : R → List ℕ) (location left cost : R → ℕ) (c : Chains R) (r : LeadReader R) (before after : ℕ)
+    (g : IsGone Sound list all location left cost r.lead c (chains_of r) 1 r.at before after) where
+  pub made_sound : IsRising (list c.ends) → r.lead < length c.words → IsSoundLead Sound list location r
+  made_sound rising within = record {
+    ends = g.moved.ends.sound;
+    words = g.moved.words.sound;
+    negated = g.moved.negated.sound;
+    lead = omega (arith, within, ap length g.moved.words.lists, length-map c.words list, length-map r.words.items list);
+    rising = subst (λ e. IsRising e) (sym g.moved.ends.same_list) rising;
+    stands = gone_place Sound list all location left cost r.lead c (chains_of r) 1 r.at before after g;
+    unpassed = g.unpassed;
+  }
+
+  pub made_answers : IsRising (list c.ends) → (e : ℕ) → Contains (list_of list (chains_of r)) e ↔ IsAnswer (list c.ends) (map list c.words) (map list c.negated) e
+  made_answers rising e =
+      subst (λ l. Contains l e ↔ IsAnswer (list c.ends) (map list c.words) (map list c.negated) e)
+      (sym (gone_list Sound list all location left cost r.lead c (chains_of r) 1 r.at before after g))
+      (having-answers (list c.ends) (map list c.words) (map list c.negated) e rising)
+
+-- no reader was moved
+pub unmoved : {R : Type 0} (list : R → List ℕ) (location : R → ℕ) (c : Chains R) (from : ℕ) → location c.ends ≡ first_from (list c.ends) 0
+    → All (λ r. location r ≡ first_from (list r) 0) c.words → All (λ r. location r ≡ first_from (list r) 0) c.negated → IsUnpassed list location c from
+unmoved list location c from e w n = record {
+  ends = unmoved_ahead (list c.ends) (location c.ends) from e;
+  words = all_unmoved_ahead list location c.words from w;
+  negated = all_unmoved_ahead list location c.negated from n;
+}

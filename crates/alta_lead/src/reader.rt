@@ -1,5 +1,5 @@
 // A reader of the documents of a conjunction.
-ghost use Rattle.std.specs.Prelude.{◌≡◌, ℕ, ◌+◌, ◌*◌, ◌<◌, ◌≤◌, ◌++◌, ◌↔◌, map, length, slice_index_or, All, Contains};
+ghost use Rattle.std.specs.Prelude.{◌≡◌, ℕ, ◌+◌, ◌*◌, ◌<◌, ◌≤◌, ◌++◌, ◌↔◌, [], map, length, slice_index_or, All, Contains};
 ghost use Rattle.std.specs.List.{concat};
 ghost use Rattle.alta_codec.specs.Rising.{IsPlace, first_from, count_from};
 ghost use Rattle.alta_codec.specs.declared.location.TheConstants.{TOP};
