@@ -9,13 +9,13 @@ use Rattle.alta_lead.specs.declared.reader.LeadReader.{LeadReader}
 use Rattle.alta_lead.proofs.Leading.{of_equal, unmoved, made_sound, made_answers, made_moves}
 use Rattle.alta_lead.proofs.reader.LeadReader.new.Given.{Over}
 use Rattle.alta_lead.proofs.reader.LeadReader.new.Goals as goal
-use Rattle.alta_lead.proofs.reader.LeadReader.new.Goals.{After-go-at}
+use Rattle.alta_lead.proofs.reader.LeadReader.new.Goals.{After-negated-2-1}
 
 -- the readers that were given, and the reader that was made
-abbrev given : (g : Over) → After-go-at g → Chains g.row.R.Denot
+abbrev given : (g : Over) → After-negated-2-1 g → Chains g.row.R.Denot
 given g c = record { ends = c.args.ends.inner; words = c.args.words.items; negated = c.args.negated.items }
 
-abbrev made : (g : Over) → After-go-at g → LeadReader g.row.R.Denot
+abbrev made : (g : Over) → After-negated-2-1 g → LeadReader g.row.R.Denot
 made g c = record {
   ends = c.go-at.new.ends;
   words = with_items c.args.words c.go-at.new.words;
@@ -24,7 +24,7 @@ made g c = record {
   at = c.go-at.result;
 }
 
-gone : (g : Over) (c : After-go-at g) → IsGone g.R.Reader.sound g.R.Reader.list g.R.Reader.all g.R.Reader.location g.R.Reader.left g.R.Reader.cost c.args.lead
+gone : (g : Over) (c : After-negated-2-1 g) → IsGone g.R.Reader.sound g.R.Reader.list g.R.Reader.all g.R.Reader.location g.R.Reader.left g.R.Reader.cost c.args.lead
     (record { ends = c.args.ends.inner; words = c.args.words.items; negated = c.args.negated.items }) (chains_of (made g c)) 1 c.go-at.result c.args.steps.now c.go-at.new.steps
 gone g c =
     let R = g.R.Reader in let a = c.args in let d = c.go-at.new in
