@@ -2,6 +2,7 @@
 #![tactic(auto)]
 
 mod compiling;
+mod conjoining;
 mod draft;
 mod explaining;
 mod laws;
@@ -10,6 +11,7 @@ mod plan;
 mod tests;
 
 pub use compiling::compile;
+pub use conjoining::{Conjunction, conjunction};
 pub use explaining::explain;
 pub use laws::{
     a_plan_is_text, all_parts, atoms_as_one, finds_what_matches, not_the_part, one_atom, some_part,

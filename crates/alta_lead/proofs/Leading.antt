@@ -194,23 +194,23 @@ of_equal P e ws vs ns ms f h p =
     subst (λ xs. P (record { ends = e; words = xs; negated = ns })) (sym f) (subst (λ xs. P (record { ends = e; words = vs; negated = xs })) (sym h) p)
 
 -- the reader that was made
-module _ {R : Type 0} (Sound : R → Type 0) (list all : R → List ℕ) (location left cost : R → ℕ) (c : Chains R) (r : LeadReader R) (before after : ℕ)
-    (g : IsGone Sound list all location left cost r.lead c (chains_of r) 1 r.at before after) where
-  pub made_sound : IsRising (list c.ends) → r.lead < length c.words → IsSoundLead Sound list location r
-  made_sound rising within = record {
+module _ {R : Type 0} (Sound : R → Type 0) (list all : R → List ℕ) (location left cost : R → ℕ) (lead : ℕ) (c : Chains R) (r : LeadReader R) (before after : ℕ)
+    (g : IsGone Sound list all location left cost lead c (chains_of r) 1 r.at before after) where
+  pub made_sound : IsRising (list c.ends) → lead < length c.words → r.lead ≡ lead → IsSoundLead Sound list location r
+  made_sound rising within same = record {
     ends = g.moved.ends.sound;
     words = g.moved.words.sound;
     negated = g.moved.negated.sound;
-    lead = omega (arith, within, ap length g.moved.words.lists, length-map c.words list, length-map r.words.items list);
+    lead = omega (arith, within, same, ap length g.moved.words.lists, length-map c.words list, length-map r.words.items list);
     rising = subst (λ e. IsRising e) (sym g.moved.ends.same_list) rising;
-    stands = gone_place Sound list all location left cost r.lead c (chains_of r) 1 r.at before after g;
+    stands = gone_place Sound list all location left cost lead c (chains_of r) 1 r.at before after g;
     unpassed = g.unpassed;
   }
 
   pub made_answers : IsRising (list c.ends) → (e : ℕ) → Contains (list_of list (chains_of r)) e ↔ IsAnswer (list c.ends) (map list c.words) (map list c.negated) e
   made_answers rising e =
       subst (λ l. Contains l e ↔ IsAnswer (list c.ends) (map list c.words) (map list c.negated) e)
-      (sym (gone_list Sound list all location left cost r.lead c (chains_of r) 1 r.at before after g))
+      (sym (gone_list Sound list all location left cost lead c (chains_of r) 1 r.at before after g))
       (having-answers (list c.ends) (map list c.words) (map list c.negated) e rising)
 
 -- no reader was moved

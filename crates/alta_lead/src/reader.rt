@@ -1,11 +1,12 @@
 // A reader of the documents of a conjunction.
 ghost use Rattle.std.specs.Prelude.{◌≡◌, ℕ, ◌+◌, ◌*◌, ◌<◌, ◌≤◌, ◌++◌, ◌↔◌, [], map, length, slice_index_or, All, Contains};
 ghost use Rattle.std.specs.List.{concat};
-ghost use Rattle.alta_codec.specs.Rising.{IsPlace, first_from, count_from};
+ghost use Rattle.alta_codec.specs.Rising.{IsPlace, pred_of, first_from, count_from};
 ghost use Rattle.alta_codec.specs.declared.location.TheConstants.{TOP};
 ghost use Rattle.alta_lead.specs.Having.{ends_having, IsAnswer};
 ghost use Rattle.alta_lead.specs.HavingLaws.{having-rises};
 ghost use Rattle.alta_lead.specs.Moves.{left_of, list_of, rest_of, IsUnpassed, MovesEach};
+ghost use Rattle.alta_lead.specs.Rounds.{IsGone};
 ghost use Rattle.alta_lead.specs.View.{chains_of, IsSoundLead, IsSame, IsOn};
 
 use crate::rounds::go;
@@ -58,17 +59,30 @@ impl<R: BackReader> LeadReader<R> {
         ensures moves { MovesEach R.list R.cost (chains_of result) (2 * length (slice_index_or (map R.list words.items) lead []) + 2)
             (2 * rest_of R.list (chains_of result) lead (⟦<LeadReader<R> as Reader>⟧.location result)) steps.old steps.new }
     {
-        let mut ends = ends;
-        let mut words = words;
-        let mut negated = negated;
-        let at = go(&mut ends, &mut words, &mut negated, lead, 1, steps);
-        LeadReader {
+        let mut reader = LeadReader {
             ends,
             words,
             negated,
             lead,
-            at,
-        }
+            at: 0,
+        };
+        reader.bring(1, steps);
+        reader
+    }
+
+    /// Brings its readers to the first end of its list at or above `to`, where none has passed an element of that document.
+    fn bring<L: Ledger>(&mut self, to: Loc, steps: &mut Steps<L>)
+        requires ends { R.sound self.old.ends.inner }
+        requires words { All R.sound self.old.words.items }
+        requires negated { All R.sound self.old.negated.items }
+        requires lead { self.old.lead < length self.old.words.items }
+        requires some { 0 < to }
+        requires top { to ≤ TOP }
+        requires unpassed { IsUnpassed R.list R.location (chains_of self.old) (pred_of (R.list self.old.ends.inner) to + 1) }
+        ensures lead { self.new.lead ≡ self.old.lead }
+        ensures gone { IsGone R.sound R.list R.all R.location R.left R.cost self.old.lead (chains_of self.old) (chains_of self.new) to self.new.at steps.old steps.new }
+    {
+        self.at = go(&mut self.ends, &mut self.words, &mut self.negated, self.lead, to, steps);
     }
 
     /// Goes on to the first end of its list at or above `to`.
@@ -78,7 +92,7 @@ impl<R: BackReader> LeadReader<R> {
         requires top { to ≤ TOP }
         ensures { IsOn R.sound R.list R.all R.location R.left R.cost self.old self.new to steps.old steps.new }
     {
-        self.at = go(&mut self.ends, &mut self.words, &mut self.negated, self.lead, to, steps);
+        self.bring(to, steps);
     }
 }
 

@@ -1,32 +1,12 @@
-use Rattle.std.proofs.Common.{◌≡◌, ◌+◌, ◌++◌, length, take, drop, refl, sym, ap, arith}
-use Rattle.std.specs.Vec.{with_items}
-use Rattle.std.proofs.lemmas.List.{take_at}
-use Rattle.alta_codec.specs.Rising.{pred_of}
-use Rattle.alta_lead.specs.Moves.{Chains, IsUnpassed}
-use Rattle.alta_lead.specs.Rounds.{IsGone}
-use Rattle.alta_lead.specs.View.{chains_of}
-use Rattle.alta_lead.specs.declared.reader.LeadReader.{LeadReader}
-use Rattle.alta_lead.proofs.Leading.{of_equal, on_ahead, went_on}
+use Rattle.alta_lead.proofs.Leading.{on_ahead, went_on}
 use Rattle.alta_lead.proofs.reader.LeadReader.go_on.Goals as goal
 
-pub go-self-requires-clause-unpassed : goal.go-self-requires-clause-unpassed
-go-self-requires-clause-unpassed g c =
-    let R = g.R.Reader in let s = c.args.self.now in
-    of_equal (λ k. IsUnpassed R.list R.location k (pred_of (R.list s.ends.inner) c.args.to + 1)) s.ends.inner c.deref_mut.result.now s.words.items c.deref_mut-2.result.now s.negated.items
-    c.deref_mut.ensures.value c.deref_mut-2.ensures.value
-    (on_ahead R.sound R.list R.location s c.args.to c.requires.sound c.requires.above c.requires.top)
+pub bring-requires-clause-unpassed : goal.bring-requires-clause-unpassed
+bring-requires-clause-unpassed g c =
+    on_ahead g.R.Reader.sound g.R.Reader.list g.R.Reader.location c.args.self.now c.args.to c.requires.sound c.requires.above c.requires.top
 
 pub returns : goal.returns
 returns g c =
-    let R = g.R.Reader in let s = c.args.self.now in let d = c.go-self.new in
-    let words : take s.words.len (d.words ++ drop (length d.words) s.words.items) ≡ d.words =
-    take_at d.words (drop (length d.words) s.words.items) s.words.len (omega (arith, s.words.ok.0, c.go-self.auto.words, ap length c.deref_mut.ensures.value)) in
-    let negated : take s.negated.len (d.negated ++ drop (length d.negated) s.negated.items) ≡ d.negated =
-    take_at d.negated (drop (length d.negated) s.negated.items) s.negated.len (omega (arith, s.negated.ok.0, c.go-self.auto.negated, ap length c.deref_mut-2.ensures.value)) in
-    let new : LeadReader g.row.R.Denot = record { ends = d.ends; words = with_items s.words d.words; negated = with_items s.negated d.negated; lead = s.lead; at = c.go-self.result } in
-    went_on R.sound R.list R.all R.location R.left R.cost s new c.args.to c.args.steps.now d.steps c.requires.sound c.requires.above c.requires.top refl
-    (of_equal (λ k. IsGone R.sound R.list R.all R.location R.left R.cost s.lead k (chains_of new) c.args.to c.go-self.result c.args.steps.now d.steps) s.ends.inner
-    s.words.items c.deref_mut.result.now s.negated.items c.deref_mut-2.result.now (sym c.deref_mut.ensures.value) (sym c.deref_mut-2.ensures.value)
-    (of_equal (λ k. IsGone R.sound R.list R.all R.location R.left R.cost s.lead (record { ends = s.ends.inner; words = c.deref_mut.result.now; negated = c.deref_mut-2.result.now }) k
-    c.args.to c.go-self.result c.args.steps.now d.steps) d.ends.inner
-    (take s.words.len (d.words ++ drop (length d.words) s.words.items)) d.words (take s.negated.len (d.negated ++ drop (length d.negated) s.negated.items)) d.negated words negated c.go-self.ensures))
+    let R = g.R.Reader in
+    went_on R.sound R.list R.all R.location R.left R.cost c.args.self.now c.bring.new.self c.args.to c.args.steps.now c.bring.new.steps
+    c.requires.sound c.requires.above c.requires.top c.bring.ensures.lead c.bring.ensures.gone
