@@ -2,7 +2,7 @@
 use Rattle.std.specs.Prelude.{ℕ, Bool, true, false, ◌&&◌, ◌||◌, cond, is_some, List, [], ◌∷◌, ◌++◌, Option, Some, None}
 use Rattle.alta_query.specs.Shape.{Lone, words, prefix, name, Atom, lone, near, Shape, Shapes, atom, all, any, negated, none, more}
 use Rattle.alta_query.specs.declared.test.Test.{Test}
-use Rattle.alta_compile.specs.declared.conjoining.Conjunction.{Conjunction}
+use Rattle.alta_compile.specs.declared.asked.Conjunction.{Conjunction}
 
 -- the only test of a list
 abbrev pub only : List Test → Option Test

@@ -5,18 +5,10 @@ ghost use Rattle.alta_query.specs.Shape.{shapes_of};
 ghost use Rattle.alta_query.specs.View.{shape, atom_view};
 ghost use Rattle.alta_compile.specs.Conjoined.{atom_word, word_in, word_against, listed, only, is_some_word, conjunction_in, conjunction_of};
 
+use crate::asked::Conjunction;
 use alta_query::{Atom, Query, Test, Tests};
 use std::alloc::{AllocError, Global};
 use std::slice;
-
-/// The words of a conjunction, one at least, and the words that it is against.
-#[derive(Drop)]
-pub struct Conjunction {
-    /// The test of each word, in the order of the query.
-    pub words: Tests,
-    /// The test of each negated word, in the order of the query.
-    pub negated: Tests,
-}
 
 /// The words and the negated words of a query that has nothing else: of one word that may stand anywhere, or of an And of such
 /// words and of NOTs of such words, with a word that is not under a NOT. `None` for each other query, as of a phrase,

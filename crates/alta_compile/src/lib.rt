@@ -1,6 +1,7 @@
 //! From a query to its plan, and what the plan finds.
 #![tactic(auto)]
 
+mod asked;
 mod compiling;
 mod conjoining;
 mod draft;
@@ -10,8 +11,9 @@ mod plan;
 #[cfg(test)]
 mod tests;
 
+pub use asked::Conjunction;
 pub use compiling::compile;
-pub use conjoining::{Conjunction, conjunction};
+pub use conjoining::conjunction;
 pub use explaining::explain;
 pub use laws::{
     a_plan_is_text, all_parts, atoms_as_one, finds_what_matches, not_the_part, one_atom, some_part,
