@@ -4,5 +4,7 @@
 mod chains;
 mod reader;
 mod rounds;
+#[cfg(test)]
+mod tests;
 
 pub use reader::LeadReader;
