@@ -48,7 +48,8 @@ fn tree<R: BackReader + Drop>(
     ends: R,
     first: R,
     second: R,
-    bounds: ((Bound, Bound), (Bound, Bound)),
+    first_held: (Bound, Bound),
+    second_held: (Bound, Bound),
 ) -> Result<Option<Node<R>>, AllocError>
     requires ends { R.sound ends }
     requires first { R.sound first }
@@ -56,10 +57,10 @@ fn tree<R: BackReader + Drop>(
     requires ends_unmoved { R.location ends ≡ first_from (R.list ends) 0 }
     requires first_unmoved { R.location first ≡ first_from (R.list first) 0 }
     requires second_unmoved { R.location second ≡ first_from (R.list second) 0 }
-    requires first_upper { IsUpper 1 bounds.0.0 }
-    requires first_lower { IsLower 1 bounds.0.1 }
-    requires second_upper { IsUpper 2 bounds.1.0 }
-    requires second_lower { IsLower 2 bounds.1.1 }
+    requires first_upper { IsUpper 1 first_held.0 }
+    requires first_lower { IsLower 1 first_held.1 }
+    requires second_upper { IsUpper 2 second_held.0 }
+    requires second_lower { IsLower 2 second_held.1 }
     ensures { IfOk result (λ o. IfSome o (λ n. IsUnmoved (tree_of R.list R.all R.location R.left n))) }
 {
     let mut readers = Vec::new(alloc);
@@ -67,10 +68,10 @@ fn tree<R: BackReader + Drop>(
     readers.push(first)?;
     readers.push(second)?;
     let mut system = Vec::new(alloc);
-    system.push(bounds.0.0)?;
-    system.push(bounds.0.1)?;
-    system.push(bounds.1.0)?;
-    system.push(bounds.1.1)?;
+    system.push(first_held.0)?;
+    system.push(first_held.1)?;
+    system.push(second_held.0)?;
+    system.push(second_held.1)?;
     match Solver::new(readers, System::new(system)) {
         Ok(solver) => Ok(Some(Node::found(Box::new(alloc, Found::new(solver))?))),
         Err(_) => Ok(None),
@@ -109,7 +110,7 @@ fn by_tree<R: BackReader + Drop, L: Ledger>(
     let (Some(one), Some(other)) = (held(1), held(2)) else {
         return Ok((0, 0));
     };
-    match tree(alloc, ends, first, second, (one, other))? {
+    match tree(alloc, ends, first, second, one, other)? {
         Some(node) => {
             let mut reader = DocReader::new(node, steps);
             Ok(drain(&mut reader, steps))
