@@ -90,7 +90,11 @@ fn atom_test(atom: &Atom) -> Option<&Test>
     ensures { option_copied result ≡ atom_word (atom_view atom.now) }
 {
     match atom {
-        Atom::Words { title: false, tests, .. } => only_test(tests.as_slice()),
+        Atom::Words {
+            title: false,
+            tests,
+            ..
+        } => only_test(tests.as_slice()),
         _ => None,
     }
 }

@@ -32,8 +32,11 @@ ahead_set lists places j to within ahead = λ k l z m h.
     (λ ge. ⊎_elim (λ more. omega (arith, get_or-set_other places j k (first_from (get_or lists j []) to) 0 (λ e. omega arith), ahead k l z m h))
     (λ le. let same : k ≡ j = omega arith in
     subst (λ i. get_or (set places j (first_from (get_or lists j []) to)) i 0 ≤ z) (sym same)
-    (omega (arith, get_or-set_same places j (first_from (get_or lists j []) to) 0 within,
-    first_from-least (get_or lists j []) to z (subst (λ i. Contains (get_or lists i []) z) same m) h))) (cases_lt j k))
+    (omega (
+      arith,
+      get_or-set_same places j (first_from (get_or lists j []) to) 0 within,
+      first_from-least (get_or lists j []) to z (subst (λ i. Contains (get_or lists i []) z) same m) h,
+    ))) (cases_lt j k))
     (cases_lt k j)
 
 module _ {R : Type 0} (Sound : R → Type 0) (list all : R → List ℕ) (location left cost : R → ℕ) where
@@ -63,8 +66,15 @@ module _ {R : Type 0} (Sound : R → Type 0) (list all : R → List ℕ) (locati
     ahead = subst (λ ls. AreAhead start ls (map location ns)) b.lists ahead;
     steps = omega (arith, b.steps, m.steps, le);
     each = λ of h. let ls = map list os in
-        omega (arith, le, b.each of h, own of h, ap (λ l. of (get_or l i [])) b.lists,
-        ap (sum_by of) (take_more ls i [] (omega (arith, length-map os list))), sum_by_push of (take i ls) (get_or ls i []));
+        omega (
+          arith,
+          le,
+          b.each of h,
+          own of h,
+          ap (λ l. of (get_or l i [])) b.lists,
+          ap (sum_by of) (take_more ls i [] (omega (arith, length-map os list))),
+          sum_by_push of (take i ls) (get_or ls i []),
+        );
   }
 
   pub brought : (os ns : List R) (start i p r : ℕ) → IsBringing os ns start i p → r ≤ p → AreMoved Sound list all left cost 1 os ns r

@@ -53,16 +53,26 @@ module _ {R : Type 0} (Sound : R → Type 0) (list all : R → List ℕ) (locati
 
   counts_all : (rs : List R) (at : ℕ) → All Sound rs → AreAhead at (map list rs) (map location rs) → count_from (concat (map all rs)) at ≤ sum_by left rs
   counts_all rs at s a =
-      omega (arith, concat_counts all rs at, sum_mono (λ r. count_from (all r) at) left rs
-      (λ k d l. counts_one (get_or rs k d) at (s k d l)
-      (λ z m h. omega (arith, get_or-map location rs k d 0 l, a k (omega (arith, length-map rs list)) z (subst (λ xs. Contains xs z) (sym (get_or-map list rs k d [] l)) m) h))))
+      omega (
+        arith,
+        concat_counts all rs at,
+        sum_mono (λ r. count_from (all r) at) left rs
+            (λ k d l. counts_one (get_or rs k d) at (s k d l)
+            (λ z m h. omega (arith, get_or-map location rs k d 0 l, a k (omega (arith, length-map rs list)) z (subst (λ xs. Contains xs z) (sym (get_or-map list rs k d [] l)) m) h))),
+      )
 
   -- what is left of all readers counts all elements from a place on that no reader has passed
   pub counts : (c : Chains R) (at : ℕ) → Sound c.ends → All Sound c.words → All Sound c.negated → IsUnpassed list location c at
       → count_from (all_of all c) at ≤ left_of left c
   counts c at e w n u =
-      omega (arith, count_from-append (all c.ends ++ concat (map all c.words)) (concat (map all c.negated)) at, count_from-append (all c.ends) (concat (map all c.words)) at,
-      counts_one c.ends at e u.ends, counts_all c.words at w u.words, counts_all c.negated at n u.negated)
+      omega (
+        arith,
+        count_from-append (all c.ends ++ concat (map all c.words)) (concat (map all c.negated)) at,
+        count_from-append (all c.ends) (concat (map all c.words)) at,
+        counts_one c.ends at e u.ends,
+        counts_all c.words at w u.words,
+        counts_all c.negated at n u.negated,
+      )
 
 -- ---- before the first move
 

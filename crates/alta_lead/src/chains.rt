@@ -13,7 +13,11 @@ use alta_reader::{BackReader, Reader};
 use std::sync::ledger::Ledger;
 
 /// Brings the ends to the first at or above `to`, where they stand below it, and answers where they stand.
-pub(crate) fn reach<R: BackReader, L: Ledger>(ends: &mut EndReader<R>, to: Loc, steps: &mut Steps<L>) -> Loc
+pub(crate) fn reach<R: BackReader, L: Ledger>(
+    ends: &mut EndReader<R>,
+    to: Loc,
+    steps: &mut Steps<L>,
+) -> Loc
     requires sound { R.sound ends.old.inner }
     requires ahead { IsAhead to (R.list ends.old.inner) (R.location ends.old.inner) }
     requires top { to ≤ TOP }
@@ -31,7 +35,12 @@ pub(crate) fn reach<R: BackReader, L: Ledger>(ends: &mut EndReader<R>, to: Loc, 
 }
 
 /// Moves reader `j`, which stands below `to`, to its first place there, and answers that.
-fn advance<R: BackReader, L: Ledger>(readers: &mut [R], j: usize, to: Loc, steps: &mut Steps<L>) -> Loc
+fn advance<R: BackReader, L: Ledger>(
+    readers: &mut [R],
+    j: usize,
+    to: Loc,
+    steps: &mut Steps<L>,
+) -> Loc
     requires sound { All R.sound readers.old }
     requires within { j < length readers.old }
     requires above { slice_index (map R.location readers.old) j < to }
@@ -47,7 +56,12 @@ fn advance<R: BackReader, L: Ledger>(readers: &mut [R], j: usize, to: Loc, steps
 
 /// Brings reader `j` to its first place at or above `to`, where it stands below it, and answers where it stands. No
 /// reader has passed an element from there on.
-pub(crate) fn bring<R: BackReader, L: Ledger>(readers: &mut [R], j: usize, to: Loc, steps: &mut Steps<L>) -> Loc
+pub(crate) fn bring<R: BackReader, L: Ledger>(
+    readers: &mut [R],
+    j: usize,
+    to: Loc,
+    steps: &mut Steps<L>,
+) -> Loc
     requires sound { All R.sound readers.old }
     requires within { j < length readers.old }
     requires ahead { AreAhead to (map R.list readers.old) (map R.location readers.old) }
@@ -67,7 +81,12 @@ pub(crate) fn bring<R: BackReader, L: Ledger>(readers: &mut [R], j: usize, to: L
 
 /// Brings each reader to its first place from `start` on, until one stands behind `end`, and answers where that stands.
 /// It answers `end` where none does.
-pub(crate) fn lacking<R: BackReader, L: Ledger>(readers: &mut [R], start: Loc, end: Loc, steps: &mut Steps<L>) -> Loc
+pub(crate) fn lacking<R: BackReader, L: Ledger>(
+    readers: &mut [R],
+    start: Loc,
+    end: Loc,
+    steps: &mut Steps<L>,
+) -> Loc
     requires sound { All R.sound readers.old }
     requires ahead { AreAhead start (map R.list readers.old) (map R.location readers.old) }
     requires top { start ≤ TOP }
@@ -86,7 +105,12 @@ pub(crate) fn lacking<R: BackReader, L: Ledger>(readers: &mut [R], start: Loc, e
 }
 
 /// Brings each reader to its first place from `start` on, until one stands at or before `end`, and answers whether one does.
-pub(crate) fn bars<R: BackReader, L: Ledger>(readers: &mut [R], start: Loc, end: Loc, steps: &mut Steps<L>) -> bool
+pub(crate) fn bars<R: BackReader, L: Ledger>(
+    readers: &mut [R],
+    start: Loc,
+    end: Loc,
+    steps: &mut Steps<L>,
+) -> bool
     requires sound { All R.sound readers.old }
     requires ahead { AreAhead start (map R.list readers.old) (map R.location readers.old) }
     requires top { start ≤ TOP }

@@ -82,7 +82,14 @@ impl<R: BackReader> LeadReader<R> {
         ensures lead { self.new.lead ≡ self.old.lead }
         ensures gone { IsGone R.sound R.list R.all R.location R.left R.cost self.old.lead (chains_of self.old) (chains_of self.new) to self.new.at steps.old steps.new }
     {
-        self.at = go(&mut self.ends, &mut self.words, &mut self.negated, self.lead, to, steps);
+        self.at = go(
+            &mut self.ends,
+            &mut self.words,
+            &mut self.negated,
+            self.lead,
+            to,
+            steps,
+        );
     }
 
     /// Goes on to the first end of its list at or above `to`.

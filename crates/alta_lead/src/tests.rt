@@ -110,11 +110,7 @@ fn row<L: Ledger>(
 ) -> Result<Vec<u64>, AllocError>
     requires { lead < 2 }
 {
-    let readers = pair(
-        alloc,
-        reader(words.0, steps),
-        reader(words.1, steps),
-    )?;
+    let readers = pair(alloc, reader(words.0, steps), reader(words.1, steps))?;
     let negated = single(alloc, reader(without, steps))?;
     let documents = PlainReader::new(ends(), steps);
     walk(alloc, documents, readers, negated, lead, to, steps)

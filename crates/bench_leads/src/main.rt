@@ -7,7 +7,7 @@
 mod counted;
 mod word;
 
-ghost use Rattle.std.specs.Prelude.{◌≡◌, ◌<◌, length, IfOk, IfSome, All};
+ghost use Rattle.std.specs.Prelude.{◌≡◌, ◌<◌, ◌∷◌, [], length, IfOk, IfSome, All};
 ghost use Rattle.alta_codec.specs.Rising.{first_from};
 ghost use Rattle.alta_docread.specs.Solutions.{IsUpper, IsLower};
 ghost use Rattle.alta_docread.specs.Tree.{IsUnmoved};
@@ -42,6 +42,46 @@ fn held(i: usize) -> Option<(Bound, Bound)>
     }
 }
 
+/// The bounds of two readers.
+fn four(
+    alloc: Global,
+    first: (Bound, Bound),
+    second: (Bound, Bound),
+) -> Result<Vec<Bound>, AllocError>
+    ensures { IfOk result (λ v. v.items ≡ first.0 ∷ first.1 ∷ second.0 ∷ second.1 ∷ []) }
+{
+    let mut bounds = Vec::new(alloc);
+    bounds.push(first.0)?;
+    bounds.push(first.1)?;
+    bounds.push(second.0)?;
+    bounds.push(second.1)?;
+    Ok(bounds)
+}
+
+/// Three readers.
+fn three<R: BackReader + Drop>(
+    alloc: Global,
+    ends: R,
+    first: R,
+    second: R,
+) -> Result<Vec<R>, AllocError>
+    requires ends { R.sound ends }
+    requires first { R.sound first }
+    requires second { R.sound second }
+    requires ends_unmoved { R.location ends ≡ first_from (R.list ends) 0 }
+    requires first_unmoved { R.location first ≡ first_from (R.list first) 0 }
+    requires second_unmoved { R.location second ≡ first_from (R.list second) 0 }
+    ensures count { IfOk result (λ v. length v.items ≡ 3) }
+    ensures sound { IfOk result (λ v. All R.sound v.items) }
+    ensures unmoved { IfOk result (λ v. All (λ r. R.location r ≡ first_from (R.list r) 0) v.items) }
+{
+    let mut readers = Vec::new(alloc);
+    readers.push(ends)?;
+    readers.push(first)?;
+    readers.push(second)?;
+    Ok(readers)
+}
+
 /// The tree of the documents that have both words, `None` where it has no bounds.
 fn tree<R: BackReader + Drop>(
     alloc: Global,
@@ -63,16 +103,9 @@ fn tree<R: BackReader + Drop>(
     requires second_lower { IsLower 2 second_held.1 }
     ensures { IfOk result (λ o. IfSome o (λ n. IsUnmoved (tree_of R.list R.all R.location R.left n))) }
 {
-    let mut readers = Vec::new(alloc);
-    readers.push(ends)?;
-    readers.push(first)?;
-    readers.push(second)?;
-    let mut system = Vec::new(alloc);
-    system.push(first_held.0)?;
-    system.push(first_held.1)?;
-    system.push(second_held.0)?;
-    system.push(second_held.1)?;
-    match Solver::new(readers, System::new(system)) {
+    let readers = three(alloc, ends, first, second)?;
+    let bounds = four(alloc, first_held, second_held)?;
+    match Solver::new(readers, System::new(bounds)) {
         Ok(solver) => Ok(Some(Node::found(Box::new(alloc, Found::new(solver))?))),
         Err(_) => Ok(None),
     }
@@ -208,7 +241,14 @@ fn main(rt: HostRuntime) -> io::Result<ExitCode> {
     let (Some(mode), Some(form), Some(rounds)) = (words.next(), words.next(), words.next()) else {
         return Ok(ExitCode::from(2));
     };
-    let (Some(ends), Some(ends_summary), Some(first), Some(first_summary), Some(second), Some(second_summary)) = (
+    let (
+        Some(ends),
+        Some(ends_summary),
+        Some(first),
+        Some(first_summary),
+        Some(second),
+        Some(second_summary),
+    ) = (
         words.next(),
         words.next(),
         words.next(),

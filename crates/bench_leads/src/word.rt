@@ -20,7 +20,11 @@ pub struct Word {
 
 impl Word {
     /// The word with these bytes, `None` where they are no list and its summary.
-    pub fn load(alloc: Global, stream: Vec<u8>, summary: Vec<u8>) -> Result<Option<Word>, AllocError> {
+    pub fn load(
+        alloc: Global,
+        stream: Vec<u8>,
+        summary: Vec<u8>,
+    ) -> Result<Option<Word>, AllocError> {
         let list = match Stream::open(&stream) {
             Ok(stream) => stream.locations(alloc)?,
             Err(_fault) => return Ok(None),

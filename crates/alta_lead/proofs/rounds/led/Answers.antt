@@ -50,9 +50,14 @@ bring-at-requires-clause-ahead g c =
 pub bring-at-requires-clause-top : goal.bring-at-requires-clause-top
 bring-at-requires-clause-top g c =
     let R = g.R.Reader in let E = R.list c.args.ends.now.inner in let r = c.reach-end.ensures in
-    omega (arith, c.start.ensures, ap (λ l. pred_of l (R.location c.reach-end.new.ends.inner)) r.moved.same_list,
-    pred_same E c.args.to (R.location c.reach-end.new.ends.inner) (r.location ∙ r.place) c.requires.some c.requires.top,
-    pred_of-below E c.args.to c.requires.some, c.requires.top)
+    omega (
+      arith,
+      c.start.ensures,
+      ap (λ l. pred_of l (R.location c.reach-end.new.ends.inner)) r.moved.same_list,
+      pred_same E c.args.to (R.location c.reach-end.new.ends.inner) (r.location ∙ r.place) c.requires.some c.requires.top,
+      pred_of-below E c.args.to c.requires.some,
+      c.requires.top,
+    )
 
 pub reach-requires-clause-ahead : goal.reach-requires-clause-ahead
 reach-requires-clause-ahead g c = λ z m h.

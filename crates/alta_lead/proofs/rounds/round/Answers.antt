@@ -19,8 +19,14 @@ returns-then-end-eq-TOP g c =
 pub told-next-requires-clause-top : goal.told-next-requires-clause-top
 told-next-requires-clause-top g c =
     let R = g.R.Reader in let l = c.led-end.ensures in let E = R.list c.args.ends.now.inner in
-    omega (arith, c.start.ensures, ap (λ xs. pred_of xs (R.location c.led-end.new.ends.inner)) l.ends_moved.same_list, ap (λ y. pred_of E y) l.place,
-    pred_of-below E c.led-end.result (omega (arith, c.requires.some, l.later)), l.top)
+    omega (
+      arith,
+      c.start.ensures,
+      ap (λ xs. pred_of xs (R.location c.led-end.new.ends.inner)) l.ends_moved.same_list,
+      ap (λ y. pred_of E y) l.place,
+      pred_of-below E c.led-end.result (omega (arith, c.requires.some, l.later)),
+      l.top,
+    )
 
 pub told-next-requires-clause-words_ahead : goal.told-next-requires-clause-words_ahead
 told-next-requires-clause-words_ahead g c =
