@@ -81,10 +81,10 @@ gathered_next old new (all rs) qs whole h g = subst (λ d. IsGathered d (atoms_i
 gathered_next old new (any rs) qs whole h g = subst (λ d. IsGathered d (atoms_in qs) whole) (sym h) g
 gathered_next old new (negated r) qs whole h g = subst (λ d. IsGathered d (atoms_in qs) whole) (sym h) g
 
-drop-next : (items : List Query) (i : ℕ) (q : Query) → i < length items → get_or items i q ≡ q → drop i items ≡ q ∷ drop (i + 1) items
+pub drop-next : (items : List Query) (i : ℕ) (q : Query) → i < length items → get_or items i q ≡ q → drop i items ≡ q ∷ drop (i + 1) items
 drop-next items i q within is = drop-cons items i q within ∙ rw (is, add-one i) refl
 
-drop-none : (items : List Query) (i : ℕ) → length items ≤ i → drop i items ≡ []
+pub drop-none : (items : List Query) (i : ℕ) → length items ≤ i → drop i items ≡ []
 drop-none [] zero l = refl
 drop-none [] (suc i) l = refl
 drop-none (q ∷ items) zero l = absurd (omega (arith, l))

@@ -1,3 +1,4 @@
+pub mod Collected
 pub mod Drafts
 pub mod Ends
 pub mod Gathered

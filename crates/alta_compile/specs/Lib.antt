@@ -1,3 +1,4 @@
+pub mod Conjoined
 pub mod Drafted
 pub mod Explained
 pub mod Joined

@@ -1,7 +1,9 @@
 //! From a query to its plan, and what the plan finds.
 #![tactic(auto)]
 
+mod asked;
 mod compiling;
+mod conjoining;
 mod draft;
 mod explaining;
 mod laws;
@@ -9,7 +11,9 @@ mod plan;
 #[cfg(test)]
 mod tests;
 
+pub use asked::Conjunction;
 pub use compiling::compile;
+pub use conjoining::conjunction;
 pub use explaining::explain;
 pub use laws::{
     a_plan_is_text, all_parts, atoms_as_one, finds_what_matches, not_the_part, one_atom, some_part,

@@ -1,6 +1,6 @@
 // What a query compiles to, in the words of `explain`. The first row stands in the rules of the query language's plans;
 // the others follow from the rules word by word.
-use crate::{compile, explain};
+use crate::{compile, conjunction, explain};
 use alta_codec::{Bytes, Text};
 use alta_query::{Atom, Query, Test, Tests, parse};
 use std::alloc::Global;
@@ -87,6 +87,63 @@ fn queries_that_no_text_spells(rt: HostRuntime) -> Result<(), Fail> {
     ];
     for (query, want) in rows {
         assert_eq!(rt; words(alloc, &query)?.as_str(), want);
+    }
+    Ok(())
+}
+
+/// The words of a query that is a conjunction, with a `-` before each that it is against, or `none`.
+fn conjoined(alloc: Global, text: &str) -> Result<String, Fail> {
+    let mut out = String::new(alloc);
+    let Ok(query) = parse(alloc, text) else {
+        return Ok(String::from_str(alloc, "no query")?);
+    };
+    match conjunction(alloc, &query)? {
+        Some(found) => {
+            put_terms(&mut out, found.words.as_slice(), " ")?;
+            put_terms(&mut out, found.negated.as_slice(), " -")?;
+        }
+        None => out.push_str("none")?,
+    }
+    Ok(out)
+}
+
+/// The terms of tests behind a text, each with a mark before it.
+fn put_terms(out: &mut String, tests: &[Test], mark: &str) -> Result<(), Fail> {
+    for test in tests {
+        match test {
+            Test::Is(term) => {
+                out.push_str(mark)?;
+                out.push_str(str::from_utf8(term.as_slice()).unwrap_or("?"))?;
+            }
+            Test::Begins(_) => out.push_str("?")?,
+        }
+    }
+    Ok(())
+}
+
+#[test]
+fn conjunctions_of_words(rt: HostRuntime) -> Result<(), Fail> {
+    let rows = [
+        ("fox", " Wfox"),
+        ("rare common", " Wrare Wcommon"),
+        ("NOT red quick NOT Fox", " Wquick -Wred -XFox"),
+        ("a a NOT a", " Wa Wa -Wa"),
+        ("\"fox\"", " Wfox"),
+        ("\"red fox\"", "none"),
+        ("red \"red fox\"", "none"),
+        ("title:fox", "none"),
+        ("red NOT title:fox", "none"),
+        ("re*", "none"),
+        ("name:b", "none"),
+        ("a NEAR/2 b", "none"),
+        ("NOT red", "none"),
+        ("NOT a NOT b", "none"),
+        ("a OR b", "none"),
+        ("a (b OR c)", "none"),
+        ("a NOT (b c)", "none"),
+    ];
+    for (text, want) in rows {
+        assert_eq!(rt; conjoined(rt.alloc(), text)?.as_str(), want, "in {text}");
     }
     Ok(())
 }

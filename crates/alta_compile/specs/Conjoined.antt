@@ -1,0 +1,70 @@
+-- Queries that ask for words and against words, and for nothing else.
+use Rattle.std.specs.Prelude.{ℕ, Bool, true, false, ◌&&◌, ◌||◌, cond, is_some, List, [], ◌∷◌, ◌++◌, Option, Some, None}
+use Rattle.alta_query.specs.Shape.{Lone, words, prefix, name, Atom, lone, near, Shape, Shapes, atom, all, any, negated, none, more}
+use Rattle.alta_query.specs.declared.test.Test.{Test}
+use Rattle.alta_compile.specs.declared.asked.Conjunction.{Conjunction}
+
+-- the only test of a list
+abbrev pub only : List Test → Option Test
+only [] = None
+only (t ∷ []) = Some t
+only (t ∷ s ∷ ts) = None
+
+-- the word of a text of one word without `title:`
+abbrev pub lone_word : Lone → Option Test
+lone_word (words true text tests) = None
+lone_word (words false text tests) = only tests
+lone_word (prefix title text test) = None
+lone_word (name text) = None
+
+abbrev pub atom_word : Atom → Option Test
+atom_word (lone l) = lone_word l
+atom_word (near left distance right) = None
+
+-- the word that a query is
+abbrev pub word_in : Shape → Option Test
+word_in (atom a) = atom_word a
+word_in (all qs) = None
+word_in (any qs) = None
+word_in (negated q) = None
+
+-- the word that a query is a NOT of
+abbrev pub word_against : Shape → Option Test
+word_against (atom a) = None
+word_against (all qs) = None
+word_against (any qs) = None
+word_against (negated q) = word_in q
+
+abbrev pub listed : Option Test → List Test
+listed None = []
+listed (Some t) = t ∷ []
+
+-- the words of the members that are words, in order
+abbrev pub words_in : Shapes → List Test
+words_in none = []
+words_in (more q qs) = listed (word_in q) ++ words_in qs
+
+-- the words of the members that are a NOT of a word, in order
+abbrev pub words_against : Shapes → List Test
+words_against none = []
+words_against (more q qs) = listed (word_against q) ++ words_against qs
+
+-- whether each member is a word or a NOT of a word
+abbrev pub are_words : Shapes → Bool
+are_words none = true
+are_words (more q qs) = (is_some (word_in q) || is_some (word_against q)) && are_words qs
+
+abbrev pub is_some_word : List Test → Bool
+is_some_word [] = false
+is_some_word (t ∷ ts) = true
+
+-- the words of the members and the words against them, where each member is one or the other, and one is a word
+abbrev pub conjunction_in : Shapes → Option Conjunction
+conjunction_in qs = cond (are_words qs && is_some_word (words_in qs)) (Some (record { words = words_in qs; negated = words_against qs })) None
+
+-- a word is the conjunction of itself
+abbrev pub conjunction_of : Shape → Option Conjunction
+conjunction_of (atom a) = conjunction_in (more (atom a) none)
+conjunction_of (all qs) = conjunction_in qs
+conjunction_of (any qs) = None
+conjunction_of (negated q) = None

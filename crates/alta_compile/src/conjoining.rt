@@ -1,0 +1,111 @@
+// Queries that are conjunctions of words and negated words.
+ghost use Rattle.std.specs.Prelude.{◌≡◌, ◌||◌, ◌++◌, cond, is_some, map, IfOk, OnOk};
+ghost use Rattle.std.specs.Option.{option_copied};
+ghost use Rattle.alta_query.specs.Shape.{shapes_of};
+ghost use Rattle.alta_query.specs.View.{shape, atom_view};
+ghost use Rattle.alta_compile.specs.Conjoined.{atom_word, word_in, word_against, listed, only, is_some_word, conjunction_in, conjunction_of};
+
+use crate::asked::Conjunction;
+use alta_query::{Atom, Query, Test, Tests};
+use std::alloc::{AllocError, Global};
+use std::slice;
+
+/// The words and the negated words of a query that has nothing else: of one word that may stand anywhere, or of an And of such
+/// words and of NOTs of such words, with a word that is not under a NOT. `None` for each other query, as of a phrase,
+/// a word in the title, a stem, a name, a NEAR, an Or or a NOT. Fails for want of memory alone.
+pub fn conjunction(alloc: Global, query: &Query) -> Result<Option<Conjunction>, AllocError>
+    ensures { IfOk result (λ o. o ≡ conjunction_of (shape query.now)) }
+{
+    match query {
+        Query::Atom(_) => gather(alloc, slice::from_ref(query)),
+        Query::And(members) => gather(alloc, members),
+        Query::Or(_) | Query::Not(_) => Ok(None),
+    }
+}
+
+/// The words and the negated words of the members, if each is one or the other and one is a word.
+fn gather(alloc: Global, members: &[Query]) -> Result<Option<Conjunction>, AllocError>
+    ensures { IfOk result (λ o. o ≡ conjunction_in (shapes_of (map shape members.now))) }
+{
+    let mut words = Tests::new(alloc);
+    let mut negated = Tests::new(alloc);
+    for member in members {
+        if !add(&mut words, &mut negated, member)? {
+            return Ok(None);
+        }
+    }
+    Ok(some_word(words, negated))
+}
+
+/// The conjunction of these words, if there is one.
+fn some_word(words: Tests, negated: Tests) -> Option<Conjunction>
+    ensures { result ≡ cond (is_some_word words) (Some (record { words = words; negated = negated })) None }
+{
+    if words.len() == 0 {
+        None
+    } else {
+        Some(Conjunction { words, negated })
+    }
+}
+
+/// Adds a member that is a word or a NOT of one, and answers whether it is.
+fn add(words: &mut Tests, negated: &mut Tests, member: &Query) -> Result<bool, AllocError>
+    ensures found { IfOk result (λ b. b ≡ (is_some (word_in (shape member.now)) || is_some (word_against (shape member.now)))) }
+    ensures words { OnOk result (words.new ≡ words.old ++ listed (word_in (shape member.now))) }
+    ensures negated { OnOk result (negated.new ≡ negated.old ++ listed (word_against (shape member.now))) }
+{
+    if let Some(test) = word(member) {
+        words.push(test.copy()?)?;
+        return Ok(true);
+    }
+    if let Some(test) = against(member) {
+        negated.push(test.copy()?)?;
+        return Ok(true);
+    }
+    Ok(false)
+}
+
+/// The test of the word that a query is.
+fn word(query: &Query) -> Option<&Test>
+    ensures { option_copied result ≡ word_in (shape query.now) }
+{
+    match query {
+        Query::Atom(atom) => atom_test(atom),
+        Query::And(_) | Query::Or(_) | Query::Not(_) => None,
+    }
+}
+
+/// The test of the word that a query is a NOT of.
+fn against(query: &Query) -> Option<&Test>
+    ensures { option_copied result ≡ word_against (shape query.now) }
+{
+    match query {
+        Query::Not(operand) => word(operand),
+        Query::Atom(_) | Query::And(_) | Query::Or(_) => None,
+    }
+}
+
+/// The test of a text of one word that may stand anywhere.
+fn atom_test(atom: &Atom) -> Option<&Test>
+    ensures { option_copied result ≡ atom_word (atom_view atom.now) }
+{
+    match atom {
+        Atom::Words {
+            title: false,
+            tests,
+            ..
+        } => only_test(tests.as_slice()),
+        _ => None,
+    }
+}
+
+/// The test of a list of one.
+fn only_test(tests: &[Test]) -> Option<&Test>
+    ensures { option_copied result ≡ only tests.now }
+{
+    if tests.len() == 1 {
+        Some(&tests[0])
+    } else {
+        None
+    }
+}

@@ -1,0 +1,17 @@
+use Rattle.std.proofs.Common.{◌≤◌, [], map, length, get_or, sym, subst, arith}
+use Rattle.std.proofs.lemmas.List.{length-map}
+use Rattle.alta_lead.specs.Moves.{AreAhead}
+use Rattle.alta_lead.proofs.Bringing.{ahead_first, ahead_set}
+use Rattle.alta_lead.proofs.chains.bring.Goals as goal
+
+pub returns-then-here-to-clause-ahead : goal.returns-then-here-to-clause-ahead
+returns-then-here-to-clause-ahead g c =
+    let rs = c.args.readers.now in let lists = map g.R.Reader.list rs in let places = map g.R.Reader.location rs in
+    subst (λ ps. AreAhead c.args.to lists ps) (sym c.advance.ensures.places)
+    (ahead_set lists places c.args.j c.args.to (omega (arith, c.requires.within, length-map rs g.R.Reader.location)) c.requires.ahead)
+
+pub returns-else-here-to-clause-place : goal.returns-else-here-to-clause-place
+returns-else-here-to-clause-place g c =
+    let rs = c.args.readers.now in let lists = map g.R.Reader.list rs in let p = c.place_at-here.ensures in
+    ahead_first (get_or lists c.args.j []) c.place_at-here.result c.args.to p.place p.top (omega (arith, c.if-here-to.false))
+    (λ z m h. omega (arith, p.value, c.requires.ahead c.args.j (omega (arith, c.requires.within, length-map rs g.R.Reader.list)) z m h))

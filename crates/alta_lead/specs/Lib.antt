@@ -1,0 +1,5 @@
+pub mod Having
+pub mod HavingLaws
+pub mod Moves
+pub mod Rounds
+pub mod View

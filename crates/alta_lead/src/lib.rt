@@ -1,0 +1,10 @@
+//! A reader of the documents that have each of several words and none of some others, which one of the words leads.
+#![tactic(auto)]
+
+mod chains;
+mod reader;
+mod rounds;
+#[cfg(test)]
+mod tests;
+
+pub use reader::LeadReader;
