@@ -270,12 +270,7 @@ impl Store {
     }
 
     // Deletes a document that was found. All memory is taken before the first write.
-    fn remove<D: Disk>(
-        &mut self,
-        disk: &mut D,
-        name: &str,
-        number: u64,
-    ) -> Result<(), StoreFault>
+    fn remove<D: Disk>(&mut self, disk: &mut D, name: &str, number: u64) -> Result<(), StoreFault>
         requires agrees { (s : State) × Agrees D.tells (D.state disk.old) self.old s }
         requires named { get_by_text self.old.catalog.names name.now ≡ Some number }
         requires limit { HEAD_BYTES ≤ (D.state disk.old).limit }
