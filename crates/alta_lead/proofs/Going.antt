@@ -1,19 +1,16 @@
 -- Rounds one after another.
-use Rattle.std.proofs.Common.{◌≡◌, ◌⊎◌, ⊎_elim, inl, inr, ℕ, ◌+◌, ◌*◌, ◌<◌, ◌≤◌, Bool, true, false, List, [], map, length, get_or, refl, sym, subst, ap, ◌∙◌, arith, nat_eq}
+use Rattle.std.proofs.Common.{◌≡◌, ◌⊎◌, ⊎_elim, inl, inr, ℕ, ◌+◌, ◌*◌, ◌<◌, ◌≤◌, Bool, true, false, List, map, length, refl, sym, subst, ap, ◌∙◌, arith, nat_eq}
 use Rattle.std.specs.Prelude.{All, Contains, sum_by}
-use Rattle.std.specs.Bool.{OnTrue, OnFalse}
-use Rattle.std.proofs.lemmas.Bool.{cases_lt, eqb-true, eqb-false}
+use Rattle.std.proofs.lemmas.Bool.{eqb-true, eqb-false}
 use Rattle.std.proofs.lemmas.List.{length-map}
 use Rattle.alta_codec.specs.declared.location.TheConstants.{TOP}
-use Rattle.alta_codec.specs.Rising.{IsRising, IsPlace, first_from, pred_of, count_from}
-use Rattle.alta_codec.proofs.Places.{first_from-is, first_from-least, first_from-le_top, pred_of-below, pred_of-greatest}
-use Rattle.alta_docread.specs.Tree.{IsAhead}
-use Rattle.alta_lead.specs.Having.{IsAnswer}
-use Rattle.alta_lead.specs.HavingLaws.{element_within, having-rises, having-answers}
-use Rattle.alta_lead.specs.Moves.{AreAhead, Chains, left_of, list_of, rest_of, cost_of, IsUnpassed, MovesEach, IsMoved, AreMoved, AllMoved}
+use Rattle.alta_codec.specs.Rising.{IsRising, IsPlace, pred_of}
+use Rattle.alta_codec.proofs.Places.{first_from-is, pred_of-below, pred_of-greatest}
+use Rattle.alta_lead.specs.HavingLaws.{having-answers}
+use Rattle.alta_lead.specs.Moves.{AreAhead, Chains, left_of, list_of, rest_of, IsUnpassed, IsMoved, AreMoved, AllMoved}
 use Rattle.alta_lead.specs.Rounds.{IsTold, IsLed, IsRound, IsGone}
-use Rattle.alta_lead.proofs.Moving.{still, all_still, moved_then, all_moved_then, all_moved_more, both_moved, same_list_of, same_rest_of, moved_left, moved_falls, moved_each}
-use Rattle.alta_lead.proofs.Rounding.{on_true, on_false, all_ahead_later, ahead_later, led_least, told_least, told_answer, told_top, rest_later, rest_further}
+use Rattle.alta_lead.proofs.Moving.{still, all_still, all_moved_then, all_moved_more, both_moved, same_list_of, same_rest_of, moved_falls}
+use Rattle.alta_lead.proofs.Rounding.{on_true, on_false, all_ahead_later, led_least, told_least, told_answer, told_top, rest_later, rest_further}
 
 -- TOP is a place of the list
 pub top_place : (xs : List ℕ) → IsPlace xs TOP

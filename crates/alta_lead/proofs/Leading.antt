@@ -1,22 +1,21 @@
 -- The reader of a conjunction as a whole.
-use Rattle.std.proofs.Common.{◌≡◌, ⊎_elim, inl, inr, ℕ, zero, suc, ◌+◌, ◌*◌, ◌<◌, ◌≤◌, List, [], ◌∷◌, ◌++◌, map, length, get_or, refl, sym, subst, ap, ◌∙◌, arith}
+use Rattle.std.proofs.Common.{◌≡◌, ⊎_elim, ℕ, zero, suc, ◌+◌, ◌*◌, ◌<◌, ◌≤◌, List, [], ◌∷◌, ◌++◌, map, length, get_or, sym, subst, ap, ◌∙◌, arith}
 use Rattle.std.specs.Prelude.{All, Contains, sum_by, ◌↔◌}
 use Rattle.std.specs.List.{concat}
 use Rattle.std.proofs.Math.Nat.{add-mul, mul-le-mul_right}
-use Rattle.std.proofs.lemmas.Bool.{cases_lt}
-use Rattle.std.proofs.lemmas.List.{get_or-map, length-map, get_or_default}
-use Rattle.std.proofs.lemmas.List.Elements.{All-nil, All-cons, All-head, All-tail}
+use Rattle.std.proofs.lemmas.List.{get_or-map, length-map}
+use Rattle.std.proofs.lemmas.List.Elements.{All-head, All-tail}
 use Rattle.std.proofs.lemmas.List.Sums.{sum_by-cons}
 use Rattle.alta_codec.specs.declared.location.TheConstants.{TOP}
 use Rattle.alta_codec.specs.Rising.{IsRising, IsPlace, first_from, pred_of, count_from}
-use Rattle.alta_codec.proofs.Places.{Contains-head, Contains-tail, first_from-least, first_from-place, pred_of-greatest, pred_of-mono, count_from-mono, count_from-falls}
+use Rattle.alta_codec.proofs.Places.{Contains-head, Contains-tail, first_from-least, first_from-place, pred_of-greatest, count_from-mono, count_from-falls}
 use Rattle.alta_compound.specs.Same.{count_from-append, count_from-nil}
 use Rattle.alta_docread.specs.Tree.{IsAhead}
-use Rattle.alta_lead.specs.Having.{IsAnswer, ends_having}
+use Rattle.alta_lead.specs.Having.{IsAnswer}
 use Rattle.alta_lead.specs.HavingLaws.{having-answers}
-use Rattle.alta_lead.specs.Moves.{AreAhead, Chains, left_of, list_of, rest_of, cost_of, IsUnpassed, MovesEach, AllMoved}
+use Rattle.alta_lead.specs.Moves.{AreAhead, Chains, left_of, list_of, rest_of, cost_of, IsUnpassed, MovesEach}
 use Rattle.alta_lead.specs.Rounds.{IsGone}
-use Rattle.alta_lead.specs.View.{chains_of, all_of, IsSoundLead, IsSame, IsOn}
+use Rattle.alta_lead.specs.View.{chains_of, all_of, IsSoundLead, IsOn}
 use Rattle.alta_lead.specs.declared.reader.LeadReader.{LeadReader}
 use Rattle.alta_lead.proofs.Moving.{same_list_of, same_rest_of, moved_left, moved_falls, moved_each}
 

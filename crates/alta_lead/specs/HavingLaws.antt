@@ -3,10 +3,9 @@ use Rattle.std.proofs.Common.{◌≡◌, ⊎_elim, ℕ, ◌+◌, ◌<◌, ◌≤
 use Rattle.std.specs.Prelude.{◌↔◌, All, Contains, nat_le}
 use Rattle.std.proofs.lemmas.List.Elements.{All-nil, All-cons, All-head, All-tail}
 use Rattle.alta_codec.specs.declared.location.TheConstants.{TOP}
-use Rattle.alta_codec.specs.Rising.{IsRising, IsPlace, first_from, pred_of}
+use Rattle.alta_codec.specs.Rising.{IsRising, first_from, pred_of}
 use Rattle.alta_codec.proofs.ByIndex.{element}
 use Rattle.alta_codec.proofs.Places.{first_from-above, first_from-least, first_from-place, pred_of-below}
-use Rattle.alta_docread.specs.Kept.{kept}
 use Rattle.alta_docread.specs.KeptLaws.{true_or_false, kept-has, kept-keeps, kept-rises}
 use Rattle.alta_lead.specs.Having.{HasWithin, IsAnswer, has_within, each_within, none_within, is_answer, ends_having}
 

@@ -3,7 +3,7 @@ use Rattle.std.specs.Prelude.{◌≡◌, ◌⊎◌, ℕ, ◌+◌, ◌*◌, ◌<�
 use Rattle.std.specs.Bool.{OnTrue, OnFalse}
 use Rattle.alta_codec.specs.declared.location.TheConstants.{TOP}
 use Rattle.alta_codec.specs.Rising.{IsPlace, pred_of, first_from}
-use Rattle.alta_lead.specs.Moves.{AreAhead, Chains, left_of, list_of, rest_of, IsUnpassed, MovesEach, IsMoved, AreMoved, AllMoved}
+use Rattle.alta_lead.specs.Moves.{AreAhead, Chains, left_of, list_of, rest_of, IsUnpassed, IsMoved, AreMoved, AllMoved}
 
 -- What was found of the document that ends there: it is one of the list, or a word has no location before `next`, or a
 -- negated word has one in it and `next` is behind it.

@@ -1,5 +1,5 @@
 // Small trees over four documents, against what each document has.
-ghost use Rattle.std.specs.Prelude.{◌≡◌, ◌<◌, IfOk, IfSome};
+ghost use Rattle.std.specs.Prelude.{◌≡◌, ◌<◌, ◌≤◌, length, IfOk, IfSome, All};
 ghost use Rattle.alta_codec.specs.Rising.{IsRising, first_from};
 ghost use Rattle.alta_docread.specs.Solutions.{IsUpper, IsLower};
 ghost use Rattle.alta_docread.specs.Tree.{IsUnmoved};
@@ -8,6 +8,7 @@ ghost use Rattle.alta_docread.specs.View.{tree_of};
 use alta_codec::{Steps, TOP};
 use alta_compound::EndReader;
 use alta_docread::{DocReader, Found, Node, Without};
+use alta_lead::LeadReader;
 use alta_reader::{BackReader, Reader};
 use alta_solver::{Bound, Form, Solver, System};
 use alta_words::PlainReader;
@@ -414,5 +415,140 @@ fn small_trees(rt: HostRuntime) -> Result<(), Fail> {
     let (wrong, rest) = uncounted_rows(rt.alloc())?;
     assert_eq!(rt; wrong, 0);
     assert_eq!(rt; rest.as_slice(), [16].as_slice());
+    Ok(())
+}
+
+/// One reader, or two.
+fn listed<R: BackReader + Drop>(
+    alloc: Global,
+    first: R,
+    second: Option<R>,
+) -> Result<Vec<R>, AllocError>
+    requires first { R.sound first }
+    requires first_unmoved { R.location first ≡ first_from (R.list first) 0 }
+    requires second { IfSome second (λ r. R.sound r) }
+    requires second_unmoved { IfSome second (λ r. R.location r ≡ first_from (R.list r) 0) }
+    ensures count { IfOk result (λ v. 1 ≤ length v.items) }
+    ensures sound { IfOk result (λ v. All R.sound v.items) }
+    ensures unmoved { IfOk result (λ v. All (λ r. R.location r ≡ first_from (R.list r) 0) v.items) }
+{
+    let mut readers = Vec::new(alloc);
+    readers.push(first)?;
+    match second {
+        Some(second) => {
+            readers.push(second)?;
+            Ok(readers)
+        }
+        None => Ok(readers),
+    }
+}
+
+/// The documents that have each word and not the negated one, by the reader that the last word leads.
+fn led<R: BackReader + Drop, L: Ledger>(
+    alloc: Global,
+    ends: R,
+    words: Vec<R>,
+    negated: Vec<R>,
+    steps: &mut Steps<L>,
+) -> Result<Vec<u64>, AllocError>
+    requires ends { R.sound ends }
+    requires words { All R.sound words.items }
+    requires negated { All R.sound negated.items }
+    requires some { 1 ≤ length words.items }
+    requires ends_unmoved { R.location ends ≡ first_from (R.list ends) 0 }
+    requires words_unmoved { All (λ r. R.location r ≡ first_from (R.list r) 0) words.items }
+    requires negated_unmoved { All (λ r. R.location r ≡ first_from (R.list r) 0) negated.items }
+{
+    let lead = words.len() - 1;
+    let mut reader = LeadReader::new(EndReader::new(ends), words, negated, lead, steps);
+    let mut places = Vec::new(alloc);
+    'led: while reader.loc() < TOP {
+        places.push(reader.loc())?;
+        reader.next(steps);
+    }
+    Ok(places)
+}
+
+/// A reader of one of the words.
+fn reader<L: Ledger>(k: u8, steps: &mut Steps<L>) -> PlainReader<'static>
+    ensures sound { ⟦<PlainReader<'static> as Reader>⟧.sound result }
+    ensures unmoved { ⟦<PlainReader<'static> as Reader>⟧.location result ≡ first_from (⟦<PlainReader<'static> as Reader>⟧.list result) 0 }
+{
+    PlainReader::new(word(k), steps)
+}
+
+/// The documents that have both words.
+fn led_by_second<L: Ledger>(
+    alloc: Global,
+    words: (u8, u8),
+    steps: &mut Steps<L>,
+) -> Result<Vec<u64>, AllocError> {
+    let readers = listed(alloc, reader(words.0, steps), Some(reader(words.1, steps)))?;
+    let documents = PlainReader::new(ends(), steps);
+    led(alloc, documents, readers, Vec::new(alloc), steps)
+}
+
+/// The documents that have the first word and not the second.
+fn led_without_second<L: Ledger>(
+    alloc: Global,
+    words: (u8, u8),
+    steps: &mut Steps<L>,
+) -> Result<Vec<u64>, AllocError> {
+    let readers = listed(alloc, reader(words.0, steps), None)?;
+    let negated = listed(alloc, reader(words.1, steps), None)?;
+    let documents = PlainReader::new(ends(), steps);
+    led(alloc, documents, readers, negated, steps)
+}
+
+/// For how many pairs of words the reader that one word leads finds other documents than the tree.
+fn led_rows<L: Ledger>(alloc: Global, blank: Blank) -> Result<u64, AllocError>
+    requires name { blank.name ≡ L.name }
+    requires parts { blank.parts ≡ L.parts }
+    requires shared { 0 < L.parts }
+{
+    let mut steps = Steps::<L>::new(blank);
+    let (upper, lower) = match held() {
+        Some(bounds) => bounds,
+        None => return Ok(99),
+    };
+    let mut wrong = 0u64;
+    for first in 0..7 {
+        for second in 0..7 {
+            let both = led_by_second(alloc, (first, second), &mut steps)?;
+            let node = tree(
+                alloc,
+                Shape::Both,
+                (first, second),
+                (upper, lower),
+                &mut steps,
+            )?;
+            if !walks(alloc, node, &both, &mut steps)? {
+                wrong = wrong.wrapping_add(1);
+            }
+            let alone = led_without_second(alloc, (first, second), &mut steps)?;
+            let node = tree(
+                alloc,
+                Shape::FirstAlone,
+                (first, second),
+                (upper, lower),
+                &mut steps,
+            )?;
+            if !walks(alloc, node, &alone, &mut steps)? {
+                wrong = wrong.wrapping_add(1);
+            }
+        }
+    }
+    Ok(wrong)
+}
+
+/// The same, where nobody counts.
+fn uncounted_led(alloc: Global) -> Result<u64, AllocError> {
+    led_rows::<Brand>(alloc, Blank::new(1))
+}
+
+#[test]
+fn leads_find_what_trees_find(rt: HostRuntime) -> Result<(), Fail> {
+    let wrong = uncounted_led(rt.alloc())?;
+    assert_eq!(rt; wrong, 0);
     Ok(())
 }

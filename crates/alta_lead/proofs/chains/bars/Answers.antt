@@ -1,6 +1,6 @@
-use Rattle.std.proofs.Common.{ℕ, ◌+◌, ◌-◌, ◌<◌, ◌≤◌, [], map, length, get_or, ap, arith, below_more}
+use Rattle.std.proofs.Common.{◌+◌, ◌-◌, ◌<◌, [], map, get_or, ap, arith, below_more}
 use Rattle.alta_codec.specs.Rising.{first_from}
-use Rattle.alta_lead.proofs.Bringing.{IsBringing, bringing_on, brought, same_length}
+use Rattle.alta_lead.proofs.Bringing.{bringing_on, brought, same_length}
 use Rattle.alta_lead.proofs.chains.bars.Goals as goal
 
 pub returns-then-bring-end-clause-moved : goal.returns-then-bring-end-clause-moved

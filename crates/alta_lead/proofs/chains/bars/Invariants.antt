@@ -1,4 +1,4 @@
-use Rattle.std.proofs.Common.{ℕ, ◌-◌, ◌<◌, ◌≤◌, [], map, get_or}
+use Rattle.std.proofs.Common.{ℕ, ◌-◌, ◌<◌, [], map, get_or}
 use Rattle.alta_codec.specs.Rising.{first_from}
 use Rattle.alta_lead.proofs.Bringing.{IsBringing}
 use Rattle.alta_lead.proofs.chains.bars.Given as goal

@@ -1,4 +1,4 @@
-use Rattle.std.proofs.Common.{◌≤◌, [], map, length, get_or, sym, subst, arith}
+use Rattle.std.proofs.Common.{[], map, get_or, sym, subst, arith}
 use Rattle.std.proofs.lemmas.List.{length-map}
 use Rattle.alta_lead.specs.Moves.{AreAhead}
 use Rattle.alta_lead.proofs.Bringing.{ahead_first, ahead_set}

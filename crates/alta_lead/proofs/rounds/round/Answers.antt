@@ -1,5 +1,4 @@
-use Rattle.std.proofs.Common.{◌≡◌, ◌+◌, ◌<◌, ◌≤◌, map, refl, sym, subst, ap, ◌∙◌, arith}
-use Rattle.alta_codec.specs.declared.location.TheConstants.{TOP}
+use Rattle.std.proofs.Common.{◌≡◌, ◌+◌, map, refl, sym, subst, ap, ◌∙◌, arith}
 use Rattle.alta_codec.specs.Rising.{pred_of}
 use Rattle.alta_codec.proofs.Places.{pred_of-below, pred_of-mono}
 use Rattle.alta_lead.specs.Moves.{AreAhead}

@@ -1,7 +1,6 @@
 use Rattle.std.proofs.Common.{◌+◌}
 use Rattle.alta_codec.specs.Rising.{pred_of}
 use Rattle.alta_lead.specs.View.{chains_of}
-use Rattle.alta_lead.specs.Moves.{Chains}
 use Rattle.alta_lead.proofs.Leading.{unmoved, made_sound, made_answers, made_moves}
 use Rattle.alta_lead.proofs.reader.LeadReader.new.Goals as goal
 
