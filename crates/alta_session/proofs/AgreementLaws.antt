@@ -16,3 +16,7 @@ agrees_started tells d session s none store = record { store = store; cursors = 
 -- after a change of the state
 pub agrees_changed : (tells : Type 0) (d : DiskState) (session : Session) (m : Machine) (change : State × List ℕ) → AreOpen session.cursors m.cursors → Agrees tells d session.store change.0 → AgreesOn tells d session (changed_by m change).0
 agrees_changed tells d session m change open_still store = record { store = store; cursors = open_still }
+
+-- what the store agrees on and what the cursors are make up the machine
+pub agrees_with : (tells : Type 0) (d : DiskState) (session : Session) (m : Machine) → AreOpen session.cursors m.cursors → Agrees tells d session.store m.state → AgreesOn tells d session m
+agrees_with tells d session m open_still store = record { store = store; cursors = open_still }

@@ -171,7 +171,7 @@ changed tells state disk disk_now session session_now bytes result change text r
 -- What was answered is this reply, or memory was wanting; and these cursors are open then.
 pub turned : {D : Type 0} (tells : Type 0) (state : D → DiskState) (disk : D) (session : Session) (cursors : List OpenCursor) (bytes : ℕ) (result : Result (List ℕ) StoreFault)
     (steps : Machine → Machine × List ℕ) (turn : State → List OpenAnswers → Turn) → IsLawful tells (state disk) → CanAnswer tells (state disk) session
-    → IfErr result (λ e. e ≡ Memory) → ((all : List OpenAnswers) → AreOpen session.cursors all → IfOk result (λ reply. IsRefusal reply → cursors ≡ session.cursors))
+    → IfErr result (λ e. e ≡ Memory) → IfOk result (λ reply. IsRefusal reply → cursors ≡ session.cursors)
     → ((s : State) (all : List OpenAnswers) → Knows session.store s → AreOpen session.cursors all → Turns (turn s all) cursors result)
     → ((m : Machine) → steps m ≡ turned_by m (turn m.state m.cursors)) → Answers tells state disk disk session (with_cursors session cursors) bytes result steps
 turned tells state disk session cursors bytes result steps turn lawful can memory refused turns is =
@@ -195,8 +195,7 @@ turned tells state disk session cursors bytes result steps turn lawful can memor
             agrees = (record { state = m.state; cursors = (turn intact.0 m.cursors).0 }, record { store = agrees.store; cursors = open_now });
             limit = can.limit;
           }) (turns intact.0 m.cursors intact.1 agrees.cursors).open_now;
-      unchanged = IfOk-weaker result (λ reply. IsRefusal reply → cursors ≡ session.cursors) _ (λ reply same refusal. (refl, ap (with_cursors session) (same refusal)))
-          (refused can.agrees.0.cursors can.agrees.1.cursors);
+      unchanged = IfOk-weaker result (λ reply. IsRefusal reply → cursors ≡ session.cursors) _ (λ reply same refusal. (refl, ap (with_cursors session) (same refusal))) refused;
       only = err_weaker result (λ e. e ≡ Memory) _ (λ e is. inl (inl is)) memory;
       full = λ need gap tell is. let wanting : Full need gap ≡ Memory = is_memory result (Full need gap) memory is in absurd cc;
       cause = λ is. let wanting : Disk ≡ Memory = is_memory result Disk memory is in absurd cc;

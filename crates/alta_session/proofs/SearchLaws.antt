@@ -1,6 +1,7 @@
 -- Laws of the replies to queries.
-use Rattle.std.proofs.Common.{Global, ◌≡◌, ◌⊎◌, ℕ, ◌<◌, List, [], ◌++◌, length, lit<, inl, inr, ap, sym, subst, ◌∙◌, arith, Result, Ok, Err, IfOk, length-append, codes, decimal}
-use Rattle.std.specs.Prelude.{String, string_bytes}
+use Rattle.std.proofs.Common.{Global, ◌≡◌, ◌⊎◌, ℕ, ◌<◌, List, [], ◌∷◌, ◌++◌, length, map, take, zero, suc, ◌+◌, append-nil, append_assoc, lit<, inl, inr, ap, sym, subst, ◌∙◌, arith, Result, Ok, Err, IfOk, length-append, codes, decimal}
+use Rattle.std.specs.Prelude.{String, string_bytes, Some, slice_get}
+use Rattle.std.proofs.lemmas.List.{length-map}
 use Rattle.std.specs.Str.{IsUtf8}
 use Rattle.alta_meta.specs.declared.document.Document.{Document}
 use Rattle.alta_query.specs.Answer.{Gives, IsMemory, fault_in}
@@ -16,7 +17,10 @@ use Rattle.alta_model.specs.Deciding.{answers}
 use Rattle.alta_compile.specs.Explained.{explained}
 use Rattle.alta_compile.specs.PlanOf.{plan_of}
 use Rattle.alta_compile.specs.Tree.{Tree}
-use Rattle.alta_session.specs.Searching.{answer_lines, cause_name, found_line, found_by, counted_by, explained_by, searching, counting, explaining, query_refusal}
+use Rattle.alta_search.specs.Documents.{told}
+use Rattle.alta_content.specs.declared.document.DocRow.{DocRow}
+use Rattle.alta_search.specs.Told.{AnswerRow, answer_of}
+use Rattle.alta_session.specs.Searching.{answer_lines, row_lines, cause_name, found_line, found_by, counted_by, explained_by, searching, counting, explaining, query_refusal}
 
 -- what was written is the reply
 pub is_written : {E F : Type 0} (text : Result (List ℕ) E) (reply : Result (String Global) F) (l : List ℕ)
@@ -105,3 +109,45 @@ explained_by_some (Err f) = refusal_some f
 pub explaining_some : (text : List ℕ) → 0 < length (explaining text)
 unfolding explaining
 explaining_some text = explained_by_some (query_of text)
+
+-- what was written for a state is the reply
+pub is_written_for : {E F S : Type 0} (P : S → Type 0) (text : Result (List ℕ) E) (reply : Result (String Global) F) (l : S → List ℕ)
+    → IfOk text (λ t. (r : String Global) × (reply ≡ Ok r) × (t ≡ string_bytes r)) → IfOk reply (λ r. (s : S) → P s → string_bytes r ≡ l s) → (s : S) → P s → IfOk text (λ t. t ≡ l s)
+is_written_for P (Err e) reply l h k s p = tt
+is_written_for {F = F} {S = S} P (Ok t) reply l (r, is, written) k s p = written ∙ subst (λ (x : Result (String Global) F). IfOk x (λ r. (s : S) → P s → string_bytes r ≡ l s)) is k s p
+
+-- one line more
+abbrev line_of : AnswerRow → List ℕ
+line_of row = decimal row.number ++ codes " " ++ row.name ++ codes "\n"
+
+lines_more : (rows : List AnswerRow) (i : ℕ) (row : AnswerRow) → slice_get rows i ≡ Some row → row_lines (take (suc i) rows) ≡ row_lines (take i rows) ++ line_of row
+lines_more [] i row is = absurd (cc is)
+lines_more (r ∷ rows) zero row is = let same : r ≡ row = cc is in append-nil (line_of r) ∙ ap line_of same
+lines_more (r ∷ rows) (suc i) row is = ap (λ (l : List ℕ). line_of r ++ l) (lines_more rows i row is) ∙ sym (append_assoc (line_of r) (row_lines (take i rows)) (line_of row))
+
+one_more : (i : ℕ) → suc i ≡ i + 1
+one_more i = omega arith
+
+in_front : (a b c d e : List ℕ) → a ++ b ++ c ++ d ++ e ≡ a ++ (b ++ c ++ d ++ e)
+in_front a b c d e = ap (λ (l : List ℕ). l ++ d ++ e) (append_assoc a b c) ∙ ap (λ (l : List ℕ). l ++ e) (append_assoc a (b ++ c) d) ∙ append_assoc a (b ++ c ++ d) e
+
+pub written_more : (start before now name : List ℕ) (rows : List AnswerRow) (i : ℕ) (row : AnswerRow) → slice_get rows i ≡ Some row → before ≡ start ++ row_lines (take i rows) → name ≡ row.name
+    → now ≡ before ++ decimal row.number ++ codes " " ++ name ++ codes "\n" → now ≡ start ++ row_lines (take (i + 1) rows)
+written_more start before now name rows i row at so_far named is =
+    is ∙ ap (λ (n : List ℕ). before ++ decimal row.number ++ codes " " ++ n ++ codes "\n") named
+    ∙ in_front before (decimal row.number) (codes " ") row.name (codes "\n")
+    ∙ ap (λ (l : List ℕ). l ++ line_of row) so_far ∙ append_assoc start (row_lines (take i rows)) (line_of row) ∙ ap (λ (l : List ℕ). start ++ l) (sym (lines_more rows i row at))
+    ∙ ap (λ (n : ℕ). start ++ row_lines (take n rows)) (one_more i)
+
+-- all answers, and how many they are
+pub listed_are : (before now : List ℕ) (rows : List AnswerRow) (count : ℕ) (documents : List Document) → rows ≡ map told documents → before ≡ [] ++ row_lines rows → count ≡ length rows
+    → now ≡ before ++ found_line count → now ≡ answer_lines documents ++ found_line (length documents)
+listed_are before now rows count documents are written counted is =
+    is ∙ ap (λ (l : List ℕ). l ++ found_line count) (written ∙ ap row_lines are)
+    ∙ ap (λ (n : ℕ). answer_lines documents ++ found_line n) (counted ∙ ap (λ (l : List AnswerRow). length l) are ∙ length-map documents told)
+
+-- how many they are
+pub counted_are : (now : List ℕ) (count : ℕ) (rows : List DocRow) (documents : List Document) → count ≡ length rows → map answer_of rows ≡ map told documents → now ≡ [] ++ found_line count
+    → now ≡ found_line (length documents)
+counted_are now count rows documents counted are is =
+    is ∙ ap found_line (counted ∙ sym (length-map rows answer_of) ∙ ap (λ (l : List AnswerRow). length l) are ∙ length-map documents told)

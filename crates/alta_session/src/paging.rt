@@ -1,5 +1,5 @@
 // The commands on cursors.
-ghost use Rattle.std.specs.Prelude.{◌≡◌, ◌<◌, ◌++◌, ℕ, List, length, codes, decimal, IfOk, IfErr, OnOk, OnErr};
+ghost use Rattle.std.specs.Prelude.{◌≡◌, ◌<◌, ◌++◌, ℕ, List, length, codes, decimal, IfOk, IfErr, OnOk, string_bytes, if◌then◌else◌};
 ghost use Rattle.alta_meta.specs.declared.document.State.{State};
 ghost use Rattle.alta_model.specs.Deciding.{answers};
 ghost use Rattle.alta_query.specs.View.{shape};
@@ -100,9 +100,9 @@ pub(crate) fn fetch(
 ) -> Result<Text, StoreFault>
     ensures turned { (all : List OpenAnswers) → AreOpen cursors.old all → Turns (fetching number count all) cursors.new result }
     ensures memory { IfErr result (λ e. e ≡ StoreFault.Memory) }
-    ensures refused { (all : List OpenAnswers) → AreOpen cursors.old all → IfOk result (λ reply. IsRefusal reply → cursors.new ≡ cursors.old) }
+    ensures refused { IfOk result (λ reply. IsRefusal reply → cursors.new ≡ cursors.old) }
 {
-    match take_page::<Brand>(alloc, cursors, number, count, Blank::new(1)) {
+    match next_page(alloc, cursors, number, count) {
         Ok(Some(page)) => written(listed(alloc, &page)),
         Ok(None) => text(alloc, "! no such cursor\n"),
         Err(_) => Err(StoreFault::Memory),
@@ -110,6 +110,17 @@ pub(crate) fn fetch(
 }
 
 // Takes a page off from the cursor with this number. Nobody reads how many steps it took.
+fn next_page(
+    alloc: Global,
+    cursors: &mut Cursors,
+    number: u64,
+    count: u64,
+) -> Result<Option<Page>, AllocError>
+    ensures { IfOk result (IsFetch number count cursors.old cursors.new) }
+{
+    take_page::<Brand>(alloc, cursors, number, count, Blank::new(1))
+}
+
 fn take_page<L: Ledger>(
     alloc: Global,
     cursors: &mut Cursors,

@@ -89,7 +89,7 @@ fn listed(alloc: Global, store: &Store, query: &Query) -> Result<String, AllocEr
 {
     let plan = compile(alloc, query)?;
     let snapshot = load(alloc, store, &plan)?;
-    let page = found::<Brand>(alloc, &plan, &snapshot, Blank::new(1))?;
+    let page = all_found(alloc, &plan, &snapshot)?;
     let mut reply = String::new(alloc);
     put_answers(&mut reply, &page.answers)?;
     put_count(&mut reply, page.answers.len() as u64)?;
@@ -103,7 +103,7 @@ fn counted(alloc: Global, store: &Store, query: &Query) -> Result<String, AllocE
 {
     let plan = compile(alloc, query)?;
     let snapshot = load(alloc, store, &plan)?;
-    let count = tallied::<Brand>(alloc, &plan, &snapshot, Blank::new(1))?;
+    let count = all_tallied(alloc, &plan, &snapshot)?;
     let mut reply = String::new(alloc);
     put_count(&mut reply, count)?;
     Ok(reply)
@@ -122,6 +122,13 @@ pub(crate) fn load(alloc: Global, store: &Store, plan: &Plan) -> Result<Snapshot
 }
 
 // All answers of a plan. Nobody reads how many steps they took.
+fn all_found(alloc: Global, plan: &Plan, snapshot: &Snapshot) -> Result<Page, AllocError>
+    requires { snapshot.now.tests ≡ tests_of (tree plan.now) }
+    ensures { IfOk result (λ page. (space : List Placed) → Shows space snapshot.now → page.answers ≡ map answer_of (coming space (tree plan.now) snapshot.now 0)) }
+{
+    found::<Brand>(alloc, plan, snapshot, Blank::new(1))
+}
+
 fn found<L: Ledger>(
     alloc: Global,
     plan: &Plan,
@@ -140,6 +147,13 @@ fn found<L: Ledger>(
 }
 
 // How many answers a plan has.
+fn all_tallied(alloc: Global, plan: &Plan, snapshot: &Snapshot) -> Result<u64, AllocError>
+    requires { snapshot.now.tests ≡ tests_of (tree plan.now) }
+    ensures { IfOk result (λ n. (space : List Placed) → Shows space snapshot.now → n ≡ length (coming space (tree plan.now) snapshot.now 0)) }
+{
+    tallied::<Brand>(alloc, plan, snapshot, Blank::new(1))
+}
+
 fn tallied<L: Ledger>(
     alloc: Global,
     plan: &Plan,

@@ -1,4 +1,4 @@
-use Rattle.std.proofs.Common.{◌≡◌, ◌⊎◌, ◌+◌, ◌≤◌, ℕ, true, false, List, ◌++◌, inl, inr, ⊎_elim, length, ap, sym, subst, ◌∙◌, codes, decimal, Err, rules, arith}
+use Rattle.std.proofs.Common.{refl, ◌≡◌, ◌⊎◌, ◌+◌, ◌≤◌, ℕ, true, false, List, ◌++◌, inl, inr, ⊎_elim, length, ap, sym, subst, ◌∙◌, codes, decimal, Err, rules, arith}
 use Rattle.alta_disk.specs.Disk.{LeavesOnly}
 use Rattle.alta_journal.specs.Record.{body_of}
 use Rattle.alta_journal.specs.declared.entry.Entry.TheVariants.{Add}
@@ -10,7 +10,7 @@ use Rattle.alta_store.specs.Meaning.{StandsForEither}
 use Rattle.alta_store.specs.States.{with_added, has_name}
 use Rattle.alta_store.specs.declared.fault.StoreFault.TheVariants.{Disk, Taken, Numbers, Full}
 use Rattle.alta_session.proofs.AddingLaws.{adding_bad, adding_taken, adding_full, adding_added, added_is_none, added_where, leaves_adding, refused_for}
-use Rattle.alta_session.proofs.AgreementLaws.{agrees_started}
+use Rattle.alta_session.proofs.AgreementLaws.{agrees_with}
 use Rattle.alta_session.proofs.AnsweringLaws.{same_fault, same_store, looked, answers_same, changed, changed_rests}
 use Rattle.alta_session.proofs.FullnessLaws.{bytes_more}
 use Rattle.alta_session.proofs.session.Session.add.Goals as goal
@@ -28,10 +28,10 @@ returns-then-not-name_ok g c =
 
 pub returns-in-Ok : goal.returns-in-Ok
 returns-in-Ok g c =
-    changed g.D.Disk.tells g.D.Disk.state c.args.disk.now c.add.new.disk c.args.self.now _ (length (body_of (Add c.args.name.now c.args.title.now c.args.body.now))) c.added.result (adding c.args.name.now c.args.title.now c.args.body.now) _ c.added.ensures (added_is_none c.in-Ok.number)
+    changed g.D.Disk.tells g.D.Disk.state c.args.disk.now c.add.new.disk c.args.self.now _ (length (body_of (Add c.args.name.now c.args.title.now c.args.body.now))) c.added.result (adding c.args.name.now c.args.title.now c.args.body.now) _ c.added.ensures (added_is_none c.in-Ok.number) refl
     (record {
       sound = search rules;
-      agrees = (started_at (with_added c.args.name.now c.args.title.now c.args.body.now c.requires.can.agrees.0.state), agrees_started _ _ _ _ (c.in-Ok.ensures.agrees c.requires.can.agrees.0.state c.requires.can.agrees.1.store));
+      agrees = (record { state = with_added c.args.name.now c.args.title.now c.args.body.now c.requires.can.agrees.0.state; cursors = c.requires.can.agrees.0.cursors }, agrees_with _ _ _ (record { state = with_added c.args.name.now c.args.title.now c.args.body.now c.requires.can.agrees.0.state; cursors = c.requires.can.agrees.0.cursors }) c.requires.can.agrees.1.cursors (c.in-Ok.ensures.agrees c.requires.can.agrees.0.state c.requires.can.agrees.1.store));
       limit = omega (arith, c.requires.can.limit, c.add.ensures.same_limit);
     }) c.add.ensures.faults c.add.ensures.same_limit
     (λ m tell agrees.

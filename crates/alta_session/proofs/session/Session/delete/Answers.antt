@@ -1,4 +1,4 @@
-use Rattle.std.proofs.Common.{◌≡◌, ◌⊎◌, ◌+◌, ℕ, List, inl, inr, length, ap, sym, subst, ◌∙◌, Err, rules, arith}
+use Rattle.std.proofs.Common.{refl, ◌≡◌, ◌⊎◌, ◌+◌, ℕ, List, inl, inr, length, ap, sym, subst, ◌∙◌, Err, rules, arith}
 use Rattle.std.specs.Prelude.{Some}
 use Rattle.alta_disk.specs.Disk.{LeavesOnly}
 use Rattle.alta_journal.specs.Record.{body_of}
@@ -11,7 +11,7 @@ use Rattle.alta_store.specs.Agreement.{Agrees}
 use Rattle.alta_store.specs.Meaning.{StandsForEither}
 use Rattle.alta_store.specs.States.{with_deleted, number_of}
 use Rattle.alta_store.specs.declared.fault.StoreFault.TheVariants.{Disk, Missing, Full}
-use Rattle.alta_session.proofs.AgreementLaws.{agrees_started}
+use Rattle.alta_session.proofs.AgreementLaws.{agrees_with}
 use Rattle.alta_session.proofs.AnsweringLaws.{same_fault, same_store, looked, answers_same, changed, changed_rests}
 use Rattle.alta_session.proofs.DeletingLaws.{deleting_bad, deleting_missing, deleting_deleted, leaves_deleting, missing_for, deleted_where, deleted_is_none, fewer_where}
 use Rattle.alta_session.proofs.FullnessLaws.{bytes_fewer}
@@ -35,10 +35,10 @@ returns-then-not-name_ok g c = λ bytes.
 
 pub returns-in-Ok : goal.returns-in-Ok
 returns-in-Ok g c = λ bytes.
-    changed g.D.Disk.tells g.D.Disk.state c.args.disk.now c.delete.new.disk c.args.self.now _ bytes c.deleted.result (deleting c.args.name.now) _ c.deleted.ensures (deleted_is_none c.in-Ok.number)
+    changed g.D.Disk.tells g.D.Disk.state c.args.disk.now c.delete.new.disk c.args.self.now _ bytes c.deleted.result (deleting c.args.name.now) _ c.deleted.ensures (deleted_is_none c.in-Ok.number) refl
     (record {
       sound = search rules;
-      agrees = (started_at (with_deleted c.args.name.now c.requires.agrees.0.state), agrees_started _ _ _ _ (c.in-Ok.ensures.agrees c.requires.agrees.0.state c.requires.agrees.1.store));
+      agrees = (record { state = with_deleted c.args.name.now c.requires.agrees.0.state; cursors = c.requires.agrees.0.cursors }, agrees_with _ _ _ (record { state = with_deleted c.args.name.now c.requires.agrees.0.state; cursors = c.requires.agrees.0.cursors }) c.requires.agrees.1.cursors (c.in-Ok.ensures.agrees c.requires.agrees.0.state c.requires.agrees.1.store));
       limit = omega (arith, c.requires.limit, c.delete.ensures.same_limit);
     }) c.delete.ensures.faults c.delete.ensures.same_limit
     (λ m tell agrees.

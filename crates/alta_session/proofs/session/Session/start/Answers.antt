@@ -6,12 +6,12 @@ use Rattle.alta_session.proofs.StatusLaws.{ok_answers, err_answers}
 use Rattle.alta_session.proofs.session.Session.start.Goals as goal
 
 pub returns-in-Ok-clause-agrees : goal.returns-in-Ok-clause-agrees
-returns-in-Ok-clause-agrees g c = λ s stands. agrees_started _ _ _ s c.new-cursors.ensures (c.in-Ok.ensures.agrees s stands)
+returns-in-Ok-clause-agrees g c = λ s stands. agrees_started _ _ _ s c.new.ensures (c.in-Ok.ensures.agrees s stands)
 
 pub returns-in-Ok-clause-can : goal.returns-in-Ok-clause-can
 returns-in-Ok-clause-can g c = record {
   sound = (refl, c.in-Ok.ensures.sound);
-  agrees = (started_at c.in-Ok.ensures.some.0, agrees_started _ _ _ c.in-Ok.ensures.some.0 c.new-cursors.ensures c.in-Ok.ensures.some.1);
+  agrees = (started_at c.in-Ok.ensures.some.0, agrees_started _ _ _ c.in-Ok.ensures.some.0 c.new.ensures c.in-Ok.ensures.some.1);
   limit = c.in-Ok.ensures.limit;
 }
 
