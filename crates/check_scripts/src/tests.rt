@@ -244,6 +244,48 @@ fn scripts_are_answered(rt: HostRuntime) -> Result<(), Fail> {
 }
 
 #[test]
+fn cursors_keep_what_they_were_opened_over(rt: HostRuntime) -> Result<(), Fail> {
+    let alloc = rt.alloc();
+    let mut disk = made(alloc)?;
+    let first = format!(in alloc;
+        "{BOTH}open quick\ndelete a\nadd c\t\tquick\nopen quick\nfetch 1 1\nfetch 1 5\nfetch 1 5\nfetch 2 2\nclose 1\nfetch 1 1\nclose 1\n"
+    )?;
+    assert_eq!(rt;
+        replies(alloc, &mut disk, first.as_str())?.as_slice(),
+        b"added 1\nadded 2\ncursor 1\ndeleted 1\nadded 3\ncursor 2\n1 a\nmore\n2 b\nend\nend\n2 b\n3 c\nend\nclosed 1\n! no such cursor\n! no such cursor\n".as_slice()
+    );
+    // A cursor ends with its run. The least number that is free comes next.
+    let second =
+        "fetch 2 1\nopen zebra\nopen fox NOT dog\nclose 1\nopen quick\nfetch 1 1\nfetch 2 1\nfetch 3 1\nopen\nfetch 0 1\nclose 0\nstats";
+    assert_eq!(rt;
+        replies(alloc, &mut disk, second)?.as_slice(),
+        b"! no such cursor\ncursor 1\ncursor 2\nclosed 1\ncursor 1\n2 b\nmore\nend\n! no such cursor\n! bad line\n! bad line\n! bad line\ndocuments 2 words 5 next 4\n".as_slice()
+    );
+    Ok(())
+}
+
+#[test]
+fn sixty_four_cursors_are_open_at_most(rt: HostRuntime) -> Result<(), Fail> {
+    let alloc = rt.alloc();
+    let mut disk = made(alloc)?;
+    let mut input = String::from_str(alloc, "add a\tRed Fox\tthe quick red fox\n")?;
+    let mut want = String::from_str(alloc, "added 1\n")?;
+    for number in 1..65 {
+        input.push_str("open fox\n")?;
+        write!(want, "cursor {number}\n")?;
+    }
+    input.push_str("open fox\nopen fox OR\nclose 3\nopen fox\nfetch 65 1\nfetch 3 1\ncount fox")?;
+    want.push_str(
+        "! too many cursors\n! query 6 Operand\nclosed 3\ncursor 3\n! no such cursor\n1 a\nend\nfound 1\n",
+    )?;
+    assert_eq!(rt;
+        replies(alloc, &mut disk, input.as_str())?.as_slice(),
+        want.as_bytes()
+    );
+    Ok(())
+}
+
+#[test]
 fn the_longest_document_is_counted(rt: HostRuntime) -> Result<(), Fail> {
     let alloc = rt.alloc();
     let mut disk = made(alloc)?;
