@@ -7,8 +7,8 @@ use Rattle.alta_level.specs.Segments.{segment_bytes}
 use Rattle.alta_content.specs.declared.content.Content.{Content}
 use Rattle.alta_root.specs.Gaps.{IsGap}
 use Rattle.alta_root.specs.Root.{AreApart}
-use Rattle.alta_store.specs.Levels.{Level}
-use Rattle.alta_store.specs.Work.{Coming, stays, anew, extents_in}
+use Rattle.alta_images.specs.Levels.{Level}
+use Rattle.alta_images.specs.Work.{Coming, stays, anew, extents_in}
 use Rattle.alta_images.specs.Chain.{◌>>=◌}
 use Rattle.alta_images.specs.Working.{Full, Placed, in_front, placed, placed_levels, AllApart, staying, LiesWithin}
 use Rattle.alta_images.proofs.FullLaws.{placed_first}

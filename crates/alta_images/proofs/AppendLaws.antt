@@ -11,11 +11,11 @@ use Rattle.alta_journal.proofs.Frames.{appends_touch}
 use Rattle.alta_meta.specs.declared.document.State.{State}
 use Rattle.alta_root.specs.Root.{extents_of, IsSound}
 use Rattle.alta_root.proofs.Frames.{counts_sound}
-use Rattle.alta_store.specs.Entries.{after_entry}
-use Rattle.alta_store.specs.Levels.{Level}
-use Rattle.alta_store.specs.Meaning.{state_of, rooted}
-use Rattle.alta_store.proofs.Additions.{after_more}
-use Rattle.alta_store.proofs.DocumentLaws.{by_test}
+use Rattle.alta_images.specs.Entries.{after_entry}
+use Rattle.alta_images.specs.Levels.{Level}
+use Rattle.alta_images.specs.Views.{state_of, rooted}
+use Rattle.alta_images.proofs.Entering.{after_more}
+use Rattle.alta_images.proofs.Tests.{by_test}
 use Rattle.alta_images.specs.Known.{Known, admits, known_behind, replayed}
 use Rattle.alta_images.specs.Opened.{Opened, IsNamed, IsOpened, journal_of, known_at}
 use Rattle.alta_images.specs.Standing.{AreLevels, StandsFor, view_of}

@@ -15,10 +15,10 @@ use Rattle.alta_content.specs.declared.content.TermList.{TermList}
 use Rattle.alta_memlevel.specs.Added.{Added, IsDocument, IsSpace, list_of, places_of}
 use Rattle.alta_meta.specs.Cells.{cell_holds, cells_of, word_cell}
 use Rattle.alta_meta.specs.declared.document.Document.{Document}
-use Rattle.alta_store.specs.Joining.{content_of}
-use Rattle.alta_store.specs.Levels.{cell_at, document_of, locations_from}
-use Rattle.alta_store.proofs.ContentLaws.{content_has}
-use Rattle.alta_store.proofs.NameLaws.{bytes_eq-swap}
+use Rattle.alta_images.specs.Joining.{content_of}
+use Rattle.alta_images.specs.Levels.{cell_at, document_of, locations_from}
+use Rattle.alta_images.proofs.ContentLaws.{content_has}
+use Rattle.alta_images.proofs.NameLaws.{bytes_eq-swap}
 use Rattle.alta_content.specs.declared.document.DocRow.{DocRow}
 use Rattle.alta_text.specs.Words.{words_of}
 use Rattle.alta_images.proofs.TermOrder.{After, Sorted, has, none_of, one_list, same_term}

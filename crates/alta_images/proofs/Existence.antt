@@ -13,10 +13,9 @@ use Rattle.alta_root.specs.declared.root.Root.{Root}
 use Rattle.alta_root.specs.declared.root.Roots.{Roots}
 use Rattle.alta_root.specs.declared.slot.Slot.{Slot}
 use Rattle.alta_root.proofs.SlotLaws.{some_answer}
-use Rattle.alta_store.specs.declared.lists.NameRow.{NameRow}
 use Rattle.alta_table.specs.Tables.{Tables}
 use Rattle.alta_images.specs.Broken.{ComesTo, HasLevels, IsBrokenAt, in_slots, in_list, in_tables, out_of_order, in_names, without_end, in_records, in_entries}
-use Rattle.alta_images.specs.Known.{Known, replayed}
+use Rattle.alta_images.specs.Known.{Named, Known, replayed}
 use Rattle.alta_images.specs.Opened.{Opened, IsOpened, half_of, journal_of, deleted_in, tables_at, are_in_order, names_in, with_level, levels_from, levels_in, have_ends, known_at}
 use Rattle.alta_images.proofs.Steps.{levels_append}
 
@@ -24,7 +23,7 @@ abbrev pub IsShown : List ℕ → Type 0
 IsShown image = HasNoRoot image ⊎ (((place : ℕ) × IsBrokenAt image place) ⊎ ((opened : Opened) × IsOpened opened image))
 
 -- a level whose steps are fine
-pub level_found : (root : Root) (deleted : List ℕ) (levels : List Tables) (extent : Extent) (image : List ℕ) (level : Tables) (live : List NameRow) → tables_at extent image ≡ Ok level → are_in_order root levels level.documents ≡ true
+pub level_found : (root : Root) (deleted : List ℕ) (levels : List Tables) (extent : Extent) (image : List ℕ) (level : Tables) (live : List Named) → tables_at extent image ≡ Ok level → are_in_order root levels level.documents ≡ true
     → names_in deleted levels level ≡ Ok live → with_level root deleted levels extent image ≡ Ok (levels ++ level ∷ [])
 level_found root deleted levels extent image level live found ordered named = rw found rw ordered rw named refl
 
@@ -57,7 +56,7 @@ module _ (image : List ℕ) (slot : Slot) (root : Root) (counts : Counts slot ro
       comes : ComesTo root deleted levels extent image
       comes = record { slot = slot; counts = counts; list = list; before = before; behind = rest; split = split; tables = so_far }
 
-      by_names : (level : Tables) → tables_at extent image ≡ Ok level → are_in_order root levels level.documents ≡ true → (r : Result (List NameRow) ℕ) → names_in deleted levels level ≡ r → IsShown image
+      by_names : (level : Tables) → tables_at extent image ≡ Ok level → are_in_order root levels level.documents ≡ true → (r : Result (List Named) ℕ) → names_in deleted levels level ≡ r → IsShown image
       by_names level found ordered (Ok live) named = go_on (levels ++ level ∷ []) (level_found root deleted levels extent image level live found ordered named)
       by_names level found ordered (Err place) named = broken place (in_names root deleted levels extent level place comes found ordered named)
 

@@ -10,8 +10,8 @@ use Rattle.alta_root.specs.Root.{body_of, IsSound, IsWord, no_extent}
 use Rattle.alta_root.specs.Slots.{Counts}
 use Rattle.alta_root.specs.declared.slot.Slot.TheVariants.{A}
 use Rattle.alta_root.proofs.SpellLaws.{body_says}
-use Rattle.alta_store.specs.Levels.{Level}
-use Rattle.alta_store.specs.States.{empty}
+use Rattle.alta_images.specs.Levels.{Level}
+use Rattle.alta_images.specs.States.{empty}
 use Rattle.alta_images.specs.Opened.{Opened, IsNamed, bytes_at, deleted_in}
 use Rattle.alta_images.specs.Standing.{StandsFor}
 use Rattle.alta_images.specs.Switching.{empty_root, IsFormatted}

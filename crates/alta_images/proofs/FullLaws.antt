@@ -14,10 +14,10 @@ use Rattle.alta_content.specs.declared.content.Content.{Content}
 use Rattle.alta_postings.specs.Deltas.{stream_bytes}
 use Rattle.alta_root.specs.Root.{no_extent}
 use Rattle.alta_root.specs.Gaps.{IsFirstGap, IsLongestGap}
-use Rattle.alta_store.specs.Joining.{terms_in}
-use Rattle.alta_store.specs.Levels.{Level}
-use Rattle.alta_store.specs.Work.{Job, Coming, stays, anew, coming, newest_content, gone_among, is_merged, job_of, oldest_joined, with_oldest, whole_of, rows_in, Task, enters, flushes, merges, steps, fits}
-use Rattle.alta_store.proofs.DocumentLaws.{by_test}
+use Rattle.alta_images.specs.Joining.{terms_in}
+use Rattle.alta_images.specs.Levels.{Level}
+use Rattle.alta_images.specs.Work.{Job, Coming, stays, anew, coming, newest_content, gone_among, is_merged, job_of, oldest_joined, with_oldest, whole_of, rows_in, Task, enters, flushes, merges, steps, fits}
+use Rattle.alta_images.proofs.Tests.{by_test}
 use Rattle.alta_table.specs.Tables.{tables_bytes}
 use Rattle.alta_table.proofs.TableLaws.{length-tables_bytes}
 use Rattle.alta_images.specs.Chain.{◌>>=◌}

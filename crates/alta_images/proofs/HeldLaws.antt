@@ -11,9 +11,9 @@ use Rattle.alta_memlevel.specs.Added.{IsSpace}
 use Rattle.alta_root.specs.Root.{extents_of}
 use Rattle.alta_root.specs.Switches.{Switched, slot_range}
 use Rattle.alta_root.proofs.Frames.{counts_sound}
-use Rattle.alta_store.specs.Levels.{Level}
-use Rattle.alta_store.specs.Meaning.{View, state_of, with_entry as view_with}
-use Rattle.alta_store.specs.Work.{newest, newest_content}
+use Rattle.alta_images.specs.Levels.{Level}
+use Rattle.alta_images.specs.Views.{View, state_of, with_entry as view_with}
+use Rattle.alta_images.specs.Work.{newest, newest_content}
 use Rattle.alta_images.specs.Holding.{Holding, IsHeld}
 use Rattle.alta_images.specs.Known.{known_of}
 use Rattle.alta_images.specs.Opened.{Opened, journal_of}

@@ -6,10 +6,10 @@ use Rattle.std.proofs.lemmas.List.Elements.{All-append, All-filter, All-map}
 use Rattle.std.proofs.lemmas.List.Folds.{flat_map-map}
 use Rattle.alta_content.specs.declared.content.Content.{Content}
 use Rattle.alta_memlevel.specs.Added.{Added}
-use Rattle.alta_store.specs.Joining.{content_of, joined_in, terms_in}
-use Rattle.alta_store.specs.Meaning.{View, state_of}
-use Rattle.alta_store.specs.Work.{Job, Coming, coming, newest, newest_content, gone, gone_among, is_merged, job_of, oldest_joined, with_oldest, whole_of, rows_in as level_rows, steps}
-use Rattle.alta_store.proofs.DocumentLaws.{by_test}
+use Rattle.alta_images.specs.Joining.{content_of, joined_in, terms_in}
+use Rattle.alta_images.specs.Views.{View, state_of}
+use Rattle.alta_images.specs.Work.{Job, Coming, coming, newest, newest_content, gone, gone_among, is_merged, job_of, oldest_joined, with_oldest, whole_of, rows_in as level_rows, steps}
+use Rattle.alta_images.proofs.Tests.{by_test}
 use Rattle.alta_content.specs.Rows.{end_of}
 use Rattle.alta_table.specs.Tables.{Tables}
 use Rattle.alta_content.specs.declared.document.DocRow.{DocRow}

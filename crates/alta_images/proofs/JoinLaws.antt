@@ -11,11 +11,11 @@ use Rattle.alta_memlevel.specs.Added.{Added}
 use Rattle.alta_content.specs.Rows.{ends_among}
 use Rattle.alta_content.proofs.Outside.{filter_alike}
 use Rattle.alta_meta.specs.declared.document.Document.{Document}
-use Rattle.alta_store.specs.Joining.{content_of}
-use Rattle.alta_store.specs.Levels.{Level, document_of, live_rows}
-use Rattle.alta_store.specs.Meaning.{View, rooted, state_of}
-use Rattle.alta_store.specs.Work.{Job, stays, anew, coming, newest, newest_content, gone, gone_among, is_gone, rows_in}
-use Rattle.alta_store.proofs.DocumentLaws.{by_test, filter_keep, filter_drop}
+use Rattle.alta_images.specs.Joining.{content_of}
+use Rattle.alta_images.specs.Levels.{Level, document_of, live_rows}
+use Rattle.alta_images.specs.Views.{View, rooted, state_of}
+use Rattle.alta_images.specs.Work.{Job, stays, anew, coming, newest, newest_content, gone, gone_among, is_gone, rows_in}
+use Rattle.alta_images.proofs.Tests.{by_test, filter_keep, filter_drop}
 use Rattle.alta_content.specs.declared.document.DocRow.{DocRow}
 use Rattle.alta_images.specs.Holding.{Holding, IsSpaced, all_rows}
 use Rattle.alta_images.specs.Ordered.{Precedes, RowsRise}

@@ -18,11 +18,11 @@ use Rattle.alta_content.proofs.Outside.{filter_alike, filter_all}
 use Rattle.alta_meta.specs.Cells.{cells_of}
 use Rattle.alta_meta.specs.declared.document.Document.{Document}
 use Rattle.alta_meta.specs.declared.document.State.{State}
-use Rattle.alta_store.specs.Entries.{AllowsAll, after_entry, after_entries}
-use Rattle.alta_store.specs.Levels.{Level, document_of, documents_of, live_rows}
-use Rattle.alta_store.specs.Meaning.{View, rooted, state_of}
-use Rattle.alta_store.specs.Work.{Job, Coming, stays, anew, coming, added_at, added_from, newest, leaves_out, is_gone, gone, gone_among, newest_content, rows_in, with_oldest, oldest_joined}
-use Rattle.alta_store.proofs.DocumentLaws.{by_test, filter_keep, filter_drop, equal_test, equal_from, apart_test}
+use Rattle.alta_images.specs.Entries.{AllowsAll, after_entry, after_entries}
+use Rattle.alta_images.specs.Levels.{Level, document_of, documents_of, live_rows}
+use Rattle.alta_images.specs.Views.{View, rooted, state_of}
+use Rattle.alta_images.specs.Work.{Job, Coming, stays, anew, coming, added_at, added_from, newest, leaves_out, is_gone, gone, gone_among, newest_content, rows_in, with_oldest, oldest_joined}
+use Rattle.alta_images.proofs.Tests.{by_test, filter_keep, filter_drop, equal_test, equal_from, apart_test}
 use Rattle.alta_content.specs.declared.document.DocRow.{DocRow}
 use Rattle.alta_images.specs.Chain.{◌>>=◌}
 use Rattle.alta_images.specs.Holding.{Holding, taken_by, all_rows, IsSpaced}

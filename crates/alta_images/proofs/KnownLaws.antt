@@ -13,11 +13,10 @@ use Rattle.alta_journal.specs.declared.entry.Entry.TheVariants.{Add, Delete}
 use Rattle.alta_journal.specs.declared.placed.Placed.{Placed}
 use Rattle.alta_meta.specs.declared.document.Document.{Document}
 use Rattle.alta_meta.specs.declared.document.State.{State}
-use Rattle.alta_store.specs.Entries.{Allows, AllowsAll, after_entry, after_entries}
-use Rattle.alta_store.specs.States.{with_deleted}
-use Rattle.alta_store.specs.declared.lists.NameRow.{NameRow}
-use Rattle.alta_store.proofs.DocumentLaws.{by_test, filter_keep, filter_drop, bytes_same}
-use Rattle.alta_images.specs.Known.{Known, named, is_taken, is_live, admits, known_behind, replayed, named_of, known_of}
+use Rattle.alta_images.specs.Entries.{Allows, AllowsAll, after_entry, after_entries}
+use Rattle.alta_images.specs.States.{with_deleted}
+use Rattle.alta_images.proofs.Tests.{by_test, filter_keep, filter_drop, bytes_same}
+use Rattle.alta_images.specs.Known.{Named, Known, named, is_taken, is_live, admits, known_behind, replayed, named_of, known_of}
 use Rattle.alta_images.specs.Ordered.{IsBefore, AreOrdered, IsOrdered}
 use Rattle.alta_images.proofs.Steps.{one_value, not_failed}
 
@@ -31,22 +30,22 @@ live_of : (number : ℕ) (ds : List Document) → is_live number (map named_of d
 live_of number [] = refl
 live_of number (d ∷ ds) = ap (λ (b : Bool). (d.number == number) || b) (live_of number ds)
 
-left_of : (p : NameRow → Bool) (ds : List Document) → map named_of (filter (λ (d : Document). p (named_of d)) ds) ≡ filter p (map named_of ds)
+left_of : (p : Named → Bool) (ds : List Document) → map named_of (filter (λ (d : Document). p (named_of d)) ds) ≡ filter p (map named_of ds)
 left_of p [] = refl
 left_of p (d ∷ ds) =
     by_test (p (named_of d))
-    (λ yes. ap (λ (xs : List Document). map named_of xs) (filter_keep (λ (d : Document). p (named_of d)) d ds yes) ∙ ap (λ (rows : List NameRow). named_of d ∷ rows) (left_of p ds)
+    (λ yes. ap (λ (xs : List Document). map named_of xs) (filter_keep (λ (d : Document). p (named_of d)) d ds yes) ∙ ap (λ (rows : List Named). named_of d ∷ rows) (left_of p ds)
     ∙ sym (filter_keep p (named_of d) (map named_of ds) yes))
     (λ no. ap (λ (xs : List Document). map named_of xs) (filter_drop (λ (d : Document). p (named_of d)) d ds no) ∙ left_of p ds ∙ sym (filter_drop p (named_of d) (map named_of ds) no))
 
-known_with : ℕ → List NameRow → Known
+known_with : ℕ → List Named → Known
 known_with next live = record { next = next; live = live }
 
 -- what is known of the state behind an entry is what is known behind it
 pub known_entry : (s : State) (entry : Entry) → known_of (after_entry s entry) ≡ known_behind (known_of s) entry
 unfolding known_with
 known_entry s (Add name title body) = ap (known_with (s.next + 1)) (map-append named_of s.documents _)
-known_entry s (Delete number) = ap (known_with s.next) (left_of (λ (row : NameRow). not (row.number == number)) s.documents)
+known_entry s (Delete number) = ap (known_with s.next) (left_of (λ (row : Named). not (row.number == number)) s.documents)
 
 -- ---- an entry is admitted where the state allows it
 
@@ -108,21 +107,21 @@ replayed_allows s place (entry ∷ entries) all =
 
 -- ---- order
 
-pub ordered_snoc : (rows : List NameRow) (row : NameRow) → AreOrdered rows → All (λ (earlier : NameRow). IsBefore earlier row) rows → AreOrdered (rows ++ row ∷ [])
+pub ordered_snoc : (rows : List Named) (row : Named) → AreOrdered rows → All (λ (earlier : Named). IsBefore earlier row) rows → AreOrdered (rows ++ row ∷ [])
 ordered_snoc [] row ordered before = (All-nil (IsBefore row), tt)
 ordered_snoc (r ∷ rows) row ordered before = (
-  All-append (IsBefore r) rows (row ∷ []) ordered.0 (All-cons (IsBefore r) row [] (All-head (λ (earlier : NameRow). IsBefore earlier row) r rows before) (All-nil (IsBefore r))),
-  ordered_snoc rows row ordered.1 (All-tail (λ (earlier : NameRow). IsBefore earlier row) r rows before),
+  All-append (IsBefore r) rows (row ∷ []) ordered.0 (All-cons (IsBefore r) row [] (All-head (λ (earlier : Named). IsBefore earlier row) r rows before) (All-nil (IsBefore r))),
+  ordered_snoc rows row ordered.1 (All-tail (λ (earlier : Named). IsBefore earlier row) r rows before),
 )
 
-pub ordered_left : (p : NameRow → Bool) (rows : List NameRow) → AreOrdered rows → AreOrdered (filter p rows)
+pub ordered_left : (p : Named → Bool) (rows : List Named) → AreOrdered rows → AreOrdered (filter p rows)
 ordered_left p [] ordered = tt
 ordered_left p (row ∷ rows) ordered =
     by_test (p row)
     (λ yes. subst AreOrdered (sym (filter_keep p row rows yes)) (All-filter p (IsBefore row) rows ordered.0, ordered_left p rows ordered.1))
     (λ no. subst AreOrdered (sym (filter_drop p row rows no)) (ordered_left p rows ordered.1))
 
-abbrev pub IsWithin : ℕ → NameRow → Type 0
+abbrev pub IsWithin : ℕ → Named → Type 0
 IsWithin next row = (1 ≤ row.number) × (row.number < next)
 
 pub all_weaker : {X : Type 0} (P Q : X → Type 0) (xs : List X) → ((x : X) → P x → Q x) → All P xs → All Q xs
@@ -138,10 +137,10 @@ or_false_right true b e = absurd (false≢true (sym e))
 or_false_right false b e = e
 
 -- none of the live documents has the name
-pub all_others : (name : List ℕ) (rows : List NameRow) → is_taken name rows ≡ false → All (λ (row : NameRow). row.name ≢ name) rows
-all_others name [] none = All-nil (λ (row : NameRow). row.name ≢ name)
+pub all_others : (name : List ℕ) (rows : List Named) → is_taken name rows ≡ false → All (λ (row : Named). row.name ≢ name) rows
+all_others name [] none = All-nil (λ (row : Named). row.name ≢ name)
 all_others name (row ∷ rows) none =
-    All-cons (λ (row : NameRow). row.name ≢ name) row rows
+    All-cons (λ (row : Named). row.name ≢ name) row rows
     (λ same. false≢true (sym (or_false_left (bytes_eq name row.name) (is_taken name rows) none) ∙ ap (λ (n : List ℕ). bytes_eq name n) same ∙ bytes_same name))
     (all_others name rows (or_false_right (bytes_eq name row.name) (is_taken name rows) none))
 
@@ -154,15 +153,15 @@ pub ordered_entry : (known : Known) (entry : Entry) → IsOrdered known → admi
 ordered_entry known (Add name title body) ordered admitted some = record {
   ordered =
       ordered_snoc known.live (named name known.next) ordered.ordered
-      (all_both (λ (row : NameRow). row.number < known.next) (λ (row : NameRow). row.name ≢ name) known.live (all_weaker (IsWithin known.next) (λ (row : NameRow). row.number < known.next) known.live (λ row w. w.1) ordered.within)
+      (all_both (λ (row : Named). row.number < known.next) (λ (row : Named). row.name ≢ name) known.live (all_weaker (IsWithin known.next) (λ (row : Named). row.number < known.next) known.live (λ row w. w.1) ordered.within)
       (all_others name known.live (not_true (is_taken name known.live) (and_left (not (is_taken name known.live)) (nat_lt known.next 4294967296) admitted))));
   within =
       All-append (IsWithin (known.next + 1)) known.live (named name known.next ∷ []) (all_weaker (IsWithin known.next) (IsWithin (known.next + 1)) known.live (λ row w. (w.0, omega (arith, w.1))) ordered.within)
       (All-cons (IsWithin (known.next + 1)) (named name known.next) [] (some, omega arith) (All-nil (IsWithin (known.next + 1))));
 }
 ordered_entry known (Delete number) ordered admitted some = record {
-  ordered = ordered_left (λ (row : NameRow). not (row.number == number)) known.live ordered.ordered;
-  within = All-filter (λ (row : NameRow). not (row.number == number)) (IsWithin known.next) known.live ordered.within;
+  ordered = ordered_left (λ (row : Named). not (row.number == number)) known.live ordered.ordered;
+  within = All-filter (λ (row : Named). not (row.number == number)) (IsWithin known.next) known.live ordered.within;
 }
 
 -- the state of a command keeps order
@@ -181,8 +180,8 @@ ordered_all s (entry ∷ entries) ordered some all = ordered_all (after_entry s 
 pub ordered_deleted : (s : State) (name : List ℕ) → IsOrdered (known_of s) → IsOrdered (known_of (with_deleted name s))
 unfolding known_with
 ordered_deleted s name ordered =
-    subst IsOrdered (ap (known_with s.next) (sym (left_of (λ (row : NameRow). not (bytes_eq name row.name)) s.documents)))
+    subst IsOrdered (ap (known_with s.next) (sym (left_of (λ (row : Named). not (bytes_eq name row.name)) s.documents)))
     (record {
-      ordered = ordered_left (λ (row : NameRow). not (bytes_eq name row.name)) (map named_of s.documents) ordered.ordered;
-      within = All-filter (λ (row : NameRow). not (bytes_eq name row.name)) (IsWithin s.next) (map named_of s.documents) ordered.within;
+      ordered = ordered_left (λ (row : Named). not (bytes_eq name row.name)) (map named_of s.documents) ordered.ordered;
+      within = All-filter (λ (row : Named). not (bytes_eq name row.name)) (IsWithin s.next) (map named_of s.documents) ordered.within;
     })

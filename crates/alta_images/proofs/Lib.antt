@@ -1,8 +1,9 @@
 pub mod ApartLaws
 pub mod AppendLaws
 pub mod CellLaws
+pub mod ContentLaws
+pub mod Entering
 pub mod Existence
-pub mod FirstRoot
 pub mod FormattedLaws
 pub mod FullLaws
 pub mod HeldLaws
@@ -11,6 +12,7 @@ pub mod JoinLaws
 pub mod KeptStates
 pub mod KnownLaws
 pub mod MergeLaws
+pub mod NameLaws
 pub mod OneReading
 pub mod OneState
 pub mod OrderLaws
@@ -19,6 +21,7 @@ pub mod SpacedLaws
 pub mod Steps
 pub mod SwitchLaws
 pub mod TermOrder
+pub mod Tests
 pub mod Untouched
 pub mod WellLaws
 pub mod WorkLaws

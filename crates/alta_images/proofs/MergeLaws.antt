@@ -7,10 +7,10 @@ use Rattle.std.proofs.lemmas.List.Elements.{All-nil, All-cons}
 use Rattle.alta_content.specs.declared.content.Content.{Content}
 use Rattle.alta_memlevel.specs.Added.{Added}
 use Rattle.alta_content.specs.Rows.{ends_among}
-use Rattle.alta_store.specs.Joining.{joined_in}
-use Rattle.alta_store.specs.Levels.{Level}
-use Rattle.alta_store.specs.Meaning.{View}
-use Rattle.alta_store.specs.Work.{Job, begun, gone, is_gone, job_of, newest, oldest_joined, whole_of, rows_in}
+use Rattle.alta_images.specs.Joining.{joined_in}
+use Rattle.alta_images.specs.Levels.{Level}
+use Rattle.alta_images.specs.Views.{View}
+use Rattle.alta_images.specs.Work.{Job, begun, gone, is_gone, job_of, newest, oldest_joined, whole_of, rows_in}
 use Rattle.alta_content.specs.declared.document.DocRow.{DocRow}
 use Rattle.alta_images.specs.Holding.{Holding, IsJob, IsJobOf, IsSpaced, IsWell}
 use Rattle.alta_images.specs.Working.{rows_of, IsJoin, AreJoins, JoinsKeep, oldest_contents, all_contents}

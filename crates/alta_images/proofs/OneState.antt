@@ -12,8 +12,8 @@ use Rattle.alta_content.specs.declared.content.TermList.{TermList}
 use Rattle.alta_meta.specs.declared.document.State.{State}
 use Rattle.alta_postings.specs.Deltas.{Spells, locations_of, stream_bytes}
 use Rattle.alta_postings.proofs.Reading.{spelling_reads}
-use Rattle.alta_store.specs.Levels.{Level}
-use Rattle.alta_store.specs.Meaning.{state_of}
+use Rattle.alta_images.specs.Levels.{Level}
+use Rattle.alta_images.specs.Views.{state_of}
 use Rattle.alta_table.specs.Tables.{Tables, tables_bytes}
 use Rattle.alta_content.specs.declared.document.DocRow.{DocRow}
 use Rattle.alta_table.specs.declared.term.TermRow.{TermRow}

@@ -17,16 +17,15 @@ use Rattle.alta_meta.specs.declared.document.Document.{Document}
 use Rattle.alta_meta.specs.declared.document.State.{State}
 use Rattle.alta_root.specs.declared.root.Root.{Root}
 use Rattle.alta_root.proofs.Frames.{counts_sound}
-use Rattle.alta_store.specs.Entries.{after_entry, after_entries}
-use Rattle.alta_store.specs.Levels.{Level, document_of, documents_of, live_rows}
-use Rattle.alta_store.specs.Meaning.{rooted}
-use Rattle.alta_store.specs.declared.lists.NameRow.{NameRow}
-use Rattle.alta_store.proofs.DocumentLaws.{by_test, filter_keep, filter_drop}
+use Rattle.alta_images.specs.Entries.{after_entry, after_entries}
+use Rattle.alta_images.specs.Levels.{Level, document_of, documents_of, live_rows}
+use Rattle.alta_images.specs.Views.{rooted}
+use Rattle.alta_images.proofs.Tests.{by_test, filter_keep, filter_drop}
 use Rattle.alta_table.specs.Places.{name_place}
 use Rattle.alta_table.specs.Tables.{Tables}
 use Rattle.alta_content.specs.declared.document.DocRow.{DocRow}
 use Rattle.alta_images.specs.Chain.{◌>>=◌}
-use Rattle.alta_images.specs.Known.{Known, named, is_taken, named_of, known_of, replayed}
+use Rattle.alta_images.specs.Known.{Named, Known, named, is_taken, named_of, known_of, replayed}
 use Rattle.alta_images.specs.Opened.{Opened, IsNamed, journal_of, bytes_at, tables_at, comes_behind, is_below, are_in_order, names_from, names_in, with_level, levels_from, rows_in, live_in, known_at}
 use Rattle.alta_images.specs.Ordered.{IsBefore, AreOrdered, IsOrdered}
 use Rattle.alta_images.specs.Standing.{Means, StandsFor, tables_by, view_of}
@@ -35,7 +34,7 @@ use Rattle.alta_images.proofs.Steps.{not_failed, one_value}
 
 -- ---- live rows
 
-row_named : DocRow → NameRow
+row_named : DocRow → Named
 row_named row = named row.name row.number
 
 pub live_keep : (deleted : List ℕ) (row : DocRow) (rows : List DocRow) → ends_among deleted row ≡ false → live_in deleted (row ∷ rows) ≡ named row.name row.number ∷ live_in deleted rows
@@ -53,9 +52,9 @@ pub rows_more : (levels : List Tables) (level : Tables) → rows_in (levels ++ l
 rows_more levels level = flat_map-append (λ (t : Tables). t.documents) levels (level ∷ []) ∙ ap (λ (rs : List DocRow). rows_in levels ++ rs) (append-nil level.documents)
 
 -- what each row has each live document has
-all_live : (deleted : List ℕ) (P : ℕ → Type 0) (rows : List DocRow) → All (λ (r : DocRow). P r.number) rows → All (λ (x : NameRow). P x.number) (live_in deleted rows)
+all_live : (deleted : List ℕ) (P : ℕ → Type 0) (rows : List DocRow) → All (λ (r : DocRow). P r.number) rows → All (λ (x : Named). P x.number) (live_in deleted rows)
 all_live deleted P rows all =
-    All-map (λ (x : NameRow). P x.number) (λ (r : DocRow). named r.name r.number) (live_rows deleted rows) (All-filter (λ (r : DocRow). not (ends_among deleted r)) (λ (r : DocRow). P r.number) rows all)
+    All-map (λ (x : Named). P x.number) (λ (r : DocRow). named r.name r.number) (live_rows deleted rows) (All-filter (λ (r : DocRow). not (ends_among deleted r)) (λ (r : DocRow). P r.number) rows all)
 
 -- ---- tests
 
@@ -95,23 +94,23 @@ rise_above low [] rise = All-nil (λ (r : DocRow). low < r.number)
 rise_above low (row ∷ rows) rise = All-cons (λ (r : DocRow). low < r.number) row rows rise.0 (rise_above low rows (rise_lower row.number low rows (omega (arith, rise.0)) rise.1))
 
 -- the row has a higher number than all these
-abbrev IsAbove : List NameRow → DocRow → Type 0
-IsAbove live row = All (λ (x : NameRow). x.number < row.number) live
+abbrev IsAbove : List Named → DocRow → Type 0
+IsAbove live row = All (λ (x : Named). x.number < row.number) live
 
-above_more : (live : List NameRow) (row : DocRow) (rows : List DocRow) → All (IsAbove live) rows → Rise row.number rows → All (IsAbove (live ++ named row.name row.number ∷ [])) rows
+above_more : (live : List Named) (row : DocRow) (rows : List DocRow) → All (IsAbove live) rows → Rise row.number rows → All (IsAbove (live ++ named row.name row.number ∷ [])) rows
 above_more live row rows all rise =
     all_weaker (λ (r : DocRow). IsAbove live r × (row.number < r.number)) (IsAbove (live ++ named row.name row.number ∷ [])) rows
-    (λ r both. All-append (λ (x : NameRow). x.number < r.number) live (named row.name row.number ∷ []) both.0
-    (All-cons (λ (x : NameRow). x.number < r.number) (named row.name row.number) [] both.1 (All-nil (λ (x : NameRow). x.number < r.number))))
+    (λ r both. All-append (λ (x : Named). x.number < r.number) live (named row.name row.number ∷ []) both.0
+    (All-cons (λ (x : Named). x.number < r.number) (named row.name row.number) [] both.1 (All-nil (λ (x : Named). x.number < r.number))))
     (all_both (IsAbove live) (λ (r : DocRow). row.number < r.number) rows all (rise_above row.number rows rise))
 
 -- live documents whose names were tested one by one, and whose numbers rise
-rows_ordered : (deleted : List ℕ) (level : Tables) (live : List NameRow) (i low : ℕ) (rows : List DocRow) (out : List NameRow) → names_from deleted level live i rows ≡ Ok out
+rows_ordered : (deleted : List ℕ) (level : Tables) (live : List Named) (i low : ℕ) (rows : List DocRow) (out : List Named) → names_from deleted level live i rows ≡ Ok out
     → AreOrdered live → Rise low rows → All (IsAbove live) rows → AreOrdered (live ++ live_in deleted rows)
 rows_ordered deleted level live i low [] out e ordered rise above = subst AreOrdered (sym (append-nil live)) ordered
 rows_ordered deleted level live i low (row ∷ rows) out e ordered rise above =
     by_test (ends_among deleted row)
-    (λ dead. subst (λ (l : List NameRow). AreOrdered (live ++ l)) (sym (live_drop deleted row rows dead))
+    (λ dead. subst (λ (l : List Named). AreOrdered (live ++ l)) (sym (live_drop deleted row rows dead))
     (rows_ordered deleted level live (i + 1) row.number rows out
     (sym (passed deleted level live i row rows dead) ∙ e)
     ordered rise.1 (All-tail (IsAbove live) row rows above)))
@@ -121,21 +120,21 @@ rows_ordered deleted level live i low (row ∷ rows) out e ordered rise above =
     let more : names_from deleted level (live ++ named row.name row.number ∷ []) (i + 1) rows ≡ Ok out =
     sym (step deleted level live i row rows lives free) ∙ e in
     subst AreOrdered
-    (append_assoc live (named row.name row.number ∷ []) (live_in deleted rows) ∙ ap (λ (l : List NameRow). live ++ l) (sym (live_keep deleted row rows lives)))
+    (append_assoc live (named row.name row.number ∷ []) (live_in deleted rows) ∙ ap (λ (l : List Named). live ++ l) (sym (live_keep deleted row rows lives)))
     (rows_ordered deleted level (live ++ named row.name row.number ∷ []) (i + 1) row.number rows out more
     (ordered_snoc live (named row.name row.number) ordered
-    (all_both (λ (x : NameRow). x.number < row.number) (λ (x : NameRow). x.name ≢ row.name) live (All-head (IsAbove live) row rows above) (all_others row.name live free)))
+    (all_both (λ (x : Named). x.number < row.number) (λ (x : Named). x.name ≢ row.name) live (All-head (IsAbove live) row rows above) (all_others row.name live free)))
     rise.1 (above_more live row rows (All-tail (IsAbove live) row rows above) rise.1))))
   where
-    step : (deleted : List ℕ) (level : Tables) (live : List NameRow) (i : ℕ) (row : DocRow) (rows : List DocRow) → ends_among deleted row ≡ false → is_taken row.name live ≡ false
+    step : (deleted : List ℕ) (level : Tables) (live : List Named) (i : ℕ) (row : DocRow) (rows : List DocRow) → ends_among deleted row ≡ false → is_taken row.name live ≡ false
         → names_from deleted level live i (row ∷ rows) ≡ names_from deleted level (live ++ named row.name row.number ∷ []) (i + 1) rows
     step deleted level live i row rows lives free = rw lives rw free refl
 
-    passed : (deleted : List ℕ) (level : Tables) (live : List NameRow) (i : ℕ) (row : DocRow) (rows : List DocRow) → ends_among deleted row ≡ true
+    passed : (deleted : List ℕ) (level : Tables) (live : List Named) (i : ℕ) (row : DocRow) (rows : List DocRow) → ends_among deleted row ≡ true
         → names_from deleted level live i (row ∷ rows) ≡ names_from deleted level live (i + 1) rows
     passed deleted level live i row rows dead = rw dead refl
 
-    second : (deleted : List ℕ) (level : Tables) (live : List NameRow) (i : ℕ) (row : DocRow) (rows : List DocRow) → ends_among deleted row ≡ false → is_taken row.name live ≡ true
+    second : (deleted : List ℕ) (level : Tables) (live : List Named) (i : ℕ) (row : DocRow) (rows : List DocRow) → ends_among deleted row ≡ false → is_taken row.name live ≡ true
         → names_from deleted level live i (row ∷ rows) ≡ Err (name_place level i)
     second deleted level live i row rows lives taken = rw lives rw taken refl
 
@@ -159,7 +158,7 @@ below_root root levels rows ordered =
     (and_left (nat_lt row.number root.next_number) (nat_lt (end_of row) root.next_location) (and_left (is_below root row) (list_all (λ (earlier : DocRow). comes_behind earlier row) (rows_in levels)) e)))
     (all_from (λ (row : DocRow). is_below root row && list_all (λ (earlier : DocRow). comes_behind earlier row) (rows_in levels)) rows ordered)
 
-level_ordered : (root : Root) (deleted : List ℕ) (levels : List Tables) (level : Tables) (live : List NameRow) → AreDocuments level.documents → are_in_order root levels level.documents ≡ true
+level_ordered : (root : Root) (deleted : List ℕ) (levels : List Tables) (level : Tables) (live : List Named) → AreDocuments level.documents → are_in_order root levels level.documents ≡ true
     → names_in deleted levels level ≡ Ok live → IsOrdered (known_at root deleted levels) → IsOrdered (known_at root deleted (levels ++ level ∷ []))
 level_ordered root deleted levels level live are ordered names known =
     let rise : Rise 0 level.documents = rise_from start level.documents are in
@@ -186,13 +185,13 @@ HasDocuments t = AreDocuments t.documents
 -- what one level more is
 pub record IsMore (root : Root) (deleted : List ℕ) (levels longer : List Tables) : Type 0 where
   pub level : Tables
-  pub live : List NameRow
+  pub live : List Named
   pub ordered : are_in_order root levels level.documents ≡ true
   pub names : names_in deleted levels level ≡ Ok live
   pub longer_is : longer ≡ levels ++ level ∷ []
 
 module _ (root : Root) (deleted : List ℕ) (levels longer : List Tables) (extent : Extent) (image : List ℕ) (e : with_level root deleted levels extent image ≡ Ok longer) where
-  by_names : (level : Tables) → tables_at extent image ≡ Ok level → are_in_order root levels level.documents ≡ true → (r : Result (List NameRow) ℕ) → names_in deleted levels level ≡ r → IsMore root deleted levels longer
+  by_names : (level : Tables) → tables_at extent image ≡ Ok level → are_in_order root levels level.documents ≡ true → (r : Result (List Named) ℕ) → names_in deleted levels level ≡ r → IsMore root deleted levels longer
   by_names level found ordered (Ok live) names = record {
     level = level;
     live = live;
@@ -265,17 +264,17 @@ documents_named deleted level = twice (live_rows deleted level.content.documents
   where
     twice : (rows : List DocRow) → map named_of (map (document_of level.content.lists) rows) ≡ map (λ (r : DocRow). named r.name r.number) rows
     twice [] = refl
-    twice (row ∷ rows) = ap (λ (l : List NameRow). named row.name row.number ∷ l) (twice rows)
+    twice (row ∷ rows) = ap (λ (l : List Named). named row.name row.number ∷ l) (twice rows)
 
 pub levels_named : (deleted : List ℕ) (levels : List Level) → map named_of (flat_map (documents_of deleted) levels) ≡ live_in deleted (rows_in (map tables_by levels))
 levels_named deleted [] = refl
 levels_named deleted (level ∷ levels) =
     map-append named_of (documents_of deleted level) (flat_map (documents_of deleted) levels)
-    ∙ ap (λ (l : List NameRow). l ++ map named_of (flat_map (documents_of deleted) levels)) (documents_named deleted level)
-    ∙ ap (λ (l : List NameRow). live_in deleted level.content.documents ++ l) (levels_named deleted levels)
+    ∙ ap (λ (l : List Named). l ++ map named_of (flat_map (documents_of deleted) levels)) (documents_named deleted level)
+    ∙ ap (λ (l : List Named). live_in deleted level.content.documents ++ l) (levels_named deleted levels)
     ∙ sym (live_append deleted level.content.documents (rows_in (map tables_by levels)))
 
-known_with : ℕ → List NameRow → Known
+known_with : ℕ → List Named → Known
 known_with next live = record { next = next; live = live }
 
 -- what is known of a view's root is what is known of the state that it speaks of
@@ -310,7 +309,7 @@ stands_ordered s image stands = means_ordered s stands.opened image (counts_soun
 
 -- ---- the state is well formed
 
-pub all_before : (P : NameRow → Type 0) (ds : List Document) → All P (map named_of ds) → All (λ (d : Document). P (named_of d)) ds
+pub all_before : (P : Named → Type 0) (ds : List Document) → All P (map named_of ds) → All (λ (d : Document). P (named_of d)) ds
 all_before P [] all = All-nil (λ (d : Document). P (named_of d))
 all_before P (d ∷ ds) all = All-cons (λ (d : Document). P (named_of d)) d ds (All-head P (named_of d) (map named_of ds) all) (all_before P ds (All-tail P (named_of d) (map named_of ds) all))
 

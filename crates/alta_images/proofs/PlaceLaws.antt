@@ -13,9 +13,9 @@ use Rattle.alta_memlevel.specs.Added.{Added}
 use Rattle.alta_content.specs.Rows.{end_of, ends_among}
 use Rattle.alta_meta.specs.Cells.{cells_of}
 use Rattle.alta_root.specs.declared.root.Root.{Root}
-use Rattle.alta_store.specs.Meaning.{View}
-use Rattle.alta_store.specs.Work.{stays, coming, added_at, added_from, gone, gone_among, is_gone, newest, newest_content, rows_in as level_rows}
-use Rattle.alta_store.proofs.DocumentLaws.{by_test}
+use Rattle.alta_images.specs.Views.{View}
+use Rattle.alta_images.specs.Work.{stays, coming, added_at, added_from, gone, gone_among, is_gone, newest, newest_content, rows_in as level_rows}
+use Rattle.alta_images.proofs.Tests.{by_test}
 use Rattle.alta_table.specs.Tables.{Tables}
 use Rattle.alta_content.specs.declared.document.DocRow.{DocRow}
 use Rattle.alta_images.specs.Holding.{Holding, IsSpaced, taken_by}

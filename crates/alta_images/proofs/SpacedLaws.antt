@@ -16,11 +16,11 @@ use Rattle.alta_content.specs.Rows.{AreDocuments, AreDocumentsBehind, Before, Ma
 use Rattle.alta_meta.specs.declared.document.Document.{Document}
 use Rattle.alta_meta.specs.declared.document.State.{State}
 use Rattle.alta_root.specs.declared.root.Root.{Root}
-use Rattle.alta_store.specs.Entries.{after_entries}
-use Rattle.alta_store.specs.Levels.{Level}
-use Rattle.alta_store.specs.Meaning.{View, rooted, state_of}
-use Rattle.alta_store.specs.Work.{newest, rows_in as level_rows}
-use Rattle.alta_store.proofs.DocumentLaws.{by_test}
+use Rattle.alta_images.specs.Entries.{after_entries}
+use Rattle.alta_images.specs.Levels.{Level}
+use Rattle.alta_images.specs.Views.{View, rooted, state_of}
+use Rattle.alta_images.specs.Work.{newest, rows_in as level_rows}
+use Rattle.alta_images.proofs.Tests.{by_test}
 use Rattle.alta_table.specs.Tables.{Tables}
 use Rattle.alta_content.specs.declared.document.DocRow.{DocRow}
 use Rattle.alta_images.specs.Holding.{Holding, IsHeld, IsSpaced}

@@ -15,7 +15,7 @@ use Rattle.alta_root.specs.declared.places.TheConstants.{SLOTS_BYTES}
 use Rattle.alta_root.specs.declared.root.Root.{Root}
 use Rattle.alta_root.specs.declared.slot.Slot.{Slot}
 use Rattle.alta_root.proofs.Frames.{counts_untouched}
-use Rattle.alta_store.specs.Levels.{Level}
+use Rattle.alta_images.specs.Levels.{Level}
 use Rattle.alta_table.specs.Tables.{Tables, tables_of}
 use Rattle.alta_images.specs.Chain.{◌>>=◌}
 use Rattle.alta_images.specs.Opened.{Opened, IsNamed, IsOpened, journal_of, bytes_at, list_at, deleted_in, tables_at, with_level, levels_from}

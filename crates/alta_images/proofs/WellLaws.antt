@@ -13,11 +13,11 @@ use Rattle.alta_memlevel.specs.Added.{Added}
 use Rattle.alta_content.specs.Rows.{ends_among}
 use Rattle.alta_postings.specs.Deltas.{stream_bytes}
 use Rattle.alta_root.specs.Root.{no_extent}
-use Rattle.alta_store.specs.Joining.{content_of, joined_in, terms_in}
-use Rattle.alta_store.specs.Levels.{Level}
-use Rattle.alta_store.specs.Meaning.{View}
-use Rattle.alta_store.specs.Work.{Job, Coming, stays, coming, newest, newest_content, gone, gone_among, is_gone, is_merged, leaves_out, job_of, begun, oldest_joined, with_oldest, whole_of, rows_in, Task, enters, flushes, merges, steps, fits}
-use Rattle.alta_store.proofs.DocumentLaws.{by_test, bytes_from, equal_from}
+use Rattle.alta_images.specs.Joining.{content_of, joined_in, terms_in}
+use Rattle.alta_images.specs.Levels.{Level}
+use Rattle.alta_images.specs.Views.{View}
+use Rattle.alta_images.specs.Work.{Job, Coming, stays, coming, newest, newest_content, gone, gone_among, is_gone, is_merged, leaves_out, job_of, begun, oldest_joined, with_oldest, whole_of, rows_in, Task, enters, flushes, merges, steps, fits}
+use Rattle.alta_images.proofs.Tests.{by_test, bytes_from, equal_from}
 use Rattle.alta_content.specs.declared.document.DocRow.{DocRow}
 use Rattle.alta_images.specs.Chain.{◌>>=◌}
 use Rattle.alta_root.specs.Gaps.{first_gap, greatest_gap}

@@ -2,12 +2,12 @@
 use Rattle.std.proofs.Common.{◌≡◌, ℕ, ◌+◌, [], ◌∷◌, length, take, drop, refl, sym, ap, ◌∙◌, Result, Ok, Err, take-append-drop}
 use Rattle.std.specs.Prelude.{◌&&◌, ◌==◌, nat_le, Option, None, Some}
 use Rattle.alta_journal.specs.declared.entry.Entry.{Entry}
-use Rattle.alta_store.specs.Entries.{after_entry}
-use Rattle.alta_store.specs.Joining.{joined_in, terms_in}
-use Rattle.alta_store.specs.Meaning.{rooted, state_of}
-use Rattle.alta_store.specs.Work.{Job, newest_content, gone, is_merged, job_of, oldest_joined, with_oldest, whole_of, Task, enters, flushes, merges, steps, fits}
-use Rattle.alta_store.proofs.Additions.{after_more}
-use Rattle.alta_store.proofs.DocumentLaws.{by_test}
+use Rattle.alta_images.specs.Entries.{after_entry}
+use Rattle.alta_images.specs.Joining.{joined_in, terms_in}
+use Rattle.alta_images.specs.Views.{rooted, state_of}
+use Rattle.alta_images.specs.Work.{Job, newest_content, gone, is_merged, job_of, oldest_joined, with_oldest, whole_of, Task, enters, flushes, merges, steps, fits}
+use Rattle.alta_images.proofs.Entering.{after_more}
+use Rattle.alta_images.proofs.Tests.{by_test}
 use Rattle.alta_images.specs.Chain.{◌>>=◌}
 use Rattle.alta_images.specs.Holding.{Holding, IsSpaced}
 use Rattle.alta_images.specs.Working.{Full, switched, flushed, merged, moved, entered, worked, AreJoins, IsJoin, oldest_contents, all_contents, state_behind}

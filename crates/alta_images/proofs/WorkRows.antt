@@ -17,10 +17,10 @@ use Rattle.alta_content.specs.declared.content.TermList.{TermList}
 use Rattle.alta_meta.specs.declared.document.State.{State}
 use Rattle.alta_postings.specs.Deltas.{stream_bytes}
 use Rattle.alta_root.specs.Root.{no_extent}
-use Rattle.alta_store.specs.Joining.{joined}
-use Rattle.alta_store.specs.Levels.{Level, locations_from}
-use Rattle.alta_store.specs.Meaning.{state_of}
-use Rattle.alta_store.specs.Work.{Job, enters, flushes, merges, steps, fits}
+use Rattle.alta_images.specs.Joining.{joined}
+use Rattle.alta_images.specs.Levels.{Level, locations_from}
+use Rattle.alta_images.specs.Views.{state_of}
+use Rattle.alta_images.specs.Work.{Job, enters, flushes, merges, steps, fits}
 use Rattle.alta_table.specs.Terms.{terms_bytes_behind}
 use Rattle.alta_content.specs.declared.document.DocRow.{DocRow}
 use Rattle.unicode_segmentation.specs.Segments.{segments, cut}

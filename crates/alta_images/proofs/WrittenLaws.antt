@@ -15,16 +15,15 @@ use Rattle.alta_postings.specs.Deltas.{Spells, fault_from, first_fault, list_fro
 use Rattle.alta_postings.proofs.Reading.{spelling_reads}
 use Rattle.alta_root.specs.Root.{no_extent}
 use Rattle.alta_root.specs.declared.root.Root.{Root}
-use Rattle.alta_store.specs.Levels.{Level}
-use Rattle.alta_store.specs.Meaning.{View, state_of}
-use Rattle.alta_store.specs.declared.lists.NameRow.{NameRow}
-use Rattle.alta_store.proofs.DocumentLaws.{by_test, bytes_from}
+use Rattle.alta_images.specs.Levels.{Level}
+use Rattle.alta_images.specs.Views.{View, state_of}
+use Rattle.alta_images.proofs.Tests.{by_test, bytes_from}
 use Rattle.alta_table.specs.Tables.{Tables, AreTables}
 use Rattle.alta_content.specs.declared.document.DocRow.{DocRow}
 use Rattle.alta_table.proofs.TableLaws.{are_tables}
 use Rattle.alta_images.specs.Chain.{◌>>=◌}
 use Rattle.alta_images.specs.Holding.{Holding, IsHeld}
-use Rattle.alta_images.specs.Known.{named, is_taken}
+use Rattle.alta_images.specs.Known.{Named, named, is_taken}
 use Rattle.alta_images.specs.Opened.{bytes_at, list_at, deleted_in, tables_at, comes_behind, is_below, are_in_order, names_from, with_level, levels_from, levels_in, rows_in, live_in}
 use Rattle.alta_images.specs.Ordered.{IsBefore, AreOrdered, Precedes, RowsRise, AreBelow}
 use Rattle.alta_images.specs.Standing.{StandsFor, tables_by}
@@ -101,35 +100,35 @@ order_read root levels rows behind below =
 
 -- ---- names
 
-ordered_free : (live : List NameRow) (row : NameRow) (more : List NameRow) → AreOrdered (live ++ row ∷ more) → is_taken row.name live ≡ false
+ordered_free : (live : List Named) (row : Named) (more : List Named) → AreOrdered (live ++ row ∷ more) → is_taken row.name live ≡ false
 ordered_free [] row more ordered = refl
 ordered_free (x ∷ live) row more ordered =
     or_neither (bytes_eq row.name x.name) (is_taken row.name live)
     (by_test (bytes_eq row.name x.name) (λ same. absurd ((All-head (IsBefore x) row more (all_right (IsBefore x) live (row ∷ more) ordered.0)).1 (sym (bytes_from row.name x.name same)))) (λ other. other))
     (ordered_free live row more ordered.1)
 
-names_read : (deleted : List ℕ) (level : Tables) (live : List NameRow) (i : ℕ) (rows : List DocRow) (more : List NameRow) → AreOrdered (live ++ (live_in deleted rows ++ more))
+names_read : (deleted : List ℕ) (level : Tables) (live : List Named) (i : ℕ) (rows : List DocRow) (more : List Named) → AreOrdered (live ++ (live_in deleted rows ++ more))
     → names_from deleted level live i rows ≡ Ok (live ++ live_in deleted rows)
-names_read deleted level live i [] more ordered = ap (λ (l : List NameRow). Ok l) (sym (append-nil live))
+names_read deleted level live i [] more ordered = ap (λ (l : List Named). Ok l) (sym (append-nil live))
 names_read deleted level live i (row ∷ rows) more ordered =
     by_test (ends_among deleted row)
     (λ dead.
     passed deleted level live i row rows dead
-    ∙ names_read deleted level live (i + 1) rows more (subst (λ (l : List NameRow). AreOrdered (live ++ (l ++ more))) (live_drop deleted row rows dead) ordered)
-    ∙ ap (λ (l : List NameRow). Ok (live ++ l)) (sym (live_drop deleted row rows dead)))
+    ∙ names_read deleted level live (i + 1) rows more (subst (λ (l : List Named). AreOrdered (live ++ (l ++ more))) (live_drop deleted row rows dead) ordered)
+    ∙ ap (λ (l : List Named). Ok (live ++ l)) (sym (live_drop deleted row rows dead)))
     (λ lives.
-    let here : AreOrdered (live ++ named row.name row.number ∷ (live_in deleted rows ++ more)) = subst (λ (l : List NameRow). AreOrdered (live ++ (l ++ more))) (live_keep deleted row rows lives) ordered in
+    let here : AreOrdered (live ++ named row.name row.number ∷ (live_in deleted rows ++ more)) = subst (λ (l : List Named). AreOrdered (live ++ (l ++ more))) (live_keep deleted row rows lives) ordered in
     let snoc : live ++ named row.name row.number ∷ (live_in deleted rows ++ more) ≡ (live ++ named row.name row.number ∷ []) ++ (live_in deleted rows ++ more) =
     sym (append_assoc live (named row.name row.number ∷ []) (live_in deleted rows ++ more)) in
     step deleted level live i row rows lives (ordered_free live (named row.name row.number) (live_in deleted rows ++ more) here)
     ∙ names_read deleted level (live ++ named row.name row.number ∷ []) (i + 1) rows more (subst AreOrdered snoc here)
-    ∙ ap (λ (l : List NameRow). Ok l) (append_assoc live (named row.name row.number ∷ []) (live_in deleted rows) ∙ ap (λ (l : List NameRow). live ++ l) (sym (live_keep deleted row rows lives))))
+    ∙ ap (λ (l : List Named). Ok l) (append_assoc live (named row.name row.number ∷ []) (live_in deleted rows) ∙ ap (λ (l : List Named). live ++ l) (sym (live_keep deleted row rows lives))))
   where
-    step : (deleted : List ℕ) (level : Tables) (live : List NameRow) (i : ℕ) (row : DocRow) (rows : List DocRow) → ends_among deleted row ≡ false → is_taken row.name live ≡ false
+    step : (deleted : List ℕ) (level : Tables) (live : List Named) (i : ℕ) (row : DocRow) (rows : List DocRow) → ends_among deleted row ≡ false → is_taken row.name live ≡ false
         → names_from deleted level live i (row ∷ rows) ≡ names_from deleted level (live ++ named row.name row.number ∷ []) (i + 1) rows
     step deleted level live i row rows lives free = rw lives rw free refl
 
-    passed : (deleted : List ℕ) (level : Tables) (live : List NameRow) (i : ℕ) (row : DocRow) (rows : List DocRow) → ends_among deleted row ≡ true
+    passed : (deleted : List ℕ) (level : Tables) (live : List Named) (i : ℕ) (row : DocRow) (rows : List DocRow) → ends_among deleted row ≡ true
         → names_from deleted level live i (row ∷ rows) ≡ names_from deleted level live (i + 1) rows
     passed deleted level live i row rows dead = rw dead refl
 
@@ -153,7 +152,7 @@ levels_more root deleted before (l ∷ ls) image read rise below ordered =
     all_left (λ (row : DocRow). (row.number < root.next_number) × (end_of row < root.next_location)) rows others
     (all_right (λ (row : DocRow). (row.number < root.next_number) × (end_of row < root.next_location)) (rows_in before) (rows ++ others) below) in
     let live : AreOrdered (live_in deleted (rows_in before) ++ (live_in deleted rows ++ live_in deleted others)) =
-    subst AreOrdered (live_append deleted (rows_in before) (rows ++ others) ∙ ap (λ (x : List NameRow). live_in deleted (rows_in before) ++ x) (live_append deleted rows others)) ordered in
+    subst AreOrdered (live_append deleted (rows_in before) (rows ++ others) ∙ ap (λ (x : List Named). live_in deleted (rows_in before) ++ x) (live_append deleted rows others)) ordered in
     let found : with_level root deleted before l.extent image ≡ Ok (before ++ tables_by l ∷ []) =
     level_found root deleted before l.extent image (tables_by l) (live_in deleted (rows_in before) ++ live_in deleted rows) (All-head (IsRead image) l ls read) (order_read root before rows here low)
     (names_read deleted (tables_by l) (live_in deleted (rows_in before)) 0 rows (live_in deleted others) live) in

@@ -6,11 +6,11 @@ use Rattle.alta_memlevel.specs.Added.{Added, IsSpace}
 use Rattle.alta_content.specs.Rows.{end_of, ends_among}
 use Rattle.alta_meta.specs.declared.document.Document.{Document}
 use Rattle.alta_root.specs.Root.{no_extent}
-use Rattle.alta_store.specs.Entries.{AllowsAll}
-use Rattle.alta_store.specs.Joining.{terms_in}
-use Rattle.alta_store.specs.Levels.{Level}
-use Rattle.alta_store.specs.Meaning.{View, rooted}
-use Rattle.alta_store.specs.Work.{Job, extents_in, is_gone, newest, rows_in}
+use Rattle.alta_images.specs.Entries.{AllowsAll}
+use Rattle.alta_images.specs.Joining.{terms_in}
+use Rattle.alta_images.specs.Levels.{Level}
+use Rattle.alta_images.specs.Views.{View, rooted}
+use Rattle.alta_images.specs.Work.{Job, extents_in, is_gone, newest, rows_in}
 use Rattle.alta_content.specs.declared.document.DocRow.{DocRow}
 use Rattle.alta_images.specs.Opened.{Opened, IsOpened}
 use Rattle.alta_images.specs.Ordered.{RowsRise}

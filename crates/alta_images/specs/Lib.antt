@@ -1,10 +1,15 @@
 pub mod Broken
-pub mod Calls
 pub mod Chain
+pub mod Entries
 pub mod Holding
+pub mod Joining
 pub mod Known
+pub mod Levels
 pub mod Opened
 pub mod Ordered
 pub mod Standing
+pub mod States
 pub mod Switching
+pub mod Views
+pub mod Work
 pub mod Working

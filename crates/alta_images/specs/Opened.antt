@@ -16,13 +16,12 @@ use Rattle.alta_root.specs.Slots.{Counts}
 use Rattle.alta_root.specs.declared.root.Root.{Root}
 use Rattle.alta_root.specs.declared.slot.Slot.{Slot}
 use Rattle.alta_root.specs.declared.slot.Slot.TheVariants as slots
-use Rattle.alta_store.specs.Levels.{live_rows}
-use Rattle.alta_store.specs.declared.lists.NameRow.{NameRow}
+use Rattle.alta_images.specs.Levels.{live_rows}
 use Rattle.alta_table.specs.Places.{name_place}
 use Rattle.alta_table.specs.Tables.{Tables, tables_of}
 use Rattle.alta_content.specs.declared.document.DocRow.{DocRow}
 use Rattle.alta_images.specs.Chain.{◌>>=◌}
-use Rattle.alta_images.specs.Known.{Known, named, is_taken, replayed}
+use Rattle.alta_images.specs.Known.{Named, Known, named, is_taken, replayed}
 
 -- What opening finds: the root that counts and its slot, the deleted ends, the tables of its levels, the oldest first, and
 -- the entries of its half of the journal, up to the first closed gate.
@@ -65,7 +64,7 @@ abbrev pub rows_in : List Tables → List DocRow
 rows_in levels = flat_map (λ (t : Tables). t.documents) levels
 
 -- the live documents of rows
-abbrev pub live_in : List ℕ → List DocRow → List NameRow
+abbrev pub live_in : List ℕ → List DocRow → List Named
 live_in deleted rows = map (λ (row : DocRow). named row.name row.number) (live_rows deleted rows)
 
 -- the head and the tables of a level
@@ -90,14 +89,14 @@ in_order root levels extent level = if are_in_order root levels level.documents 
 
 -- The names of the rows of a level from this one on, which is row i, behind live documents: the place of the first name of a
 -- live row that one of those before has, or else the live documents behind all rows.
-abbrev pub names_from : List ℕ → Tables → List NameRow → ℕ → List DocRow → Result (List NameRow) ℕ
+abbrev pub names_from : List ℕ → Tables → List Named → ℕ → List DocRow → Result (List Named) ℕ
 names_from deleted level live i [] = Ok live
 names_from deleted level live i (row ∷ rows) =
     if ends_among deleted row then names_from deleted level live (i + 1) rows
     else (if is_taken row.name live then Err (name_place level i) else names_from deleted level (live ++ named row.name row.number ∷ []) (i + 1) rows)
 
 -- the names of a level behind the levels before it
-abbrev pub names_in : List ℕ → List Tables → Tables → Result (List NameRow) ℕ
+abbrev pub names_in : List ℕ → List Tables → Tables → Result (List Named) ℕ
 names_in deleted levels level = names_from deleted level (live_in deleted (rows_in levels)) 0 level.documents
 
 -- one level more: its head and tables, its order, and its live names

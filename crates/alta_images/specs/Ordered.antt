@@ -2,23 +2,22 @@
 use Rattle.std.specs.Prelude.{◌≢◌, ◌≤◌, ◌<◌, List, [], ◌∷◌}
 use Rattle.std.specs.List.{All}
 use Rattle.alta_root.specs.declared.root.Root.{Root}
-use Rattle.alta_store.specs.declared.lists.NameRow.{NameRow}
 use Rattle.alta_content.specs.Rows.{end_of}
 use Rattle.alta_content.specs.declared.document.DocRow.{DocRow}
-use Rattle.alta_images.specs.Known.{Known}
+use Rattle.alta_images.specs.Known.{Named, Known}
 
 -- a lower number, and another name
-abbrev pub IsBefore : NameRow → NameRow → Type 0
+abbrev pub IsBefore : Named → Named → Type 0
 IsBefore row later = (row.number < later.number) × (row.name ≢ later.name)
 
-abbrev pub AreOrdered : List NameRow → Type 0
+abbrev pub AreOrdered : List Named → Type 0
 AreOrdered [] = Unit {0}
 AreOrdered (row ∷ more) = All (IsBefore row) more × AreOrdered more
 
 -- The numbers rise, from 1 to below the next, and the names differ.
 pub record IsOrdered (known : Known) : Type 0 where
   pub ordered : AreOrdered known.live
-  pub within : All (λ (row : NameRow). (1 ≤ row.number) × (row.number < known.next)) known.live
+  pub within : All (λ (row : Named). (1 ≤ row.number) × (row.number < known.next)) known.live
 
 -- ---- rows
 

@@ -4,8 +4,8 @@ use Rattle.std.specs.List.{All}
 use Rattle.alta_level.specs.Segments.{IsSegment, rows_of}
 use Rattle.alta_meta.specs.declared.document.State.{State}
 use Rattle.alta_root.specs.Slots.{Counts}
-use Rattle.alta_store.specs.Levels.{Level}
-use Rattle.alta_store.specs.Meaning.{View, state_of}
+use Rattle.alta_images.specs.Levels.{Level}
+use Rattle.alta_images.specs.Views.{View, state_of}
 use Rattle.alta_table.specs.Tables.{Tables}
 use Rattle.alta_images.specs.Opened.{Opened, IsNamed, bytes_at}
 

@@ -18,8 +18,8 @@ use Rattle.alta_root.specs.declared.places.TheConstants.{HEAD_BYTES, SLOTS_BYTES
 use Rattle.alta_root.specs.declared.root.Root.{Root}
 use Rattle.alta_root.specs.declared.slot.Slot.{Slot}
 use Rattle.alta_root.specs.declared.slot.Slot.TheVariants.{A, B}
-use Rattle.alta_store.specs.Levels.{Level}
-use Rattle.alta_store.specs.Meaning.{View}
+use Rattle.alta_images.specs.Levels.{Level}
+use Rattle.alta_images.specs.Views.{View}
 use Rattle.alta_table.specs.Tables.{Tables}
 use Rattle.alta_images.specs.Known.{Known, admits}
 use Rattle.alta_images.specs.Opened.{Opened, IsNamed, bytes_at, have_ends, journal_of, rows_in}

@@ -13,7 +13,6 @@ ghost use Rattle.alta_level.specs.Segments.{IsSegment};
 ghost use Rattle.alta_content.specs.declared.content.Content.{Content};
 ghost use Rattle.alta_memlevel.specs.Added.{IsSpace};
 ghost use Rattle.alta_images.specs.Broken.{IsBrokenAt};
-ghost use Rattle.alta_store.specs.Brokenness.{HasBadJournal, HasNoIndex};
 ghost use Rattle.alta_root.specs.Gaps.{first_gap, greatest_gap};
 ghost use Rattle.alta_images.specs.Holding.{Holding, IsHeld, IsSpaced, IsWell, taken_by as taken_by_held};
 ghost use Rattle.alta_images.specs.Known.{Known, admits, known_behind, known_of, replayed};
@@ -33,11 +32,11 @@ ghost use Rattle.alta_root.specs.Switches.{Switched, Switches, slot_range};
 ghost use Rattle.alta_root.specs.declared.root.Root.{Root};
 ghost use Rattle.alta_root.specs.declared.slot.Slot.{Slot};
 ghost use Rattle.alta_root.specs.declared.slot.Slot.TheVariants.{A};
-ghost use Rattle.alta_store.specs.Entries.{Allows, AllowsAll, after_entries, after_entry};
-ghost use Rattle.alta_store.specs.Levels.{Level};
-ghost use Rattle.alta_store.specs.Meaning.{IsView, StandsFor as StandsAlone, View, state_of};
-ghost use Rattle.alta_store.specs.States.{empty, with_deleted};
-ghost use Rattle.alta_store.specs.Work.{Coming, Job, Task, coming, extents_in, newest, newest_content, stays, steps};
+ghost use Rattle.alta_images.specs.Entries.{Allows, AllowsAll, after_entries, after_entry};
+ghost use Rattle.alta_images.specs.Levels.{Level};
+ghost use Rattle.alta_images.specs.Views.{View, state_of};
+ghost use Rattle.alta_images.specs.States.{empty, with_deleted};
+ghost use Rattle.alta_images.specs.Work.{Coming, Job, Task, coming, extents_in, newest, newest_content, stays, steps};
 
 /// An image is read in one way: it is opened as one thing, or breaks a rule first at one place, or has no root, and no two of
 /// the three hold at once.
@@ -255,17 +254,4 @@ pub fn levels_are_placed_apart()
         → AllApart there → AllApart (extents_in now.levels) }
     ensures within { (limit k : ℕ) → (list : Extent) → (there : List Extent) → (levels : List Coming) → (now : Placed) → placed_levels limit (list ∷ there) levels ≡ Ok now → staying levels ≡ drop k there
         → All (LiesWithin limit) there → All (LiesWithin limit) (extents_in now.levels) }
-{}
-
-/// A root without levels in the first slot, in force alone, is read alike by the words of one slot and by those of all roots: a
-/// view of one slot is what is opened, and its state is the one that the image stands for; no index is no root; and what is damaged
-/// in the journal, or too short, is so first.
-pub fn a_root_without_levels_is_read_alike()
-    ensures opened { (place : ℕ) → (view : View) → (image : List ℕ) → IsView place view image → (o : Opened) × IsOpened o image × (o.slot ≡ A) × (o.tail ≡ place) × (view_of o [] ≡ view) }
-    ensures stands { (s : State) → (image : List ℕ) → StandsAlone s image → StandsFor s image }
-    ensures ordered { (s : State) → (image : List ℕ) → StandsAlone s image → IsOrdered (known_of s) }
-    ensures none { (image : List ℕ) → HasNoIndex image → HasNoRoot image }
-    ensures indexed { (image : List ℕ) → HasNoRoot image → HasNoIndex image }
-    ensures broken { (image : List ℕ) → (place : ℕ) → HasBadJournal image place → IsBrokenAt image place }
-    ensures short { (image : List ℕ) → (HasNoIndex image → ⊥) → length image < HEAD_BYTES → IsBrokenAt image (length image) }
 {}

@@ -7,8 +7,7 @@ mod laws;
 
 pub use laws::{
     a_flush_is_in_place, a_flush_keeps_the_state, a_flush_may_stand, a_formatted_disk_is_empty,
-    a_join_keeps_the_state, a_place_spares_a_root, a_root_without_levels_is_read_alike,
-    a_state_is_ordered, a_switch_keeps_or_changes, a_switch_keeps_the_state,
+    a_join_keeps_the_state, a_place_spares_a_root, a_state_is_ordered, a_switch_keeps_or_changes, a_switch_keeps_the_state,
     a_written_root_may_stand, an_append_keeps_or_adds, an_image_is_opened_or_broken,
     an_image_is_read_one_way, an_image_stands_for_one_state, an_image_stays,
     commands_keep_the_order, entries_are_admitted_as_allowed, gaps_are_computed, joins_are_joins,

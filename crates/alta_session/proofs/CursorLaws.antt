@@ -23,7 +23,7 @@ use Rattle.alta_session.specs.Machine.{IsRefusal}
 use Rattle.alta_session.specs.Searching.{answer_lines, row_lines, query_refusal}
 use Rattle.alta_session.proofs.SearchLaws.{refusal_some, some_behind}
 use Rattle.alta_store.specs.declared.fault.StoreFault.{StoreFault}
-use Rattle.alta_store.proofs.DocumentLaws.{apart_test}
+use Rattle.alta_images.proofs.Tests.{apart_test}
 
 -- ---- a reply has at least its newline
 either_some : (b : Bool) (xs ys : List ℕ) → 0 < length xs → 0 < length ys → 0 < length (cond b xs ys)

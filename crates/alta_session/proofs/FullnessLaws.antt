@@ -14,7 +14,7 @@ use Rattle.alta_session.specs.Status.{EndsLine}
 use Rattle.alta_session.specs.declared.status.Status.{Status}
 use Rattle.alta_session.specs.declared.status.Status.TheVariants.{Full}
 use Rattle.alta_session.proofs.MachineLaws.{replies_append, length_replies, step_clip, step_long, replies_same, length_same}
-use Rattle.alta_store.specs.States.{with_added, with_deleted}
+use Rattle.alta_images.specs.States.{with_added, with_deleted}
 
 -- nothing was added
 not_less : (n : ℕ) → nat_lt n n ≡ false

@@ -7,7 +7,7 @@ use Rattle.alta_model.specs.Lines.{Reading, asks, refuses, reading_of}
 use Rattle.alta_codec.specs.Name.{is_name}
 use Rattle.alta_store.proofs.StateLaws.{added_state, deleted_state}
 use Rattle.alta_session.specs.Machine.{Machine, adding, deleted_as, deleting, obeyed, answered, step}
-use Rattle.alta_store.specs.States.{has_name, number_of as number_named}
+use Rattle.alta_images.specs.States.{has_name, number_of as number_named}
 
 -- what a line makes of it
 if_state : (b : Bool) (x y : State × List ℕ) → (b ≡ true → IsState x.0) → (b ≡ false → IsState y.0) → IsState (if b then x else y).0

@@ -10,7 +10,7 @@ use Rattle.alta_session.specs.Cursors.{opening, fetching, closing}
 use Rattle.alta_session.specs.declared.session.Ask.{Ask}
 use Rattle.alta_session.specs.Searching.{searching, counting, explaining}
 use Rattle.alta_session.specs.declared.session.Ask.TheVariants.{Add, Delete, Search, Count, Explain, Open, Fetch, Close, Stats, Refused}
-use Rattle.alta_store.specs.States.{IsDocument}
+use Rattle.alta_images.specs.States.{IsDocument}
 
 -- the document that it adds or deletes, the query that it answers, the cursor that it opens, reads or closes, the counts, or the reply that
 -- refuses it

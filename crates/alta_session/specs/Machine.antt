@@ -10,7 +10,7 @@ use Rattle.alta_model.specs.declared.line.LineFault.TheVariants.{TooLong, NotUtf
 use Rattle.alta_search.specs.Open.{OpenAnswers}
 use Rattle.alta_session.specs.Cursors.{Turn, opening, fetching, closing}
 use Rattle.alta_session.specs.Searching.{searching, counting, explaining}
-use Rattle.alta_store.specs.States.{has_name, number_of, words_in, with_added, with_deleted}
+use Rattle.alta_images.specs.States.{has_name, number_of, words_in, with_added, with_deleted}
 
 -- The machine between two lines: a state, and the cursors that are open, each with the answers that are still to come.
 pub record Machine : Type 0 where

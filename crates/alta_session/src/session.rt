@@ -14,7 +14,7 @@ ghost use Rattle.alta_session.specs.Machine.{Machine, started_at, step, changed_
 ghost use Rattle.alta_store.specs.Answers.{IsOutside, AnswersFault};
 ghost use Rattle.alta_store.specs.Brokenness.{HasNoIndex, IsBrokenAt};
 ghost use Rattle.alta_store.specs.Meaning.{StandsFor};
-ghost use Rattle.alta_store.specs.States.{IsDocument};
+ghost use Rattle.alta_images.specs.States.{IsDocument};
 
 use crate::paging::{close, fetch, open};
 use crate::replying::text;

@@ -8,7 +8,7 @@ ghost use Rattle.alta_session.specs.Run.{KeepsDisk, Serves};
 ghost use Rattle.alta_session.specs.Status.{IsOpened, IsUnopened, IsUnmade, Completes, Yields, EndsInit};
 ghost use Rattle.alta_store.specs.Brokenness.{HasNoIndex, IsBrokenAt};
 ghost use Rattle.alta_store.specs.Meaning.{StandsFor};
-ghost use Rattle.alta_store.specs.States.{empty};
+ghost use Rattle.alta_images.specs.States.{empty};
 
 use crate::{Status, serve};
 use alta_codec::Text;

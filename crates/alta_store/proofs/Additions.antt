@@ -7,18 +7,12 @@ use Rattle.alta_journal.specs.Record.{record_of, body_of}
 use Rattle.alta_journal.specs.declared.entry.Entry.{Entry}
 use Rattle.alta_journal.specs.declared.places.TheConstants.{START_A}
 use Rattle.alta_meta.specs.declared.document.State.{State}
-use Rattle.alta_store.specs.Entries.{Allows, AllowsAll, after_entry, after_entries}
-use Rattle.alta_store.specs.Meaning.{View, IsView, StandsForEither, rooted, state_of, with_entry}
+use Rattle.alta_images.specs.Entries.{Allows, AllowsAll, after_entry, after_entries}
+use Rattle.alta_images.specs.Views.{View, rooted, state_of, with_entry}
+use Rattle.alta_store.specs.Meaning.{IsView, StandsForEither}
 use Rattle.alta_store.specs.Roots.{IsRoot, first_fields, byte_at}
 use Rattle.alta_store.proofs.Formatted.{byte_same}
-
-pub after_more : (s : State) (entries : List Entry) (entry : Entry) → after_entries s (entries ++ entry ∷ []) ≡ after_entry (after_entries s entries) entry
-after_more s [] entry = refl
-after_more s (first ∷ entries) entry = after_more (after_entry s first) entries entry
-
-pub allows_more : (s : State) (entries : List Entry) (entry : Entry) → AllowsAll s entries → Allows (after_entries s entries) entry → AllowsAll s (entries ++ entry ∷ [])
-allows_more s [] entry all more = (more, tt)
-allows_more s (first ∷ entries) entry all more = (all.0, allows_more (after_entry s first) entries entry all.1 more)
+use Rattle.alta_images.proofs.Entering.{after_more, allows_more}
 
 module _ (place : ℕ) (view : View) (old new : List ℕ) (is : IsView place view old) (n : ℕ) (torn : Torn place n old new) where
   -- the slots stand before the journal, and are as they were

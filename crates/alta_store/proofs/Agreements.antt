@@ -4,7 +4,8 @@ use Rattle.alta_disk.specs.Disk.{DiskState, IsLawful, Each, Only, Stands}
 use Rattle.alta_disk.proofs.Moments.{stands_only}
 use Rattle.alta_meta.specs.declared.document.State.{State}
 use Rattle.alta_store.specs.Agreement.{Agrees, HasView, Holds}
-use Rattle.alta_store.specs.Meaning.{View, IsView, StandsFor}
+use Rattle.alta_images.specs.Views.{View}
+use Rattle.alta_store.specs.Meaning.{IsView, StandsFor}
 use Rattle.alta_store.specs.declared.store.Store.{Store}
 use Rattle.alta_store.proofs.OneWay.{one_view}
 

@@ -16,16 +16,18 @@ use Rattle.alta_journal.proofs.Frames.{ends_closed}
 use Rattle.alta_journal.proofs.Spelling.{add_long, body_long, delete_long}
 use Rattle.alta_meta.specs.declared.document.State.{State}
 use Rattle.alta_store.specs.Agreement.{Agrees, Holds, IsIntact, Knows}
-use Rattle.alta_store.specs.Entries.{Allows, after_entry}
+use Rattle.alta_images.specs.Entries.{Allows, after_entry}
 use Rattle.alta_store.specs.Following.{Follows}
-use Rattle.alta_store.specs.Meaning.{View, IsView, StandsForEither, rooted, with_entry}
-use Rattle.alta_store.specs.States.{IsDocument, with_added, with_deleted, without}
+use Rattle.alta_images.specs.Views.{View, rooted, with_entry}
+use Rattle.alta_store.specs.Meaning.{IsView, StandsForEither}
+use Rattle.alta_images.specs.States.{IsDocument, with_added, with_deleted, without}
 use Rattle.alta_store.specs.declared.catalog.Catalog.{Catalog}
 use Rattle.alta_store.specs.declared.store.Store.{Store}
-use Rattle.alta_store.proofs.Additions.{either_stands, view_with, after_more}
+use Rattle.alta_images.proofs.Entering.{after_more}
+use Rattle.alta_store.proofs.Additions.{either_stands, view_with}
 use Rattle.alta_store.proofs.Agreements.{stands_of}
 use Rattle.alta_store.proofs.FollowingLaws.{free_name, live_number, same_deleted}
-use Rattle.alta_store.proofs.NameLaws.{All-has_byte}
+use Rattle.alta_images.proofs.NameLaws.{All-has_byte}
 use Rattle.alta_store.proofs.OneWay.{one_view}
 
 -- what the journal asks of a document

@@ -15,49 +15,8 @@ use Rattle.std.proofs.lemmas.List.Folds.{list_any_none}
 use Rattle.std.proofs.lemmas.Slice.Eq.{bytes_eq-Decides}
 use Rattle.alta_meta.specs.declared.document.Document.{Document}
 use Rattle.alta_store.specs.Following.{AreFound, RiseWithin}
-use Rattle.alta_store.specs.States.{has_number_in}
-
--- one case for each answer of a test
-pub by_test : {P : Type 0} (b : Bool) → (b ≡ true → P) → (b ≡ false → P) → P
-by_test true if_true if_false = if_true refl
-by_test false if_true if_false = if_false refl
-
-pub equal_test : (a b : ℕ) → a ≡ b → (a == b) ≡ true
-equal_test a b e = grind (arith, nat_tests)
-
-pub equal_from : (a b : ℕ) → (a == b) ≡ true → a ≡ b
-equal_from a b e = grind (arith, nat_tests)
-
-pub apart_test : (a b : ℕ) → a ≢ b → (a == b) ≡ false
-apart_test a b e = by_test (a == b) (λ holds. absurd (e (equal_from a b holds))) (λ fails. fails)
-
-pub bytes_from : (xs ys : List ℕ) → bytes_eq xs ys ≡ true → xs ≡ ys
-bytes_from xs ys e = search (rules, bytes_eq-Decides xs ys)
-
-pub bytes_same : (xs : List ℕ) → bytes_eq xs xs ≡ true
-bytes_same xs = search (rules, bytes_eq-Decides xs xs)
-
-or_right : (a b : Bool) → b ≡ true → (a || b) ≡ true
-or_right true b e = refl
-or_right false b e = e
-
-or_left : (a b : Bool) → (a || b) ≡ true → b ≡ false → a ≡ true
-or_left true b e fails = refl
-or_left false b e fails = absurd (false≢true (sym fails ∙ e))
-
--- an element that passes is kept, and another is dropped
-pub filter_keep : {X : Type 0} (p : X → Bool) (x : X) (xs : List X) → p x ≡ true → filter p (x ∷ xs) ≡ x ∷ filter p xs
-filter_keep p x xs e = ap (λ (b : Bool). cond b (x ∷ filter p xs) (filter p xs)) e
-
-pub filter_drop : {X : Type 0} (p : X → Bool) (x : X) (xs : List X) → p x ≡ false → filter p (x ∷ xs) ≡ filter p xs
-filter_drop p x xs e = ap (λ (b : Bool). cond b (x ∷ filter p xs) (filter p xs)) e
-
--- where none passes all others are kept
-pub none_left : {X : Type 0} (p : X → Bool) (xs : List X) → list_any p xs ≡ false → filter (λ x. not (p x)) xs ≡ xs
-none_left p [] e = refl
-none_left {X} p (x ∷ xs) e =
-    by_test (p x) (λ holds. absurd (false≢true (sym e ∙ ap (λ (b : Bool). b || list_any p xs) holds)))
-    (λ fails. filter_keep (λ y. not (p y)) x xs (ap not fails) ∙ ap (λ (ys : List X). x ∷ ys) (none_left p xs (sym (ap (λ (b : Bool). b || list_any p xs) fails) ∙ e)))
+use Rattle.alta_images.specs.States.{has_number_in}
+use Rattle.alta_images.proofs.Tests.{by_test, filter_keep, filter_drop, equal_test, equal_from, apart_test, bytes_from, bytes_same, none_left, or_right, or_left}
 
 -- one of these documents has this name
 abbrev pub has_name_in : List ℕ → List Document → Bool

@@ -12,8 +12,9 @@ use Rattle.alta_memlevel.specs.Added.{Added, IsDocument, IsSpace, live_of}
 use Rattle.alta_memlevel.specs.Documents.{document_in}
 use Rattle.alta_meta.specs.declared.document.Document.{Document}
 use Rattle.alta_store.specs.Following.{AreNumbered, RiseWithin, documents_left}
-use Rattle.alta_store.specs.States.{has_number_in}
-use Rattle.alta_store.proofs.DocumentLaws.{apart_test, by_test, equal_from, equal_test, filter_drop, filter_keep, none_below, none_left}
+use Rattle.alta_images.specs.States.{has_number_in}
+use Rattle.alta_images.proofs.Tests.{apart_test, by_test, equal_from, equal_test, filter_drop, filter_keep, none_left}
+use Rattle.alta_store.proofs.DocumentLaws.{none_below}
 
 -- ---- members of lists
 pub here_or_there : {X : Type 0} (x : X) (xs : List X) (y : X) → Contains (x ∷ xs) y → (x ≡ y) ⊎ Contains xs y

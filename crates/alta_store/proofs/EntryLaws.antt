@@ -7,10 +7,10 @@ use Rattle.alta_journal.specs.declared.placed.Placed.{Placed}
 use Rattle.alta_meta.specs.declared.document.State.{State}
 use Rattle.alta_store.specs.Following.{Follows}
 use Rattle.alta_store.specs.declared.catalog.Catalog.{Catalog}
-use Rattle.alta_store.specs.Entries.{Allows, AllowsAll, after_entry, after_entries, entries_in, IsRefusedAt}
+use Rattle.alta_images.specs.Entries.{Allows, AllowsAll, after_entry, after_entries, entries_in, IsRefusedAt}
 use Rattle.alta_store.specs.declared.fault.StoreFault.{StoreFault}
 use Rattle.alta_store.specs.declared.fault.StoreFault.TheVariants.{Damaged}
-use Rattle.alta_store.proofs.Additions.{after_more, allows_more}
+use Rattle.alta_images.proofs.Entering.{after_more, allows_more}
 
 module _ (s : State) (found : List Placed) (i : ℕ) (p : Placed) (inside : i < length found) (is : p ≡ get_or found i p) where
   entries_more : entries_in (take (i + 1) found) ≡ entries_in (take i found) ++ p.entry ∷ []

@@ -23,10 +23,10 @@ use Rattle.alta_meta.specs.Cells.{cells_of}
 use Rattle.alta_meta.specs.declared.document.Document.{Document}
 use Rattle.alta_meta.specs.declared.document.State.{State}
 use Rattle.alta_store.specs.Following.{AreFound, AreNumbered, Follows, Knows, documents_left}
-use Rattle.alta_store.specs.Meaning.{start_at}
-use Rattle.alta_store.specs.States.{has_name, has_number, has_number_in, number_of, with_added, with_deleted, without, word_count, words_in}
+use Rattle.alta_images.specs.Views.{start_at}
+use Rattle.alta_images.specs.States.{has_name, has_number, has_number_in, number_of, with_added, with_deleted, without, word_count, words_in}
 use Rattle.alta_store.specs.declared.catalog.Catalog.{Catalog}
-use Rattle.alta_store.proofs.DocumentLaws.{by_test, equal_from}
+use Rattle.alta_images.proofs.Tests.{by_test, equal_from}
 use Rattle.alta_store.proofs.EndLaws.{IsSame, all_same, among, among_more, at_index, has_number_of, here_or_there, is_among, is_left, left_more, left_out, no_member, none_with, not_among, numbered_more, numbers_within, one_fewer, one_less, space_all}
 use Rattle.alta_store.proofs.KnowledgeLaws.{deleted_is, is_numbered, knows_deleted, knows_more, number_is}
 use Rattle.alta_store.proofs.WordCounts.{few_words, words_long}

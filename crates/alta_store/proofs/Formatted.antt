@@ -13,7 +13,7 @@ use Rattle.alta_journal.specs.declared.places.TheConstants.{START_A, HALF_BYTES,
 use Rattle.alta_journal.proofs.HalfLaws.{half_long, half_byte}
 use Rattle.alta_store.specs.Meaning.{StandsFor}
 use Rattle.alta_store.specs.Roots.{byte_at, first_fields, number_at, IsRoot, IsClear, empty_fields}
-use Rattle.alta_store.specs.States.{empty}
+use Rattle.alta_images.specs.States.{empty}
 
 empty_root : IsRoot 1 1 (165 ∷ empty_fields)
 unfolding number_at

@@ -10,9 +10,10 @@ use Rattle.alta_meta.specs.Cells.{cells_of}
 use Rattle.alta_meta.specs.declared.document.Document.{Document}
 use Rattle.alta_meta.specs.declared.document.State.{State}
 use Rattle.alta_store.specs.Following.{AreFound, Knows, RiseWithin}
-use Rattle.alta_store.specs.States.{has_name, has_number, has_number_in, number_of, with_added, with_deleted, without}
-use Rattle.alta_store.proofs.DocumentLaws.{by_test, bytes_from, found_left, found_more, left_at, name_gone, name_stays, number_found, numbered_as, rise_left, rise_more, same_left}
-use Rattle.alta_store.proofs.NameLaws.{has_name-with_added, is_some-noted}
+use Rattle.alta_images.specs.States.{has_name, has_number, has_number_in, number_of, with_added, with_deleted, without}
+use Rattle.alta_images.proofs.Tests.{by_test, bytes_from}
+use Rattle.alta_store.proofs.DocumentLaws.{found_left, found_more, left_at, name_gone, name_stays, number_found, numbered_as, rise_left, rise_more, same_left}
+use Rattle.alta_images.proofs.NameLaws.{has_name-with_added, is_some-noted}
 
 module _ (number : ℕ) (old : BTreeMap (String Global) ℕ) (kept : List Document) (s : State) (knows : Knows number old kept s) where
   -- a document more

@@ -22,8 +22,9 @@ use Rattle.alta_journal.specs.declared.replaying.OpenFault.{OpenFault}
 use Rattle.alta_journal.specs.declared.replaying.OpenFault.TheVariants.{Disk as JournalDisk, Memory as JournalMemory, Damaged as JournalDamaged}
 use Rattle.alta_store.specs.Answers.{IsOutside, AnswersFault, of_opening}
 use Rattle.alta_store.specs.Brokenness.{HasNoIndex, HasRoot, IsBrokenAt}
-use Rattle.alta_store.specs.Entries.{AllowsAll, after_entries, entries_in, IsRefusedAt}
-use Rattle.alta_store.specs.Meaning.{StandsFor, start_at}
+use Rattle.alta_images.specs.Entries.{AllowsAll, after_entries, entries_in, IsRefusedAt}
+use Rattle.alta_images.specs.Views.{start_at}
+use Rattle.alta_store.specs.Meaning.{StandsFor}
 use Rattle.alta_store.specs.declared.fault.StoreFault.{StoreFault}
 use Rattle.alta_store.specs.declared.fault.StoreFault.TheVariants.{NoRoot, Damaged}
 use Rattle.alta_store.specs.declared.store.Store.{Store}

@@ -19,9 +19,10 @@ use Rattle.alta_meta.specs.declared.document.Document.{Document}
 use Rattle.alta_meta.specs.declared.document.State.{State}
 use Rattle.alta_store.specs.Following.{Knows}
 use Rattle.alta_store.specs.Naming.{Ascend, AreNames, row_of}
-use Rattle.alta_store.specs.States.{has_name, number_of}
+use Rattle.alta_images.specs.States.{has_name, number_of}
 use Rattle.alta_store.specs.declared.lists.NameRow.{NameRow}
-use Rattle.alta_store.proofs.DocumentLaws.{by_test, no_number_of, number_found}
+use Rattle.alta_images.proofs.Tests.{by_test}
+use Rattle.alta_store.proofs.DocumentLaws.{no_number_of, number_found}
 
 -- a name and its number, as they are kept
 abbrev Kept : Type 0

@@ -9,9 +9,10 @@ use Rattle.alta_journal.specs.declared.places.TheConstants.{START_A}
 use Rattle.alta_journal.proofs.Unique.{one_reading, one_fault, not_both}
 use Rattle.alta_meta.specs.declared.document.State.{State}
 use Rattle.alta_store.specs.Brokenness.{HasNoIndex, HasRoot, HasBadRoot, HasBadEntry, HasBadJournal, IsBrokenAt}
-use Rattle.alta_store.specs.Entries.{Allows, AllowsAll, after_entry, after_entries, entries_in, IsRefusedAt}
-use Rattle.alta_store.specs.Levels.{Level}
-use Rattle.alta_store.specs.Meaning.{View, AreNamed, IsView, StandsFor, rooted, start_at, state_of}
+use Rattle.alta_images.specs.Entries.{Allows, AllowsAll, after_entry, after_entries, entries_in, IsRefusedAt}
+use Rattle.alta_images.specs.Levels.{Level}
+use Rattle.alta_images.specs.Views.{View, rooted, start_at, state_of}
+use Rattle.alta_store.specs.Meaning.{AreNamed, IsView, StandsFor}
 use Rattle.alta_store.specs.Roots.{first_fields, IsRoot}
 
 one_root : (n m l k : ℕ) (fields : List ℕ) → IsRoot n l fields → IsRoot m k fields → n ≡ m

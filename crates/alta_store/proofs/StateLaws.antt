@@ -13,10 +13,11 @@ use Rattle.alta_meta.specs.Cells.{cells_of}
 use Rattle.alta_meta.specs.States.{number_of, name_of, Rise, AllDiffer, IsState}
 use Rattle.alta_meta.specs.declared.document.Document.{Document}
 use Rattle.alta_meta.specs.declared.document.State.{State}
-use Rattle.alta_store.specs.Entries.{Allows, AllowsAll, after_entry, after_entries}
-use Rattle.alta_store.specs.Levels.{Level, documents_of}
-use Rattle.alta_store.specs.Meaning.{View, StandsFor, rooted, start_at}
-use Rattle.alta_store.specs.States.{has_name, with_added, with_deleted}
+use Rattle.alta_images.specs.Entries.{Allows, AllowsAll, after_entry, after_entries}
+use Rattle.alta_images.specs.Levels.{Level, documents_of}
+use Rattle.alta_images.specs.Views.{View, rooted, start_at}
+use Rattle.alta_store.specs.Meaning.{StandsFor}
+use Rattle.alta_images.specs.States.{has_name, with_added, with_deleted}
 
 -- a document behind those of smaller numbers and other names
 rise_more : (ds : List Document) (d : Document) → Rise (map number_of ds) → All (λ (e : Document). e.number < d.number) ds → Rise (map number_of (ds ++ d ∷ []))

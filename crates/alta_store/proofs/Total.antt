@@ -13,10 +13,11 @@ use Rattle.alta_journal.specs.declared.places.TheConstants.{START_A, HEAD_BYTES}
 use Rattle.alta_journal.proofs.Total.{read_or_broken}
 use Rattle.alta_meta.specs.declared.document.State.{State}
 use Rattle.alta_store.specs.Brokenness.{HasNoIndex, HasRoot, HasBadRoot, HasBadJournal, IsBrokenAt}
-use Rattle.alta_store.specs.Entries.{Allows, AllowsAll, after_entry, entries_in, IsRefusedAt}
-use Rattle.alta_store.specs.Meaning.{View, StandsFor, start_at, state_of}
+use Rattle.alta_images.specs.Entries.{Allows, AllowsAll, after_entry, entries_in, IsRefusedAt}
+use Rattle.alta_images.specs.Views.{View, start_at, state_of}
+use Rattle.alta_store.specs.Meaning.{StandsFor}
 use Rattle.alta_store.specs.Roots.{byte_at, first_fields, number_at, AreZero, IsRoot}
-use Rattle.alta_store.specs.States.{has_name, has_number}
+use Rattle.alta_images.specs.States.{has_name, has_number}
 use Rattle.alta_store.proofs.OneWay.{entries_in-placed}
 
 -- ---- each rule holds or does not

@@ -8,7 +8,8 @@ use Rattle.alta_journal.specs.declared.half.Half.TheVariants.{A}
 use Rattle.alta_journal.specs.declared.places.TheConstants.{START_A, HALF_BYTES, HEAD_BYTES}
 use Rattle.alta_meta.specs.declared.document.State.{State}
 use Rattle.alta_store.specs.Following.{Follows}
-use Rattle.alta_store.specs.Meaning.{View, IsView, state_of}
+use Rattle.alta_images.specs.Views.{View, state_of}
+use Rattle.alta_store.specs.Meaning.{IsView}
 use Rattle.alta_store.specs.declared.store.Store.{Store}
 
 -- the store's catalog stands at this state

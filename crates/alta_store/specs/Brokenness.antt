@@ -4,8 +4,8 @@ use Rattle.alta_journal.specs.Journal.{EndsAt, IsBroken}
 use Rattle.alta_journal.specs.Placed.{placed}
 use Rattle.alta_journal.specs.declared.entry.Entry.{Entry}
 use Rattle.alta_journal.specs.declared.places.TheConstants.{START_A, HEAD_BYTES}
-use Rattle.alta_store.specs.Entries.{IsRefusedAt}
-use Rattle.alta_store.specs.Meaning.{start_at}
+use Rattle.alta_images.specs.Entries.{IsRefusedAt}
+use Rattle.alta_images.specs.Views.{start_at}
 use Rattle.alta_store.specs.Roots.{byte_at, first_fields, IsRoot}
 
 -- The content has no index: it is shorter than the two slots, or neither gate is open.

@@ -9,7 +9,7 @@ use Rattle.alta_memlevel.specs.Added.{Added, HasContent, live_of}
 use Rattle.alta_memlevel.specs.Documents.{AreMade, document_in}
 use Rattle.alta_meta.specs.declared.document.Document.{Document}
 use Rattle.alta_meta.specs.declared.document.State.{State}
-use Rattle.alta_store.specs.States.{has_name, words_in}
+use Rattle.alta_images.specs.States.{has_name, words_in}
 use Rattle.alta_store.specs.declared.catalog.Catalog.{Catalog}
 
 -- each document's number is found by its name

@@ -1,12 +1,8 @@
 pub mod Agreement
 pub mod Answers
 pub mod Brokenness
-pub mod Entries
+pub mod Calls
 pub mod Following
-pub mod Joining
-pub mod Levels
 pub mod Meaning
 pub mod Naming
 pub mod Roots
-pub mod States
-pub mod Work

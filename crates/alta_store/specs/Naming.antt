@@ -4,7 +4,7 @@ use Rattle.std.specs.Prelude.{◌≡◌, ◌↔◌, ℕ, List, [], ◌∷◌, ma
 use Rattle.std.specs.List.{All}
 use Rattle.alta_codec.specs.Order.{Precedes}
 use Rattle.alta_meta.specs.declared.document.State.{State}
-use Rattle.alta_store.specs.States.{number_of}
+use Rattle.alta_images.specs.States.{number_of}
 use Rattle.alta_store.specs.declared.lists.NameRow.{NameRow}
 
 -- each name comes before all those behind it, in the order of bytes

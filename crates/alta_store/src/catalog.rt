@@ -5,8 +5,8 @@ ghost use Rattle.alta_codec.specs.Name.{IsName};
 ghost use Rattle.alta_memlevel.specs.Documents.{HasDocuments};
 ghost use Rattle.alta_meta.specs.declared.document.State.{State};
 ghost use Rattle.alta_store.specs.Following.{Follows};
-ghost use Rattle.alta_store.specs.Meaning.{start_at};
-ghost use Rattle.alta_store.specs.States.{has_number, with_added, without};
+ghost use Rattle.alta_images.specs.Views.{start_at};
+ghost use Rattle.alta_images.specs.States.{has_number, with_added, without};
 
 use crate::names::{forget, note};
 use crate::root::Root;

@@ -6,7 +6,7 @@ ghost use Rattle.alta_journal.specs.declared.places.TheConstants.{HEAD_BYTES};
 ghost use Rattle.alta_store.specs.Brokenness.{HasNoIndex};
 ghost use Rattle.alta_store.specs.Meaning.{StandsFor};
 ghost use Rattle.alta_store.specs.Roots.{AreZero, IsClear};
-ghost use Rattle.alta_store.specs.States.{empty};
+ghost use Rattle.alta_images.specs.States.{empty};
 
 use alta_codec::Failed;
 use alta_disk::{Disk, write_synced};

@@ -1,9 +1,18 @@
 // What follows from the definitions alone. The functions are empty: their contracts are the laws.
-ghost use Rattle.std.specs.Prelude.{◌≡◌, ◌⊎◌, ℕ, List};
+ghost use Rattle.std.specs.Prelude.{◌≡◌, ◌⊎◌, ◌<◌, ℕ, List, [], length};
+ghost use Rattle.alta_images.specs.Broken.{IsBrokenAt as IsFirstBroken};
+ghost use Rattle.alta_images.specs.Known.{known_of};
+ghost use Rattle.alta_images.specs.Opened.{Opened, IsOpened};
+ghost use Rattle.alta_images.specs.Ordered.{IsOrdered};
+ghost use Rattle.alta_images.specs.Standing.{StandsFor as StandsOf, view_of};
+ghost use Rattle.alta_images.specs.Views.{View};
+ghost use Rattle.alta_journal.specs.declared.places.TheConstants.{HEAD_BYTES};
 ghost use Rattle.alta_meta.specs.States.{IsState};
 ghost use Rattle.alta_meta.specs.declared.document.State.{State};
-ghost use Rattle.alta_store.specs.Brokenness.{HasNoIndex, IsBrokenAt};
-ghost use Rattle.alta_store.specs.Meaning.{View, IsView, StandsFor};
+ghost use Rattle.alta_root.specs.Slots.{HasNoRoot};
+ghost use Rattle.alta_root.specs.declared.slot.Slot.TheVariants.{A};
+ghost use Rattle.alta_store.specs.Brokenness.{HasBadJournal, HasNoIndex, IsBrokenAt};
+ghost use Rattle.alta_store.specs.Meaning.{IsView, StandsFor};
 
 /// A disk is read in one way: its bytes have at most one view, and stand for at most one state, and where they do they have an
 /// index that breaks no rule; an index that breaks a rule does so first at one place.
@@ -26,4 +35,17 @@ pub fn a_disk_is_read_or_damaged()
 /// same name.
 pub fn a_state_is_well_formed()
     ensures { (s : State) → (image : List ℕ) → StandsFor s image → IsState s }
+{}
+
+/// A root without levels in the first slot, in force alone, is read alike by the words of one slot and by those of all roots: a
+/// view of one slot is what is opened, and its state is the one that the image stands for; no index is no root; and what is damaged
+/// in the journal, or too short, is so first.
+pub fn a_root_without_levels_is_read_alike()
+    ensures opened { (place : ℕ) → (view : View) → (image : List ℕ) → IsView place view image → (o : Opened) × IsOpened o image × (o.slot ≡ A) × (o.tail ≡ place) × (view_of o [] ≡ view) }
+    ensures stands { (s : State) → (image : List ℕ) → StandsFor s image → StandsOf s image }
+    ensures ordered { (s : State) → (image : List ℕ) → StandsFor s image → IsOrdered (known_of s) }
+    ensures none { (image : List ℕ) → HasNoIndex image → HasNoRoot image }
+    ensures indexed { (image : List ℕ) → HasNoRoot image → HasNoIndex image }
+    ensures broken { (image : List ℕ) → (place : ℕ) → HasBadJournal image place → IsFirstBroken image place }
+    ensures short { (image : List ℕ) → (HasNoIndex image → ⊥) → length image < HEAD_BYTES → IsFirstBroken image (length image) }
 {}

@@ -3,9 +3,9 @@ ghost use Rattle.std.specs.Prelude.{◌≡◌, ◌⊎◌, ◌+◌, ◌<◌, ℕ,
 ghost use Rattle.alta_journal.specs.Entry.{IsSound};
 ghost use Rattle.alta_journal.specs.declared.entry.Entry.TheVariants.{Add};
 ghost use Rattle.alta_meta.specs.declared.document.State.{State};
-ghost use Rattle.alta_store.specs.Entries.{Allows, AllowsAll, after_entry, after_entries, entries_in, IsRefusedAt};
+ghost use Rattle.alta_images.specs.Entries.{Allows, AllowsAll, after_entry, after_entries, entries_in, IsRefusedAt};
 ghost use Rattle.alta_store.specs.Following.{Follows};
-ghost use Rattle.alta_store.specs.States.{with_added};
+ghost use Rattle.alta_images.specs.States.{with_added};
 ghost use Rattle.alta_store.specs.declared.fault.StoreFault.TheVariants.{Memory, Damaged};
 
 use crate::StoreFault;

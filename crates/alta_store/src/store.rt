@@ -13,9 +13,10 @@ ghost use Rattle.alta_memlevel.specs.Documents.{HasDocuments};
 ghost use Rattle.alta_store.specs.Agreement.{Agrees, HasView, Holds, IsIntact, Knows, HasRoom, is_sound, room_of};
 ghost use Rattle.alta_store.specs.Answers.{IsOutside, AnswersFault};
 ghost use Rattle.alta_store.specs.Brokenness.{HasNoIndex, IsBrokenAt};
-ghost use Rattle.alta_store.specs.Meaning.{View, IsView, StandsFor, StandsForEither, with_entry};
+ghost use Rattle.alta_images.specs.Views.{View, with_entry};
+ghost use Rattle.alta_store.specs.Meaning.{IsView, StandsFor, StandsForEither};
 ghost use Rattle.alta_store.specs.Naming.{AreNames};
-ghost use Rattle.alta_store.specs.States.{has_name, number_of, words_in, with_added, with_deleted, without, IsDocument};
+ghost use Rattle.alta_images.specs.States.{has_name, number_of, words_in, with_added, with_deleted, without, IsDocument};
 ghost use Rattle.alta_store.specs.declared.fault.StoreFault.TheVariants.{Disk as DiskFault, Memory, NoRoot, Damaged, Taken, Missing, Numbers, Full};
 
 use crate::StoreFault;

@@ -1,6 +1,6 @@
 use Rattle.std.proofs.Common.{take}
 use Rattle.alta_meta.specs.declared.document.State.{State}
-use Rattle.alta_store.specs.Entries.{AllowsAll, after_entries, entries_in}
+use Rattle.alta_images.specs.Entries.{AllowsAll, after_entries, entries_in}
 use Rattle.alta_store.specs.Following.{Follows}
 use Rattle.alta_store.proofs.replaying.apply_entries.Given as goal
 

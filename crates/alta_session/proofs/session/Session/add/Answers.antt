@@ -7,7 +7,7 @@ use Rattle.alta_session.specs.Fullness.{bytes_of_change}
 use Rattle.alta_session.specs.Machine.{started_at, adding}
 use Rattle.alta_store.specs.Agreement.{Agrees}
 use Rattle.alta_store.specs.Meaning.{StandsForEither}
-use Rattle.alta_store.specs.States.{with_added, has_name}
+use Rattle.alta_images.specs.States.{with_added, has_name}
 use Rattle.alta_store.specs.declared.fault.StoreFault.TheVariants.{Disk, Taken, Numbers, Full}
 use Rattle.alta_session.proofs.AddingLaws.{adding_bad, adding_taken, adding_full, adding_added, added_is_none, added_where, leaves_adding, refused_for}
 use Rattle.alta_session.proofs.AgreementLaws.{agrees_with}

@@ -9,7 +9,7 @@ use Rattle.alta_session.specs.Fullness.{bytes_of_change}
 use Rattle.alta_session.specs.Machine.{started_at, deleting}
 use Rattle.alta_store.specs.Agreement.{Agrees}
 use Rattle.alta_store.specs.Meaning.{StandsForEither}
-use Rattle.alta_store.specs.States.{with_deleted, number_of}
+use Rattle.alta_images.specs.States.{with_deleted, number_of}
 use Rattle.alta_store.specs.declared.fault.StoreFault.TheVariants.{Disk, Missing, Full}
 use Rattle.alta_session.proofs.AgreementLaws.{agrees_with}
 use Rattle.alta_session.proofs.AnsweringLaws.{same_fault, same_store, looked, answers_same, changed, changed_rests}

@@ -4,7 +4,7 @@ use Rattle.alta_session.specs.Answering.{Answers}
 use Rattle.alta_session.specs.Cursors.{opening, fetching, closing}
 use Rattle.alta_session.specs.Machine.{changed_by, adding, deleting, step, stats_of}
 use Rattle.alta_session.specs.Searching.{searching, counting}
-use Rattle.alta_store.specs.States.{words_in}
+use Rattle.alta_images.specs.States.{words_in}
 use Rattle.alta_session.proofs.AnsweringLaws.{looked, looked_at, answers_by, step_rests, turned}
 use Rattle.alta_session.proofs.AskLaws.{adds_more, deletes_more}
 use Rattle.alta_session.proofs.session.Session.reply.Goals as goal

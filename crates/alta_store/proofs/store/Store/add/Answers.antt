@@ -1,7 +1,7 @@
 use Rattle.std.proofs.Common.{inl}
 use Rattle.alta_disk.proofs.Moments.{leaves_start}
 use Rattle.alta_store.specs.Meaning.{StandsForEither}
-use Rattle.alta_store.specs.States.{with_added}
+use Rattle.alta_images.specs.States.{with_added}
 use Rattle.alta_store.proofs.Agreements.{images_stand}
 use Rattle.alta_store.proofs.store.Store.add.Goals as goal
 

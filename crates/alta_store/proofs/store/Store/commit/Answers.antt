@@ -1,5 +1,5 @@
 use Rattle.alta_journal.specs.declared.entry.Entry.TheVariants.{Add}
-use Rattle.alta_store.specs.States.{with_added}
+use Rattle.alta_images.specs.States.{with_added}
 use Rattle.alta_store.proofs.Commits.{closed, either, agrees_after, views_after, add_allowed, added_is}
 use Rattle.alta_store.proofs.store.Store.commit.Goals as goal
 

@@ -1,7 +1,7 @@
 use Rattle.std.proofs.Common.{ap}
 use Rattle.alta_journal.specs.Record.{Record}
 use Rattle.alta_journal.specs.declared.entry.Entry.TheVariants.{Delete}
-use Rattle.alta_store.specs.States.{with_deleted}
+use Rattle.alta_images.specs.States.{with_deleted}
 use Rattle.alta_store.proofs.Commits.{closed, either, agrees_after, knows_deleted, views_after, delete_allowed, deleted_after}
 use Rattle.alta_store.proofs.FollowingLaws.{live_number}
 use Rattle.alta_store.proofs.store.Store.remove.Goals as goal

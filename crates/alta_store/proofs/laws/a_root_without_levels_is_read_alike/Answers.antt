@@ -1,6 +1,6 @@
-use Rattle.alta_images.proofs.FirstRoot.{alone_stands, journal_broken, none_indexed, none_rooted, short_broken, view_opened}
+use Rattle.alta_store.proofs.FirstRoot.{alone_stands, journal_broken, none_indexed, none_rooted, short_broken, view_opened}
 use Rattle.alta_images.proofs.OrderLaws.{stands_ordered}
-use Rattle.alta_images.proofs.laws.a_root_without_levels_is_read_alike.Goals as goal
+use Rattle.alta_store.proofs.laws.a_root_without_levels_is_read_alike.Goals as goal
 
 pub returns : goal.returns
 returns c = record {

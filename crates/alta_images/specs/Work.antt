@@ -12,9 +12,9 @@ use Rattle.alta_content.specs.declared.content.Content.{Content}
 use Rattle.alta_content.specs.declared.document.DocRow.{DocRow}
 use Rattle.alta_memlevel.specs.Added.{Added, live_of}
 use Rattle.alta_meta.specs.Cells.{cells_of}
-use Rattle.alta_store.specs.Joining.{content_of, joined, joined_in, terms_in}
-use Rattle.alta_store.specs.Levels.{Level}
-use Rattle.alta_store.specs.Meaning.{View, with_entry}
+use Rattle.alta_images.specs.Joining.{content_of, joined, joined_in, terms_in}
+use Rattle.alta_images.specs.Levels.{Level}
+use Rattle.alta_images.specs.Views.{View, with_entry}
 
 -- ---- what a store holds
 
@@ -25,12 +25,6 @@ pub record Job : Type 0 where
   pub newer : Content
   pub dead : List ℕ
   pub merged : ℕ
-
--- What a store holds: the view of its disk, where the deletion list stands if there is one, and the job if one goes on.
-pub record Holding : Type 0 where
-  pub view : View
-  pub list : Option Extent
-  pub job : Option Job
 
 -- ---- newest documents, and what is gone
 
@@ -79,12 +73,6 @@ newest_content view = content_of (live_of (gone view) (newest view))
 
 -- ---- a switch of the root
 
--- Where a switch of the root puts what it writes anew, beside extents that are taken: the segment of a content, and a list of
--- deleted ends. It is left to the layer that spells segments and finds the first gap.
-pub record Placing : Type 0 where
-  pub segment : List Extent → Content → Extent
-  pub ends : List Extent → List ℕ → Extent
-
 -- a level of the root to come: one that stays, or a content that is written anew
 pub data Coming : Type 0 where
   stays : Level → Coming
@@ -94,53 +82,8 @@ pub data Coming : Type 0 where
 abbrev pub coming : Content → List Coming
 coming content = cond (length content.documents == 0) [] (anew content ∷ [])
 
--- a level that stays keeps its extent; one that is written anew is placed in order, beside those before it too
-abbrev pub placed_levels : Placing → List Extent → List Coming → List Level
-placed_levels placing taken [] = []
-placed_levels placing taken (stays level ∷ more) = level ∷ placed_levels placing taken more
-placed_levels placing taken (anew content ∷ more) =
-    record { extent = placing.segment taken content; content = content } ∷ placed_levels placing (taken ++ placing.segment taken content ∷ []) more
-
 abbrev pub extents_in : List Level → List Extent
 extents_in levels = map (λ (l : Level). l.extent) levels
-
-abbrev pub listed : Option Extent → List Extent
-listed None = []
-listed (Some extent) = extent ∷ []
-
--- the extents of the root in force: of its levels, and of its deletion list
-abbrev pub taken_by : Holding → List Extent
-taken_by held = extents_in held.view.levels ++ listed held.list
-
--- the extents that are taken once these levels are placed
-abbrev pub taken_behind : Placing → List Extent → List Coming → List Extent
-taken_behind placing taken [] = taken
-taken_behind placing taken (stays level ∷ more) = taken_behind placing taken more
-taken_behind placing taken (anew content ∷ more) = taken_behind placing (taken ++ placing.segment taken content ∷ []) more
-
--- a deletion list that stays the same keeps its extent; else it is written anew, behind the levels; an empty one has none
-abbrev pub placed_list : Placing → Holding → List Coming → List ℕ → Option Extent
-placed_list placing held levels deleted =
-    cond (bytes_eq deleted held.view.deleted) held.list
-    (cond (length deleted == 0) None (Some (placing.ends (taken_behind placing (taken_by held) levels) deleted)))
-
--- The root to come has these levels. The journal is empty, the next number and the next location are those behind all newest
--- documents, and deleted are the gone ends whose row stays in a level.
-abbrev pub switched : Placing → Holding → List Coming → Option Job → Holding
-switched placing held levels job =
-    let now = placed_levels placing (taken_by held) levels in
-    let deleted = gone_among held.view (rows_in now) in
-    record {
-      view = record {
-        next = held.view.next + length (newest held.view);
-        location = held.view.location + sum_by (λ (a : Added). a.row.cells) (newest held.view);
-        levels = now;
-        deleted = deleted;
-        entries = [];
-      };
-      list = placed_list placing held levels deleted;
-      job = job;
-    }
 
 -- ---- flush, merge and step
 
@@ -157,26 +100,9 @@ oldest_joined None view = joined_in (map (λ (l : Level). l.content) (take 2 vie
 abbrev pub with_oldest : Content → View → List Coming
 with_oldest content view = coming content ++ map stays (drop 2 view.levels) ++ coming (newest_content view)
 
--- The live newest documents become the last level, and the journal is empty. Where there are 16 levels already, the two
--- oldest are joined first, which ends the job. With an empty journal nothing is done.
-abbrev pub flushed : Placing → Holding → Holding
-flushed placing held =
-    let view = held.view in
-    cond (length view.entries == 0) held
-    (cond (length view.levels == 16 && nat_le 1 (length (newest_content view).documents))
-    (switched placing held (with_oldest (oldest_joined held.job view) view) None)
-    (switched placing held (map stays view.levels ++ coming (newest_content view)) held.job))
-
 -- There is nothing to merge: at most one level, no deleted end, and no entry.
 abbrev pub is_merged : View → Bool
 is_merged view = nat_le (length view.levels) 1 && length view.deleted == 0 && length view.entries == 0
-
--- All levels and the newest documents become one level without what is gone, or none where nothing is left. There is no job.
-abbrev pub merged : Placing → Holding → Holding
-merged placing held =
-    let view = held.view in
-    cond (is_merged view) held
-    (switched placing held (coming (joined_in (map (λ (l : Level). l.content) view.levels ++ content_of (newest view) ∷ []) (gone view))) None)
 
 -- a job over the two oldest levels, where there are two
 abbrev pub begun : View → List Level → Option Job
@@ -188,24 +114,7 @@ abbrev pub job_of : Option Job → View → Option Job
 job_of (Some job) view = Some job
 job_of None view = begun view view.levels
 
--- The job is moved on by n terms. Where no term is left, its content takes the place of the two oldest levels, and the newest
--- documents are flushed. Without a job nothing is done.
-abbrev pub moved : Placing → Holding → ℕ → Option Job → Holding
-moved placing held n None = held
-moved placing held n (Some job) =
-    cond (nat_le (length (terms_in (job.older ∷ job.newer ∷ []))) (job.merged + n))
-    (switched placing held (with_oldest (whole_of job) held.view) None)
-    (record { view = held.view; list = held.list; job = Some (record { older = job.older; newer = job.newer; dead = job.dead; merged = job.merged + n }) })
-
--- a step of n terms, which begins a job where none goes on and there are two levels
-abbrev pub stepped : Placing → Holding → ℕ → Holding
-stepped placing held n = moved placing held n (job_of held.job held.view)
-
 -- ---- by command
-
--- one entry more in the journal
-abbrev pub entered : Holding → Entry → Holding
-entered held entry = record { view = with_entry held.view entry; list = held.list; job = held.job }
 
 -- the record of the entry fits behind those of the others, with a gate behind it
 abbrev pub fits : List Entry → Entry → Bool
@@ -218,10 +127,3 @@ pub data Task : Type 0 where
   flushes : Task
   merges : Task
   steps : ℕ → Task
-
--- What a task makes of what the store holds. An entry that does not fit in the journal finds it flushed.
-abbrev pub worked : Placing → Holding → Task → Holding
-worked placing held (enters entry) = cond (fits held.view.entries entry) (entered held entry) (entered (flushed placing held) entry)
-worked placing held flushes = flushed placing held
-worked placing held merges = merged placing held
-worked placing held (steps n) = stepped placing held n

@@ -17,9 +17,9 @@ use Rattle.alta_content.specs.Lists.{locations_of, terms_of}
 use Rattle.alta_content.specs.declared.content.TermList.{TermList}
 use Rattle.alta_memlevel.specs.Added.{Added, HasContent, IsSpace, list_of, places_of}
 use Rattle.alta_meta.specs.Cells.{cell_holds}
-use Rattle.alta_store.specs.Joining.{content_of, in_order, with_term}
-use Rattle.alta_store.proofs.DocumentLaws.{by_test, bytes_from, bytes_same}
-use Rattle.alta_store.proofs.NameLaws.{bytes_eq-swap}
+use Rattle.alta_images.specs.Joining.{content_of, in_order, with_term}
+use Rattle.alta_images.proofs.Tests.{by_test, bytes_from, bytes_same}
+use Rattle.alta_images.proofs.NameLaws.{bytes_eq-swap}
 
 -- a term, a cell, and the cells of a document
 abbrev Term : Type 0

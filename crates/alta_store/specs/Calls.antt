@@ -9,8 +9,8 @@ use Rattle.alta_disk.specs.Calls.{Costs, Reads}
 use Rattle.alta_root.specs.Slots.{HasNoRoot}
 use Rattle.alta_root.specs.declared.places.TheConstants.{HEAD_BYTES}
 use Rattle.alta_store.specs.Answers.{AnswersFault, IsOutside}
-use Rattle.alta_store.specs.Work.{Job, Task}
-use Rattle.alta_store.specs.Meaning.{state_of}
+use Rattle.alta_images.specs.Work.{Job, Task}
+use Rattle.alta_images.specs.Views.{state_of}
 use Rattle.alta_store.specs.declared.fault.StoreFault.{StoreFault}
 use Rattle.alta_store.specs.declared.fault.StoreFault.TheVariants as faults
 use Rattle.alta_table.specs.Tables.{Tables}

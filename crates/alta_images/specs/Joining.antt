@@ -7,7 +7,7 @@ use Rattle.alta_content.specs.declared.content.Content.{Content}
 use Rattle.alta_content.specs.Lists.{locations_of, terms_of}
 use Rattle.alta_content.specs.Spans.{deleted_spans, lists_outside}
 use Rattle.alta_memlevel.specs.Added.{Added, list_of}
-use Rattle.alta_store.specs.Levels.{live_rows}
+use Rattle.alta_images.specs.Levels.{live_rows}
 
 -- the term in its place among terms in collating order, unless it is there
 abbrev pub with_term : List ℕ → List (List ℕ) → List (List ℕ)

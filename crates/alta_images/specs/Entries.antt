@@ -4,7 +4,7 @@ use Rattle.alta_journal.specs.declared.entry.Entry.{Entry}
 use Rattle.alta_journal.specs.declared.entry.Entry.TheVariants.{Add, Delete}
 use Rattle.alta_journal.specs.declared.placed.Placed.{Placed}
 use Rattle.alta_meta.specs.declared.document.State.{State}
-use Rattle.alta_store.specs.States.{has_name, has_number, with_added, without}
+use Rattle.alta_images.specs.States.{has_name, has_number, with_added, without}
 
 -- The state allows the entry: one that adds has a name that no live document has, and a number left for it; one that
 -- deletes has the number of a live document.

@@ -27,10 +27,11 @@ use Rattle.alta_root.specs.declared.slot.Slot.{Slot}
 use Rattle.alta_root.specs.declared.slot.Slot.TheVariants.{A, B}
 use Rattle.alta_images.specs.Broken.{HasLevels, IsBrokenAt, in_entries, in_records, in_slots}
 use Rattle.alta_store.specs.Brokenness.{HasBadEntry, HasBadJournal, HasNoIndex, HasRoot}
-use Rattle.alta_store.specs.Entries.{Allows, AllowsAll, IsRefusedAt, after_entries, after_entry, entries_in}
+use Rattle.alta_images.specs.Entries.{Allows, AllowsAll, IsRefusedAt, after_entries, after_entry, entries_in}
 use Rattle.alta_images.specs.Known.{Known, admits, known_behind, known_of, replayed}
-use Rattle.alta_store.specs.Levels.{Level}
-use Rattle.alta_store.specs.Meaning.{IsView, StandsFor as StandsAlone, View, rooted, start_at, state_of}
+use Rattle.alta_images.specs.Levels.{Level}
+use Rattle.alta_images.specs.Views.{View, rooted, start_at, state_of}
+use Rattle.alta_store.specs.Meaning.{IsView, StandsFor as StandsAlone}
 use Rattle.alta_images.specs.Opened.{IsOpened, Opened, bytes_at, deleted_in}
 use Rattle.alta_store.specs.Roots.{AreZero, IsRoot, byte_at, first_fields, number_at}
 use Rattle.alta_images.specs.Standing.{StandsFor, view_of}
