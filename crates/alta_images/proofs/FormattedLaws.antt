@@ -19,7 +19,7 @@ use Rattle.alta_images.specs.Switching.{empty_root, IsFormatted}
 empty_sound : (size : ℕ) → IsSound size empty_root
 empty_sound size = record { few = omega arith; number = (omega arith, omega arith); location = (omega arith, omega arith); deletions = inl refl; levels = tt }
 
-formatted_counts : (image : List ℕ) → IsFormatted image → Counts A empty_root image
+pub formatted_counts : (image : List ℕ) → IsFormatted image → Counts A empty_root image
 formatted_counts image is = record {
   whole = is.whole;
   is_open = is.first;
@@ -29,11 +29,11 @@ formatted_counts image is = record {
   later = λ second. absurd (is.second second);
 }
 
-formatted_opened : Opened
+abbrev pub formatted_opened : Opened
 formatted_opened = record { slot = A; root = empty_root; deleted = []; levels = []; entries = []; tail = START_A }
 
-formatted_named : (image : List ℕ) → IsFormatted image → IsNamed formatted_opened image
-unfolding deleted_in first_fault fault_from list_from locations_of formatted_opened
+pub formatted_named : (image : List ℕ) → IsFormatted image → IsNamed formatted_opened image
+unfolding deleted_in first_fault fault_from list_from locations_of
 formatted_named image is = record {
   list = refl;
   tables = refl;
@@ -49,7 +49,6 @@ formatted_named image is = record {
 }
 
 pub formatted_stands : (image : List ℕ) → IsFormatted image → StandsFor empty image
-unfolding formatted_opened
 formatted_stands image is = record {
   opened = formatted_opened;
   counts = formatted_counts image is;

@@ -18,6 +18,7 @@ pub mod OneState
 pub mod OrderLaws
 pub mod PlaceLaws
 pub mod SpacedLaws
+pub mod StateLaws
 pub mod Steps
 pub mod SwitchLaws
 pub mod TermOrder

@@ -1,6 +1,7 @@
 pub mod Frames
 pub mod GapFunctions
 pub mod GapLaws
+pub mod Made
 pub mod NextRoot
 pub mod ReadLaws
 pub mod SlotLaws

@@ -1,5 +1,5 @@
 // Which of the two slots counts.
-ghost use Rattle.std.specs.Prelude.{◌≡◌, ◌≢◌, ◌⊎◌, ◌↔◌, ℕ, List, ◌+◌, ◌≤◌, ◌<◌, ◌*◌, true, length, take, drop, get_or, Result, Ok, Err, IsTrue, IfOk};
+ghost use Rattle.std.specs.Prelude.{◌≡◌, ◌≢◌, ◌⊎◌, ◌↔◌, ℕ, List, ◌+◌, ◌≤◌, ◌<◌, ◌*◌, true, length, take, drop, get_or, Result, Ok, Err, IsTrue, IfOk, OnOk};
 ghost use Rattle.alta_codec.specs.Faults.{Rose};
 ghost use Rattle.alta_disk.specs.Disk.{DiskState};
 ghost use Rattle.alta_disk.specs.Calls.{Reads};
@@ -8,7 +8,7 @@ ghost use Rattle.alta_root.specs.Root.{IsSound, next_sequence};
 ghost use Rattle.alta_root.specs.Slots.{Counts, Shows};
 ghost use Rattle.alta_root.specs.Answers.{AreRead, Says, SaysIfOpen, slot_bytes, chosen_of};
 ghost use Rattle.alta_root.specs.declared.fault.RootFault.TheVariants.{Disk as DiskFault};
-ghost use Rattle.alta_root.specs.declared.places.TheConstants.{READ_BYTES, SLOTS_BYTES};
+ghost use Rattle.alta_root.specs.declared.places.TheConstants.{HEAD_BYTES, READ_BYTES, SLOTS_BYTES};
 ghost use Rattle.alta_root.specs.declared.root.Roots.{Roots};
 ghost use Rattle.alta_root.specs.declared.fault.RootFault.{RootFault};
 
@@ -17,8 +17,9 @@ use crate::places::{GATE_OPEN, HEAD_BYTES, READ_BYTES, SECOND_SEQUENCE, SLOTS_BY
 use crate::{Root, RootFault, Roots, Slot};
 use alta_disk::Disk;
 
-/// Reads both slots, and answers the one that counts, with its root, which keeps the rules on slots. It takes no memory,
-/// and reads 592 bytes at most: what stands behind the fields of a slot is not looked at.
+/// Reads both slots, and answers the one that counts, with its root, which keeps the rules on slots, also where the disk does
+/// not tell what it holds; the disk may then be as long as a head. It takes no memory, and reads 592 bytes at most: what stands behind the fields of a slot is not
+/// looked at.
 ///
 /// # Errors
 ///
@@ -30,6 +31,8 @@ pub fn read_roots<D: Disk>(disk: &mut D) -> Result<Roots, RootFault>
     ensures answer { D.tells → (result ≡ Err DiskFault) ⊎ Shows (D.state disk.old).content result }
     ensures counts { D.tells → IfOk result (λ roots. Counts roots.slot roots.root (D.state disk.old).content) }
     ensures sound { D.tells → IfOk result (λ roots. IsSound (length (D.state disk.old).content) roots.root) }
+    ensures kept { IfOk result (λ roots. (size : ℕ) × IsSound size roots.root) }
+    ensures long { OnOk result (HEAD_BYTES ≤ (D.state disk.old).limit) }
     ensures exact { D.tells → (answer : Result Roots RootFault) → Shows (D.state disk.old).content answer → (result ≡ Err DiskFault) ⊎ (result ≡ answer) }
     ensures cause { result ≡ Err DiskFault → Rose (D.state disk.old).faults (D.state disk.new).faults }
     ensures reads { Reads D.tells (2 * READ_BYTES) (D.state disk.old) (D.state disk.new) }
@@ -51,6 +54,8 @@ fn shown(first: &[u8], second: &[u8], size: u64) -> Result<Roots, RootFault>
     requires second { length second.now ≡ READ_BYTES }
     requires size { SLOTS_BYTES ≤ size }
     ensures shows { (image : List ℕ) → AreRead first.now second.now size image → Shows image result }
+    ensures kept { IfOk result (λ roots. (size : ℕ) × IsSound size roots.root) }
+    ensures long { OnOk result (HEAD_BYTES ≤ size) }
     ensures disk { result ≡ Err DiskFault → ⊥ }
 {
     if none_open(first, second) {

@@ -5,9 +5,6 @@ use Rattle.alta_console.specs.declared.event.Event.{Event}
 use Rattle.alta_console.proofs.Laws.{grows_none, consumes_none}
 use Rattle.alta_disk.specs.Disk.{DiskState, Same, Passes, LeavesOnly, IsLawful}
 use Rattle.alta_disk.proofs.Moments.{leaves_then, leaves_by}
-use Rattle.alta_journal.specs.Places.{left_behind}
-use Rattle.alta_journal.specs.declared.places.TheConstants.{START_A}
-use Rattle.alta_journal.proofs.Unique.{one_reading}
 use Rattle.alta_meta.specs.declared.document.State.{State}
 use Rattle.alta_session.specs.Agreement.{AgreesOn, room_in}
 use Rattle.alta_session.specs.Fullness.{IsFullExactly}
@@ -20,6 +17,7 @@ use Rattle.alta_session.specs.declared.status.Status.TheVariants.{Done, Full, To
 use Rattle.alta_session.proofs.FullnessLaws.{full_exactly}
 use Rattle.alta_session.proofs.ProgressLaws.{some_none}
 use Rattle.alta_store.specs.Agreement.{HasRoom}
+use Rattle.alta_store.proofs.Agreements.{room_held}
 use Rattle.alta_store.specs.Meaning.{StandsFor}
 
 -- calls that change nothing leave images of the same state
@@ -57,9 +55,7 @@ older tells d m c lawful passes here =
 
 -- the room of a session is what the journal of its disk has left
 room_is : (tells : Type 0) (d : DiskState) (session : Session) (m : Machine) (room : ℕ) → tells → AgreesOn tells d session m → HasRoom d.content room → room_in session ≡ room
-room_is tells d session m room tell agrees left =
-    let held = agrees.store.content tell in
-    ap (λ (place : ℕ). left_behind START_A place) (one_reading START_A session.store.tail.place left.place held.view.entries left.entries d.content held.is.journal left.journal).0 ∙ sym left.room_is
+room_is tells d session m room tell agrees left = room_held session.store m.state d.content room (agrees.store.content tell) left
 
 -- it was opened, and then it ran
 pub serves_opened : (tells : Type 0) (limit : ℕ) (told told_now : Option (List Event)) (left left_now : Option (List ℕ)) (d m e : DiskState) (session : Session) (status : Status) → IsLawful tells d → Passes Same d m → ((s : State) → tells → StandsFor s d.content → AgreesOn tells m session (started_at s)) → (tells → m.content ≡ d.content)

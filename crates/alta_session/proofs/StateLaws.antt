@@ -5,7 +5,7 @@ use Rattle.alta_meta.specs.declared.document.State.{State}
 use Rattle.alta_model.specs.Command.{Command, adds, deletes, searches, counts, explains, opens, fetches, closes, flushes, merges, steps, asks_stats}
 use Rattle.alta_model.specs.Lines.{Reading, asks, refuses, reading_of}
 use Rattle.alta_codec.specs.Name.{is_name}
-use Rattle.alta_store.proofs.StateLaws.{added_state, deleted_state}
+use Rattle.alta_images.proofs.StateLaws.{added_state, deleted_state}
 use Rattle.alta_session.specs.Machine.{Machine, adding, deleted_as, deleting, obeyed, answered, step}
 use Rattle.alta_images.specs.States.{has_name, number_of as number_named}
 

@@ -1,7 +1,7 @@
 -- The exit code and the line of each status, and from which faults one comes.
 use Rattle.std.specs.Prelude.{◌≡◌, ◌≢◌, ◌⊎◌, ℕ, List, [], ◌++◌, codes, decimal}
 use Rattle.alta_store.specs.declared.fault.StoreFault.{StoreFault}
-use Rattle.alta_store.specs.declared.fault.StoreFault.TheVariants.{Disk as DiskFailed, Damaged as IsDamaged, NoRoot as HasNoRoot, Full as IsFull, Taken, Missing, Numbers}
+use Rattle.alta_store.specs.declared.fault.StoreFault.TheVariants.{Disk as DiskFailed, Damaged as IsDamaged, NoRoot as NoRootThere, Full as IsFull, Taken, Missing, Numbers}
 use Rattle.alta_session.specs.declared.status.Status.{Status}
 use Rattle.alta_session.specs.declared.status.Status.TheVariants.{Done, Usage, DiskFault, TakeFault, GiveFault, Memory, Damaged, NoRoot, Full, TooLong, Exists}
 
@@ -71,7 +71,7 @@ EndsRun _ = Unit {0}
 abbrev pub status_for : StoreFault → Status
 status_for DiskFailed = DiskFault
 status_for (IsDamaged place) = Damaged place
-status_for HasNoRoot = NoRoot
+status_for NoRootThere = NoRoot
 status_for (IsFull need gap) = Full need gap
 status_for _ = Memory
 

@@ -12,7 +12,8 @@ ghost use Rattle.alta_session.specs.Fullness.{IsFull};
 ghost use Rattle.alta_session.specs.Progress.{StopsWithin};
 ghost use Rattle.alta_session.specs.Run.{KeepsDisk, Runs, Serves};
 ghost use Rattle.alta_session.specs.Status.{EndsLine, EndsRunning, IsOpened, IsUnopened, Completes, Yields};
-ghost use Rattle.alta_store.specs.Brokenness.{HasNoIndex, IsBrokenAt};
+ghost use Rattle.alta_root.specs.Slots.{HasNoRoot};
+ghost use Rattle.alta_store.specs.Brokenness.{IsBrokenAt};
 ghost use Rattle.alta_store.specs.Meaning.{StandsFor};
 
 use crate::giving::give_all;
@@ -300,8 +301,8 @@ pub fn serve<C: Console, D: Disk>(
     ensures run { Serves D.tells limit (C.told console.old) (C.told console.new) (C.left console.old) (C.left console.new) (D.state disk.old) (D.state disk.new) result }
     ensures read_all { result ≡ Status.Done → IfSome (C.left console.new) (λ bytes. bytes ≡ []) }
 
-    ensures no_root { D.tells → result ≡ Status.NoRoot → HasNoIndex (D.state disk.old).content }
-    ensures rooted { D.tells → HasNoIndex (D.state disk.old).content → (result ≡ Status.NoRoot) ⊎ Yields result }
+    ensures no_root { D.tells → result ≡ Status.NoRoot → HasNoRoot (D.state disk.old).content }
+    ensures rooted { D.tells → HasNoRoot (D.state disk.old).content → (result ≡ Status.NoRoot) ⊎ Yields result }
     ensures damaged { (place : ℕ) → D.tells → result ≡ Status.Damaged place → IsBrokenAt (D.state disk.old).content place }
     ensures undamaged { (place : ℕ) → D.tells → IsBrokenAt (D.state disk.old).content place → (result ≡ Status.Damaged place) ⊎ Yields result }
     // Then console and disk are as they were.

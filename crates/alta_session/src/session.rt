@@ -12,7 +12,8 @@ ghost use Rattle.alta_session.specs.Answering.{Answers, CanAnswer, IsReply};
 ghost use Rattle.alta_session.specs.Asking.{Asks};
 ghost use Rattle.alta_session.specs.Machine.{Machine, started_at, step, changed_by, adding, deleting, Looks};
 ghost use Rattle.alta_store.specs.Answers.{IsOutside, AnswersFault};
-ghost use Rattle.alta_store.specs.Brokenness.{HasNoIndex, IsBrokenAt};
+ghost use Rattle.alta_root.specs.Slots.{HasNoRoot};
+ghost use Rattle.alta_store.specs.Brokenness.{IsBrokenAt};
 ghost use Rattle.alta_store.specs.Meaning.{StandsFor};
 ghost use Rattle.alta_images.specs.States.{IsDocument};
 
@@ -46,8 +47,8 @@ impl Session {
         ensures can { IfOk result (λ session. CanAnswer D.tells (D.state disk.new) session) }
 
         ensures stands { (s : State) → D.tells → StandsFor s (D.state disk.old).content → IfErr result IsOutside }
-        ensures no_root { D.tells → result ≡ Err StoreFault.NoRoot → HasNoIndex (D.state disk.old).content }
-        ensures rooted { D.tells → HasNoIndex (D.state disk.old).content → AnswersFault result StoreFault.NoRoot }
+        ensures no_root { D.tells → result ≡ Err StoreFault.NoRoot → HasNoRoot (D.state disk.old).content }
+        ensures rooted { D.tells → HasNoRoot (D.state disk.old).content → AnswersFault result StoreFault.NoRoot }
         ensures damaged { (place : ℕ) → D.tells → result ≡ Err (StoreFault.Damaged place) → IsBrokenAt (D.state disk.old).content place }
         ensures undamaged { (place : ℕ) → D.tells → IsBrokenAt (D.state disk.old).content place → AnswersFault result (StoreFault.Damaged place) }
         ensures only { IfErr result (λ e. IsOutside e ⊎ ((e ≡ StoreFault.NoRoot) ⊎ ((place : ℕ) × (e ≡ StoreFault.Damaged place)))) }

@@ -6,7 +6,8 @@ ghost use Rattle.alta_meta.specs.declared.document.State.{State};
 ghost use Rattle.alta_session.specs.Fullness.{IsFull};
 ghost use Rattle.alta_session.specs.Run.{KeepsDisk, Serves};
 ghost use Rattle.alta_session.specs.Status.{IsOpened, IsUnopened, IsUnmade, Completes, Yields, EndsInit};
-ghost use Rattle.alta_store.specs.Brokenness.{HasNoIndex, IsBrokenAt};
+ghost use Rattle.alta_root.specs.Slots.{HasNoRoot};
+ghost use Rattle.alta_store.specs.Brokenness.{IsBrokenAt};
 ghost use Rattle.alta_store.specs.Meaning.{StandsFor};
 ghost use Rattle.alta_images.specs.States.{empty};
 
@@ -41,8 +42,8 @@ pub fn alta<C: Console, D: Disk>(
 
     ensures init { words.now ≡ codes "init" ∷ [] → EndsInit result × (console.new ≡ console.old) }
     ensures made { words.now ≡ codes "init" ∷ [] → result ≡ Status.Done → Stands D.tells (D.state disk.new) (StandsFor empty) }
-    ensures exists { D.tells → result ≡ Status.Exists → ¬ (HasNoIndex (D.state disk.old).content) }
-    ensures found { words.now ≡ codes "init" ∷ [] → D.tells → ¬ (HasNoIndex (D.state disk.old).content) → (result ≡ Status.Exists) ⊎ (result ≡ Status.DiskFault) }
+    ensures exists { D.tells → result ≡ Status.Exists → ¬ (HasNoRoot (D.state disk.old).content) }
+    ensures found { words.now ≡ codes "init" ∷ [] → D.tells → ¬ (HasNoRoot (D.state disk.old).content) → (result ≡ Status.Exists) ⊎ (result ≡ Status.DiskFault) }
     ensures too_small { words.now ≡ codes "init" ∷ [] → (need gap : ℕ) → result ≡ Status.Full need gap → (need ≡ 2105344) × (gap ≡ (D.state disk.old).limit) × ((D.state disk.old).limit < 2105344) }
     ensures kept { words.now ≡ codes "init" ∷ [] → IsUnmade result → KeepsDisk D.tells (D.state disk.old) (D.state disk.new) }
     ensures small { words.now ≡ codes "init" ∷ [] → (D.state disk.old).limit < 2105344 → (result ≡ Status.Exists) ⊎ ((result ≡ Status.Full 2105344 (D.state disk.old).limit) ⊎ (result ≡ Status.DiskFault)) }
@@ -50,8 +51,8 @@ pub fn alta<C: Console, D: Disk>(
     ensures run { words.now ≡ codes "run" ∷ [] → Serves D.tells (2 ^ 40) (C.told console.old) (C.told console.new) (C.left console.old) (C.left console.new) (D.state disk.old) (D.state disk.new) result }
     ensures read_all { words.now ≡ codes "run" ∷ [] → result ≡ Status.Done → IfSome (C.left console.new) (λ bytes. bytes ≡ []) }
     ensures never_exists { words.now ≡ codes "run" ∷ [] → result ≢ Status.Exists }
-    ensures no_root { D.tells → result ≡ Status.NoRoot → HasNoIndex (D.state disk.old).content }
-    ensures rooted { words.now ≡ codes "run" ∷ [] → D.tells → HasNoIndex (D.state disk.old).content → (result ≡ Status.NoRoot) ⊎ Yields result }
+    ensures no_root { D.tells → result ≡ Status.NoRoot → HasNoRoot (D.state disk.old).content }
+    ensures rooted { words.now ≡ codes "run" ∷ [] → D.tells → HasNoRoot (D.state disk.old).content → (result ≡ Status.NoRoot) ⊎ Yields result }
     ensures damaged { (place : ℕ) → D.tells → result ≡ Status.Damaged place → IsBrokenAt (D.state disk.old).content place }
     ensures undamaged { (place : ℕ) → words.now ≡ codes "run" ∷ [] → D.tells → IsBrokenAt (D.state disk.old).content place → (result ≡ Status.Damaged place) ⊎ Yields result }
     ensures unopened { IsUnopened result → (console.new ≡ console.old) × KeepsDisk D.tells (D.state disk.old) (D.state disk.new) }
@@ -86,8 +87,8 @@ fn is_word(words: &[Text], word: &str) -> bool
 fn init<D: Disk>(disk: &mut D) -> Status
     ensures ends { EndsInit result }
     ensures made { result ≡ Status.Done → Stands D.tells (D.state disk.new) (StandsFor empty) }
-    ensures exists { D.tells → result ≡ Status.Exists → ¬ (HasNoIndex (D.state disk.old).content) }
-    ensures found { D.tells → ¬ (HasNoIndex (D.state disk.old).content) → (result ≡ Status.Exists) ⊎ (result ≡ Status.DiskFault) }
+    ensures exists { D.tells → result ≡ Status.Exists → ¬ (HasNoRoot (D.state disk.old).content) }
+    ensures found { D.tells → ¬ (HasNoRoot (D.state disk.old).content) → (result ≡ Status.Exists) ⊎ (result ≡ Status.DiskFault) }
     ensures too_small { (need gap : ℕ) → result ≡ Status.Full need gap → (need ≡ 2105344) × (gap ≡ (D.state disk.old).limit) × ((D.state disk.old).limit < 2105344) }
     ensures kept { IsUnmade result → KeepsDisk D.tells (D.state disk.old) (D.state disk.new) }
     ensures small { (D.state disk.old).limit < 2105344 → (result ≡ Status.Exists) ⊎ ((result ≡ Status.Full 2105344 (D.state disk.old).limit) ⊎ (result ≡ Status.DiskFault)) }

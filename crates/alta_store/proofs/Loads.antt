@@ -1,5 +1,5 @@
 -- What was loaded from a disk is what its content says.
-use Rattle.std.proofs.Common.{◌≡◌, ◌⊎◌, inl, inr, ⊎_elim, ℕ, suc, zero, ◌+◌, ◌-◌, ◌<◌, ◌≤◌, Global, List, [], ◌∷◌, length, get_or, refl, sym, ◌∙◌, ap, subst, arith, length-append}
+use Rattle.std.proofs.Common.{◌≡◌, ◌⊎◌, inl, inr, ⊎_elim, ℕ, suc, zero, ◌+◌, ◌-◌, ◌<◌, ◌≤◌, Global, Bool, cond, List, [], ◌∷◌, ◌++◌, length, get_or, refl, sym, ◌∙◌, ap, subst, arith, length-append}
 use Rattle.std.specs.Prelude.{String, Result, Ok, Err, IfOk, IfErr}
 use Rattle.std.specs.BTreeMap.{BTreeMap}
 use Rattle.std.specs.List.{All, flat_map}
@@ -12,7 +12,7 @@ use Rattle.alta_journal.specs.Places.{half_at}
 use Rattle.alta_journal.specs.Record.{record_of}
 use Rattle.alta_journal.specs.declared.entry.Entry.{Entry}
 use Rattle.alta_journal.specs.declared.placed.Placed.{Placed}
-use Rattle.alta_journal.specs.declared.places.TheConstants.{START_A, HALF_BYTES}
+use Rattle.alta_journal.specs.declared.places.TheConstants.{HALF_BYTES}
 use Rattle.alta_journal.proofs.Frames.{ends_inside}
 use Rattle.alta_journal.specs.declared.half.Tail.{Tail}
 use Rattle.alta_meta.specs.declared.document.Document.{Document}
@@ -20,16 +20,34 @@ use Rattle.alta_meta.specs.declared.document.State.{State}
 use Rattle.alta_store.specs.Agreement.{Holds, Knows}
 use Rattle.alta_journal.specs.declared.replaying.OpenFault.{OpenFault}
 use Rattle.alta_journal.specs.declared.replaying.OpenFault.TheVariants.{Disk as JournalDisk, Memory as JournalMemory, Damaged as JournalDamaged}
-use Rattle.alta_store.specs.Answers.{IsOutside, AnswersFault, of_opening}
-use Rattle.alta_store.specs.Brokenness.{HasNoIndex, HasRoot, IsBrokenAt}
-use Rattle.alta_images.specs.Entries.{AllowsAll, after_entries, entries_in, IsRefusedAt}
+use Rattle.alta_store.specs.Answers.{IsOutside, AnswersFault, of_opening, of_root}
+use Rattle.alta_store.specs.Brokenness.{HasLevels, IsBrokenAt}
+use Rattle.alta_images.specs.Broken.{HasLevels as HasLevelsFine, in_records, in_entries}
+use Rattle.alta_images.specs.Entries.{Allows, AllowsAll, after_entry, after_entries, entries_in, IsRefusedAt}
+use Rattle.alta_images.specs.Known.{Known, admits, known_behind, known_of, replayed}
+use Rattle.alta_images.specs.Opened.{Opened, half_of, journal_of}
+use Rattle.alta_images.proofs.KnownLaws.{admitted_from, allowed_from, known_entry, replayed_allows}
+use Rattle.alta_images.proofs.Tests.{by_test}
+use Rattle.alta_root.specs.Slots.{Counts, HasNoRoot}
+use Rattle.alta_root.specs.declared.fault.RootFault.{RootFault}
+use Rattle.alta_root.specs.declared.fault.RootFault.TheVariants.{Disk as RootDisk, NoRoot as RootNone, Damaged as RootDamaged}
+use Rattle.alta_root.specs.declared.root.Root.{Root}
+use Rattle.alta_root.specs.declared.root.Roots.{Roots}
+use Rattle.alta_root.specs.declared.slot.Slot.{Slot}
+use Rattle.alta_root.proofs.SlotLaws.{one_counts}
 use Rattle.alta_images.specs.Views.{start_at}
-use Rattle.alta_store.specs.Meaning.{StandsFor}
+use Rattle.alta_store.specs.Meaning.{IsPlain, StandsFor}
 use Rattle.alta_store.specs.declared.fault.StoreFault.{StoreFault}
 use Rattle.alta_store.specs.declared.fault.StoreFault.TheVariants.{NoRoot, Damaged}
 use Rattle.alta_store.specs.declared.store.Store.{Store}
 use Rattle.alta_store.proofs.Agreements.{stands_of}
-use Rattle.alta_store.proofs.OneWay.{entries_in-placed, one_state, one_place, stands_indexed, stands_unbroken}
+use Rattle.alta_store.proofs.Commits.{journal_fits}
+use Rattle.alta_store.proofs.Plain.{broken_indexed, no_levels, no_list, one_place, one_state, stands_indexed, stands_unbroken}
+
+-- the entries of placed ones
+entries_in-placed : (place : ℕ) (entries : List Entry) → entries_in (placed place entries) ≡ entries
+entries_in-placed place [] = refl
+entries_in-placed place (entry ∷ entries) = ap (λ (es : List Entry). entry ∷ es) (entries_in-placed (place + length (record_of entry)) entries)
 
 -- places rise from the first, by the bytes of the records
 placed_below : (place limit : ℕ) (entries : List Entry) → place + length (flat_map record_of entries) ≤ limit → (k : ℕ) (d : Placed) → k < length (placed place entries) → (λ (p : Placed). p.place ≤ limit) (get_or (placed place entries) k d)
@@ -38,45 +56,82 @@ placed_below place limit (entry ∷ entries) fits zero d inside = omega (arith, 
 placed_below place limit (entry ∷ entries) fits (suc k) d inside =
     placed_below (place + length (record_of entry)) limit entries (omega (arith, fits, length-append (record_of entry) (flat_map record_of entries))) k d (omega (arith, inside))
 
-pub small_places : (found : List Placed) (tail : ℕ) (content : List ℕ) → IsReplay START_A found tail content → All (λ p. p.place < 4294967296) found
-small_places found tail content (entries, is, ends) =
-    let inside = ends_inside START_A tail entries content (omega arith) ends in
+pub small_places : (slot : Slot) (found : List Placed) (tail : ℕ) (content : List ℕ) → IsReplay (journal_of slot) found tail content → All (λ p. p.place < 4294967296) found
+small_places slot found tail content (entries, is, ends) =
+    let start = journal_of slot in
+    let far = journal_fits slot in
+    let inside = ends_inside start tail entries content far ends in
     let bytes : length (flat_map record_of entries) ≤ HALF_BYTES =
-    omega (arith, ap length ends.begins.records, length-take-le (tail - START_A) (half_at START_A content) (omega (arith, ends.begins.gate)), inside, ends.starts) in
+    omega (arith, ap length ends.begins.records, length-take-le (tail - start) (half_at start content) (omega (arith, ends.begins.gate)), inside, ends.starts) in
     subst (λ (xs : List Placed). All (λ p. p.place < 4294967296) xs) (sym is)
-    (λ k d within. omega (arith, placed_below START_A (START_A + HALF_BYTES) entries (omega (arith, bytes)) k d within))
+    (λ k d within. omega (arith, far, placed_below start (start + HALF_BYTES) entries (omega (arith, bytes)) k d within))
 
-module _ (content : List ℕ) (n l : ℕ) (found : List Placed) (root : HasRoot n l content) where
-  pub loads : (store : Store) → IsReplay START_A found store.tail.place content
-      → AllowsAll (start_at n) (entries_in found) × Knows store (after_entries (start_at n) (entries_in found)) → Holds store (after_entries (start_at n) (entries_in found)) content
-  loads store (entries, is, ends) (allowed, knows) =
-      let same : entries_in found ≡ entries = ap entries_in is ∙ entries_in-placed START_A entries in
+-- the first entry that is not allowed is the first that is not admitted
+refused_at : (s : State) (before : List Placed) (p : Placed) (behind : List Placed) → AllowsAll s (entries_in before) → (Allows (after_entries s (entries_in before)) p.entry → ⊥)
+    → replayed (known_of s) (before ++ p ∷ behind) ≡ Err (p.place + 5)
+refused_at s [] p behind allowed refused =
+    by_test (admits (known_of s) p.entry) (λ yes. absurd (refused (allowed_from s p.entry yes)))
+    (λ no. ap (λ (b : Bool). cond b (replayed (known_behind (known_of s) p.entry) behind) (Err (p.place + 5))) no)
+refused_at s (q ∷ before) p behind allowed refused =
+    ap (λ (b : Bool). cond b (replayed (known_behind (known_of s) q.entry) (before ++ p ∷ behind)) (Err (q.place + 5))) (admitted_from s q.entry allowed.0)
+    ∙ ap (λ (known : Known). replayed known (before ++ p ∷ behind)) (sym (known_entry s q.entry))
+    ∙ refused_at (after_entry s q.entry) before p behind allowed.1 refused
+
+refused_is : (s : State) (found : List Placed) (place : ℕ) → IsRefusedAt s found place → replayed (known_of s) found ≡ Err place
+refused_is s found place r =
+    ap (λ (ps : List Placed). replayed (known_of s) ps) r.split ∙ refused_at s r.before r.refused r.behind r.allowed r.not_allowed ∙ ap (λ (n : ℕ). Err n) (sym r.place_is)
+
+-- ---- behind a plain root that counts
+
+module _ (content : List ℕ) (slot : Slot) (root : Root) (counts : Counts slot root content) (plain : IsPlain root) where
+  no_more : HasLevels content → ⊥
+  no_more has = has.not_plain (subst IsPlain (sym (ap (λ (r : Roots). r.root) (one_counts content has.slot slot has.root root has.counts counts))) plain)
+
+  levels : HasLevelsFine slot root [] [] content
+  levels = record { counts = counts; list = no_list root content plain.1; tables = no_levels root [] content plain.0 }
+
+  -- what is opened with these entries
+  abbrev opened_with : List Entry → ℕ → Opened
+  opened_with entries tail = record { slot = slot; root = root; deleted = []; levels = []; entries = entries; tail = tail }
+
+  pub loads : (store : Store) (found : List Placed) → store.tail.half ≡ half_of slot → IsReplay (journal_of slot) found store.tail.place content
+      → AllowsAll (start_at root.next_number) (entries_in found) × Knows store (after_entries (start_at root.next_number) (entries_in found)) → Holds store (after_entries (start_at root.next_number) (entries_in found)) content
+  loads store found half (entries, is, ends) (allowed, knows) =
+      let same : entries_in found ≡ entries = ap entries_in is ∙ entries_in-placed (journal_of slot) entries in
+      let start = start_at root.next_number in
       record {
-        view = record { next = n; location = l; levels = []; deleted = []; entries = entries };
-        is = record {
-          root = root.root;
-          alone = root.alone;
-          named = record { levels_are = refl; deleted_are = refl };
-          journal = ends;
-          allowed = subst (AllowsAll (start_at n)) same allowed;
+        opened = opened_with entries store.tail.place;
+        keeps = record {
+          is = record {
+            is = record {
+              counts = counts;
+              named = record {
+                list = levels.list;
+                tables = levels.tables;
+                ends = refl;
+                journal = ends;
+                known = known_of (after_entries start entries);
+                admitted = replayed_allows start (journal_of slot) entries (subst (AllowsAll start) same allowed);
+              };
+            };
+            plain = plain;
+          };
+          half = half;
+          place = refl;
         };
-        state_is = ap (after_entries (start_at n)) (sym same);
+        state_is = ap (after_entries start) (sym same);
         knows = knows;
       }
 
-  pub damaged_record : (place : ℕ) → (HasNoIndex content → ⊥) → IsBroken START_A place content → IsBrokenAt content place
-  damaged_record place indexed broken = record { indexed = indexed; broken = inr (record { next = n; location = l; root = root; broken = inl broken }) }
+  pub damaged_record : (place : ℕ) → IsBroken (journal_of slot) place content → IsBrokenAt content place
+  damaged_record place broken = inl (in_records slot root [] [] place levels refl broken, no_more)
 
-  pub refused_entry : (place tail : ℕ) → (HasNoIndex content → ⊥) → IsReplay START_A found tail content → IsRefusedAt (start_at n) found place → IsBrokenAt content place
-  refused_entry place tail indexed (entries, is, ends) refused = record {
-    indexed = indexed;
-    broken = inr (record {
-      next = n;
-      location = l;
-      root = root;
-      broken = inr (record { tail = tail; entries = entries; journal = ends; refused = subst (λ (xs : List Placed). IsRefusedAt (start_at n) xs place) is refused });
-    });
-  }
+  pub refused_entry : (found : List Placed) (place tail : ℕ) → IsReplay (journal_of slot) found tail content → IsRefusedAt (start_at root.next_number) found place → IsBrokenAt content place
+  refused_entry found place tail (entries, is, ends) refused =
+      inl (
+        in_entries slot root [] [] entries tail place levels refl ends (subst (λ (ps : List Placed). replayed (known_of (start_at root.next_number)) ps ≡ Err place) is (refused_is (start_at root.next_number) found place refused)),
+        no_more,
+      )
 
 is_damaged : OpenFault → StoreFault → Type 0
 is_damaged f (Damaged place) = f ≡ JournalDamaged place
@@ -92,6 +147,21 @@ damaged_as (JournalDamaged place) = refl
 pub of_damaged : (f : OpenFault) (place : ℕ) → of_opening f ≡ Damaged place → f ≡ JournalDamaged place
 unfolding is_damaged
 of_damaged f place e = subst (is_damaged f) e (damaged_as f)
+
+is_root_damaged : RootFault → StoreFault → Type 0
+is_root_damaged f (Damaged place) = f ≡ RootDamaged place
+is_root_damaged f other = Unit {0}
+
+root_damaged_as : (f : RootFault) → is_root_damaged f (of_root f)
+unfolding is_root_damaged
+root_damaged_as RootDisk = tt
+root_damaged_as RootNone = tt
+root_damaged_as (RootDamaged place) = refl
+
+-- only damaged slots are answered as damage
+pub of_root_damaged : (f : RootFault) (place : ℕ) → of_root f ≡ Damaged place → f ≡ RootDamaged place
+unfolding is_root_damaged
+of_root_damaged f place e = subst (is_root_damaged f) e (root_damaged_as f)
 
 error_in : {T : Type 0} → StoreFault → Result T StoreFault → StoreFault
 error_in d (Ok x) = d
@@ -116,7 +186,7 @@ only_synced tells a b lawful only same = λ c here. only c here ∙ sym (same (l
 
 module _ (tells : Type 0) (content : List ℕ) (r : Result Store StoreFault)
     (loaded : IfOk r (λ store. (s : State) × (tells → Holds store s content)))
-    (no_root : tells → r ≡ Err NoRoot → HasNoIndex content)
+    (no_root : tells → r ≡ Err NoRoot → HasNoRoot content)
     (damaged : tells → (place : ℕ) → r ≡ Err (Damaged place) → IsBrokenAt content place)
     (only : IfErr r (λ e. IsOutside e ⊎ ((e ≡ NoRoot) ⊎ ((place : ℕ) × (e ≡ Damaged place))))) where
   -- what a store holds that came of it
@@ -141,13 +211,13 @@ module _ (tells : Type 0) (content : List ℕ) (r : Result Store StoreFault)
   answers e out is want = ⊎_elim (λ memory. inr (inl (is ∙ ap Err memory))) (λ disk. inr (inr (is ∙ ap Err disk))) out
 
   -- no index is answered so
-  pub rooted : tells → HasNoIndex content → AnswersFault r NoRoot
+  pub rooted : tells → HasNoRoot content → AnswersFault r NoRoot
   rooted told none = cases r refl
     where
       cases : (q : Result Store StoreFault) → r ≡ q → AnswersFault r NoRoot
       cases (Ok store) is = let h = held store is told in absurd (stands_indexed h.0 content (stands_of store h.0 content h.1) none)
       cases (Err e) is = ⊎_elim (λ out. answers e out is NoRoot)
-          (λ more. ⊎_elim (λ same. inl (is ∙ ap Err same)) (λ (place, at). absurd ((damaged told place (is ∙ ap Err at)).indexed none)) more) (by_error e is)
+          (λ more. ⊎_elim (λ same. inl (is ∙ ap Err same)) (λ (place, at). absurd (broken_indexed content place (damaged told place (is ∙ ap Err at)) none)) more) (by_error e is)
 
   -- a broken rule is answered so, at its first place
   pub broken_at : (place : ℕ) → tells → IsBrokenAt content place → AnswersFault r (Damaged place)
@@ -156,5 +226,5 @@ module _ (tells : Type 0) (content : List ℕ) (r : Result Store StoreFault)
       cases : (q : Result Store StoreFault) → r ≡ q → AnswersFault r (Damaged place)
       cases (Ok store) is = let h = held store is told in absurd (stands_unbroken h.0 content place (stands_of store h.0 content h.1) broken)
       cases (Err e) is = ⊎_elim (λ out. answers e out is (Damaged place))
-          (λ more. ⊎_elim (λ none. absurd (broken.indexed (no_root told (is ∙ ap Err none))))
+          (λ more. ⊎_elim (λ none. absurd (broken_indexed content place broken (no_root told (is ∙ ap Err none))))
           (λ (spot, at). inl (is ∙ ap Err at ∙ ap (λ (p : ℕ). Err (Damaged p)) (one_place content spot place (damaged told spot (is ∙ ap Err at)) broken))) more) (by_error e is)

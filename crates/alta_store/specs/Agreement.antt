@@ -1,30 +1,34 @@
 -- A store and its disk.
 use Rattle.std.specs.Prelude.{◌≡◌, ℕ, ◌+◌, ◌-◌, ◌≤◌, true, List, Bool}
 use Rattle.alta_disk.specs.Disk.{DiskState, Only}
+use Rattle.alta_images.specs.Opened.{Opened, half_of, journal_of}
 use Rattle.alta_journal.specs.Journal.{EndsAt}
-use Rattle.alta_journal.specs.Places.{left_behind}
+use Rattle.alta_journal.specs.Places.{left_behind, start_of}
 use Rattle.alta_journal.specs.declared.entry.Entry.{Entry}
-use Rattle.alta_journal.specs.declared.half.Half.TheVariants.{A}
-use Rattle.alta_journal.specs.declared.places.TheConstants.{START_A, HALF_BYTES, HEAD_BYTES}
+use Rattle.alta_journal.specs.declared.places.TheConstants.{HEAD_BYTES}
 use Rattle.alta_meta.specs.declared.document.State.{State}
+use Rattle.alta_root.specs.Slots.{Counts}
+use Rattle.alta_root.specs.declared.root.Root.{Root}
+use Rattle.alta_root.specs.declared.slot.Slot.{Slot}
 use Rattle.alta_store.specs.Following.{Follows}
-use Rattle.alta_images.specs.Views.{View, state_of}
-use Rattle.alta_store.specs.Meaning.{IsView}
+use Rattle.alta_store.specs.Meaning.{IsPlainly, state_in}
 use Rattle.alta_store.specs.declared.store.Store.{Store}
 
 -- the store's catalog stands at this state
 abbrev pub Knows : Store → State → Type 0
 Knows store s = Follows store.catalog s
 
--- The store holds this view of an image: the image has it, and its journal ends where the store goes on.
-abbrev pub HasView : Store → View → List ℕ → Type 0
-HasView store view image = IsView store.tail.place view image
+-- The image is opened as this, and the store goes on where its journal ends.
+pub record Keeps (store : Store) (opened : Opened) (image : List ℕ) : Type 0 where
+  pub is : IsPlainly opened image
+  pub half : store.tail.half ≡ half_of opened.slot
+  pub place : store.tail.place ≡ opened.tail
 
 -- What the store keeps is what this image says, and it stands for this state.
 pub record Holds (store : Store) (s : State) (image : List ℕ) : Type 0 where
-  pub view : View
-  pub is : HasView store view image
-  pub state_is : state_of view ≡ s
+  pub opened : Opened
+  pub keeps : Keeps store opened image
+  pub state_is : state_in opened ≡ s
   pub knows : Knows store s
 
 -- the store's catalog stands at some state, also where the disk does not tell what it holds
@@ -35,19 +39,21 @@ IsIntact store = (s : State) × Knows store s
 pub record Agrees (tells : Type 0) (disk : DiskState) (store : Store) (s : State) : Type 0 where
   pub settled : Only disk.content disk.images
   pub content : tells → Holds store s disk.content
-  pub half : store.tail.half ≡ A
   pub intact : IsIntact store
 
--- The journal of this content has so many bytes left behind the gate of its next record.
+-- The journal of the root that counts has so many bytes left behind the gate of its next record.
 pub record HasRoom (content : List ℕ) (room : ℕ) : Type 0 where
+  pub slot : Slot
+  pub root : Root
+  pub counts : Counts slot root content
   pub place : ℕ
   pub entries : List Entry
-  pub journal : EndsAt START_A place entries content
-  pub room_is : room ≡ left_behind START_A place
+  pub journal : EndsAt (journal_of slot) place entries content
+  pub room_is : room ≡ left_behind (journal_of slot) place
 
 -- how many bytes are left in the journal behind the gate of the next record
 abbrev pub room_of : Store → ℕ
-room_of store = START_A + HALF_BYTES - (store.tail.place + 1)
+room_of store = left_behind (start_of store.tail.half) store.tail.place
 
 -- whether the store may be used
 abbrev pub is_sound : Store → Bool

@@ -2,8 +2,10 @@
 use Rattle.std.specs.Prelude.{◌≡◌, ◌⊎◌, Result, Err}
 use Rattle.alta_journal.specs.declared.replaying.OpenFault.{OpenFault}
 use Rattle.alta_journal.specs.declared.replaying.OpenFault.TheVariants.{Disk as JournalDisk, Memory as JournalMemory, Damaged as JournalDamaged}
+use Rattle.alta_root.specs.declared.fault.RootFault.{RootFault}
+use Rattle.alta_root.specs.declared.fault.RootFault.TheVariants.{Disk as RootDisk, NoRoot as NoRootThere, Damaged as RootDamaged}
 use Rattle.alta_store.specs.declared.fault.StoreFault.{StoreFault}
-use Rattle.alta_store.specs.declared.fault.StoreFault.TheVariants.{Disk, Memory, Damaged}
+use Rattle.alta_store.specs.declared.fault.StoreFault.TheVariants.{Disk, Memory, NoRoot, Damaged}
 
 -- want of memory, or a fault of the disk, which comes only where its count rose
 abbrev pub IsOutside : StoreFault → Type 0
@@ -18,3 +20,9 @@ abbrev pub of_opening : OpenFault → StoreFault
 of_opening JournalDisk = Disk
 of_opening JournalMemory = Memory
 of_opening (JournalDamaged place) = Damaged place
+
+-- the fault of an opening whose root was not read
+abbrev pub of_root : RootFault → StoreFault
+of_root RootDisk = Disk
+of_root NoRootThere = NoRoot
+of_root (RootDamaged place) = Damaged place

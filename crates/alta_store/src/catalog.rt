@@ -1,20 +1,21 @@
 // The documents of an index in memory: their words, their names, and what is counted of them.
 ghost use Rattle.std.specs.BTreeMap.{get_by_text};
-ghost use Rattle.std.specs.Prelude.{◌≡◌, ◌+◌, ◌-◌, ◌*◌, ◌<◌, ◌≤◌, true, false, length, is_some, Some, IfOk, IfSome, IfNone, OnOk};
+ghost use Rattle.std.specs.Prelude.{◌≡◌, ◌+◌, ◌<◌, ◌≤◌, ℕ, true, false, length, is_some, Some, IfOk, IfSome, IfNone, OnOk};
 ghost use Rattle.alta_codec.specs.Name.{IsName};
 ghost use Rattle.alta_memlevel.specs.Documents.{HasDocuments};
 ghost use Rattle.alta_meta.specs.declared.document.State.{State};
+ghost use Rattle.alta_root.specs.Root.{IsSound};
 ghost use Rattle.alta_store.specs.Following.{Follows};
 ghost use Rattle.alta_images.specs.Views.{start_at};
 ghost use Rattle.alta_images.specs.States.{has_number, with_added, without};
 
 use crate::names::{forget, note};
-use crate::root::Root;
 use alta_codec::{Loc, Text};
 use alta_content::DocRow;
 use alta_deletions::Deletions;
 use alta_memlevel::MemLevel;
 use alta_meta::{MetaFault, cells};
+use alta_root::Root;
 use std::alloc::{AllocError, Global};
 use std::collections::BTreeMap;
 
@@ -39,15 +40,14 @@ pub(crate) struct Catalog {
 
 impl Catalog {
     // No document was added yet: next number and location are those of a root.
-    pub(crate) fn new(alloc: Global, root: Root) -> Catalog
-        requires next { (1 ≤ root.next) × (root.next ≤ 4294967296) }
-        requires location { (1 ≤ root.location) × (root.location ≤ 1 + (root.next - 1) * 262146) }
-        ensures { Follows result (start_at root.next) }
+    pub(crate) fn new(alloc: Global, root: &Root) -> Catalog
+        requires { (size : ℕ) × IsSound size root.now }
+        ensures { Follows result (start_at root.now.next_number) }
     {
         Catalog {
-            next: root.next,
-            location: root.location,
-            first: root.next,
+            next: root.next_number,
+            location: root.next_location,
+            first: root.next_number,
             count: 0,
             words: 0,
             names: BTreeMap::new(alloc),

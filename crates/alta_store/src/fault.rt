@@ -1,8 +1,9 @@
 // Why a call of the store was not done.
 ghost use Rattle.std.specs.Prelude.{◌≡◌};
-ghost use Rattle.alta_store.specs.Answers.{of_opening};
+ghost use Rattle.alta_store.specs.Answers.{of_opening, of_root};
 
 use alta_journal::OpenFault;
+use alta_root::RootFault;
 use thiserror::Error;
 
 /// Why a call of the store was not done.
@@ -42,5 +43,16 @@ pub(crate) fn opening_fault(fault: OpenFault) -> StoreFault
         OpenFault::Disk => StoreFault::Disk,
         OpenFault::Memory => StoreFault::Memory,
         OpenFault::Damaged(place) => StoreFault::Damaged(place),
+    }
+}
+
+// The fault of an opening whose root was not read.
+pub(crate) fn root_fault(fault: RootFault) -> StoreFault
+    ensures { result ≡ of_root fault }
+{
+    match fault {
+        RootFault::Disk => StoreFault::Disk,
+        RootFault::NoRoot => StoreFault::NoRoot,
+        RootFault::Damaged(place) => StoreFault::Damaged(place),
     }
 }

@@ -3,9 +3,8 @@ ghost use Rattle.std.specs.Prelude.{◌≡◌, ◌≤◌, ◌+◌, ◌↔◌, tr
 ghost use Rattle.alta_codec.specs.Faults.{HasCause};
 ghost use Rattle.alta_disk.specs.Disk.{DiskState, Same, Passes, Stands};
 ghost use Rattle.alta_journal.specs.declared.places.TheConstants.{HEAD_BYTES};
-ghost use Rattle.alta_store.specs.Brokenness.{HasNoIndex};
 ghost use Rattle.alta_store.specs.Meaning.{StandsFor};
-ghost use Rattle.alta_store.specs.Roots.{AreZero, IsClear};
+ghost use Rattle.alta_store.specs.Clearing.{AreZero, IsClear};
 ghost use Rattle.alta_images.specs.States.{empty};
 
 use alta_codec::Failed;

@@ -8,19 +8,14 @@ mod laws;
 mod lists;
 mod names;
 mod opening;
-mod places;
 mod replaying;
-mod root;
 mod store;
 #[cfg(test)]
 mod tests;
 
 pub use fault::StoreFault;
 pub use formatting::format;
-pub use laws::{
-    a_disk_is_read_one_way, a_disk_is_read_or_damaged, a_root_without_levels_is_read_alike,
-    a_state_is_well_formed,
-};
+pub use laws::{a_disk_is_read_one_way, a_disk_is_read_or_damaged, a_state_is_well_formed};
 pub use lists::{NameRow, Names};
 pub use opening::has_index;
 pub use store::Store;

@@ -10,10 +10,13 @@ ghost use Rattle.alta_store.specs.declared.fault.StoreFault.TheVariants.{Memory,
 
 use crate::StoreFault;
 use crate::catalog::Catalog;
-use crate::places::{LAST_NEXT, PAYLOAD};
 use alta_journal::{Entry, Placed};
 use alta_meta::MetaFault;
+use alta_root::LAST_NEXT;
 use std::alloc::Global;
+
+// How far behind its gate the payload of a record stands.
+const PAYLOAD: u64 = 5;
 
 // Applies entries in order. It is damaged where one is not allowed where it stands.
 pub(crate) fn apply_entries(

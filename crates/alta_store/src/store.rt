@@ -1,36 +1,39 @@
 // The store.
 ghost use Rattle.std.specs.BTreeMap.{get_by_text};
 ghost use Rattle.std.specs.Str.{bytes_eq};
-ghost use Rattle.std.specs.Prelude.{◌||◌, ◌≡◌, ◌⊎◌, ◌↔◌, ◌+◌, ◌<◌, ◌≤◌, ◌++◌, ◌∷◌, [], ℕ, List, true, false, length, is_some, Result, Ok, Err, Some, IfOk, IfErr, OnOk, OnErr, IsErr, HoldsAt, MatchOption};
+ghost use Rattle.std.specs.Prelude.{◌||◌, ◌≡◌, ◌⊎◌, ◌↔◌, ◌+◌, ◌<◌, ◌≤◌, ◌++◌, ◌∷◌, [], ℕ, List, true, false, length, is_some, Result, Ok, Err, Some, IfOk, IfErr, OnOk, OnErr, IsErr, IsTrue, HoldsAt, MatchOption};
 ghost use Rattle.alta_codec.specs.Faults.{Rose};
+ghost use Rattle.alta_disk.specs.Calls.{Reads};
 ghost use Rattle.alta_disk.specs.Disk.{DiskState, Same, Only, Passes, Stands, LeavesOnly};
+ghost use Rattle.alta_images.specs.Opened.{Opened, half_of};
+ghost use Rattle.alta_images.specs.Switching.{with_entry};
 ghost use Rattle.alta_journal.specs.Record.{body_of};
 ghost use Rattle.alta_journal.specs.declared.entry.Entry.TheVariants.{Add, Delete};
 ghost use Rattle.alta_journal.specs.declared.places.TheConstants.{HALF_BYTES, HEAD_BYTES};
-ghost use Rattle.alta_journal.specs.declared.half.Half.TheVariants.{A};
 ghost use Rattle.alta_meta.specs.declared.document.State.{State};
 ghost use Rattle.alta_memlevel.specs.Documents.{HasDocuments};
-ghost use Rattle.alta_store.specs.Agreement.{Agrees, HasView, Holds, IsIntact, Knows, HasRoom, is_sound, room_of};
+ghost use Rattle.alta_store.specs.Agreement.{Agrees, Holds, IsIntact, Keeps, Knows, HasRoom, is_sound, room_of};
+ghost use Rattle.alta_root.specs.Root.{IsSound};
+ghost use Rattle.alta_root.specs.Slots.{Counts, HasNoRoot};
+ghost use Rattle.alta_root.specs.declared.slot.Slot.{Slot};
 ghost use Rattle.alta_store.specs.Answers.{IsOutside, AnswersFault};
-ghost use Rattle.alta_store.specs.Brokenness.{HasNoIndex, IsBrokenAt};
-ghost use Rattle.alta_images.specs.Views.{View, with_entry};
-ghost use Rattle.alta_store.specs.Meaning.{IsView, StandsFor, StandsForEither};
+ghost use Rattle.alta_store.specs.Brokenness.{IsBrokenAt};
+ghost use Rattle.alta_store.specs.Meaning.{IsPlain, IsPlainly, StandsFor, StandsForEither};
 ghost use Rattle.alta_store.specs.Naming.{AreNames};
 ghost use Rattle.alta_images.specs.States.{has_name, number_of, words_in, with_added, with_deleted, without, IsDocument};
 ghost use Rattle.alta_store.specs.declared.fault.StoreFault.TheVariants.{Disk as DiskFault, Memory, NoRoot, Damaged, Taken, Missing, Numbers, Full};
 
 use crate::StoreFault;
 use crate::catalog::Catalog;
-use crate::fault::opening_fault;
+use crate::fault::{opening_fault, root_fault};
 use crate::lists::Names;
 use crate::names::rows_in;
-use crate::opening::read_root;
-use crate::places::LAST_NEXT;
 use crate::replaying::apply_entries;
 use alta_codec::{Loc, Text};
 use alta_disk::Disk;
 use alta_journal::{Entry, Half, JournalFault, Ready, Tail, append, ready, replay};
 use alta_memlevel::MemLevel;
+use alta_root::{LAST_NEXT, Root, Slot, read_roots};
 use std::alloc::{AllocError, Global};
 
 /// The documents of an index in memory, and where its journal goes on.
@@ -88,15 +91,17 @@ impl Store {
         fault
     }
 
-    /// Opens the index of a disk: one sync, then the slots, then the journal's records by themselves, then their entries against
-    /// the documents before them. The store then stands for the state that the content stands for, and nothing is pending.
+    /// Opens the index of a disk: one sync, then both slots, then the journal's records of the half that the root uses, by themselves,
+    /// then their entries against the documents before them. The store then stands for the state that the content stands for, and
+    /// nothing is pending.
     ///
     /// # Errors
     ///
     /// `NoRoot` exactly where the content has no index, and `Damaged` exactly where it has one that breaks a rule of the
-    /// format, with the first place in this order: the length of a disk that is too short, 0 for the slots, and the place
-    /// in the journal. Both yield to `Memory`, and to `Disk` where a call of the disk failed. After each error but `Disk` the
-    /// sync was done: nothing is pending, and the content is the only image. After `Disk` each image is one of those before.
+    /// format, with the first place in this order: the length of a disk that is too short, the first field of a slot that breaks its
+    /// rule, and the place in the journal. As yet a root that names a level or a deletion list is answered as damage at 0. Both
+    /// yield to `Memory`, and to `Disk` where a call of the disk failed. After each error but `Disk` the sync was done: nothing is
+    /// pending, and the content is the only image. After `Disk` each image is one of those before.
     pub fn open<D: Disk>(alloc: Global, disk: &mut D) -> Result<Store, StoreFault>
         ensures agrees { (s : State) → (D.tells → StandsFor s (D.state disk.old).content) → IfOk result (λ store. Agrees D.tells (D.state disk.new) store s) }
         ensures some { IfOk result (λ store. (s : State) × Agrees D.tells (D.state disk.new) store s) }
@@ -104,20 +109,20 @@ impl Store {
         ensures limit { OnOk result (HEAD_BYTES ≤ (D.state disk.new).limit) }
 
         ensures stands { (s : State) → D.tells → StandsFor s (D.state disk.old).content → IfErr result IsOutside }
-        ensures no_root { D.tells → result ≡ Err NoRoot → HasNoIndex (D.state disk.old).content }
-        ensures rooted { D.tells → HasNoIndex (D.state disk.old).content → AnswersFault result NoRoot }
+        ensures no_root { D.tells → result ≡ Err NoRoot → HasNoRoot (D.state disk.old).content }
+        ensures rooted { D.tells → HasNoRoot (D.state disk.old).content → AnswersFault result NoRoot }
         ensures damaged { (place : ℕ) → D.tells → result ≡ Err (Damaged place) → IsBrokenAt (D.state disk.old).content place }
         ensures undamaged { (place : ℕ) → D.tells → IsBrokenAt (D.state disk.old).content place → AnswersFault result (Damaged place) }
         ensures only { IfErr result (λ e. IsOutside e ⊎ ((e ≡ NoRoot) ⊎ ((place : ℕ) × (e ≡ Damaged place)))) }
 
         ensures durable { OnOk result (Only (D.state disk.new).content (D.state disk.new).images) }
         ensures settled { IfErr result (λ e. (e ≡ DiskFault) ⊎ Only (D.state disk.new).content (D.state disk.new).images) }
-        ensures view { (place : ℕ) (view : View) → (D.tells → IsView place view (D.state disk.old).content) → IfOk result (λ store. Stands D.tells (D.state disk.new) (HasView store view)) }
+        ensures keeps { (opened : Opened) → (D.tells → IsPlainly opened (D.state disk.old).content) → IfOk result (λ store. Stands D.tells (D.state disk.new) (Keeps store opened)) }
         ensures content { D.tells → (D.state disk.new).content ≡ (D.state disk.old).content }
         ensures images { Passes Same (D.state disk.old) (D.state disk.new) }
         ensures cause { result ≡ Err DiskFault → Rose (D.state disk.old).faults (D.state disk.new).faults }
         ensures faults { (D.state disk.old).faults ≤ (D.state disk.new).faults }
-        ensures read { (D.state disk.new).taken ≤ (D.state disk.old).taken + 8192 + HALF_BYTES }
+        ensures read { (D.state disk.new).taken ≤ (D.state disk.old).taken + (592 + HALF_BYTES) }
         ensures same_limit { (D.state disk.new).limit ≡ (D.state disk.old).limit }
     {
         let Ok(()) = disk.sync() else {
@@ -128,7 +133,7 @@ impl Store {
 
     /// Adds a document, by one record in the journal, and answers its number. The title has no tab, title and body have no
     /// newline. While it runs, each image that a stop may leave stands for the state before or after; once it has
-    /// answered, each stands for the state after, by the view of before with one entry more.
+    /// answered, each stands for the state after, and is opened as before with one entry more.
     ///
     /// # Errors
     ///
@@ -148,7 +153,7 @@ impl Store {
         requires limit { HEAD_BYTES ≤ (D.state disk.old).limit }
 
         ensures agrees { (s : State) → Agrees D.tells (D.state disk.old) self.old s → OnOk result (Agrees D.tells (D.state disk.new) self.new (with_added name.now title.now body.now s)) }
-        ensures view { (view : View) → Stands D.tells (D.state disk.old) (HasView self.old view) → OnOk result (Stands D.tells (D.state disk.new) (HasView self.new (with_entry view (Add name.now title.now body.now)))) }
+        ensures keeps { (opened : Opened) → Stands D.tells (D.state disk.old) (Keeps self.old opened) → OnOk result (Stands D.tells (D.state disk.new) (Keeps self.new (with_entry opened (Add name.now title.now body.now)))) }
         ensures number { (s : State) → Agrees D.tells (D.state disk.old) self.old s → D.tells → IfOk result (λ n. (n ≡ s.next) × (has_name name.now s ≡ false) × (s.next < 4294967296)) }
         ensures sound { OnOk result (is_sound self.new ≡ true) }
         ensures unsound { IfErr result (λ e. ((e ≡ Taken) ⊎ (e ≡ Numbers)) ⊎ (is_sound self.new ≡ false)) }
@@ -196,7 +201,7 @@ impl Store {
         requires limit { HEAD_BYTES ≤ (D.state disk.old).limit }
 
         ensures agrees { (s : State) → Agrees D.tells (D.state disk.old) self.old s → OnOk result (Agrees D.tells (D.state disk.new) self.new (with_added name.now title.now body.now s)) }
-        ensures view { (view : View) → Stands D.tells (D.state disk.old) (HasView self.old view) → OnOk result (Stands D.tells (D.state disk.new) (HasView self.new (with_entry view (Add name.now title.now body.now)))) }
+        ensures keeps { (opened : Opened) → Stands D.tells (D.state disk.old) (Keeps self.old opened) → OnOk result (Stands D.tells (D.state disk.new) (Keeps self.new (with_entry opened (Add name.now title.now body.now)))) }
         ensures number { IfOk result (λ n. n ≡ self.old.catalog.next) }
         ensures sound { is_sound self.new ≡ is_sound self.old }
         ensures images { (s : State) → Agrees D.tells (D.state disk.old) self.old s → LeavesOnly (StandsForEither s (with_added name.now title.now body.now s)) (D.state disk.old) (D.state disk.new) }
@@ -239,7 +244,7 @@ impl Store {
         requires limit { HEAD_BYTES ≤ (D.state disk.old).limit }
 
         ensures agrees { (s : State) → Agrees D.tells (D.state disk.old) self.old s → OnOk result (Agrees D.tells (D.state disk.new) self.new (with_deleted name.now s)) }
-        ensures view { (view : View) → Stands D.tells (D.state disk.old) (HasView self.old view) → IfOk result (λ n. Stands D.tells (D.state disk.new) (HasView self.new (with_entry view (Delete n)))) }
+        ensures keeps { (opened : Opened) → Stands D.tells (D.state disk.old) (Keeps self.old opened) → IfOk result (λ n. Stands D.tells (D.state disk.new) (Keeps self.new (with_entry opened (Delete n)))) }
         ensures number { (s : State) → Agrees D.tells (D.state disk.old) self.old s → D.tells → IfOk result (λ n. number_of name.now s ≡ Some n) }
         ensures sound { OnOk result (is_sound self.new ≡ true) }
         ensures unsound { IfErr result (λ e. (e ≡ Missing) ⊎ (is_sound self.new ≡ false)) }
@@ -277,7 +282,7 @@ impl Store {
         requires limit { HEAD_BYTES ≤ (D.state disk.old).limit }
 
         ensures agrees { (s : State) → Agrees D.tells (D.state disk.old) self.old s → OnOk result (Agrees D.tells (D.state disk.new) self.new (with_deleted name.now s)) }
-        ensures view { (view : View) → Stands D.tells (D.state disk.old) (HasView self.old view) → OnOk result (Stands D.tells (D.state disk.new) (HasView self.new (with_entry view (Delete number)))) }
+        ensures keeps { (opened : Opened) → Stands D.tells (D.state disk.old) (Keeps self.old opened) → OnOk result (Stands D.tells (D.state disk.new) (Keeps self.new (with_entry opened (Delete number)))) }
         ensures sound { is_sound self.new ≡ is_sound self.old }
         ensures images { (s : State) → Agrees D.tells (D.state disk.old) self.old s → LeavesOnly (StandsForEither s (with_deleted name.now s)) (D.state disk.old) (D.state disk.new) }
         ensures full { (need gap : ℕ) → result ≡ Err (Full need gap) → (need ≡ length (body_of (Delete number))) × (gap ≡ room_of self.old) × (gap < need) }
@@ -323,32 +328,70 @@ fn text_of(alloc: Global, text: &str) -> Result<Text, AllocError>
     Ok(Text::from_string(String::from_str(alloc, text)?))
 }
 
+// The half of the journal that a root in this slot uses.
+fn half_of(slot: Slot) -> Half
+    ensures { result ≡ half_of slot }
+{
+    match slot {
+        Slot::A => Half::A,
+        Slot::B => Half::B,
+    }
+}
+
+// The root that counts, if it names neither a level nor a deletion list: as yet the store opens no other.
+fn plain_root<D: Disk>(disk: &mut D) -> Result<(Half, Root), StoreFault>
+    ensures counts { D.tells → IfOk result (λ r. (slot : Slot) × Counts slot r.1 (D.state disk.old).content × (r.0 ≡ half_of slot)) }
+    ensures plain { IfOk result (λ r. IsPlain r.1) }
+    ensures kept { IfOk result (λ r. (size : ℕ) × IsSound size r.1) }
+    ensures long { OnOk result (HEAD_BYTES ≤ (D.state disk.old).limit) }
+    ensures no_root { D.tells → result ≡ Err NoRoot → HasNoRoot (D.state disk.old).content }
+    ensures damaged { D.tells → (place : ℕ) → result ≡ Err (Damaged place) → IsBrokenAt (D.state disk.old).content place }
+    ensures only { IfErr result (λ e. IsOutside e ⊎ ((e ≡ NoRoot) ⊎ ((place : ℕ) × (e ≡ Damaged place)))) }
+    ensures cause { result ≡ Err DiskFault → Rose (D.state disk.old).faults (D.state disk.new).faults }
+    ensures reads { Reads D.tells 592 (D.state disk.old) (D.state disk.new) }
+{
+    match read_roots(disk) {
+        Ok(roots) => {
+            if !is_plain(&roots.root) {
+                return Err(StoreFault::Damaged(0));
+            }
+            Ok((half_of(roots.slot), roots.root))
+        }
+        Err(fault) => Err(root_fault(fault)),
+    }
+}
+
+fn is_plain(root: &Root) -> bool
+    ensures { IsTrue result ↔ IsPlain root.now }
+{
+    root.levels.is_empty() && root.deletions.place == 0 && root.deletions.bytes == 0
+}
+
 // Reads the store that a disk holds.
 fn load<D: Disk>(alloc: Global, disk: &mut D) -> Result<Store, StoreFault>
     ensures loaded { IfOk result (λ store. (s : State) × (D.tells → Holds store s (D.state disk.old).content)) }
     ensures intact { IfOk result IsIntact }
-    ensures half { IfOk result (λ store. store.tail.half ≡ A) }
     ensures sound { IfOk result (λ store. is_sound store ≡ true) }
     ensures limit { OnOk result (HEAD_BYTES ≤ (D.state disk.old).limit) }
-    ensures no_root { D.tells → result ≡ Err NoRoot → HasNoIndex (D.state disk.old).content }
+    ensures no_root { D.tells → result ≡ Err NoRoot → HasNoRoot (D.state disk.old).content }
     ensures damaged { D.tells → (place : ℕ) → result ≡ Err (Damaged place) → IsBrokenAt (D.state disk.old).content place }
     ensures only { IfErr result (λ e. IsOutside e ⊎ ((e ≡ NoRoot) ⊎ ((place : ℕ) × (e ≡ Damaged place)))) }
     ensures content { D.tells → (D.state disk.new).content ≡ (D.state disk.old).content }
     ensures images { Passes Same (D.state disk.old) (D.state disk.new) }
     ensures cause { result ≡ Err DiskFault → Rose (D.state disk.old).faults (D.state disk.new).faults }
     ensures faults { (D.state disk.old).faults ≤ (D.state disk.new).faults }
-    ensures read { (D.state disk.new).taken ≤ (D.state disk.old).taken + 8192 + HALF_BYTES }
+    ensures read { (D.state disk.new).taken ≤ (D.state disk.old).taken + (592 + HALF_BYTES) }
     ensures same_limit { (D.state disk.new).limit ≡ (D.state disk.old).limit }
 {
-    let root = match read_root(disk) {
-        Ok(root) => root,
+    let (half, root) = match plain_root(disk) {
+        Ok(read) => read,
         Err(fault) => return Err(fault),
     };
-    let (found, tail) = match replay(alloc, disk, Half::A) {
+    let (found, tail) = match replay(alloc, disk, half) {
         Ok(read) => read,
         Err(fault) => return Err(opening_fault(fault)),
     };
-    let mut catalog = Catalog::new(alloc, root);
+    let mut catalog = Catalog::new(alloc, &root);
     match apply_entries(alloc, &mut catalog, &found) {
         Ok(()) => Ok(Store {
             alloc,

@@ -183,15 +183,15 @@ fn a_broken_rule_has_its_place(rt: HostRuntime) -> Result<(), Fail> {
     let rows: [(usize, &[u8], Option<StoreFault>); 14] = [
         (0, b"\xa5", None),
         (0, b"\0", Some(StoreFault::NoRoot)),
-        (1, b"\x02", Some(StoreFault::Damaged(0))),
+        (1, b"\x02", Some(StoreFault::Damaged(1))),
         (2, b"\x07", None),
-        (3, b"\x01", Some(StoreFault::Damaged(0))),
-        (8, b"\0\0\0\0\0\0\0\0", Some(StoreFault::Damaged(0))),
+        (3, b"\x01", Some(StoreFault::Damaged(40))),
+        (8, b"\0\0\0\0\0\0\0\0", Some(StoreFault::Damaged(8))),
         (8, b"\0\0\0\x01\0\0\0\0", None),
-        (8, b"\0\0\0\x01\0\0\0\x01", Some(StoreFault::Damaged(0))),
-        (23, b"\x02", Some(StoreFault::Damaged(0))),
-        (39, b"\x01", Some(StoreFault::Damaged(0))),
-        (4_096, b"\xa5", Some(StoreFault::Damaged(0))),
+        (8, b"\0\0\0\x01\0\0\0\x01", Some(StoreFault::Damaged(8))),
+        (23, b"\x02", Some(StoreFault::Damaged(16))),
+        (39, b"\x01", Some(StoreFault::Damaged(24))),
+        (4_096, b"\xa5", Some(StoreFault::Damaged(4_097))),
         (
             8_192,
             b"\xa5\xff\xff\xff\xff",
@@ -220,6 +220,39 @@ fn a_broken_rule_has_its_place(rt: HostRuntime) -> Result<(), Fail> {
         content.truncate(len);
         assert_eq!(rt; opened(alloc, content), want, "cut to {len}");
     }
+    Ok(())
+}
+
+#[test]
+fn the_later_slot_and_its_half_count(rt: HostRuntime) -> Result<(), Fail> {
+    let alloc = rt.alloc();
+    let mut content = formatted(alloc)?;
+    put(&mut content, 8_192, RECORD);
+    // Slot B with the fields of slot A, and the sequence that comes next, is the later one.
+    put(&mut content, 4_096, b"\xa5\x01\x01");
+    put(&mut content, 4_111, b"\x01\0\0\0\0\0\0\0\x01");
+    put(&mut content, 1_056_768, RECORD_B);
+    put(&mut content, 1_056_784, RECORD_AA);
+    let names = names_of(alloc, content.clone()?).or(Err("the store was not opened"))?;
+    assert_eq!(rt; names.len(), 2);
+    assert!(rt; is_row(&names, 0, "B", 1));
+    assert!(rt; is_row(&names, 1, "aa", 2));
+    // Where no slot comes next, and where slot A does.
+    let rows: [(usize, &[u8], Option<StoreFault>); 3] = [
+        (4_098, b"\x02", Some(StoreFault::Damaged(4_098))),
+        (2, b"\x02", None),
+        (1_056_773, b"\x04", Some(StoreFault::Damaged(1_056_773))),
+    ];
+    for (at, bytes, want) in rows {
+        let mut other = content.clone()?;
+        put(&mut other, at, bytes);
+        assert_eq!(rt; opened(alloc, other), want, "at {at}");
+    }
+    // A deletion list is not opened as yet.
+    let mut listed = content.clone()?;
+    listed.push(1)?;
+    put(&mut listed, 4_120, b"\0\0\0\0\0\x20\x20\0\0\0\0\0\0\0\0\x01");
+    assert_eq!(rt; opened(alloc, listed), Some(StoreFault::Damaged(0)));
     Ok(())
 }
 

@@ -1,6 +1,6 @@
 use Rattle.std.proofs.Common.{◌≡◌, ◌≤◌, ◌-◌}
 use Rattle.alta_journal.specs.declared.places.TheConstants.{HEAD_BYTES}
-use Rattle.alta_store.specs.Roots.{IsClear}
+use Rattle.alta_store.specs.Clearing.{IsClear}
 use Rattle.alta_store.proofs.formatting.put_zeros.Given as goal
 
 abbrev pub invariant-loop-at : goal.invariant-loop-at

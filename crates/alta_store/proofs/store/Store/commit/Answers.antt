@@ -1,6 +1,10 @@
+use Rattle.std.proofs.Common.{inl, sym}
+use Rattle.alta_disk.proofs.Moments.{leaves_start}
 use Rattle.alta_journal.specs.declared.entry.Entry.TheVariants.{Add}
+use Rattle.alta_store.specs.Meaning.{StandsForEither}
 use Rattle.alta_images.specs.States.{with_added}
-use Rattle.alta_store.proofs.Commits.{closed, either, agrees_after, views_after, add_allowed, added_is}
+use Rattle.alta_store.proofs.Agreements.{images_stand}
+use Rattle.alta_store.proofs.Commits.{closed, either, agrees_after, keeps_after, add_allowed, added_is, fits_ok, fits_failed, room_left, too_long, unmoved}
 use Rattle.alta_store.proofs.store.Store.commit.Goals as goal
 
 pub append-requires-clause-closed : goal.append-requires-clause-closed
@@ -13,21 +17,23 @@ returns-in-Ok-append-clause-agrees g c = λ s agrees.
     c.in-Ok.ready.entry (with_added c.args.name.now c.args.title.now c.args.body.now s)
     (added_is g.D.Disk.tells (g.D.Disk.state c.args.disk.now) (g.met.D.Disk.lawful c.args.disk.now) c.args.self.now s agrees c.args.name.now c.args.title.now c.args.body.now c.in-Ok.ready.entry c.in-Ok.ensures)
     (add_allowed g.D.Disk.tells (g.D.Disk.state c.args.disk.now) (g.met.D.Disk.lawful c.args.disk.now) c.args.self.now s agrees c.args.name.now c.args.title.now c.args.body.now c.in-Ok.ready.entry c.in-Ok.ensures c.requires.free c.requires.number)
+    (fits_ok _ _ _ c.in-Ok-append.ensures.full)
     (g.D.Disk.state c.append.new.disk) c.in-Ok-append.ensures.images (g.met.D.Disk.lawful c.append.new.disk) c.in-Ok-append.ensures.durable c.in-Ok-append.ensures.appended
     _ c.in-Ok-append.ensures.tail c.in-Ok-append.ensures.half
     (λ told. c.in-Ok-add.ensures s (agrees.content told).knows)
     (with_added c.args.name.now c.args.title.now c.args.body.now agrees.intact.0, c.in-Ok-add.ensures agrees.intact.0 agrees.intact.1)
 
-pub returns-in-Ok-append-clause-view : goal.returns-in-Ok-append-clause-view
-returns-in-Ok-append-clause-view g c = λ view stands.
+pub returns-in-Ok-append-clause-keeps : goal.returns-in-Ok-append-clause-keeps
+returns-in-Ok-append-clause-keeps g c = λ opened stands.
     let s = c.requires.agrees.0 in
     let agrees = c.requires.agrees.1 in
-    views_after g.D.Disk.tells (g.D.Disk.state c.args.disk.now) (g.met.D.Disk.lawful c.args.disk.now) c.args.self.now s agrees
+    keeps_after g.D.Disk.tells (g.D.Disk.state c.args.disk.now) (g.met.D.Disk.lawful c.args.disk.now) c.args.self.now s agrees
     c.in-Ok.ready.entry (with_added c.args.name.now c.args.title.now c.args.body.now s)
     (added_is g.D.Disk.tells (g.D.Disk.state c.args.disk.now) (g.met.D.Disk.lawful c.args.disk.now) c.args.self.now s agrees c.args.name.now c.args.title.now c.args.body.now c.in-Ok.ready.entry c.in-Ok.ensures)
     (add_allowed g.D.Disk.tells (g.D.Disk.state c.args.disk.now) (g.met.D.Disk.lawful c.args.disk.now) c.args.self.now s agrees c.args.name.now c.args.title.now c.args.body.now c.in-Ok.ready.entry c.in-Ok.ensures c.requires.free c.requires.number)
+    (fits_ok _ _ _ c.in-Ok-append.ensures.full)
     (g.D.Disk.state c.append.new.disk) c.in-Ok-append.ensures.images (g.met.D.Disk.lawful c.append.new.disk) c.in-Ok-append.ensures.durable c.in-Ok-append.ensures.appended
-    _ c.in-Ok-append.ensures.tail (Add c.args.name.now c.args.title.now c.args.body.now) c.in-Ok.ensures view stands
+    _ c.in-Ok-append.ensures.tail c.in-Ok-append.ensures.half (Add c.args.name.now c.args.title.now c.args.body.now) c.in-Ok.ensures opened stands
 
 pub returns-in-Ok-append-clause-images : goal.returns-in-Ok-append-clause-images
 returns-in-Ok-append-clause-images g c = λ s agrees.
@@ -35,15 +41,14 @@ returns-in-Ok-append-clause-images g c = λ s agrees.
     c.in-Ok.ready.entry (with_added c.args.name.now c.args.title.now c.args.body.now s)
     (added_is g.D.Disk.tells (g.D.Disk.state c.args.disk.now) (g.met.D.Disk.lawful c.args.disk.now) c.args.self.now s agrees c.args.name.now c.args.title.now c.args.body.now c.in-Ok.ready.entry c.in-Ok.ensures)
     (add_allowed g.D.Disk.tells (g.D.Disk.state c.args.disk.now) (g.met.D.Disk.lawful c.args.disk.now) c.args.self.now s agrees c.args.name.now c.args.title.now c.args.body.now c.in-Ok.ready.entry c.in-Ok.ensures c.requires.free c.requires.number)
+    (fits_ok _ _ _ c.in-Ok-append.ensures.full)
     (g.D.Disk.state c.append.new.disk) c.in-Ok-append.ensures.images
 
 pub returns-in-Err-Full-clause-images : goal.returns-in-Err-Full-clause-images
 returns-in-Err-Full-clause-images g c = λ s agrees.
-    either g.D.Disk.tells (g.D.Disk.state c.args.disk.now) (g.met.D.Disk.lawful c.args.disk.now) c.args.self.now s agrees
-    c.in-Ok.ready.entry (with_added c.args.name.now c.args.title.now c.args.body.now s)
-    (added_is g.D.Disk.tells (g.D.Disk.state c.args.disk.now) (g.met.D.Disk.lawful c.args.disk.now) c.args.self.now s agrees c.args.name.now c.args.title.now c.args.body.now c.in-Ok.ready.entry c.in-Ok.ensures)
-    (add_allowed g.D.Disk.tells (g.D.Disk.state c.args.disk.now) (g.met.D.Disk.lawful c.args.disk.now) c.args.self.now s agrees c.args.name.now c.args.title.now c.args.body.now c.in-Ok.ready.entry c.in-Ok.ensures c.requires.free c.requires.number)
-    (g.D.Disk.state c.append.new.disk) c.in-Err-Full.ensures.images
+    unmoved g.D.Disk.state c.args.disk.now c.append.new.disk (sym (c.in-Err-Full.ensures.full (too_long _ _ _ _ _ c.in-Err-Full.field-0-is c.in-Err-Full.ensures.room)).1) (StandsForEither s (with_added c.args.name.now c.args.title.now c.args.body.now s))
+    (leaves_start g.D.Disk.tells (g.D.Disk.state c.args.disk.now) (StandsForEither s (with_added c.args.name.now c.args.title.now c.args.body.now s)) (g.met.D.Disk.lawful c.args.disk.now)
+    (λ image here. inl (images_stand g.D.Disk.tells (g.D.Disk.state c.args.disk.now) c.args.self.now s (g.met.D.Disk.lawful c.args.disk.now) agrees image here)))
 
 pub returns-clause-images : goal.returns-clause-images
 returns-clause-images g c = λ s agrees.
@@ -51,4 +56,10 @@ returns-clause-images g c = λ s agrees.
     c.in-Ok.ready.entry (with_added c.args.name.now c.args.title.now c.args.body.now s)
     (added_is g.D.Disk.tells (g.D.Disk.state c.args.disk.now) (g.met.D.Disk.lawful c.args.disk.now) c.args.self.now s agrees c.args.name.now c.args.title.now c.args.body.now c.in-Ok.ready.entry c.in-Ok.ensures)
     (add_allowed g.D.Disk.tells (g.D.Disk.state c.args.disk.now) (g.met.D.Disk.lawful c.args.disk.now) c.args.self.now s agrees c.args.name.now c.args.title.now c.args.body.now c.in-Ok.ready.entry c.in-Ok.ensures c.requires.free c.requires.number)
+    (fits_failed _ _ _ c.in-Err-Disk.field-0-is c.in-Err-Disk.ensures.full)
     (g.D.Disk.state c.append.new.disk) c.in-Err-Disk.ensures.images
+
+pub returns-in-Err-Full-clause-full_room : goal.returns-in-Err-Full-clause-full_room
+returns-in-Err-Full-clause-full_room g c = λ need gap told e.
+    let full = c.in-Err-Full.ensures.full (too_long _ _ _ _ _ c.in-Err-Full.field-0-is c.in-Err-Full.ensures.room) in
+    room_left g.D.Disk.state c.args.disk.now c.append.new.disk full.1 c.args.self.now c.requires.agrees.0 (c.requires.agrees.1.content told) _ _ _ need gap _ c.in-Err-Full.field-0-is full.0 e

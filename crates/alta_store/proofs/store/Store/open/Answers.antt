@@ -2,13 +2,14 @@ use Rattle.std.proofs.Common.{List, ℕ, ◌≡◌, inr, subst, sym, ◌∙◌}
 use Rattle.std.proofs.lemmas.Result.{IfOk-at_ok}
 use Rattle.alta_disk.specs.Disk.{Stands}
 use Rattle.alta_disk.proofs.Moments.{only_same}
-use Rattle.alta_journal.specs.declared.half.Half.TheVariants.{A}
 use Rattle.alta_meta.specs.declared.document.State.{State}
-use Rattle.alta_store.specs.Agreement.{Agrees, HasView, Holds, IsIntact}
-use Rattle.alta_store.specs.Brokenness.{HasNoIndex, IsBrokenAt}
-use Rattle.alta_store.specs.Meaning.{IsView, StandsFor}
+use Rattle.alta_store.specs.Agreement.{Agrees, Holds, IsIntact, Keeps}
+use Rattle.alta_images.specs.Opened.{Opened}
+use Rattle.alta_root.specs.Slots.{HasNoRoot}
+use Rattle.alta_store.specs.Brokenness.{IsBrokenAt}
+use Rattle.alta_store.specs.Meaning.{IsPlainly, StandsFor}
 use Rattle.alta_store.specs.declared.store.Store.{Store}
-use Rattle.alta_store.proofs.Agreements.{views_stand}
+use Rattle.alta_store.proofs.Agreements.{keeps_stand}
 use Rattle.alta_store.proofs.Loads.{if_ok, if_err, only_synced, held_as, outside, rooted, broken_at}
 use Rattle.alta_store.proofs.store.Store.open.Goals as goal
 
@@ -21,7 +22,6 @@ returns-clause-agrees g c = λ s stands.
       content = λ told. subst (Holds store s) (sym (c.load.ensures.content told))
           (held_as g.D.Disk.tells (g.D.Disk.state c.sync.new.self).content c.load.result c.load.ensures.loaded c.load.ensures.no_root c.load.ensures.damaged c.load.ensures.only
           s store (λ told. subst (StandsFor s) (sym (c.sync.ensures.content told)) (stands told)) is told);
-      half = IfOk-at_ok (λ (store : Store). store.tail.half ≡ A) is c.load.ensures.half;
       intact = IfOk-at_ok IsIntact is c.load.ensures.intact;
     })
 
@@ -35,7 +35,6 @@ returns-clause-some g c =
             (only_synced g.D.Disk.tells (g.D.Disk.state c.args.disk.now) (g.D.Disk.state c.sync.new.self) (g.met.D.Disk.lawful c.sync.new.self) c.in-Ok.ensures.durable c.sync.ensures.content)
             (g.D.Disk.state c.load.new.disk) c.load.ensures.images c.load.ensures.content;
         content = λ told. subst (Holds store held.0) (sym (c.load.ensures.content told)) (held.1 told);
-        half = IfOk-at_ok (λ (store : Store). store.tail.half ≡ A) is c.load.ensures.half;
         intact = IfOk-at_ok IsIntact is c.load.ensures.intact;
       },
     ))
@@ -45,10 +44,13 @@ returns-clause-stands g c = λ s told stands.
     outside g.D.Disk.tells (g.D.Disk.state c.sync.new.self).content c.load.result c.load.ensures.loaded c.load.ensures.no_root c.load.ensures.damaged c.load.ensures.only
     s told (subst (StandsFor s) (sym (c.sync.ensures.content told)) stands)
 
+pub returns-clause-no_root : goal.returns-clause-no_root
+returns-clause-no_root g c = λ told e. subst HasNoRoot (c.sync.ensures.content told) (c.load.ensures.no_root told e)
+
 pub returns-clause-rooted : goal.returns-clause-rooted
 returns-clause-rooted g c = λ told none.
     rooted g.D.Disk.tells (g.D.Disk.state c.sync.new.self).content c.load.result c.load.ensures.loaded c.load.ensures.no_root c.load.ensures.damaged c.load.ensures.only
-    told (subst HasNoIndex (sym (c.sync.ensures.content told)) none)
+    told (subst HasNoRoot (sym (c.sync.ensures.content told)) none)
 
 pub returns-clause-damaged : goal.returns-clause-damaged
 returns-clause-damaged g c = λ place told e. subst (λ (image : List ℕ). IsBrokenAt image place) (c.sync.ensures.content told) (c.load.ensures.damaged told place e)
@@ -58,16 +60,16 @@ returns-clause-undamaged g c = λ place told broken.
     broken_at g.D.Disk.tells (g.D.Disk.state c.sync.new.self).content c.load.result c.load.ensures.loaded c.load.ensures.no_root c.load.ensures.damaged c.load.ensures.only
     place told (subst (λ (image : List ℕ). IsBrokenAt image place) (sym (c.sync.ensures.content told)) broken)
 
-pub returns-clause-view : goal.returns-clause-view
-returns-clause-view g c = λ place view is.
-    if_ok c.load.result (λ (store : Store). Stands g.D.Disk.tells (g.D.Disk.state c.load.new.disk) (HasView store view)) (λ store loaded.
+pub returns-clause-keeps : goal.returns-clause-keeps
+returns-clause-keeps g c = λ opened is.
+    if_ok c.load.result (λ (store : Store). Stands g.D.Disk.tells (g.D.Disk.state c.load.new.disk) (Keeps store opened)) (λ store loaded.
     let held = IfOk-at_ok (λ (store : Store). (s : State) × (g.D.Disk.tells → Holds store s (g.D.Disk.state c.sync.new.self).content)) loaded c.load.ensures.loaded in
-    views_stand g.D.Disk.tells (g.D.Disk.state c.load.new.disk) store (g.met.D.Disk.lawful c.load.new.disk)
+    keeps_stand g.D.Disk.tells (g.D.Disk.state c.load.new.disk) store (g.met.D.Disk.lawful c.load.new.disk)
     (only_same g.D.Disk.tells (g.D.Disk.state c.sync.new.self) (g.met.D.Disk.lawful c.sync.new.self)
     (only_synced g.D.Disk.tells (g.D.Disk.state c.args.disk.now) (g.D.Disk.state c.sync.new.self) (g.met.D.Disk.lawful c.sync.new.self) c.in-Ok.ensures.durable c.sync.ensures.content)
     (g.D.Disk.state c.load.new.disk) c.load.ensures.images c.load.ensures.content)
     held.0 (λ told. subst (Holds store held.0) (sym (c.load.ensures.content told)) (held.1 told))
-    place view (λ told. subst (λ (image : List ℕ). IsView place view image) (sym (c.load.ensures.content told ∙ c.sync.ensures.content told)) (is told)))
+    opened (λ told. subst (λ (image : List ℕ). IsPlainly opened image) (sym (c.load.ensures.content told ∙ c.sync.ensures.content told)) (is told)))
 
 pub returns-clause-settled : goal.returns-clause-settled
 returns-clause-settled g c =

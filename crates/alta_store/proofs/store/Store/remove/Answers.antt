@@ -1,8 +1,11 @@
-use Rattle.std.proofs.Common.{ap}
+use Rattle.std.proofs.Common.{ap, inl, sym}
+use Rattle.alta_disk.proofs.Moments.{leaves_start}
 use Rattle.alta_journal.specs.Record.{Record}
 use Rattle.alta_journal.specs.declared.entry.Entry.TheVariants.{Delete}
+use Rattle.alta_store.specs.Meaning.{StandsForEither}
 use Rattle.alta_images.specs.States.{with_deleted}
-use Rattle.alta_store.proofs.Commits.{closed, either, agrees_after, knows_deleted, views_after, delete_allowed, deleted_after}
+use Rattle.alta_store.proofs.Agreements.{images_stand}
+use Rattle.alta_store.proofs.Commits.{closed, either, agrees_after, keeps_after, knows_deleted, delete_allowed, deleted_after, fits_ok, fits_failed, room_left, too_long, unmoved}
 use Rattle.alta_store.proofs.FollowingLaws.{live_number}
 use Rattle.alta_store.proofs.store.Store.remove.Goals as goal
 
@@ -22,22 +25,24 @@ returns-in-Ok-append-clause-agrees g c = λ s agrees.
     c.in-Ok.ready.entry (with_deleted c.args.name.now s)
     (deleted_after g.D.Disk.tells (g.D.Disk.state c.args.disk.now) (g.met.D.Disk.lawful c.args.disk.now) c.args.self.now s agrees c.args.name.now c.args.number c.in-Ok.ready.entry entry_is c.requires.named)
     (delete_allowed g.D.Disk.tells (g.D.Disk.state c.args.disk.now) (g.met.D.Disk.lawful c.args.disk.now) c.args.self.now s agrees c.args.name.now c.args.number c.in-Ok.ready.entry entry_is c.requires.named)
+    (fits_ok _ _ _ c.in-Ok-append.ensures.full)
     (g.D.Disk.state c.append.new.disk) c.in-Ok-append.ensures.images (g.met.D.Disk.lawful c.append.new.disk) c.in-Ok-append.ensures.durable c.in-Ok-append.ensures.appended
     _ c.in-Ok-append.ensures.tail c.in-Ok-append.ensures.half
     (λ told. knows_deleted c.args.self.now c.remove.new.self s (agrees.content told).knows c.args.name.now c.args.number c.requires.named c.in-Ok-remove.ensures)
     (with_deleted c.args.name.now agrees.intact.0, knows_deleted c.args.self.now c.remove.new.self agrees.intact.0 agrees.intact.1 c.args.name.now c.args.number c.requires.named c.in-Ok-remove.ensures)
 
-pub returns-in-Ok-append-clause-view : goal.returns-in-Ok-append-clause-view
-returns-in-Ok-append-clause-view g c = λ view stands.
+pub returns-in-Ok-append-clause-keeps : goal.returns-in-Ok-append-clause-keeps
+returns-in-Ok-append-clause-keeps g c = λ opened stands.
     let s = c.requires.agrees.0 in
     let agrees = c.requires.agrees.1 in
     let entry_is = ap (λ (r : Record). r.entry) c.in-Ok.ensures in
-    views_after g.D.Disk.tells (g.D.Disk.state c.args.disk.now) (g.met.D.Disk.lawful c.args.disk.now) c.args.self.now s agrees
+    keeps_after g.D.Disk.tells (g.D.Disk.state c.args.disk.now) (g.met.D.Disk.lawful c.args.disk.now) c.args.self.now s agrees
     c.in-Ok.ready.entry (with_deleted c.args.name.now s)
     (deleted_after g.D.Disk.tells (g.D.Disk.state c.args.disk.now) (g.met.D.Disk.lawful c.args.disk.now) c.args.self.now s agrees c.args.name.now c.args.number c.in-Ok.ready.entry entry_is c.requires.named)
     (delete_allowed g.D.Disk.tells (g.D.Disk.state c.args.disk.now) (g.met.D.Disk.lawful c.args.disk.now) c.args.self.now s agrees c.args.name.now c.args.number c.in-Ok.ready.entry entry_is c.requires.named)
+    (fits_ok _ _ _ c.in-Ok-append.ensures.full)
     (g.D.Disk.state c.append.new.disk) c.in-Ok-append.ensures.images (g.met.D.Disk.lawful c.append.new.disk) c.in-Ok-append.ensures.durable c.in-Ok-append.ensures.appended
-    _ c.in-Ok-append.ensures.tail (Delete c.args.number) entry_is view stands
+    _ c.in-Ok-append.ensures.tail c.in-Ok-append.ensures.half (Delete c.args.number) entry_is opened stands
 
 pub returns-in-Ok-append-clause-images : goal.returns-in-Ok-append-clause-images
 returns-in-Ok-append-clause-images g c = λ s agrees.
@@ -46,16 +51,14 @@ returns-in-Ok-append-clause-images g c = λ s agrees.
     c.in-Ok.ready.entry (with_deleted c.args.name.now s)
     (deleted_after g.D.Disk.tells (g.D.Disk.state c.args.disk.now) (g.met.D.Disk.lawful c.args.disk.now) c.args.self.now s agrees c.args.name.now c.args.number c.in-Ok.ready.entry entry_is c.requires.named)
     (delete_allowed g.D.Disk.tells (g.D.Disk.state c.args.disk.now) (g.met.D.Disk.lawful c.args.disk.now) c.args.self.now s agrees c.args.name.now c.args.number c.in-Ok.ready.entry entry_is c.requires.named)
+    (fits_ok _ _ _ c.in-Ok-append.ensures.full)
     (g.D.Disk.state c.append.new.disk) c.in-Ok-append.ensures.images
 
 pub returns-in-Err-Full-clause-images : goal.returns-in-Err-Full-clause-images
 returns-in-Err-Full-clause-images g c = λ s agrees.
-    let entry_is = ap (λ (r : Record). r.entry) c.in-Ok.ensures in
-    either g.D.Disk.tells (g.D.Disk.state c.args.disk.now) (g.met.D.Disk.lawful c.args.disk.now) c.args.self.now s agrees
-    c.in-Ok.ready.entry (with_deleted c.args.name.now s)
-    (deleted_after g.D.Disk.tells (g.D.Disk.state c.args.disk.now) (g.met.D.Disk.lawful c.args.disk.now) c.args.self.now s agrees c.args.name.now c.args.number c.in-Ok.ready.entry entry_is c.requires.named)
-    (delete_allowed g.D.Disk.tells (g.D.Disk.state c.args.disk.now) (g.met.D.Disk.lawful c.args.disk.now) c.args.self.now s agrees c.args.name.now c.args.number c.in-Ok.ready.entry entry_is c.requires.named)
-    (g.D.Disk.state c.append.new.disk) c.in-Err-Full.ensures.images
+    unmoved g.D.Disk.state c.args.disk.now c.append.new.disk (sym (c.in-Err-Full.ensures.full (too_long _ _ _ _ _ c.in-Err-Full.field-0-is c.in-Err-Full.ensures.room)).1) (StandsForEither s (with_deleted c.args.name.now s))
+    (leaves_start g.D.Disk.tells (g.D.Disk.state c.args.disk.now) (StandsForEither s (with_deleted c.args.name.now s)) (g.met.D.Disk.lawful c.args.disk.now)
+    (λ image here. inl (images_stand g.D.Disk.tells (g.D.Disk.state c.args.disk.now) c.args.self.now s (g.met.D.Disk.lawful c.args.disk.now) agrees image here)))
 
 pub returns-clause-images : goal.returns-clause-images
 returns-clause-images g c = λ s agrees.
@@ -64,4 +67,10 @@ returns-clause-images g c = λ s agrees.
     c.in-Ok.ready.entry (with_deleted c.args.name.now s)
     (deleted_after g.D.Disk.tells (g.D.Disk.state c.args.disk.now) (g.met.D.Disk.lawful c.args.disk.now) c.args.self.now s agrees c.args.name.now c.args.number c.in-Ok.ready.entry entry_is c.requires.named)
     (delete_allowed g.D.Disk.tells (g.D.Disk.state c.args.disk.now) (g.met.D.Disk.lawful c.args.disk.now) c.args.self.now s agrees c.args.name.now c.args.number c.in-Ok.ready.entry entry_is c.requires.named)
+    (fits_failed _ _ _ c.in-Err-Disk.field-0-is c.in-Err-Disk.ensures.full)
     (g.D.Disk.state c.append.new.disk) c.in-Err-Disk.ensures.images
+
+pub returns-in-Err-Full-clause-full_room : goal.returns-in-Err-Full-clause-full_room
+returns-in-Err-Full-clause-full_room g c = λ need gap told e.
+    let full = c.in-Err-Full.ensures.full (too_long _ _ _ _ _ c.in-Err-Full.field-0-is c.in-Err-Full.ensures.room) in
+    room_left g.D.Disk.state c.args.disk.now c.append.new.disk full.1 c.args.self.now c.requires.agrees.0 (c.requires.agrees.1.content told) _ _ _ need gap _ c.in-Err-Full.field-0-is full.0 e

@@ -1,4 +1,4 @@
--- What an image stands for is a well-formed state, and commands keep it so.
+-- Commands and entries keep a state well formed.
 use Rattle.std.proofs.Common.{◌≡◌, ◌≢◌, ℕ, ◌<◌, ◌≤◌, ◌+◌, ◌||◌, Bool, true, false, not, cond, List, [], ◌∷◌, ◌++◌, map, refl, sym, subst, arith, rules}
 use Rattle.std.specs.Prelude.{◌==◌}
 use Rattle.std.specs.List.{All, list_any, filter, flat_map}
@@ -14,9 +14,6 @@ use Rattle.alta_meta.specs.States.{number_of, name_of, Rise, AllDiffer, IsState}
 use Rattle.alta_meta.specs.declared.document.Document.{Document}
 use Rattle.alta_meta.specs.declared.document.State.{State}
 use Rattle.alta_images.specs.Entries.{Allows, AllowsAll, after_entry, after_entries}
-use Rattle.alta_images.specs.Levels.{Level, documents_of}
-use Rattle.alta_images.specs.Views.{View, rooted, start_at}
-use Rattle.alta_store.specs.Meaning.{StandsFor}
 use Rattle.alta_images.specs.States.{has_name, with_added, with_deleted}
 
 -- a document behind those of smaller numbers and other names
@@ -102,12 +99,3 @@ entry_state s (Delete number) allowed is = left_state (λ (d : Document). not (d
 entries_state : (entries : List Entry) (s : State) → AllowsAll s entries → IsState s → IsState (after_entries s entries)
 entries_state [] s allowed is = is
 entries_state (entry ∷ entries) s allowed is = entries_state entries (after_entry s entry) allowed.1 (entry_state s entry allowed.0 is)
-
-rooted_state : (view : View) → 1 ≤ view.next → view.levels ≡ [] → IsState (rooted view)
-rooted_state view next none =
-    let start : IsState (start_at view.next) = record { next = next; numbered = All-nil (λ (d : Document). (1 ≤ d.number) × (d.number < view.next)); rising = tt; distinct = tt } in
-    subst (λ (levels : List Level). IsState (record { next = view.next; documents = flat_map (documents_of view.deleted) levels })) (sym none) start
-
-pub stands_state : (s : State) (image : List ℕ) → StandsFor s image → IsState s
-stands_state s image stands =
-    subst IsState stands.state_is (entries_state stands.view.entries (rooted stands.view) stands.is.allowed (rooted_state stands.view stands.is.root.next_fits.0 stands.is.named.levels_are))

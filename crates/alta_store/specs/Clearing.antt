@@ -1,0 +1,16 @@
+-- A disk without documents: zeros over the head, and the fields of the first slot.
+use Rattle.std.specs.Prelude.{◌≡◌, ℕ, ◌≤◌, List, [], ◌∷◌, length, take}
+use Rattle.std.specs.List.{All}
+
+-- these bytes are zero
+abbrev pub AreZero : List ℕ → Type 0
+AreZero bytes = All (λ b. b ≡ 0) bytes
+
+-- a disk's first n bytes are zero
+pub record IsClear (n : ℕ) (image : List ℕ) : Type 0 where
+  pub long : n ≤ length image
+  pub zeros : AreZero (take n image)
+
+-- the fields behind the gate of a root without documents
+abbrev pub empty_fields : List ℕ
+empty_fields = 1 ∷ 0 ∷ 0 ∷ 0 ∷ 0 ∷ 0 ∷ 0 ∷ 0 ∷ 0 ∷ 0 ∷ 0 ∷ 0 ∷ 0 ∷ 0 ∷ 1 ∷ 0 ∷ 0 ∷ 0 ∷ 0 ∷ 0 ∷ 0 ∷ 0 ∷ 1 ∷ 0 ∷ 0 ∷ 0 ∷ 0 ∷ 0 ∷ 0 ∷ 0 ∷ 0 ∷ 0 ∷ 0 ∷ 0 ∷ 0 ∷ 0 ∷ 0 ∷ 0 ∷ 0 ∷ []
