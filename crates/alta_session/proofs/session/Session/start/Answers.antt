@@ -1,5 +1,7 @@
-use Rattle.std.proofs.Common.{refl}
+use Rattle.std.proofs.Common.{refl, ap}
+use Rattle.std.specs.Prelude.{Err}
 use Rattle.alta_store.specs.declared.fault.StoreFault.TheVariants.{Damaged}
+use Rattle.alta_store.proofs.Loads.{same_error}
 use Rattle.alta_session.specs.Machine.{started_at}
 use Rattle.alta_session.proofs.AgreementLaws.{agrees_started}
 use Rattle.alta_session.proofs.StatusLaws.{ok_answers, err_answers}
@@ -20,3 +22,9 @@ returns-in-Ok-clause-undamaged g c = λ place tell broken. absurd (ok_answers c.
 
 pub returns-in-Err-clause-undamaged : goal.returns-in-Err-clause-undamaged
 returns-in-Err-clause-undamaged g c = λ place tell broken. err_answers c.in-Err.fault (Damaged place) c.open.result c.in-Err.is (c.open.ensures.undamaged place tell broken)
+
+pub returns-in-Err-clause-no_root : goal.returns-in-Err-clause-no_root
+returns-in-Err-clause-no_root g c = λ tell e. c.in-Err.ensures.no_root tell (ap Err (same_error _ _ e))
+
+pub returns-in-Err-clause-damaged : goal.returns-in-Err-clause-damaged
+returns-in-Err-clause-damaged g c = λ place tell e. c.in-Err.ensures.damaged place tell (ap Err (same_error _ _ e))
