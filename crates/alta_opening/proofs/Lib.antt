@@ -1,2 +1,6 @@
-pub mod RowLaws
+pub mod EndLaws
+pub mod ListLaws
 pub mod Naming
+pub mod RowLaws
+pub mod Searches
+pub mod TableReads

@@ -68,6 +68,12 @@ pub behind_append : (before : Before) (xs ys : List DocRow) → behind_rows befo
 behind_append before [] ys = refl
 behind_append before (x ∷ xs) ys = behind_append (behind_row before x) xs ys
 
+-- rows that stand behind rows
+pub rows_split : (before : Before) (xs ys : List DocRow) → AreDocumentsBehind before (xs ++ ys) → AreDocumentsBehind (behind_rows before xs) ys
+unfolding AreDocumentsBehind
+rows_split before [] ys are = are
+rows_split before (x ∷ xs) ys are = rows_split (behind_row before x) xs ys are.1
+
 -- ---- order
 
 -- a row lies behind rows where it lies behind the last of them

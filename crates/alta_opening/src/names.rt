@@ -1,11 +1,10 @@
 // The names of live documents.
 ghost use Rattle.std.specs.BTreeMap.{get_by_text};
 ghost use Rattle.std.specs.Map.{update};
-ghost use Rattle.std.specs.Prelude.{◌≡◌, ◌≢◌, ◌++◌, ◌∷◌, ◌+◌, ◌<◌, [], ℕ, List, not, true, Some, Ok, Err, IfOk, OnOk};
+ghost use Rattle.std.specs.Prelude.{◌≡◌, ◌≢◌, ◌++◌, ◌∷◌, [], ℕ, List, not, true, Some, Ok, Err, IfOk, OnOk};
 ghost use Rattle.std.specs.Str.{bytes_eq};
 ghost use Rattle.alta_codec.specs.Rising.{IsRising};
-ghost use Rattle.alta_codec.specs.declared.location.TheConstants.{TOP};
-ghost use Rattle.alta_content.specs.Rows.{end_of, ends_among};
+ghost use Rattle.alta_content.specs.Rows.{IsPlaced, ends_among};
 ghost use Rattle.alta_images.specs.Known.{Named, is_taken};
 ghost use Rattle.alta_images.specs.Opened.{live_in, names_from};
 ghost use Rattle.alta_opening.specs.Names.{AreNames, may_join};
@@ -21,7 +20,7 @@ use std::collections::BTreeMap;
 // Whether the row's document is deleted.
 fn is_deleted(deleted: &[Loc], row: &DocRow) -> bool
     requires rising { IsRising deleted.now }
-    requires below { end_of row.now < TOP }
+    requires placed { IsPlaced row.now }
     ensures { result ≡ ends_among deleted.now row.now }
 {
     let end = row.first + row.cells - 1;
@@ -57,7 +56,7 @@ fn join(
     row: &DocRow,
 ) -> Result<bool, AllocError>
     requires rising { IsRising deleted.now }
-    requires below { end_of row.now < TOP }
+    requires placed { IsPlaced row.now }
     ensures free { (live : List Named) → AreNames names.old live → IfOk result (λ joins. joins ≡ may_join deleted.now live row.now) }
     ensures names { (live : List Named) → AreNames names.old live → IfOk result (λ joins. joins ≡ true → AreNames names.new (live ++ live_in deleted.now (row.now ∷ []))) }
 {

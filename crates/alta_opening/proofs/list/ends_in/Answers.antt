@@ -1,0 +1,11 @@
+use Rattle.std.proofs.Common.{◌≡◌, ◌∙◌, sym, ap, Ok, List, ℕ, arith}
+use Rattle.alta_level.proofs.Faults.{stream_within}
+use Rattle.alta_postings.specs.Deltas.{locations_of}
+use Rattle.alta_opening.proofs.ListLaws.{list_spelled}
+use Rattle.alta_opening.proofs.list.ends_in.Goals as goal
+
+pub overflow_add-result : goal.overflow_add-result
+overflow_add-result c = omega (arith, c.requires, stream_within c.args.bytes.now c.in-Err.fault.place c.in-Err.fault.cause c.in-Err.ensures.first)
+
+pub returns-in_ok-locations-in-Ok-clause-exact : goal.returns-in_ok-locations-in-Ok-clause-exact
+returns-in_ok-locations-in-Ok-clause-exact c = ?
