@@ -1,4 +1,5 @@
 pub mod EndLaws
+pub mod LevelLaws
 pub mod ListLaws
 pub mod Naming
 pub mod RowLaws

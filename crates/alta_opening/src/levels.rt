@@ -117,7 +117,8 @@ pub(crate) fn read_levels<D: Disk>(
     ensures taken { D.tells → (D.state disk.new).taken ≤ (D.state disk.old).taken + sum_by (level_bytes (D.state disk.old).content) root.now.levels.items }
 {
     let mut found = no_levels(alloc, deleted);
-    for extent in root.levels.as_slice() {
+    let extents = root.levels.as_slice();
+    for extent in extents {
         add_level(alloc, disk, root, deleted, limit, &mut found, *extent)?;
     }
     Ok(found)

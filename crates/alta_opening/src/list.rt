@@ -42,6 +42,9 @@ pub(crate) fn read_list<D: Disk>(
     if !ends_within(extent, limit) {
         return Err(OpeningFault::Damaged(extent.place));
     }
+    if extent.bytes == 0 {
+        return Ok(Vec::new(alloc));
+    }
     let bytes = read_part(alloc, disk, extent.place, extent.bytes)?;
     ends_in(alloc, &bytes, extent.place)
 }

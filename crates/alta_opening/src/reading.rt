@@ -49,6 +49,7 @@ pub(crate) fn read_behind<D: Disk>(
     requires inside { D.tells → place + bytes ≤ length (D.state disk.old).content }
     requires fits { length front.now + bytes < 2 ^ 64 }
     ensures read { D.tells → IfOk result (λ v. v.items ≡ front.now ++ part place bytes (D.state disk.old).content) }
+    ensures front { IfOk result (λ v. take (length front.now) v.items ≡ front.now) }
     ensures long { IfOk result (λ v. length v.items ≡ length front.now + bytes) }
     ensures only { IfErr result IsOutside }
     ensures cause { result ≡ Err DiskFault → Rose (D.state disk.old).faults (D.state disk.new).faults }
@@ -70,6 +71,7 @@ fn fill_from<D: Disk>(
     requires within { from ≤ length all.old }
     requires inside { D.tells → place + (length all.old - from) ≤ length (D.state disk.old).content }
     ensures read { D.tells → OnOk result (all.new ≡ take from all.old ++ part place (length all.old - from) (D.state disk.old).content) }
+    ensures front { OnOk result (take from all.new ≡ take from all.old) }
     ensures cause { HasCause (D.state disk.old).faults (D.state disk.new).faults result }
     ensures reads { Reads D.tells (length all.old - from) (D.state disk.old) (D.state disk.new) }
 {
