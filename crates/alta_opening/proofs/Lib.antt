@@ -1,3 +1,4 @@
+pub mod DiskReads
 pub mod EndLaws
 pub mod LevelLaws
 pub mod ListLaws
