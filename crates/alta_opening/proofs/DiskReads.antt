@@ -1,5 +1,5 @@
 -- Calls that read, one behind the other.
-use Rattle.std.proofs.Common.{◌≡◌, ℕ, ◌+◌, List, refl, ◌∙◌, arith}
+use Rattle.std.proofs.Common.{◌≡◌, ℕ, ◌+◌, ◌≤◌, List, refl, ◌∙◌, arith}
 use Rattle.alta_disk.specs.Calls.{Costs, Reads}
 use Rattle.alta_disk.specs.Disk.{DiskState, IsLawful, Same}
 use Rattle.alta_disk.proofs.Moments.{passes_same, passes_start}
@@ -21,4 +21,11 @@ reads_then tells m n total a b c sum first second = record {
     taken = omega (arith, first.costs.taken, second.costs.taken, sum);
     limit = second.costs.limit ∙ first.costs.limit;
   };
+}
+
+pub reads_within : (tells : Type 0) (m n : ℕ) (a b : DiskState) → m ≤ n → Reads tells m a b → Reads tells n a b
+reads_within tells m n a b le reads = record {
+  content = reads.content;
+  images = reads.images;
+  costs = record { faults = reads.costs.faults; taken_up = reads.costs.taken_up; taken = omega (arith, reads.costs.taken, le); limit = reads.costs.limit };
 }

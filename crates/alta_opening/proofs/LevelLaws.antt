@@ -1,19 +1,25 @@
 -- A level behind those that were opened.
-use Rattle.std.proofs.Common.{◌≡◌, ℕ, ◌+◌, ◌<◌, ◌≤◌, true, false, Global, List, [], ◌∷◌, ◌++◌, length, take, drop, get_or, drop-cons, Option, refl, sym, ap, subst, ◌∙◌, Result, Ok, Err, arith}
+use Rattle.std.proofs.Common.{◌≡◌, ℕ, suc, ◌+◌, ◌<◌, ◌≤◌, true, false, Global, List, [], ◌∷◌, ◌++◌, length, take, drop, get_or, drop-cons, Option, refl, sym, ap, subst, ◌∙◌, Result, Ok, Err, arith}
 use Rattle.std.specs.Prelude.{None, String}
 use Rattle.std.specs.BTreeMap.{BTreeMap, get_by_text}
+use Rattle.std.proofs.lemmas.List.{get_or_default, take-append-drop, take_more}
+use Rattle.std.proofs.lemmas.List.Sums.{sum_by_more, sum_by_more_le}
+use Rattle.std.specs.List.{sum_by}
 use Rattle.alta_codec.specs.declared.extent.Extent.{Extent}
 use Rattle.alta_content.specs.Rows.{AreDocuments, AreDocumentsBehind, Before, start}
 use Rattle.alta_images.specs.Chain.{◌>>=◌}
 use Rattle.alta_images.specs.Known.{Named}
-use Rattle.alta_images.specs.Opened.{are_in_order, in_order, live_in, names_in, rows_in, tables_at, with_level}
+use Rattle.alta_images.specs.Opened.{are_in_order, in_order, levels_from, live_in, names_in, rows_in, tables_at, with_level}
 use Rattle.alta_images.proofs.OrderLaws.{live_append, rows_more}
+use Rattle.alta_images.proofs.Steps.{levels_append}
 use Rattle.alta_root.specs.declared.root.Root.{Root}
 use Rattle.alta_table.specs.Tables.{Tables}
 use Rattle.alta_opening.specs.Names.{AreNames}
 use Rattle.alta_opening.specs.Reached.{HasReached}
 use Rattle.alta_opening.specs.Rows.{behind_rows, left_by}
-use Rattle.alta_opening.specs.Steps.{admitted}
+use Rattle.alta_opening.specs.Steps.{Answers, admitted}
+use Rattle.alta_opening.specs.declared.fault.OpeningFault.{OpeningFault}
+use Rattle.alta_opening.specs.declared.fault.OpeningFault.TheVariants as faults
 use Rattle.alta_opening.specs.declared.levels.Levels.{Levels}
 use Rattle.alta_opening.proofs.RowLaws.{behind_any, behind_append, order_extends, rows_append}
 
@@ -56,3 +62,46 @@ reached_more root deleted old new level reached are some ordered levels last nam
       last = last ∙ behind_any start before level.documents some ∙ sym (behind_append start (rows_in old.levels.items) level.documents) ∙ ap (behind_rows start) (sym rows);
       names = subst (AreNames new.names) (sym (ap (live_in deleted) rows ∙ live_append deleted (rows_in old.levels.items) level.documents)) names;
     }
+
+-- ---- levels one behind the other
+
+-- the extents up to one, that one, and those behind it
+module _ (root : Root) (deleted image : List ℕ) (extents : List Extent) (i : ℕ) (extent : Extent) (inside : i < length extents) (is : extent ≡ get_or extents i extent) (levels : List Tables)
+    (so_far : levels_from root deleted [] (take i extents) image ≡ Ok levels) where
+  pub levels_more : (longer : List Tables) → with_level root deleted levels extent image ≡ Ok longer → levels_from root deleted [] (take (i + 1) extents) image ≡ Ok longer
+  levels_more longer found =
+      ap (λ (es : List Extent). levels_from root deleted [] es image) (take_more extents i extent inside ∙ ap (λ (e : Extent). take i extents ++ e ∷ []) (sym is))
+      ∙ levels_append root deleted image [] (take i extents) (extent ∷ []) ∙ (rw so_far rw found refl)
+
+  pub levels_stop : (place : ℕ) → with_level root deleted levels extent image ≡ Err place → levels_from root deleted [] extents image ≡ Err place
+  levels_stop place fails =
+      let next : suc i ≡ i + 1 = omega arith in
+      let rest : drop i extents ≡ extent ∷ drop (i + 1) extents =
+      drop-cons extents i extent inside ∙ ap (λ (e : Extent). e ∷ drop (suc i) extents) (sym is) ∙ ap (λ (k : ℕ). extent ∷ drop k extents) next in
+      ap (λ (es : List Extent). levels_from root deleted [] es image) (sym (take-append-drop i extents) ∙ ap (λ (es : List Extent). take i extents ++ es) rest)
+      ∙ levels_append root deleted image [] (take i extents) (extent ∷ drop (i + 1) extents) ∙ (rw so_far rw fails refl)
+
+-- an answer that is an error
+pub error_answers : {X Y : Type 0} (view : X → Y) (fault : OpeningFault) (found : Result Y ℕ) → ((place : ℕ) → fault ≡ faults.Damaged place → found ≡ Err place) → Answers view (Err fault) found
+error_answers view faults.Disk found damaged = tt
+error_answers view faults.Memory found damaged = tt
+error_answers view (faults.Damaged place) found damaged = damaged place refl
+
+-- ---- an extent among those of a root
+
+pub record IsAt (extents : List Extent) (i : ℕ) (extent : Extent) : Type 0 where
+  pub inside : i < length extents
+  pub is : extent ≡ get_or extents i extent
+
+pub extent_at : (extents same : List Extent) (i : ℕ) (d : Extent) → same ≡ extents → i < length same → IsAt extents i (get_or same i d)
+extent_at extents same i d is inside =
+    let here : i < length extents = subst (λ (es : List Extent). i < length es) is inside in
+    record { inside = here; is = ap (λ (es : List Extent). get_or es i d) is ∙ get_or_default extents i d (get_or same i d) here }
+
+-- what is counted of the extents up to behind one
+pub counted_more : (f : Extent → ℕ) (extents : List Extent) (i : ℕ) (extent : Extent) → IsAt extents i extent → sum_by f (take (i + 1) extents) ≡ sum_by f (take i extents) + f extent
+counted_more f extents i extent at = sum_by_more f extents i extent at.inside ∙ ap (λ (e : Extent). sum_by f (take i extents) + f e) (sym at.is)
+
+-- and of all
+pub counted_all : (f : Extent → ℕ) (extents : List Extent) (i : ℕ) (extent : Extent) → IsAt extents i extent → sum_by f (take i extents) + f extent ≤ sum_by f extents
+counted_all f extents i extent at = omega (arith, sum_by_more_le f extents i extent at.inside, ap f at.is)

@@ -119,7 +119,10 @@ pub(crate) fn read_levels<D: Disk>(
     let mut found = no_levels(alloc, deleted);
     let extents = root.levels.as_slice();
     for extent in extents {
-        add_level(alloc, disk, root, deleted, limit, &mut found, *extent)?;
+        match add_level(alloc, disk, root, deleted, limit, &mut found, *extent) {
+            Ok(()) => {}
+            Err(fault) => return Err(fault),
+        }
     }
     Ok(found)
 }
