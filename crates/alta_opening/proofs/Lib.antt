@@ -4,6 +4,7 @@ pub mod EndLaws
 pub mod LevelLaws
 pub mod ListLaws
 pub mod Naming
+pub mod OpeningLaws
 pub mod RowLaws
 pub mod Searches
 pub mod TableReads

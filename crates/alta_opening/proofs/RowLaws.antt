@@ -173,8 +173,7 @@ unfolding AreDocumentsBehind
 order_extends root levels [] are fine e = tt
 order_extends root levels (row ∷ rows) are fine e =
     let above = above_from root (rows_in levels) are row
-    (and_left (lies_behind (behind_rows start (rows_in levels)) row) (leaves_room root (behind_rows start (row ∷ rows))) (sym (placed_or_not root (rows_in levels) are row rows fine) ∙ e)) in
-    (
+    (and_left (lies_behind (behind_rows start (rows_in levels)) row) (leaves_room root (behind_rows start (row ∷ rows))) (sym (placed_or_not root (rows_in levels) are row rows fine) ∙ e)) in (
       record {
         rises = above.number;
         number_below = fine.0.number_below;

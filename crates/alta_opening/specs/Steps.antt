@@ -14,12 +14,16 @@ use Rattle.alta_opening.specs.declared.fault.OpeningFault.TheVariants as faults
 abbrev pub IsOutside : OpeningFault → Type 0
 IsOutside fault = (fault ≡ faults.Disk) ⊎ (fault ≡ faults.Memory)
 
+-- the damage that a definition finds
+abbrev pub Fails : {Y : Type 0} → OpeningFault → Result Y ℕ → Type 0
+Fails faults.Disk found = Unit {0}
+Fails faults.Memory found = Unit {0}
+Fails (faults.Damaged place) found = found ≡ Err place
+
 -- it answers what a definition finds, unless the disk failed or memory ran out
 abbrev pub Answers : {X Y : Type 0} → (X → Y) → Result X OpeningFault → Result Y ℕ → Type 0
 Answers view (Ok x) found = found ≡ Ok (view x)
-Answers view (Err faults.Disk) found = Unit {0}
-Answers view (Err faults.Memory) found = Unit {0}
-Answers view (Err (faults.Damaged place)) found = found ≡ Err place
+Answers view (Err fault) found = Fails fault found
 
 -- so many bytes at a place lie on a disk of this length, and end at the limit or before
 abbrev pub LiesWithin : Extent → ℕ → ℕ → Type 0

@@ -64,8 +64,14 @@ pub fn open_levels<D: Disk>(
     ensures taken { D.tells → (D.state disk.new).taken ≤ (D.state disk.old).taken + named_bytes root.now (D.state disk.old).content }
 {
     let limit = disk.limit();
-    let deleted = read_list(alloc, disk, root, limit)?;
-    let found = read_levels(alloc, disk, root, &deleted, limit)?;
+    let deleted = match read_list(alloc, disk, root, limit) {
+        Ok(deleted) => deleted,
+        Err(fault) => return Err(fault),
+    };
+    let found = match read_levels(alloc, disk, root, &deleted, limit) {
+        Ok(found) => found,
+        Err(fault) => return Err(fault),
+    };
     if !have_all(&found.levels, &deleted) {
         return Err(OpeningFault::Damaged(root.deletions.place));
     }

@@ -62,12 +62,7 @@ pub(crate) fn read_behind<D: Disk>(
 }
 
 // Fills the bytes from this one on with those at a place of the disk.
-fn fill_from<D: Disk>(
-    disk: &mut D,
-    place: u64,
-    all: &mut [u8],
-    from: usize,
-) -> Result<(), Failed>
+fn fill_from<D: Disk>(disk: &mut D, place: u64, all: &mut [u8], from: usize) -> Result<(), Failed>
     requires within { from ≤ length all.old }
     requires inside { D.tells → place + (length all.old - from) ≤ length (D.state disk.old).content }
     ensures read { D.tells → OnOk result (all.new ≡ take from all.old ++ part place (length all.old - from) (D.state disk.old).content) }

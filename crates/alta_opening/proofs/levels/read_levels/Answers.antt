@@ -5,6 +5,7 @@ use Rattle.alta_images.specs.Opened.{levels_in, with_level}
 use Rattle.alta_root.specs.Root.{no_extent}
 use Rattle.alta_opening.specs.Costs.{level_bytes}
 use Rattle.alta_opening.specs.declared.fault.OpeningFault.{OpeningFault}
+use Rattle.alta_opening.specs.declared.levels.Levels.{Levels}
 use Rattle.alta_opening.proofs.DiskReads.{reads_then, reads_within}
 use Rattle.alta_opening.proofs.LevelLaws.{counted_all, counted_more, error_answers, extent_at, levels_more, levels_stop}
 use Rattle.alta_opening.proofs.levels.read_levels.Goals as goal
@@ -17,7 +18,7 @@ returns-in-Err-clause-exact g c = λ told.
     let extent = get_or c.as_slice-extents.result.now i no_extent in
     let at = extent_at extents c.as_slice-extents.result.now i no_extent c.as_slice-extents.ensures.value c.loop-extent-test.true in
     let levels = c.loop-extent.found.levels.items in
-    error_answers _ c.in-Err.fault (levels_in c.args.root.now c.args.deleted.now image)
+    error_answers (λ (found : Levels). found.levels.items) c.in-Err.fault (levels_in c.args.root.now c.args.deleted.now image)
     (λ place is. levels_stop c.args.root.now c.args.deleted.now image extents i extent at.inside at.is levels (c.loop-extent.invariant.levels told) place
     (ap (with_level c.args.root.now c.args.deleted.now levels extent) (sym (c.loop-extent.invariant.reads.content told))
     ∙ c.add_level.ensures.damaged told place (c.in-Err.is ∙ ap (λ (f : OpeningFault). Err f) is)))
