@@ -35,15 +35,17 @@ pub struct OpenLevels {
     pub names: BTreeMap<String, u64>,
 }
 
-/// Opens what the root that counts names, in this order: the deletion list; of each level, the oldest first, its head and tables,
-/// its order behind the levels before it and against the root, and its live names; the deletion list against the levels. The journal is
-/// not read, and neither is a stream or a summary. The list is one read, a level two: 32 bytes, then its documents and terms. Work and
-/// memory are in proportion to what is read, but for a look-up of each row's end in the list and of each live name in the map.
+/// Opens what a root names that counts, in this order: the deletion list; of each level, the oldest first, its head and tables, its
+/// order behind the levels before it and against the root, and its live names; then the deletion list against the levels. Neither the
+/// journal nor a stream or a summary is read, and nothing is written.
+///
+/// The list is one call of the disk, and a level is two: 32 bytes, then its documents and terms. Each row is looked at in one walk beside
+/// the deleted ends, and once more to look its end up among them and a live name in the map; of the order, the first row and the last.
 ///
 /// # Errors
 ///
-/// `Damaged` exactly where one of these rules is broken, with the place of the first that is, by alta_images. `Disk` only where a
-/// call of the disk failed, `Memory` where there is too little memory.
+/// `Damaged` where one of these rules is broken, with the place of the first that is, in bytes from the start of the disk; never where the
+/// disk can be opened. `Disk` only where a call of the disk failed. `Memory` where there is too little memory.
 pub fn open_levels<D: Disk>(
     alloc: Global,
     disk: &mut D,

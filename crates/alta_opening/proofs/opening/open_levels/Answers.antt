@@ -37,7 +37,7 @@ pub returns-in-Err-read_levels-clause-damaged : goal.returns-in-Err-read_levels-
 returns-in-Err-read_levels-clause-damaged g c = λ told slot counts place is.
     let image = (g.D.Disk.state c.args.disk.now).content in
     let fault : c.in-Err-read_levels.fault ≡ Damaged place = cc (is) in
-    let found = fault_found c.in-Err-read_levels.fault _ place (c.in-Err-read_levels.ensures.exact told) fault in
+    let found = fault_found c.in-Err-read_levels.fault (levels_in c.args.root.now c.deref.result.now (g.D.Disk.state c.read_list.new.disk).content) place (c.in-Err-read_levels.ensures.exact told) fault in
     broken_level image slot c.args.root.now counts c.in-Ok.deleted.items (c.in-Ok.ensures.exact told) place
     (ap (λ (deleted : List ℕ). levels_in c.args.root.now deleted image) (sym c.deref.ensures.value) ∙ ap (levels_in c.args.root.now c.deref.result.now) (sym (c.read_list.ensures.reads.content told)) ∙ found)
 
