@@ -1,12 +1,11 @@
 -- Where levels break a rule, so does the image.
 use Rattle.std.proofs.Common.{◌≡◌, ℕ, Bool, true, false, List, [], ◌∷◌, ◌++◌, refl, sym, ap, subst, ◌∙◌, Result, Ok, Err, append_assoc}
-use Rattle.std.proofs.lemmas.List.{append-nil}
 use Rattle.alta_codec.specs.declared.extent.Extent.{Extent}
 use Rattle.alta_root.specs.Slots.{Counts}
 use Rattle.alta_root.specs.declared.root.Root.{Root}
 use Rattle.alta_root.specs.declared.slot.Slot.{Slot}
 use Rattle.alta_table.specs.Tables.{Tables}
-use Rattle.alta_images.specs.Broken.{ComesTo, HasLevels, IsBrokenAt, in_list, in_tables, out_of_order, in_names, without_end}
+use Rattle.alta_images.specs.Broken.{ComesTo, IsBrokenAt, in_tables, out_of_order, in_names}
 use Rattle.alta_images.specs.Chain.{◌>>=◌}
 use Rattle.alta_images.specs.Known.{Named}
 use Rattle.alta_images.specs.Opened.{are_in_order, deleted_in, levels_from, levels_in, names_in, tables_at, with_level}

@@ -1,6 +1,6 @@
 -- Calls that read, one behind the other.
-use Rattle.std.proofs.Common.{◌≡◌, ℕ, ◌+◌, ◌≤◌, List, refl, ◌∙◌, arith}
-use Rattle.alta_disk.specs.Calls.{Costs, Reads}
+use Rattle.std.proofs.Common.{◌≡◌, ℕ, ◌+◌, ◌≤◌, refl, ◌∙◌, arith}
+use Rattle.alta_disk.specs.Calls.{Reads}
 use Rattle.alta_disk.specs.Disk.{DiskState, IsLawful, Same}
 use Rattle.alta_disk.proofs.Moments.{passes_same, passes_start}
 

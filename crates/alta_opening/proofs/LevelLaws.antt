@@ -1,15 +1,14 @@
 -- A level behind those that were opened.
-use Rattle.std.proofs.Common.{◌≡◌, ℕ, suc, ◌+◌, ◌<◌, ◌≤◌, true, false, Global, List, [], ◌∷◌, ◌++◌, length, take, drop, get_or, drop-cons, Option, refl, sym, ap, subst, ◌∙◌, Result, Ok, Err, arith}
-use Rattle.std.specs.Prelude.{None, String}
-use Rattle.std.specs.BTreeMap.{BTreeMap, get_by_text}
+use Rattle.std.proofs.Common.{◌≡◌, ℕ, suc, ◌+◌, ◌<◌, ◌≤◌, true, false, List, [], ◌∷◌, ◌++◌, length, take, drop, get_or, drop-cons, refl, sym, ap, subst, ◌∙◌, Result, Ok, Err, arith}
+use Rattle.std.specs.Prelude.{None}
+use Rattle.std.specs.BTreeMap.{get_by_text}
 use Rattle.std.proofs.lemmas.List.{get_or_default, take-append-drop, take_more}
 use Rattle.std.proofs.lemmas.List.Sums.{sum_by_more, sum_by_more_le}
 use Rattle.std.specs.List.{sum_by}
 use Rattle.alta_codec.specs.declared.extent.Extent.{Extent}
-use Rattle.alta_content.specs.Rows.{AreDocuments, AreDocumentsBehind, Before, start}
-use Rattle.alta_images.specs.Chain.{◌>>=◌}
+use Rattle.alta_content.specs.Rows.{AreDocuments, AreDocumentsBehind, start}
 use Rattle.alta_images.specs.Known.{Named}
-use Rattle.alta_images.specs.Opened.{are_in_order, in_order, levels_from, live_in, names_in, rows_in, tables_at, with_level}
+use Rattle.alta_images.specs.Opened.{are_in_order, levels_from, live_in, names_in, rows_in, tables_at, with_level}
 use Rattle.alta_images.proofs.OrderLaws.{live_append, rows_more}
 use Rattle.alta_images.proofs.Steps.{levels_append}
 use Rattle.alta_root.specs.declared.root.Root.{Root}

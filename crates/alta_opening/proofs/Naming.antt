@@ -1,5 +1,5 @@
 -- Names of live documents, as a list and as a map.
-use Rattle.std.proofs.Common.{◌≡◌, ℕ, suc, ◌+◌, ◌<◌, Bool, true, false, cond, Global, List, [], ◌∷◌, ◌++◌, length, take, drop, get_or, drop-cons, Option, refl, sym, ap, subst, ◌∙◌, Result, Ok, Err, append_assoc, arith, rules}
+use Rattle.std.proofs.Common.{◌≡◌, ℕ, suc, ◌+◌, ◌<◌, Bool, true, false, cond, Global, List, [], ◌∷◌, ◌++◌, length, take, drop, get_or, drop-cons, Option, refl, sym, ap, subst, ◌∙◌, Err, append_assoc, arith}
 use Rattle.std.specs.Prelude.{◌||◌, not, Some, None, String, is_some}
 use Rattle.std.specs.BTreeMap.{BTreeMap, get_by_text}
 use Rattle.std.specs.Map.{update}
@@ -12,7 +12,7 @@ use Rattle.alta_images.specs.Known.{Named, is_taken, named}
 use Rattle.alta_images.specs.Opened.{live_in, names_from}
 use Rattle.alta_images.proofs.NameLaws.{bytes_eq-swap}
 use Rattle.alta_images.proofs.OrderLaws.{live_append, live_drop, live_keep}
-use Rattle.alta_images.proofs.Tests.{by_test, bytes_from, or_left}
+use Rattle.alta_images.proofs.Tests.{by_test, bytes_from}
 use Rattle.alta_table.specs.Places.{name_place}
 use Rattle.alta_table.specs.Tables.{Tables}
 use Rattle.alta_opening.specs.Names.{AreNames, may_join, number_of}

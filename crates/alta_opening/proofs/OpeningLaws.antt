@@ -1,9 +1,9 @@
 -- What a root names lies on the disk, and what opening answers of it.
-use Rattle.std.proofs.Common.{◌≡◌, ◌⊎◌, ⊎_elim, ℕ, ◌+◌, ◌≤◌, List, [], ◌∷◌, ◌++◌, length, ap, subst, Result, Ok, Err, sym, ◌∙◌, arith}
+use Rattle.std.proofs.Common.{◌≡◌, ⊎_elim, ℕ, ◌≤◌, List, [], ◌∷◌, ◌++◌, length, ap, subst, Result, Err, arith}
 use Rattle.std.specs.List.{All}
 use Rattle.std.proofs.lemmas.List.Elements.{All-nil, All-cons}
 use Rattle.alta_codec.specs.declared.extent.Extent.{Extent}
-use Rattle.alta_root.specs.Root.{AreLevels, IsExtent, IsSound, no_extent}
+use Rattle.alta_root.specs.Root.{AreLevels}
 use Rattle.alta_root.specs.Slots.{Counts}
 use Rattle.alta_root.specs.declared.places.TheConstants.{LEVEL_BYTES}
 use Rattle.alta_root.specs.declared.root.Root.{Root}

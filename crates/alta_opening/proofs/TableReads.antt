@@ -1,5 +1,5 @@
 -- Head and tables of a level, from the bytes of a disk.
-use Rattle.std.proofs.Common.{◌≡◌, ℕ, ◌+◌, ◌-◌, ◌<◌, ◌≤◌, min, List, ◌++◌, length, take, drop, refl, sym, ap, subst, ◌∙◌, Result, Ok, Err, arith}
+use Rattle.std.proofs.Common.{◌≡◌, ℕ, ◌+◌, ◌≤◌, List, ◌++◌, length, take, drop, refl, sym, ap, ◌∙◌, Result, Ok, Err, arith}
 use Rattle.std.proofs.lemmas.List.{drop-drop, take-take}
 use Rattle.alta_codec.specs.declared.extent.Extent.{Extent}
 use Rattle.alta_disk.specs.Parts.{part}

@@ -1,5 +1,5 @@
 -- Rows one behind the other, over the levels that have them.
-use Rattle.std.specs.Prelude.{ℕ, ◌==◌, nat_lt, Bool, ◌&&◌, List, [], ◌∷◌}
+use Rattle.std.specs.Prelude.{ℕ, nat_lt, Bool, ◌&&◌, List, [], ◌∷◌}
 use Rattle.std.specs.List.{list_all, list_any}
 use Rattle.alta_content.specs.Rows.{Before, behind_row, ends_among}
 use Rattle.alta_content.specs.declared.document.DocRow.{DocRow}

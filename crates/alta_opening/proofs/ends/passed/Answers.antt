@@ -1,5 +1,5 @@
-use Rattle.std.proofs.Common.{◌≡◌, ◌+◌, ◌<◌, ◌≤◌, ◌++◌, length, drop, get_or, List, ℕ, sym, ap, subst, ◌∙◌, arith}
-use Rattle.alta_content.specs.Rows.{AreDocumentsBehind, IsPlaced, end_of}
+use Rattle.std.proofs.Common.{◌+◌, ◌<◌, ◌++◌, length, drop, get_or, ℕ, sym, ap, subst, ◌∙◌, arith}
+use Rattle.alta_content.specs.Rows.{IsPlaced, end_of}
 use Rattle.alta_opening.specs.Rows.{are_ends}
 use Rattle.alta_opening.proofs.EndLaws.{in_front, its_row, later_row, lower_row}
 use Rattle.alta_opening.proofs.RowLaws.{all_placed}

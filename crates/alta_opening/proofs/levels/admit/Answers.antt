@@ -1,8 +1,7 @@
-use Rattle.std.proofs.Common.{◌≡◌, ◌<◌, ◌++◌, ◌∷◌, [], length, true, List, sym, ap, subst, ◌∙◌}
-use Rattle.alta_content.specs.Rows.{AreDocuments, start}
-use Rattle.alta_content.specs.declared.document.DocRow.{DocRow}
+use Rattle.std.proofs.Common.{◌≡◌, true, sym, ap, ◌∙◌}
+use Rattle.alta_content.specs.Rows.{start}
 use Rattle.alta_images.specs.Opened.{are_in_order, live_in, rows_in}
-use Rattle.alta_opening.specs.Rows.{behind_rows, left_by}
+use Rattle.alta_opening.specs.Rows.{behind_rows}
 use Rattle.alta_opening.proofs.LevelLaws.{reached_more}
 use Rattle.alta_opening.proofs.levels.admit.Goals as goal
 

@@ -1,11 +1,11 @@
-use Rattle.std.proofs.Common.{◌≡◌, Bool, List, ℕ, true, false, not, sym, ap, subst, ◌∙◌, rules}
+use Rattle.std.proofs.Common.{◌≡◌, List, ℕ, true, false, not, sym, ap, ◌∙◌}
 use Rattle.std.specs.Prelude.{Some}
 use Rattle.std.specs.BTreeMap.{get_by_text}
 use Rattle.std.specs.Map.{update}
 use Rattle.std.specs.Str.{bytes_eq}
 use Rattle.alta_content.specs.Rows.{ends_among}
 use Rattle.alta_images.specs.Known.{is_taken}
-use Rattle.alta_opening.proofs.Naming.{free_from, joins_dead, joins_live, names_dead, names_live}
+use Rattle.alta_opening.proofs.Naming.{free_from, names_live}
 use Rattle.alta_opening.proofs.names.join.Goals as goal
 
 pub returns-clause-names : goal.returns-clause-names

@@ -1,4 +1,4 @@
-use Rattle.std.proofs.Common.{◌≡◌, ◌<◌, length, get_or, Bool, true, false, List, sym, ap, subst, ◌∙◌, arith}
+use Rattle.std.proofs.Common.{◌≡◌, ◌<◌, length, get_or, List, sym, ap, subst, ◌∙◌}
 use Rattle.alta_content.specs.Rows.{AreDocuments, IsPlaced, start}
 use Rattle.alta_content.specs.declared.document.DocRow.{DocRow}
 use Rattle.alta_opening.proofs.Naming.{passed_row}

@@ -1,7 +1,6 @@
-use Rattle.std.proofs.Common.{◌≡◌, ◌≤◌, ◌∙◌, false, length, List, ℕ, Result, Ok, Err, sym, ap, subst, arith}
+use Rattle.std.proofs.Common.{◌≡◌, ◌≤◌, ◌∙◌, false, length, List, ℕ, Ok, sym, ap, subst, arith}
 use Rattle.std.specs.List.{All}
-use Rattle.alta_codec.specs.declared.extent.Extent.{Extent}
-use Rattle.alta_images.specs.Broken.{HasLevels, IsBrokenAt, in_list, without_end}
+use Rattle.alta_images.specs.Broken.{IsBrokenAt, in_list, without_end}
 use Rattle.alta_images.specs.Opened.{deleted_in, have_ends, levels_in}
 use Rattle.alta_images.proofs.OneReading.{opened_unbroken}
 use Rattle.alta_table.specs.Tables.{Tables}

@@ -1,9 +1,9 @@
-use Rattle.std.proofs.Common.{◌≡◌, Bool, false, get_or, sym, ap, ◌∙◌}
+use Rattle.std.proofs.Common.{Bool, sym, ap, ◌∙◌}
 use Rattle.std.specs.Prelude.{◌&&◌}
 use Rattle.alta_content.specs.Rows.{Before, start}
 use Rattle.alta_content.specs.declared.document.DocRow.{DocRow}
 use Rattle.alta_images.specs.Opened.{rows_in}
-use Rattle.alta_opening.specs.Rows.{behind_rows, leaves_room, left_by, lies_behind}
+use Rattle.alta_opening.specs.Rows.{behind_rows, leaves_room, lies_behind}
 use Rattle.alta_opening.proofs.RowLaws.{order_tested}
 use Rattle.alta_opening.proofs.order.are_placed.Goals as goal
 

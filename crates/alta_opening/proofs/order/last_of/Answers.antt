@@ -1,6 +1,5 @@
-use Rattle.std.proofs.Common.{◌≡◌, ◌-◌, ◌<◌, length, sym, subst, ◌∙◌, arith}
+use Rattle.std.proofs.Common.{◌-◌, ◌<◌, length, sym, subst, arith}
 use Rattle.alta_content.specs.Rows.{IsPlaced, start}
-use Rattle.alta_content.specs.declared.document.DocRow.{DocRow}
 use Rattle.alta_opening.proofs.RowLaws.{all_placed, last_leaves}
 use Rattle.alta_opening.proofs.order.last_of.Goals as goal
 

@@ -1,9 +1,7 @@
-use Rattle.std.proofs.Common.{◌≡◌, ◌+◌, ◌++◌, ◌∙◌, refl, take, length, sym, ap, subst, Ok, Err, List, ℕ, Result, arith}
-use Rattle.alta_disk.specs.Parts.{part}
+use Rattle.std.proofs.Common.{◌≡◌, ◌+◌, ◌∙◌, take, length, sym, ap, subst, Err, List, ℕ, Result, arith}
 use Rattle.alta_images.specs.Opened.{tables_at}
 use Rattle.alta_table.specs.Answers.{Answers as TableAnswers}
 use Rattle.alta_table.specs.Tables.{Tables, tables_of}
-use Rattle.alta_opening.specs.Steps.{Answers}
 use Rattle.alta_opening.proofs.TableReads.{head_fails, tables_fail, tables_read, whole_parts}
 use Rattle.alta_opening.proofs.tables.read_tables.Goals as goal
 
