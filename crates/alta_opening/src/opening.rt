@@ -35,7 +35,7 @@ pub struct OpenLevels {
     pub names: BTreeMap<String, u64>,
 }
 
-/// Opens what a root names that counts, in this order: the deletion list; of each level, the oldest first, its head and tables, its
+/// Opens what the counting root names, in this order: the deletion list; of each level, the oldest first, its head and tables, its
 /// order behind the levels before it and against the root, and its live names; then the deletion list against the levels. Neither the
 /// journal nor a stream or a summary is read, and nothing is written.
 ///
