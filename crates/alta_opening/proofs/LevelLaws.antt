@@ -1,0 +1,106 @@
+-- A level behind those that were opened.
+use Rattle.std.proofs.Common.{◌≡◌, ℕ, suc, ◌+◌, ◌<◌, ◌≤◌, true, false, List, [], ◌∷◌, ◌++◌, length, take, drop, get_or, drop-cons, refl, sym, ap, subst, ◌∙◌, Result, Ok, Err, arith}
+use Rattle.std.specs.Prelude.{None}
+use Rattle.std.specs.BTreeMap.{get_by_text}
+use Rattle.std.proofs.lemmas.List.{get_or_default, take-append-drop, take_more}
+use Rattle.std.proofs.lemmas.List.Sums.{sum_by_more, sum_by_more_le}
+use Rattle.std.specs.List.{sum_by}
+use Rattle.alta_codec.specs.declared.extent.Extent.{Extent}
+use Rattle.alta_content.specs.Rows.{AreDocuments, AreDocumentsBehind, start}
+use Rattle.alta_images.specs.Known.{Named}
+use Rattle.alta_images.specs.Opened.{are_in_order, levels_from, live_in, names_in, rows_in, tables_at, with_level}
+use Rattle.alta_images.proofs.OrderLaws.{live_append, rows_more}
+use Rattle.alta_images.proofs.Steps.{levels_append}
+use Rattle.alta_root.specs.declared.root.Root.{Root}
+use Rattle.alta_table.specs.Tables.{Tables}
+use Rattle.alta_opening.specs.Names.{AreNames}
+use Rattle.alta_opening.specs.Reached.{HasReached}
+use Rattle.alta_opening.specs.Rows.{behind_rows, left_by}
+use Rattle.alta_opening.specs.Steps.{Answers, admitted}
+use Rattle.alta_opening.specs.declared.fault.OpeningFault.{OpeningFault}
+use Rattle.alta_opening.specs.declared.fault.OpeningFault.TheVariants as faults
+use Rattle.alta_opening.specs.declared.levels.Levels.{Levels}
+use Rattle.alta_opening.proofs.RowLaws.{behind_any, behind_append, order_extends, rows_append}
+
+pub reached_none : (deleted : List ℕ) (found : Levels) → found.levels.items ≡ [] → left_by found.last ≡ start → ((q : List ℕ) → get_by_text found.names q ≡ None) → HasReached deleted found
+unfolding AreDocumentsBehind
+reached_none deleted found none last names = record {
+  rows = subst (λ (ls : List Tables). AreDocuments (rows_in ls)) (sym none) tt;
+  last = last ∙ ap (λ (ls : List Tables). behind_rows start (rows_in ls)) (sym none);
+  names = subst (λ (ls : List Tables). AreNames found.names (live_in deleted (rows_in ls))) (sym none) names;
+}
+
+-- ---- the steps of one level
+
+module _ (root : Root) (deleted : List ℕ) (levels : List Tables) (extent : Extent) (level : Tables) where
+  pub not_in_order : are_in_order root levels level.documents ≡ false → admitted root deleted levels extent level ≡ Err extent.place
+  not_in_order e = rw e refl
+
+  pub second_name : (place : ℕ) → are_in_order root levels level.documents ≡ true → names_in deleted levels level ≡ Err place → admitted root deleted levels extent level ≡ Err place
+  second_name place e names = rw e rw names refl
+
+  pub is_admitted : (live : List Named) → are_in_order root levels level.documents ≡ true → names_in deleted levels level ≡ Ok live → admitted root deleted levels extent level ≡ Ok (levels ++ level ∷ [])
+  is_admitted live e names = rw e rw names refl
+
+  pub tables_first : (image : List ℕ) → tables_at extent image ≡ Ok level → with_level root deleted levels extent image ≡ admitted root deleted levels extent level
+  tables_first image found = rw found refl
+
+pub no_tables : (root : Root) (deleted : List ℕ) (levels : List Tables) (extent : Extent) (image : List ℕ) (place : ℕ) → tables_at extent image ≡ Err place → with_level root deleted levels extent image ≡ Err place
+no_tables root deleted levels extent image place found = rw found refl
+
+-- ---- what is kept behind one more
+
+pub reached_more : (root : Root) (deleted : List ℕ) (old new : Levels) (level : Tables) → HasReached deleted old → AreDocuments level.documents → 0 < length level.documents
+    → are_in_order root old.levels.items level.documents ≡ true → new.levels.items ≡ old.levels.items ++ level ∷ [] → left_by new.last ≡ behind_rows start level.documents
+    → AreNames new.names (live_in deleted (rows_in old.levels.items) ++ live_in deleted level.documents) → HasReached deleted new
+reached_more root deleted old new level reached are some ordered levels last names =
+    let before = behind_rows start (rows_in old.levels.items) in
+    let rows : rows_in new.levels.items ≡ rows_in old.levels.items ++ level.documents = ap rows_in levels ∙ rows_more old.levels.items level in
+    record {
+      rows = subst AreDocuments (sym rows) (rows_append start (rows_in old.levels.items) level.documents reached.rows (order_extends root old.levels.items level.documents reached.rows are ordered));
+      last = last ∙ behind_any start before level.documents some ∙ sym (behind_append start (rows_in old.levels.items) level.documents) ∙ ap (behind_rows start) (sym rows);
+      names = subst (AreNames new.names) (sym (ap (live_in deleted) rows ∙ live_append deleted (rows_in old.levels.items) level.documents)) names;
+    }
+
+-- ---- levels one behind the other
+
+-- the extents up to one, that one, and those behind it
+module _ (root : Root) (deleted image : List ℕ) (extents : List Extent) (i : ℕ) (extent : Extent) (inside : i < length extents) (is : extent ≡ get_or extents i extent) (levels : List Tables)
+    (so_far : levels_from root deleted [] (take i extents) image ≡ Ok levels) where
+  pub levels_more : (longer : List Tables) → with_level root deleted levels extent image ≡ Ok longer → levels_from root deleted [] (take (i + 1) extents) image ≡ Ok longer
+  levels_more longer found =
+      ap (λ (es : List Extent). levels_from root deleted [] es image) (take_more extents i extent inside ∙ ap (λ (e : Extent). take i extents ++ e ∷ []) (sym is))
+      ∙ levels_append root deleted image [] (take i extents) (extent ∷ []) ∙ (rw so_far rw found refl)
+
+  pub levels_stop : (place : ℕ) → with_level root deleted levels extent image ≡ Err place → levels_from root deleted [] extents image ≡ Err place
+  levels_stop place fails =
+      let next : suc i ≡ i + 1 = omega arith in
+      let rest : drop i extents ≡ extent ∷ drop (i + 1) extents =
+      drop-cons extents i extent inside ∙ ap (λ (e : Extent). e ∷ drop (suc i) extents) (sym is) ∙ ap (λ (k : ℕ). extent ∷ drop k extents) next in
+      ap (λ (es : List Extent). levels_from root deleted [] es image) (sym (take-append-drop i extents) ∙ ap (λ (es : List Extent). take i extents ++ es) rest)
+      ∙ levels_append root deleted image [] (take i extents) (extent ∷ drop (i + 1) extents) ∙ (rw so_far rw fails refl)
+
+-- an answer that is an error
+pub error_answers : {X Y : Type 0} (view : X → Y) (fault : OpeningFault) (found : Result Y ℕ) → ((place : ℕ) → fault ≡ faults.Damaged place → found ≡ Err place) → Answers view (Err fault) found
+error_answers view faults.Disk found damaged = tt
+error_answers view faults.Memory found damaged = tt
+error_answers view (faults.Damaged place) found damaged = damaged place refl
+
+-- ---- an extent among those of a root
+
+pub record IsAt (extents : List Extent) (i : ℕ) (extent : Extent) : Type 0 where
+  pub inside : i < length extents
+  pub is : extent ≡ get_or extents i extent
+
+pub extent_at : (extents same : List Extent) (i : ℕ) (d : Extent) → same ≡ extents → i < length same → IsAt extents i (get_or same i d)
+extent_at extents same i d is inside =
+    let here : i < length extents = subst (λ (es : List Extent). i < length es) is inside in
+    record { inside = here; is = ap (λ (es : List Extent). get_or es i d) is ∙ get_or_default extents i d (get_or same i d) here }
+
+-- what is counted of the extents up to behind one
+pub counted_more : (f : Extent → ℕ) (extents : List Extent) (i : ℕ) (extent : Extent) → IsAt extents i extent → sum_by f (take (i + 1) extents) ≡ sum_by f (take i extents) + f extent
+counted_more f extents i extent at = sum_by_more f extents i extent at.inside ∙ ap (λ (e : Extent). sum_by f (take i extents) + f e) (sym at.is)
+
+-- and of all
+pub counted_all : (f : Extent → ℕ) (extents : List Extent) (i : ℕ) (extent : Extent) → IsAt extents i extent → sum_by f (take i extents) + f extent ≤ sum_by f extents
+counted_all f extents i extent at = omega (arith, sum_by_more_le f extents i extent at.inside, ap f at.is)

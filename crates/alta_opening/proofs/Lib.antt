@@ -1,0 +1,10 @@
+pub mod BrokenLevels
+pub mod DiskReads
+pub mod EndLaws
+pub mod LevelLaws
+pub mod ListLaws
+pub mod Naming
+pub mod OpeningLaws
+pub mod RowLaws
+pub mod Searches
+pub mod TableReads

@@ -1,0 +1,21 @@
+-- A map of the names of live documents.
+use Rattle.std.proofs.Common.{Global}
+use Rattle.std.specs.Prelude.{◌≡◌, ℕ, Bool, not, ◌||◌, if◌then◌else◌, List, [], ◌∷◌, String, Option, Some, None}
+use Rattle.std.specs.BTreeMap.{BTreeMap, get_by_text}
+use Rattle.std.specs.Str.{bytes_eq}
+use Rattle.alta_content.specs.Rows.{ends_among}
+use Rattle.alta_content.specs.declared.document.DocRow.{DocRow}
+use Rattle.alta_images.specs.Known.{Named, is_taken}
+
+-- the number of the first of these with this name
+abbrev pub number_of : List ℕ → List Named → Option ℕ
+number_of name [] = None
+number_of name (row ∷ rows) = if bytes_eq name row.name then Some row.number else number_of name rows
+
+-- The map has the names of these, each with its number, and no other name.
+abbrev pub AreNames : BTreeMap (String Global) ℕ → List Named → Type 0
+AreNames names live = (name : List ℕ) → get_by_text names name ≡ number_of name live
+
+-- the row's document is deleted, or none of these has its name
+abbrev pub may_join : List ℕ → List Named → DocRow → Bool
+may_join deleted live row = ends_among deleted row || not (is_taken row.name live)

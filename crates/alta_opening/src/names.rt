@@ -1,0 +1,94 @@
+// The names of live documents.
+ghost use Rattle.std.specs.BTreeMap.{get_by_text};
+ghost use Rattle.std.specs.Map.{update};
+ghost use Rattle.std.specs.Prelude.{◌≡◌, ◌≢◌, ◌++◌, ◌∷◌, [], ℕ, List, not, true, Some, Ok, Err, IfOk, OnOk};
+ghost use Rattle.std.specs.Str.{bytes_eq};
+ghost use Rattle.alta_codec.specs.Rising.{IsRising};
+ghost use Rattle.alta_content.specs.Rows.{IsPlaced, ends_among};
+ghost use Rattle.alta_images.specs.Known.{Named, is_taken};
+ghost use Rattle.alta_images.specs.Opened.{live_in, names_from};
+ghost use Rattle.alta_opening.specs.Names.{AreNames, may_join};
+ghost use Rattle.alta_opening.specs.declared.fault.OpeningFault.TheVariants.{Damaged, Disk as DiskFault};
+
+use crate::OpeningFault;
+use alta_codec::Loc;
+use alta_content::DocRow;
+use alta_table::Table;
+use std::alloc::{AllocError, Global};
+use std::collections::BTreeMap;
+
+// Whether the row's document is deleted.
+fn is_deleted(deleted: &[Loc], row: &DocRow) -> bool
+    requires rising { IsRising deleted.now }
+    requires placed { IsPlaced row.now }
+    ensures { result ≡ ends_among deleted.now row.now }
+{
+    let end = row.first + row.cells - 1;
+    deleted.binary_search(&end).is_ok()
+}
+
+// Notes the name of a document.
+fn note(
+    alloc: Global,
+    names: &mut BTreeMap<String, u64>,
+    name: &str,
+    number: u64,
+) -> Result<(), AllocError>
+    ensures { OnOk result ((q : List ℕ) → get_by_text names.new q ≡ update bytes_eq (get_by_text names.old) name.now (Some number) q) }
+{
+    let key = String::from_str(alloc, name)?;
+    names.insert(key, number)?;
+    Ok(())
+}
+
+// Whether none of these has the name.
+fn is_free(names: &BTreeMap<String, u64>, name: &str) -> bool
+    ensures { (live : List Named) → AreNames names.now live → result ≡ not (is_taken name.now live) }
+{
+    !names.contains_key(name)
+}
+
+// Whether a row's document is deleted, or no live one has its name; its name is then noted.
+fn join(
+    alloc: Global,
+    names: &mut BTreeMap<String, u64>,
+    deleted: &[Loc],
+    row: &DocRow,
+) -> Result<bool, AllocError>
+    requires rising { IsRising deleted.now }
+    requires placed { IsPlaced row.now }
+    ensures free { (live : List Named) → AreNames names.old live → IfOk result (λ joins. joins ≡ may_join deleted.now live row.now) }
+    ensures names { (live : List Named) → AreNames names.old live → IfOk result (λ joins. joins ≡ true → AreNames names.new (live ++ live_in deleted.now (row.now ∷ []))) }
+{
+    if is_deleted(deleted, row) {
+        return Ok(true);
+    }
+    if !is_free(names, row.name.as_str()) {
+        return Ok(false);
+    }
+    note(alloc, names, row.name.as_str(), row.number)?;
+    Ok(true)
+}
+
+/// Notes the names of a level's live documents. A name that a live document before has is damage at its place. After an error
+/// some of the level's names are noted.
+pub(crate) fn note_names(
+    alloc: Global,
+    names: &mut BTreeMap<String, u64>,
+    deleted: &[Loc],
+    level: &Table,
+) -> Result<(), OpeningFault>
+    requires { IsRising deleted.now }
+    ensures found { (live : List Named) → AreNames names.old live → OnOk result (names_from deleted.now level.now live 0 level.now.documents ≡ Ok (live ++ live_in deleted.now level.now.documents)) }
+    ensures names { (live : List Named) → AreNames names.old live → OnOk result (AreNames names.new (live ++ live_in deleted.now level.now.documents)) }
+    ensures second { (live : List Named) → AreNames names.old live → (place : ℕ) → result ≡ Err (Damaged place) → names_from deleted.now level.now live 0 level.now.documents ≡ Err place }
+    ensures disk { result ≢ Err DiskFault }
+{
+    let rows = level.documents();
+    for (i, row) in rows.iter().enumerate() {
+        if !join(alloc, names, deleted, row)? {
+            return Err(OpeningFault::Damaged(level.name_place(i)));
+        }
+    }
+    Ok(())
+}

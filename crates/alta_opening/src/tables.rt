@@ -1,0 +1,58 @@
+// Head and tables of a level.
+ghost use Rattle.std.specs.Prelude.{◌≡◌, ◌+◌, ◌<◌, ◌≤◌, ◌^◌, length, Err, IfOk};
+ghost use Rattle.alta_codec.specs.Faults.{Rose};
+ghost use Rattle.alta_disk.specs.Calls.{Reads};
+ghost use Rattle.alta_disk.specs.Disk.{DiskState};
+ghost use Rattle.alta_images.specs.Opened.{tables_at};
+ghost use Rattle.alta_opening.specs.Costs.{level_bytes};
+ghost use Rattle.alta_opening.specs.Steps.{Answers, outer};
+ghost use Rattle.alta_opening.specs.declared.fault.OpeningFault.TheVariants.{Disk as DiskFault};
+
+use crate::OpeningFault;
+use crate::reading::read_behind;
+use alta_codec::Extent;
+use alta_disk::Disk;
+use alta_table::{LevelFault, Table, head};
+use std::alloc::Global;
+
+// The bytes of a head.
+const HEAD: usize = 32;
+
+// The same fault of opening.
+fn outer(fault: LevelFault) -> OpeningFault
+    ensures { result ≡ outer fault }
+{
+    match fault {
+        LevelFault::Damaged(place) => OpeningFault::Damaged(place),
+        LevelFault::Memory => OpeningFault::Memory,
+    }
+}
+
+/// Head and tables of a level: its head is read by one call, its documents and terms by a second. Where the disk tells its
+/// content, the extent lies on it.
+pub(crate) fn read_tables<D: Disk>(
+    alloc: Global,
+    disk: &mut D,
+    extent: Extent,
+) -> Result<Table, OpeningFault>
+    requires long { 32 ≤ extent.bytes }
+    requires below { extent.place + extent.bytes < 2 ^ 64 }
+    requires inside { D.tells → extent.place + extent.bytes ≤ length (D.state disk.old).content }
+    ensures exact { D.tells → Answers (λ table. table) result (tables_at extent (D.state disk.old).content) }
+    ensures cause { result ≡ Err DiskFault → Rose (D.state disk.old).faults (D.state disk.new).faults }
+    ensures reads { Reads D.tells extent.bytes (D.state disk.old) (D.state disk.new) }
+    ensures taken { D.tells → (D.state disk.new).taken ≤ (D.state disk.old).taken + level_bytes (D.state disk.old).content extent }
+{
+    let mut front = [0; HEAD];
+    disk.read(extent.place, &mut front)?;
+    let sizes = match head(&front, extent.place, extent.bytes) {
+        Ok(sizes) => sizes,
+        Err(fault) => return Err(outer(fault)),
+    };
+    let behind = sizes.document_bytes + sizes.term_bytes;
+    let bytes = read_behind(alloc, disk, &front, extent.place + HEAD as u64, behind)?;
+    match Table::open(alloc, &bytes, extent.place, extent.bytes) {
+        Ok(table) => Ok(table),
+        Err(fault) => Err(outer(fault)),
+    }
+}
