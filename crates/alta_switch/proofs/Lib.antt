@@ -1,3 +1,4 @@
+pub mod ComeLaws
 pub mod PieceLaws
 pub mod PutLaws
 pub mod RunLaws

@@ -37,7 +37,7 @@ done_as (Err e) P Q follows done = tt
 
 module _ (slot : Slot) (root : Root) (pieces : List Piece) (limit : ℕ) (old : List ℕ) (may : MayPut slot root pieces limit old) where
   -- what is written spares each root that counts
-  spared : (at : Slot) (counting : Root) → Counts at counting old → Spares (ranges_before slot pieces) at counting
+  pub spared : (at : Slot) (counting : Root) → Counts at counting old → Spares (ranges_before slot pieces) at counting
   spared at counting counts =
       let same = one_counts old at (other slot) counting may.earlier counts may.counts in
       subst (λ (r : Roots). Spares (ranges_before slot pieces) r.slot r.root) (sym same) (earlier_spared slot root pieces limit old may)
@@ -48,7 +48,7 @@ module _ (slot : Slot) (root : Root) (pieces : List Piece) (limit : ℕ) (old : 
   state_stays : (s : State) (new : List ℕ) → StandsFor s old → Touches (ranges_before slot pieces) old new → StandsFor s new
   state_stays s new stands touches = stands_on (ranges_before slot pieces) s old new stands touches (slots_spared slot root pieces limit old may) (spared stands.opened.slot stands.opened.root stands.counts)
 
-  follows_as : (coming : Opened) → coming.slot ≡ slot → coming.root ≡ root → (middle : List ℕ) → Puts slot pieces old middle → MayFollow coming.slot coming.root middle
+  pub follows_as : (coming : Opened) → coming.slot ≡ slot → coming.root ≡ root → (middle : List ℕ) → Puts slot pieces old middle → MayFollow coming.slot coming.root middle
   follows_as coming slot_is root_is middle puts =
       subst (λ (s : Slot). MayFollow s coming.root middle) (sym slot_is) (subst (λ (r : Root). MayFollow slot r middle) (sym root_is) (put_follows slot root pieces limit old may middle puts))
 

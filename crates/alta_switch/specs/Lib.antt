@@ -1,2 +1,3 @@
 pub mod Brings
+pub mod Comes
 pub mod Puts

@@ -1,8 +1,10 @@
 //! What a root to come names is written into gaps beside the root that counts, and then the root is switched.
 #![tactic(auto)]
 
+mod laws;
 mod piece;
 mod putting;
 
+pub use laws::{a_first_gap_is_laid, what_is_put_is_there};
 pub use piece::Piece;
 pub use putting::put_root;

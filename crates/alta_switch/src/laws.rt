@@ -1,0 +1,32 @@
+// What follows from the definitions alone. The functions are empty: their contracts are the laws.
+ghost use Rattle.std.specs.Prelude.{◌≡◌, ◌≤◌, ◌<◌, ◌^◌, List, ℕ, length};
+ghost use Rattle.alta_codec.specs.declared.extent.Extent.{Extent};
+ghost use Rattle.alta_images.specs.Levels.{Level};
+ghost use Rattle.alta_images.specs.Opened.{Opened, bytes_at};
+ghost use Rattle.alta_images.specs.Switching.{IsPut};
+ghost use Rattle.alta_root.specs.Gaps.{IsFirstGap, taken_by};
+ghost use Rattle.alta_root.specs.Root.{IsSound, extents_of};
+ghost use Rattle.alta_root.specs.Slots.{Counts};
+ghost use Rattle.alta_root.specs.Switches.{MayFollow};
+ghost use Rattle.alta_root.specs.declared.places.TheConstants.{HEAD_BYTES};
+ghost use Rattle.alta_root.specs.declared.root.Root.{Root};
+ghost use Rattle.alta_root.specs.declared.slot.Slot.{Slot};
+ghost use Rattle.alta_switch.specs.Comes.{Comes, WillStand};
+ghost use Rattle.alta_switch.specs.Puts.{IsLaid, MayPut, Puts, extents_in};
+ghost use Rattle.alta_switch.specs.declared.piece.Piece.{Piece};
+
+/// A piece for which the first gap beside a root's extents and the pieces before it was taken may be written behind these.
+pub fn a_first_gap_is_laid()
+    ensures { (root : Root) → (limit size : ℕ) → (before : List Piece) → (piece : Piece) → IsSound size root → HEAD_BYTES ≤ size
+        → IsFirstGap (taken_by root (extents_in before)) piece.extent.bytes limit piece.extent.place → IsLaid (extents_of root) limit size before piece }
+{}
+
+/// Once pieces are put, their bytes stand at their extents, and what the root that counts names has the bytes that it had. The
+/// root to come may follow it, and all that it names was put there.
+pub fn what_is_put_is_there()
+    ensures bytes { (slot at : Slot) → (root earlier : Root) → (pieces : List Piece) → (limit : ℕ) → (old new : List ℕ) → MayPut slot root pieces limit old → Counts at earlier old → Puts slot pieces old new
+        → (extent : Extent) → (bytes : List ℕ) → WillStand earlier pieces old extent bytes → bytes_at extent new ≡ bytes }
+    ensures follows { (slot : Slot) → (root : Root) → (pieces : List Piece) → (limit : ℕ) → (old new : List ℕ) → MayPut slot root pieces limit old → Puts slot pieces old new → MayFollow slot root new }
+    ensures put { (slot at : Slot) → (root earlier : Root) → (pieces : List Piece) → (limit : ℕ) → (old new : List ℕ) → MayPut slot root pieces limit old → limit < 2 ^ 64
+        → length old ≤ limit → Counts at earlier old → Puts slot pieces old new → (coming : Opened) → (levels : List Level) → Comes slot root pieces coming levels earlier old → IsPut coming levels new }
+{}
