@@ -4,6 +4,8 @@
 mod laws;
 mod piece;
 mod putting;
+#[cfg(test)]
+mod tests;
 
 pub use laws::{a_first_gap_is_laid, what_is_put_is_there};
 pub use piece::Piece;
