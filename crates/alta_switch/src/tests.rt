@@ -1,9 +1,9 @@
 // What each stop of a root that is put leaves.
-ghost use Rattle.std.specs.Prelude.{◌≡◌, ◌+◌, ◌*◌, ◌≤◌, [], ◌∷◌, length, IfOk, IfSome, IsTrue};
+ghost use Rattle.std.specs.Prelude.{◌≡◌, ◌+◌, ◌≤◌, [], ◌∷◌, length, IfOk, IfSome, IsTrue};
 ghost use Rattle.alta_disk.specs.Memory.{memory_state};
 ghost use Rattle.alta_disk.specs.Disk.{DiskState};
 ghost use Rattle.alta_disk.specs.Calls.{Reads};
-ghost use Rattle.alta_root.specs.declared.places.TheConstants.{HEAD_BYTES, READ_BYTES};
+ghost use Rattle.alta_root.specs.declared.places.TheConstants.{HEAD_BYTES};
 ghost use Rattle.alta_switch.specs.Puts.{MayPut};
 
 use crate::*;
@@ -50,7 +50,7 @@ fn with_list(disk: &mut MemoryDisk, list: Piece<'_>) -> Option<(Slot, Root)>
     requires some { 1 ≤ list.extent.bytes }
     requires short { HEAD_BYTES + list.extent.bytes ≤ (memory_state disk.old).limit }
     ensures follows { IfSome result (λ next. MayPut next.0 next.1 (list.entry ∷ []) (memory_state disk.old).limit (memory_state disk.old).content) }
-    ensures reads { Reads (Unit {0}) (2 * READ_BYTES) (memory_state disk.old) (memory_state disk.new) }
+    ensures reads { Reads (Unit {0}) 592 (memory_state disk.old) (memory_state disk.new) }
 {
     let Roots { slot, root } = read_roots(disk).ok()?;
     if !names_nothing(&root) {
@@ -76,7 +76,7 @@ fn with_level(disk: &mut MemoryDisk, level: Piece<'_>, list: Piece<'_>) -> Optio
     requires list { 1 ≤ list.extent.bytes }
     requires short { HEAD_BYTES + level.extent.bytes + list.extent.bytes ≤ (memory_state disk.old).limit }
     ensures follows { IfSome result (λ next. MayPut next.0 next.1 (level.entry ∷ list.entry ∷ []) (memory_state disk.old).limit (memory_state disk.old).content) }
-    ensures reads { Reads (Unit {0}) (2 * READ_BYTES) (memory_state disk.old) (memory_state disk.new) }
+    ensures reads { Reads (Unit {0}) 592 (memory_state disk.old) (memory_state disk.new) }
 {
     let Roots { slot, root } = read_roots(disk).ok()?;
     if !names_nothing(&root) {
