@@ -11,12 +11,17 @@ use Rattle.alta_codec.specs.declared.extent.Extent.{Extent}
 use Rattle.alta_disk.specs.Images.{end_of}
 use Rattle.alta_disk.specs.Parts.{Apart, Clear}
 use Rattle.alta_images.proofs.KeptStates.{unmap}
+use Rattle.alta_images.proofs.SpacedLaws.{written_stands}
+use Rattle.alta_images.specs.Known.{known_of}
 use Rattle.alta_images.specs.Levels.{Level}
 use Rattle.alta_images.specs.Opened.{Opened, bytes_at, journal_of}
-use Rattle.alta_images.specs.Standing.{AreLevels}
-use Rattle.alta_images.specs.Switching.{IsPut, Spares}
+use Rattle.alta_images.specs.Ordered.{IsOrdered}
+use Rattle.alta_images.specs.Standing.{view_of}
+use Rattle.alta_images.specs.Switching.{InPlace, IsPut, IsWritten}
+use Rattle.alta_images.specs.Views.{state_of}
 use Rattle.alta_journal.specs.Journal.{EndsAt}
 use Rattle.alta_level.specs.Segments.{IsSegment}
+use Rattle.alta_meta.specs.declared.document.State.{State}
 use Rattle.alta_postings.specs.Deltas.{Spells, stream_bytes}
 use Rattle.alta_root.proofs.Frames.{counts_sound}
 use Rattle.alta_root.proofs.NextRoot.{levels_inside}
@@ -29,6 +34,7 @@ use Rattle.alta_root.specs.declared.root.Root.{Root}
 use Rattle.alta_root.specs.declared.slot.Slot.{Slot}
 use Rattle.alta_switch.proofs.PutLaws.{put_follows}
 use Rattle.alta_switch.proofs.RunLaws.{follows_as, spared}
+use Rattle.alta_switch.specs.Brings.{Brings, Names}
 use Rattle.alta_switch.specs.Comes.{Comes, LevelComes, ListComes, WillStand}
 use Rattle.alta_switch.specs.Puts.{extents_in, ranges_before, ranges_in, Fills, HasPiece, IsLaid, AreLaid, MayPut, Puts}
 use Rattle.alta_switch.specs.declared.piece.Piece.{Piece}
@@ -155,3 +161,26 @@ module _ (slot at : Slot) (root earlier : Root) (pieces : List Piece) (limit : �
           subst (λ (s : Slot). EndsAt (journal_of s) coming.tail [] new) (sym comes.slot_is)
           (subst (λ (n : ℕ). EndsAt (journal_of slot) n [] new) (sym comes.tail) puts.journal);
     }
+
+    pub is_written : (coming : Opened) (levels : List Level) → Comes slot root pieces coming levels earlier old → InPlace root coming.deleted coming.levels → IsWritten coming levels new
+    is_written coming levels comes place = record { put = is_put coming levels comes; place = subst (λ (r : Root). InPlace r coming.deleted coming.levels) (sym comes.root_is) place }
+
+-- ---- what it brings
+
+pub comes_brings : (slot at : Slot) (root earlier : Root) (pieces : List Piece) (limit : ℕ) (old : List ℕ) → MayPut slot root pieces limit old → limit < 2 ^ 64 → length old ≤ limit → Counts at earlier old → (coming : Opened) (levels : List Level)
+    → Comes slot root pieces coming levels earlier old → InPlace root coming.deleted coming.levels → IsOrdered (known_of (state_of (view_of coming levels)))
+    → Brings slot root pieces coming levels (state_of (view_of coming levels)) old
+comes_brings slot at root earlier pieces limit old may short fits counts coming levels comes place ordered = record {
+  slot_is = comes.slot_is;
+  root_is = comes.root_is;
+  written = λ middle puts. is_written slot at root earlier pieces limit old middle may counts puts short fits coming levels comes place;
+  state_is = refl;
+  ordered = ordered;
+}
+
+pub brings_names : (slot : Slot) (root : Root) (pieces : List Piece) (old : List ℕ) (coming : Opened) (levels : List Level) (s : State) → Brings slot root pieces coming levels s old → Names slot root pieces coming old
+brings_names slot root pieces old coming levels s brings = record {
+  slot_is = brings.slot_is;
+  root_is = brings.root_is;
+  named = λ middle puts. (written_stands s coming levels middle (brings.written middle puts) brings.state_is brings.ordered).means.named;
+}
