@@ -1,10 +1,9 @@
 -- What stands on a disk once pieces are put.
-use Rattle.std.proofs.Common.{◌≡◌, ◌⊎◌, inl, inr, ⊎_elim, ℕ, ◌+◌, ◌≤◌, ◌<◌, ◌^◌, List, [], ◌∷◌, ◌++◌, length, map, drop, refl, sym, ap, subst, ◌∙◌, arith}
-use Rattle.std.specs.Prelude.{Contains, max}
+use Rattle.std.proofs.Common.{◌≡◌, inr, ⊎_elim, ℕ, ◌+◌, ◌≤◌, ◌<◌, ◌^◌, List, [], ◌∷◌, ◌++◌, length, drop, refl, sym, ap, subst, ◌∙◌, arith}
 use Rattle.std.specs.List.{All}
 use Rattle.std.proofs.lemmas.Bool.{cases_lt}
 use Rattle.std.proofs.lemmas.List.{length-drop, length-take-le}
-use Rattle.std.proofs.lemmas.List.Elements.{All-append, All-cons, All-contains, All-map, All-nil, All-weaker}
+use Rattle.std.proofs.lemmas.List.Elements.{All-append, All-cons, All-contains, All-nil, All-weaker}
 use Rattle.alta_codec.proofs.ByteLaws.{AreBytes-drop, AreBytes-take}
 use Rattle.alta_codec.specs.Bytes.{AreBytes}
 use Rattle.alta_codec.specs.declared.extent.Extent.{Extent}
@@ -25,18 +24,16 @@ use Rattle.alta_meta.specs.declared.document.State.{State}
 use Rattle.alta_postings.specs.Deltas.{Spells, stream_bytes}
 use Rattle.alta_root.proofs.Frames.{counts_sound}
 use Rattle.alta_root.proofs.NextRoot.{levels_inside}
-use Rattle.alta_root.specs.Gaps.{IsFirstGap, IsGap, taken_by}
+use Rattle.alta_root.specs.Gaps.{IsFirstGap, taken_by}
 use Rattle.alta_root.specs.Root.{IsExtent, IsSound, extents_of, no_extent}
 use Rattle.alta_root.specs.Slots.{Counts}
-use Rattle.alta_root.specs.Switches.{MayFollow}
 use Rattle.alta_root.specs.declared.places.TheConstants.{HEAD_BYTES, LEVEL_BYTES}
 use Rattle.alta_root.specs.declared.root.Root.{Root}
 use Rattle.alta_root.specs.declared.slot.Slot.{Slot}
-use Rattle.alta_switch.proofs.PutLaws.{put_follows}
 use Rattle.alta_switch.proofs.RunLaws.{follows_as, spared}
 use Rattle.alta_switch.specs.Brings.{Brings, Names}
 use Rattle.alta_switch.specs.Comes.{Comes, LevelComes, ListComes, WillStand}
-use Rattle.alta_switch.specs.Puts.{extents_in, ranges_before, ranges_in, Fills, HasPiece, IsLaid, AreLaid, MayPut, Puts}
+use Rattle.alta_switch.specs.Puts.{extents_in, ranges_before, ranges_in, HasPiece, IsLaid, AreLaid, MayPut, Puts}
 use Rattle.alta_switch.specs.declared.piece.Piece.{Piece}
 
 nothing_spelled : Spells [] []
@@ -48,23 +45,23 @@ nothing_spelled = record {
 
 -- ---- ends
 
-abbrev EndsIn : ℕ → Extent → Type 0
+abbrev pub EndsIn : ℕ → Extent → Type 0
 EndsIn size e = e.place + e.bytes ≤ size
 
 none_ends : (size : ℕ) (e : Extent) → e ≡ no_extent → EndsIn size e
 none_ends size e is = let none : e.place + e.bytes ≡ 0 = ap (λ (e : Extent). e.place + e.bytes) is in omega (arith, none)
 
 -- what a root names ends in the disk
-root_ends : (size : ℕ) (root : Root) → IsSound size root → All (EndsIn size) (extents_of root)
+pub root_ends : (size : ℕ) (root : Root) → IsSound size root → All (EndsIn size) (extents_of root)
 root_ends size root sound =
     All-cons (EndsIn size) root.deletions root.levels.items (⊎_elim (λ none. none_ends size root.deletions none) (λ is. is.inside) sound.deletions)
     (All-weaker (IsExtent LEVEL_BYTES size []) (EndsIn size) (λ e is. is.inside) root.levels.items (levels_inside size (root.deletions ∷ []) root.levels.items sound.levels))
 
-end_least : (size : ℕ) (ranges : List (ℕ × ℕ)) → size ≤ end_of size ranges
+pub end_least : (size : ℕ) (ranges : List (ℕ × ℕ)) → size ≤ end_of size ranges
 end_least size [] = omega arith
 end_least size (r ∷ rs) = let least = end_least size rs in omega (arith, least)
 
-pieces_end : (size : ℕ) (pieces : List Piece) → All (EndsIn (end_of size (ranges_in pieces))) (extents_in pieces)
+pub pieces_end : (size : ℕ) (pieces : List Piece) → All (EndsIn (end_of size (ranges_in pieces))) (extents_in pieces)
 pieces_end size [] = All-nil (EndsIn size)
 pieces_end size (p ∷ ps) =
     All-cons (EndsIn (end_of size (ranges_in (p ∷ ps)))) p.extent (extents_in ps) (omega arith)

@@ -1,19 +1,18 @@
 -- What is put before a switch, and what it leaves as it is.
-use Rattle.std.proofs.Common.{◌≡◌, inl, inr, ⊎_elim, ℕ, ◌+◌, ◌≤◌, List, [], ◌∷◌, ◌++◌, length, get_or, refl, sym, ap, subst, ◌∙◌, arith}
+use Rattle.std.proofs.Common.{◌≡◌, inr, ℕ, ◌+◌, ◌≤◌, List, [], ◌∷◌, ◌++◌, length, sym, subst, ◌∙◌, arith}
 use Rattle.std.specs.List.{All}
 use Rattle.std.proofs.lemmas.List.Elements.{All-cons, All-nil, All-weaker}
 use Rattle.alta_codec.specs.Bytes.{AreBytes}
 use Rattle.alta_codec.specs.declared.extent.Extent.{Extent}
 use Rattle.alta_disk.specs.Disk.{DiskState, Holds, Passes, Torn}
-use Rattle.alta_disk.specs.Images.{end_of}
-use Rattle.alta_disk.specs.Parts.{Apart, Clear, Touches}
+use Rattle.alta_disk.specs.Parts.{Clear, Touches}
 use Rattle.alta_disk.specs.Writes.{length-holds}
 use Rattle.alta_disk.proofs.Moments.{passes_as}
 use Rattle.alta_disk.proofs.PartLaws.{touches_as, touches_then, touches_written}
 use Rattle.alta_images.proofs.KnownLaws.{all_both}
 use Rattle.alta_images.proofs.SwitchLaws.{gap_spares, gap_spares_slots, half_spares, half_spares_slots, journal_within}
 use Rattle.alta_images.proofs.Untouched.{counts_on}
-use Rattle.alta_images.specs.Opened.{bytes_at, half_of, journal_of}
+use Rattle.alta_images.specs.Opened.{half_of, journal_of}
 use Rattle.alta_images.specs.Switching.{Spares, SparesSlots}
 use Rattle.alta_journal.specs.Journal.{EndsAt}
 use Rattle.alta_journal.specs.Places.{start_of}
@@ -28,15 +27,15 @@ use Rattle.alta_root.specs.declared.places.TheConstants.{HEAD_BYTES}
 use Rattle.alta_root.specs.declared.root.Root.{Root}
 use Rattle.alta_root.specs.declared.slot.Slot.{Slot}
 use Rattle.alta_switch.proofs.PieceLaws.{run_more}
-use Rattle.alta_switch.specs.Puts.{extents_in, ranges_before, ranges_in, IsLaid, AreLaid, HasPiece, MayPut, Puts, Writes}
+use Rattle.alta_switch.specs.Puts.{extents_in, ranges_before, ranges_in, AreLaid, HasPiece, MayPut, Puts, Writes}
 use Rattle.alta_switch.specs.declared.piece.Piece.{Piece}
 
 -- ---- pieces lie behind the head
 
-abbrev IsBehind : Piece → Type 0
+abbrev pub IsBehind : Piece → Type 0
 IsBehind piece = HEAD_BYTES ≤ piece.extent.place
 
-laid_behind : (taken : List Extent) (limit size : ℕ) (before pieces : List Piece) → AreLaid taken limit size before pieces → All IsBehind pieces
+pub laid_behind : (taken : List Extent) (limit size : ℕ) (before pieces : List Piece) → AreLaid taken limit size before pieces → All IsBehind pieces
 laid_behind taken limit size before [] laid = All-nil IsBehind
 laid_behind taken limit size before (p ∷ ps) laid = All-cons IsBehind p ps laid.0.gap.behind (laid_behind taken limit size (before ++ p ∷ []) ps laid.1)
 

@@ -1,5 +1,5 @@
 -- The images while a root is put, and what they mean.
-use Rattle.std.proofs.Common.{◌≡◌, ◌⊎◌, inl, inr, ⊎_elim, ℕ, List, Result, Ok, Err, sym, subst}
+use Rattle.std.proofs.Common.{◌≡◌, inl, inr, ⊎_elim, ℕ, List, Result, Ok, Err, sym, subst}
 use Rattle.std.specs.Prelude.{OnOk}
 use Rattle.alta_disk.specs.Disk.{DiskState, Only, Passes, LeavesOnly, IsLawful}
 use Rattle.alta_disk.specs.Parts.{Touches}
@@ -9,11 +9,10 @@ use Rattle.alta_images.proofs.SpacedLaws.{written_stands}
 use Rattle.alta_images.proofs.SwitchLaws.{opened_switched, opened_switching, stands_switched, stands_switching}
 use Rattle.alta_images.proofs.Untouched.{opened_on, stands_on}
 use Rattle.alta_images.specs.Holding.{Holding, IsHeld}
-use Rattle.alta_images.specs.Known.{known_of}
 use Rattle.alta_images.specs.Levels.{Level}
-use Rattle.alta_images.specs.Opened.{Opened, IsNamed, IsOpened}
+use Rattle.alta_images.specs.Opened.{Opened, IsOpened}
 use Rattle.alta_images.specs.Standing.{StandsFor, StandsForEither, view_of}
-use Rattle.alta_images.specs.Switching.{IsWritten, MayOpen, MayStand, Spares}
+use Rattle.alta_images.specs.Switching.{MayOpen, MayStand, Spares}
 use Rattle.alta_images.specs.Views.{state_of}
 use Rattle.alta_meta.specs.declared.document.State.{State}
 use Rattle.alta_root.proofs.SlotLaws.{one_counts}

@@ -1,15 +1,18 @@
 -- Where what a root to come names has its bytes from.
-use Rattle.std.specs.Prelude.{◌≡◌, ◌⊎◌, Contains, List, [], ℕ, map}
+use Rattle.std.specs.Prelude.{◌≡◌, ◌⊎◌, ◌≤◌, ◌+◌, ◌-◌, ◌*◌, Contains, List, [], ℕ, length, map}
 use Rattle.std.specs.List.{All}
 use Rattle.alta_codec.specs.declared.extent.Extent.{Extent}
 use Rattle.alta_images.specs.Levels.{Level}
 use Rattle.alta_images.specs.Opened.{Opened, bytes_at, journal_of}
 use Rattle.alta_images.specs.Standing.{tables_by}
+use Rattle.alta_images.specs.Working.{AllApart}
 use Rattle.alta_level.specs.Segments.{IsSegment}
 use Rattle.alta_postings.specs.Deltas.{Spells}
-use Rattle.alta_root.specs.Root.{extents_of, no_extent}
+use Rattle.alta_root.specs.Root.{extents_of, next_sequence, no_extent}
+use Rattle.alta_root.specs.declared.places.TheConstants.{DOCUMENT_CELLS, LAST_NEXT, LEVEL_BYTES}
 use Rattle.alta_root.specs.declared.root.Root.{Root}
 use Rattle.alta_root.specs.declared.slot.Slot.{Slot}
+use Rattle.alta_switch.specs.Puts.{extents_in}
 use Rattle.alta_switch.specs.declared.piece.Piece.{Piece}
 
 -- a piece brings these bytes to an extent, or they stand there already, where the root that counts has them
@@ -35,3 +38,19 @@ pub record Comes (slot : Slot) (root : Root) (pieces : List Piece) (coming : Ope
   pub list : ListComes earlier pieces old root.deletions coming.deleted
   pub entries : coming.entries ≡ []
   pub tail : coming.tail ≡ journal_of slot
+
+-- ---- a root that may be put
+
+-- an extent of so many bytes at least, of a piece or of the root that counts
+abbrev pub IsPlaced : ℕ → Root → List Piece → Extent → Type 0
+IsPlaced least earlier pieces extent = (least ≤ extent.bytes) × (Contains (extents_in pieces) extent ⊎ Contains (extents_of earlier) extent)
+
+-- A root comes just behind the one that counts, its numbers keep the rules on slots, and its extents are placed and do not meet.
+pub record IsMade (earlier root : Root) (pieces : List Piece) : Type 0 where
+  pub next : root.sequence ≡ next_sequence earlier.sequence
+  pub few : length root.levels.items ≤ 16
+  pub number : (1 ≤ root.next_number) × (root.next_number ≤ LAST_NEXT)
+  pub location : (1 ≤ root.next_location) × (root.next_location ≤ 1 + (root.next_number - 1) * DOCUMENT_CELLS)
+  pub deletions : (root.deletions ≡ no_extent) ⊎ IsPlaced 1 earlier pieces root.deletions
+  pub levels : All (IsPlaced LEVEL_BYTES earlier pieces) root.levels.items
+  pub apart : AllApart (extents_of root)

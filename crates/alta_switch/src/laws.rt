@@ -1,5 +1,5 @@
 // What follows from the definitions alone. The functions are empty: their contracts are the laws.
-ghost use Rattle.std.specs.Prelude.{◌≡◌, ◌≤◌, ◌<◌, ◌^◌, List, ℕ, length};
+ghost use Rattle.std.specs.Prelude.{◌≡◌, ◌≤◌, ◌<◌, ◌^◌, [], List, ℕ, length};
 ghost use Rattle.alta_codec.specs.declared.extent.Extent.{Extent};
 ghost use Rattle.alta_images.specs.Known.{known_of};
 ghost use Rattle.alta_images.specs.Levels.{Level};
@@ -10,6 +10,7 @@ ghost use Rattle.alta_images.specs.Switching.{InPlace, IsPut};
 ghost use Rattle.alta_images.specs.Views.{state_of};
 ghost use Rattle.alta_meta.specs.declared.document.State.{State};
 ghost use Rattle.alta_root.specs.Gaps.{IsFirstGap, taken_by};
+ghost use Rattle.alta_root.specs.Places.{other};
 ghost use Rattle.alta_root.specs.Root.{IsSound, extents_of};
 ghost use Rattle.alta_root.specs.Slots.{Counts};
 ghost use Rattle.alta_root.specs.Switches.{MayFollow};
@@ -17,14 +18,20 @@ ghost use Rattle.alta_root.specs.declared.places.TheConstants.{HEAD_BYTES};
 ghost use Rattle.alta_root.specs.declared.root.Root.{Root};
 ghost use Rattle.alta_root.specs.declared.slot.Slot.{Slot};
 ghost use Rattle.alta_switch.specs.Brings.{Brings, Names};
-ghost use Rattle.alta_switch.specs.Comes.{Comes, WillStand};
-ghost use Rattle.alta_switch.specs.Puts.{IsLaid, MayPut, Puts, extents_in};
+ghost use Rattle.alta_switch.specs.Comes.{Comes, IsMade, WillStand};
+ghost use Rattle.alta_switch.specs.Puts.{AreLaid, IsLaid, MayPut, Puts, extents_in};
 ghost use Rattle.alta_switch.specs.declared.piece.Piece.{Piece};
 
 /// A piece for which the first gap beside a root's extents and the pieces before it was taken may be written behind these.
 pub fn a_first_gap_is_laid()
     ensures { (root : Root) → (limit size : ℕ) → (before : List Piece) → (piece : Piece) → IsSound size root → HEAD_BYTES ≤ size
         → IsFirstGap (taken_by root (extents_in before)) piece.extent.bytes limit piece.extent.place → IsLaid (extents_of root) limit size before piece }
+{}
+
+/// A root whose extents are those of pieces and of the root that counts may be put with these pieces.
+pub fn a_root_may_be_put()
+    ensures { (slot : Slot) → (root earlier : Root) → (pieces : List Piece) → (limit : ℕ) → (old : List ℕ) → Counts (other slot) earlier old → AreLaid (extents_of earlier) limit (length old) [] pieces
+        → IsMade earlier root pieces → MayPut slot root pieces limit old }
 {}
 
 /// Once pieces are put, their bytes stand at their extents, and what the root that counts names has the bytes that it had. The

@@ -248,6 +248,7 @@ fn a_stop_leaves_one_root_or_the_other(rt: HostRuntime) -> Result<(), Fail> {
         );
     }
     a_first_gap_is_laid();
+    a_root_may_be_put();
     a_root_that_comes_is_written();
     what_is_put_is_there();
     Ok(())
