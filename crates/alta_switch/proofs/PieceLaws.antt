@@ -45,6 +45,12 @@ laid_at taken limit size before (p ∷ ps) zero d lt laid = subst (λ (b : List 
 laid_at taken limit size before (p ∷ ps) (suc i) d lt laid =
     subst (λ (b : List Piece). IsLaid taken limit size b (get_or ps i d)) (append_assoc before (p ∷ []) (take i ps)) (laid_at taken limit size (before ++ p ∷ []) ps i d (omega (arith, lt)) laid.1)
 
+-- a piece more behind those that are laid
+pub laid_push : (taken : List Extent) (limit size : ℕ) (before pieces : List Piece) (piece : Piece) → AreLaid taken limit size before pieces → IsLaid taken limit size (before ++ pieces) piece → AreLaid taken limit size before (pieces ++ piece ∷ [])
+laid_push taken limit size before [] piece laid here = (subst (λ (b : List Piece). IsLaid taken limit size b piece) (append-nil before) here, tt)
+laid_push taken limit size before (p ∷ ps) piece laid here =
+    (laid.0, laid_push taken limit size (before ++ p ∷ []) ps piece laid.1 (subst (λ (b : List Piece). IsLaid taken limit size b piece) (sym (append_assoc before (p ∷ []) ps)) here))
+
 abbrev IsApartFrom : Piece → Extent → Type 0
 IsApartFrom piece e = Apart piece.extent.place piece.extent.bytes e.place e.bytes
 

@@ -1,5 +1,5 @@
 // What follows from the definitions alone. The functions are empty: their contracts are the laws.
-ghost use Rattle.std.specs.Prelude.{◌≡◌, ◌≤◌, ◌<◌, ◌^◌, [], List, ℕ, length};
+ghost use Rattle.std.specs.Prelude.{◌≡◌, ◌≤◌, ◌<◌, ◌^◌, [], ◌∷◌, ◌++◌, List, ℕ, length};
 ghost use Rattle.alta_codec.specs.declared.extent.Extent.{Extent};
 ghost use Rattle.alta_images.specs.Known.{known_of};
 ghost use Rattle.alta_images.specs.Levels.{Level};
@@ -22,9 +22,12 @@ ghost use Rattle.alta_switch.specs.Comes.{Comes, IsMade, WillStand};
 ghost use Rattle.alta_switch.specs.Puts.{AreLaid, IsLaid, MayPut, Puts, extents_in};
 ghost use Rattle.alta_switch.specs.declared.piece.Piece.{Piece};
 
-/// A piece for which the first gap beside a root's extents and the pieces before it was taken may be written behind these.
+/// A piece for which the first gap beside a root's extents and the pieces before it was taken may be written behind these; and
+/// pieces come one by one.
 pub fn a_first_gap_is_laid()
-    ensures { (root : Root) → (limit size : ℕ) → (before : List Piece) → (piece : Piece) → IsSound size root → HEAD_BYTES ≤ size
+    ensures more { (taken : List Extent) → (limit size : ℕ) → (pieces : List Piece) → (piece : Piece) → AreLaid taken limit size [] pieces → IsLaid taken limit size pieces piece
+        → AreLaid taken limit size [] (pieces ++ piece ∷ []) }
+    ensures first { (root : Root) → (limit size : ℕ) → (before : List Piece) → (piece : Piece) → IsSound size root → HEAD_BYTES ≤ size
         → IsFirstGap (taken_by root (extents_in before)) piece.extent.bytes limit piece.extent.place → IsLaid (extents_of root) limit size before piece }
 {}
 

@@ -25,6 +25,10 @@ use alta_root::{Root, Slot, switch};
 /// Writes pieces into gaps beside what the root that counts names, and makes `root` the one that counts, in the slot that does
 /// not count now. Nothing is pending at the start.
 ///
+/// The bytes of a piece fill its extent, which meets no extent of the root that counts and no piece before it, and begins no
+/// further than the disk and these reach. What `root` names lies inside the disk once the pieces are there, and its sequence
+/// comes next.
+///
 /// Each piece is one write, and so is the first gate of the journal's half that `slot` uses, which is closed; one sync makes all
 /// of it firm, and then the root is switched by at most three writes with their syncs. At each moment every image is opened as
 /// before, or as the new root says, and after `Ok` only the latter. It takes no memory, and reads one byte.
