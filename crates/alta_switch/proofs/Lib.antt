@@ -1,0 +1,5 @@
+pub mod ComeLaws
+pub mod MadeLaws
+pub mod PieceLaws
+pub mod PutLaws
+pub mod RunLaws
