@@ -3,6 +3,8 @@
 
 mod fault;
 mod list;
+mod term;
 
 pub use fault::LoadFault;
 pub use list::load_list;
+pub use term::{CodedList, load_coded};
