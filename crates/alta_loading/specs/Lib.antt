@@ -1,4 +1,4 @@
 pub mod Answers
-pub mod Coded
 pub mod Lists
 pub mod Loads
+pub mod Terms

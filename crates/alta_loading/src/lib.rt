@@ -7,4 +7,4 @@ mod term;
 
 pub use fault::LoadFault;
 pub use list::load_list;
-pub use term::{CodedList, load_coded};
+pub use term::{load_coded, load_term};
