@@ -4,6 +4,8 @@
 mod fault;
 mod list;
 mod term;
+#[cfg(test)]
+mod tests;
 
 pub use fault::LoadFault;
 pub use list::load_list;
