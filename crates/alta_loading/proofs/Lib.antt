@@ -2,3 +2,4 @@ pub mod Faults
 pub mod Places
 pub mod RowOf
 pub mod Runs
+pub mod TermRuns

@@ -1,8 +1,8 @@
 -- The lists of a term, those of levels and that of the newest documents behind them.
-use Rattle.std.specs.Prelude.{◌≡◌, ℕ, List, [], ◌∷◌, ◌++◌, length, map}
+use Rattle.std.specs.Prelude.{◌≡◌, ℕ, List, [], ◌∷◌, ◌++◌, length, map, flat_map}
 use Rattle.alta_content.specs.Lists.{locations_of}
 use Rattle.alta_content.specs.declared.content.Content.{Content}
-use Rattle.alta_loading.specs.Loads.{KeepRows, list_at, loads_from, number_of}
+use Rattle.alta_loading.specs.Loads.{KeepRows, Load, list_at, loads_from, number_of}
 use Rattle.alta_search.specs.Lists.{TermKey, key_of, term_lists}
 use Rattle.alta_search.specs.declared.lists.TermLists.{TermLists}
 use Rattle.alta_table.specs.Tables.{Tables}
@@ -30,3 +30,16 @@ pub record KeepTerm (levels : List Tables) (newest : Content) (term : List ℕ) 
   pub coded : List (List ℕ)
   pub kept : KeepRows (loads_from 0 levels term) coded
   pub lists_are : lists ≡ coded ++ if_some (locations_of newest.lists term)
+
+-- ---- several terms
+
+-- the lists of terms in levels, in the order of loading: of each term those of its levels, the oldest first
+abbrev pub loads_of : List Tables → List (List ℕ) → List Load
+loads_of levels terms = flat_map (loads_from 0 levels) terms
+
+-- the same of each of these terms
+abbrev pub KeepTerms : List Tables → Content → List (List ℕ) → List (List (List ℕ)) → Type 0
+KeepTerms levels newest [] [] = Unit {0}
+KeepTerms levels newest [] (list ∷ lists) = ⊥
+KeepTerms levels newest (term ∷ terms) [] = ⊥
+KeepTerms levels newest (term ∷ terms) (list ∷ lists) = KeepTerm levels newest term list × KeepTerms levels newest terms lists

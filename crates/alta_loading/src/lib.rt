@@ -4,9 +4,11 @@
 mod fault;
 mod list;
 mod term;
+mod terms;
 #[cfg(test)]
 mod tests;
 
 pub use fault::LoadFault;
 pub use list::load_list;
 pub use term::{load_coded, load_term};
+pub use terms::load_terms;

@@ -123,12 +123,7 @@ fn made(stream: Vec<u8>, summary: Vec<u8>) -> Posting
 }
 
 // The list of a row, of these bytes.
-fn stored<'a>(
-    table: &'a Table,
-    row: usize,
-    stream: &'a [u8],
-    summary: &'a [u8],
-) -> StoredList<'a>
+fn stored<'a>(table: &'a Table, row: usize, stream: &'a [u8], summary: &'a [u8]) -> StoredList<'a>
     requires { row < length table.now.terms }
     ensures { stored_of result ≡ stored_as table.now row stream.now summary.now }
 {

@@ -119,11 +119,7 @@ fn lists_are_loaded_up_to_the_first_fault(rt: HostRuntime) -> Result<(), Fail> {
         ("D", &[(114, 0)], Err(LoadFault::Damaged(114))),
         ("D", &[(176, 0)], Err(LoadFault::Damaged(176))),
         // The older level comes first.
-        (
-            "D",
-            &[(176, 0), (114, 0)],
-            Err(LoadFault::Damaged(114)),
-        ),
+        ("D", &[(176, 0), (114, 0)], Err(LoadFault::Damaged(114))),
         // A later number, and one that runs past the stream.
         ("Wa", &[(180, 0)], Err(LoadFault::Damaged(180))),
         ("Wfox", &[(119, 0x80)], Err(LoadFault::Damaged(119))),
