@@ -25,7 +25,7 @@ back_part a b n place image whole e w =
 -- ---- a fault of a list is one of its level
 
 -- the list of a row, whose stream begins at a place
-abbrev standing : TermRow → List ℕ → ℕ → Stored
+abbrev pub standing : TermRow → List ℕ → ℕ → Stored
 standing row image place = record {
   stream = part place row.stream image;
   stream_place = place;
@@ -41,7 +41,7 @@ standing-at row image place =
     ap (λ (l : List ℕ). f (take row.summary l)) (sym (drop-drop row.stream place image))
 
 -- the list of row i of these, the first of which begins at a place
-abbrev standing_row : List TermRow → List ℕ → ℕ → ℕ → Stored
+abbrev pub standing_row : List TermRow → List ℕ → ℕ → ℕ → Stored
 standing_row rows image i place = record {
   stream = part place (get_or (streams_of rows) i 0) image;
   stream_place = place;
