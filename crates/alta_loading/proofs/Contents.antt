@@ -1,11 +1,11 @@
--- Over a level that is the segment of a content, the list of each row is that of the content.
-use Rattle.std.proofs.Common.{◌≡◌, ◌⊎◌, ⊎_elim, inl, inr, ℕ, zero, suc, ◌+◌, ◌-◌, ◌<◌, ◌≤◌, Bool, true, false, cond, List, [], ◌∷◌, length, map, take, drop, get_or, refl, sym, subst, ap, ◌∙◌, arith, length-append}
+-- Over levels that are the segments of contents, the list of each row is that of the content.
+use Rattle.std.proofs.Common.{◌≡◌, ◌⊎◌, ⊎_elim, inl, inr, ℕ, zero, suc, ◌+◌, ◌-◌, ◌<◌, ◌≤◌, Bool, true, false, cond, List, [], ◌∷◌, ◌++◌, length, map, take, drop, get_or, refl, sym, subst, ap, ◌∙◌, arith, length-append}
 use Rattle.std.specs.Prelude.{All, Option, Some, None, flat_map}
 use Rattle.std.specs.List.{sum_by}
 use Rattle.std.specs.Str.{bytes_eq}
 use Rattle.std.proofs.lemmas.Bool.{true≢false}
-use Rattle.std.proofs.lemmas.List.{drop-drop, drop-take, length-map, length-take, take-take}
-use Rattle.std.proofs.lemmas.List.Elements.{All-nil, All-cons}
+use Rattle.std.proofs.lemmas.List.{drop-drop, drop-take, length-map, length-take, map-append, take-take}
+use Rattle.std.proofs.lemmas.List.Elements.{All-nil, All-cons, All-head, All-tail}
 use Rattle.std.proofs.lemmas.List.Sums.{sum_by-cons}
 use Rattle.alta_content.specs.Lists.{AreListsBehind}
 use Rattle.alta_content.specs.Lists as content
@@ -14,15 +14,19 @@ use Rattle.alta_content.specs.declared.content.TermList.{TermList}
 use Rattle.alta_content.specs.declared.document.DocRow.{DocRow}
 use Rattle.alta_content.proofs.Order.{itself, same_term}
 use Rattle.alta_disk.specs.Parts.{part}
+use Rattle.alta_images.specs.Levels.{Level}
+use Rattle.alta_images.specs.Opened.{bytes_at}
+use Rattle.alta_images.specs.Standing.{tables_by}
 use Rattle.alta_images.proofs.Tests.{by_test}
 use Rattle.alta_level.specs.Damage.{AreListsOf, stored_at}
 use Rattle.alta_level.specs.Segments.{IsSegment, list_bytes, row_of, rows_of, segment_bytes}
 use Rattle.alta_level.specs.Stored.{IsListOf, Stored}
 use Rattle.alta_level.proofs.Spelled.{lists_long, segment_lists, tables_at}
-use Rattle.alta_loading.specs.Loads.{IsWhole, Load, list_at, load_at, load_in, row_from}
-use Rattle.alta_loading.specs.Contents.{AreListsIn}
+use Rattle.alta_loading.specs.Loads.{IsWhole, Load, list_at, load_at, load_in, loads_from, row_from}
+use Rattle.alta_loading.specs.Contents.{AreListsAmong, AreListsIn}
 use Rattle.alta_loading.specs.Terms.{if_some}
 use Rattle.alta_loading.proofs.Places.{standing, standing_row}
+use Rattle.alta_loading.proofs.Runs.{all_join}
 use Rattle.alta_postings.specs.Deltas.{locations_of}
 use Rattle.alta_postings.proofs.Reading.{spelling_reads}
 use Rattle.alta_table.specs.Tables.{tables_bytes}
@@ -136,3 +140,21 @@ content_loaded c place n number image term s =
       are = ap (λ (l : List ℕ). l ∷ []) (same ∙ sym at.list_is) ∙ sym (if_some_is (content.locations_of c.lists term) (subst (λ (l : List ℕ). 0 < length l) (sym at.list_is) (some_at c.documents [] c.lists s.stands.lists_stand j at.within)));
     }))
     (looked_up 0 c.lists term)
+
+-- ---- several levels
+
+levels_from : (number : ℕ) (levels : List Level) (image term : List ℕ) → All (λ (l : Level). IsSegment (bytes_at l.extent image) l.content) levels
+    → AreListsAmong levels image term (loads_from number (map tables_by levels) term)
+levels_from number [] image term s = record { whole = All-nil (IsWhole image); are = refl }
+levels_from number (l ∷ ls) image term s =
+    let Has : Level → Type 0 = λ x. IsSegment (bytes_at x.extent image) x.content in
+    let first = load_in number (tables_by l) term in let rest = loads_from (number + 1) (map tables_by ls) term in
+    let one = content_loaded l.content l.extent.place l.extent.bytes number image term (All-head Has l ls s) in
+    let more = levels_from (number + 1) ls image term (All-tail Has l ls s) in
+    record {
+      whole = all_join image first rest one.whole more.whole;
+      are = map-append (list_at image) first rest ∙ ap (λ (x : List (List ℕ)). x ++ map (list_at image) rest) one.are ∙ ap (λ (x : List (List ℕ)). if_some (content.locations_of l.content.lists term) ++ x) more.are;
+    }
+
+pub levels_loaded : (levels : List Level) (image term : List ℕ) → All (λ (l : Level). IsSegment (bytes_at l.extent image) l.content) levels → AreListsAmong levels image term (loads_from 0 (map tables_by levels) term)
+levels_loaded levels image term s = levels_from 0 levels image term s

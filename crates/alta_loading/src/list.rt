@@ -21,8 +21,8 @@ use std::alloc::{AllocError, Global};
 
 /// Loads the list of a term of a level, by the row of the term. Stream and summary stand one behind the other, and are
 /// read by one read of the disk. The list is tested as [`alta_level::check_list`] tests it, against its own rules, the row
-/// of its term and the documents of the level, and once more as it is made a [`Posting`]: of a stream each number is
-/// read three times, and none is kept as a number.
+/// of its term and the documents of the level, and once more as it is made a [`Posting`]: each number of a stream is
+/// read three times, of the term `D` four times. The summary alone is copied.
 ///
 /// # Errors
 ///
