@@ -33,7 +33,6 @@ use Rattle.alta_table.specs.Tables.{tables_bytes}
 use Rattle.alta_table.specs.Terms.{data_bytes, data_of}
 use Rattle.alta_table.specs.declared.term.TermRow.{TermRow}
 
-
 abbrev lists_in : List TermList → List (List ℕ)
 lists_in lists = map (λ (l : TermList). l.locations) lists
 
@@ -91,11 +90,14 @@ looked_up i (l ∷ ls) term =
     (λ yes.
     let first : i ≡ i + 0 = omega arith in
     let back : bytes_eq term l.term ≡ true = subst (λ x. bytes_eq x l.term ≡ true) (same_term l.term term yes) (itself l.term) in
-    inr (0, record {
-      found = ap (λ (b : Bool). cond b (Some i) (row_from (i + 1) (rows_of ls) term)) yes ∙ ap Some first;
-      within = omega arith;
-      list_is = ap (λ (b : Bool). cond b l.locations (content.locations_of ls term)) back;
-    }))
+    inr (
+      0,
+      record {
+        found = ap (λ (b : Bool). cond b (Some i) (row_from (i + 1) (rows_of ls) term)) yes ∙ ap Some first;
+        within = omega arith;
+        list_is = ap (λ (b : Bool). cond b l.locations (content.locations_of ls term)) back;
+      },
+    ))
     (λ no.
     let skip : row_from i (rows_of (l ∷ ls)) term ≡ row_from (i + 1) (rows_of ls) term = ap (λ (b : Bool). cond b (Some i) (row_from (i + 1) (rows_of ls) term)) no in
     let on : content.locations_of (l ∷ ls) term ≡ content.locations_of ls term = ap (λ (b : Bool). cond b l.locations (content.locations_of ls term)) (flipped l.term term no) in

@@ -1,17 +1,16 @@
 -- Loads one after the other.
 use Rattle.std.proofs.Common.{◌≡◌, ◌⊎◌, ⊎_elim, inl, inr, ℕ, zero, suc, ◌+◌, ◌<◌, ◌≤◌, List, [], ◌∷◌, ◌++◌, map, take, drop, length, get_or, refl, sym, subst, ap, ◌∙◌, arith, append-nil, append_assoc}
-use Rattle.std.specs.Prelude.{Result, Ok, Err, All, IfOk}
-use Rattle.std.specs.List.{sum_by}
-use Rattle.std.proofs.lemmas.List.{map_push, map-append, take_all}
+use Rattle.std.specs.Prelude.{Result, Ok, Err, All}
+use Rattle.std.proofs.lemmas.List.{map-append}
 use Rattle.std.proofs.lemmas.List.Elements.{All-nil, All-cons, All-head, All-tail}
 use Rattle.std.proofs.lemmas.List.Sums.{sum_by-append}
-use Rattle.alta_disk.specs.Calls.{Costs, Reads}
-use Rattle.alta_disk.specs.Disk.{DiskState, Same, Passes}
+use Rattle.alta_disk.specs.Calls.{Reads}
+use Rattle.alta_disk.specs.Disk.{DiskState, Same}
 use Rattle.alta_disk.proofs.Moments.{passes_same}
 use Rattle.alta_level.specs.Stored.{IsListFault, IsListOf}
 use Rattle.alta_loading.specs.Answers.{IfDamaged, IsDamaged, IsFound}
-use Rattle.alta_loading.specs.Lists.{KeepsRow, list_of}
-use Rattle.alta_loading.specs.Loads.{IsFirstFault, IsWhole, KeepRows, Load, Tells, list_at, load_at, load_in, load_size, load_sizes, loads_from, number_of, stored_by}
+use Rattle.alta_loading.specs.Lists.{list_of}
+use Rattle.alta_loading.specs.Loads.{IsFirstFault, IsWhole, KeepRows, Load, Tells, list_at, load_in, load_size, load_sizes, loads_from, number_of, stored_by}
 use Rattle.alta_table.specs.Tables.{Tables}
 use Rattle.alta_words.specs.declared.posting.Posting.{Posting}
 use Rattle.alta_loading.specs.declared.fault.LoadFault.{LoadFault}

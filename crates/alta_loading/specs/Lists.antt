@@ -1,5 +1,5 @@
 -- A list of a level, as it stands on the disk and as it was loaded.
-use Rattle.std.specs.Prelude.{◌≡◌, ℕ, ◌+◌, ◌≤◌, List, [], length, slice_index, slice_index_or}
+use Rattle.std.specs.Prelude.{ℕ, ◌+◌, ◌≤◌, List, [], length, slice_index, slice_index_or}
 use Rattle.alta_codec.specs.Rising.{IsRising}
 use Rattle.alta_disk.specs.Parts.{part}
 use Rattle.alta_level.specs.Stored.{Stored, Fits}

@@ -1,10 +1,10 @@
 -- Lists that are loaded one after the other: which they are, the first fault among them, and how many bytes they have.
-use Rattle.std.specs.Prelude.{◌≡◌, ◌⊎◌, ℕ, ◌+◌, if◌then◌else◌, List, [], ◌∷◌, ◌++◌, Option, Some, None, Result, All, IfOk}
+use Rattle.std.specs.Prelude.{◌⊎◌, ℕ, ◌+◌, if◌then◌else◌, List, [], ◌∷◌, ◌++◌, Option, Some, None, Result, All, IfOk}
 use Rattle.std.specs.List.{sum_by}
 use Rattle.std.specs.Str.{bytes_eq}
 use Rattle.alta_level.specs.Stored.{Stored, IsListFault, IsListOf}
 use Rattle.alta_loading.specs.Answers.{IfDamaged, IsDamaged}
-use Rattle.alta_loading.specs.Lists.{KeepsRow, LiesWithin, stored_in, stream_size, summary_size}
+use Rattle.alta_loading.specs.Lists.{KeepsRow, stored_in, stream_size, summary_size}
 use Rattle.alta_loading.specs.declared.fault.LoadFault.{LoadFault}
 use Rattle.alta_postings.specs.Deltas.{locations_of}
 use Rattle.alta_table.specs.Tables.{Tables}

@@ -3,8 +3,7 @@ use Rattle.std.specs.Prelude.{◌≡◌, ℕ, List, [], ◌∷◌, ◌++◌, len
 use Rattle.alta_content.specs.Lists.{locations_of}
 use Rattle.alta_content.specs.declared.content.Content.{Content}
 use Rattle.alta_loading.specs.Loads.{KeepRows, Load, list_at, loads_from, number_of}
-use Rattle.alta_search.specs.Lists.{TermKey, key_of, term_lists}
-use Rattle.alta_search.specs.declared.lists.TermLists.{TermLists}
+use Rattle.alta_search.specs.Lists.{TermKey}
 use Rattle.alta_table.specs.Tables.{Tables}
 
 -- a list that is not empty, or none

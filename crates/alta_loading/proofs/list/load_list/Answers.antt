@@ -1,4 +1,4 @@
-use Rattle.std.proofs.Common.{ℕ, subst}
+use Rattle.std.proofs.Common.{subst}
 use Rattle.alta_images.specs.Broken.{IsBrokenIn}
 use Rattle.alta_level.specs.Stored.{IsListFault, Stored}
 use Rattle.alta_loading.proofs.Faults.{damaged_goes}

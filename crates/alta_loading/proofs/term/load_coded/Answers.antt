@@ -1,4 +1,4 @@
-use Rattle.std.proofs.Common.{◌≡◌, List, ℕ, ◌+◌, ◌<◌, ◌++◌, length, take, drop, get_or, Vec, Global, map, sym, subst, ap, ◌∙◌, arith}
+use Rattle.std.proofs.Common.{List, ℕ, ◌+◌, ◌++◌, take, drop, Vec, Global, map, sym, subst, ap, ◌∙◌}
 use Rattle.std.proofs.lemmas.List.Elements.{All-get_or}
 use Rattle.alta_loading.proofs.Runs.{Run, loads_more, loads_split, run_cost, run_ended, run_on}
 use Rattle.alta_search.specs.Lists.{level_in, level_list}

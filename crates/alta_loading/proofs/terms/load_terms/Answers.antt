@@ -1,4 +1,4 @@
-use Rattle.std.proofs.Common.{◌≡◌, ℕ, List, [], ◌∷◌, ◌++◌, Vec, Global, Ok, Err, length, map, refl, sym, subst, ap, ◌∙◌, arith, rules}
+use Rattle.std.proofs.Common.{◌≡◌, ℕ, List, [], ◌∷◌, ◌++◌, Vec, Global, Ok, length, map, refl, sym, subst, ap, ◌∙◌, arith, rules}
 use Rattle.std.proofs.lemmas.List.{map_push}
 use Rattle.alta_loading.proofs.Runs.{tells_fault, tells_value}
 use Rattle.alta_loading.proofs.TermRuns.{terms_cost, terms_ended, terms_on}
