@@ -138,6 +138,50 @@ fn lists_are_loaded_up_to_the_first_fault(rt: HostRuntime) -> Result<(), Fail> {
     Ok(())
 }
 
+// How many terms are loaded.
+fn loaded_terms(
+    alloc: Global,
+    old: &[u8],
+    new: &[u8],
+    changes: &[(usize, u8)],
+    terms: &[&str],
+) -> Result<usize, LoadFault>
+    requires { length old.now + length new.now < 1000 }
+{
+    let levels = tables_of(alloc, old, new)?;
+    let image = image_of(alloc, old, new, changes)?;
+    let mut disk = MemoryDisk::new(alloc, image, 1000, Vec::new(alloc));
+    let mut wanted = Vec::new(alloc);
+    for term in terms {
+        wanted.push(Bytes::from_vec(Vec::from_slice(alloc, term.as_bytes())?))?;
+    }
+    let lists = load_terms(alloc, &mut disk, &levels, &MemLevel::new(alloc), wanted)?;
+    Ok(lists.len())
+}
+
+#[test]
+fn terms_are_loaded_in_order(rt: HostRuntime) -> Result<(), Fail> {
+    let alloc = rt.alloc();
+    let rows: [(&[&str], &[(usize, u8)], Result<usize, LoadFault>); 3] = [
+        (&["D", "Wfox", "Wzebra"], &[], Ok(3)),
+        // All lists of a term come before those of the next.
+        (
+            &["D", "Wfox"],
+            &[(118, 32), (176, 0)],
+            Err(LoadFault::Damaged(176)),
+        ),
+        (
+            &["Wfox", "D"],
+            &[(118, 32), (176, 0)],
+            Err(LoadFault::Damaged(118)),
+        ),
+    ];
+    for (terms, changes, want) in rows {
+        assert_eq!(rt; loaded_terms(alloc, OLD, NEW, changes, terms), want);
+    }
+    Ok(())
+}
+
 #[test]
 fn a_failed_read_is_told(rt: HostRuntime) -> Result<(), Fail> {
     let alloc = rt.alloc();
