@@ -1,0 +1,56 @@
+-- The row of a term, where it is looked for by halves.
+use Rattle.std.proofs.Common.{◌≡◌, ℕ, zero, suc, ◌+◌, ◌<◌, length, Bool, true, false, cond, List, [], ◌∷◌, refl, sym, subst, ap, ◌∙◌, arith}
+use Rattle.std.specs.Prelude.{Option, Some, None, MatchOption, slice_get}
+use Rattle.std.specs.Str.{bytes_eq}
+use Rattle.alta_codec.specs.Order.{Precedes}
+use Rattle.alta_content.proofs.Order.{itself, less_differs, less_on, same_term}
+use Rattle.alta_images.proofs.Tests.{by_test}
+use Rattle.alta_loading.specs.Loads.{row_from}
+use Rattle.alta_table.specs.Terms.{AreTerms, AreTermsBehind, terms_of}
+use Rattle.alta_table.specs.declared.term.TermRow.{TermRow}
+
+-- a term of these rows comes behind the term before them
+behind : (before : List ℕ) (rows : List TermRow) (term : List ℕ) (k : ℕ) → AreTermsBehind before rows → slice_get (terms_of rows) k ≡ Some term → Precedes before term
+unfolding AreTermsBehind
+behind before [] term k a e = absurd (cc)
+behind before (row ∷ rows) term zero (m, more) e =
+    let same : row.term ≡ term = cc in subst (Precedes before) same m.rises
+behind before (row ∷ rows) term (suc k) (m, more) e = less_on before row.term term m.rises (behind row.term rows term k more e)
+
+first : (i : ℕ) (row : TermRow) (rows : List TermRow) (term : List ℕ) → bytes_eq row.term term ≡ true → row_from i (row ∷ rows) term ≡ Some i
+first i row rows term e = ap (λ (b : Bool). cond b (Some i) (row_from (i + 1) rows term)) e
+
+later : (i : ℕ) (row : TermRow) (rows : List TermRow) (term : List ℕ) → bytes_eq row.term term ≡ false → row_from i (row ∷ rows) term ≡ row_from (i + 1) rows term
+later i row rows term e = ap (λ (b : Bool). cond b (Some i) (row_from (i + 1) rows term)) e
+
+found : (before : List ℕ) (i : ℕ) (rows : List TermRow) (term : List ℕ) (k : ℕ) → AreTermsBehind before rows → slice_get (terms_of rows) k ≡ Some term → row_from i rows term ≡ Some (i + k)
+unfolding AreTermsBehind
+found before i [] term k a e = absurd (cc)
+found before i (row ∷ rows) term zero (m, more) e =
+    let same : row.term ≡ term = cc in
+    let here : i ≡ i + 0 = omega arith in
+    first i row rows term (subst (λ t. bytes_eq t term ≡ true) (sym same) (itself term)) ∙ ap Some here
+found before i (row ∷ rows) term (suc k) (m, more) e =
+    let there : i + 1 + k ≡ i + suc k = omega arith in
+    later i row rows term (less_differs row.term term (behind row.term rows term k more e)) ∙ found row.term (i + 1) rows term k more e ∙ ap Some there
+
+absent : (i : ℕ) (rows : List TermRow) (term : List ℕ) → ((k : ℕ) → slice_get (terms_of rows) k ≡ Some term → ⊥) → row_from i rows term ≡ None
+absent i [] term none = refl
+absent i (row ∷ rows) term none =
+    by_test (bytes_eq row.term term) (λ yes. absurd (none 0 (ap Some (same_term row.term term yes)))) (λ no. later i row rows term no ∙ absent (i + 1) rows term (λ k e. none (suc k) e))
+
+-- what a look-up finds is the row
+pub row_found : (rows : List TermRow) (term : List ℕ) (r : Option ℕ) → AreTerms rows
+    → MatchOption r ((i : ℕ) → slice_get (terms_of rows) i ≡ Some term → ⊥) (λ i. slice_get (terms_of rows) i ≡ Some term) → r ≡ row_from 0 rows term
+row_found rows term None a h = sym (absent 0 rows term h)
+row_found rows term (Some i) a h = let here : i ≡ 0 + i = omega arith in ap Some here ∙ sym (found [] 0 rows term i a h)
+
+pub row_within : (rows : List TermRow) (term : List ℕ) (r : Option ℕ) → MatchOption r ((i : ℕ) → slice_get (terms_of rows) i ≡ Some term → ⊥) (λ i. slice_get (terms_of rows) i ≡ Some term)
+    → MatchOption r (Unit {0}) (λ i. i < length rows)
+row_within rows term None h = tt
+row_within rows term (Some i) h = index_within rows term i h
+  where
+    index_within : (rows : List TermRow) (term : List ℕ) (i : ℕ) → slice_get (terms_of rows) i ≡ Some term → i < length rows
+    index_within [] term i e = absurd (cc)
+    index_within (row ∷ rows) term zero e = omega arith
+    index_within (row ∷ rows) term (suc i) e = omega (arith, index_within rows term i e)

@@ -1,0 +1,81 @@
+-- The lists of terms, loaded one term after the other.
+use Rattle.std.proofs.Common.{◌≡◌, ℕ, List, [], ◌∷◌, ◌++◌, map, refl, sym, subst, ap, ◌∙◌, arith, append-nil, append_assoc}
+use Rattle.std.specs.Prelude.{Ok, Err}
+use Rattle.std.proofs.lemmas.List.{map_push}
+use Rattle.std.proofs.lemmas.List.Sums.{sum_by-append}
+use Rattle.std.proofs.lemmas.Grind.{flat_map-append}
+use Rattle.alta_content.specs.declared.content.Content.{Content}
+use Rattle.alta_disk.specs.Calls.{Reads}
+use Rattle.alta_disk.specs.Disk.{DiskState}
+use Rattle.alta_loading.proofs.Runs.{reads_most, reads_none, reads_then, tells_ended, tells_none, tells_then}
+use Rattle.alta_loading.specs.Loads.{Load, Tells, load_size, load_sizes, loads_from}
+use Rattle.alta_loading.specs.Terms.{KeepTerm, KeepTerms, lists_of_term, loads_of, term_key}
+use Rattle.alta_loading.specs.declared.fault.LoadFault.{LoadFault}
+use Rattle.alta_search.specs.Lists.{TermKey}
+use Rattle.alta_table.specs.Tables.{Tables}
+
+-- The lists of these terms were loaded, all whole, between two states of the disk.
+pub record TermsRun (tells : Type 0) (levels : List Tables) (newest : Content) (done : List (List ℕ)) (keys : List TermKey) (lists : List (List (List ℕ))) (old new : DiskState) : Type 0 where
+  pub keys_are : keys ≡ map (term_key levels newest) done
+  pub lists_are : tells → lists ≡ map (lists_of_term levels newest old.content) done
+  pub told : tells → Tells {X = Unit {0}} old.content (loads_of levels done) (Ok tt)
+  pub kept : KeepTerms levels newest done lists
+  pub reads : Reads tells (load_sizes (loads_of levels done)) old new
+
+pub terms_none : (tells : Type 0) (levels : List Tables) (newest : Content) (s : DiskState) → TermsRun tells levels newest [] [] [] s s
+terms_none tells levels newest s = record {
+  keys_are = refl;
+  lists_are = λ t. refl;
+  told = λ t. tells_none s.content tt;
+  kept = tt;
+  reads = reads_none tells s;
+}
+
+keep_push : (levels : List Tables) (newest : Content) (ts : List (List ℕ)) (ls : List (List (List ℕ))) (t : List ℕ) (l : List (List ℕ))
+    → KeepTerms levels newest ts ls → KeepTerm levels newest t l → KeepTerms levels newest (ts ++ t ∷ []) (ls ++ l ∷ [])
+keep_push levels newest [] [] t l h k = (k, tt)
+keep_push levels newest [] (x ∷ xs) t l h k = absurd h
+keep_push levels newest (u ∷ us) [] t l h k = absurd h
+keep_push levels newest (u ∷ us) (x ∷ xs) t l (h, hs) k = (h, keep_push levels newest us xs t l hs k)
+
+module _ (tells : Type 0) (levels : List Tables) (newest : Content) (done : List (List ℕ)) (keys : List TermKey) (lists : List (List (List ℕ))) (old mid : DiskState)
+    (run : TermsRun tells levels newest done keys lists old mid) (term : List ℕ) (new : DiskState) (reads : Reads tells (load_sizes (loads_from 0 levels term)) mid new) where
+  loads_one : loads_of levels (done ++ term ∷ []) ≡ loads_of levels done ++ loads_from 0 levels term
+  loads_one = flat_map-append (loads_from 0 levels) done (term ∷ []) ∙ ap (λ l. loads_of levels done ++ l) (append-nil (loads_from 0 levels term))
+
+  loads_rest : (rest : List (List ℕ)) → loads_of levels (done ++ term ∷ rest) ≡ (loads_of levels done ++ loads_from 0 levels term) ++ loads_of levels rest
+  loads_rest rest = flat_map-append (loads_from 0 levels) done (term ∷ rest) ∙ sym (append_assoc (loads_of levels done) (loads_from 0 levels term) (loads_of levels rest))
+
+  both : Reads tells (load_sizes (loads_of levels done ++ loads_from 0 levels term)) old new
+  both = reads_then tells (load_sizes (loads_of levels done)) (load_sizes (loads_from 0 levels term)) (load_sizes (loads_of levels done ++ loads_from 0 levels term)) old mid new
+      (sym (sum_by-append load_size (loads_of levels done) (loads_from 0 levels term))) run.reads reads
+
+  -- one term more
+  pub terms_on : (ks : List TermKey) (ls : List (List (List ℕ))) (now : List (List ℕ)) (k : TermKey) (l : List (List ℕ)) → now ≡ done ++ term ∷ [] → ks ≡ keys ++ k ∷ [] → ls ≡ lists ++ l ∷ []
+      → k ≡ term_key levels newest term → (tells → l ≡ lists_of_term levels newest mid.content term) → (tells → Tells {X = Unit {0}} mid.content (loads_from 0 levels term) (Ok tt))
+      → KeepTerm levels newest term l → TermsRun tells levels newest now ks ls old new
+  terms_on ks ls now k l n a b key list told keep =
+      subst (λ (d : List (List ℕ)). TermsRun tells levels newest d ks ls old new) (sym n)
+      (record {
+        keys_are = a ∙ ap (λ x. x ++ k ∷ []) run.keys_are ∙ ap (λ x. map (term_key levels newest) done ++ x ∷ []) key ∙ sym (map_push (term_key levels newest) done term);
+        lists_are = λ h. b ∙ ap (λ x. x ++ l ∷ []) (run.lists_are h) ∙ ap (λ x. map (lists_of_term levels newest old.content) done ++ x ∷ []) (list h ∙ ap (λ (i : List ℕ). lists_of_term levels newest i term) (run.reads.content h))
+            ∙ sym (map_push (lists_of_term levels newest old.content) done term);
+        told = λ h. subst (λ (x : List Load). Tells {X = Unit {0}} old.content x (Ok tt)) (sym loads_one)
+            (tells_then old.content (loads_of levels done) (loads_from 0 levels term) tt (Ok tt) (run.told h) (subst (λ (i : List ℕ). Tells {X = Unit {0}} i (loads_from 0 levels term) (Ok tt)) (run.reads.content h) (told h)));
+        kept = subst (KeepTerms levels newest (done ++ term ∷ [])) (sym b) (keep_push levels newest done lists term l run.kept keep);
+        reads = subst (λ (x : List Load). Reads tells (load_sizes x) old new) (sym loads_one) both;
+      })
+
+  -- it ends with a fault, before the rest
+  pub terms_ended : {X : Type 0} (rest all : List (List ℕ)) (e : LoadFault) → done ++ term ∷ rest ≡ all → (tells → Tells {X = Unit {0}} mid.content (loads_from 0 levels term) (Err e)) → tells
+      → Tells {X = X} old.content (loads_of levels all) (Err e)
+  terms_ended {X} rest all e a t h =
+      subst (λ (l : List Load). Tells {X = X} old.content l (Err e)) (sym (loads_rest rest) ∙ ap (loads_of levels) a)
+      (tells_ended {X = Unit {0}} {Y = X} old.content (loads_of levels done ++ loads_from 0 levels term) (loads_of levels rest) e
+      (tells_then {X = Unit {0}} {Y = Unit {0}} old.content (loads_of levels done) (loads_from 0 levels term) tt (Err e) (run.told h)
+      (subst (λ (i : List ℕ). Tells {X = Unit {0}} i (loads_from 0 levels term) (Err e)) (run.reads.content h) (t h))))
+
+  pub terms_cost : (rest all : List (List ℕ)) → done ++ term ∷ rest ≡ all → Reads tells (load_sizes (loads_of levels all)) old new
+  terms_cost rest all a =
+      reads_most tells (load_sizes (loads_of levels done ++ loads_from 0 levels term)) (load_sizes (loads_of levels all)) old new
+      (omega (arith, ap load_sizes (sym (loads_rest rest) ∙ ap (loads_of levels) a), sum_by-append load_size (loads_of levels done ++ loads_from 0 levels term) (loads_of levels rest))) both

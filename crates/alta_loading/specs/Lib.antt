@@ -1,0 +1,5 @@
+pub mod Answers
+pub mod Contents
+pub mod Lists
+pub mod Loads
+pub mod Terms

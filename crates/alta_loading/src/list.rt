@@ -1,0 +1,139 @@
+// One list of a level.
+ghost use Rattle.std.specs.Prelude.{◌≡◌, ℕ, ◌+◌, ◌<◌, ◌^◌, List, length, Err, IfOk};
+ghost use Rattle.alta_codec.specs.Faults.{Rose};
+ghost use Rattle.alta_content.specs.Rows.{AreDocuments};
+ghost use Rattle.alta_disk.specs.Calls.{Reads};
+ghost use Rattle.alta_disk.specs.Disk.{DiskState};
+ghost use Rattle.alta_images.specs.Broken.{IsBrokenIn};
+ghost use Rattle.alta_level.specs.Stored.{IsListFault, IsListOf, stored_of};
+ghost use Rattle.alta_loading.specs.Answers.{IfDamaged, IsDamaged, IsFound};
+ghost use Rattle.alta_loading.specs.Lists.{KeepsRow, LiesWithin, list_of, stored_as, stored_in, stream_size, summary_size};
+ghost use Rattle.alta_loading.specs.declared.fault.LoadFault.TheVariants.{Disk as DiskFault};
+ghost use Rattle.alta_table.specs.Places.{stream_place};
+ghost use Rattle.alta_words.specs.Word.{IsPosting};
+
+use crate::fault::LoadFault;
+use alta_disk::Disk;
+use alta_level::{StoredList, check_list};
+use alta_table::{LevelFault, Table};
+use alta_words::Posting;
+use std::alloc::{AllocError, Global};
+
+/// Loads the list of a term of a level, by the row of the term. Stream and summary stand one behind the other, and are
+/// read by one read of the disk. The list is tested as [`alta_level::check_list`] tests it, against its own rules, the row
+/// of its term and the documents of the level, and once more as it is made a [`Posting`]: each number of a stream is
+/// read three times, of the term `D` four times. The summary alone is copied.
+///
+/// # Errors
+///
+/// `Damaged` exactly where the list has a fault, at the place of its first fault. `Disk` where the read failed. `Memory`
+/// where there was no memory for the bytes of stream and summary.
+pub fn load_list<D: Disk>(
+    alloc: Global,
+    disk: &mut D,
+    table: &Table,
+    row: usize,
+) -> Result<Posting, LoadFault>
+    requires row { row < length table.now.terms }
+    requires within { D.tells → LiesWithin table.now (D.state disk.old).content }
+    // What is loaded is the list that stands there, and if there is one it is loaded.
+    ensures list { D.tells → IfOk result (λ posting. IsListOf table.now.documents (stored_in table.now row (D.state disk.old).content) (list_of posting)) }
+    ensures only { D.tells → (list : List ℕ) → IsListOf table.now.documents (stored_in table.now row (D.state disk.old).content) list → IsFound list_of result list }
+    // The damage is the first of the list, and if there is one that is the answer.
+    ensures first { D.tells → IfDamaged result (IsListFault table.now.documents (stored_in table.now row (D.state disk.old).content)) }
+    ensures damaged { D.tells → (p : ℕ) → IsListFault table.now.documents (stored_in table.now row (D.state disk.old).content) p → IsDamaged result p }
+    // It is a damage of the level.
+    ensures broken { D.tells → IfDamaged result (IsBrokenIn table.now (D.state disk.old).content) }
+    // Whatever the disk tells, what is loaded keeps what its row and the documents say.
+    ensures kept { IfOk result (λ posting. KeepsRow table.now row (list_of posting)) }
+    ensures cause { result ≡ Err DiskFault → Rose (D.state disk.old).faults (D.state disk.new).faults }
+    ensures reads { Reads D.tells (stream_size table.now row + summary_size table.now row) (D.state disk.old) (D.state disk.new) }
+{
+    let (stream, summary) = read_bytes(alloc, disk, table, row)?;
+    checked(table, row, stream, summary)
+}
+
+// The bytes of the stream and of the summary of a row.
+fn read_bytes<D: Disk>(
+    alloc: Global,
+    disk: &mut D,
+    table: &Table,
+    row: usize,
+) -> Result<(Vec<u8>, Vec<u8>), LoadFault>
+    requires row { row < length table.now.terms }
+    requires within { D.tells → LiesWithin table.now (D.state disk.old).content }
+    ensures stored { D.tells → IfOk result (λ x. stored_as table.now row x.0.items x.1.items ≡ stored_in table.now row (D.state disk.old).content) }
+    ensures sizes { IfOk result (λ x. (length x.0.items ≡ stream_size table.now row) × (length x.1.items ≡ summary_size table.now row)) }
+    ensures below { IfOk result (λ x. stream_place table.now row + stream_size table.now row + summary_size table.now row < 2 ^ 64) }
+    ensures undamaged { IfDamaged result (λ p. ⊥) }
+    ensures cause { result ≡ Err DiskFault → Rose (D.state disk.old).faults (D.state disk.new).faults }
+    ensures reads { Reads D.tells (stream_size table.now row + summary_size table.now row) (D.state disk.old) (D.state disk.new) }
+{
+    let (stream, summary) = table.stream_place(row);
+    // A level lies within its disk, so there is always such an end.
+    let Some(end) = summary.place.checked_add(summary.bytes) else {
+        return Err(LoadFault::Memory);
+    };
+    let mut bytes = zeros(alloc, (end - stream.place) as usize)?;
+    disk.read(stream.place, &mut bytes)?;
+    let behind = bytes.split_off(stream.bytes as usize)?;
+    Ok((bytes, behind))
+}
+
+// A buffer of this length.
+fn zeros(alloc: Global, n: usize) -> Result<Vec<u8>, AllocError>
+    ensures { IfOk result (λ v. length v.items ≡ n) }
+{
+    Ok(vec![in alloc; 0u8; n]?)
+}
+
+// The list of a row, of these bytes, or its first fault.
+fn checked(
+    table: &Table,
+    row: usize,
+    stream: Vec<u8>,
+    summary: Vec<u8>,
+) -> Result<Posting, LoadFault>
+    requires row { row < length table.now.terms }
+    requires sizes { (length stream.items ≡ stream_size table.now row) × (length summary.items ≡ summary_size table.now row) }
+    requires below { stream_place table.now row + stream_size table.now row + summary_size table.now row < 2 ^ 64 }
+    ensures list { IfOk result (λ posting. IsListOf table.now.documents (stored_as table.now row stream.items summary.items) (list_of posting)) }
+    ensures first { IfDamaged result (IsListFault table.now.documents (stored_as table.now row stream.items summary.items)) }
+    ensures only { (list : List ℕ) → IsListOf table.now.documents (stored_as table.now row stream.items summary.items) list → IsFound list_of result list }
+    ensures damaged { (p : ℕ) → IsListFault table.now.documents (stored_as table.now row stream.items summary.items) p → IsDamaged result p }
+    ensures lean { result ≡ Err DiskFault → ⊥ }
+{
+    let list = stored(table, row, &stream, &summary);
+    match check_list(&list, table.documents()) {
+        Ok(()) => Ok(made(stream, summary)),
+        Err(LevelFault::Damaged(place)) => Err(LoadFault::Damaged(place)),
+        Err(LevelFault::Memory) => Err(LoadFault::Memory),
+    }
+}
+
+// A list that was tested.
+fn made(stream: Vec<u8>, summary: Vec<u8>) -> Posting
+    requires { (b : ℕ) × IsPosting stream.items summary.items b }
+    ensures { result.stream.items ≡ stream.items }
+{
+    match Posting::check(stream, summary) {
+        Ok(posting) => posting,
+        Err(_fault) => unreachable!(),
+    }
+}
+
+// The list of a row, of these bytes.
+fn stored<'a>(table: &'a Table, row: usize, stream: &'a [u8], summary: &'a [u8]) -> StoredList<'a>
+    requires { row < length table.now.terms }
+    ensures { stored_of result ≡ stored_as table.now row stream.now summary.now }
+{
+    let (place, behind) = table.stream_place(row);
+    StoredList {
+        stream,
+        stream_place: place.place,
+        summary,
+        summary_place: behind.place,
+        term: table.term(row),
+        count: table.count(row),
+    }
+}

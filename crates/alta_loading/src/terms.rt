@@ -1,0 +1,50 @@
+// The lists of several terms.
+ghost use Rattle.std.specs.Prelude.{◌≡◌, ℕ, List, map, All, Err, IfOk, IsTrue};
+ghost use Rattle.alta_codec.specs.Faults.{Rose};
+ghost use Rattle.alta_disk.specs.Calls.{Reads};
+ghost use Rattle.alta_disk.specs.Disk.{DiskState};
+ghost use Rattle.alta_loading.specs.Lists.{LiesWithin};
+ghost use Rattle.alta_loading.specs.Loads.{Tells, load_sizes};
+ghost use Rattle.alta_loading.specs.Terms.{KeepTerms, lists_of_term, loads_of, term_key};
+ghost use Rattle.alta_loading.specs.declared.fault.LoadFault.TheVariants.{Disk as DiskFault};
+ghost use Rattle.alta_search.specs.Lists.{key_of, term_lists};
+
+use crate::fault::LoadFault;
+use crate::term::load_term;
+use alta_codec::Bytes;
+use alta_disk::Disk;
+use alta_memlevel::MemLevel;
+use alta_search::TermLists;
+use alta_table::Table;
+use std::alloc::Global;
+
+/// Loads the lists of each of these terms, one term after the other, as [`load_term`] loads those of one.
+///
+/// # Errors
+///
+/// Those of [`load_term`]: the damage is the first fault of the first list that has one, in the order of loading.
+pub fn load_terms<D: Disk>(
+    alloc: Global,
+    disk: &mut D,
+    levels: &[Table],
+    newest: &MemLevel,
+    terms: Vec<Bytes>,
+) -> Result<Vec<TermLists>, LoadFault>
+    requires within { D.tells → All (λ level. LiesWithin level (D.state disk.old).content) levels.now }
+    requires sound { IsTrue newest.now.sound }
+    ensures keys { IfOk result (λ loaded. map key_of loaded.items ≡ map (term_key levels.now newest.now.content) terms.items) }
+    ensures lists { D.tells → IfOk result (λ loaded. map term_lists loaded.items ≡ map (lists_of_term levels.now newest.now.content (D.state disk.old).content) terms.items) }
+    ensures tells { D.tells → Tells (D.state disk.old).content (loads_of levels.now terms.items) result }
+    ensures kept { IfOk result (λ loaded. KeepTerms levels.now newest.now.content terms.items (map term_lists loaded.items)) }
+    ensures cause { result ≡ Err DiskFault → Rose (D.state disk.old).faults (D.state disk.new).faults }
+    ensures reads { Reads D.tells (load_sizes (loads_of levels.now terms.items)) (D.state disk.old) (D.state disk.new) }
+{
+    let mut loaded = Vec::with_capacity(alloc, terms.len())?;
+    for term in terms {
+        match load_term(alloc, disk, levels, newest, term) {
+            Ok(lists) => loaded.push(lists)?,
+            Err(fault) => return Err(fault),
+        }
+    }
+    Ok(loaded)
+}
