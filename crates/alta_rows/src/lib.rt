@@ -4,8 +4,10 @@
 mod all;
 mod gallop;
 mod level;
+mod runs;
 mod walk;
 
 pub use all::AllRows;
 pub use level::LevelRows;
+pub use runs::RowRuns;
 pub use walk::RowWalk;
