@@ -1,5 +1,5 @@
 // The level in memory: the documents that were added, and the locations of their terms.
-ghost use Rattle.std.specs.Prelude.{◌≡◌, ℕ, ◌<◌, ◌≤◌, ◌∷◌, ◌++◌, [], List, length, slice_get, Some, false, nat_eq, IsTrue, IfOk, OnOk, OnErr};
+ghost use Rattle.std.specs.Prelude.{◌≡◌, ℕ, ◌<◌, ◌≤◌, ◌∷◌, ◌++◌, [], List, length, map, slice_get, Some, false, nat_eq, IsTrue, IfOk, OnOk, OnErr};
 ghost use Rattle.std.specs.List.{All, filter, starts_with};
 ghost use Rattle.std.specs.List.Sorted.{IsStrictlySortedBy};
 ghost use Rattle.std.specs.Ordering.{nat_cmp};
@@ -9,17 +9,19 @@ ghost use Rattle.alta_codec.specs.declared.location.TheConstants.{TOP};
 ghost use Rattle.alta_content.specs.Lists.{locations_of, terms_of};
 ghost use Rattle.alta_content.specs.Rows.{end_of};
 ghost use Rattle.alta_memlevel.specs.Added.{Added, HasContent, live_of};
+ghost use Rattle.alta_rows.specs.All.{joined, rows_in};
 
 use crate::lists::{Lists, put_cells, terms_from};
 use crate::moving::move_lists;
 use alta_codec::{Bytes, Loc};
 use alta_content::{Content, DocRow, DocRows, TermLists, keep_rows, spans_of};
 use alta_meta::Cell;
-use alta_rows::{AllRows, RowRuns};
+use alta_rows::{AllRows, LevelRows, RowRuns};
 use std::alloc::{AllocError, Global};
 use std::collections::BTreeMap;
 use std::marker::Model;
 use std::mem;
+use std::rc::Rc;
 
 /// The newest documents as an inverted index in memory. Contracts see the content of the documents that were added,
 /// and whether the level is sound.
@@ -104,8 +106,15 @@ impl MemLevel {
         self.rows.row(index)
     }
 
-    /// The rows of the documents that were added, in order: shared, but for the last 1,024 at most, which are copied. Fails for want
-    /// of memory alone.
+    /// The rows of the documents that were added, in order, in runs: the full ones shared, and behind them the last one, of at most
+    /// 1,024 rows, copied. Fails for want of memory alone.
+    pub fn runs(&self) -> Result<Vec<Rc<LevelRows>>, AllocError>
+        ensures { IfOk result (λ runs. joined (map rows_in runs.items) ≡ self.now.content.documents) }
+    {
+        self.rows.runs()
+    }
+
+    /// The same rows to be read, in the runs that `runs` gives. Fails for want of memory alone.
     pub fn share_rows(&self) -> Result<AllRows, AllocError>
         ensures { IfOk result (λ rows. rows ≡ self.now.content.documents) }
     {

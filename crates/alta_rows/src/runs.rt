@@ -2,7 +2,7 @@
 ghost use Rattle.std.specs.Prelude.{◌≡◌, ◌<◌, ◌∷◌, ◌++◌, [], map, length, slice_get, Some, IfOk, OnOk, OnErr};
 ghost use Rattle.alta_codec.specs.Rising.{IsRising};
 ghost use Rattle.alta_content.specs.Rows.{end_of};
-ghost use Rattle.alta_rows.specs.All.{rows_in, ends_of};
+ghost use Rattle.alta_rows.specs.All.{rows_in, joined, ends_of};
 
 use crate::all::{AllRows, row_in};
 use crate::level::{LevelRows, ends_of};
@@ -105,12 +105,20 @@ impl RowRuns {
         }
     }
 
-    /// The same rows to be read: those of full runs are shared, at most 1,024 of the last run are copied. Fails for want of memory alone.
-    pub fn share(&self) -> Result<AllRows, AllocError>
-        ensures { IfOk result (λ rows. rows ≡ self.now) }
+    /// The runs in order: the full ones shared, and behind them the last one, of at most 1,024 rows, copied. Fails for want of memory alone.
+    pub fn runs(&self) -> Result<Vec<Rc<LevelRows>>, AllocError>
+        ensures { IfOk result (λ runs. joined (map rows_in runs.items) ≡ self.now) }
     {
         let mut runs = share_runs(self.alloc, &self.full)?;
         runs.push(copy_run(self.alloc, &self.last)?)?;
+        Ok(runs)
+    }
+
+    /// The same rows to be read, in the runs that `runs` gives. Fails for want of memory alone.
+    pub fn share(&self) -> Result<AllRows, AllocError>
+        ensures { IfOk result (λ rows. rows ≡ self.now) }
+    {
+        let runs = self.runs()?;
         let rows = AllRows::new(self.alloc, runs)?;
         Ok(rows)
     }

@@ -1,11 +1,7 @@
-use Rattle.std.proofs.Common.{map, sym, subst}
+use Rattle.std.proofs.Common.{sym, subst, ◌∙◌}
 use Rattle.alta_codec.specs.Rising.{IsRising}
-use Rattle.alta_content.specs.Rows.{end_of}
-use Rattle.alta_rows.specs.All.{joined, rows_in}
-use Rattle.alta_rows.proofs.Behind.{ends_behind}
+use Rattle.alta_rows.specs.All.{ends_of}
 use Rattle.alta_rows.proofs.runs.RowRuns.share.Goals as goal
 
-pub copy_run-requires : goal.copy_run-requires
-copy_run-requires c =
-    subst (λ rows. IsRising (map end_of rows)) (sym c.deref-2.ensures.value)
-    (ends_behind (joined (map rows_in c.self.inside.full.items)) c.self.inside.last.items c.self.invariant)
+pub new-requires : goal.new-requires
+new-requires c = subst (λ rows. IsRising (ends_of rows)) (c.self.view_is ∙ sym c.in_ok-runs.ensures) c.self.invariant
