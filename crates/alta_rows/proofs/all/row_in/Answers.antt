@@ -32,9 +32,16 @@ loop-level-preserved c =
     let again : get_or levels k [] ≡ c.deref-in-loop-level.result.now = map_at rows_in items k c.level-item.result [] c.loop-level-test.true c.level-item.is ∙ sym c.deref-in-loop-level.ensures in
     let here : k < length levels = omega (arith, c.loop-level-test.true, length-map items rows_in) in
     omega (
-      arith, c.loop-level.invariant, joined-take levels k here,
-      ap (λ ls. length (joined ls)) (take-map rows_in k items), ap (λ ls. length (joined ls)) (take-map rows_in (k + 1) items),
-      ap length level, ap length again, c.len.ensures, c.len-left.ensures, c.if-left-len.false,
+      arith,
+      c.loop-level.invariant,
+      joined-take levels k here,
+      ap (λ ls. length (joined ls)) (take-map rows_in k items),
+      ap (λ ls. length (joined ls)) (take-map rows_in (k + 1) items),
+      ap length level,
+      ap length again,
+      c.len.ensures,
+      c.len-left.ensures,
+      c.if-left-len.false,
     )
 
 pub returns-clause-behind : goal.returns-clause-behind

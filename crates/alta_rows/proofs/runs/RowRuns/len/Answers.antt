@@ -12,7 +12,15 @@ overflow_add-count c =
     let level : get_or levels k [] ≡ c.deref.result.now = map_at rows_in items k c.run-item.result [] c.loop-run-test.true c.run-item.is ∙ sym c.deref.ensures in
     let here : k < length levels = omega (arith, c.loop-run-test.true, length-map items rows_in) in
     omega (
-      arith, c.loop-run.invariant.whole, c.loop-run.invariant.counted, joined-take levels k here, joined_fits levels (k + 1),
-      ap (λ ls. length (joined ls)) (take-map rows_in k items), ap length level, c.len-count-in-loop-run.ensures,
-      rising_fits (map end_of rows) c.self.invariant, length-map rows end_of, ap length c.self.view_is,
+      arith,
+      c.loop-run.invariant.whole,
+      c.loop-run.invariant.counted,
+      joined-take levels k here,
+      joined_fits levels (k + 1),
+      ap (λ ls. length (joined ls)) (take-map rows_in k items),
+      ap length level,
+      c.len-count-in-loop-run.ensures,
+      rising_fits (map end_of rows) c.self.invariant,
+      length-map rows end_of,
+      ap length c.self.view_is,
     )
