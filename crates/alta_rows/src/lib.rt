@@ -5,6 +5,8 @@ mod all;
 mod gallop;
 mod level;
 mod runs;
+#[cfg(test)]
+mod tests;
 mod walk;
 
 pub use all::AllRows;
