@@ -1,7 +1,6 @@
 -- Rows of levels that are joined.
 use Rattle.std.proofs.Common.{◌≡◌, ℕ, zero, suc, ◌+◌, ◌-◌, ◌<◌, ◌≤◌, ⊎_elim, List, [], ◌∷◌, ◌++◌, map, take, drop, take-append-drop, length, get_or, refl, sym, subst, ap, ◌∙◌, lit<, take_all, arith}
 use Rattle.std.specs.Prelude.{Contains}
-use Rattle.std.specs.List.{flat_map}
 use Rattle.std.proofs.lemmas.Bool.{cases_lt}
 use Rattle.std.proofs.lemmas.List.{take_more, append-nil, length-append, length-map, get_or_default}
 use Rattle.std.proofs.lemmas.List.Concat.{flat_map-append, get_or-flat_map}

@@ -1,4 +1,4 @@
-use Rattle.std.proofs.Common.{◌≡◌, map, sym, subst}
+use Rattle.std.proofs.Common.{map, sym, subst}
 use Rattle.alta_codec.specs.Rising.{IsRising}
 use Rattle.alta_content.specs.Rows.{end_of}
 use Rattle.alta_rows.specs.All.{joined, rows_in}
