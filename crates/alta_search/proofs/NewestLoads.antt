@@ -12,16 +12,13 @@ use Rattle.std.proofs.lemmas.List.Elements.{All-nil, All-cons, All-head, All-tai
 use Rattle.alta_codec.specs.Rising.{IsRising}
 use Rattle.alta_compile.specs.Space.{document_end}
 use Rattle.alta_compile.proofs.Spaces.{list-rises}
-use Rattle.alta_compound.specs.Unions.{RisesAbove, rising_from_above}
 use Rattle.alta_content.specs.Lists.{locations_of, terms_of}
-use Rattle.alta_content.specs.Rows.{end_of}
 use Rattle.alta_content.specs.declared.content.Content.{Content}
 use Rattle.alta_content.specs.declared.content.TermList.{TermList}
 use Rattle.alta_content.specs.declared.document.DocRow.{DocRow}
 use Rattle.alta_content.proofs.Order.{After, Sorted, less_differs_back}
 use Rattle.alta_docread.specs.KeptLaws.{true_or_false}
-use Rattle.alta_memlevel.specs.Added.{Added, HasContent, IsDocument}
-use Rattle.alta_memlevel.specs.Added as mem
+use Rattle.alta_memlevel.specs.Added.{Added, HasContent}
 use Rattle.alta_memlevel.proofs.Prefixes.{filter_rises}
 use Rattle.alta_query.specs.declared.test.Test.{Test}
 use Rattle.alta_query.specs.declared.test.Test.TheVariants.{Is}

@@ -24,9 +24,10 @@ use alta_query::Test;
 use std::alloc::{AllocError, Global};
 
 /// The snapshot of the newest documents for a plan: of each test the terms of the level that meet it, each with a copy of
-/// its list, the rows, which it shares with the level but for the last 1,024 at most, and the deleted ends. A term in full is looked up, and of a prefix only
-/// the terms that begin so are visited. Over the snapshot the answers of the plan of a query are those of the documents
-/// that match the query and are not deleted. Fails for want of memory alone.
+/// its list, the rows, and the deleted ends. The rows are shared with the level, but for the last 1,024 at most, which are
+/// copied. A term in full is looked up, and of a prefix only the terms that begin so are visited. Over the snapshot the
+/// answers of the plan of a query are those of the documents that match the query and are not deleted. Fails for want of
+/// memory alone.
 pub fn load_newest(
     alloc: Global,
     plan: &Plan,
