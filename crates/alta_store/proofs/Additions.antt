@@ -1,5 +1,5 @@
 -- What one more entry in the journal does to the meaning of an image.
-use Rattle.std.proofs.Common.{◌≡◌, inl, inr, ⊎_elim, ℕ, ◌+◌, List, [], ◌∷◌, ◌++◌, length, refl, sym, ◌∙◌, ap, subst, arith}
+use Rattle.std.proofs.Common.{◌≡◌, inl, inr, ⊎_elim, ℕ, ◌+◌, List, [], ◌∷◌, ◌++◌, length, sym, ◌∙◌, ap, subst, arith}
 use Rattle.alta_disk.specs.Disk.{Torn}
 use Rattle.alta_disk.proofs.PartLaws.{part_torn}
 use Rattle.alta_journal.specs.Journal.{EndsAt, Appends}
@@ -7,7 +7,7 @@ use Rattle.alta_journal.specs.Record.{record_of, body_of}
 use Rattle.alta_journal.specs.declared.entry.Entry.{Entry}
 use Rattle.alta_journal.specs.declared.places.TheConstants.{START_A}
 use Rattle.alta_meta.specs.declared.document.State.{State}
-use Rattle.alta_images.specs.Entries.{Allows, AllowsAll, after_entry, after_entries}
+use Rattle.alta_images.specs.Entries.{Allows, after_entry}
 use Rattle.alta_images.specs.Views.{View, rooted, state_of, with_entry}
 use Rattle.alta_store.specs.Meaning.{IsView, StandsForEither}
 use Rattle.alta_store.specs.Roots.{IsRoot, first_fields, byte_at}

@@ -1,13 +1,13 @@
 -- A root without levels in the first slot, in force alone, is read alike by the words of all roots.
-use Rattle.std.proofs.Common.{◌≡◌, ◌≢◌, ◌⊎◌, inl, inr, ⊎_elim, ℕ, zero, suc, ◌+◌, ◌-◌, ◌*◌, ◌<◌, ◌≤◌, ◌==◌, Bool, true, false, cond, List, [], ◌∷◌, ◌++◌, length, get_or, take, drop, replicate, Ok, Err, Result, refl, sym, ◌∙◌, ap, subst, arith}
+use Rattle.std.proofs.Common.{◌≡◌, ◌≢◌, ◌⊎◌, inl, inr, ℕ, ◌+◌, ◌-◌, ◌*◌, ◌<◌, ◌≤◌, Bool, true, false, cond, List, [], ◌∷◌, ◌++◌, length, get_or, take, drop, replicate, Ok, Err, Result, refl, sym, ◌∙◌, ap, subst, arith}
 use Rattle.std.specs.Prelude.{IsTrue, nat_lt, nat_le, ◌&&◌}
 use Rattle.std.specs.Int.{w64, from_be_bytes}
-use Rattle.std.proofs.lemmas.Bool.{false≢true, le-leb, le-ltb}
+use Rattle.std.proofs.lemmas.Bool.{le-leb, le-ltb}
 use Rattle.std.proofs.lemmas.List.{drop-drop, drop-take, get_or-drop, get_or-take, length-drop, length-take-le, take-take}
 use Rattle.std.proofs.lemmas.List.Elements.{All-head, All-nil, All-tail}
 use Rattle.alta_disk.specs.Parts.{part}
 use Rattle.alta_disk.proofs.PartLaws.{split_at_part}
-use Rattle.alta_format.specs.Format.{Kind, Format, byte, wide, ends, number_field, text_field, number_of, placed as value_at, read, text_of, ◌>>=◌}
+use Rattle.alta_format.specs.Format.{Kind, Format, byte, wide, number_field, text_field, number_of, placed as value_at, read, text_of, ◌>>=◌}
 use Rattle.alta_format.specs.FormatLaws.{if_yes, if_no}
 use Rattle.alta_journal.specs.Journal.{EndsAt, IsBroken}
 use Rattle.alta_journal.specs.Placed.{placed}
@@ -19,14 +19,14 @@ use Rattle.alta_level.specs.Segments.{IsSegment}
 use Rattle.alta_meta.specs.declared.document.State.{State}
 use Rattle.alta_postings.specs.Deltas.{fault_from, first_fault, list_from, locations_of}
 use Rattle.alta_root.specs.Places.{fields_at, gate_of, slot_start}
-use Rattle.alta_root.specs.Root.{extent_in, is_list, is_next_location, is_next_number, levels_format, no_extent, number_in, root_format}
+use Rattle.alta_root.specs.Root.{extent_in, is_list, levels_format, no_extent, number_in, root_format}
 use Rattle.alta_root.specs.Slots.{Counts, HasNoRoot, root_in, short}
 use Rattle.alta_root.specs.declared.places.TheConstants.{HEAD_BYTES}
 use Rattle.alta_root.specs.declared.root.Root.{Root}
 use Rattle.alta_root.specs.declared.slot.Slot.{Slot}
 use Rattle.alta_root.specs.declared.slot.Slot.TheVariants.{A, B}
 use Rattle.alta_images.specs.Broken.{HasLevels, IsBrokenAt, in_entries, in_records, in_slots}
-use Rattle.alta_store.specs.Brokenness.{HasBadEntry, HasBadJournal, HasNoIndex, HasRoot}
+use Rattle.alta_store.specs.Brokenness.{HasBadEntry, HasBadJournal, HasNoIndex}
 use Rattle.alta_images.specs.Entries.{Allows, AllowsAll, IsRefusedAt, after_entries, after_entry, entries_in}
 use Rattle.alta_images.specs.Known.{Known, admits, known_behind, known_of, replayed}
 use Rattle.alta_images.specs.Levels.{Level}

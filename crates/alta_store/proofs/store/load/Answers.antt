@@ -4,12 +4,8 @@ use Rattle.alta_journal.specs.Journal.{IsBroken}
 use Rattle.alta_journal.specs.Placed.{IsReplay}
 use Rattle.alta_journal.specs.declared.placed.Placed.{Placed}
 use Rattle.alta_journal.specs.declared.places.TheConstants.{START_A}
-use Rattle.alta_journal.specs.declared.half.Tail.{Tail}
-use Rattle.alta_meta.specs.declared.document.State.{State}
-use Rattle.alta_store.specs.Agreement.{Holds}
 use Rattle.alta_images.specs.Entries.{after_entries, entries_in}
 use Rattle.alta_images.specs.Views.{start_at}
-use Rattle.alta_store.specs.declared.store.Store.{Store}
 use Rattle.alta_store.proofs.Loads.{small_places, loads, damaged_record, refused_entry, of_damaged, same_error}
 use Rattle.alta_store.proofs.store.load.Goals as goal
 

@@ -1,4 +1,4 @@
-use Rattle.std.proofs.Common.{◌≡◌, ◌<◌, ℕ, List, length, refl, ap, subst, sym, ◌∙◌, arith}
+use Rattle.std.proofs.Common.{◌≡◌, ℕ, List, refl, subst, sym, arith}
 use Rattle.std.specs.Prelude.{Contains, None}
 use Rattle.std.specs.BTreeMap.{get_by_text}
 use Rattle.std.specs.Map.{update}
@@ -6,7 +6,6 @@ use Rattle.std.specs.Str.{bytes_eq}
 use Rattle.std.proofs.lemmas.Bool.{false≢true}
 use Rattle.std.proofs.lemmas.Option.{get_or_from_slice_get}
 use Rattle.alta_content.specs.Rows.{end_of}
-use Rattle.alta_content.specs.declared.document.DocRow.{DocRow}
 use Rattle.alta_store.proofs.FollowingLaws.{counted, deleted_already, follows_deleted, outside, row_of_number, row_fits, there_is}
 use Rattle.alta_store.proofs.catalog.Catalog.delete.Goals as goal
 
