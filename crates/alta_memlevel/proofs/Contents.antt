@@ -133,14 +133,15 @@ first-positive : (added : List Added) → IsSpace added → All (λ b. 1 ≤ b.r
 first-positive [] s = All-nil (λ b. 1 ≤ b.row.first)
 first-positive (a ∷ more) s = All-cons (λ b. 1 ≤ b.row.first) a more s.0.positive (first-positive more s.3)
 
+pub rising_from : (xs : List ℕ) → RisesIn 1 TOP xs → IsRising xs
+rising_from xs r = record {
+  rising = λ i j l m. rises-index 1 TOP xs i j r l m;
+  positive = λ i l. let q = rises-at 1 TOP xs i r l in omega (arith, q.0);
+  below = λ i l. (rises-at 1 TOP xs i r l).1;
+}
+
 pub list_of_rises : (added : List Added) (t : List ℕ) → IsSpace added → IsRising (list_of added t)
-list_of_rises added t s =
-    let r : RisesIn 1 TOP (list_of added t) = rises-documents 1 added t (lit≤ tt) s (first-positive added s) in
-    record {
-      rising = λ i j l m. rises-index 1 TOP (list_of added t) i j r l m;
-      positive = λ i l. let q = rises-at 1 TOP (list_of added t) i r l in omega (arith, q.0);
-      below = λ i l. (rises-at 1 TOP (list_of added t) i r l).1;
-    }
+list_of_rises added t s = rising_from (list_of added t) (rises-documents 1 added t (lit≤ tt) s (first-positive added s))
 
 -- the locations of each term of a content rise
 pub content_rises : (added : List Added) (content : Content) (t xs : List ℕ) → HasContent added content → xs ≡ locations_of content.lists t → IsRising xs

@@ -1,18 +1,13 @@
 -- The content without the documents whose end is deleted.
-use Rattle.std.proofs.Common.{◌≡◌, ⊎_elim, ℕ, zero, suc, ◌+◌, ◌<◌, ◌≤◌, Bool, true, false, not, cond, List, [], ◌∷◌, ◌++◌, length, map, get_or, refl, sym, ap, subst, ◌∙◌, arith}
-use Rattle.std.specs.Prelude.{nat_le, nat_lt}
-use Rattle.std.specs.Cmp.Lexicographic.{nat_list_eq_equiv, slice_cmp, bytes_decides}
-use Rattle.std.specs.List.{All, AllByRecursion, filter}
-use Rattle.std.specs.List.Sorted.{IsStrictlySortedBy, IsNonDecreasingBy}
-use Rattle.std.specs.Ordering.{nat_cmp, is_eq}
-use Rattle.std.specs.declared.cmp.Ordering.TheVariants.{Less}
-use Rattle.std.specs.Str.{bytes_eq}
-use Rattle.std.proofs.lemmas.Bool.{cases_Bool, cond-true, cond-false, le-leb, lt-leb, leb-true, and_left, and_right, or_from, ltb-true, ltb-false}
-use Rattle.std.proofs.lemmas.List.Elements.{All-nil, All-cons, All-head, All-tail, All-push, All-filter, All-weaker, filter-append, filter_passes}
-use Rattle.std.proofs.lemmas.Map.Text.{is_eq-slice_cmp}
+use Rattle.std.proofs.Common.{◌≡◌, ⊎_elim, ℕ, ◌+◌, ◌<◌, ◌≤◌, Bool, true, false, not, List, [], ◌∷◌, ◌++◌, length, map, get_or, refl, sym, ap, subst, ◌∙◌, arith}
+use Rattle.std.specs.Cmp.Lexicographic.{slice_cmp}
+use Rattle.std.specs.List.{All, filter}
+use Rattle.std.specs.List.Sorted.{IsStrictlySortedBy}
+use Rattle.std.specs.Ordering.{nat_cmp}
+use Rattle.std.proofs.lemmas.Bool.{cases_Bool}
+use Rattle.std.proofs.lemmas.List.Elements.{All-head, All-tail, All-filter, filter-append}
 use Rattle.alta_codec.specs.Rising.{IsRising}
 use Rattle.alta_content.specs.declared.content.Content.{Content}
-use Rattle.alta_content.specs.declared.document.DocRow.{DocRow}
 use Rattle.alta_content.specs.Lists.{locations_of, terms_of}
 use Rattle.alta_content.specs.Rows.{RowsRise, end_of, ends_among}
 use Rattle.alta_content.specs.Spans.{is_within, deleted_spans, outside_of, lists_outside}

@@ -1,5 +1,5 @@
 // The level in memory: the documents that were added, and the locations of their terms.
-ghost use Rattle.std.specs.Prelude.{◌≡◌, ℕ, ◌<◌, ◌≤◌, ◌∷◌, ◌++◌, [], List, length, false, nat_eq, IsTrue, IfOk, OnOk, OnErr};
+ghost use Rattle.std.specs.Prelude.{◌≡◌, ℕ, ◌<◌, ◌≤◌, ◌∷◌, ◌++◌, [], List, length, map, slice_get, Some, false, nat_eq, IsTrue, IfOk, OnOk, OnErr};
 ghost use Rattle.std.specs.List.{All, filter, starts_with};
 ghost use Rattle.std.specs.List.Sorted.{IsStrictlySortedBy};
 ghost use Rattle.std.specs.Ordering.{nat_cmp};
@@ -9,22 +9,25 @@ ghost use Rattle.alta_codec.specs.declared.location.TheConstants.{TOP};
 ghost use Rattle.alta_content.specs.Lists.{locations_of, terms_of};
 ghost use Rattle.alta_content.specs.Rows.{end_of};
 ghost use Rattle.alta_memlevel.specs.Added.{Added, HasContent, live_of};
+ghost use Rattle.alta_rows.specs.All.{joined, rows_in};
 
 use crate::lists::{Lists, put_cells, terms_from};
 use crate::moving::move_lists;
 use alta_codec::{Bytes, Loc};
 use alta_content::{Content, DocRow, DocRows, TermLists, keep_rows, spans_of};
 use alta_meta::Cell;
+use alta_rows::{AllRows, LevelRows, RowRuns};
 use std::alloc::{AllocError, Global};
 use std::collections::BTreeMap;
 use std::marker::Model;
 use std::mem;
+use std::rc::Rc;
 
 /// The newest documents as an inverted index in memory. Contracts see the content of the documents that were added,
 /// and whether the level is sound.
 #[derive(Drop)]
 pub struct MemLevel {
-    rows: DocRows,
+    rows: RowRuns,
     lists: Lists,
     whole: bool,
     alloc: Global,
@@ -52,7 +55,7 @@ impl MemLevel {
         ensures documents { result.content.documents ≡ [] }
     {
         MemLevel {
-            rows: DocRows::new(alloc),
+            rows: RowRuns::new(alloc),
             lists: BTreeMap::new(alloc),
             whole: true,
             alloc,
@@ -88,11 +91,34 @@ impl MemLevel {
         Ok(())
     }
 
-    /// The rows of the documents that were added, in order, borrowed.
-    pub fn rows(&self) -> &[DocRow]
-        ensures { result.now ≡ self.now.content.documents }
+    /// How many documents were added.
+    pub fn len(&self) -> usize
+        ensures { result ≡ length self.now.content.documents }
     {
-        self.rows.as_slice()
+        self.rows.len()
+    }
+
+    /// The row of a document by its index in the order in which they were added.
+    pub fn row(&self, index: usize) -> &DocRow
+        requires { index < length self.now.content.documents }
+        ensures { slice_get self.now.content.documents index ≡ Some result.now }
+    {
+        self.rows.row(index)
+    }
+
+    /// The rows of the documents that were added, in order, in runs: the full ones shared, and behind them the last one, of at most
+    /// 1,024 rows, copied. Fails for want of memory alone.
+    pub fn runs(&self) -> Result<Vec<Rc<LevelRows>>, AllocError>
+        ensures { IfOk result (λ runs. joined (map rows_in runs.items) ≡ self.now.content.documents) }
+    {
+        self.rows.runs()
+    }
+
+    /// The same rows to be read, in the runs that `runs` gives. Fails for want of memory alone.
+    pub fn share_rows(&self) -> Result<AllRows, AllocError>
+        ensures { IfOk result (λ rows. rows ≡ self.now.content.documents) }
+    {
+        self.rows.share()
     }
 
     /// The locations of a term, rising, without a copy: none where no cell holds it.
@@ -122,8 +148,8 @@ impl MemLevel {
 
     /// Takes the content out without the documents whose end is deleted, and leaves a level of no documents. The ends
     /// may stand in any order, and may be ends of no document. A term that no other document has is left out; the
-    /// lists move, and a list of which no location falls away is not written. Where memory is wanting, the level
-    /// stays as it was.
+    /// lists move, and a list of which no location falls away is not written; the rows are copied, since others may share
+    /// them. Where memory is wanting, the level stays as it was.
     #[tactic(auto, using(crate::proofs::Contents::content_empty))]
     pub fn drain_content(&mut self, deleted: &[Loc]) -> Result<Content, AllocError>
         requires { IsTrue self.old.sound }
@@ -134,10 +160,11 @@ impl MemLevel {
         ensures documents { OnOk result (self.new.content.documents ≡ []) }
         ensures kept { OnErr result (self.new ≡ self.old) }
     {
-        let spans = spans_of(self.alloc, self.rows.as_slice(), deleted)?;
+        let mut rows = self.rows.copy()?;
+        let spans = spans_of(self.alloc, &rows, deleted)?;
         let room = Vec::with_capacity(self.alloc, self.lists.len())?;
         let lists = mem::replace(&mut self.lists, BTreeMap::new(self.alloc));
-        let mut rows = mem::replace(&mut self.rows, DocRows::new(self.alloc)).into_vec();
+        self.rows = RowRuns::new(self.alloc);
         keep_rows(&mut rows, &spans);
         Ok(Content {
             documents: DocRows::from_vec(rows),

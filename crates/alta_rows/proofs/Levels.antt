@@ -1,7 +1,6 @@
 -- Rows of levels that are joined.
 use Rattle.std.proofs.Common.{◌≡◌, ℕ, zero, suc, ◌+◌, ◌-◌, ◌<◌, ◌≤◌, ⊎_elim, List, [], ◌∷◌, ◌++◌, map, take, drop, take-append-drop, length, get_or, refl, sym, subst, ap, ◌∙◌, lit<, take_all, arith}
 use Rattle.std.specs.Prelude.{Contains}
-use Rattle.std.specs.List.{flat_map}
 use Rattle.std.proofs.lemmas.Bool.{cases_lt}
 use Rattle.std.proofs.lemmas.List.{take_more, append-nil, length-append, length-map, get_or_default}
 use Rattle.std.proofs.lemmas.List.Concat.{flat_map-append, get_or-flat_map}
@@ -31,14 +30,14 @@ pub rising_fits : (xs : List ℕ) → IsRising xs → length xs < TOP
 rising_fits [] r = lit< tt
 rising_fits (x ∷ xs) r = omega (arith, above_index (x ∷ xs) r (length xs) (omega arith), r.below (length xs) (omega arith))
 
-joined-take : (levels : List (List DocRow)) (n : ℕ) → n < length levels → length (joined (take (n + 1) levels)) ≡ length (joined (take n levels)) + length (get_or levels n [])
+pub joined-take : (levels : List (List DocRow)) (n : ℕ) → n < length levels → length (joined (take (n + 1) levels)) ≡ length (joined (take n levels)) + length (get_or levels n [])
 joined-take levels n l =
     ap (λ ls. length (joined ls)) (take_more levels n [] l)
     ∙ ap length (flat_map-append (λ rows. rows) (take n levels) (get_or levels n [] ∷ []))
     ∙ length-append (joined (take n levels)) (get_or levels n [] ++ [])
     ∙ ap (λ k. length (joined (take n levels)) + k) (ap length (append-nil (get_or levels n [])))
 
-joined_fits : (levels : List (List DocRow)) (n : ℕ) → length (joined (take n levels)) ≤ length (joined levels)
+pub joined_fits : (levels : List (List DocRow)) (n : ℕ) → length (joined (take n levels)) ≤ length (joined levels)
 joined_fits levels n =
     omega (
       arith,

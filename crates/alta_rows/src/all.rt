@@ -1,5 +1,5 @@
 // The rows of several levels.
-ghost use Rattle.std.specs.Prelude.{◌≡◌, ◌<◌, map, length, slice_get, Some, IfOk};
+ghost use Rattle.std.specs.Prelude.{◌≡◌, ◌+◌, ◌<◌, map, length, slice_get, Some, IfOk, IfErr};
 ghost use Rattle.alta_codec.specs.Rising.{IsRising};
 ghost use Rattle.alta_rows.specs.All.{rows_in, joined, ends_of};
 
@@ -56,14 +56,10 @@ impl AllRows {
         requires { index < length self.now }
         ensures { slice_get self.now index ≡ Some result.now }
     {
-        let mut left = index;
-        for level in self.levels.as_slice() {
-            if left < level.len() {
-                return &level.as_slice()[left];
-            }
-            left -= level.len();
+        match row_in(&self.levels, index) {
+            Ok(row) => row,
+            Err(_) => unreachable!(),
         }
-        unreachable!()
     }
 
     /// A walk along the rows, in front of the first.
@@ -74,4 +70,19 @@ impl AllRows {
     {
         RowWalk::new(&self.levels)
     }
+}
+
+/// The row of these levels at an index, or how many rows behind all of them it stands.
+pub(crate) fn row_in(levels: &[Rc<LevelRows>], index: usize) -> Result<&DocRow, usize>
+    ensures there { IfOk result (λ row. slice_get (joined (map rows_in levels.now)) index ≡ Some row.now) }
+    ensures behind { IfErr result (λ left. length (joined (map rows_in levels.now)) + left ≡ index) }
+{
+    let mut left = index;
+    for level in levels {
+        if left < level.len() {
+            return Ok(&level.as_slice()[left]);
+        }
+        left -= level.len();
+    }
+    Err(left)
 }

@@ -40,7 +40,7 @@ fn end_of(row: &DocRow) -> Loc
 }
 
 /// The ends of the documents.
-fn ends_of(alloc: Global, rows: &[DocRow]) -> Result<Vec<Loc>, AllocError>
+pub(crate) fn ends_of(alloc: Global, rows: &[DocRow]) -> Result<Vec<Loc>, AllocError>
     requires { IsRising (map end_of rows.now) }
     ensures { IfOk result (λ ends. ends.items ≡ map end_of rows.now) }
 {
@@ -58,7 +58,23 @@ impl LevelRows {
         ensures { IfOk result (λ r. r ≡ rows.items) }
     {
         let ends = ends_of(alloc, &rows)?;
-        Ok(LevelRows { rows, ends })
+        Ok(LevelRows::with_ends(rows, ends))
+    }
+
+    /// These rows and their ends, without a copy.
+    pub(crate) fn with_ends(rows: Vec<DocRow>, ends: Vec<Loc>) -> LevelRows
+        requires rising { IsRising (map end_of rows.items) }
+        requires ends { ends.items ≡ map end_of rows.items }
+        ensures { result ≡ rows.items }
+    {
+        LevelRows { rows, ends }
+    }
+
+    /// The vector that holds the rows, without a copy.
+    pub(crate) fn into_rows(self) -> Vec<DocRow>
+        ensures { result.items ≡ self }
+    {
+        self.rows
     }
 
     /// How many rows there are.

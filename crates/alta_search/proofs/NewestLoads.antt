@@ -12,16 +12,13 @@ use Rattle.std.proofs.lemmas.List.Elements.{All-nil, All-cons, All-head, All-tai
 use Rattle.alta_codec.specs.Rising.{IsRising}
 use Rattle.alta_compile.specs.Space.{document_end}
 use Rattle.alta_compile.proofs.Spaces.{list-rises}
-use Rattle.alta_compound.specs.Unions.{RisesAbove, rising_from_above}
 use Rattle.alta_content.specs.Lists.{locations_of, terms_of}
-use Rattle.alta_content.specs.Rows.{end_of}
 use Rattle.alta_content.specs.declared.content.Content.{Content}
 use Rattle.alta_content.specs.declared.content.TermList.{TermList}
 use Rattle.alta_content.specs.declared.document.DocRow.{DocRow}
 use Rattle.alta_content.proofs.Order.{After, Sorted, less_differs_back}
 use Rattle.alta_docread.specs.KeptLaws.{true_or_false}
-use Rattle.alta_memlevel.specs.Added.{Added, HasContent, IsDocument}
-use Rattle.alta_memlevel.specs.Added as mem
+use Rattle.alta_memlevel.specs.Added.{Added, HasContent}
 use Rattle.alta_memlevel.proofs.Prefixes.{filter_rises}
 use Rattle.alta_query.specs.declared.test.Test.{Test}
 use Rattle.alta_query.specs.declared.test.Test.TheVariants.{Is}
@@ -130,23 +127,6 @@ module _ (added : List Added) (content : Content) (h : HasContent added content)
 
   pub all-keyed : (tests : List Test) → All AreKeys (map (newest_keys content.lists) tests)
   all-keyed tests = All-map AreKeys (newest_keys content.lists) tests (λ k d l. newest-keyed added content h (get_or tests k d))
-
-ends-above : (added : List Added) (low : ℕ) → All (λ a. low < a.row.first) added → mem.IsSpace added → RisesAbove low (map end_of (map (λ a. a.row) added))
-ends-above [] low h s = tt
-ends-above (a ∷ more) low h (d, numbers, behind, rest) =
-    let some = d.some in
-    let here : low < a.row.first = All-head (λ b. low < b.row.first) a more h in
-    (omega (arith, here, some), d.below, ends-above more (end_of a.row) behind rest)
-
--- the ends of the rows rise
-pub ends-rise : (added : List Added) (content : Content) → HasContent added content → IsRising (map end_of content.documents)
-ends-rise added content h =
-    subst (λ rows. IsRising (map end_of rows)) (sym h.documents)
-    (rising_from_above (map end_of (map (λ a. a.row) added)) (ends-above added 0 (positive added h.space) h.space))
-  where
-    positive : (added : List Added) → mem.IsSpace added → All (λ a. 0 < a.row.first) added
-    positive [] s = All-nil (λ a. 0 < a.row.first)
-    positive (a ∷ more) (d, numbers, behind, rest) = let first = d.positive in All-cons (λ a. 0 < a.row.first) a more (omega (arith, first)) (positive more rest)
 
 -- ---- one more of a list that is loaded
 

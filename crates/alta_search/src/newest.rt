@@ -1,9 +1,7 @@
 // The snapshot of the newest documents.
 ghost use Rattle.std.specs.Prelude.{◌≡◌, ℕ, List, map, IsTrue, IfOk};
-ghost use Rattle.alta_codec.specs.Rising.{IsRising};
 ghost use Rattle.alta_compile.specs.PlanOf.{plan_of};
 ghost use Rattle.alta_compile.specs.View.{tree};
-ghost use Rattle.alta_content.specs.Rows.{end_of};
 ghost use Rattle.alta_memlevel.specs.Added.{Level};
 ghost use Rattle.alta_memlevel.specs.Documents.{HasDocuments};
 ghost use Rattle.alta_meta.specs.declared.document.Document.{Document};
@@ -20,18 +18,16 @@ use crate::order::loading_order;
 use crate::snapshot::Snapshot;
 use alta_codec::{Bytes, Loc};
 use alta_compile::Plan;
-use alta_content::DocRow;
 use alta_memlevel::MemLevel;
 use alta_model::a_match_is_decided;
 use alta_query::Test;
-use alta_rows::{AllRows, LevelRows};
 use std::alloc::{AllocError, Global};
-use std::rc::Rc;
 
 /// The snapshot of the newest documents for a plan: of each test the terms of the level that meet it, each with a copy of
-/// its list, the rows with copies of their names, and the deleted ends. A term in full is looked up, and of a prefix only
-/// the terms that begin so are visited. Over the snapshot the answers of the plan of a query are those of the documents
-/// that match the query and are not deleted. Fails for want of memory alone.
+/// its list, the rows, and the deleted ends. The rows are shared with the level, but for the last 1,024 at most, which are
+/// copied. A term in full is looked up, and of a prefix only the terms that begin so are visited. Over the snapshot the
+/// answers of the plan of a query are those of the documents that match the query and are not deleted. Fails for want of
+/// memory alone.
 pub fn load_newest(
     alloc: Global,
     plan: &Plan,
@@ -47,7 +43,7 @@ pub fn load_newest(
     newest_documents_answer();
     let (tests, uses) = loading_order(alloc, plan)?.into_parts();
     let tests = load_tests(alloc, level, tests.into_vec())?;
-    let rows = load_rows(alloc, level.rows())?;
+    let rows = level.share_rows()?;
     let gone = Vec::from_slice(alloc, gone)?;
     Ok(Snapshot::new(tests, uses, rows, gone))
 }
@@ -136,51 +132,6 @@ fn load_term(alloc: Global, level: &MemLevel, term: Bytes) -> Result<TermLists, 
         stored: Stored::Plain(list),
     })?;
     Ok(TermLists { term, levels })
-}
-
-/// The rows as those of one level, with copies of their names.
-fn load_rows(alloc: Global, rows: &[DocRow]) -> Result<AllRows, AllocError>
-    requires { IsRising (map end_of rows.now) }
-    ensures { IfOk result (λ loaded. loaded ≡ rows.now) }
-{
-    let level = share(alloc, LevelRows::new(alloc, copy_rows(alloc, rows)?)?)?;
-    let mut levels = Vec::with_capacity(alloc, 1)?;
-    levels.push(level)?;
-    let all = AllRows::new(alloc, levels)?;
-    Ok(all)
-}
-
-/// The rows, to be shared.
-fn share(alloc: Global, rows: LevelRows) -> Result<Rc<LevelRows>, AllocError>
-    ensures { IfOk result (λ shared. shared.value ≡ rows) }
-{
-    match Rc::new(alloc, rows) {
-        Ok(shared) => Ok(shared),
-        Err(_) => Err(AllocError),
-    }
-}
-
-/// Equal rows, in memory of their own.
-fn copy_rows(alloc: Global, rows: &[DocRow]) -> Result<Vec<DocRow>, AllocError>
-    ensures { IfOk result (λ copies. copies.items ≡ rows.now) }
-{
-    let mut copies = Vec::with_capacity(alloc, rows.len())?;
-    for row in rows {
-        copies.push(copy_row(row)?)?;
-    }
-    Ok(copies)
-}
-
-/// An equal row, in memory of its own.
-fn copy_row(row: &DocRow) -> Result<DocRow, AllocError>
-    ensures { IfOk result (λ copy. copy ≡ row.now) }
-{
-    Ok(DocRow {
-        number: row.number,
-        first: row.first,
-        cells: row.cells,
-        name: row.name.copy()?,
-    })
 }
 
 /// Over the snapshot of the newest documents for the plan of a query, the answers that are to come are the documents that

@@ -1,5 +1,5 @@
 -- Lists of documents: their numbers rise, and each is found by its name.
-use Rattle.std.proofs.Common.{◌≡◌, ◌≢◌, ℕ, suc, zero, ◌+◌, ◌<◌, ◌≤◌, Bool, true, false, cond, not, ⊎_elim, Global, List, [], ◌∷◌, ◌++◌, length, get_or, refl, sym, ◌∙◌, ap, subst, arith, rules}
+use Rattle.std.proofs.Common.{◌≡◌, ℕ, suc, zero, ◌+◌, ◌<◌, ◌≤◌, Bool, true, false, cond, not, ⊎_elim, Global, List, [], ◌∷◌, ◌++◌, length, get_or, refl, sym, ◌∙◌, ap, subst, arith}
 use Rattle.std.specs.Prelude.{◌||◌, ◌==◌, Option, Some, None, Result, Ok, Err, IfSome, HoldsAt, String, is_some, option_map, remove}
 use Rattle.std.specs.List.{list_any, find, filter}
 use Rattle.std.specs.List.Sorted.{IsBinarySearchResult, IsNonDecreasingBy}
@@ -12,7 +12,6 @@ use Rattle.std.proofs.lemmas.Bool.{cases_lt, false≢true}
 use Rattle.std.proofs.lemmas.Bool.Decides.{nat_tests}
 use Rattle.std.proofs.lemmas.Cmp.{ranked}
 use Rattle.std.proofs.lemmas.List.Folds.{list_any_none}
-use Rattle.std.proofs.lemmas.Slice.Eq.{bytes_eq-Decides}
 use Rattle.alta_meta.specs.declared.document.Document.{Document}
 use Rattle.alta_store.specs.Following.{AreFound, RiseWithin}
 use Rattle.alta_images.specs.States.{has_number_in}

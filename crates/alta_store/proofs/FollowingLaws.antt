@@ -1,6 +1,6 @@
 -- What a catalog keeps, as documents come and go.
-use Rattle.std.proofs.Common.{◌≡◌, ◌⊎◌, inl, inr, ⊎_elim, ℕ, ◌+◌, ◌-◌, ◌*◌, ◌<◌, ◌≤◌, Bool, true, false, IsTrue, Global, List, [], ◌∷◌, ◌++◌, length, map, get_or, not, refl, sym, ◌∙◌, ap, subst, arith, length-append}
-use Rattle.std.specs.Prelude.{◌==◌, ◌↔◌, Contains, IsUtf8, Some, None, String, is_some, nat_eq}
+use Rattle.std.proofs.Common.{◌≡◌, ◌⊎◌, ⊎_elim, ℕ, ◌+◌, ◌-◌, ◌*◌, ◌<◌, ◌≤◌, true, false, IsTrue, Global, List, [], ◌∷◌, ◌++◌, length, get_or, not, refl, sym, ◌∙◌, ap, subst, arith, length-append}
+use Rattle.std.specs.Prelude.{◌==◌, ◌↔◌, Contains, IsUtf8, Some, None, String, is_some}
 use Rattle.std.specs.List.{All, filter, sum_by}
 use Rattle.std.specs.Map.{update, lookup}
 use Rattle.std.specs.Str.{bytes_eq}
@@ -8,7 +8,6 @@ use Rattle.std.specs.String.{string_bytes}
 use Rattle.std.specs.Cmp.Lexicographic.{slice_cmp}
 use Rattle.std.specs.Ordering.{nat_cmp}
 use Rattle.std.specs.BTreeMap.{BTreeMap, IsEmpty, is_at, get_by_text}
-use Rattle.std.proofs.lemmas.Bool.{false≢true}
 use Rattle.std.proofs.lemmas.List.{length-map}
 use Rattle.std.proofs.lemmas.List.Elements.{All-nil, All-push, All-map, All-contains, Contains-get_or}
 use Rattle.std.proofs.lemmas.List.Sums.{sum_by_push}
@@ -26,8 +25,8 @@ use Rattle.alta_store.specs.Following.{AreFound, AreNumbered, Follows, Knows, do
 use Rattle.alta_images.specs.Views.{start_at}
 use Rattle.alta_images.specs.States.{has_name, has_number, has_number_in, number_of, with_added, with_deleted, without, word_count, words_in}
 use Rattle.alta_store.specs.declared.catalog.Catalog.{Catalog}
-use Rattle.alta_images.proofs.Tests.{by_test, equal_from}
-use Rattle.alta_store.proofs.EndLaws.{IsSame, all_same, among, among_more, at_index, has_number_of, here_or_there, is_among, is_left, left_more, left_out, no_member, none_with, not_among, numbered_more, numbers_within, one_fewer, one_less, space_all}
+use Rattle.alta_images.proofs.Tests.{equal_from}
+use Rattle.alta_store.proofs.EndLaws.{IsSame, all_same, among, among_more, at_index, has_number_of, here_or_there, is_left, left_more, left_out, no_member, none_with, not_among, numbered_more, numbers_within, one_fewer, one_less, space_all}
 use Rattle.alta_store.proofs.KnowledgeLaws.{deleted_is, is_numbered, knows_deleted, knows_more, number_is}
 use Rattle.alta_store.proofs.WordCounts.{few_words, words_long}
 

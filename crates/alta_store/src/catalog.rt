@@ -101,11 +101,10 @@ impl Catalog {
         ensures deleted { IfOk result (λ there. there ≡ true → (s : State) → Follows self.old s → (has_number number s ≡ true) × Follows self.new (without number s)) }
         ensures missing { IfOk result (λ there. there ≡ false → (s : State) → Follows self.old s → has_number number s ≡ false) }
     {
-        let rows = self.memory.rows();
-        let Some(index) = index_of(self.first, number, rows.len()) else {
+        let Some(index) = index_of(self.first, number, self.memory.len()) else {
             return Ok(false);
         };
-        let row = &rows[index];
+        let row = self.memory.row(index);
         let end = row.first + row.cells - 1;
         if self.gone.holds(end) {
             return Ok(false);

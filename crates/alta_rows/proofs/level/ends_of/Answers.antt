@@ -1,4 +1,4 @@
-use Rattle.std.proofs.Common.{◌<◌, get_or, length, ap, arith}
+use Rattle.std.proofs.Common.{ap, arith}
 use Rattle.std.proofs.lemmas.List.{length-map}
 use Rattle.alta_content.specs.Rows.{end_of}
 use Rattle.alta_rows.proofs.Levels.{read_at}

@@ -1,4 +1,4 @@
-use Rattle.std.proofs.Common.{◌≡◌, ℕ, ◌+◌, ◌-◌, ◌<◌, map, length, get_or}
+use Rattle.std.proofs.Common.{ℕ, ◌+◌, ◌-◌, ◌<◌, map, length, get_or}
 use Rattle.alta_rows.specs.All.{rows_in, joined, ends_of, IsPlace}
 use Rattle.alta_rows.proofs.walk.first_from.Given as goal
 

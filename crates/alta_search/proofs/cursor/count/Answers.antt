@@ -1,4 +1,4 @@
-use Rattle.std.proofs.Common.{◌≡◌, map, length, sym, subst, ap, ◌∙◌, arith}
+use Rattle.std.proofs.Common.{map, length, sym, ap, ◌∙◌, arith}
 use Rattle.std.proofs.lemmas.List.{length-map}
 use Rattle.alta_compile.specs.View.{tree}
 use Rattle.alta_docread.specs.Tree.{tree_list, tree_place}

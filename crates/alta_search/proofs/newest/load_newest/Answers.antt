@@ -1,20 +1,14 @@
 use Rattle.std.proofs.Common.{◌≡◌, map, sym, subst, ap, ◌∙◌}
 use Rattle.std.specs.Prelude.{All}
-use Rattle.alta_codec.specs.Rising.{IsRising}
 use Rattle.alta_compile.specs.View.{tree}
-use Rattle.alta_content.specs.Rows.{end_of}
 use Rattle.alta_search.specs.Documents.{AreToCome}
 use Rattle.alta_search.specs.Lists.{AreKeys, IsCut}
 use Rattle.alta_search.specs.Newest.{newest_keys, newest_lists, newest_view}
 use Rattle.alta_search.specs.Plans.{tests_of}
 use Rattle.alta_search.specs.View.{View}
 use Rattle.alta_model.specs.Deciding.{answers}
-use Rattle.alta_search.proofs.NewestLoads.{all-cut, all-keyed, ends-rise, loaded-view}
+use Rattle.alta_search.proofs.NewestLoads.{all-cut, all-keyed, loaded-view}
 use Rattle.alta_search.proofs.newest.load_newest.Goals as goal
-
-pub load_rows-requires : goal.load_rows-requires
-load_rows-requires c =
-    let h = c.requires.1 in subst (λ rows. IsRising (map end_of rows)) (sym c.rows.ensures) (ends-rise h.added c.args.level.now.content h.content)
 
 pub new-requires-clause-cut : goal.new-requires-clause-cut
 new-requires-clause-cut c =
@@ -33,7 +27,7 @@ returns-clause-view c =
     (c.in_ok-tests.ensures.tests ∙ items)
     (c.in_ok-tests.ensures.keys ∙ ap (map (newest_keys content.lists)) items)
     (c.in_ok-tests.ensures.lists ∙ ap (map (newest_lists content.lists)) items)
-    c.new.ensures.tests c.new.ensures.keys c.new.ensures.cuts (c.new.ensures.rows ∙ c.in_ok-rows.ensures ∙ c.rows.ensures) (c.new.ensures.gone ∙ c.in_ok-gone.ensures.items)
+    c.new.ensures.tests c.new.ensures.keys c.new.ensures.cuts (c.new.ensures.rows ∙ c.in_ok-rows.ensures) (c.new.ensures.gone ∙ c.in_ok-gone.ensures.items)
 
 pub returns-clause-tests : goal.returns-clause-tests
 returns-clause-tests c = ap (λ (v : View). v.tests) (returns-clause-view c)

@@ -1,4 +1,4 @@
-use Rattle.std.proofs.Common.{◌≡◌, ◌+◌, ◌<◌, ◌≤◌, ◌++◌, ◌∷◌, [], ℕ, List, length, get_or, refl, sym, subst, ap, ◌∙◌, arith}
+use Rattle.std.proofs.Common.{◌≡◌, ◌<◌, ◌++◌, ◌∷◌, [], List, length, get_or, refl, sym, subst, ◌∙◌, arith}
 use Rattle.std.specs.Prelude.{Contains, HoldsAt}
 use Rattle.std.proofs.lemmas.List.{length-append}
 use Rattle.alta_codec.specs.declared.location.TheConstants.{TOP}
@@ -8,7 +8,7 @@ use Rattle.alta_search.specs.Answers.{answers_in}
 use Rattle.alta_search.specs.Told.{no_row}
 use Rattle.alta_content.specs.Rows.{end_of}
 use Rattle.alta_content.specs.declared.document.DocRow.{DocRow}
-use Rattle.alta_search.proofs.Walking.{taking_none, taking_step, counted_all, counted_full, past_more, goes_up}
+use Rattle.alta_search.proofs.Walking.{taking_step, counted_all, counted_full, past_more, goes_up}
 use Rattle.alta_search.proofs.walk.tally.Goals as goal
 
 pub returns-in-None-clause-count : goal.returns-in-None-clause-count

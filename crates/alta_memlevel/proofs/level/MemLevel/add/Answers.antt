@@ -1,4 +1,4 @@
-use Rattle.std.proofs.Common.{◌≡◌, ◌++◌, ◌<◌, sym, ap, subst, ◌∙◌, IsTrue}
+use Rattle.std.proofs.Common.{◌≡◌, ◌∷◌, [], ◌++◌, ◌<◌, sym, ap, subst, ◌∙◌, IsTrue}
 use Rattle.std.specs.Cmp.Lexicographic.{slice_cmp}
 use Rattle.std.specs.List.{All}
 use Rattle.std.specs.List.Sorted.{IsStrictlySortedBy}
@@ -7,6 +7,7 @@ use Rattle.alta_content.specs.Rows.{RowsRise, end_of}
 use Rattle.alta_content.specs.declared.content.Content.{Content}
 use Rattle.alta_memlevel.proofs.Contents.{locations_of-term_lists, terms_of_term_lists, some-term_lists, content-push}
 use Rattle.alta_memlevel.proofs.Prefixes.{terms_rise}
+use Rattle.alta_memlevel.proofs.Ends.{ends_rise}
 use Rattle.alta_memlevel.specs.Added.{Added, places_of, HasContent}
 use Rattle.alta_memlevel.specs.Lists.{term_lists}
 use Rattle.alta_content.proofs.Outside.{rows_push}
@@ -28,6 +29,15 @@ returns-clause-added c =
     ∙ ap (λ l. l ++ places_of c.args.row.first t c.args.cells.now) (sym (locations_of-term_lists c.self.inside.lists.entries t)))
     (some-term_lists c.put_cells.new.lists.entries c.in_ok-put_cells.ensures.index.none_empty)
     (subst (λ ts. IsStrictlySortedBy (slice_cmp nat_cmp) ts) (sym (terms_of_term_lists c.put_cells.new.lists.entries)) (terms_rise c.put_cells.new.lists.entries c.in_ok-put_cells.ensures.index.ordered))
+
+pub push-requires : goal.push-requires
+push-requires c =
+    let row = c.args.row in
+    let whole : IsTrue c.self.inside.whole = subst (λ v. IsTrue v.sound) (sym c.self.view_is) c.requires.sound in
+    let later : All (λ r. end_of r < row.first) c.self.inside.rows = subst (λ v. All (λ r. end_of r < row.first) v.content.documents) (sym c.self.view_is) c.requires.place in
+    ends_rise (c.self.inside.rows ++ row ∷ [])
+    (rows_push c.self.inside.rows row (c.self.invariant whole).1
+    (record { positive = c.requires.first; some = c.requires.some; below = c.requires.below }) later)
 
 pub invariant_of-self-2 : goal.invariant_of-self-2
 invariant_of-self-2 c =

@@ -1,6 +1,6 @@
 use Rattle.std.proofs.Common.{◌≡◌, ◌+◌, ◌-◌, ℕ, List, length, refl, ap, arith, ◌∙◌, sym}
 use Rattle.alta_content.specs.declared.document.DocRow.{DocRow}
-use Rattle.alta_store.proofs.FollowingLaws.{ends_before, few_cells, follows_added, numbers_before}
+use Rattle.alta_store.proofs.FollowingLaws.{ends_before, follows_added, numbers_before}
 use Rattle.alta_store.proofs.catalog.Catalog.add.Goals as goal
 
 pub add-requires-clause-number : goal.add-requires-clause-number

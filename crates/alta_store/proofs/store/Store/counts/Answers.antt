@@ -1,4 +1,3 @@
-use Rattle.std.proofs.Common.{◌∙◌}
 use Rattle.alta_store.proofs.FollowingLaws.{counts_are}
 use Rattle.alta_store.proofs.store.Store.counts.Goals as goal
 

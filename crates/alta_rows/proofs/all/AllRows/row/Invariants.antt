@@ -1,6 +1,0 @@
-use Rattle.std.proofs.Common.{◌≡◌, ◌+◌, map, take, length}
-use Rattle.alta_rows.specs.All.{rows_in, joined}
-use Rattle.alta_rows.proofs.all.AllRows.row.Given as goal
-
-abbrev pub invariant-loop-level : goal.invariant-loop-level
-invariant-loop-level l = (l.self ≡ joined (map rows_in l.level-items)) × (l.index ≡ length (joined (map rows_in (take l.level-index l.level-items))) + l.left)
