@@ -150,7 +150,7 @@ module _ (tells : Type 0) (a : DiskState) (lawful : IsLawful tells a) (store : S
         opened_more told =
             let held = agrees.content told in
             let done = subst (λ (place : ℕ). Appended (journal_of held.opened.slot) place entry a.content b.content) held.keeps.place
-                (subst (λ (h : Half). Appended (start_of h) store.tail.place entry a.content b.content) held.keeps.half (appended told)) in
+            (subst (λ (h : Half). Appended (start_of h) store.tail.place entry a.content b.content) held.keeps.half (appended told)) in
             record { is = opened_appended held.opened entry a.content b.content held.keeps.is.is (may told) (here told b.content (step told)) done; plain = held.keeps.is.plain }
 
         module _ (later : Store) (place_is : later.tail.place ≡ store.tail.place + length (record_of entry)) (half_is : later.tail.half ≡ store.tail.half) where

@@ -251,7 +251,11 @@ fn the_later_slot_and_its_half_count(rt: HostRuntime) -> Result<(), Fail> {
     // A deletion list is not opened as yet.
     let mut listed = content.clone()?;
     listed.push(1)?;
-    put(&mut listed, 4_120, b"\0\0\0\0\0\x20\x20\0\0\0\0\0\0\0\0\x01");
+    put(
+        &mut listed,
+        4_120,
+        b"\0\0\0\0\0\x20\x20\0\0\0\0\0\0\0\0\x01",
+    );
     assert_eq!(rt; opened(alloc, listed), Some(StoreFault::Damaged(0)));
     Ok(())
 }
