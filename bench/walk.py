@@ -1,7 +1,7 @@
 #!/usr/bin/env python3
 """Measures searches over coded lists beside plain C that merges the same lists and beside SQLite's FTS5, in the same run and in turns.
 
-usage: bench/walk.py [--program PATH] [--documents N] [--rounds N] [--turns N] [--only LETTERS] [--write FOLDER]
+usage: bench/walk.py [--program PATH] [--documents N] [--least SECONDS] [--turns N] [--only LETTERS] [--write FOLDER]
 
 Makes DOCUMENTS documents (60,000) of 64 words each from a fixed seed: `half` stands in every second one, `other` in a half that chance
 gives, `every` in all, `rare` in one of a thousand, `pa` and `pb` in about a half each, side by side in a tenth, one of the 200 words
@@ -10,8 +10,9 @@ gives, `every` in all, `rare` in one of a thousand, `pa` and `pb` in about a hal
 `gcc -O2` in a temporary folder, and decodes the same streams. FTS5 indexes the same documents in memory: a contentless table by
 `unicode61`, optimized, and for the names a table by number beside it.
 
-Asks nine queries, or those whose letters are given, of all three, which have to find the same number of documents. Prints for each the
-milliseconds of processor time of one search, the best of some turns:
+Asks nine queries, or those whose letters are given, of all three, which have to find the same number of documents. A program is run for one
+round, and for so many more that these take SECONDS (0.1) of processor time or more; the least time of some turns of the one is taken off
+that of the other. Prints for each query the milliseconds of processor time of one search:
 
     count     the program's count over lists that were checked before, and how many times C's and FTS5's time that is
     checked   the same with a check of copies of its lists in each round
@@ -32,7 +33,7 @@ import tempfile
 import time
 
 from leads import write
-from rounds import speed
+from rounds import seconds
 
 WORDS = 64
 CELLS = WORDS + 1
@@ -125,17 +126,54 @@ COUNT = "select count(*) from texts where texts match ?"
 NAMES = "select count(*), sum(length(name)) from texts join names on number = texts.rowid where texts match ?"
 
 
-def asked(base, ask, query, rounds):
-    """The milliseconds of processor time that FTS5 takes for a question."""
-    begun = time.process_time()
-    for _ in range(rounds):
-        base.execute(ask, (query,)).fetchone()
-    return 1000 * (time.process_time() - begun) / rounds
+def run(command, rounds, found):
+    """The processor time of so many rounds of a command, which has to find these numbers in each."""
+    spent, answer = seconds(command(str(rounds)))
+    if answer != [rounds * number for number in found]:
+        sys.exit(f"{command(str(rounds))} finds {answer} in {rounds} rounds in place of {found} in each")
+    return spent
 
 
-def milliseconds(command, rounds, want):
-    """The milliseconds of processor time of a round of a command, which has to print the numbers that are wanted."""
-    return 1 / (1000 * speed(command, 1, rounds, 1, want))
+class Command:
+    """A command for a number of rounds, what each round has to find, and the least times."""
+
+    def __init__(self, command, found, least):
+        self.command, self.found, self.more = command, found, 4
+        self.one = run(command, 1, found)
+        self.all = run(command, 1 + self.more, found)
+        while self.all - self.one < least:
+            self.more *= 4
+            self.all = run(command, 1 + self.more, found)
+
+    def turn(self):
+        self.one = min(self.one, run(self.command, 1, self.found))
+        self.all = min(self.all, run(self.command, 1 + self.more, self.found))
+
+    def milliseconds(self):
+        return 1000 * (self.all - self.one) / self.more
+
+
+class Question:
+    """A question to FTS5, and the least time of the rounds of a turn."""
+
+    def __init__(self, base, ask, query, least):
+        self.base, self.ask, self.query, self.rounds = base, ask, query, 4
+        self.least = self.spent()
+        while self.least < least:
+            self.rounds *= 4
+            self.least = self.spent()
+
+    def spent(self):
+        begun = time.process_time()
+        for _ in range(self.rounds):
+            self.base.execute(self.ask, (self.query,)).fetchone()
+        return time.process_time() - begun
+
+    def turn(self):
+        self.least = min(self.least, self.spent())
+
+    def milliseconds(self):
+        return 1000 * self.least / self.rounds
 
 
 def main():
@@ -143,7 +181,7 @@ def main():
     parser = argparse.ArgumentParser(description=__doc__, formatter_class=argparse.RawDescriptionHelpFormatter)
     parser.add_argument("--program", default=os.path.join(top, "crates/bench_walk/out/bench_walk"))
     parser.add_argument("--documents", type=int, default=60_000)
-    parser.add_argument("--rounds", type=int, default=40)
+    parser.add_argument("--least", type=float, default=0.1)
     parser.add_argument("--turns", type=int, default=5)
     parser.add_argument("--only", default="abcdefghi")
     parser.add_argument("--write")
@@ -165,18 +203,18 @@ def main():
             (found,), (_, letters) = (base.execute(ask, (theirs,)).fetchone() for ask in [COUNT, NAMES])
             ours = lambda mode, checks: lambda rounds: [options.program, mode, checks, rounds, folder, query]
             merge = lambda rounds: [loop, form, rounds, folder, str(options.documents), str(CELLS)] + names
-            turns = [
-                (
-                    milliseconds(ours("count", "once"), options.rounds, [found, 0]),
-                    milliseconds(ours("count", "each"), options.rounds, [found, 0]),
-                    milliseconds(ours("search", "once"), options.rounds, [found, letters or 0]),
-                    milliseconds(merge, 4 * options.rounds, [found]),
-                    asked(base, COUNT, theirs, options.rounds),
-                    asked(base, NAMES, theirs, options.rounds),
-                )
-                for _ in range(options.turns)
+            timed = [
+                Command(ours("count", "once"), [found, 0], options.least),
+                Command(ours("count", "each"), [found, 0], options.least),
+                Command(ours("search", "once"), [found, letters or 0], options.least),
+                Command(merge, [found], options.least),
+                Question(base, COUNT, theirs, options.least),
+                Question(base, NAMES, theirs, options.least),
             ]
-            count, checked, search, plain, fts, named = map(min, zip(*turns))
+            for _ in range(options.turns):
+                for one in timed:
+                    one.turn()
+            count, checked, search, plain, fts, named = (one.milliseconds() for one in timed)
             print(
                 f"{title:10}  {found:6}  {count:8.3f}  {count / plain:4.1f}  {count / fts:7.2f}"
                 f"  {checked:7.3f}  {checked / fts:7.2f}  {search:7.3f}  {search / named:7.2f}"
