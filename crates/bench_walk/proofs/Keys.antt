@@ -2,9 +2,13 @@
 use Rattle.std.proofs.Common.{◌≡◌, ℕ, ◌+◌, ◌-◌, ◌<◌, ◌≤◌, List, [], ◌∷◌, ◌++◌, map, length, get_or, sym, subst, ap, ◌∙◌, arith}
 use Rattle.std.specs.Prelude.{All}
 use Rattle.std.specs.List.{concat}
-use Rattle.std.specs.List.Sorted.{IsStrictlyIncreasing}
+use Rattle.std.specs.List.Sorted.{IsStrictlyIncreasing, IsStrictlySortedBy}
+use Rattle.std.specs.Cmp.Lexicographic.{slice_cmp}
+use Rattle.std.specs.Ordering.{nat_cmp}
+use Rattle.std.proofs.lemmas.Cmp.{nat_list_cmp_total}
+use Rattle.std.proofs.lemmas.Map.Views.{All-before_last}
 use Rattle.std.proofs.lemmas.List.{map_push}
-use Rattle.std.proofs.lemmas.List.Elements.{All-nil, All-map, All-head, All-tail, All-push}
+use Rattle.std.proofs.lemmas.List.Elements.{All-nil, All-cons, All-map, All-head, All-tail, All-push}
 use Rattle.alta_codec.specs.Order.{Precedes}
 use Rattle.alta_codec.specs.Rising.{IsRising}
 use Rattle.alta_codec.specs.declared.location.TheConstants.{TOP}
@@ -65,3 +69,28 @@ put_row rows new row first pushed e some within (rise, above, top) =
       omega (arith, above),
       within,
     )
+
+-- ---- the last of the terms
+
+precedes_both : (a b c : List ℕ) → Precedes a b → Precedes b c → Precedes a c
+precedes_both a b c p q = let o = nat_list_cmp_total in o.trans a b c p q
+
+-- what holds of all keys' terms holds of the terms
+unkeyed : (P : List ℕ → Type 0) (terms : List TermLists) → All P (map term_in (map key_of terms)) → All (λ t. P t.term) terms
+unkeyed P [] h = All-nil (λ (t : TermLists). P t.term)
+unkeyed P (t ∷ ts) h =
+    All-cons (λ (q : TermLists). P q.term) t ts (All-head P t.term (map term_in (map key_of ts)) h)
+    (unkeyed P ts (All-tail P t.term (map term_in (map key_of ts)) h))
+
+-- where the last term comes before another, all do
+pub behind_last : (all front : List TermLists) (last : TermLists) (term : List ℕ) → all ≡ front ++ last ∷ [] → AreKeys (map key_of all) → Precedes last.term term
+    → All (λ t. Precedes t.term term) all
+behind_last all front last term e keyed p =
+    let terms : map term_in (map key_of all) ≡ map term_in (map key_of front) ++ last.term ∷ [] =
+    ap (λ ts. map term_in (map key_of ts)) e ∙ ap (map term_in) (map_push key_of front last) ∙ map_push term_in (map key_of front) (key_of last) in
+    let before : All (λ x. Precedes x last.term) (map term_in (map key_of front)) =
+    All-before_last (slice_cmp nat_cmp) (map term_in (map key_of front)) last.term (subst (IsStrictlySortedBy (slice_cmp nat_cmp)) terms keyed.terms) in
+    let behind : All (λ x. Precedes x term) (map term_in (map key_of front)) =
+    λ k d l. precedes_both (get_or (map term_in (map key_of front)) k d) last.term term (before k d l) p in
+    subst (All (λ (t : TermLists). Precedes t.term term)) (sym e)
+    (All-push (λ (t : TermLists). Precedes t.term term) front last (unkeyed (λ x. Precedes x term) front behind) p)

@@ -118,14 +118,13 @@ fn precedes(term: &[u8], other: &[u8]) -> bool
 
 /// Whether the term comes behind all of these.
 fn follows(terms: &[TermLists], term: &[u8]) -> bool
+    requires { AreKeys (map key_of terms.now) }
     ensures { IsTrue result → All (λ t. Precedes t.term term.now) terms.now }
 {
-    for other in terms {
-        if !precedes(other.term.as_slice(), term) {
-            return false;
-        }
+    match terms.split_last() {
+        Some((last, _front)) => precedes(last.term.as_slice(), term),
+        None => true,
     }
-    true
 }
 
 /// Adds the term of some files. One that is not behind all that are there counts as want of memory.

@@ -1,18 +1,11 @@
-use Rattle.std.proofs.Common.{◌≤◌, ◌<◌, length, get_or, subst, rules}
-use Rattle.std.specs.Prelude.{All}
-use Rattle.std.proofs.lemmas.List.{take_all}
-use Rattle.std.proofs.lemmas.List.Elements.{All-more}
+use Rattle.std.proofs.Common.{◌≡◌, ◌++◌, ◌∷◌, [], rules}
+use Rattle.std.specs.Prelude.{IsTrue}
 use Rattle.alta_codec.specs.Order.{Precedes}
-use Rattle.alta_search.specs.declared.lists.TermLists.{TermLists}
+use Rattle.bench_walk.proofs.Keys.{behind_last}
 use Rattle.bench_walk.proofs.lists.follows.Goals as goal
 
-pub loop-other-preserved : goal.loop-other-preserved
-loop-other-preserved c =
-    let inside : c.loop-other.other-index < length c.args.terms.now = search rules in
-    let here : Precedes (get_or c.args.terms.now c.loop-other.other-index c.other-item.result).term c.args.term.now = search rules in
-    All-more (λ (t : TermLists). Precedes t.term c.args.term.now) c.args.terms.now c.loop-other.other-index c.other-item.result inside c.loop-other.invariant here
-
-pub returns : goal.returns
-returns c =
-    let all : length c.args.terms.now ≤ c.loop-other.other-index = search rules in
-    λ _. subst (All (λ (t : TermLists). Precedes t.term c.args.term.now)) (take_all c.loop-other.other-index c.args.terms.now all) c.loop-other.invariant
+pub returns-in-Some : goal.returns-in-Some
+returns-in-Some c =
+    let split : c.args.terms.now ≡ c.in-Some._front.now ++ c.in-Some.last.now ∷ [] = search rules in
+    let precede : IsTrue c.precedes.result → Precedes c.in-Some.last.now.term c.args.term.now = search rules in
+    λ yes. behind_last c.args.terms.now c.in-Some._front.now c.in-Some.last.now c.args.term.now split c.requires (precede yes)
