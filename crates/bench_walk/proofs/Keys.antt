@@ -1,0 +1,96 @@
+-- Terms that are put behind one another.
+use Rattle.std.proofs.Common.{◌≡◌, ℕ, ◌+◌, ◌-◌, ◌<◌, ◌≤◌, List, [], ◌∷◌, ◌++◌, map, length, get_or, sym, subst, ap, ◌∙◌, arith}
+use Rattle.std.specs.Prelude.{All}
+use Rattle.std.specs.List.{concat}
+use Rattle.std.specs.List.Sorted.{IsStrictlyIncreasing, IsStrictlySortedBy}
+use Rattle.std.specs.Cmp.Lexicographic.{slice_cmp}
+use Rattle.std.specs.Ordering.{nat_cmp}
+use Rattle.std.proofs.lemmas.Cmp.{nat_list_cmp_total}
+use Rattle.std.proofs.lemmas.Map.Views.{All-before_last}
+use Rattle.std.proofs.lemmas.List.{map_push}
+use Rattle.std.proofs.lemmas.List.Elements.{All-nil, All-cons, All-map, All-head, All-tail, All-push}
+use Rattle.alta_codec.specs.Order.{Precedes}
+use Rattle.alta_codec.specs.Rising.{IsRising}
+use Rattle.alta_codec.specs.declared.location.TheConstants.{TOP}
+use Rattle.alta_content.specs.Rows.{end_of}
+use Rattle.alta_content.specs.declared.document.DocRow.{DocRow}
+use Rattle.alta_compound.specs.Unions.{RisesAbove, rising_from_above, above_from_rising}
+use Rattle.alta_search.specs.Lists.{IsCut, AreKeys, key_of, term_in, term_lists}
+use Rattle.alta_search.specs.declared.lists.TermLists.{TermLists}
+use Rattle.alta_search.proofs.Cuts.{keys_none, keys_push}
+
+pub none_cut : (terms : List TermLists) → terms ≡ [] → IsCut (map term_lists terms)
+none_cut terms e = subst (λ ts. IsCut (map term_lists ts)) (sym e) (All-nil (λ levels. All (λ (list : List ℕ). 0 < length list) levels × IsRising (concat levels)))
+
+pub none_keyed : (terms : List TermLists) → terms ≡ [] → AreKeys (map key_of terms)
+none_keyed terms e = subst (λ ts. AreKeys (map key_of ts)) (sym e) keys_none
+
+-- a term behind all others
+pub put_keyed : (old new : List TermLists) (t : TermLists) (term : List ℕ) → new ≡ old ++ t ∷ [] → AreKeys (map key_of old) → All (λ q. Precedes q.term term) old
+    → (key_of t).term ≡ term → IsStrictlyIncreasing (key_of t).levels → AreKeys (map key_of new)
+put_keyed old new t term pushed keyed behind e levels =
+    let named : All (λ q. Precedes q (key_of t).term) (map term_in (map key_of old)) =
+    subst (λ x. All (λ q. Precedes q x) (map term_in (map key_of old))) (sym e)
+    (All-map (λ q. Precedes q term) term_in (map key_of old) (All-map (λ k. Precedes (term_in k) term) key_of old behind)) in
+    subst AreKeys (sym (ap (map key_of) pushed ∙ map_push key_of old t)) (keys_push (map key_of old) (key_of t) keyed named levels)
+
+-- ---- locations that are put behind one another
+
+rises_push : (low : ℕ) (xs : List ℕ) (x : ℕ) → RisesAbove low xs → All (λ y. y < x) xs → low < x → x < TOP → RisesAbove low (xs ++ x ∷ [])
+rises_push low [] x r h l t = (l, t, tt)
+rises_push low (y ∷ ys) x (a, b, r) h l t = (a, b, rises_push y ys x r (All-tail (λ z. z < x) y ys h) (All-head (λ z. z < x) y ys h) t)
+
+-- the list rises, and its elements are below the bound
+abbrev pub RisesBelow : ℕ → List ℕ → Type 0
+RisesBelow bound xs = IsRising xs × All (λ y. y < bound) xs
+
+pub none_rise : (bound : ℕ) → RisesBelow bound []
+none_rise bound = (rising_from_above [] tt, All-nil (λ y. y < bound))
+
+-- one more, at or above the bound
+pub put_rising : (xs ys : List ℕ) (bound x more : ℕ) → ys ≡ xs ++ x ∷ [] → RisesBelow bound xs → bound ≤ x → 0 < x → x < TOP → x < more → RisesBelow more ys
+put_rising xs ys bound x more pushed (r, h) le some top lt =
+    subst (RisesBelow more) (sym pushed) (
+      rising_from_above (xs ++ x ∷ []) (rises_push 0 xs x (above_from_rising xs r) (λ k d l. below_up bound x (get_or xs k d) (h k d l) le) some top),
+      All-push (λ y. y < more) xs x (λ k d l. below_up bound more (get_or xs k d) (h k d l) (omega arith)) lt,
+    )
+  where
+    below_up : (a b y : ℕ) → y < a → a ≤ b → y < b
+    below_up a b y p q = omega arith
+
+-- the row of one more document, whose cells begin at the bound
+pub put_row : (rows new : List DocRow) (row : DocRow) (first : ℕ) → new ≡ rows ++ row ∷ [] → row.first ≡ first → 0 < row.cells → first + row.cells ≤ TOP
+    → RisesBelow first (map end_of rows) × (0 < first) × (first ≤ TOP)
+    → RisesBelow (first + row.cells) (map end_of new) × (0 < first + row.cells) × (first + row.cells ≤ TOP)
+put_row rows new row first pushed e some within (rise, above, top) =
+    let end : end_of row ≡ first + row.cells - 1 = ap (λ f. f + row.cells - 1) e in (
+      put_rising (map end_of rows) (map end_of new) first (end_of row) (first + row.cells) (ap (map end_of) pushed ∙ map_push end_of rows row) rise
+          (omega (arith, end, some)) (omega (arith, end, some, above)) (omega (arith, end, some, within)) (omega (arith, end, some)),
+      omega (arith, above),
+      within,
+    )
+
+-- ---- the last of the terms
+
+precedes_both : (a b c : List ℕ) → Precedes a b → Precedes b c → Precedes a c
+precedes_both a b c p q = let o = nat_list_cmp_total in o.trans a b c p q
+
+-- what holds of all keys' terms holds of the terms
+unkeyed : (P : List ℕ → Type 0) (terms : List TermLists) → All P (map term_in (map key_of terms)) → All (λ t. P t.term) terms
+unkeyed P [] h = All-nil (λ (t : TermLists). P t.term)
+unkeyed P (t ∷ ts) h =
+    All-cons (λ (q : TermLists). P q.term) t ts (All-head P t.term (map term_in (map key_of ts)) h)
+    (unkeyed P ts (All-tail P t.term (map term_in (map key_of ts)) h))
+
+-- where the last term comes before another, all do
+pub behind_last : (all front : List TermLists) (last : TermLists) (term : List ℕ) → all ≡ front ++ last ∷ [] → AreKeys (map key_of all) → Precedes last.term term
+    → All (λ t. Precedes t.term term) all
+behind_last all front last term e keyed p =
+    let terms : map term_in (map key_of all) ≡ map term_in (map key_of front) ++ last.term ∷ [] =
+    ap (λ ts. map term_in (map key_of ts)) e ∙ ap (map term_in) (map_push key_of front last) ∙ map_push term_in (map key_of front) (key_of last) in
+    let before : All (λ x. Precedes x last.term) (map term_in (map key_of front)) =
+    All-before_last (slice_cmp nat_cmp) (map term_in (map key_of front)) last.term (subst (IsStrictlySortedBy (slice_cmp nat_cmp)) terms keyed.terms) in
+    let behind : All (λ x. Precedes x term) (map term_in (map key_of front)) =
+    λ k d l. precedes_both (get_or (map term_in (map key_of front)) k d) last.term term (before k d l) p in
+    subst (All (λ (t : TermLists). Precedes t.term term)) (sym e)
+    (All-push (λ (t : TermLists). Precedes t.term term) front last (unkeyed (λ x. Precedes x term) front behind) p)

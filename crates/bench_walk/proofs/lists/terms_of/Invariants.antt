@@ -1,0 +1,6 @@
+use Rattle.std.proofs.Common.{map}
+use Rattle.alta_search.specs.Lists.{term_lists, key_of, IsCut, AreKeys}
+use Rattle.bench_walk.proofs.lists.terms_of.Given as goal
+
+abbrev pub invariant-loop-files : goal.invariant-loop-files
+invariant-loop-files l = IsCut (map term_lists l.terms.items) × AreKeys (map key_of l.terms.items)
