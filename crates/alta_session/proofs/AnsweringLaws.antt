@@ -12,10 +12,10 @@ use Rattle.alta_session.specs.Cursors.{Turn, Turns}
 use Rattle.alta_session.specs.Fullness.{bytes_of_change}
 use Rattle.alta_session.specs.Machine.{Machine, changed_by, turned_by, IsRefusal}
 use Rattle.alta_session.specs.declared.session.Session.{Session}
-use Rattle.alta_session.proofs.AgreementLaws.{agrees_changed}
+use Rattle.alta_session.proofs.AgreementLaws.{agrees_changed, knows_state}
 use Rattle.alta_session.proofs.FullnessLaws.{none_added}
-use Rattle.alta_store.specs.Agreement.{Agrees, Knows}
-use Rattle.alta_store.specs.Meaning.{StandsForEither}
+use Rattle.alta_store.specs.Agreement.{Knows}
+use Rattle.alta_store.specs.Meaning.{StandsFor, StandsForEither}
 use Rattle.alta_store.specs.declared.fault.StoreFault.{StoreFault}
 use Rattle.alta_store.specs.declared.fault.StoreFault.TheVariants.{Disk, Memory, Full}
 use Rattle.alta_store.specs.declared.store.Store.{Store}
@@ -45,8 +45,8 @@ pub same_fault : {T E : Type 0} (r : Result T E) (e f : E) → r ≡ Err e → r
 same_fault r e f is other = cc (sym is ∙ other)
 
 -- the disk stays as it is
-pub stays : (tells : Type 0) (d : DiskState) (store : Store) (s : State) → IsLawful tells d → Agrees tells d store s → LeavesOnly (StandsForEither s s) d d
-stays tells d store s lawful agrees = leaves_start tells d (StandsForEither s s) lawful (λ c here. inl (images_stand tells d store s lawful agrees c here))
+pub stays : (tells : Type 0) (d : DiskState) (session : Session) (m : Machine) → IsLawful tells d → AgreesOn tells d session m → LeavesOnly (StandsForEither m.state m.state) d d
+stays tells d session m lawful agrees = leaves_start tells d (StandsForEither m.state m.state) lawful (λ c here. inl (images_stand tells d m.state lawful agrees.store.settled agrees.stands c here))
 
 -- The machine stays as it is, and this is the reply.
 pub record Rests (m : Machine) (stepped : Machine × List ℕ) (text : List ℕ) : Type 0 where
@@ -65,13 +65,14 @@ looked_at tells state disk session bytes result steps text lawful can memory res
   from = λ m tell agrees.
       let rest : Rests m (steps m) (text m) = (rests m tell agrees).0 in
       let now : AgreesOn tells (state disk) session (steps m).0 = record {
-        store = subst (λ (s : State). Agrees tells (state disk) session.store s) (sym rest.state) agrees.store;
+        store = agrees.store;
+        stands = λ told. subst (λ (s : State). StandsFor s (state disk).content) (sym rest.state) (agrees.stands told);
         cursors = subst (λ (l : List OpenAnswers). AreOpen session.cursors l) (sym rest.cursors) agrees.cursors;
       } in
       record {
         reply = IfOk-weaker result (λ r. r ≡ text m) (λ r. r ≡ (steps m).1) (λ r is. is ∙ sym rest.reply) (rests m tell agrees).1;
         agrees = if_so result (AgreesOn tells (state disk) session (steps m).0) now;
-        images = subst (λ (s : State). LeavesOnly (StandsForEither m.state s) (state disk) (state disk)) (sym rest.state) (stays tells (state disk) session.store m.state lawful agrees.store);
+        images = subst (λ (s : State). LeavesOnly (StandsForEither m.state s) (state disk) (state disk)) (sym rest.state) (stays tells (state disk) session m lawful agrees);
         refused = λ refusal. (refl, memory);
         need = λ need gap is. let wanting : Full need gap ≡ Memory = is_memory result (Full need gap) memory is in absurd cc;
         room = if_so result _ (omega (arith, none_written bytes m.state (steps m).0.state rest.state));
@@ -139,7 +140,7 @@ step_rests m stepped text is = record { state = ap (λ (p : Machine × List ℕ)
 -- The state was changed on the disk, and this is the reply.
 pub record Changes (tells : Type 0) (disk disk_now : DiskState) (session session_now : Session) (bytes : ℕ) (text : List ℕ) (m : Machine) (change : State × List ℕ) : Type 0 where
   pub reply : change.1 ≡ text
-  pub agrees : Agrees tells disk_now session_now.store change.0
+  pub stands : StandsFor change.0 disk_now.content
   pub images : LeavesOnly (StandsForEither m.state change.0) disk disk_now
   pub room : room_in session_now + bytes_of_change bytes m.state change.0 ≡ room_in session
 
@@ -151,7 +152,7 @@ changed tells state disk disk_now session session_now bytes result change text r
   from = λ m tell agrees.
       let one : Changes tells (state disk) (state disk_now) session session_now bytes text m (change m.state) = changes m tell agrees in record {
         reply = IfOk-weaker result (λ r. r ≡ text) (λ r. r ≡ (change m.state).1) (λ r is. is ∙ sym one.reply) reply.reply;
-        agrees = if_so result _ (agrees_changed tells (state disk_now) session_now m (change m.state) (subst (λ (l : List OpenCursor). AreOpen l m.cursors) (sym same_cursors) agrees.cursors) one.agrees);
+        agrees = if_so result _ (agrees_changed tells (state disk_now) session_now m (change m.state) (subst (λ (l : List OpenCursor). AreOpen l m.cursors) (sym same_cursors) agrees.cursors) can.agrees (λ told. one.stands));
         images = one.images;
         refused = λ refusal. absurd (no_refusal (subst IsRefusal one.reply refusal));
         need = λ need gap is. let wanting : Full need gap ≡ Memory = is_memory result (Full need gap) reply.memory is in absurd cc;
@@ -177,24 +178,16 @@ pub turned : {D : Type 0} (tells : Type 0) (state : D → DiskState) (disk : D) 
 turned tells state disk session cursors bytes result steps turn lawful can memory refused turns is =
     answers_by tells state disk disk session (with_cursors session cursors) bytes result (λ m. turned_by m (turn m.state m.cursors)) steps (λ m. sym (is m)) (record {
       from = λ m tell agrees.
-          let one = turns m.state m.cursors (agrees.store.content tell).knows agrees.cursors in
+          let one = turns m.state m.cursors (knows_state tells (state disk) session m agrees tell) agrees.cursors in
           record {
             reply = one.reply;
-            agrees = ok_weaker result (AreOpen cursors (turn m.state m.cursors).0) _ (λ open_now. record { store = agrees.store; cursors = open_now }) one.open_now;
-            images = stays tells (state disk) session.store m.state lawful agrees.store;
+            agrees = ok_weaker result (AreOpen cursors (turn m.state m.cursors).0) _ (λ open_now. record { store = agrees.store; stands = agrees.stands; cursors = open_now }) one.open_now;
+            images = stays tells (state disk) session m lawful agrees;
             refused = λ refusal. (refl, memory);
             need = λ need gap is. let wanting : Full need gap ≡ Memory = is_memory result (Full need gap) memory is in absurd cc;
             room = if_so result _ (omega (arith, none_added bytes m.state));
           };
-      can =
-          let m = can.agrees.0 in
-          let agrees = can.agrees.1 in
-          let intact = agrees.store.intact in
-          ok_weaker result (AreOpen cursors (turn intact.0 m.cursors).0) _ (λ open_now. record {
-            sound = can.sound;
-            agrees = (record { state = m.state; cursors = (turn intact.0 m.cursors).0 }, record { store = agrees.store; cursors = open_now });
-            limit = can.limit;
-          }) (turns intact.0 m.cursors intact.1 agrees.cursors).open_now;
+      can = if_so result (CanAnswer tells (state disk) (with_cursors session cursors)) (record { sound = can.sound; agrees = can.agrees; limit = can.limit });
       unchanged = IfOk-weaker result (λ reply. IsRefusal reply → cursors ≡ session.cursors) _ (λ reply same refusal. (refl, ap (with_cursors session) (same refusal))) refused;
       only = err_weaker result (λ e. e ≡ Memory) _ (λ e is. inl (inl is)) memory;
       full = λ need gap tell is. let wanting : Full need gap ≡ Memory = is_memory result (Full need gap) memory is in absurd cc;

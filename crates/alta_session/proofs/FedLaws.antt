@@ -33,7 +33,7 @@ leaves_on a b c m xs ys one two =
     (leaves_as b c (StandsAfterSome (after m xs) ys) (StandsAfterSome m (xs ++ ys)) two (λ z here. some_on m xs ys z here))
 
 pub leaves_none : (tells : Type 0) (d : DiskState) (session : Session) (m : Machine) (lines : List (List ℕ)) → IsLawful tells d → AgreesOn tells d session m → LeavesOnly (StandsAfterSome m lines) d d
-leaves_none tells d session m lines lawful agrees = leaves_start tells d (StandsAfterSome m lines) lawful (λ c here. some_none m lines c (images_stand tells d session.store m.state lawful agrees.store c here))
+leaves_none tells d session m lines lawful agrees = leaves_start tells d (StandsAfterSome m lines) lawful (λ c here. some_none m lines c (images_stand tells d m.state lawful agrees.store.settled agrees.stands c here))
 
 pub fed_none : (tells : Type 0) (told : Option (List Event)) (d : DiskState) (session : Session) → IsLawful tells d → Fed tells told told d d session session []
 fed_none tells told d session lawful = record {
@@ -113,7 +113,7 @@ stops_none tells told d session lines status lawful not_full = record {
   given = [];
   gave = gives_none told;
   each = λ m tell agrees. record {
-    progress = progress_none m lines d.images (images_stand tells d session.store m.state lawful agrees.store);
+    progress = progress_none m lines d.images (images_stand tells d m.state lawful agrees.store.settled agrees.stands);
     images = leaves_none tells d session m lines lawful agrees;
     full = λ need gap is. absurd (not_full need gap is);
   };
@@ -125,7 +125,7 @@ stops_full tells a b d e s0 s1 lines status lawful not_full fed = record {
   given = fed.given;
   gave = fed.gave;
   each = λ m tell agrees. let one : FedFrom tells d e s0 s1 lines fed.given m = fed.each m tell agrees in record {
-    progress = subst (λ (l : List ℕ). Progress m lines l e.images) (sym one.given_is) (progress_full m lines e.images (images_stand tells e s1.store (after m lines).state lawful one.agrees.store));
+    progress = subst (λ (l : List ℕ). Progress m lines l e.images) (sym one.given_is) (progress_full m lines e.images (images_stand tells e (after m lines).state lawful one.agrees.store.settled one.agrees.stands));
     images = one.images;
     full = λ need gap is. absurd (not_full need gap is);
   };

@@ -264,7 +264,7 @@ runs_failed tells limit a b c la lb lc e f s0 s1 kept taken status lawful goes s
       last = λ past. absurd (omega (arith, goes.within));
       each = λ m tell agrees. let one : GoingFrom tells e f s0 s1 run m = goes.each m tell agrees in
           runs_from limit e f s0 run status m one.in_time
-          (subst (λ (l : List (List ℕ)). Progress m l (given_in run) f.images) (sym lines) (subst (λ (l : List ℕ). Progress m (whole bytes) l f.images) (sym one.given_is) (progress_full m (whole bytes) f.images (images_stand tells f s1.store (after m (whole bytes)).state lawful one.agrees.store))))
+          (subst (λ (l : List (List ℕ)). Progress m l (given_in run) f.images) (sym lines) (subst (λ (l : List ℕ). Progress m (whole bytes) l f.images) (sym one.given_is) (progress_full m (whole bytes) f.images (images_stand tells f (after m (whole bytes)).state lawful one.agrees.store.settled one.agrees.stands))))
           (λ done. absurd (not_done done)) (subst (λ (l : List (List ℕ)). LeavesOnly (StandsAfterSome m l) e f) (sym lines) one.images)
           (full_exactly (room_in s0) m (lines_in limit run) (given_in run) status (λ need gap is. absurd (not_full need gap is)) (inr (omega (arith, one.room, ap (λ (l : List (List ℕ)). records_bytes m l) lines))));
     }

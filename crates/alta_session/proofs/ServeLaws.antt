@@ -55,7 +55,7 @@ older tells d m c lawful passes here =
 
 -- the room of a session is what the journal of its disk has left
 room_is : (tells : Type 0) (d : DiskState) (session : Session) (m : Machine) (room : ℕ) → tells → AgreesOn tells d session m → HasRoom d.content room → room_in session ≡ room
-room_is tells d session m room tell agrees left = room_held session.store m.state d.content room (agrees.store.content tell) left
+room_is tells d session m room tell agrees left = room_held session.store d.content room (agrees.store.content tell) left
 
 -- it was opened, and then it ran
 pub serves_opened : (tells : Type 0) (limit : ℕ) (told told_now : Option (List Event)) (left left_now : Option (List ℕ)) (d m e : DiskState) (session : Session) (status : Status) → IsLawful tells d → Passes Same d m → ((s : State) → tells → StandsFor s d.content → AgreesOn tells m session (started_at s)) → (tells → m.content ≡ d.content)

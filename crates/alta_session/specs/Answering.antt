@@ -3,20 +3,21 @@ use Rattle.std.specs.Prelude.{◌≡◌, ◌⊎◌, ◌+◌, ◌≤◌, ℕ, Lis
 use Rattle.alta_codec.specs.Faults.{Rose}
 use Rattle.alta_disk.specs.Disk.{DiskState, LeavesOnly}
 use Rattle.alta_journal.specs.declared.places.TheConstants.{HEAD_BYTES}
-use Rattle.alta_session.specs.Agreement.{AgreesOn, AgreesOnSome, IsSound, room_in}
+use Rattle.alta_session.specs.Agreement.{AgreesOn, IsSound, room_in}
 use Rattle.alta_session.specs.Fullness.{IsFull, bytes_of_change}
 use Rattle.alta_session.specs.Machine.{Machine, IsRefusal}
 use Rattle.alta_session.specs.declared.session.Session.{Session}
+use Rattle.alta_store.specs.Agreement.{Agrees}
 use Rattle.alta_store.specs.Answers.{IsOutside}
 use Rattle.alta_store.specs.Meaning.{StandsForEither}
 use Rattle.alta_store.specs.declared.fault.StoreFault.{StoreFault}
 use Rattle.alta_store.specs.declared.fault.StoreFault.TheVariants.{Disk, Memory, Full}
 
--- A line may be answered: no call of the session has failed, it agrees with its disk on some machine, and the disk may be as
--- long as the smallest index.
+-- A line may be answered: no call of the session has failed, its store agrees with its disk, and the disk may be as long as the
+-- smallest index.
 pub record CanAnswer (tells : Type 0) (disk : DiskState) (session : Session) : Type 0 where
   pub sound : IsSound session
-  pub agrees : AgreesOnSome tells disk session
+  pub agrees : Agrees tells disk session.store
   pub limit : HEAD_BYTES ≤ disk.limit
 
 -- What was answered is this text, or memory was wanting.

@@ -36,13 +36,13 @@ use Rattle.alta_root.specs.declared.root.Roots.{Roots}
 use Rattle.alta_root.specs.declared.slot.Slot.{Slot}
 use Rattle.alta_root.proofs.SlotLaws.{one_counts}
 use Rattle.alta_images.specs.Views.{start_at}
-use Rattle.alta_store.specs.Meaning.{IsPlain, StandsFor}
+use Rattle.alta_store.specs.Meaning.{IsPlain, StandsFor, state_in}
 use Rattle.alta_store.specs.declared.fault.StoreFault.{StoreFault}
 use Rattle.alta_store.specs.declared.fault.StoreFault.TheVariants.{NoRoot, Damaged}
 use Rattle.alta_store.specs.declared.store.Store.{Store}
 use Rattle.alta_store.proofs.Agreements.{stands_of}
 use Rattle.alta_store.proofs.Commits.{journal_fits}
-use Rattle.alta_store.proofs.Plain.{broken_indexed, no_levels, no_list, one_place, one_state, stands_indexed, stands_unbroken}
+use Rattle.alta_store.proofs.Plain.{broken_indexed, no_levels, no_list, one_place, stands_indexed, stands_unbroken}
 
 -- the entries of placed ones
 entries_in-placed : (place : ℕ) (entries : List Entry) → entries_in (placed place entries) ≡ entries
@@ -95,32 +95,24 @@ module _ (content : List ℕ) (slot : Slot) (root : Root) (counts : Counts slot 
   opened_with entries tail = record { slot = slot; root = root; deleted = []; levels = []; entries = entries; tail = tail }
 
   pub loads : (store : Store) (found : List Placed) → store.tail.half ≡ half_of slot → IsReplay (journal_of slot) found store.tail.place content
-      → AllowsAll (start_at root.next_number) (entries_in found) × Knows store (after_entries (start_at root.next_number) (entries_in found)) → Holds store (after_entries (start_at root.next_number) (entries_in found)) content
+      → AllowsAll (start_at root.next_number) (entries_in found) × Knows store (after_entries (start_at root.next_number) (entries_in found)) → Holds store content
   loads store found half (entries, is, ends) (allowed, knows) =
       let same : entries_in found ≡ entries = ap entries_in is ∙ entries_in-placed (journal_of slot) entries in
       let start = start_at root.next_number in
       record {
         opened = opened_with entries store.tail.place;
-        keeps = record {
-          is = record {
-            is = record {
-              counts = counts;
-              named = record {
-                list = levels.list;
-                tables = levels.tables;
-                ends = refl;
-                journal = ends;
-                known = known_of (after_entries start entries);
-                admitted = replayed_allows start (journal_of slot) entries (subst (AllowsAll start) same allowed);
-              };
-            };
-            plain = plain;
+        is = record {
+          counts = counts;
+          named = record {
+            list = levels.list;
+            tables = levels.tables;
+            ends = refl;
+            journal = ends;
+            known = known_of (after_entries start entries);
+            admitted = replayed_allows start (journal_of slot) entries (subst (AllowsAll start) same allowed);
           };
-          half = half;
-          place = refl;
         };
-        state_is = ap (after_entries start) (sym same);
-        knows = knows;
+        keeps = record { plain = plain; half = half; place = refl; knows = subst (λ (es : List Entry). Knows store (after_entries start es)) same knows };
       }
 
   pub damaged_record : (place : ℕ) → IsBroken (journal_of slot) place content → IsBrokenAt content place
@@ -185,18 +177,13 @@ pub only_synced : (tells : Type 0) (a b : DiskState) → IsLawful tells b → On
 only_synced tells a b lawful only same = λ c here. only c here ∙ sym (same (lawful.told c here))
 
 module _ (tells : Type 0) (content : List ℕ) (r : Result Store StoreFault)
-    (loaded : IfOk r (λ store. (s : State) × (tells → Holds store s content)))
+    (loaded : IfOk r (λ store. tells → Holds store content))
     (no_root : tells → r ≡ Err NoRoot → HasNoRoot content)
     (damaged : tells → (place : ℕ) → r ≡ Err (Damaged place) → IsBrokenAt content place)
     (only : IfErr r (λ e. IsOutside e ⊎ ((e ≡ NoRoot) ⊎ ((place : ℕ) × (e ≡ Damaged place))))) where
-  -- what a store holds that came of it
-  held : (store : Store) → r ≡ Ok store → tells → (s : State) × Holds store s content
-  held store e told = let h = IfOk-at_ok (λ store. (s : State) × (tells → Holds store s content)) e loaded in (h.0, h.1 told)
-
-  pub held_as : (s : State) (store : Store) → (tells → StandsFor s content) → r ≡ Ok store → tells → Holds store s content
-  held_as s store stands e told =
-      let h = held store e told in
-      subst (λ (t : State). Holds store t content) (one_state h.0 s content (stands_of store h.0 content h.1) (stands told)) h.1
+  -- what a store goes on with that came of it
+  pub held : (store : Store) → r ≡ Ok store → tells → Holds store content
+  held store e told = IfOk-at_ok (λ store. tells → Holds store content) e loaded told
 
   by_error : (e : StoreFault) → r ≡ Err e → IsOutside e ⊎ ((e ≡ NoRoot) ⊎ ((place : ℕ) × (e ≡ Damaged place)))
   by_error e is = IfErr-at_err (λ e. IsOutside e ⊎ ((e ≡ NoRoot) ⊎ ((place : ℕ) × (e ≡ Damaged place)))) is only
@@ -215,7 +202,7 @@ module _ (tells : Type 0) (content : List ℕ) (r : Result Store StoreFault)
   rooted told none = cases r refl
     where
       cases : (q : Result Store StoreFault) → r ≡ q → AnswersFault r NoRoot
-      cases (Ok store) is = let h = held store is told in absurd (stands_indexed h.0 content (stands_of store h.0 content h.1) none)
+      cases (Ok store) is = let h = held store is told in absurd (stands_indexed (state_in h.opened) content (stands_of store content h) none)
       cases (Err e) is = ⊎_elim (λ out. answers e out is NoRoot)
           (λ more. ⊎_elim (λ same. inl (is ∙ ap Err same)) (λ (place, at). absurd (broken_indexed content place (damaged told place (is ∙ ap Err at)) none)) more) (by_error e is)
 
@@ -224,7 +211,7 @@ module _ (tells : Type 0) (content : List ℕ) (r : Result Store StoreFault)
   broken_at place told broken = cases r refl
     where
       cases : (q : Result Store StoreFault) → r ≡ q → AnswersFault r (Damaged place)
-      cases (Ok store) is = let h = held store is told in absurd (stands_unbroken h.0 content place (stands_of store h.0 content h.1) broken)
+      cases (Ok store) is = let h = held store is told in absurd (stands_unbroken (state_in h.opened) content place (stands_of store content h) broken)
       cases (Err e) is = ⊎_elim (λ out. answers e out is (Damaged place))
           (λ more. ⊎_elim (λ none. absurd (broken_indexed content place broken (no_root told (is ∙ ap Err none))))
           (λ (spot, at). inl (is ∙ ap Err at ∙ ap (λ (p : ℕ). Err (Damaged p)) (one_place content spot place (damaged told spot (is ∙ ap Err at)) broken))) more) (by_error e is)

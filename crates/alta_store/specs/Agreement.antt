@@ -1,7 +1,7 @@
 -- A store and its disk.
 use Rattle.std.specs.Prelude.{◌≡◌, ℕ, ◌+◌, ◌-◌, ◌≤◌, true, List, Bool}
 use Rattle.alta_disk.specs.Disk.{DiskState, Only}
-use Rattle.alta_images.specs.Opened.{Opened, half_of, journal_of}
+use Rattle.alta_images.specs.Opened.{Opened, IsOpened, half_of, journal_of}
 use Rattle.alta_journal.specs.Journal.{EndsAt}
 use Rattle.alta_journal.specs.Places.{left_behind, start_of}
 use Rattle.alta_journal.specs.declared.entry.Entry.{Entry}
@@ -11,34 +11,34 @@ use Rattle.alta_root.specs.Slots.{Counts}
 use Rattle.alta_root.specs.declared.root.Root.{Root}
 use Rattle.alta_root.specs.declared.slot.Slot.{Slot}
 use Rattle.alta_store.specs.Following.{Follows}
-use Rattle.alta_store.specs.Meaning.{IsPlainly, state_in}
+use Rattle.alta_store.specs.Meaning.{IsPlain, state_in}
 use Rattle.alta_store.specs.declared.store.Store.{Store}
 
 -- the store's catalog stands at this state
 abbrev pub Knows : Store → State → Type 0
 Knows store s = Follows store.catalog s
 
--- The image is opened as this, and the store goes on where its journal ends.
-pub record Keeps (store : Store) (opened : Opened) (image : List ℕ) : Type 0 where
-  pub is : IsPlainly opened image
+-- The store goes on with what is opened, where its journal ends, and knows the state that it speaks of.
+pub record Keeps (store : Store) (opened : Opened) : Type 0 where
+  pub plain : IsPlain opened.root
   pub half : store.tail.half ≡ half_of opened.slot
   pub place : store.tail.place ≡ opened.tail
+  pub knows : Knows store (state_in opened)
 
--- What the store keeps is what this image says, and it stands for this state.
-pub record Holds (store : Store) (s : State) (image : List ℕ) : Type 0 where
+-- The image is opened, and the store goes on with what it is opened as.
+pub record Holds (store : Store) (image : List ℕ) : Type 0 where
   pub opened : Opened
-  pub keeps : Keeps store opened image
-  pub state_is : state_in opened ≡ s
-  pub knows : Knows store s
+  pub is : IsOpened opened image
+  pub keeps : Keeps store opened
 
 -- the store's catalog stands at some state, also where the disk does not tell what it holds
 abbrev pub IsIntact : Store → Type 0
 IsIntact store = (s : State) × Knows store s
 
--- Store and disk agree on this state: nothing is pending.
-pub record Agrees (tells : Type 0) (disk : DiskState) (store : Store) (s : State) : Type 0 where
+-- Store and disk agree: nothing is pending, and the store goes on with what the content is opened as.
+pub record Agrees (tells : Type 0) (disk : DiskState) (store : Store) : Type 0 where
   pub settled : Only disk.content disk.images
-  pub content : tells → Holds store s disk.content
+  pub content : tells → Holds store disk.content
   pub intact : IsIntact store
 
 -- The journal of the root that counts has so many bytes left behind the gate of its next record.
@@ -59,8 +59,8 @@ room_of store = left_behind (start_of store.tail.half) store.tail.place
 abbrev pub is_sound : Store → Bool
 is_sound store = store.sound
 
--- Documents may be added: the store may be used, it agrees with its disk on some state, and the disk may be long enough.
+-- Documents may be added: the store may be used, it agrees with its disk, and the disk may be long enough.
 pub record CanAdd (tells : Type 0) (disk : DiskState) (store : Store) : Type 0 where
   pub sound : is_sound store ≡ true
-  pub agrees : (s : State) × Agrees tells disk store s
+  pub agrees : Agrees tells disk store
   pub limit : HEAD_BYTES ≤ disk.limit

@@ -4,8 +4,8 @@ ghost use Rattle.std.specs.Str.{bytes_eq};
 ghost use Rattle.std.specs.Prelude.{◌||◌, ◌≡◌, ◌⊎◌, ◌↔◌, ◌+◌, ◌<◌, ◌≤◌, ◌++◌, ◌∷◌, [], ℕ, List, true, false, length, is_some, Result, Ok, Err, Some, IfOk, IfErr, OnOk, OnErr, IsErr, IsTrue, HoldsAt, MatchOption};
 ghost use Rattle.alta_codec.specs.Faults.{Rose};
 ghost use Rattle.alta_disk.specs.Calls.{Reads};
-ghost use Rattle.alta_disk.specs.Disk.{DiskState, Same, Only, Passes, Stands, LeavesOnly};
-ghost use Rattle.alta_images.specs.Opened.{Opened, half_of};
+ghost use Rattle.alta_disk.specs.Disk.{DiskState, Same, Only, Passes, LeavesOnly};
+ghost use Rattle.alta_images.specs.Opened.{Opened, IsOpened, half_of};
 ghost use Rattle.alta_images.specs.Switching.{with_entry};
 ghost use Rattle.alta_journal.specs.Record.{body_of};
 ghost use Rattle.alta_journal.specs.declared.entry.Entry.TheVariants.{Add, Delete};
@@ -18,7 +18,7 @@ ghost use Rattle.alta_root.specs.Slots.{Counts, HasNoRoot};
 ghost use Rattle.alta_root.specs.declared.slot.Slot.{Slot};
 ghost use Rattle.alta_store.specs.Answers.{IsOutside, AnswersFault};
 ghost use Rattle.alta_store.specs.Brokenness.{IsBrokenAt};
-ghost use Rattle.alta_store.specs.Meaning.{IsPlain, IsPlainly, StandsFor, StandsForEither};
+ghost use Rattle.alta_store.specs.Meaning.{IsPlain, StandsFor, StandsForEither};
 ghost use Rattle.alta_store.specs.Naming.{AreNames};
 ghost use Rattle.alta_images.specs.States.{has_name, number_of, words_in, with_added, with_deleted, without, IsDocument};
 ghost use Rattle.alta_store.specs.declared.fault.StoreFault.TheVariants.{Disk as DiskFault, Memory, NoRoot, Damaged, Taken, Missing, Numbers, Full};
@@ -103,8 +103,7 @@ impl Store {
     /// yield to `Memory`, and to `Disk` where a call of the disk failed. After each error but `Disk` the sync was done: nothing is
     /// pending, and the content is the only image. After `Disk` each image is one of those before.
     pub fn open<D: Disk>(alloc: Global, disk: &mut D) -> Result<Store, StoreFault>
-        ensures agrees { (s : State) → (D.tells → StandsFor s (D.state disk.old).content) → IfOk result (λ store. Agrees D.tells (D.state disk.new) store s) }
-        ensures some { IfOk result (λ store. (s : State) × Agrees D.tells (D.state disk.new) store s) }
+        ensures agrees { IfOk result (λ store. Agrees D.tells (D.state disk.new) store) }
         ensures sound { IfOk result (λ store. is_sound store ≡ true) }
         ensures limit { OnOk result (HEAD_BYTES ≤ (D.state disk.new).limit) }
 
@@ -117,7 +116,7 @@ impl Store {
 
         ensures durable { OnOk result (Only (D.state disk.new).content (D.state disk.new).images) }
         ensures settled { IfErr result (λ e. (e ≡ DiskFault) ⊎ Only (D.state disk.new).content (D.state disk.new).images) }
-        ensures keeps { (opened : Opened) → (D.tells → IsPlainly opened (D.state disk.old).content) → IfOk result (λ store. Stands D.tells (D.state disk.new) (Keeps store opened)) }
+        ensures keeps { (opened : Opened) → D.tells → IsOpened opened (D.state disk.old).content → IfOk result (λ store. Keeps store opened) }
         ensures content { D.tells → (D.state disk.new).content ≡ (D.state disk.old).content }
         ensures images { Passes Same (D.state disk.old) (D.state disk.new) }
         ensures cause { result ≡ Err DiskFault → Rose (D.state disk.old).faults (D.state disk.new).faults }
@@ -149,20 +148,21 @@ impl Store {
     ) -> Result<u64, StoreFault>
         requires document { IsDocument name.now title.now body.now }
         requires sound { is_sound self.old ≡ true }
-        requires agrees { (s : State) × Agrees D.tells (D.state disk.old) self.old s }
+        requires agrees { Agrees D.tells (D.state disk.old) self.old }
         requires limit { HEAD_BYTES ≤ (D.state disk.old).limit }
 
-        ensures agrees { (s : State) → Agrees D.tells (D.state disk.old) self.old s → OnOk result (Agrees D.tells (D.state disk.new) self.new (with_added name.now title.now body.now s)) }
-        ensures keeps { (opened : Opened) → Stands D.tells (D.state disk.old) (Keeps self.old opened) → OnOk result (Stands D.tells (D.state disk.new) (Keeps self.new (with_entry opened (Add name.now title.now body.now)))) }
-        ensures number { (s : State) → Agrees D.tells (D.state disk.old) self.old s → D.tells → IfOk result (λ n. (n ≡ s.next) × (has_name name.now s ≡ false) × (s.next < 4294967296)) }
+        ensures agrees { OnOk result (Agrees D.tells (D.state disk.new) self.new) }
+        ensures stands { (s : State) → D.tells → StandsFor s (D.state disk.old).content → OnOk result (StandsFor (with_added name.now title.now body.now s) (D.state disk.new).content) }
+        ensures keeps { (opened : Opened) → D.tells → IsOpened opened (D.state disk.old).content → OnOk result (IsOpened (with_entry opened (Add name.now title.now body.now)) (D.state disk.new).content × Keeps self.new (with_entry opened (Add name.now title.now body.now))) }
+        ensures number { (s : State) → Knows self.old s → IfOk result (λ n. (n ≡ s.next) × (has_name name.now s ≡ false) × (s.next < 4294967296)) }
         ensures sound { OnOk result (is_sound self.new ≡ true) }
         ensures unsound { IfErr result (λ e. ((e ≡ Taken) ⊎ (e ≡ Numbers)) ⊎ (is_sound self.new ≡ false)) }
 
         // At each moment of the call.
-        ensures images { (s : State) → Agrees D.tells (D.state disk.old) self.old s → LeavesOnly (StandsForEither s (with_added name.now title.now body.now s)) (D.state disk.old) (D.state disk.new) }
+        ensures images { (s : State) → (D.tells → StandsFor s (D.state disk.old).content) → LeavesOnly (StandsForEither s (with_added name.now title.now body.now s)) (D.state disk.old) (D.state disk.new) }
 
-        ensures taken { (s : State) → Agrees D.tells (D.state disk.old) self.old s → D.tells → (result ≡ Err Taken) ↔ (has_name name.now s ≡ true) }
-        ensures numbers { (s : State) → Agrees D.tells (D.state disk.old) self.old s → D.tells → (result ≡ Err Numbers) ↔ ((has_name name.now s ≡ false) × (4294967296 ≤ s.next)) }
+        ensures taken { (s : State) → Knows self.old s → (result ≡ Err Taken) ↔ (has_name name.now s ≡ true) }
+        ensures numbers { (s : State) → Knows self.old s → (result ≡ Err Numbers) ↔ ((has_name name.now s ≡ false) × (4294967296 ≤ s.next)) }
         ensures refused { (result ≡ Err Taken) ⊎ (result ≡ Err Numbers) → (disk.new ≡ disk.old) × (self.new ≡ self.old) }
         ensures full { (need gap : ℕ) → result ≡ Err (Full need gap) → (need ≡ length (body_of (Add name.now title.now body.now))) × (gap ≡ room_of self.old) × (gap < need) }
         ensures full_kept { (need gap : ℕ) → result ≡ Err (Full need gap) → disk.new ≡ disk.old }
@@ -195,16 +195,17 @@ impl Store {
         body: &str,
     ) -> Result<u64, StoreFault>
         requires document { IsDocument name.now title.now body.now }
-        requires agrees { (s : State) × Agrees D.tells (D.state disk.old) self.old s }
+        requires agrees { Agrees D.tells (D.state disk.old) self.old }
         requires free { is_some (get_by_text self.old.catalog.names name.now) ≡ false }
         requires number { self.old.catalog.next < 4294967296 }
         requires limit { HEAD_BYTES ≤ (D.state disk.old).limit }
 
-        ensures agrees { (s : State) → Agrees D.tells (D.state disk.old) self.old s → OnOk result (Agrees D.tells (D.state disk.new) self.new (with_added name.now title.now body.now s)) }
-        ensures keeps { (opened : Opened) → Stands D.tells (D.state disk.old) (Keeps self.old opened) → OnOk result (Stands D.tells (D.state disk.new) (Keeps self.new (with_entry opened (Add name.now title.now body.now)))) }
+        ensures agrees { OnOk result (Agrees D.tells (D.state disk.new) self.new) }
+        ensures stands { (s : State) → D.tells → StandsFor s (D.state disk.old).content → OnOk result (StandsFor (with_added name.now title.now body.now s) (D.state disk.new).content) }
+        ensures keeps { (opened : Opened) → D.tells → IsOpened opened (D.state disk.old).content → OnOk result (IsOpened (with_entry opened (Add name.now title.now body.now)) (D.state disk.new).content × Keeps self.new (with_entry opened (Add name.now title.now body.now))) }
         ensures number { IfOk result (λ n. n ≡ self.old.catalog.next) }
         ensures sound { is_sound self.new ≡ is_sound self.old }
-        ensures images { (s : State) → Agrees D.tells (D.state disk.old) self.old s → LeavesOnly (StandsForEither s (with_added name.now title.now body.now s)) (D.state disk.old) (D.state disk.new) }
+        ensures images { (s : State) → (D.tells → StandsFor s (D.state disk.old).content) → LeavesOnly (StandsForEither s (with_added name.now title.now body.now s)) (D.state disk.old) (D.state disk.new) }
         ensures full { (need gap : ℕ) → result ≡ Err (Full need gap) → (need ≡ length (body_of (Add name.now title.now body.now))) × (gap ≡ room_of self.old) × (gap < need) }
         ensures full_kept { (need gap : ℕ) → result ≡ Err (Full need gap) → disk.new ≡ disk.old }
         ensures full_room { (need gap : ℕ) → D.tells → result ≡ Err (Full need gap) → HasRoom (D.state disk.new).content gap }
@@ -240,19 +241,20 @@ impl Store {
     /// used.
     pub fn delete<D: Disk>(&mut self, disk: &mut D, name: &str) -> Result<u64, StoreFault>
         requires sound { is_sound self.old ≡ true }
-        requires agrees { (s : State) × Agrees D.tells (D.state disk.old) self.old s }
+        requires agrees { Agrees D.tells (D.state disk.old) self.old }
         requires limit { HEAD_BYTES ≤ (D.state disk.old).limit }
 
-        ensures agrees { (s : State) → Agrees D.tells (D.state disk.old) self.old s → OnOk result (Agrees D.tells (D.state disk.new) self.new (with_deleted name.now s)) }
-        ensures keeps { (opened : Opened) → Stands D.tells (D.state disk.old) (Keeps self.old opened) → IfOk result (λ n. Stands D.tells (D.state disk.new) (Keeps self.new (with_entry opened (Delete n)))) }
-        ensures number { (s : State) → Agrees D.tells (D.state disk.old) self.old s → D.tells → IfOk result (λ n. number_of name.now s ≡ Some n) }
+        ensures agrees { OnOk result (Agrees D.tells (D.state disk.new) self.new) }
+        ensures stands { (s : State) → D.tells → StandsFor s (D.state disk.old).content → OnOk result (StandsFor (with_deleted name.now s) (D.state disk.new).content) }
+        ensures keeps { (opened : Opened) → D.tells → IsOpened opened (D.state disk.old).content → IfOk result (λ n. IsOpened (with_entry opened (Delete n)) (D.state disk.new).content × Keeps self.new (with_entry opened (Delete n))) }
+        ensures number { (s : State) → Knows self.old s → IfOk result (λ n. number_of name.now s ≡ Some n) }
         ensures sound { OnOk result (is_sound self.new ≡ true) }
         ensures unsound { IfErr result (λ e. (e ≡ Missing) ⊎ (is_sound self.new ≡ false)) }
 
         // At each moment of the call.
-        ensures images { (s : State) → Agrees D.tells (D.state disk.old) self.old s → LeavesOnly (StandsForEither s (with_deleted name.now s)) (D.state disk.old) (D.state disk.new) }
+        ensures images { (s : State) → (D.tells → StandsFor s (D.state disk.old).content) → LeavesOnly (StandsForEither s (with_deleted name.now s)) (D.state disk.old) (D.state disk.new) }
 
-        ensures missing { (s : State) → Agrees D.tells (D.state disk.old) self.old s → D.tells → (result ≡ Err Missing) ↔ (has_name name.now s ≡ false) }
+        ensures missing { (s : State) → Knows self.old s → (result ≡ Err Missing) ↔ (has_name name.now s ≡ false) }
         ensures refused { result ≡ Err Missing → (disk.new ≡ disk.old) × (self.new ≡ self.old) }
 
         // The record of each number is as long.
@@ -277,14 +279,15 @@ impl Store {
 
     // Deletes a document that was found. All memory is taken before the first write.
     fn remove<D: Disk>(&mut self, disk: &mut D, name: &str, number: u64) -> Result<(), StoreFault>
-        requires agrees { (s : State) × Agrees D.tells (D.state disk.old) self.old s }
+        requires agrees { Agrees D.tells (D.state disk.old) self.old }
         requires named { get_by_text self.old.catalog.names name.now ≡ Some number }
         requires limit { HEAD_BYTES ≤ (D.state disk.old).limit }
 
-        ensures agrees { (s : State) → Agrees D.tells (D.state disk.old) self.old s → OnOk result (Agrees D.tells (D.state disk.new) self.new (with_deleted name.now s)) }
-        ensures keeps { (opened : Opened) → Stands D.tells (D.state disk.old) (Keeps self.old opened) → OnOk result (Stands D.tells (D.state disk.new) (Keeps self.new (with_entry opened (Delete number)))) }
+        ensures agrees { OnOk result (Agrees D.tells (D.state disk.new) self.new) }
+        ensures stands { (s : State) → D.tells → StandsFor s (D.state disk.old).content → OnOk result (StandsFor (with_deleted name.now s) (D.state disk.new).content) }
+        ensures keeps { (opened : Opened) → D.tells → IsOpened opened (D.state disk.old).content → OnOk result (IsOpened (with_entry opened (Delete number)) (D.state disk.new).content × Keeps self.new (with_entry opened (Delete number))) }
         ensures sound { is_sound self.new ≡ is_sound self.old }
-        ensures images { (s : State) → Agrees D.tells (D.state disk.old) self.old s → LeavesOnly (StandsForEither s (with_deleted name.now s)) (D.state disk.old) (D.state disk.new) }
+        ensures images { (s : State) → (D.tells → StandsFor s (D.state disk.old).content) → LeavesOnly (StandsForEither s (with_deleted name.now s)) (D.state disk.old) (D.state disk.new) }
         ensures full { (need gap : ℕ) → result ≡ Err (Full need gap) → (need ≡ length (body_of (Delete number))) × (gap ≡ room_of self.old) × (gap < need) }
         ensures full_kept { (need gap : ℕ) → result ≡ Err (Full need gap) → disk.new ≡ disk.old }
         ensures full_room { (need gap : ℕ) → D.tells → result ≡ Err (Full need gap) → HasRoom (D.state disk.new).content gap }
@@ -369,7 +372,7 @@ fn is_plain(root: &Root) -> bool
 
 // Reads the store that a disk holds.
 fn load<D: Disk>(alloc: Global, disk: &mut D) -> Result<Store, StoreFault>
-    ensures loaded { IfOk result (λ store. (s : State) × (D.tells → Holds store s (D.state disk.old).content)) }
+    ensures loaded { IfOk result (λ store. D.tells → Holds store (D.state disk.old).content) }
     ensures intact { IfOk result IsIntact }
     ensures sound { IfOk result (λ store. is_sound store ≡ true) }
     ensures limit { OnOk result (HEAD_BYTES ≤ (D.state disk.old).limit) }

@@ -3,7 +3,6 @@ ghost use Rattle.std.specs.Prelude.{◌≡◌, ◌≤◌, true, OnOk};
 ghost use Rattle.alta_codec.specs.Name.{IsName};
 ghost use Rattle.alta_disk.specs.Disk.{DiskState};
 ghost use Rattle.alta_journal.specs.declared.places.TheConstants.{HEAD_BYTES};
-ghost use Rattle.alta_meta.specs.declared.document.State.{State};
 ghost use Rattle.alta_store.specs.Agreement.{Agrees, CanAdd, is_sound};
 
 use crate::*;
@@ -76,7 +75,7 @@ fn put(content: &mut [u8], at: usize, bytes: &[u8]) {
 fn add_one<D: Disk>(store: &mut Store, disk: &mut D, name: &str) -> Result<Option<u64>, StoreFault>
     requires name { IsName name.now }
     requires sound { is_sound store.old ≡ true }
-    requires agrees { (s : State) × Agrees D.tells (D.state disk.old) store.old s }
+    requires agrees { Agrees D.tells (D.state disk.old) store.old }
     requires limit { HEAD_BYTES ≤ (D.state disk.old).limit }
     ensures { OnOk result (CanAdd D.tells (D.state disk.new) store.new) }
 {
@@ -95,7 +94,7 @@ fn delete_one<D: Disk>(
     name: &str,
 ) -> Result<Option<u64>, StoreFault>
     requires sound { is_sound store.old ≡ true }
-    requires agrees { (s : State) × Agrees D.tells (D.state disk.old) store.old s }
+    requires agrees { Agrees D.tells (D.state disk.old) store.old }
     requires limit { HEAD_BYTES ≤ (D.state disk.old).limit }
     ensures { OnOk result (CanAdd D.tells (D.state disk.new) store.new) }
 {
@@ -139,7 +138,7 @@ fn act<D: Disk>(
 ) -> Result<Option<u64>, StoreFault>
     requires name { IsName name.now }
     requires sound { is_sound store.old ≡ true }
-    requires agrees { (s : State) × Agrees D.tells (D.state disk.old) store.old s }
+    requires agrees { Agrees D.tells (D.state disk.old) store.old }
     requires limit { HEAD_BYTES ≤ (D.state disk.old).limit }
     ensures { OnOk result (CanAdd D.tells (D.state disk.new) store.new) }
 {

@@ -4,13 +4,12 @@ use Rattle.alta_journal.specs.Record.{body_of}
 use Rattle.alta_journal.specs.declared.entry.Entry.TheVariants.{Add}
 use Rattle.alta_meta.specs.declared.document.State.{State}
 use Rattle.alta_session.specs.Fullness.{bytes_of_change}
-use Rattle.alta_session.specs.Machine.{started_at, adding}
-use Rattle.alta_store.specs.Agreement.{Agrees}
-use Rattle.alta_store.specs.Meaning.{StandsForEither}
+use Rattle.alta_session.specs.Machine.{adding}
+use Rattle.alta_store.specs.Meaning.{StandsFor, StandsForEither}
 use Rattle.alta_images.specs.States.{with_added, has_name}
 use Rattle.alta_store.specs.declared.fault.StoreFault.TheVariants.{Disk, Taken, Numbers, Full}
 use Rattle.alta_session.proofs.AddingLaws.{adding_bad, adding_taken, adding_full, adding_added, added_is_none, added_where, leaves_adding, refused_for}
-use Rattle.alta_session.proofs.AgreementLaws.{agrees_with}
+use Rattle.alta_session.proofs.AgreementLaws.{knows_state}
 use Rattle.alta_session.proofs.AnsweringLaws.{same_fault, same_store, looked, answers_same, changed, changed_rests}
 use Rattle.alta_session.proofs.FullnessLaws.{bytes_more}
 use Rattle.alta_session.proofs.session.Session.add.Goals as goal
@@ -19,7 +18,7 @@ room_less : (now old bytes : ℕ) (name title body : List ℕ) (s : State) (p : 
 room_less now old bytes name title body s p reply less is = omega (arith, less, bytes_more bytes name title body s p reply is)
 
 pub add-requires-clause-agrees : goal.add-requires-clause-agrees
-add-requires-clause-agrees g c = (c.requires.can.agrees.0.state, c.requires.can.agrees.1.store)
+add-requires-clause-agrees g c = c.requires.can.agrees
 
 pub returns-then-not-name_ok : goal.returns-then-not-name_ok
 returns-then-not-name_ok g c =
@@ -31,17 +30,17 @@ returns-in-Ok g c =
     changed g.D.Disk.tells g.D.Disk.state c.args.disk.now c.add.new.disk c.args.self.now _ (length (body_of (Add c.args.name.now c.args.title.now c.args.body.now))) c.added.result (adding c.args.name.now c.args.title.now c.args.body.now) _ c.added.ensures (added_is_none c.in-Ok.number) refl
     (record {
       sound = search rules;
-      agrees = (record { state = with_added c.args.name.now c.args.title.now c.args.body.now c.requires.can.agrees.0.state; cursors = c.requires.can.agrees.0.cursors }, agrees_with _ _ _ (record { state = with_added c.args.name.now c.args.title.now c.args.body.now c.requires.can.agrees.0.state; cursors = c.requires.can.agrees.0.cursors }) c.requires.can.agrees.1.cursors (c.in-Ok.ensures.agrees c.requires.can.agrees.0.state c.requires.can.agrees.1.store));
+      agrees = c.in-Ok.ensures.agrees;
       limit = omega (arith, c.requires.can.limit, c.add.ensures.same_limit);
     }) c.add.ensures.faults c.add.ensures.same_limit
     (λ m tell agrees.
-    let number = c.in-Ok.ensures.number m.state agrees.store tell in
+    let number = c.in-Ok.ensures.number m.state (knows_state g.D.Disk.tells (g.D.Disk.state c.args.disk.now) c.args.self.now m agrees tell) in
     let is = adding_added c.args.name.now c.args.title.now c.args.body.now m.state (search rules) number.1 number.2 in
     let to : with_added c.args.name.now c.args.title.now c.args.body.now m.state ≡ (adding c.args.name.now c.args.title.now c.args.body.now m.state).0 = sym (ap (λ (p : State × List ℕ). p.0) is) in
     record {
       reply = ap (λ (p : State × List ℕ). p.1) is ∙ ap (λ (n : ℕ). codes "added " ++ decimal n ++ codes "\n") (sym number.0);
-      agrees = subst (λ (t : State). Agrees g.D.Disk.tells (g.D.Disk.state c.add.new.disk) c.add.new.self t) to (c.in-Ok.ensures.agrees m.state agrees.store);
-      images = subst (λ (t : State). LeavesOnly (StandsForEither m.state t) (g.D.Disk.state c.args.disk.now) (g.D.Disk.state c.add.new.disk)) to (c.in-Ok.ensures.images m.state agrees.store);
+      stands = subst (λ (t : State). StandsFor t (g.D.Disk.state c.add.new.disk).content) to (c.in-Ok.ensures.stands m.state tell (agrees.stands tell));
+      images = subst (λ (t : State). LeavesOnly (StandsForEither m.state t) (g.D.Disk.state c.args.disk.now) (g.D.Disk.state c.add.new.disk)) to (c.in-Ok.ensures.images m.state agrees.stands);
       room = room_less _ _ _ c.args.name.now c.args.title.now c.args.body.now m.state _ _ c.in-Ok.ensures.room is;
     })
 
@@ -51,7 +50,7 @@ returns-in-Taken g c =
     let same = c.add.ensures.refused (inl is) in
     answers_same g.D.Disk.tells g.D.Disk.state c.args.disk.now c.add.new.disk c.args.self.now _ _ c.text-in-Taken.result _ same.0 (same_store c.args.self.now c.add.new.self same.1)
     (looked g.D.Disk.tells g.D.Disk.state c.args.disk.now c.args.self.now _ c.text-in-Taken.result _ _ (g.met.D.Disk.lawful c.args.disk.now) c.requires.can c.text-in-Taken.ensures
-    (λ m tell agrees. changed_rests m _ _ (adding_taken c.args.name.now c.args.title.now c.args.body.now m.state (search rules) ((c.add.ensures.taken m.state agrees.store tell).0 is))))
+    (λ m tell agrees. changed_rests m _ _ (adding_taken c.args.name.now c.args.title.now c.args.body.now m.state (search rules) ((c.add.ensures.taken m.state (knows_state g.D.Disk.tells (g.D.Disk.state c.args.disk.now) c.args.self.now m agrees tell)).0 is))))
 
 pub returns-in-Numbers : goal.returns-in-Numbers
 returns-in-Numbers g c =
@@ -60,7 +59,7 @@ returns-in-Numbers g c =
     answers_same g.D.Disk.tells g.D.Disk.state c.args.disk.now c.add.new.disk c.args.self.now _ _ c.text-in-Numbers.result _ same.0 (same_store c.args.self.now c.add.new.self same.1)
     (looked g.D.Disk.tells g.D.Disk.state c.args.disk.now c.args.self.now _ c.text-in-Numbers.result _ _ (g.met.D.Disk.lawful c.args.disk.now) c.requires.can c.text-in-Numbers.ensures
     (λ m tell agrees.
-    let full = (c.add.ensures.numbers m.state agrees.store tell).0 is in
+    let full = (c.add.ensures.numbers m.state (knows_state g.D.Disk.tells (g.D.Disk.state c.args.disk.now) c.args.self.now m agrees tell)).0 is in
     changed_rests m _ _ (adding_full c.args.name.now c.args.title.now c.args.body.now m.state (search rules) full.0 full.1)))
 
 only_left : (A B C D : Type 0) → A ⊎ (B ⊎ (C ⊎ D)) → (B → ⊥) → (C → ⊥) → A ⊎ D
@@ -73,12 +72,12 @@ only_left A B C D (inr (inr (inr d))) b c = inr d
 pub returns-in_default : goal.returns-in_default
 returns-in_default g c = record {
   from = λ m tell agrees.
-      let not_taken : has_name c.args.name.now m.state ≡ true → ⊥ = λ taken. c.in_default.not-Taken (same_fault _ _ _ c.in-Err.is ((c.add.ensures.taken m.state agrees.store tell).1 taken)) in
-      let not_full : (has_name c.args.name.now m.state ≡ false) × (4294967296 ≤ m.state.next) → ⊥ = λ full. c.in_default.not-Numbers (same_fault _ _ _ c.in-Err.is ((c.add.ensures.numbers m.state agrees.store tell).1 full)) in
+      let not_taken : has_name c.args.name.now m.state ≡ true → ⊥ = λ taken. c.in_default.not-Taken (same_fault _ _ _ c.in-Err.is ((c.add.ensures.taken m.state (knows_state g.D.Disk.tells (g.D.Disk.state c.args.disk.now) c.args.self.now m agrees tell)).1 taken)) in
+      let not_full : (has_name c.args.name.now m.state ≡ false) × (4294967296 ≤ m.state.next) → ⊥ = λ full. c.in_default.not-Numbers (same_fault _ _ _ c.in-Err.is ((c.add.ensures.numbers m.state (knows_state g.D.Disk.tells (g.D.Disk.state c.args.disk.now) c.args.self.now m agrees tell)).1 full)) in
       record {
         reply = tt;
         agrees = tt;
-        images = leaves_adding (g.D.Disk.state c.args.disk.now) (g.D.Disk.state c.add.new.disk) c.args.name.now c.args.title.now c.args.body.now m.state (search rules) (c.add.ensures.images m.state agrees.store)
+        images = leaves_adding (g.D.Disk.state c.args.disk.now) (g.D.Disk.state c.add.new.disk) c.args.name.now c.args.title.now c.args.body.now m.state (search rules) (c.add.ensures.images m.state agrees.stands)
             (λ refused. absurd (⊎_elim not_taken not_full refused));
         refused = λ refusal. refused_for _ c.args.name.now c.args.title.now c.args.body.now m.state (search rules) (λ taken. absurd (not_taken taken)) (λ full. absurd (not_full full)) refusal;
         need = λ need gap is.

@@ -6,12 +6,11 @@ use Rattle.alta_journal.specs.declared.entry.Entry.TheVariants.{Delete}
 use Rattle.alta_journal.proofs.Spelling.{body_long, delete_long}
 use Rattle.alta_meta.specs.declared.document.State.{State}
 use Rattle.alta_session.specs.Fullness.{bytes_of_change}
-use Rattle.alta_session.specs.Machine.{started_at, deleting}
-use Rattle.alta_store.specs.Agreement.{Agrees}
-use Rattle.alta_store.specs.Meaning.{StandsForEither}
+use Rattle.alta_session.specs.Machine.{deleting}
+use Rattle.alta_store.specs.Meaning.{StandsFor, StandsForEither}
 use Rattle.alta_images.specs.States.{with_deleted, number_of}
 use Rattle.alta_store.specs.declared.fault.StoreFault.TheVariants.{Disk, Missing, Full}
-use Rattle.alta_session.proofs.AgreementLaws.{agrees_with}
+use Rattle.alta_session.proofs.AgreementLaws.{knows_state}
 use Rattle.alta_session.proofs.AnsweringLaws.{same_fault, same_store, looked, answers_same, changed, changed_rests}
 use Rattle.alta_session.proofs.DeletingLaws.{deleting_bad, deleting_missing, deleting_deleted, leaves_deleting, missing_for, deleted_where, deleted_is_none, fewer_where}
 use Rattle.alta_session.proofs.FullnessLaws.{bytes_fewer}
@@ -26,7 +25,7 @@ room_less : (now old bytes n : ℕ) (name : List ℕ) (s : State) (p : State × 
 room_less now old bytes n name s p reply less numbered is = omega (arith, less, long n, bytes_fewer bytes name s p reply is (fewer_where name s n numbered))
 
 pub delete-requires-clause-agrees : goal.delete-requires-clause-agrees
-delete-requires-clause-agrees g c = (c.requires.agrees.0.state, c.requires.agrees.1.store)
+delete-requires-clause-agrees g c = c.requires.agrees
 
 pub returns-then-not-name_ok : goal.returns-then-not-name_ok
 returns-then-not-name_ok g c = λ bytes.
@@ -38,17 +37,17 @@ returns-in-Ok g c = λ bytes.
     changed g.D.Disk.tells g.D.Disk.state c.args.disk.now c.delete.new.disk c.args.self.now _ bytes c.deleted.result (deleting c.args.name.now) _ c.deleted.ensures (deleted_is_none c.in-Ok.number) refl
     (record {
       sound = search rules;
-      agrees = (record { state = with_deleted c.args.name.now c.requires.agrees.0.state; cursors = c.requires.agrees.0.cursors }, agrees_with _ _ _ (record { state = with_deleted c.args.name.now c.requires.agrees.0.state; cursors = c.requires.agrees.0.cursors }) c.requires.agrees.1.cursors (c.in-Ok.ensures.agrees c.requires.agrees.0.state c.requires.agrees.1.store));
+      agrees = c.in-Ok.ensures.agrees;
       limit = omega (arith, c.requires.limit, c.delete.ensures.same_limit);
     }) c.delete.ensures.faults c.delete.ensures.same_limit
     (λ m tell agrees.
-    let numbered : number_of c.args.name.now m.state ≡ Some c.in-Ok.number = c.in-Ok.ensures.number m.state agrees.store tell in
+    let numbered : number_of c.args.name.now m.state ≡ Some c.in-Ok.number = c.in-Ok.ensures.number m.state (knows_state g.D.Disk.tells (g.D.Disk.state c.args.disk.now) c.args.self.now m agrees tell) in
     let is = deleting_deleted c.args.name.now m.state c.in-Ok.number (search rules) numbered in
     let to : with_deleted c.args.name.now m.state ≡ (deleting c.args.name.now m.state).0 = sym (ap (λ (p : State × List ℕ). p.0) is) in
     record {
       reply = ap (λ (p : State × List ℕ). p.1) is;
-      agrees = subst (λ (t : State). Agrees g.D.Disk.tells (g.D.Disk.state c.delete.new.disk) c.delete.new.self t) to (c.in-Ok.ensures.agrees m.state agrees.store);
-      images = subst (λ (t : State). LeavesOnly (StandsForEither m.state t) (g.D.Disk.state c.args.disk.now) (g.D.Disk.state c.delete.new.disk)) to (c.in-Ok.ensures.images m.state agrees.store);
+      stands = subst (λ (t : State). StandsFor t (g.D.Disk.state c.delete.new.disk).content) to (c.in-Ok.ensures.stands m.state tell (agrees.stands tell));
+      images = subst (λ (t : State). LeavesOnly (StandsForEither m.state t) (g.D.Disk.state c.args.disk.now) (g.D.Disk.state c.delete.new.disk)) to (c.in-Ok.ensures.images m.state agrees.stands);
       room = room_less _ _ bytes c.in-Ok.number c.args.name.now m.state _ _ c.in-Ok.ensures.room numbered is;
     })
 
@@ -58,7 +57,7 @@ returns-in-Missing g c = λ bytes.
     let same = c.delete.ensures.refused is in
     answers_same g.D.Disk.tells g.D.Disk.state c.args.disk.now c.delete.new.disk c.args.self.now _ bytes c.text-in-Missing.result _ same.0 (same_store c.args.self.now c.delete.new.self same.1)
     (looked g.D.Disk.tells g.D.Disk.state c.args.disk.now c.args.self.now bytes c.text-in-Missing.result _ _ (g.met.D.Disk.lawful c.args.disk.now) c.requires c.text-in-Missing.ensures
-    (λ m tell agrees. changed_rests m _ _ (deleting_missing c.args.name.now m.state (search rules) ((c.delete.ensures.missing m.state agrees.store tell).0 is))))
+    (λ m tell agrees. changed_rests m _ _ (deleting_missing c.args.name.now m.state (search rules) ((c.delete.ensures.missing m.state (knows_state g.D.Disk.tells (g.D.Disk.state c.args.disk.now) c.args.self.now m agrees tell)).0 is))))
 
 only_left : (A B C : Type 0) → A ⊎ (B ⊎ C) → (B → ⊥) → A ⊎ C
 only_left A B C (inl a) b = inl a
@@ -71,13 +70,13 @@ returns-in_default g c = λ bytes. record {
   from = λ m tell agrees. record {
     reply = tt;
     agrees = tt;
-    images = leaves_deleting (g.D.Disk.state c.args.disk.now) (g.D.Disk.state c.delete.new.disk) c.args.name.now m.state (search rules) (c.delete.ensures.images m.state agrees.store)
-        (λ none. absurd (c.in_default.not-Missing (same_fault _ _ _ c.in-Err.is ((c.delete.ensures.missing m.state agrees.store tell).1 none))));
-    refused = λ refusal. missing_for _ c.args.name.now m.state (search rules) (λ none. absurd (c.in_default.not-Missing (same_fault _ _ _ c.in-Err.is ((c.delete.ensures.missing m.state agrees.store tell).1 none)))) refusal;
+    images = leaves_deleting (g.D.Disk.state c.args.disk.now) (g.D.Disk.state c.delete.new.disk) c.args.name.now m.state (search rules) (c.delete.ensures.images m.state agrees.stands)
+        (λ none. absurd (c.in_default.not-Missing (same_fault _ _ _ c.in-Err.is ((c.delete.ensures.missing m.state (knows_state g.D.Disk.tells (g.D.Disk.state c.args.disk.now) c.args.self.now m agrees tell)).1 none))));
+    refused = λ refusal. missing_for _ c.args.name.now m.state (search rules) (λ none. absurd (c.in_default.not-Missing (same_fault _ _ _ c.in-Err.is ((c.delete.ensures.missing m.state (knows_state g.D.Disk.tells (g.D.Disk.state c.args.disk.now) c.args.self.now m agrees tell)).1 none)))) refusal;
     need = λ need gap is.
         let same : c.in-Err.fault ≡ Full need gap = cc in
         let found = c.delete.ensures.full need gap 0 (c.in-Err.is ∙ ap Err same) in
-        let n = deleted_where c.args.name.now m.state (search rules) (λ none. c.in_default.not-Missing (same_fault _ _ _ c.in-Err.is ((c.delete.ensures.missing m.state agrees.store tell).1 none))) in
+        let n = deleted_where c.args.name.now m.state (search rules) (λ none. c.in_default.not-Missing (same_fault _ _ _ c.in-Err.is ((c.delete.ensures.missing m.state (knows_state g.D.Disk.tells (g.D.Disk.state c.args.disk.now) c.args.self.now m agrees tell)).1 none))) in
         (found.0 ∙ long 0 ∙ sym (bytes_fewer bytes c.args.name.now m.state _ _ (deleting_deleted c.args.name.now m.state n.0 (search rules) n.1) (fewer_where c.args.name.now m.state n.0 n.1)), found.1);
     room = tt;
   };

@@ -5,6 +5,7 @@ use Rattle.alta_session.specs.Cursors.{opening, fetching, closing}
 use Rattle.alta_session.specs.Machine.{changed_by, adding, deleting, step, stats_of}
 use Rattle.alta_session.specs.Searching.{searching, counting}
 use Rattle.alta_images.specs.States.{words_in}
+use Rattle.alta_session.proofs.AgreementLaws.{knows_state}
 use Rattle.alta_session.proofs.AnsweringLaws.{looked, looked_at, answers_by, step_rests, turned}
 use Rattle.alta_session.proofs.AskLaws.{adds_more, deletes_more}
 use Rattle.alta_session.proofs.session.Session.reply.Goals as goal
@@ -32,27 +33,27 @@ returns-in-Delete-clause-no_disk g c = λ looks.
 
 -- a query leaves session and disk as they are
 pub search-requires : goal.search-requires
-search-requires g c = c.requires.can.agrees.1.store.intact
+search-requires g c = c.requires.can.agrees.intact
 
 pub count-requires : goal.count-requires
-count-requires g c = c.requires.can.agrees.1.store.intact
+count-requires g c = c.requires.can.agrees.intact
 
 pub open-requires : goal.open-requires
-open-requires g c = c.requires.can.agrees.1.store.intact
+open-requires g c = c.requires.can.agrees.intact
 
 pub returns-in-Search-clause-answers : goal.returns-in-Search-clause-answers
 returns-in-Search-clause-answers g c =
-    let intact = c.requires.can.agrees.1.store.intact in
+    let intact = c.requires.can.agrees.intact in
     looked_at g.D.Disk.tells g.D.Disk.state c.args.disk.now c.args.self.now (length c.args.line.now + 9) c.search.result (λ m. step m c.args.line.now) (λ m. searching c.in-Search.text.now m.state.documents)
     (g.met.D.Disk.lawful c.args.disk.now) c.requires.can (c.search.ensures intact.0 intact.1).memory
-    (λ m tell agrees. (step_rests m _ _ (c.in-Search.ensures m), (c.search.ensures m.state (agrees.store.content tell).knows).reply))
+    (λ m tell agrees. (step_rests m _ _ (c.in-Search.ensures m), (c.search.ensures m.state (knows_state g.D.Disk.tells (g.D.Disk.state c.args.disk.now) c.args.self.now m agrees tell)).reply))
 
 pub returns-in-Count-clause-answers : goal.returns-in-Count-clause-answers
 returns-in-Count-clause-answers g c =
-    let intact = c.requires.can.agrees.1.store.intact in
+    let intact = c.requires.can.agrees.intact in
     looked_at g.D.Disk.tells g.D.Disk.state c.args.disk.now c.args.self.now (length c.args.line.now + 9) c.count.result (λ m. step m c.args.line.now) (λ m. counting c.in-Count.text.now m.state.documents)
     (g.met.D.Disk.lawful c.args.disk.now) c.requires.can (c.count.ensures intact.0 intact.1).memory
-    (λ m tell agrees. (step_rests m _ _ (c.in-Count.ensures m), (c.count.ensures m.state (agrees.store.content tell).knows).reply))
+    (λ m tell agrees. (step_rests m _ _ (c.in-Count.ensures m), (c.count.ensures m.state (knows_state g.D.Disk.tells (g.D.Disk.state c.args.disk.now) c.args.self.now m agrees tell)).reply))
 
 -- a cursor is opened, read or closed
 pub returns-in-Open-clause-answers : goal.returns-in-Open-clause-answers
@@ -87,7 +88,7 @@ stats_is s counts is =
 pub returns-in-Stats-clause-answers : goal.returns-in-Stats-clause-answers
 returns-in-Stats-clause-answers g c =
     looked g.D.Disk.tells g.D.Disk.state c.args.disk.now c.args.self.now (length c.args.line.now + 9) c.stats.result _ _ (g.met.D.Disk.lawful c.args.disk.now) c.requires.can (record { reply = c.stats.ensures.reply; memory = c.stats.ensures.memory })
-    (λ m tell agrees. step_rests m _ _ (c.in-Stats.ensures m ∙ ap (λ (t : List ℕ). (m, t)) (sym (stats_is m.state c.counts.result (c.counts.ensures m.state (agrees.store.content tell).knows)))))
+    (λ m tell agrees. step_rests m _ _ (c.in-Stats.ensures m ∙ ap (λ (t : List ℕ). (m, t)) (sym (stats_is m.state c.counts.result (c.counts.ensures m.state (knows_state g.D.Disk.tells (g.D.Disk.state c.args.disk.now) c.args.self.now m agrees tell))))))
 
 -- a line that is refused
 pub returns-in-Refused-clause-answers : goal.returns-in-Refused-clause-answers
@@ -97,7 +98,7 @@ returns-in-Refused-clause-answers g c =
 
 -- queries call no disk
 pub returns-in-Search-clause-no_disk : goal.returns-in-Search-clause-no_disk
-returns-in-Search-clause-no_disk g c = λ looks. (refl, (c.search.ensures c.requires.can.agrees.1.store.intact.0 c.requires.can.agrees.1.store.intact.1).memory)
+returns-in-Search-clause-no_disk g c = λ looks. (refl, (c.search.ensures c.requires.can.agrees.intact.0 c.requires.can.agrees.intact.1).memory)
 
 pub returns-in-Count-clause-no_disk : goal.returns-in-Count-clause-no_disk
-returns-in-Count-clause-no_disk g c = λ looks. (refl, (c.count.ensures c.requires.can.agrees.1.store.intact.0 c.requires.can.agrees.1.store.intact.1).memory)
+returns-in-Count-clause-no_disk g c = λ looks. (refl, (c.count.ensures c.requires.can.agrees.intact.0 c.requires.can.agrees.intact.1).memory)

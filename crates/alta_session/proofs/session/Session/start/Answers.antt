@@ -1,19 +1,19 @@
-use Rattle.std.proofs.Common.{refl, ap}
+use Rattle.std.proofs.Common.{refl, ap, subst, sym}
 use Rattle.std.specs.Prelude.{Err}
 use Rattle.alta_store.specs.declared.fault.StoreFault.TheVariants.{Damaged}
 use Rattle.alta_store.proofs.Loads.{same_error}
-use Rattle.alta_session.specs.Machine.{started_at}
+use Rattle.alta_store.specs.Meaning.{StandsFor}
 use Rattle.alta_session.proofs.AgreementLaws.{agrees_started}
 use Rattle.alta_session.proofs.StatusLaws.{ok_answers, err_answers}
 use Rattle.alta_session.proofs.session.Session.start.Goals as goal
 
 pub returns-in-Ok-clause-agrees : goal.returns-in-Ok-clause-agrees
-returns-in-Ok-clause-agrees g c = λ s stands. agrees_started _ _ _ s c.new.ensures (c.in-Ok.ensures.agrees s stands)
+returns-in-Ok-clause-agrees g c = λ s stands. agrees_started _ _ _ s c.new.ensures c.in-Ok.ensures.agrees (λ told. subst (StandsFor s) (sym (c.open.ensures.content told)) (stands told))
 
 pub returns-in-Ok-clause-can : goal.returns-in-Ok-clause-can
 returns-in-Ok-clause-can g c = record {
   sound = (refl, c.in-Ok.ensures.sound);
-  agrees = (started_at c.in-Ok.ensures.some.0, agrees_started _ _ _ c.in-Ok.ensures.some.0 c.new.ensures c.in-Ok.ensures.some.1);
+  agrees = c.in-Ok.ensures.agrees;
   limit = c.in-Ok.ensures.limit;
 }
 

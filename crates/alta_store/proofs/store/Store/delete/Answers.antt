@@ -7,8 +7,8 @@ use Rattle.alta_store.proofs.Loads.{same_error}
 use Rattle.alta_store.proofs.store.Store.delete.Goals as goal
 
 pub returns-in-Ok-clause-number : goal.returns-in-Ok-clause-number
-returns-in-Ok-clause-number g c = λ s agrees told.
-    number_named c.args.self.now.catalog s (agrees.content told).knows c.args.name.now c.in-Some.number (search rules)
+returns-in-Ok-clause-number g c = λ s knows.
+    number_named c.args.self.now.catalog s knows c.args.name.now c.in-Some.number (search rules)
 
 pub returns-in-Err-clause-full : goal.returns-in-Err-clause-full
 returns-in-Err-clause-full g c = λ need gap number e.

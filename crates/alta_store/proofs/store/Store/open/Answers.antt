@@ -1,43 +1,26 @@
-use Rattle.std.proofs.Common.{List, ℕ, ◌≡◌, inr, subst, sym, ◌∙◌}
+use Rattle.std.proofs.Common.{List, ℕ, inr, subst, sym}
 use Rattle.std.proofs.lemmas.Result.{IfOk-at_ok}
-use Rattle.alta_disk.specs.Disk.{Stands}
 use Rattle.alta_disk.proofs.Moments.{only_same}
-use Rattle.alta_meta.specs.declared.document.State.{State}
 use Rattle.alta_store.specs.Agreement.{Agrees, Holds, IsIntact, Keeps}
-use Rattle.alta_images.specs.Opened.{Opened}
+use Rattle.alta_images.specs.Opened.{IsOpened}
 use Rattle.alta_root.specs.Slots.{HasNoRoot}
 use Rattle.alta_store.specs.Brokenness.{IsBrokenAt}
-use Rattle.alta_store.specs.Meaning.{IsPlainly, StandsFor}
+use Rattle.alta_store.specs.Meaning.{StandsFor}
 use Rattle.alta_store.specs.declared.store.Store.{Store}
-use Rattle.alta_store.proofs.Agreements.{keeps_stand}
-use Rattle.alta_store.proofs.Loads.{if_ok, if_err, only_synced, held_as, outside, rooted, broken_at}
+use Rattle.alta_store.proofs.Agreements.{kept}
+use Rattle.alta_store.proofs.Loads.{if_ok, if_err, only_synced, held, outside, rooted, broken_at}
 use Rattle.alta_store.proofs.store.Store.open.Goals as goal
 
 pub returns-clause-agrees : goal.returns-clause-agrees
-returns-clause-agrees g c = λ s stands.
-    if_ok c.load.result (λ (store : Store). Agrees g.D.Disk.tells (g.D.Disk.state c.load.new.disk) store s) (λ store is. record {
+returns-clause-agrees g c =
+    if_ok c.load.result (λ (store : Store). Agrees g.D.Disk.tells (g.D.Disk.state c.load.new.disk) store) (λ store is. record {
       settled = only_same g.D.Disk.tells (g.D.Disk.state c.sync.new.self) (g.met.D.Disk.lawful c.sync.new.self)
           (only_synced g.D.Disk.tells (g.D.Disk.state c.args.disk.now) (g.D.Disk.state c.sync.new.self) (g.met.D.Disk.lawful c.sync.new.self) c.in-Ok.ensures.durable c.sync.ensures.content)
           (g.D.Disk.state c.load.new.disk) c.load.ensures.images c.load.ensures.content;
-      content = λ told. subst (Holds store s) (sym (c.load.ensures.content told))
-          (held_as g.D.Disk.tells (g.D.Disk.state c.sync.new.self).content c.load.result c.load.ensures.loaded c.load.ensures.no_root c.load.ensures.damaged c.load.ensures.only
-          s store (λ told. subst (StandsFor s) (sym (c.sync.ensures.content told)) (stands told)) is told);
+      content = λ told. subst (Holds store) (sym (c.load.ensures.content told))
+          (held g.D.Disk.tells (g.D.Disk.state c.sync.new.self).content c.load.result c.load.ensures.loaded c.load.ensures.no_root c.load.ensures.damaged c.load.ensures.only store is told);
       intact = IfOk-at_ok IsIntact is c.load.ensures.intact;
     })
-
-pub returns-clause-some : goal.returns-clause-some
-returns-clause-some g c =
-    if_ok c.load.result (λ (store : Store). (s : State) × Agrees g.D.Disk.tells (g.D.Disk.state c.load.new.disk) store s) (λ store is.
-    let held = IfOk-at_ok (λ (store : Store). (s : State) × (g.D.Disk.tells → Holds store s (g.D.Disk.state c.sync.new.self).content)) is c.load.ensures.loaded in (
-      held.0,
-      record {
-        settled = only_same g.D.Disk.tells (g.D.Disk.state c.sync.new.self) (g.met.D.Disk.lawful c.sync.new.self)
-            (only_synced g.D.Disk.tells (g.D.Disk.state c.args.disk.now) (g.D.Disk.state c.sync.new.self) (g.met.D.Disk.lawful c.sync.new.self) c.in-Ok.ensures.durable c.sync.ensures.content)
-            (g.D.Disk.state c.load.new.disk) c.load.ensures.images c.load.ensures.content;
-        content = λ told. subst (Holds store held.0) (sym (c.load.ensures.content told)) (held.1 told);
-        intact = IfOk-at_ok IsIntact is c.load.ensures.intact;
-      },
-    ))
 
 pub returns-clause-stands : goal.returns-clause-stands
 returns-clause-stands g c = λ s told stands.
@@ -61,15 +44,11 @@ returns-clause-undamaged g c = λ place told broken.
     place told (subst (λ (image : List ℕ). IsBrokenAt image place) (sym (c.sync.ensures.content told)) broken)
 
 pub returns-clause-keeps : goal.returns-clause-keeps
-returns-clause-keeps g c = λ opened is.
-    if_ok c.load.result (λ (store : Store). Stands g.D.Disk.tells (g.D.Disk.state c.load.new.disk) (Keeps store opened)) (λ store loaded.
-    let held = IfOk-at_ok (λ (store : Store). (s : State) × (g.D.Disk.tells → Holds store s (g.D.Disk.state c.sync.new.self).content)) loaded c.load.ensures.loaded in
-    keeps_stand g.D.Disk.tells (g.D.Disk.state c.load.new.disk) store (g.met.D.Disk.lawful c.load.new.disk)
-    (only_same g.D.Disk.tells (g.D.Disk.state c.sync.new.self) (g.met.D.Disk.lawful c.sync.new.self)
-    (only_synced g.D.Disk.tells (g.D.Disk.state c.args.disk.now) (g.D.Disk.state c.sync.new.self) (g.met.D.Disk.lawful c.sync.new.self) c.in-Ok.ensures.durable c.sync.ensures.content)
-    (g.D.Disk.state c.load.new.disk) c.load.ensures.images c.load.ensures.content)
-    held.0 (λ told. subst (Holds store held.0) (sym (c.load.ensures.content told)) (held.1 told))
-    opened (λ told. subst (λ (image : List ℕ). IsPlainly opened image) (sym (c.load.ensures.content told ∙ c.sync.ensures.content told)) (is told)))
+returns-clause-keeps g c = λ opened told there.
+    if_ok c.load.result (λ (store : Store). Keeps store opened) (λ store is.
+    kept store (g.D.Disk.state c.sync.new.self).content
+    (held g.D.Disk.tells (g.D.Disk.state c.sync.new.self).content c.load.result c.load.ensures.loaded c.load.ensures.no_root c.load.ensures.damaged c.load.ensures.only store is told)
+    opened (subst (IsOpened opened) (sym (c.sync.ensures.content told)) there))
 
 pub returns-clause-settled : goal.returns-clause-settled
 returns-clause-settled g c =

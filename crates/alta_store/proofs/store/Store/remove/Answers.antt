@@ -4,73 +4,71 @@ use Rattle.alta_journal.specs.Record.{Record}
 use Rattle.alta_journal.specs.declared.entry.Entry.TheVariants.{Delete}
 use Rattle.alta_store.specs.Meaning.{StandsForEither}
 use Rattle.alta_images.specs.States.{with_deleted}
-use Rattle.alta_store.proofs.Agreements.{images_stand}
-use Rattle.alta_store.proofs.Commits.{closed, either, agrees_after, keeps_after, knows_deleted, delete_allowed, deleted_after, fits_ok, fits_failed, room_left, too_long, unmoved}
+use Rattle.alta_store.proofs.Agreements.{images_stand, knows_of}
+use Rattle.alta_store.proofs.Commits.{closed, either, agrees_after, keeps_after, stands_after, delete_knows, delete_allowed, deleted_after, fits_ok, fits_failed, room_left, too_long, unmoved}
 use Rattle.alta_store.proofs.FollowingLaws.{live_number}
 use Rattle.alta_store.proofs.store.Store.remove.Goals as goal
 
 pub append-requires-clause-closed : goal.append-requires-clause-closed
 append-requires-clause-closed g c =
-    closed g.D.Disk.tells (g.D.Disk.state c.args.disk.now) (g.met.D.Disk.lawful c.args.disk.now) c.args.self.now c.requires.agrees.0 c.requires.agrees.1
+    closed g.D.Disk.tells (g.D.Disk.state c.args.disk.now) (g.met.D.Disk.lawful c.args.disk.now) c.args.self.now c.requires.agrees
 
 pub remove-requires : goal.remove-requires
 remove-requires g c =
-    let intact = c.requires.agrees.1.intact in
+    let intact = c.requires.agrees.intact in
     (intact.0, intact.1, live_number c.args.self.now.catalog intact.0 intact.1 c.args.name.now c.args.number c.requires.named)
 
 pub returns-in-Ok-append-clause-agrees : goal.returns-in-Ok-append-clause-agrees
-returns-in-Ok-append-clause-agrees g c = λ s agrees.
-    let entry_is = ap (λ (r : Record). r.entry) c.in-Ok.ensures in
-    agrees_after g.D.Disk.tells (g.D.Disk.state c.args.disk.now) (g.met.D.Disk.lawful c.args.disk.now) c.args.self.now s agrees
-    c.in-Ok.ready.entry (with_deleted c.args.name.now s)
-    (deleted_after g.D.Disk.tells (g.D.Disk.state c.args.disk.now) (g.met.D.Disk.lawful c.args.disk.now) c.args.self.now s agrees c.args.name.now c.args.number c.in-Ok.ready.entry entry_is c.requires.named)
-    (delete_allowed g.D.Disk.tells (g.D.Disk.state c.args.disk.now) (g.met.D.Disk.lawful c.args.disk.now) c.args.self.now s agrees c.args.name.now c.args.number c.in-Ok.ready.entry entry_is c.requires.named)
+returns-in-Ok-append-clause-agrees g c =
+    agrees_after g.D.Disk.tells (g.D.Disk.state c.args.disk.now) (g.met.D.Disk.lawful c.args.disk.now) c.args.self.now c.requires.agrees
+    c.in-Ok.ready.entry (delete_allowed c.args.self.now c.args.name.now c.args.number c.in-Ok.ready.entry (ap (λ (r : Record). r.entry) c.in-Ok.ensures) c.requires.named)
     (fits_ok _ _ _ c.in-Ok-append.ensures.full)
     (g.D.Disk.state c.append.new.disk) c.in-Ok-append.ensures.images (g.met.D.Disk.lawful c.append.new.disk) c.in-Ok-append.ensures.durable c.in-Ok-append.ensures.appended
-    _ c.in-Ok-append.ensures.tail c.in-Ok-append.ensures.half
-    (λ told. knows_deleted c.args.self.now c.remove.new.self s (agrees.content told).knows c.args.name.now c.args.number c.requires.named c.in-Ok-remove.ensures)
-    (with_deleted c.args.name.now agrees.intact.0, knows_deleted c.args.self.now c.remove.new.self agrees.intact.0 agrees.intact.1 c.args.name.now c.args.number c.requires.named c.in-Ok-remove.ensures)
+    _ c.in-Ok-append.ensures.tail c.in-Ok-append.ensures.half (delete_knows c.args.self.now c.args.name.now c.args.number c.in-Ok.ready.entry (ap (λ (r : Record). r.entry) c.in-Ok.ensures) c.requires.named _ c.in-Ok-remove.ensures)
+
+pub returns-in-Ok-append-clause-stands : goal.returns-in-Ok-append-clause-stands
+returns-in-Ok-append-clause-stands g c = λ s told stands.
+    stands_after g.D.Disk.tells (g.D.Disk.state c.args.disk.now) (g.met.D.Disk.lawful c.args.disk.now) c.args.self.now c.requires.agrees
+    c.in-Ok.ready.entry (delete_allowed c.args.self.now c.args.name.now c.args.number c.in-Ok.ready.entry (ap (λ (r : Record). r.entry) c.in-Ok.ensures) c.requires.named)
+    (fits_ok _ _ _ c.in-Ok-append.ensures.full)
+    (g.D.Disk.state c.append.new.disk) c.in-Ok-append.ensures.images (g.met.D.Disk.lawful c.append.new.disk) c.in-Ok-append.ensures.durable c.in-Ok-append.ensures.appended
+    s (with_deleted c.args.name.now s) told stands
+    (deleted_after c.args.self.now c.args.name.now c.args.number c.in-Ok.ready.entry (ap (λ (r : Record). r.entry) c.in-Ok.ensures) c.requires.named s (knows_of g.D.Disk.tells (g.D.Disk.state c.args.disk.now) c.args.self.now c.requires.agrees s told stands))
 
 pub returns-in-Ok-append-clause-keeps : goal.returns-in-Ok-append-clause-keeps
-returns-in-Ok-append-clause-keeps g c = λ opened stands.
-    let s = c.requires.agrees.0 in
-    let agrees = c.requires.agrees.1 in
-    let entry_is = ap (λ (r : Record). r.entry) c.in-Ok.ensures in
-    keeps_after g.D.Disk.tells (g.D.Disk.state c.args.disk.now) (g.met.D.Disk.lawful c.args.disk.now) c.args.self.now s agrees
-    c.in-Ok.ready.entry (with_deleted c.args.name.now s)
-    (deleted_after g.D.Disk.tells (g.D.Disk.state c.args.disk.now) (g.met.D.Disk.lawful c.args.disk.now) c.args.self.now s agrees c.args.name.now c.args.number c.in-Ok.ready.entry entry_is c.requires.named)
-    (delete_allowed g.D.Disk.tells (g.D.Disk.state c.args.disk.now) (g.met.D.Disk.lawful c.args.disk.now) c.args.self.now s agrees c.args.name.now c.args.number c.in-Ok.ready.entry entry_is c.requires.named)
+returns-in-Ok-append-clause-keeps g c = λ opened told there.
+    keeps_after g.D.Disk.tells (g.D.Disk.state c.args.disk.now) (g.met.D.Disk.lawful c.args.disk.now) c.args.self.now c.requires.agrees
+    c.in-Ok.ready.entry (delete_allowed c.args.self.now c.args.name.now c.args.number c.in-Ok.ready.entry (ap (λ (r : Record). r.entry) c.in-Ok.ensures) c.requires.named)
     (fits_ok _ _ _ c.in-Ok-append.ensures.full)
     (g.D.Disk.state c.append.new.disk) c.in-Ok-append.ensures.images (g.met.D.Disk.lawful c.append.new.disk) c.in-Ok-append.ensures.durable c.in-Ok-append.ensures.appended
-    _ c.in-Ok-append.ensures.tail c.in-Ok-append.ensures.half (Delete c.args.number) entry_is opened stands
+    _ c.in-Ok-append.ensures.tail c.in-Ok-append.ensures.half (delete_knows c.args.self.now c.args.name.now c.args.number c.in-Ok.ready.entry (ap (λ (r : Record). r.entry) c.in-Ok.ensures) c.requires.named _ c.in-Ok-remove.ensures)
+    (Delete c.args.number) (ap (λ (r : Record). r.entry) c.in-Ok.ensures) opened told there
 
 pub returns-in-Ok-append-clause-images : goal.returns-in-Ok-append-clause-images
-returns-in-Ok-append-clause-images g c = λ s agrees.
-    let entry_is = ap (λ (r : Record). r.entry) c.in-Ok.ensures in
-    either g.D.Disk.tells (g.D.Disk.state c.args.disk.now) (g.met.D.Disk.lawful c.args.disk.now) c.args.self.now s agrees
-    c.in-Ok.ready.entry (with_deleted c.args.name.now s)
-    (deleted_after g.D.Disk.tells (g.D.Disk.state c.args.disk.now) (g.met.D.Disk.lawful c.args.disk.now) c.args.self.now s agrees c.args.name.now c.args.number c.in-Ok.ready.entry entry_is c.requires.named)
-    (delete_allowed g.D.Disk.tells (g.D.Disk.state c.args.disk.now) (g.met.D.Disk.lawful c.args.disk.now) c.args.self.now s agrees c.args.name.now c.args.number c.in-Ok.ready.entry entry_is c.requires.named)
+returns-in-Ok-append-clause-images g c = λ s stands.
+    either g.D.Disk.tells (g.D.Disk.state c.args.disk.now) (g.met.D.Disk.lawful c.args.disk.now) c.args.self.now c.requires.agrees
+    c.in-Ok.ready.entry (delete_allowed c.args.self.now c.args.name.now c.args.number c.in-Ok.ready.entry (ap (λ (r : Record). r.entry) c.in-Ok.ensures) c.requires.named)
     (fits_ok _ _ _ c.in-Ok-append.ensures.full)
     (g.D.Disk.state c.append.new.disk) c.in-Ok-append.ensures.images
+    s (with_deleted c.args.name.now s) stands
+    (λ told. deleted_after c.args.self.now c.args.name.now c.args.number c.in-Ok.ready.entry (ap (λ (r : Record). r.entry) c.in-Ok.ensures) c.requires.named s (knows_of g.D.Disk.tells (g.D.Disk.state c.args.disk.now) c.args.self.now c.requires.agrees s told (stands told)))
 
 pub returns-in-Err-Full-clause-images : goal.returns-in-Err-Full-clause-images
-returns-in-Err-Full-clause-images g c = λ s agrees.
+returns-in-Err-Full-clause-images g c = λ s stands.
     unmoved g.D.Disk.state c.args.disk.now c.append.new.disk (sym (c.in-Err-Full.ensures.full (too_long _ _ _ _ _ c.in-Err-Full.field-0-is c.in-Err-Full.ensures.room)).1) (StandsForEither s (with_deleted c.args.name.now s))
     (leaves_start g.D.Disk.tells (g.D.Disk.state c.args.disk.now) (StandsForEither s (with_deleted c.args.name.now s)) (g.met.D.Disk.lawful c.args.disk.now)
-    (λ image here. inl (images_stand g.D.Disk.tells (g.D.Disk.state c.args.disk.now) c.args.self.now s (g.met.D.Disk.lawful c.args.disk.now) agrees image here)))
+    (λ image here. inl (images_stand g.D.Disk.tells (g.D.Disk.state c.args.disk.now) s (g.met.D.Disk.lawful c.args.disk.now) c.requires.agrees.settled stands image here)))
 
 pub returns-clause-images : goal.returns-clause-images
-returns-clause-images g c = λ s agrees.
-    let entry_is = ap (λ (r : Record). r.entry) c.in-Ok.ensures in
-    either g.D.Disk.tells (g.D.Disk.state c.args.disk.now) (g.met.D.Disk.lawful c.args.disk.now) c.args.self.now s agrees
-    c.in-Ok.ready.entry (with_deleted c.args.name.now s)
-    (deleted_after g.D.Disk.tells (g.D.Disk.state c.args.disk.now) (g.met.D.Disk.lawful c.args.disk.now) c.args.self.now s agrees c.args.name.now c.args.number c.in-Ok.ready.entry entry_is c.requires.named)
-    (delete_allowed g.D.Disk.tells (g.D.Disk.state c.args.disk.now) (g.met.D.Disk.lawful c.args.disk.now) c.args.self.now s agrees c.args.name.now c.args.number c.in-Ok.ready.entry entry_is c.requires.named)
+returns-clause-images g c = λ s stands.
+    either g.D.Disk.tells (g.D.Disk.state c.args.disk.now) (g.met.D.Disk.lawful c.args.disk.now) c.args.self.now c.requires.agrees
+    c.in-Ok.ready.entry (delete_allowed c.args.self.now c.args.name.now c.args.number c.in-Ok.ready.entry (ap (λ (r : Record). r.entry) c.in-Ok.ensures) c.requires.named)
     (fits_failed _ _ _ c.in-Err-Disk.field-0-is c.in-Err-Disk.ensures.full)
     (g.D.Disk.state c.append.new.disk) c.in-Err-Disk.ensures.images
+    s (with_deleted c.args.name.now s) stands
+    (λ told. deleted_after c.args.self.now c.args.name.now c.args.number c.in-Ok.ready.entry (ap (λ (r : Record). r.entry) c.in-Ok.ensures) c.requires.named s (knows_of g.D.Disk.tells (g.D.Disk.state c.args.disk.now) c.args.self.now c.requires.agrees s told (stands told)))
 
 pub returns-in-Err-Full-clause-full_room : goal.returns-in-Err-Full-clause-full_room
 returns-in-Err-Full-clause-full_room g c = λ need gap told e.
     let full = c.in-Err-Full.ensures.full (too_long _ _ _ _ _ c.in-Err-Full.field-0-is c.in-Err-Full.ensures.room) in
-    room_left g.D.Disk.state c.args.disk.now c.append.new.disk full.1 c.args.self.now c.requires.agrees.0 (c.requires.agrees.1.content told) _ _ _ need gap _ c.in-Err-Full.field-0-is full.0 e
+    room_left g.D.Disk.state c.args.disk.now c.append.new.disk full.1 c.args.self.now (c.requires.agrees.content told) _ _ _ need gap _ c.in-Err-Full.field-0-is full.0 e
