@@ -158,7 +158,7 @@ below_root root levels rows ordered =
     (and_left (nat_lt row.number root.next_number) (nat_lt (end_of row) root.next_location) (and_left (is_below root row) (list_all (λ (earlier : DocRow). comes_behind earlier row) (rows_in levels)) e)))
     (all_from (λ (row : DocRow). is_below root row && list_all (λ (earlier : DocRow). comes_behind earlier row) (rows_in levels)) rows ordered)
 
-level_ordered : (root : Root) (deleted : List ℕ) (levels : List Tables) (level : Tables) (live : List Named) → AreDocuments level.documents → are_in_order root levels level.documents ≡ true
+pub level_ordered : (root : Root) (deleted : List ℕ) (levels : List Tables) (level : Tables) (live : List Named) → AreDocuments level.documents → are_in_order root levels level.documents ≡ true
     → names_in deleted levels level ≡ Ok live → IsOrdered (known_at root deleted levels) → IsOrdered (known_at root deleted (levels ++ level ∷ []))
 level_ordered root deleted levels level live are ordered names known =
     let rise : Rise 0 level.documents = rise_from start level.documents are in

@@ -3,7 +3,7 @@ pub mod Cells
 mod ContentRows
 pub mod Contents
 pub mod Drained
-mod Ends
+pub mod Ends
 pub mod Keyed
 pub mod Live
 pub mod Made

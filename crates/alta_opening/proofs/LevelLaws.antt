@@ -1,15 +1,20 @@
 -- A level behind those that were opened.
 use Rattle.std.proofs.Common.{◌≡◌, ℕ, suc, ◌+◌, ◌<◌, ◌≤◌, true, false, List, [], ◌∷◌, ◌++◌, length, take, drop, get_or, drop-cons, refl, sym, ap, subst, ◌∙◌, Result, Ok, Err, arith}
-use Rattle.std.specs.Prelude.{None}
+use Rattle.std.specs.Prelude.{None, nat_lt, ◌&&◌}
 use Rattle.std.specs.BTreeMap.{get_by_text}
 use Rattle.std.proofs.lemmas.List.{get_or_default, take-append-drop, take_more}
 use Rattle.std.proofs.lemmas.List.Sums.{sum_by_more, sum_by_more_le}
-use Rattle.std.specs.List.{sum_by}
+use Rattle.std.specs.List.{sum_by, list_all}
+use Rattle.std.proofs.lemmas.List.Elements.{All-nil, All-append}
+use Rattle.alta_content.specs.Rows.{end_of}
+use Rattle.alta_content.specs.declared.document.DocRow.{DocRow}
+use Rattle.alta_images.specs.Ordered.{AreBelow, IsOrdered}
 use Rattle.alta_codec.specs.declared.extent.Extent.{Extent}
 use Rattle.alta_content.specs.Rows.{AreDocuments, AreDocumentsBehind, start}
 use Rattle.alta_images.specs.Known.{Named}
-use Rattle.alta_images.specs.Opened.{are_in_order, levels_from, live_in, names_in, rows_in, tables_at, with_level}
-use Rattle.alta_images.proofs.OrderLaws.{live_append, rows_more}
+use Rattle.alta_images.specs.Opened.{are_in_order, comes_behind, is_below, known_at, levels_from, live_in, names_in, rows_in, tables_at, with_level}
+use Rattle.alta_images.proofs.KnownLaws.{all_weaker}
+use Rattle.alta_images.proofs.OrderLaws.{all_from, and_left, and_right, below_from, level_ordered, live_append, rows_more}
 use Rattle.alta_images.proofs.Steps.{levels_append}
 use Rattle.alta_root.specs.declared.root.Root.{Root}
 use Rattle.alta_table.specs.Tables.{Tables}
@@ -22,10 +27,16 @@ use Rattle.alta_opening.specs.declared.fault.OpeningFault.TheVariants as faults
 use Rattle.alta_opening.specs.declared.levels.Levels.{Levels}
 use Rattle.alta_opening.proofs.RowLaws.{behind_any, behind_append, order_extends, rows_append}
 
-pub reached_none : (deleted : List ℕ) (found : Levels) → found.levels.items ≡ [] → left_by found.last ≡ start → ((q : List ℕ) → get_by_text found.names q ≡ None) → HasReached deleted found
+-- a row lies below the next number and location of the root
+abbrev IsBelow : Root → DocRow → Type 0
+IsBelow root row = (row.number < root.next_number) × (end_of row < root.next_location)
+
+pub reached_none : (root : Root) (deleted : List ℕ) (found : Levels) → found.levels.items ≡ [] → left_by found.last ≡ start → ((q : List ℕ) → get_by_text found.names q ≡ None) → HasReached root deleted found
 unfolding AreDocumentsBehind
-reached_none deleted found none last names = record {
+reached_none root deleted found none last names = record {
   rows = subst (λ (ls : List Tables). AreDocuments (rows_in ls)) (sym none) tt;
+  below = subst (λ (ls : List Tables). AreBelow root (rows_in ls)) (sym none) (All-nil (IsBelow root));
+  ordered = subst (λ (ls : List Tables). IsOrdered (known_at root deleted ls)) (sym none) (record { ordered = tt; within = All-nil (λ (row : Named). (1 ≤ row.number) × (row.number < root.next_number)) });
   last = last ∙ ap (λ (ls : List Tables). behind_rows start (rows_in ls)) (sym none);
   names = subst (λ (ls : List Tables). AreNames found.names (live_in deleted (rows_in ls))) (sym none) names;
 }
@@ -50,14 +61,28 @@ no_tables root deleted levels extent image place found = rw found refl
 
 -- ---- what is kept behind one more
 
-pub reached_more : (root : Root) (deleted : List ℕ) (old new : Levels) (level : Tables) → HasReached deleted old → AreDocuments level.documents → 0 < length level.documents
+-- rows that are in order do
+all_below : (root : Root) (levels : List Tables) (rows : List DocRow) → are_in_order root levels rows ≡ true → AreBelow root rows
+all_below root levels rows ordered =
+    all_weaker (λ (row : DocRow). (is_below root row && list_all (λ (earlier : DocRow). comes_behind earlier row) (rows_in levels)) ≡ true) (IsBelow root) rows
+    (λ row e.
+    let below = and_left (is_below root row) (list_all (λ (earlier : DocRow). comes_behind earlier row) (rows_in levels)) e in
+    (below_from row.number root.next_number (and_left (nat_lt row.number root.next_number) (nat_lt (end_of row) root.next_location) below),
+    below_from (end_of row) root.next_location (and_right (nat_lt row.number root.next_number) (nat_lt (end_of row) root.next_location) below)))
+    (all_from (λ (row : DocRow). is_below root row && list_all (λ (earlier : DocRow). comes_behind earlier row) (rows_in levels)) rows ordered)
+
+pub reached_more : (root : Root) (deleted : List ℕ) (old new : Levels) (level : Tables) → HasReached root deleted old → AreDocuments level.documents → 0 < length level.documents
     → are_in_order root old.levels.items level.documents ≡ true → new.levels.items ≡ old.levels.items ++ level ∷ [] → left_by new.last ≡ behind_rows start level.documents
-    → AreNames new.names (live_in deleted (rows_in old.levels.items) ++ live_in deleted level.documents) → HasReached deleted new
-reached_more root deleted old new level reached are some ordered levels last names =
+    → names_in deleted old.levels.items level ≡ Ok (live_in deleted (rows_in old.levels.items) ++ live_in deleted level.documents)
+    → AreNames new.names (live_in deleted (rows_in old.levels.items) ++ live_in deleted level.documents) → HasReached root deleted new
+reached_more root deleted old new level reached are some ordered levels last differ names =
     let before = behind_rows start (rows_in old.levels.items) in
     let rows : rows_in new.levels.items ≡ rows_in old.levels.items ++ level.documents = ap rows_in levels ∙ rows_more old.levels.items level in
     record {
       rows = subst AreDocuments (sym rows) (rows_append start (rows_in old.levels.items) level.documents reached.rows (order_extends root old.levels.items level.documents reached.rows are ordered));
+      below = subst (AreBelow root) (sym rows) (All-append (IsBelow root) (rows_in old.levels.items) level.documents reached.below (all_below root old.levels.items level.documents ordered));
+      ordered = subst (λ (ls : List Tables). IsOrdered (known_at root deleted ls)) (sym levels)
+          (level_ordered root deleted old.levels.items level (live_in deleted (rows_in old.levels.items) ++ live_in deleted level.documents) are ordered differ reached.ordered);
       last = last ∙ behind_any start before level.documents some ∙ sym (behind_append start (rows_in old.levels.items) level.documents) ∙ ap (behind_rows start) (sym rows);
       names = subst (AreNames new.names) (sym (ap (live_in deleted) rows ∙ live_append deleted (rows_in old.levels.items) level.documents)) names;
     }
@@ -96,6 +121,10 @@ pub extent_at : (extents same : List Extent) (i : ℕ) (d : Extent) → same ≡
 extent_at extents same i d is inside =
     let here : i < length extents = subst (λ (es : List Extent). i < length es) is inside in
     record { inside = here; is = ap (λ (es : List Extent). get_or es i d) is ∙ get_or_default extents i d (get_or same i d) here }
+
+-- the extents up to behind one
+pub extents_more : (extents : List Extent) (i : ℕ) (extent : Extent) → IsAt extents i extent → take i extents ++ extent ∷ [] ≡ take (i + 1) extents
+extents_more extents i extent at = ap (λ (e : Extent). take i extents ++ e ∷ []) at.is ∙ sym (take_more extents i extent at.inside)
 
 -- what is counted of the extents up to behind one
 pub counted_more : (f : Extent → ℕ) (extents : List Extent) (i : ℕ) (extent : Extent) → IsAt extents i extent → sum_by f (take (i + 1) extents) ≡ sum_by f (take i extents) + f extent

@@ -1,4 +1,5 @@
 pub mod Costs
+pub mod Extents
 pub mod Names
 pub mod Reached
 pub mod Rows

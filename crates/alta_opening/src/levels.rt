@@ -1,5 +1,5 @@
 // The levels of a root, the oldest first.
-ghost use Rattle.std.specs.Prelude.{◌≡◌, ◌≢◌, ◌+◌, ◌≤◌, ℕ, [], length, Ok, Err, IfOk, OnOk};
+ghost use Rattle.std.specs.Prelude.{◌≡◌, ◌≢◌, ◌+◌, ◌++◌, ◌∷◌, ◌≤◌, ℕ, [], length, map, Ok, Err, IfOk, OnOk};
 ghost use Rattle.std.specs.List.{All, sum_by};
 ghost use Rattle.alta_codec.specs.Faults.{Rose};
 ghost use Rattle.alta_codec.specs.Rising.{IsRising};
@@ -7,6 +7,7 @@ ghost use Rattle.alta_disk.specs.Calls.{Reads};
 ghost use Rattle.alta_disk.specs.Disk.{DiskState};
 ghost use Rattle.alta_images.specs.Opened.{levels_in, with_level};
 ghost use Rattle.alta_opening.specs.Costs.{level_bytes};
+ghost use Rattle.alta_opening.specs.Extents.{extent_of};
 ghost use Rattle.alta_opening.specs.Reached.{HasReached};
 ghost use Rattle.alta_opening.specs.Steps.{Answers, LiesWithin, admitted};
 ghost use Rattle.alta_root.specs.declared.places.TheConstants.{LEVEL_BYTES};
@@ -33,8 +34,8 @@ pub(crate) struct Levels {
 }
 
 // No level.
-fn no_levels(alloc: Global, deleted: &[Loc]) -> Levels
-    ensures reached { HasReached deleted.now result }
+fn no_levels(alloc: Global, root: &Root, deleted: &[Loc]) -> Levels
+    ensures reached { HasReached root.now deleted.now result }
     ensures none { result.levels.items ≡ [] }
 {
     Levels {
@@ -53,10 +54,11 @@ fn admit(
     extent: Extent,
     level: Table,
 ) -> Result<(), OpeningFault>
-    requires reached { HasReached deleted.now found.old }
+    requires reached { HasReached root.now deleted.now found.old }
     requires rising { IsRising deleted.now }
-    ensures reached { OnOk result (HasReached deleted.now found.new) }
+    ensures reached { OnOk result (HasReached root.now deleted.now found.new) }
     ensures levels { OnOk result (admitted root.now deleted.now found.old.levels.items extent level ≡ Ok found.new.levels.items) }
+    ensures pushed { OnOk result (found.new.levels.items ≡ found.old.levels.items ++ level ∷ []) }
     ensures damaged { (place : ℕ) → result ≡ Err (Damaged place) → admitted root.now deleted.now found.old.levels.items extent level ≡ Err place }
     ensures disk { result ≢ Err DiskFault }
 {
@@ -82,12 +84,13 @@ fn add_level<D: Disk>(
     found: &mut Levels,
     extent: Extent,
 ) -> Result<(), OpeningFault>
-    requires reached { HasReached deleted.now found.old }
+    requires reached { HasReached root.now deleted.now found.old }
     requires rising { IsRising deleted.now }
     requires long { D.tells → LEVEL_BYTES ≤ extent.bytes }
     requires inside { D.tells → LiesWithin extent (length (D.state disk.old).content) limit }
-    ensures reached { OnOk result (HasReached deleted.now found.new) }
+    ensures reached { OnOk result (HasReached root.now deleted.now found.new) }
     ensures levels { D.tells → OnOk result (with_level root.now deleted.now found.old.levels.items extent (D.state disk.old).content ≡ Ok found.new.levels.items) }
+    ensures extents { OnOk result (map extent_of found.new.levels.items ≡ map extent_of found.old.levels.items ++ extent ∷ []) }
     ensures damaged { D.tells → (place : ℕ) → result ≡ Err (Damaged place) → with_level root.now deleted.now found.old.levels.items extent (D.state disk.old).content ≡ Err place }
     ensures cause { result ≡ Err DiskFault → Rose (D.state disk.old).faults (D.state disk.new).faults }
     ensures reads { Reads D.tells extent.bytes (D.state disk.old) (D.state disk.new) }
@@ -110,13 +113,14 @@ pub(crate) fn read_levels<D: Disk>(
 ) -> Result<Levels, OpeningFault>
     requires rising { IsRising deleted.now }
     requires inside { D.tells → All (λ extent. (LEVEL_BYTES ≤ extent.bytes) × LiesWithin extent (length (D.state disk.old).content) limit) root.now.levels.items }
-    ensures reached { IfOk result (HasReached deleted.now) }
+    ensures reached { IfOk result (HasReached root.now deleted.now) }
+    ensures extents { IfOk result (λ found. map extent_of found.levels.items ≡ root.now.levels.items) }
     ensures exact { D.tells → Answers (λ found. found.levels.items) result (levels_in root.now deleted.now (D.state disk.old).content) }
     ensures cause { result ≡ Err DiskFault → Rose (D.state disk.old).faults (D.state disk.new).faults }
     ensures reads { Reads D.tells (sum_by (λ extent. extent.bytes) root.now.levels.items) (D.state disk.old) (D.state disk.new) }
     ensures taken { D.tells → (D.state disk.new).taken ≤ (D.state disk.old).taken + sum_by (level_bytes (D.state disk.old).content) root.now.levels.items }
 {
-    let mut found = no_levels(alloc, deleted);
+    let mut found = no_levels(alloc, root, deleted);
     let extents = root.levels.as_slice();
     for extent in extents {
         match add_level(alloc, disk, root, deleted, limit, &mut found, *extent) {

@@ -5,6 +5,7 @@ ghost use Rattle.alta_disk.specs.Calls.{Reads};
 ghost use Rattle.alta_disk.specs.Disk.{DiskState};
 ghost use Rattle.alta_images.specs.Opened.{tables_at};
 ghost use Rattle.alta_opening.specs.Costs.{level_bytes};
+ghost use Rattle.alta_opening.specs.Extents.{extent_of};
 ghost use Rattle.alta_opening.specs.Steps.{Answers, outer};
 ghost use Rattle.alta_opening.specs.declared.fault.OpeningFault.TheVariants.{Disk as DiskFault};
 
@@ -39,6 +40,7 @@ pub(crate) fn read_tables<D: Disk>(
     requires below { extent.place + extent.bytes < 2 ^ 64 }
     requires inside { D.tells → extent.place + extent.bytes ≤ length (D.state disk.old).content }
     ensures exact { D.tells → Answers (λ table. table) result (tables_at extent (D.state disk.old).content) }
+    ensures extent { IfOk result (λ table. extent_of table ≡ extent) }
     ensures cause { result ≡ Err DiskFault → Rose (D.state disk.old).faults (D.state disk.new).faults }
     ensures reads { Reads D.tells extent.bytes (D.state disk.old) (D.state disk.new) }
     ensures taken { D.tells → (D.state disk.new).taken ≤ (D.state disk.old).taken + level_bytes (D.state disk.old).content extent }

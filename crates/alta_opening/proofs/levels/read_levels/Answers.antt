@@ -1,4 +1,4 @@
-use Rattle.std.proofs.Common.{◌+◌, ◌∙◌, take, get_or, List, ℕ, Err, refl, sym, ap, arith}
+use Rattle.std.proofs.Common.{◌+◌, ◌++◌, ◌∷◌, [], ◌∙◌, take, get_or, List, ℕ, Err, refl, sym, ap, arith}
 use Rattle.std.specs.List.{sum_by}
 use Rattle.alta_codec.specs.declared.extent.Extent.{Extent}
 use Rattle.alta_images.specs.Opened.{levels_in, with_level}
@@ -7,7 +7,7 @@ use Rattle.alta_opening.specs.Costs.{level_bytes}
 use Rattle.alta_opening.specs.declared.fault.OpeningFault.{OpeningFault}
 use Rattle.alta_opening.specs.declared.levels.Levels.{Levels}
 use Rattle.alta_opening.proofs.DiskReads.{reads_then, reads_within}
-use Rattle.alta_opening.proofs.LevelLaws.{counted_all, counted_more, error_answers, extent_at, levels_more, levels_stop}
+use Rattle.alta_opening.proofs.LevelLaws.{extents_more, counted_all, counted_more, error_answers, extent_at, levels_more, levels_stop}
 use Rattle.alta_opening.proofs.levels.read_levels.Goals as goal
 
 pub returns-in-Err-clause-exact : goal.returns-in-Err-clause-exact
@@ -54,6 +54,7 @@ loop-extent-preserved g c =
     let so_far : ℕ = sum_by (λ (e : Extent). e.bytes) (take i extents) in
     record {
       reached = c.in-Ok.ensures.reached;
+      extents = c.in-Ok.ensures.extents ∙ ap (λ (es : List Extent). es ++ extent ∷ []) c.loop-extent.invariant.extents ∙ extents_more extents i extent at;
       levels = λ told. levels_more c.args.root.now c.args.deleted.now image extents i extent at.inside at.is levels (c.loop-extent.invariant.levels told) _
           (ap (with_level c.args.root.now c.args.deleted.now levels extent) (sym (c.loop-extent.invariant.reads.content told)) ∙ c.in-Ok.ensures.levels told);
       reads = reads_then g.D.Disk.tells so_far extent.bytes _ _ _ _ (counted_more (λ (e : Extent). e.bytes) extents i extent at) c.loop-extent.invariant.reads c.add_level.ensures.reads;

@@ -1,4 +1,4 @@
-use Rattle.std.proofs.Common.{◌≡◌, ◌+◌, ◌∙◌, take, length, sym, ap, subst, Err, List, ℕ, Result, arith}
+use Rattle.std.proofs.Common.{◌≡◌, ◌+◌, ◌∙◌, take, length, sym, ap, ap₂, subst, Err, List, ℕ, Result, arith}
 use Rattle.alta_images.specs.Opened.{tables_at}
 use Rattle.alta_table.specs.Answers.{Answers as TableAnswers}
 use Rattle.alta_table.specs.Tables.{Tables, tables_of}
@@ -18,6 +18,9 @@ open-requires-clause-whole g c = λ h read.
     let whole : length c.deref.result.now ≡ 32 + (c.in-Ok.sizes.document_bytes + c.in-Ok.sizes.term_bytes) =
     ap (λ (l : List ℕ). length l) c.deref.ensures.value ∙ c.in_ok-bytes.ensures.long ∙ ap (λ (n : ℕ). n + (c.in-Ok.sizes.document_bytes + c.in-Ok.sizes.term_bytes)) long in
     whole_parts c.args.extent c.read.new.buf c.deref.result.now c.in-Ok.sizes h front c.in-Ok.ensures.exact whole read
+
+pub returns-in-Ok-open-clause-extent : goal.returns-in-Ok-open-clause-extent
+returns-in-Ok-open-clause-extent g c = let found = c.in-Ok-open.ensures.found in ap₂ (λ (place bytes : ℕ). record { place = place; bytes = bytes }) found.at found.keeps.filled
 
 pub returns-in-Ok-open-clause-exact : goal.returns-in-Ok-open-clause-exact
 returns-in-Ok-open-clause-exact g c = λ told.
