@@ -1,0 +1,109 @@
+-- Rows that rise, searched by halves for a number.
+use Rattle.std.proofs.Common.{◌≡◌, ⊎_elim, ℕ, zero, suc, ◌+◌, ◌<◌, ◌≤◌, false, List, [], ◌∷◌, ◌++◌, length, get_or, take, sym, ◌∙◌, ap, subst, arith}
+use Rattle.std.specs.Prelude.{◌==◌, Contains, Option, Some, None, IfSome, IfNone, Ok, Err}
+use Rattle.std.specs.List.Sorted.{IsBinarySearchResult, IsNonDecreasingBy}
+use Rattle.std.specs.Ordering.{nat_cmp, ordering_index}
+use Rattle.std.proofs.lemmas.Bool.{cases_lt}
+use Rattle.std.proofs.lemmas.Bool.Decides.{nat_tests}
+use Rattle.std.proofs.lemmas.Cmp.{ranked}
+use Rattle.std.proofs.lemmas.Grind.{flat_map-append}
+use Rattle.std.proofs.lemmas.List.{append-nil, take_all, take_more}
+use Rattle.std.proofs.lemmas.List.Elements.{All-append, Contains-append_left, Contains-append_right, Contains-get_or}
+use Rattle.alta_content.specs.Rows.{AreDocumentsBehind, Before, behind_row}
+use Rattle.alta_content.specs.declared.document.DocRow.{DocRow}
+use Rattle.alta_images.specs.Opened.{rows_in}
+use Rattle.alta_images.proofs.Tests.{apart_test}
+use Rattle.alta_table.specs.Tables.{Tables}
+use Rattle.alta_catalog.specs.Finding.{AreOther, FollowOn}
+
+pub if_some : {X : Type 0} (o : Option X) (P Q : X → Type 0) → ((x : X) → P x → Q x) → IfSome o P → IfSome o Q
+if_some (Some x) P Q weaker holds = weaker x holds
+if_some None P Q weaker holds = tt
+
+pub if_none : {X : Type 0} (o : Option X) (P Q : Type 0) → (P → Q) → IfNone o P → IfNone o Q
+if_none (Some x) P Q weaker holds = tt
+if_none None P Q weaker holds = weaker holds
+
+-- ---- by halves
+
+at_least : (before : Before) (rows : List DocRow) → AreDocumentsBehind before rows → (j : ℕ) (e : DocRow) → j < length rows → before.number < (get_or rows j e).number
+unfolding AreDocumentsBehind
+at_least before [] are j e inside = absurd (omega (arith, inside))
+at_least before (row ∷ rows) are zero e inside = are.0.rises
+at_least before (row ∷ rows) are (suc j) e inside = omega (arith, are.0.rises, at_least (behind_row before row) rows are.1 j e (omega (arith, inside)))
+
+numbers_rise : (before : Before) (rows : List DocRow) → AreDocumentsBehind before rows → (i j : ℕ) (e : DocRow) → i ≤ j → j < length rows → (get_or rows i e).number ≤ (get_or rows j e).number
+unfolding AreDocumentsBehind
+numbers_rise before [] are i j e le inside = absurd (omega (arith, inside))
+numbers_rise before (row ∷ rows) are zero zero e le inside = omega arith
+numbers_rise before (row ∷ rows) are zero (suc j) e le inside = omega (arith, at_least (behind_row before row) rows are.1 j e (omega (arith, inside)))
+numbers_rise before (row ∷ rows) are (suc i) zero e le inside = absurd (omega (arith, le))
+numbers_rise before (row ∷ rows) are (suc i) (suc j) e le inside = numbers_rise (behind_row before row) rows are.1 i j e (omega (arith, le)) (omega (arith, inside))
+
+comparisons_rise : (n : ℕ) (before : Before) (rows : List DocRow) → AreDocumentsBehind before rows → IsNonDecreasingBy (λ (row : DocRow). ordering_index (nat_cmp row.number n)) rows
+comparisons_rise n before rows are i j e le inside =
+    let rises = numbers_rise before rows are i j e le inside in
+    grind (arith, nat_tests)
+
+-- what is found has the number
+pub found_here : (n : ℕ) (rows : List DocRow) (i : ℕ) (row : DocRow) → IsBinarySearchResult (λ (r : DocRow). nat_cmp r.number n) rows (Ok i) → row ≡ get_or rows i row → row.number ≡ n
+found_here n rows i row equal is = ap (λ (r : DocRow). r.number) is ∙ ranked (get_or rows i row).number n _ (sym (equal row))
+
+-- where nothing is found no row has it
+pub none_here : (n : ℕ) (before : Before) (rows : List DocRow) → AreDocumentsBehind before rows → (i : ℕ) → IsBinarySearchResult (λ (r : DocRow). nat_cmp r.number n) rows (Err i) → AreOther n rows
+none_here n before rows are i parted = λ j d inside.
+    let split = parted (comparisons_rise n before rows are) in
+    apart_test (get_or rows j d).number n
+    (λ e. ⊎_elim
+    (λ lies. let less : (get_or rows j d).number < n = ranked (get_or rows j d).number n _ (sym (split.0 j d (omega arith) lies)) in absurd (omega (arith, less, e)))
+    (λ behind. let more : n < (get_or rows j d).number = ranked (get_or rows j d).number n _ (sym (split.1 j d behind inside)) in absurd (omega (arith, more, e)))
+    (cases_lt j i))
+
+-- ---- level by level
+
+module _ (levels : List Tables) (i : ℕ) (level : Tables) (inside : i < length levels) (is : level ≡ get_or levels i level) where
+  pub rows_next : rows_in (take (i + 1) levels) ≡ rows_in (take i levels) ++ level.documents
+  rows_next =
+      ap rows_in (take_more levels i level inside ∙ ap (λ (t : Tables). take i levels ++ t ∷ []) (sym is))
+      ∙ flat_map-append (λ (t : Tables). t.documents) (take i levels) (level ∷ [])
+      ∙ ap (λ (rs : List DocRow). rows_in (take i levels) ++ rs) (append-nil level.documents)
+
+  pub others_next : (n : ℕ) → AreOther n (rows_in (take i levels)) → AreOther n level.documents → AreOther n (rows_in (take (i + 1) levels))
+  others_next n before here =
+      subst (AreOther n) (sym rows_next) (All-append (λ (row : DocRow). (row.number == n) ≡ false) (rows_in (take i levels)) level.documents before here)
+
+-- all levels are taken
+pub rows_taken : (levels : List Tables) (i : ℕ) → length levels ≤ i → (P : List DocRow → Type 0) → P (rows_in (take i levels)) → P (rows_in levels)
+rows_taken levels i past P holds = subst (λ (ls : List Tables). P (rows_in ls)) (take_all i levels past) holds
+
+-- the rows of a level are among those of all
+pub row_in_all : (levels : List Tables) (level : Tables) (row : DocRow) → Contains levels level → Contains level.documents row → Contains (rows_in levels) row
+row_in_all [] level row (k, inside, at) has = absurd (omega (arith, inside))
+row_in_all (t ∷ levels) level row (zero, inside, at) has =
+    Contains-append_left t.documents (rows_in levels) row (subst (λ (l : Tables). Contains l.documents row) (sym at) has)
+row_in_all (t ∷ levels) level row (suc k, inside, at) has =
+    Contains-append_right t.documents (rows_in levels) row (row_in_all levels level row (k, omega (arith, inside), at) has)
+
+-- ---- in memory
+
+at_number : (first : ℕ) (rows : List DocRow) → FollowOn first rows → (i : ℕ) (d : DocRow) → i < length rows → (get_or rows i d).number ≡ first + i
+at_number first [] follow i d inside = absurd (omega (arith, inside))
+at_number first (row ∷ rows) follow zero d inside = omega (arith, follow.0)
+at_number first (row ∷ rows) follow (suc i) d inside = omega (arith, at_number (first + 1) rows follow.1 i d (omega (arith, inside)))
+
+module _ (first : ℕ) (rows : List DocRow) (follow : FollowOn first rows) (levels : List DocRow) (n : ℕ) where
+  -- the row at the place of the number
+  pub found_at : (i : ℕ) (row : DocRow) → i < length rows → first + i ≡ n → row ≡ get_or rows i row → Contains (levels ++ rows) row × (row.number ≡ n)
+  found_at i row inside at is = (
+    Contains-append_right levels rows row (subst (Contains rows) (sym is) (Contains-get_or rows i row inside)),
+    ap (λ (r : DocRow). r.number) is ∙ at_number first rows follow i row inside ∙ at,
+  )
+
+  -- a number that lies outside is no row's
+  pub none_at : (first ≤ n → n < first + length rows → ⊥) → AreOther n rows
+  none_at outside = λ k d inside. apart_test (get_or rows k d).number n (λ e.
+      let at = at_number first rows follow k d inside in
+      outside (omega (arith, at, e)) (omega (arith, at, e, inside)))
+
+  pub others_both : AreOther n levels → AreOther n rows → AreOther n (levels ++ rows)
+  others_both one two = All-append (λ (row : DocRow). (row.number == n) ≡ false) levels rows one two

@@ -1,0 +1,17 @@
+pub mod DocumentLaws
+pub mod EndLaws
+pub mod EntryLaws
+pub mod FindingLaws
+pub mod KnowingLaws
+pub mod KnownLaws
+pub mod MayLaws
+pub mod Naming
+pub mod NotingLaws
+pub mod OneLevel
+pub mod RisingLaws
+pub mod SharingLaws
+pub mod SpaceLaws
+pub mod StartLaws
+pub mod StartingLaws
+pub mod TallyLaws
+pub mod WordCounts

@@ -1,0 +1,101 @@
+-- A catalog of what opening found stands at each state of which its root may speak.
+use Rattle.std.proofs.Common.{refl, ◌≡◌, ℕ, ◌+◌, ◌-◌, ◌*◌, ◌<◌, ◌≤◌, true, IsTrue, List, [], ◌++◌, length, map, sym, ◌∙◌, ap, subst, arith}
+use Rattle.std.specs.Prelude.{Contains}
+use Rattle.std.specs.List.{All, sum_by}
+use Rattle.std.proofs.lemmas.List.{append-nil}
+use Rattle.std.proofs.lemmas.List.Elements.{All-nil}
+use Rattle.alta_codec.specs.Rising.{IsRising}
+use Rattle.alta_content.specs.Rows.{AreDocuments, end_of, live_rows, start}
+use Rattle.alta_content.specs.declared.document.DocRow.{DocRow}
+use Rattle.alta_images.specs.Known.{named_of}
+use Rattle.alta_images.specs.Opened.{have_ends, live_in, rows_in}
+use Rattle.alta_images.specs.Ordered.{AreBelow, AreOrdered}
+use Rattle.alta_memlevel.specs.Added.{Added, HasContent, IsSpace}
+use Rattle.alta_memlevel.specs.Documents.{IsBefore, IsMade}
+use Rattle.alta_meta.specs.declared.document.Document.{Document}
+use Rattle.alta_meta.specs.declared.document.State.{State}
+use Rattle.alta_root.specs.Root.{IsSound}
+use Rattle.alta_root.specs.declared.root.Root.{Root}
+use Rattle.alta_catalog.specs.Counting.{cells_in, row_words}
+use Rattle.alta_catalog.specs.Knowing.{IsEndIn, KnowsBy, Notes}
+use Rattle.alta_catalog.specs.Names.{AreNames}
+use Rattle.alta_rows.specs.All.{joined, rows_in as rows_of}
+use Rattle.alta_catalog.specs.Rows.{MayStart, documents_left}
+use Rattle.alta_catalog.specs.declared.catalog.Catalog.{Catalog}
+use Rattle.alta_catalog.proofs.SpaceLaws.{rise_of}
+use Rattle.alta_catalog.proofs.StartLaws.{all_rows, cells_fit, ends_there, filled_of, live_long, live_named, live_words, name_known, names_found, space_of}
+
+-- the cells of the rows below a root are few
+pub cells_below : (root : Root) (size : ℕ) → IsSound size root → (rows : List DocRow) → AreDocuments rows → AreBelow root rows → cells_in rows < 18446744073709551616
+cells_below root size sound rows are below =
+    let fits : 0 + cells_in rows < root.next_location = cells_fit start rows root.next_location are (λ k d inside. (below k d inside).1) (omega (arith, sound.location)) in
+    omega (arith, fits, sound.location, sound.number)
+
+module _ (c : Catalog) (root : Root) (size : ℕ) (sound : IsSound size root) (gone : List ℕ) (gone_is : c.gone ≡ gone) (rows : AreDocuments (rows_in c.levels.items)) (below : AreBelow root (rows_in c.levels.items))
+    (rising : IsRising gone) (ends : have_ends c.levels.items gone ≡ true) (ordered : AreOrdered (live_in gone (rows_in c.levels.items))) (names : AreNames c.names (live_in gone (rows_in c.levels.items)))
+    (next_is : c.next ≡ root.next_number) (location_is : c.location ≡ root.next_location) (first_is : c.first ≡ root.next_number)
+    (count_is : c.count ≡ length (live_rows c.gone (rows_in c.levels.items))) (words_are : c.words ≡ sum_by row_words (live_rows c.gone (rows_in c.levels.items)))
+    (shared : joined (map rows_of c.rows.items) ≡ rows_in c.levels.items)
+    (usable : IsTrue c.memory.sound) (content : HasContent [] c.memory.content)
+    (s : State) (may : MayStart s root gone c.levels.items) where
+  abbrev olds : List Added
+  olds = may.olds
+
+  abbrev left : List Document
+  left = documents_left gone olds
+
+  space : IsSpace olds
+  space = space_of (rows_in c.levels.items) rows olds may.rows
+
+  live_is : live_in gone (rows_in c.levels.items) ≡ map named_of left
+  live_is = ap (live_in gone) (sym may.rows.rows_are) ∙ live_named gone olds
+
+  are_names : AreNames c.names (map named_of left)
+  are_names = subst (AreNames c.names) live_is names
+
+  all_below : All (λ (a : Added). (a.row.number < root.next_number) × (end_of a.row < root.next_location)) olds
+  all_below =
+      all_rows (λ (r : DocRow). (r.number < root.next_number) × (end_of r < root.next_location)) olds
+      (subst (AreBelow root) (sym may.rows.rows_are) below)
+
+  notes : Notes c.next c.names (documents_left c.gone (olds ++ [])) (record { next = root.next_number; documents = left })
+  notes = record {
+    next = next_is;
+    documents = ap (documents_left c.gone) (append-nil olds) ∙ ap (λ (g : List ℕ). documents_left g olds) gone_is;
+    names = λ q. name_known c.names left are_names q;
+    numbers = names_found c.names left are_names (subst AreOrdered live_is ordered);
+    rising = rise_of gone 0 root.next_number olds space (λ k d inside. omega arith) (λ k d inside. (all_below k d inside).0) (omega arith);
+  }
+
+  pub starts : KnowsBy c may.olds s
+  starts = subst (KnowsBy c may.olds) (sym may.state_is) (
+    record {
+      olds = olds;
+      added = [];
+      rows = may.rows;
+      sound = usable;
+      content = content;
+      shared = shared;
+      made = All-nil IsMade;
+      space = subst IsSpace (sym (append-nil olds)) space;
+      filled = subst (All (λ (a : Added). 3 ≤ a.row.cells)) (sym (append-nil olds)) (filled_of (rows_in c.levels.items) rows olds may.rows);
+      behind = subst (All (λ (a : Added). IsBefore c.next c.location a.row)) (sym (append-nil olds))
+          (λ k d inside. (omega (arith, (all_below k d inside).0, next_is), omega (arith, (all_below k d inside).1, location_is)));
+      rising = subst IsRising (sym gone_is) rising;
+      ends = λ end has.
+          subst (λ (xs : List Added). IsEndIn xs end) (sym (append-nil olds))
+          (ends_there c.levels.items olds may.rows.rows_are gone ends end (subst (λ (g : List ℕ). Contains g end) gone_is has));
+      notes = notes;
+      numbered = tt;
+      next = omega (arith, next_is, first_is);
+      from = (omega (arith, first_is, sound.number), omega (arith, location_is, sound.location));
+      fits = (omega (arith, next_is, sound.number), subst (λ (n : ℕ). c.location ≤ 1 + (n - 1) * 262146) (sym next_is) (omega (arith, location_is, sound.location)));
+      count =
+          count_is ∙ ap (λ (g : List ℕ). length (live_rows g (rows_in c.levels.items))) gone_is
+          ∙ ap (λ (rs : List DocRow). length (live_rows gone rs)) (sym may.rows.rows_are) ∙ live_long gone olds;
+      words =
+          words_are ∙ ap (λ (g : List ℕ). sum_by row_words (live_rows g (rows_in c.levels.items))) gone_is
+          ∙ ap (λ (rs : List DocRow). sum_by row_words (live_rows gone rs)) (sym may.rows.rows_are) ∙ live_words gone olds may.rows.counted;
+    },
+    refl,
+  )

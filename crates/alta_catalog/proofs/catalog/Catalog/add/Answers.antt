@@ -1,0 +1,27 @@
+use Rattle.std.proofs.Common.{◌≡◌, ◌+◌, ◌-◌, ℕ, List, length, refl, ap, arith, ◌∙◌, sym}
+use Rattle.alta_content.specs.declared.document.DocRow.{DocRow}
+use Rattle.alta_catalog.proofs.KnowingLaws.{bounded, ends_before, knows_added, numbers_before}
+use Rattle.alta_catalog.proofs.catalog.Catalog.add.Goals as goal
+
+pub add-requires-clause-number : goal.add-requires-clause-number
+add-requires-clause-number c = numbers_before c.args.self.now c.requires.knows.0 c.requires.knows.1
+
+pub add-requires-clause-place : goal.add-requires-clause-place
+add-requires-clause-place c = ends_before c.args.self.now c.requires.knows.0 c.requires.knows.1
+
+pub overflow_add-self-3 : goal.overflow_add-self-3
+overflow_add-self-3 c = omega (arith, bounded c.args.self.now c.requires.knows.0 c.requires.knows.1, c.requires.knows.1.fits)
+
+pub overflow_add-self-4 : goal.overflow_add-self-4
+overflow_add-self-4 c = omega (arith, bounded c.args.self.now c.requires.knows.0 c.requires.knows.1, c.requires.knows.1.fits)
+
+pub returns-clause-added : goal.returns-clause-added
+returns-clause-added c = λ s knows.
+    let long : c.len-count.result ≡ length c.deref.result.now = c.len-count.ensures ∙ sym c.deref.ensures.len in
+    let made : ℕ → List ℕ → DocRow = λ count name. record { number = c.args.self.now.next; first = c.args.self.now.location; cells = count; name = name } in
+    let row_is : made c.len-count.result c.from_string.result ≡ made (length c.deref.result.now) c.args.name.now =
+    ap (λ (n : ℕ). made n c.from_string.result) long
+    ∙ ap (made (length c.deref.result.now)) (c.from_string.ensures ∙ c.in_ok-from_str.ensures.ok) in
+    knows_added c.args.self.now s knows _ c.args.name.now c.args.title.now c.args.body.now c.requires.named c.utf8.title c.utf8.body c.requires.short (c.requires.free s knows) (c.requires.left s knows)
+    c.deref.result.now (c.deref.ensures.value ∙ c.in_ok-cells.ensures.value) _ row_is c.in_ok-add.ensures.sound c.in_ok-add.ensures.added c.in_ok-note.ensures refl refl refl refl refl
+    (ap (λ (n : ℕ). c.args.self.now.location + n) long) refl (ap (λ (n : ℕ). c.args.self.now.words + (n - 3)) long)

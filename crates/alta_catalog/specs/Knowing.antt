@@ -1,0 +1,95 @@
+-- What a catalog knows of a state.
+use Rattle.std.proofs.Common.{Global}
+use Rattle.std.specs.Prelude.{◌≡◌, ℕ, ◌+◌, ◌-◌, ◌*◌, ◌≤◌, IsTrue, Contains, List, [], ◌∷◌, ◌++◌, String, is_some, Some, length, map}
+use Rattle.std.specs.List.{All}
+use Rattle.std.specs.BTreeMap.{BTreeMap, get_by_text}
+use Rattle.alta_codec.specs.Rising.{IsRising}
+use Rattle.alta_content.specs.Rows.{end_of}
+use Rattle.alta_memlevel.specs.Added.{Added, HasContent, IsSpace, Level}
+use Rattle.alta_memlevel.specs.Documents.{AreMade, HasDocuments, IsBefore}
+use Rattle.alta_meta.specs.declared.document.Document.{Document}
+use Rattle.alta_meta.specs.declared.document.State.{State}
+use Rattle.alta_images.specs.Opened.{rows_in}
+use Rattle.alta_images.specs.States.{has_name, words_in}
+use Rattle.alta_catalog.specs.Rows.{AreRowsOf, documents_left}
+use Rattle.alta_catalog.specs.declared.catalog.Catalog.{Catalog}
+use Rattle.alta_rows.specs.All.{joined, rows_in as rows_of}
+use Rattle.alta_table.specs.Tables.{Tables}
+
+-- ---- names and numbers
+
+-- each document's number is found by its name
+abbrev pub AreFound : BTreeMap (String Global) ℕ → List Document → Type 0
+AreFound known [] = Unit {0}
+AreFound known (document ∷ documents) = (get_by_text known document.name ≡ Some document.number) × AreFound known documents
+
+-- the numbers of the documents rise, from at least `low` to below `next`
+abbrev pub RiseWithin : ℕ → List Document → ℕ → Type 0
+RiseWithin low [] next = low ≤ next
+RiseWithin low (document ∷ documents) next = (low ≤ document.number) × RiseWithin (document.number + 1) documents next
+
+-- This is the next number of the state, these are its documents, and these are their names.
+pub record Notes (number : ℕ) (known : BTreeMap (String Global) ℕ) (kept : List Document) (s : State) : Type 0 where
+  pub next : number ≡ s.next
+  pub documents : kept ≡ s.documents
+  pub names : (name : List ℕ) → is_some (get_by_text known name) ≡ has_name name s
+  pub numbers : AreFound known s.documents
+  pub rising : RiseWithin 0 s.documents s.next
+
+-- ---- all of it
+
+-- the documents have the numbers from this one on
+abbrev pub AreNumbered : ℕ → List Added → Type 0
+AreNumbered number [] = Unit {0}
+AreNumbered number (a ∷ added) = (a.row.number ≡ number) × AreNumbered (number + 1) added
+
+-- one of these documents has its last cell there
+abbrev pub IsEndIn : List Added → ℕ → Type 0
+IsEndIn documents end = (a : Added) × Contains documents a × (end_of a.row ≡ end)
+
+-- The catalog stands at this state. There are documents of the levels' rows, and those that were added behind them, in memory; those of
+-- both whose end is not gone are the state's. It knows their names, how many they are, and how many words they have.
+pub record Knows (c : Catalog) (s : State) : Type 0 where
+  pub olds : List Added
+  pub added : List Added
+  pub rows : AreRowsOf (rows_in c.levels.items) olds
+  pub sound : IsTrue c.memory.sound
+  pub content : HasContent added c.memory.content
+  pub shared : joined (map rows_of c.rows.items) ≡ rows_in c.levels.items
+  pub made : AreMade added
+  pub space : IsSpace (olds ++ added)
+  pub filled : All (λ (a : Added). 3 ≤ a.row.cells) (olds ++ added)
+  pub behind : All (λ (a : Added). IsBefore c.next c.location a.row) (olds ++ added)
+  pub rising : IsRising c.gone
+  pub ends : (end : ℕ) → Contains c.gone end → IsEndIn (olds ++ added) end
+  pub notes : Notes c.next c.names (documents_left c.gone (olds ++ added)) s
+  pub numbered : AreNumbered c.first added
+  pub next : c.next ≡ c.first + length added
+  pub from : (1 ≤ c.first) × (1 ≤ c.location)
+  pub fits : (c.next ≤ 4294967296) × (c.location ≤ 1 + (c.next - 1) * 262146)
+  pub count : c.count ≡ length s.documents
+  pub words : c.words ≡ words_in s
+
+-- the tables of the catalog's levels
+abbrev pub levels_of : Catalog → List Tables
+levels_of c = c.levels.items
+
+-- the ends of all documents that are gone
+abbrev pub gone_of : Catalog → List ℕ
+gone_of c = c.gone
+
+-- the level in memory
+abbrev pub memory_of : Catalog → Level
+memory_of c = c.memory
+
+-- The catalog stands at this state, with these documents of the levels' rows.
+abbrev pub KnowsBy : Catalog → List Added → State → Type 0
+KnowsBy c olds s = (knows : Knows c s) × (knows.olds ≡ olds)
+
+-- The documents of the state are those of the levels' rows whose end is not gone, with these cells, and behind them those of the level in
+-- memory; all rows rise.
+pub record AreParts (levels : List Tables) (gone : List ℕ) (memory : Level) (olds : List Added) (s : State) : Type 0 where
+  pub rows : AreRowsOf (rows_in levels) olds
+  pub newest : List Document
+  pub has : HasDocuments gone newest memory
+  pub split : s.documents ≡ documents_left gone olds ++ newest

@@ -1,0 +1,5 @@
+pub mod Counting
+pub mod Finding
+pub mod Knowing
+pub mod Names
+pub mod Rows

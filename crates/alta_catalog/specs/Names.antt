@@ -1,0 +1,38 @@
+-- The names of live documents: as a map, and as a list in order.
+use Rattle.std.proofs.Common.{Global}
+use Rattle.std.specs.Prelude.{◌≡◌, ◌↔◌, ℕ, if◌then◌else◌, List, [], ◌∷◌, map, Contains, String, string_bytes, Option, Some, None}
+use Rattle.std.specs.BTreeMap.{BTreeMap, get_by_text}
+use Rattle.std.specs.List.{All}
+use Rattle.std.specs.Str.{bytes_eq}
+use Rattle.alta_catalog.specs.declared.lists.NameRow.{NameRow}
+use Rattle.alta_codec.specs.Order.{Precedes}
+use Rattle.alta_images.specs.Known.{Named}
+use Rattle.alta_images.specs.States.{number_of as number_in}
+use Rattle.alta_meta.specs.declared.document.State.{State}
+
+-- ---- a map
+
+-- the number of the first of these with this name
+abbrev pub number_of : List ℕ → List Named → Option ℕ
+number_of name [] = None
+number_of name (row ∷ rows) = if bytes_eq name row.name then Some row.number else number_of name rows
+
+-- The map has the names of these, each with its number, and no other name.
+abbrev pub AreNames : BTreeMap (String Global) ℕ → List Named → Type 0
+AreNames names live = (name : List ℕ) → get_by_text names name ≡ number_of name live
+
+-- ---- a list
+
+-- each name comes before all those behind it, in the order of bytes
+abbrev pub Ascend : List (List ℕ) → Type 0
+Ascend [] = Unit {0}
+Ascend (name ∷ names) = All (Precedes name) names × Ascend names
+
+-- These are the names of the live documents with their numbers, in the order of bytes, each once.
+pub record AreNamesOf (s : State) (rows : List NameRow) : Type 0 where
+  pub ascending : Ascend (map (λ (row : NameRow). row.name) rows)
+  pub live : (name : List ℕ) (number : ℕ) → Contains rows (record { name = name; number = number }) ↔ (number_in name s ≡ Some number)
+
+-- the row of a name as it is kept
+abbrev pub row_of : String Global × ℕ → NameRow
+row_of entry = record { name = string_bytes entry.0; number = entry.1 }

@@ -1,0 +1,251 @@
+// What is known of all live documents.
+ghost use Rattle.std.specs.BTreeMap.{BTreeMap};
+ghost use Rattle.std.specs.Prelude.{◌≡◌, ◌↔◌, ◌++◌, ◌+◌, ◌<◌, ◌≤◌, ℕ, true, false, length, IsTrue, IfOk, IfSome, IfNone, OnOk};
+ghost use Rattle.alta_codec.specs.Name.{IsName};
+ghost use Rattle.alta_codec.specs.Rising.{IsRising};
+ghost use Rattle.alta_content.specs.Rows.{AreDocuments};
+ghost use Rattle.alta_images.specs.Opened.{have_ends, live_in, rows_in};
+ghost use Rattle.alta_images.specs.Ordered.{AreBelow, AreOrdered, RowsRise};
+ghost use Rattle.alta_images.specs.States.{has_name, has_number, number_of, with_added, with_deleted, without, words_in};
+ghost use Rattle.alta_meta.specs.declared.document.State.{State};
+ghost use Rattle.alta_root.specs.Root.{IsSound};
+ghost use Rattle.alta_catalog.specs.Knowing.{AreParts, Knows, KnowsBy, gone_of, levels_of, memory_of};
+ghost use Rattle.alta_catalog.specs.Names.{AreNames, AreNamesOf};
+ghost use Rattle.alta_catalog.specs.Rows.{MayStart};
+
+use crate::finding::{end_of, find};
+use crate::lists::Names;
+use crate::names::{forget, note, rows_in};
+use crate::sharing::{rows_of, share_runs, with_runs};
+use crate::starting::{ends_of, tally_levels};
+use alta_codec::{Loc, Text};
+use alta_content::DocRow;
+use alta_deletions::Deletions;
+use alta_memlevel::MemLevel;
+use alta_meta::{MetaFault, cells};
+use alta_root::{LAST_NEXT, Root};
+use alta_rows::{AllRows, LevelRows};
+use alta_table::Table;
+use std::alloc::{AllocError, Global};
+use std::collections::BTreeMap;
+use std::rc::Rc;
+
+// The cells of a document that are no words: its name's, its title's end, and its own end.
+pub(crate) const MARKS: u64 = 3;
+
+/// What is known of all live documents of an index: those of its levels, by number, name and count of cells, and the newest ones in
+/// memory, with all their words.
+#[derive(Drop)]
+pub struct Catalog {
+    alloc: Global,
+    // The rows of the levels, to be shared.
+    rows: Vec<Rc<LevelRows>>,
+    // The number of the next document, and the location of its first cell.
+    next: u64,
+    location: u64,
+    // The number of the first document in memory. The numbers of the others follow on one another.
+    first: u64,
+    // How many live documents there are, and how many words they have.
+    count: u64,
+    words: u64,
+    names: BTreeMap<String, u64>,
+    levels: Vec<Table>,
+    memory: MemLevel,
+    gone: Deletions,
+}
+
+impl Catalog {
+    ghost use Rattle.alta_catalog.specs.Knowing.{AreParts, Knows, KnowsBy, gone_of, levels_of, memory_of};
+
+    /// What opening found of the levels of a root: their tables, the oldest first, the ends of their deleted documents, and the names
+    /// of the live ones. Each row is looked at once, and its end looked up among the deleted ones. Fails for want of memory alone.
+    pub fn new(
+        alloc: Global,
+        root: &Root,
+        levels: Vec<Table>,
+        deleted: &[Loc],
+        names: BTreeMap<String, u64>,
+    ) -> Result<Catalog, AllocError>
+        requires sound { (size : ℕ) × IsSound size root.now }
+        requires rows { AreDocuments (rows_in levels.items) }
+        requires below { AreBelow root.now (rows_in levels.items) }
+        requires rising { IsRising deleted.now }
+        requires ends { have_ends levels.items deleted.now ≡ true }
+        requires ordered { AreOrdered (live_in deleted.now (rows_in levels.items)) }
+        requires names { AreNames names (live_in deleted.now (rows_in levels.items)) }
+        ensures knows { (s : State) → (may : MayStart s root.now deleted.now levels.items) → IfOk result (λ c. KnowsBy c may.olds s) }
+        ensures levels { IfOk result (λ c. levels_of c ≡ levels.items) }
+        ensures gone { IfOk result (λ c. gone_of c ≡ deleted.now) }
+    {
+        let gone = ends_of(alloc, deleted)?;
+        let tally = tally_levels(&levels, &gone);
+        let rows = rows_of(alloc, &levels)?;
+        Ok(Catalog {
+            alloc,
+            rows,
+            next: root.next_number,
+            location: root.next_location,
+            first: root.next_number,
+            count: tally.documents,
+            words: tally.words,
+            names,
+            levels,
+            memory: MemLevel::new(alloc),
+            gone,
+        })
+    }
+
+    /// The tables of the levels, the oldest first.
+    pub fn levels(&self) -> &[Table]
+        ensures { result.now ≡ levels_of self.now }
+    {
+        &self.levels
+    }
+
+    /// The ends of all documents that are gone, of the levels and of those in memory, rising.
+    pub fn gone(&self) -> &[Loc]
+        ensures value { result.now ≡ gone_of self.now }
+        ensures rising { IsRising result.now }
+    {
+        self.gone.ends()
+    }
+
+    /// The newest documents as a level in memory, and the ends of all documents that are gone, rising.
+    pub fn newest(&self) -> (&MemLevel, &[Loc])
+        ensures memory { result.0.now ≡ memory_of self.now }
+        ensures gone { result.1.now ≡ gone_of self.now }
+        ensures rise { (s : State) → Knows self.now s → RowsRise (rows_in (levels_of self.now) ++ (memory_of self.now).content.documents) }
+        ensures parts { (s : State) → (knows : Knows self.now s) → AreParts (levels_of self.now) result.1.now result.0.now knows.olds s }
+    {
+        (&self.memory, self.gone.ends())
+    }
+
+    /// The rows of the levels, the oldest first, and behind them those in memory, shared, but for the last 1,024 of the latter at most,
+    /// which are copied. Fails for want of memory alone.
+    pub fn rows(&self) -> Result<AllRows, AllocError>
+        requires { (s : State) × Knows self.now s }
+        ensures { IfOk result (λ rows. rows ≡ rows_in (levels_of self.now) ++ (memory_of self.now).content.documents) }
+    {
+        let runs = share_runs(self.alloc, &self.rows)?;
+        let all = with_runs(runs, self.memory.runs()?)?;
+        AllRows::new(self.alloc, all)
+    }
+
+    /// How many live documents there are, how many words they have in all, and the number that the next document gets. All three
+    /// are kept, and no document is looked at.
+    pub fn counts(&self) -> (u64, u64, u64)
+        ensures { (s : State) → Knows self.now s → result ≡ (length s.documents, words_in s, s.next) }
+    {
+        (self.count, self.words, self.next)
+    }
+
+    /// Whether a number is left for a document more.
+    pub fn has_room(&self) -> bool
+        ensures { (s : State) → Knows self.now s → IsTrue result ↔ (s.next < 4294967296) }
+    {
+        self.next < LAST_NEXT
+    }
+
+    /// The number of the live document with this name, None where there is none.
+    pub fn number_of(&self, name: &str) -> Option<u64>
+        ensures value { (s : State) → Knows self.now s → result ≡ number_of name.now s }
+        ensures some { (s : State) → Knows self.now s → IfSome result (λ n. (has_name name.now s ≡ true) × (has_number n s ≡ true) × (without n s ≡ with_deleted name.now s)) }
+        ensures none { (s : State) → Knows self.now s → IfNone result (has_name name.now s ≡ false) }
+    {
+        self.names.get(name).copied()
+    }
+
+    /// The names of the live documents with their numbers, in the order of bytes, each once. One pass over the names, which
+    /// are kept in this order: a copy of each, and no comparison.
+    ///
+    /// # Errors
+    ///
+    /// `AllocError` where there was no memory left for the list.
+    pub fn names(&self, alloc: Global) -> Result<Names, AllocError>
+        ensures { (s : State) → Knows self.now s → IfOk result (AreNamesOf s) }
+    {
+        rows_in(alloc, &self.names)
+    }
+
+    /// Adds a document, whose name is free and for which a number is left.
+    ///
+    /// # Errors
+    ///
+    /// `Memory` where memory is wanting: the catalog may no longer be used.
+    pub fn add(
+        &mut self,
+        alloc: Global,
+        name: &str,
+        title: &str,
+        body: &str,
+    ) -> Result<(), MetaFault>
+        requires knows { (s : State) × Knows self.old s }
+        requires named { IsName name.now }
+        requires short { length title.now + length body.now ≤ 65590 }
+        requires free { (s : State) → Knows self.old s → has_name name.now s ≡ false }
+        requires left { (s : State) → Knows self.old s → s.next < 4294967296 }
+        ensures added { OnOk result ((s : State) → (knows : Knows self.old s) → KnowsBy self.new knows.olds (with_added name.now title.now body.now s)) }
+        ensures levels { levels_of self.new ≡ levels_of self.old }
+        ensures gone { gone_of self.new ≡ gone_of self.old }
+    {
+        let cells = cells(alloc, name, title, body)?;
+        let count = cells.len() as u64;
+        let row = DocRow {
+            number: self.next,
+            first: self.location,
+            cells: count,
+            name: Text::from_string(String::from_str(alloc, name)?),
+        };
+        self.memory.add(row, &cells)?;
+        note(alloc, &mut self.names, name, self.next)?;
+        self.next += 1;
+        self.location += count;
+        self.count += 1;
+        self.words += count - MARKS;
+        Ok(())
+    }
+
+    /// Deletes the document with this number, of a level or in memory, and answers whether there was one. It looks by halves in each
+    /// level.
+    ///
+    /// # Errors
+    ///
+    /// `AllocError` where memory is wanting: nothing has changed.
+    pub fn delete(&mut self, number: u64) -> Result<bool, AllocError>
+        requires { (s : State) × Knows self.old s }
+        ensures deleted { IfOk result (λ there. there ≡ true → (s : State) → (knows : Knows self.old s) → (has_number number s ≡ true) × KnowsBy self.new knows.olds (without number s)) }
+        ensures missing { IfOk result (λ there. there ≡ false → (s : State) → Knows self.old s → has_number number s ≡ false) }
+        ensures unchanged { IfOk result (λ there. there ≡ false → self.new ≡ self.old) }
+        ensures levels { levels_of self.new ≡ levels_of self.old }
+    {
+        let Some(row) = find(&self.levels, &self.memory, self.first, number) else {
+            return Ok(false);
+        };
+        let end = end_of(row);
+        if self.gone.holds(end) {
+            return Ok(false);
+        }
+        self.gone.delete(end)?;
+        forget(&mut self.names, row.name.as_str());
+        self.count -= 1;
+        self.words -= row.cells - MARKS;
+        Ok(true)
+    }
+
+    /// Deletes the live document with this number.
+    ///
+    /// # Errors
+    ///
+    /// `AllocError` where memory is wanting: nothing has changed.
+    pub fn remove(&mut self, number: u64) -> Result<(), AllocError>
+        requires { (s : State) × Knows self.old s × (has_number number s ≡ true) }
+        ensures removed { OnOk result ((s : State) → (knows : Knows self.old s) → KnowsBy self.new knows.olds (without number s)) }
+        ensures levels { levels_of self.new ≡ levels_of self.old }
+    {
+        match self.delete(number) {
+            Ok(true) => Ok(()),
+            Ok(false) => unreachable!(),
+            Err(fault) => Err(fault),
+        }
+    }
+}

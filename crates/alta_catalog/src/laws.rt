@@ -1,0 +1,51 @@
+// What follows from the definitions alone. The functions are empty: their contracts are the laws.
+ghost use Rattle.std.specs.Prelude.{◌≡◌, ℕ, List, [], Err};
+ghost use Rattle.alta_images.specs.Entries.{IsRefusedAt, after_entry};
+ghost use Rattle.alta_images.specs.Known.{known_of, replayed};
+ghost use Rattle.alta_images.specs.Opened.{IsNamed, Opened, known_at};
+ghost use Rattle.alta_images.specs.Standing.{Means, StandsFor};
+ghost use Rattle.alta_images.specs.Switching.{with_entry};
+ghost use Rattle.alta_journal.specs.declared.entry.Entry.{Entry};
+ghost use Rattle.alta_journal.specs.declared.placed.Placed.{Placed};
+ghost use Rattle.alta_meta.specs.declared.document.State.{State};
+ghost use Rattle.alta_root.specs.declared.root.Root.{Root};
+ghost use Rattle.alta_table.specs.Tables.{Tables};
+ghost use Rattle.alta_catalog.specs.Knowing.{Knows};
+ghost use Rattle.alta_catalog.specs.Rows.{MayBe, MayStart};
+ghost use Rattle.alta_catalog.specs.declared.catalog.Catalog.{Catalog};
+
+/// What an image is opened as may speak of the state that the image stands for.
+pub fn a_state_may_be()
+    ensures stands { (s : State) → (image : List ℕ) → (stands : StandsFor s image) → MayBe s stands.opened }
+    ensures means { (s : State) → (o : Opened) → (image : List ℕ) → Means s o image → MayBe s o }
+{}
+
+/// A root with its deleted ends and levels may speak of a state, before the entries.
+pub fn a_root_may_start()
+    ensures { (root : Root) → (deleted : List ℕ) → (levels : List Tables) → (s : State) × MayStart s root deleted levels }
+{}
+
+/// Whatever is opened may speak of a state, also where a stream or a summary of a level is bad.
+pub fn something_may_be()
+    ensures { (o : Opened) → (s : State) × MayBe s o }
+{}
+
+/// With an entry more, what is opened may speak of the states behind the entry of those of before, and of no others.
+pub fn an_entry_goes_on()
+    ensures entered { (s : State) → (o : Opened) → (entry : Entry) → MayBe s o → MayBe (after_entry s entry) (with_entry o entry) }
+    ensures before { (t : State) → (o : Opened) → (entry : Entry) → MayBe t (with_entry o entry) → (s : State) × MayBe s o × (t ≡ after_entry s entry) }
+    ensures none { (s : State) → (o : Opened) → o.entries ≡ [] → MayBe s o → MayStart s o.root o.deleted o.levels }
+{}
+
+/// Of all states of which an opened image may speak the same is known, next number and live documents' names and numbers: what opening
+/// tests the entries against, and what it finds behind them.
+pub fn what_may_be_is_known()
+    ensures start { (s : State) → (root : Root) → (deleted : List ℕ) → (levels : List Tables) → MayStart s root deleted levels → known_of s ≡ known_at root deleted levels }
+    ensures behind { (s : State) → (o : Opened) → (image : List ℕ) → (is : IsNamed o image) → MayBe s o → is.known ≡ known_of s }
+    ensures refused { (s : State) → (found : List Placed) → (place : ℕ) → IsRefusedAt s found place → replayed (known_of s) found ≡ Err place }
+{}
+
+/// Of all states at which a catalog stands the same is known.
+pub fn a_catalog_knows_one()
+    ensures { (c : Catalog) → (s t : State) → Knows c s → Knows c t → known_of s ≡ known_of t }
+{}

@@ -1,0 +1,24 @@
+//! What an index knows of its live documents in memory: those of its levels by number, name and count of cells, and the newest ones with
+//! all their words.
+#![tactic(auto)]
+
+mod catalog;
+mod fault;
+mod finding;
+mod laws;
+mod lists;
+mod names;
+mod replaying;
+mod sharing;
+mod starting;
+#[cfg(test)]
+mod tests;
+
+pub use catalog::Catalog;
+pub use fault::CatalogFault;
+pub use laws::{
+    a_catalog_knows_one, a_root_may_start, a_state_may_be, an_entry_goes_on, something_may_be,
+    what_may_be_is_known,
+};
+pub use lists::{NameRow, Names};
+pub use replaying::apply_entries;

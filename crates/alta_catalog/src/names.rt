@@ -1,0 +1,55 @@
+// The numbers of live documents by their names.
+ghost use Rattle.std.specs.BTreeMap.{IsOrdered, get_by_text};
+ghost use Rattle.std.specs.Map.{update};
+ghost use Rattle.std.specs.Prelude.{◌≡◌, ℕ, List, Some, None, IfOk, OnOk, map};
+ghost use Rattle.std.specs.Str.{bytes_eq};
+ghost use Rattle.std.specs.String.{string_cmp};
+ghost use Rattle.alta_catalog.specs.Names.{row_of};
+
+use crate::lists::{NameRow, Names};
+use alta_codec::Text;
+use std::alloc::{AllocError, Global};
+use std::collections::BTreeMap;
+
+// Notes the name of a document.
+pub(crate) fn note(
+    alloc: Global,
+    names: &mut BTreeMap<String, u64>,
+    name: &str,
+    number: u64,
+) -> Result<(), AllocError>
+    ensures { OnOk result ((q : List ℕ) → get_by_text names.new q ≡ update bytes_eq (get_by_text names.old) name.now (Some number) q) }
+{
+    let key = String::from_str(alloc, name)?;
+    names.insert(key, number)?;
+    Ok(())
+}
+
+// Forgets the name of a document.
+pub(crate) fn forget(names: &mut BTreeMap<String, u64>, name: &str)
+    ensures { (q : List ℕ) → get_by_text names.new q ≡ update bytes_eq (get_by_text names.old) name.now None q }
+{
+    names.remove(name);
+}
+
+// The names with their numbers, in the order of the map.
+pub(crate) fn rows_in(alloc: Global, names: &BTreeMap<String, u64>) -> Result<Names, AllocError>
+    ensures rows { IfOk result (λ rows. rows ≡ map row_of names.now.entries) }
+    ensures ordered { IsOrdered string_cmp names.now }
+{
+    let mut rows = Names::new(alloc);
+    for (name, number) in names {
+        rows.push(named(alloc, name.as_str(), *number)?)?;
+    }
+    Ok(rows)
+}
+
+fn named(alloc: Global, name: &str, number: u64) -> Result<NameRow, AllocError>
+    ensures { IfOk result (λ row. row ≡ record { name = name.now; number = number }) }
+{
+    let name = String::from_str(alloc, name)?;
+    Ok(NameRow {
+        name: Text::from_string(name),
+        number,
+    })
+}

@@ -1,0 +1,94 @@
+// The documents that the entries of a journal leave.
+ghost use Rattle.std.specs.Prelude.{◌≡◌, ◌⊎◌, ◌+◌, ◌<◌, ℕ, true, false, Err, IfOk, IfErr, OnOk, All};
+ghost use Rattle.alta_journal.specs.Entry.{IsSound};
+ghost use Rattle.alta_journal.specs.declared.entry.Entry.TheVariants.{Add};
+ghost use Rattle.alta_meta.specs.declared.document.State.{State};
+ghost use Rattle.alta_images.specs.Entries.{Allows, AllowsAll, after_entry, after_entries, entries_in, IsRefusedAt};
+ghost use Rattle.alta_images.specs.States.{with_added};
+ghost use Rattle.alta_catalog.specs.Knowing.{Knows, KnowsBy, levels_of};
+ghost use Rattle.alta_catalog.specs.declared.fault.CatalogFault.TheVariants.{Memory, Damaged};
+
+use crate::CatalogFault;
+use crate::catalog::Catalog;
+use alta_journal::{Entry, Placed};
+use alta_meta::MetaFault;
+use std::alloc::Global;
+
+// How far behind its gate the payload of a record stands.
+const PAYLOAD: u64 = 5;
+
+/// Applies entries in order to a catalog.
+///
+/// # Errors
+///
+/// `Damaged` at the first entry that is not allowed where it stands: one that adds a document whose name a live one has, or for which no
+/// number is left, or one that deletes a number that no live document has. The place is that of its record's payload. `Memory` where
+/// memory is wanting. After both the catalog may no longer be used.
+pub fn apply_entries(
+    alloc: Global,
+    catalog: &mut Catalog,
+    found: &[Placed],
+) -> Result<(), CatalogFault>
+    requires knows { (s : State) × Knows catalog.old s }
+    requires sound { All (λ p. IsSound p.entry) found.now }
+    ensures applied { (s : State) → (knows : Knows catalog.old s) → OnOk result (AllowsAll s (entries_in found.now) × KnowsBy catalog.new knows.olds (after_entries s (entries_in found.now))) }
+    ensures damaged { (s : State) → Knows catalog.old s → All (λ p. p.place < 4294967296) found.now → (place : ℕ) → result ≡ Err (Damaged place) → IsRefusedAt s found.now place }
+    ensures levels { levels_of catalog.new ≡ levels_of catalog.old }
+    ensures only { IfErr result (λ e. (e ≡ Memory) ⊎ ((place : ℕ) × (e ≡ Damaged place))) }
+{
+    for placed in found {
+        match apply_entry(alloc, catalog, &placed.entry) {
+            Ok(true) => {}
+            Ok(false) => return Err(CatalogFault::Damaged(payload_place(placed))),
+            Err(_) => return Err(CatalogFault::Memory),
+        }
+    }
+    Ok(())
+}
+
+// Where the payload of a record stands.
+fn payload_place(placed: &Placed) -> u64
+    ensures { placed.now.place < 4294967296 → result ≡ placed.now.place + 5 }
+{
+    placed.place.saturating_add(PAYLOAD)
+}
+
+// Applies an entry, if it is allowed here.
+fn apply_entry(alloc: Global, catalog: &mut Catalog, entry: &Entry) -> Result<bool, MetaFault>
+    requires knows { (s : State) × Knows catalog.old s }
+    requires sound { IsSound entry.now }
+    ensures allowed { (s : State) → (knows : Knows catalog.old s) → IfOk result (λ allowed. allowed ≡ true → Allows s entry.now × KnowsBy catalog.new knows.olds (after_entry s entry.now)) }
+    ensures refused { (s : State) → Knows catalog.old s → IfOk result (λ allowed. allowed ≡ false → Allows s entry.now → ⊥) }
+    ensures levels { levels_of catalog.new ≡ levels_of catalog.old }
+{
+    match entry {
+        Entry::Add { name, title, body } => {
+            add(alloc, catalog, name.as_str(), title.as_str(), body.as_str())
+        }
+        Entry::Delete { number } => Ok(catalog.delete(*number)?),
+    }
+}
+
+// Adds a document, if no other has its name and a number is left.
+fn add(
+    alloc: Global,
+    catalog: &mut Catalog,
+    name: &str,
+    title: &str,
+    body: &str,
+) -> Result<bool, MetaFault>
+    requires knows { (s : State) × Knows catalog.old s }
+    requires sound { IsSound (Add name.now title.now body.now) }
+    ensures allowed { (s : State) → (knows : Knows catalog.old s) → IfOk result (λ allowed. allowed ≡ true → Allows s (Add name.now title.now body.now) × KnowsBy catalog.new knows.olds (with_added name.now title.now body.now s)) }
+    ensures refused { (s : State) → Knows catalog.old s → IfOk result (λ allowed. allowed ≡ false → Allows s (Add name.now title.now body.now) → ⊥) }
+    ensures levels { levels_of catalog.new ≡ levels_of catalog.old }
+{
+    if !catalog.has_room() {
+        return Ok(false);
+    }
+    if catalog.number_of(name).is_some() {
+        return Ok(false);
+    }
+    catalog.add(alloc, name, title, body)?;
+    Ok(true)
+}

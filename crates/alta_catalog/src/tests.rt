@@ -1,0 +1,204 @@
+// A level of one document, and documents that come and go behind it.
+ghost use Rattle.std.specs.Prelude.{◌≡◌, ◌<◌, ℕ, IfOk, IfSome, OnOk};
+ghost use Rattle.alta_content.specs.Rows.{AreDocuments};
+ghost use Rattle.alta_journal.specs.declared.entry.Entry.TheVariants.{Delete};
+ghost use Rattle.alta_meta.specs.declared.document.State.{State};
+ghost use Rattle.alta_root.specs.Root.{IsSound};
+ghost use Rattle.alta_catalog.specs.Knowing.{Knows};
+
+use crate::names::note;
+use crate::*;
+use alta_codec::{Extent, name_ok};
+use alta_journal::{Entry, Placed};
+use alta_meta::MetaFault;
+use alta_root::Root;
+use alta_table::{LevelFault, Table, head, tables_in_front};
+use arrayvec::ArrayVec;
+use std::alloc::{AllocError, Global};
+use std::collections::BTreeMap;
+use std::test::Fail;
+
+// A level of one document, of number 1, at the locations 1 to 9, with the name `a`: six words.
+const LEVEL: &[u8] =
+    b"\0\0\0\0\0\0\0\x01\0\0\0\0\0\0\0\x0a\0\0\0\0\0\0\0\x05\0\0\0\0\0\0\0M\x01\x01\x09\x01a\0\x01D\x01\x01\0\0\x02Na\x01\x01\0\0\x01S\x01\x01\0\0\x01T\x01\x01\0\0\x04Wfox\x02\x02\0\x01\x05quick\x01\x01\0\x01\x03red\x02\x02\0\x01\x03the\x01\x01\0\0\x04XFox\x01\x01\0\x01\x03Red\x01\x01\0";
+
+// A root behind that document: the next has number 3, at location 19.
+fn root() -> Root
+    ensures { (size : ℕ) × IsSound size result }
+{
+    Root {
+        sequence: 0,
+        next_number: 3,
+        next_location: 19,
+        levels: ArrayVec::new(),
+        deletions: Extent { place: 0, bytes: 0 },
+    }
+}
+
+// A level of so many bytes at the place 1,000.
+fn level(alloc: Global, bytes: &[u8], total: u64) -> Result<Table, LevelFault>
+    requires { total < 1000 }
+    ensures { IfOk result (λ table. AreDocuments table.documents) }
+{
+    tables_in_front();
+    let sizes = head(bytes, 1000, total)?;
+    let len = (32 + sizes.document_bytes + sizes.term_bytes) as usize;
+    if bytes.len() < len {
+        return Err(LevelFault::Memory);
+    }
+    Table::open(alloc, &bytes[..len], 1000, total)
+}
+
+// The catalog of a level with one document, which lies below the root.
+fn catalog_of(alloc: Global, root: &Root, level: Table) -> Result<Option<Catalog>, AllocError>
+    requires sound { (size : ℕ) × IsSound size root.now }
+    requires stand { AreDocuments level.documents }
+    ensures { IfOk result (λ found. IfSome found (λ c. (s : State) × Knows c s)) }
+{
+    let mut names = BTreeMap::new(alloc);
+    match level.documents() {
+        [row] => {
+            let end = row.first.saturating_add(row.cells);
+            if root.next_number <= row.number || root.next_location < end {
+                return Ok(None);
+            }
+            note(alloc, &mut names, row.name.as_str(), row.number)?;
+        }
+        _ => return Ok(None),
+    }
+    let levels = vec![in alloc; level]?;
+    Ok(Some(Catalog::new(alloc, root, levels, &[], names)?))
+}
+
+// Adds a document, and answers whether that may be.
+fn add_one(alloc: Global, catalog: &mut Catalog, name: &str) -> Result<bool, MetaFault>
+    requires { (s : State) × Knows catalog.old s }
+    ensures { OnOk result ((s : State) × Knows catalog.new s) }
+{
+    if !name_ok(name.as_bytes()) {
+        return Ok(false);
+    }
+    if !catalog.has_room() {
+        return Ok(false);
+    }
+    if catalog.number_of(name).is_some() {
+        return Ok(false);
+    }
+    catalog.add(alloc, name, "Red Fox", "the quick red fox")?;
+    Ok(true)
+}
+
+// Deletes a document, and answers whether there was one.
+fn delete_one(catalog: &mut Catalog, number: u64) -> Result<bool, AllocError>
+    requires { (s : State) × Knows catalog.old s }
+    ensures { OnOk result ((s : State) × Knows catalog.new s) }
+{
+    match catalog.delete(number) {
+        Ok(true) => Ok(true),
+        Ok(false) => Ok(false),
+        Err(fault) => Err(fault),
+    }
+}
+
+// Adds a document of this name, or where there is a number deletes the document of that number.
+fn act(alloc: Global, catalog: &mut Catalog, number: u64, name: &str) -> Result<bool, MetaFault>
+    requires { (s : State) × Knows catalog.old s }
+    ensures { OnOk result ((s : State) × Knows catalog.new s) }
+{
+    if number == 0 {
+        return add_one(alloc, catalog, name);
+    }
+    Ok(delete_one(catalog, number)?)
+}
+
+// A number to delete, or 0 and a name to add; whether that was done, and the counts then.
+type Step = (u64, &'static str, bool, (u64, u64, u64));
+
+// The step whose answer or whose counts are others, None where there is none.
+fn differing(
+    alloc: Global,
+    catalog: &mut Catalog,
+    steps: &[Step],
+) -> Result<Option<usize>, MetaFault>
+    requires { (s : State) × Knows catalog.old s }
+    ensures { OnOk result ((s : State) × Knows catalog.new s) }
+{
+    for (i, (number, name, done, counts)) in steps.iter().enumerate() {
+        let answer = act(alloc, catalog, *number, name)?;
+        if answer != *done || catalog.counts() != *counts {
+            return Ok(Some(i));
+        }
+    }
+    Ok(None)
+}
+
+#[test]
+fn documents_come_and_go(rt: HostRuntime) -> Result<(), Fail> {
+    let alloc = rt.alloc();
+    let table = level(alloc, LEVEL, 126).or(Err("the level is damaged"))?;
+    let Some(mut catalog) = catalog_of(alloc, &root(), table)? else {
+        return Err(Fail::from("the level has no single document"));
+    };
+    assert_eq!(rt; catalog.counts(), (1, 6, 3));
+    let steps: [Step; 9] = [
+        (0, "a", false, (1, 6, 3)),
+        (0, "b", true, (2, 12, 4)),
+        (0, "b", false, (2, 12, 4)),
+        (2, "", false, (2, 12, 4)),
+        (1, "", true, (1, 6, 4)),
+        (1, "", false, (1, 6, 4)),
+        (0, "a", true, (2, 12, 5)),
+        (3, "", true, (1, 6, 5)),
+        (9, "", false, (1, 6, 5)),
+    ];
+    let found = differing(alloc, &mut catalog, &steps).or(Err("no memory"))?;
+    assert_eq!(rt; found, None);
+    assert_eq!(rt; catalog.number_of("a"), Some(4));
+    assert_eq!(rt; catalog.number_of("b"), None);
+    assert_eq!(rt; catalog.gone(), [9, 27].as_slice());
+    assert_eq!(rt; catalog.levels().len(), 1);
+    let (memory, gone) = catalog.newest();
+    assert_eq!(rt; memory.len(), 2);
+    assert_eq!(rt; gone, [9, 27].as_slice());
+    let names = catalog.names(alloc)?;
+    assert_eq!(rt; names.len(), 1);
+    assert!(rt; names.get(0).is_some_and(is_a));
+    Ok(())
+}
+
+fn is_a(row: &NameRow) -> bool {
+    row.name.as_str() == "a" && row.number == 4
+}
+
+fn delete_at(place: u64, number: u64) -> Placed
+    ensures { result ≡ record { place = place; entry = Delete number } }
+{
+    Placed {
+        place,
+        entry: Entry::Delete { number },
+    }
+}
+
+#[test]
+fn entries_are_refused_at_their_place(rt: HostRuntime) -> Result<(), Fail> {
+    let alloc = rt.alloc();
+    let table = level(alloc, LEVEL, 126).or(Err("the level is damaged"))?;
+    let Some(mut catalog) = catalog_of(alloc, &root(), table)? else {
+        return Err(Fail::from("the level has no single document"));
+    };
+    let found = [delete_at(8192, 1), delete_at(8206, 1)];
+    let answer = apply_entries(alloc, &mut catalog, &found);
+    assert!(rt; answer == Err(CatalogFault::Damaged(8211)));
+    assert_eq!(rt; catalog.counts(), (0, 0, 3));
+    laws();
+    Ok(())
+}
+
+fn laws() {
+    a_state_may_be();
+    a_root_may_start();
+    something_may_be();
+    an_entry_goes_on();
+    what_may_be_is_known();
+    a_catalog_knows_one();
+}
