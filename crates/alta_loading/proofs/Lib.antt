@@ -1,6 +1,16 @@
 pub mod Contents
+pub mod Cuts
 pub mod Faults
+pub mod FirstUses
+pub mod LevelAnswers
+pub mod LevelEnds
+pub mod LevelSpaces
+pub mod Loaded
 pub mod Places
+pub mod PrefixRows
+pub mod ReadOff
 pub mod RowOf
 pub mod Runs
 pub mod TermRuns
+pub mod TermSets
+pub mod TestRuns

@@ -1,12 +1,12 @@
 -- The row of a term, where it is looked for by halves.
-use Rattle.std.proofs.Common.{◌≡◌, ℕ, zero, suc, ◌+◌, ◌<◌, length, Bool, true, false, cond, List, [], ◌∷◌, refl, sym, subst, ap, ◌∙◌, arith}
+use Rattle.std.proofs.Common.{◌≡◌, ℕ, zero, suc, ◌+◌, ◌<◌, length, Bool, true, false, cond, List, [], ◌∷◌, get_or, refl, sym, subst, ap, ◌∙◌, arith}
 use Rattle.std.specs.Prelude.{Option, Some, None, MatchOption, slice_get}
 use Rattle.std.specs.Str.{bytes_eq}
 use Rattle.alta_codec.specs.Order.{Precedes}
 use Rattle.alta_content.proofs.Order.{itself, less_differs, less_on, same_term}
 use Rattle.alta_images.proofs.Tests.{by_test}
 use Rattle.alta_loading.specs.Loads.{row_from}
-use Rattle.alta_table.specs.Terms.{AreTerms, AreTermsBehind, terms_of}
+use Rattle.alta_table.specs.Terms.{AreTerms, AreTermsBehind, counts_of, terms_of}
 use Rattle.alta_table.specs.declared.term.TermRow.{TermRow}
 
 -- a term of these rows comes behind the term before them
@@ -54,3 +54,13 @@ row_within rows term (Some i) h = index_within rows term i h
     index_within [] term i e = absurd (cc)
     index_within (row ∷ rows) term zero e = omega arith
     index_within (row ∷ rows) term (suc i) e = omega (arith, index_within rows term i e)
+
+-- a row counts a location at least
+counted_behind : (before : List ℕ) (rows : List TermRow) (i : ℕ) → AreTermsBehind before rows → i < length rows → 0 < get_or (counts_of rows) i 0
+unfolding AreTermsBehind
+counted_behind before [] i a l = absurd (omega (arith, l))
+counted_behind before (row ∷ rows) zero (m, more) l = m.some
+counted_behind before (row ∷ rows) (suc i) (m, more) l = counted_behind row.term rows i more (omega (arith, l))
+
+pub row_counted : (rows : List TermRow) (i : ℕ) → AreTerms rows → i < length rows → 0 < get_or (counts_of rows) i 0
+row_counted rows i a l = counted_behind [] rows i a l

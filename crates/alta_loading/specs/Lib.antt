@@ -2,4 +2,6 @@ pub mod Answers
 pub mod Contents
 pub mod Lists
 pub mod Loads
+pub mod Met
+pub mod Snapshots
 pub mod Terms

@@ -1,5 +1,5 @@
 -- A list of a level, as it stands on the disk and as it was loaded.
-use Rattle.std.specs.Prelude.{ℕ, ◌+◌, ◌≤◌, List, [], length, slice_index, slice_index_or}
+use Rattle.std.specs.Prelude.{ℕ, ◌+◌, ◌<◌, ◌≤◌, List, [], length, slice_index, slice_index_or}
 use Rattle.alta_codec.specs.Rising.{IsRising}
 use Rattle.alta_disk.specs.Parts.{part}
 use Rattle.alta_level.specs.Stored.{Stored, Fits}
@@ -43,7 +43,8 @@ stored_in level row image = stored_as level row (part (stream_place level row) (
 abbrev pub list_of : Posting → List ℕ
 list_of posting = locations_of posting.stream.items
 
--- The list rises and keeps what its row and the documents of its level say, whatever the disk tells.
+-- The list is not empty, rises, and keeps what its row and the documents of its level say, whatever the disk tells.
 pub record KeepsRow (level : Tables) (row : ℕ) (list : List ℕ) : Type 0 where
+  pub some : 0 < length list
   pub rising : IsRising list
   pub fits : Fits level.documents (slice_index_or (terms_of level.terms) row []) (slice_index (counts_of level.terms) row) list

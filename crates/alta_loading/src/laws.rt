@@ -1,13 +1,26 @@
 // Laws of lists that are loaded.
-ghost use Rattle.std.specs.Prelude.{ℕ, List, All, map};
+ghost use Rattle.std.specs.Prelude.{ℕ, ◌++◌, List, All, flat_map, map};
+ghost use Rattle.alta_compile.specs.PlanOf.{plan_of};
 ghost use Rattle.alta_content.specs.declared.content.Content.{Content};
 ghost use Rattle.alta_disk.specs.Parts.{part};
-ghost use Rattle.alta_images.specs.Levels.{Level};
+ghost use Rattle.alta_images.specs.Levels.{Level, documents_of};
 ghost use Rattle.alta_images.specs.Opened.{bytes_at};
+ghost use Rattle.alta_images.specs.Ordered.{RowsRise};
 ghost use Rattle.alta_images.specs.Standing.{tables_by};
 ghost use Rattle.alta_level.specs.Segments.{IsSegment, rows_of};
 ghost use Rattle.alta_loading.specs.Contents.{AreListsAmong, AreListsIn};
 ghost use Rattle.alta_loading.specs.Loads.{load_in, loads_from};
+ghost use Rattle.alta_loading.specs.Snapshots.{all_rows, loaded_view};
+ghost use Rattle.alta_memlevel.specs.Added as mem;
+ghost use Rattle.alta_memlevel.specs.Documents.{HasDocuments};
+ghost use Rattle.alta_meta.specs.declared.document.Document.{Document};
+ghost use Rattle.alta_model.specs.Deciding.{answers};
+ghost use Rattle.alta_query.specs.Shape.{Shape};
+ghost use Rattle.alta_search.specs.Documents.{AreToCome};
+ghost use Rattle.alta_search.specs.Plans.{tests_of};
+
+use alta_model::a_match_is_decided;
+use alta_search::answers_match;
 
 /// In levels whose bytes are the segments of contents, no list has a fault, and what is loaded of a term is its lists in
 /// the contents, the oldest level first. The function is a law, and has nothing to run.
@@ -17,3 +30,14 @@ pub fn loaded_lists_are_those_of_the_content()
     ensures levels { (levels : List Level) → (image term : List ℕ) → All (λ level. IsSegment (bytes_at level.extent image) level.content) levels
         → AreListsAmong levels image term (loads_from 0 (map tables_by levels) term) }
 {}
+
+/// Over levels whose bytes are the segments of contents, and the newest documents behind them, the answers to come of the plan of a
+/// query are the documents of both that match the query and are not deleted, in order. The function is a law, and has nothing to run.
+pub fn levels_and_newest_documents_answer()
+    ensures { (levels : List Level) (image gone : List ℕ) (documents : List Document) (newest : mem.Level) (q : Shape)
+        → All (λ level. IsSegment (bytes_at level.extent image) level.content) levels → HasDocuments gone documents newest → RowsRise (all_rows (map tables_by levels) newest.content)
+        → AreToCome (plan_of q) (loaded_view (map tables_by levels) newest.content image (tests_of (plan_of q)) gone) 0 (answers (flat_map (documents_of gone) levels ++ documents) q) }
+{
+    answers_match();
+    a_match_is_decided();
+}

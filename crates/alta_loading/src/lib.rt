@@ -4,13 +4,21 @@
 mod fault;
 mod laws;
 mod list;
+mod loading;
+mod meeting;
+mod snapshot;
+#[cfg(test)]
+mod snapshot_tests;
 mod term;
 mod terms;
 #[cfg(test)]
 mod tests;
 
 pub use fault::LoadFault;
-pub use laws::loaded_lists_are_those_of_the_content;
+pub use laws::{levels_and_newest_documents_answer, loaded_lists_are_those_of_the_content};
 pub use list::load_list;
+pub use loading::{load_test, load_tests};
+pub use meeting::terms_met;
+pub use snapshot::load_snapshot;
 pub use term::{load_coded, load_term};
 pub use terms::load_terms;

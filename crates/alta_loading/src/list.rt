@@ -101,6 +101,7 @@ fn checked(
     ensures first { IfDamaged result (IsListFault table.now.documents (stored_as table.now row stream.items summary.items)) }
     ensures only { (list : List ℕ) → IsListOf table.now.documents (stored_as table.now row stream.items summary.items) list → IsFound list_of result list }
     ensures damaged { (p : ℕ) → IsListFault table.now.documents (stored_as table.now row stream.items summary.items) p → IsDamaged result p }
+    ensures some { IfOk result (λ posting. 0 < length (list_of posting)) }
     ensures lean { result ≡ Err DiskFault → ⊥ }
 {
     let list = stored(table, row, &stream, &summary);

@@ -50,7 +50,7 @@ fn table_of(alloc: Global, segment: &[u8], place: u64) -> Result<Table, LoadFaul
 }
 
 // The tables of two segments, one behind the other.
-fn tables_of(alloc: Global, old: &[u8], new: &[u8]) -> Result<Vec<Table>, LoadFault>
+pub(crate) fn tables_of(alloc: Global, old: &[u8], new: &[u8]) -> Result<Vec<Table>, LoadFault>
     requires { length old.now + length new.now < 1000 }
     ensures { IfOk result (λ levels. (image : List ℕ) → length image ≡ length old.now + length new.now → All (λ level. LiesWithin level image) levels.items) }
 {
@@ -73,7 +73,7 @@ fn put_all(image: &mut [u8], changes: &[(usize, u8)]) {
 }
 
 // Both segments, with these bytes changed.
-fn image_of(
+pub(crate) fn image_of(
     alloc: Global,
     old: &[u8],
     new: &[u8],

@@ -1,0 +1,9 @@
+use Rattle.std.proofs.Common.{◌≡◌, ◌++◌, take}
+use Rattle.std.specs.List.{filter}
+use Rattle.alta_loading.specs.Met.{level_terms}
+use Rattle.alta_query.specs.declared.test.Test.TheVariants.{Begins}
+use Rattle.alta_search.specs.Newest.{term_meets}
+use Rattle.alta_loading.proofs.meeting.put_prefixed.Given as goal
+
+abbrev pub invariant-loop-row : goal.invariant-loop-row
+invariant-loop-row l = l.all.items ≡ l.initial.all.items ++ filter (term_meets (Begins l.start)) (take l.row (level_terms l.level))

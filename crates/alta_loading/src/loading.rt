@@ -1,0 +1,87 @@
+// The lists of tests.
+ghost use Rattle.std.specs.Prelude.{◌≡◌, map, All, Err, IfOk};
+ghost use Rattle.alta_codec.specs.Faults.{Rose};
+ghost use Rattle.alta_disk.specs.Calls.{Reads};
+ghost use Rattle.alta_disk.specs.Disk.{DiskState};
+ghost use Rattle.alta_images.specs.Ordered.{RowsRise};
+ghost use Rattle.alta_loading.specs.Lists.{LiesWithin};
+ghost use Rattle.alta_loading.specs.Loads.{Tells, load_sizes};
+ghost use Rattle.alta_loading.specs.Met.{keys_met, lists_met, loads_met, loads_of_tests};
+ghost use Rattle.alta_loading.specs.Snapshots.{all_rows};
+ghost use Rattle.alta_loading.specs.declared.fault.LoadFault.TheVariants.{Disk as DiskFault};
+ghost use Rattle.alta_search.specs.Lists.{IsCut, test_in, test_keys, test_lists};
+ghost use Rattle.alta_search.specs.Newest.{HasAdded};
+
+use crate::fault::LoadFault;
+use crate::meeting::terms_met;
+use crate::terms::load_terms;
+use alta_disk::Disk;
+use alta_memlevel::MemLevel;
+use alta_query::Test;
+use alta_search::TestLists;
+use alta_table::Table;
+use std::alloc::Global;
+
+/// Loads the lists of a test: those of each term that meets it, in collating order of the terms, as [`crate::load_terms`] loads them.
+///
+/// # Errors
+///
+/// Those of [`crate::load_terms`]. `Memory` also where there was no memory for the terms.
+pub fn load_test<D: Disk>(
+    alloc: Global,
+    disk: &mut D,
+    levels: &[Table],
+    newest: &MemLevel,
+    test: Test,
+) -> Result<TestLists, LoadFault>
+    requires within { D.tells → All (λ level. LiesWithin level (D.state disk.old).content) levels.now }
+    requires newest { HasAdded newest.now }
+    requires rise { RowsRise (all_rows levels.now newest.now.content) }
+    ensures test { IfOk result (λ loaded. test_in loaded ≡ test) }
+    ensures keys { IfOk result (λ loaded. test_keys loaded ≡ keys_met levels.now newest.now.content test) }
+    ensures lists { D.tells → IfOk result (λ loaded. test_lists loaded ≡ lists_met levels.now newest.now.content (D.state disk.old).content test) }
+    ensures tells { D.tells → Tells (D.state disk.old).content (loads_met levels.now newest.now.content test) result }
+    // Whatever the disk tells, the lists of a term rise one behind the other, and none is empty.
+    ensures cut { IfOk result (λ loaded. IsCut (test_lists loaded)) }
+    ensures cause { result ≡ Err DiskFault → Rose (D.state disk.old).faults (D.state disk.new).faults }
+    ensures reads { Reads D.tells (load_sizes (loads_met levels.now newest.now.content test)) (D.state disk.old) (D.state disk.new) }
+{
+    let met = terms_met(alloc, levels, newest, &test)?;
+    match load_terms(alloc, disk, levels, newest, met) {
+        Ok(terms) => Ok(TestLists { test, terms }),
+        Err(fault) => Err(fault),
+    }
+}
+
+/// Loads the lists of each of these tests, one test after the other, as [`load_test`] loads those of one.
+///
+/// # Errors
+///
+/// Those of [`load_test`]: the damage is the first fault of the first list that has one, in the order of loading.
+pub fn load_tests<D: Disk>(
+    alloc: Global,
+    disk: &mut D,
+    levels: &[Table],
+    newest: &MemLevel,
+    order: Vec<Test>,
+) -> Result<Vec<TestLists>, LoadFault>
+    requires within { D.tells → All (λ level. LiesWithin level (D.state disk.old).content) levels.now }
+    requires newest { HasAdded newest.now }
+    requires rise { RowsRise (all_rows levels.now newest.now.content) }
+    ensures tests { IfOk result (λ tests. map test_in tests.items ≡ order.items) }
+    ensures keys { IfOk result (λ tests. map test_keys tests.items ≡ map (keys_met levels.now newest.now.content) order.items) }
+    ensures lists { D.tells → IfOk result (λ tests. map test_lists tests.items ≡ map (lists_met levels.now newest.now.content (D.state disk.old).content) order.items) }
+    ensures tells { D.tells → Tells (D.state disk.old).content (loads_of_tests levels.now newest.now.content order.items) result }
+    ensures cut { IfOk result (λ tests. All IsCut (map test_lists tests.items)) }
+    ensures cause { result ≡ Err DiskFault → Rose (D.state disk.old).faults (D.state disk.new).faults }
+    ensures reads { Reads D.tells (load_sizes (loads_of_tests levels.now newest.now.content order.items)) (D.state disk.old) (D.state disk.new) }
+{
+    let mut tests = Vec::with_capacity(alloc, order.len())?;
+    for test in order {
+        match load_test(alloc, disk, levels, newest, test) {
+            Ok(lists) => tests.push(lists)?,
+            Err(fault) => return Err(fault),
+        }
+    }
+    Ok(tests)
+}

@@ -1,0 +1,85 @@
+// The snapshot of levels and of the newest documents.
+ghost use Rattle.std.specs.Prelude.{◌≡◌, ◌++◌, ℕ, List, flat_map, map, All, Err, IfOk};
+ghost use Rattle.alta_codec.specs.Faults.{Rose};
+ghost use Rattle.alta_codec.specs.Rising.{IsRising};
+ghost use Rattle.alta_compile.specs.PlanOf.{plan_of};
+ghost use Rattle.alta_compile.specs.View.{tree};
+ghost use Rattle.alta_disk.specs.Calls.{Reads};
+ghost use Rattle.alta_disk.specs.Disk.{DiskState};
+ghost use Rattle.alta_images.specs.Levels.{Level, documents_of};
+ghost use Rattle.alta_images.specs.Opened.{bytes_at};
+ghost use Rattle.alta_images.specs.Ordered.{RowsRise};
+ghost use Rattle.alta_images.specs.Standing.{tables_by};
+ghost use Rattle.alta_level.specs.Segments.{IsSegment};
+ghost use Rattle.alta_loading.specs.Answers.{IfDamaged};
+ghost use Rattle.alta_loading.specs.Lists.{LiesWithin};
+ghost use Rattle.alta_loading.specs.Loads.{Tells, load_sizes};
+ghost use Rattle.alta_loading.specs.Met.{each_once, loads_of_tests};
+ghost use Rattle.alta_loading.specs.Snapshots.{all_rows, loaded_view};
+ghost use Rattle.alta_loading.specs.declared.fault.LoadFault.TheVariants.{Disk as DiskFault};
+ghost use Rattle.alta_memlevel.specs.Documents.{HasDocuments};
+ghost use Rattle.alta_meta.specs.declared.document.Document.{Document};
+ghost use Rattle.alta_model.specs.Deciding.{answers};
+ghost use Rattle.alta_query.specs.Shape.{Shape};
+ghost use Rattle.alta_search.specs.Documents.{AreToCome};
+ghost use Rattle.alta_search.specs.Newest.{HasAdded};
+ghost use Rattle.alta_search.specs.Plans.{tests_of};
+
+use crate::fault::LoadFault;
+use crate::laws::levels_and_newest_documents_answer;
+use crate::loading::load_tests;
+use alta_codec::Loc;
+use alta_compile::Plan;
+use alta_disk::Disk;
+use alta_memlevel::MemLevel;
+use alta_rows::AllRows;
+use alta_search::{Snapshot, loading_order};
+use alta_table::Table;
+use std::alloc::Global;
+
+/// Loads what the search for a plan needs: of each test of the plan the lists of the terms that meet it, from the levels, the
+/// oldest first, and from the newest documents; with the rows of all documents, and a copy of the deleted ends. A test that
+/// the plan uses more than once is loaded once, where it is first used. Over the snapshot the answers of the plan of a query
+/// are those of the documents that match the query and are not deleted, where the levels are whole.
+///
+/// # Errors
+///
+/// `Damaged` exactly where one of the lists has a fault, at the first fault of the first list that has one, in the order of loading.
+/// `Disk` where a read failed. `Memory` where there was no memory for the lists.
+pub fn load_snapshot<D: Disk>(
+    alloc: Global,
+    disk: &mut D,
+    plan: &Plan,
+    levels: &[Table],
+    newest: &MemLevel,
+    rows: AllRows,
+    gone: &[Loc],
+) -> Result<Snapshot, LoadFault>
+    requires within { D.tells → All (λ level. LiesWithin level (D.state disk.old).content) levels.now }
+    requires newest { HasAdded newest.now }
+    requires rise { RowsRise (all_rows levels.now newest.now.content) }
+    requires rows { rows ≡ all_rows levels.now newest.now.content }
+    requires gone { IsRising gone.now }
+    ensures tests { IfOk result (λ snapshot. snapshot.tests ≡ tests_of (tree plan.now)) }
+    ensures view { D.tells → IfOk result (λ snapshot. snapshot ≡ loaded_view levels.now newest.now.content (D.state disk.old).content (tests_of (tree plan.now)) gone.now) }
+    ensures tells { D.tells → Tells (D.state disk.old).content (loads_of_tests levels.now newest.now.content (each_once (tests_of (tree plan.now)))) result }
+    // Levels that are the segments of contents are never damaged.
+    ensures undamaged { D.tells → (contents : List Level) → levels.now ≡ map tables_by contents
+        → All (λ level. IsSegment (bytes_at level.extent (D.state disk.old).content) level.content) contents → IfDamaged result (λ place. ⊥) }
+    // Over them the answers are the documents of the levels and the newest ones that match and are not deleted.
+    ensures answers { D.tells → IfOk result (λ snapshot. (contents : List Level) → (behind : List Document) → (q : Shape) → levels.now ≡ map tables_by contents
+        → All (λ level. IsSegment (bytes_at level.extent (D.state disk.old).content) level.content) contents → HasDocuments gone.now behind newest.now
+        → tree plan.now ≡ plan_of q → AreToCome (tree plan.now) snapshot 0 (answers (flat_map (documents_of gone.now) contents ++ behind) q)) }
+    ensures cause { result ≡ Err DiskFault → Rose (D.state disk.old).faults (D.state disk.new).faults }
+    ensures reads { Reads D.tells (load_sizes (loads_of_tests levels.now newest.now.content (each_once (tests_of (tree plan.now))))) (D.state disk.old) (D.state disk.new) }
+{
+    levels_and_newest_documents_answer();
+    let (tests, uses) = loading_order(alloc, plan)?.into_parts();
+    match load_tests(alloc, disk, levels, newest, tests.into_vec()) {
+        Ok(tests) => {
+            let gone = Vec::from_slice(alloc, gone)?;
+            Ok(Snapshot::new(tests, uses, rows, gone))
+        }
+        Err(fault) => Err(fault),
+    }
+}
