@@ -1,0 +1,12 @@
+pub mod BringLaws
+pub mod CallLaws
+pub mod DraftLaws
+pub mod FlushLaws
+pub mod NameLaws
+pub mod OpenedLaws
+pub mod PieceLaws
+pub mod PlaceLaws
+pub mod ReadLaws
+pub mod RootLaws
+pub mod RowLaws
+pub mod SegmentLaws
