@@ -66,9 +66,10 @@ all_below : (root : Root) (levels : List Tables) (rows : List DocRow) → are_in
 all_below root levels rows ordered =
     all_weaker (λ (row : DocRow). (is_below root row && list_all (λ (earlier : DocRow). comes_behind earlier row) (rows_in levels)) ≡ true) (IsBelow root) rows
     (λ row e.
-    let below = and_left (is_below root row) (list_all (λ (earlier : DocRow). comes_behind earlier row) (rows_in levels)) e in
-    (below_from row.number root.next_number (and_left (nat_lt row.number root.next_number) (nat_lt (end_of row) root.next_location) below),
-    below_from (end_of row) root.next_location (and_right (nat_lt row.number root.next_number) (nat_lt (end_of row) root.next_location) below)))
+    let below = and_left (is_below root row) (list_all (λ (earlier : DocRow). comes_behind earlier row) (rows_in levels)) e in (
+      below_from row.number root.next_number (and_left (nat_lt row.number root.next_number) (nat_lt (end_of row) root.next_location) below),
+      below_from (end_of row) root.next_location (and_right (nat_lt row.number root.next_number) (nat_lt (end_of row) root.next_location) below),
+    ))
     (all_from (λ (row : DocRow). is_below root row && list_all (λ (earlier : DocRow). comes_behind earlier row) (rows_in levels)) rows ordered)
 
 pub reached_more : (root : Root) (deleted : List ℕ) (old new : Levels) (level : Tables) → HasReached root deleted old → AreDocuments level.documents → 0 < length level.documents
