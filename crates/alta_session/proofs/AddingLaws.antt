@@ -11,7 +11,7 @@ use Rattle.alta_model.specs.Command.{Reads, adds}
 use Rattle.alta_model.specs.Faults.{IsText}
 use Rattle.alta_codec.proofs.NameLaws.{name_is, name_is_not}
 use Rattle.alta_session.specs.Machine.{adding, IsRefusal}
-use Rattle.alta_store.specs.Meaning.{StandsForEither}
+use Rattle.alta_images.specs.Standing.{StandsForEither}
 use Rattle.alta_images.specs.States.{has_name, with_added, IsDocument}
 
 -- what adding answers

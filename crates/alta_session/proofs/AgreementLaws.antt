@@ -8,7 +8,7 @@ use Rattle.alta_session.specs.Agreement.{AgreesOn}
 use Rattle.alta_session.specs.Machine.{Machine, started_at, changed_by}
 use Rattle.alta_session.specs.declared.session.Session.{Session}
 use Rattle.alta_store.specs.Agreement.{Agrees, Knows}
-use Rattle.alta_store.specs.Meaning.{StandsFor}
+use Rattle.alta_images.specs.Standing.{StandsFor}
 use Rattle.alta_store.proofs.Agreements.{knows_of}
 
 -- where nothing was answered yet

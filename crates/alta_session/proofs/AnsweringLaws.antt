@@ -15,9 +15,9 @@ use Rattle.alta_session.specs.declared.session.Session.{Session}
 use Rattle.alta_session.proofs.AgreementLaws.{agrees_changed, knows_state}
 use Rattle.alta_session.proofs.FullnessLaws.{none_added}
 use Rattle.alta_store.specs.Agreement.{Knows}
-use Rattle.alta_store.specs.Meaning.{StandsFor, StandsForEither}
+use Rattle.alta_images.specs.Standing.{StandsFor, StandsForEither}
 use Rattle.alta_store.specs.declared.fault.StoreFault.{StoreFault}
-use Rattle.alta_store.specs.declared.fault.StoreFault.TheVariants.{Disk, Memory, Full}
+use Rattle.alta_store.specs.declared.fault.StoreFault.TheVariants.{Disk, Memory, Damaged, Full}
 use Rattle.alta_store.specs.declared.store.Store.{Store}
 use Rattle.alta_store.proofs.Agreements.{images_stand}
 
@@ -29,7 +29,7 @@ if_all : {T E : Type 0} (r : Result T E) (P : T → Type 0) → ((x : T) → P x
 if_all (Ok x) P all = all x
 if_all (Err e) P all = tt
 
-ok_weaker : {T E : Type 0} (r : Result T E) (P Q : Type 0) → (P → Q) → OnOk r P → OnOk r Q
+pub ok_weaker : {T E : Type 0} (r : Result T E) (P Q : Type 0) → (P → Q) → OnOk r P → OnOk r Q
 ok_weaker (Ok x) P Q weaker here = weaker here
 ok_weaker (Err e) P Q weaker here = tt
 
@@ -75,12 +75,14 @@ looked_at tells state disk session bytes result steps text lawful can memory res
         images = subst (λ (s : State). LeavesOnly (StandsForEither m.state s) (state disk) (state disk)) (sym rest.state) (stays tells (state disk) session m lawful agrees);
         refused = λ refusal. (refl, memory);
         need = λ need gap is. let wanting : Full need gap ≡ Memory = is_memory result (Full need gap) memory is in absurd cc;
+        undamaged = λ place is. let wanting : Damaged place ≡ Memory = is_memory result (Damaged place) memory is in absurd cc;
         room = if_so result _ (omega (arith, none_written bytes m.state (steps m).0.state rest.state));
       };
   can = if_so result (CanAnswer tells (state disk) session) can;
   unchanged = if_all result _ (λ r refusal. (refl, refl));
   only = err_weaker result (λ e. e ≡ Memory) _ (λ e is. inl (inl is)) memory;
   full = λ need gap tell is. let wanting : Full need gap ≡ Memory = is_memory result (Full need gap) memory is in absurd cc;
+  broken = λ place tell is. let wanting : Damaged place ≡ Memory = is_memory result (Damaged place) memory is in absurd cc;
   cause = λ is. let wanting : Disk ≡ Memory = is_memory result Disk memory is in absurd cc;
   faults = omega arith;
   same_limit = refl;
@@ -113,6 +115,7 @@ answers_by tells state disk disk_now session session_now bytes result steps by i
   unchanged = answers.unchanged;
   only = answers.only;
   full = answers.full;
+  broken = answers.broken;
   cause = answers.cause;
   faults = answers.faults;
   same_limit = answers.same_limit;
@@ -121,11 +124,12 @@ answers_by tells state disk disk_now session session_now bytes result steps by i
 -- after an error nothing is said of the session
 pub answers_failed : {D : Type 0} (tells : Type 0) (state : D → DiskState) (disk disk_now : D) (session session_now later : Session) (bytes : ℕ) (e : StoreFault) (steps : Machine → Machine × List ℕ) → Answers tells state disk disk_now session session_now bytes (Err e) steps → Answers tells state disk disk_now session later bytes (Err e) steps
 answers_failed tells state disk disk_now session session_now later bytes e steps answers = record {
-  from = λ m tell agrees. let one : AnswersFrom tells state disk disk_now session session_now bytes (Err e) m (steps m) = answers.from m tell agrees in record { reply = tt; agrees = tt; images = one.images; refused = one.refused; need = one.need; room = tt };
+  from = λ m tell agrees. let one : AnswersFrom tells state disk disk_now session session_now bytes (Err e) m (steps m) = answers.from m tell agrees in record { reply = tt; agrees = tt; images = one.images; refused = one.refused; need = one.need; undamaged = one.undamaged; room = tt };
   can = tt;
   unchanged = tt;
   only = answers.only;
   full = answers.full;
+  broken = answers.broken;
   cause = answers.cause;
   faults = answers.faults;
   same_limit = answers.same_limit;
@@ -156,12 +160,14 @@ changed tells state disk disk_now session session_now bytes result change text r
         images = one.images;
         refused = λ refusal. absurd (no_refusal (subst IsRefusal one.reply refusal));
         need = λ need gap is. let wanting : Full need gap ≡ Memory = is_memory result (Full need gap) reply.memory is in absurd cc;
+        undamaged = λ place is. let wanting : Damaged place ≡ Memory = is_memory result (Damaged place) reply.memory is in absurd cc;
         room = if_so result _ one.room;
       };
   can = if_so result (CanAnswer tells (state disk_now) session_now) can;
   unchanged = IfOk-weaker result (λ r. r ≡ text) (λ r. IsRefusal r → (disk_now ≡ disk) × (session_now ≡ session)) (λ r is refusal. absurd (no_refusal (subst IsRefusal is refusal))) reply.reply;
   only = err_weaker result (λ e. e ≡ Memory) _ (λ e is. inl (inl is)) reply.memory;
   full = λ need gap tell is. let wanting : Full need gap ≡ Memory = is_memory result (Full need gap) reply.memory is in absurd cc;
+  broken = λ place tell is. let wanting : Damaged place ≡ Memory = is_memory result (Damaged place) reply.memory is in absurd cc;
   cause = λ is. let wanting : Disk ≡ Memory = is_memory result Disk reply.memory is in absurd cc;
   faults = faults;
   same_limit = same_limit;
@@ -185,12 +191,14 @@ turned tells state disk session cursors bytes result steps turn lawful can memor
             images = stays tells (state disk) session m lawful agrees;
             refused = λ refusal. (refl, memory);
             need = λ need gap is. let wanting : Full need gap ≡ Memory = is_memory result (Full need gap) memory is in absurd cc;
+            undamaged = λ place is. let wanting : Damaged place ≡ Memory = is_memory result (Damaged place) memory is in absurd cc;
             room = if_so result _ (omega (arith, none_added bytes m.state));
           };
       can = if_so result (CanAnswer tells (state disk) (with_cursors session cursors)) (record { sound = can.sound; agrees = can.agrees; limit = can.limit });
       unchanged = IfOk-weaker result (λ reply. IsRefusal reply → cursors ≡ session.cursors) _ (λ reply same refusal. (refl, ap (with_cursors session) (same refusal))) refused;
       only = err_weaker result (λ e. e ≡ Memory) _ (λ e is. inl (inl is)) memory;
       full = λ need gap tell is. let wanting : Full need gap ≡ Memory = is_memory result (Full need gap) memory is in absurd cc;
+      broken = λ place tell is. let wanting : Damaged place ≡ Memory = is_memory result (Damaged place) memory is in absurd cc;
       cause = λ is. let wanting : Disk ≡ Memory = is_memory result Disk memory is in absurd cc;
       faults = omega arith;
       same_limit = refl;

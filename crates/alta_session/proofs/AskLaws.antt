@@ -9,7 +9,7 @@ use Rattle.alta_model.specs.Seen.{command_of}
 use Rattle.alta_model.specs.declared.line.Line.{Line}
 use Rattle.alta_model.specs.declared.line.Line.TheVariants.{Add, Delete, Search, Count, Explain, OpenCursor, Fetch, Close, Flush, Merge, Step, Stats}
 use Rattle.alta_model.specs.declared.line.LineFault.{LineFault}
-use Rattle.alta_session.specs.Machine.{Machine, step, obeyed, refusal, LooksIn, Looks}
+use Rattle.alta_session.specs.Machine.{Machine, step, obeyed, refusal, IsSearch, LooksIn, Looks, SearchesIn, Searches}
 use Rattle.alta_session.proofs.MachineLaws.{step_reads}
 
 -- a command that is not built
@@ -62,3 +62,24 @@ adds_more line name title body is looks = subst LooksIn is looks
 
 pub deletes_more : (line name : List ℕ) → reading_of line ≡ asks (deletes name) → Looks line → ⊥
 deletes_more line name is looks = subst LooksIn is looks
+
+-- what is not built searches nothing
+other_searches : (l : Line) → IsOther l → IsSearch (command_of l) → ⊥
+other_searches (Add name title body) other searches = searches
+other_searches (Delete name) other searches = searches
+other_searches (Search text) other searches = other.searches text refl
+other_searches (Count text) other searches = other.counts text refl
+other_searches (Explain text) other searches = searches
+other_searches (OpenCursor text) other searches = other.opens text refl
+other_searches (Fetch cursor count) other searches = searches
+other_searches (Close cursor) other searches = searches
+other_searches Flush other searches = searches
+other_searches Merge other searches = searches
+other_searches (Step count) other searches = searches
+other_searches Stats other searches = searches
+
+pub none_searched : (line : List ℕ) (l : Line) → asks (command_of l) ≡ reading_of line → IsOther l → Searches line → ⊥
+none_searched line l reading other searches = other_searches l other (subst SearchesIn (sym reading) searches)
+
+pub refused_searched : (line : List ℕ) (e : LineFault) → refuses e ≡ reading_of line → Searches line → ⊥
+refused_searched line e reading searches = subst SearchesIn (sym reading) searches

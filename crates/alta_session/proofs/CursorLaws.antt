@@ -1,5 +1,5 @@
 -- Laws of the replies on cursors.
-use Rattle.std.proofs.Common.{◌≡◌, ◌≢◌, ◌⊎◌, inl, inr, ℕ, zero, suc, ◌+◌, ◌<◌, ◌≤◌, ◌/◌, ◌%◌, Bool, true, false, cond, not, List, [], ◌∷◌, ◌++◌, length, take, drop, lit<, refl, ap, sym, subst, ◌∙◌, arith, Result, Ok, Err, IfOk, OnOk, length-append, append_assoc, codes, decimal}
+use Rattle.std.proofs.Common.{◌≡◌, ◌≢◌, ◌⊎◌, inl, inr, ℕ, zero, suc, ◌+◌, ◌<◌, ◌≤◌, ◌/◌, ◌%◌, Bool, true, false, cond, not, List, [], ◌∷◌, ◌++◌, length, map, take, drop, lit<, refl, ap, sym, subst, ◌∙◌, arith, Result, Ok, Err, IfOk, OnOk, length-append, append_assoc, codes, decimal}
 use Rattle.std.specs.Prelude.{◌==◌, ◌&&◌, ◌↔◌, IsSome, IsTrue, nat_le, nat_lt, nat_eq, Option, Some, None}
 use Rattle.std.specs.Fmt.{digits, digits_onto, digit_glyph}
 use Rattle.std.proofs.lemmas.Bool.{false≢true}
@@ -17,10 +17,11 @@ use Rattle.alta_search.specs.Open.{AreOpen, IsFetched, OpenAnswers, least_free, 
 use Rattle.alta_search.specs.declared.cursors.OpenCursor.{OpenCursor}
 use Rattle.alta_search.specs.declared.cursors.TheConstants.{CURSORS}
 use Rattle.alta_search.specs.declared.page.Page.{Page}
+use Rattle.alta_search.specs.Documents.{told}
 use Rattle.alta_search.specs.Told.{AnswerRow}
 use Rattle.alta_session.specs.Cursors.{Turns, opening, opened_by, opened_over, fetching, fetched_as, closing, closed_as, page_lines}
 use Rattle.alta_session.specs.Machine.{IsRefusal}
-use Rattle.alta_session.specs.Searching.{answer_lines, row_lines, query_refusal}
+use Rattle.alta_session.specs.Searching.{answer_lines, found_line, row_lines, query_refusal}
 use Rattle.alta_session.proofs.SearchLaws.{refusal_some, some_behind}
 use Rattle.alta_store.specs.declared.fault.StoreFault.{StoreFault}
 use Rattle.alta_images.proofs.Tests.{apart_test}
@@ -106,15 +107,31 @@ left_other : (xs ys : List ℕ) → BeginsOther xs → BeginsOther (xs ++ ys)
 left_other [] ys other = absurd other
 left_other (x ∷ xs) ys other = other
 
-pub page_other : (rows : List AnswerRow) (more : Bool) → BeginsOther (row_lines rows ++ cond more (codes "more\n") (codes "end\n"))
-page_other [] true = λ e. absurd (omega (arith, e))
-page_other [] false = λ e. absurd (omega (arith, e))
-page_other (row ∷ rows) more =
-    left_other (row_lines (row ∷ rows)) (cond more (codes "more\n") (codes "end\n"))
+pub found_other : (n : ℕ) → BeginsOther (found_line n)
+found_other n = λ e. absurd (omega (arith, e))
+
+pub cursor_other : (n : ℕ) → BeginsOther (codes "cursor " ++ decimal n ++ codes "\n")
+cursor_other n = λ e. absurd (omega (arith, e))
+
+front_row : (row : AnswerRow) (rows : List AnswerRow) (rest : List ℕ) → BeginsOther (row_lines (row ∷ rows) ++ rest)
+front_row row rows rest =
+    left_other (row_lines (row ∷ rows)) rest
     (left_other (decimal row.number ++ codes " " ++ row.name ++ codes "\n") (row_lines rows)
     (left_other (decimal row.number ++ codes " " ++ row.name) (codes "\n")
     (left_other (decimal row.number ++ codes " ") row.name
     (front_other (decimal row.number) (codes " ") (decimal_leads row.number) (λ e. absurd (omega (arith, e)))))))
+
+pub rows_other : (rows : List AnswerRow) (n : ℕ) → BeginsOther (row_lines rows ++ found_line n)
+rows_other [] n = found_other n
+rows_other (row ∷ rows) n = front_row row rows (found_line n)
+
+pub lines_other : (documents : List Document) (n : ℕ) → BeginsOther (answer_lines documents ++ found_line n)
+lines_other documents n = rows_other (map told documents) n
+
+pub page_other : (rows : List AnswerRow) (more : Bool) → BeginsOther (row_lines rows ++ cond more (codes "more\n") (codes "end\n"))
+page_other [] true = λ e. absurd (omega (arith, e))
+page_other [] false = λ e. absurd (omega (arith, e))
+page_other (row ∷ rows) more = front_row row rows (cond more (codes "more\n") (codes "end\n"))
 
 -- ---- a call comes to a turn
 on_ok : {T E : Type 0} (r : Result T E) (P : Type 0) → P → OnOk r P

@@ -11,7 +11,7 @@ use Rattle.alta_meta.specs.declared.document.State.{State}
 use Rattle.alta_codec.specs.Name.{is_name}
 use Rattle.alta_codec.proofs.NameLaws.{name_is, name_is_not}
 use Rattle.alta_session.specs.Machine.{deleted_as, deleting, stats_of, IsRefusal}
-use Rattle.alta_store.specs.Meaning.{StandsForEither}
+use Rattle.alta_images.specs.Standing.{StandsForEither}
 use Rattle.alta_images.specs.States.{has_name, number_of, words_in, with_deleted}
 use Rattle.alta_session.proofs.SearchLaws.{some_behind}
 

@@ -15,11 +15,11 @@ use Rattle.alta_session.specs.Machine.{Machine, step, after, replies}
 use Rattle.alta_session.specs.Progress.{StandsAfterSome, Progress, StopsWithin, StopsWithinFrom}
 use Rattle.alta_session.specs.declared.session.Session.{Session}
 use Rattle.alta_session.specs.declared.status.Status.{Status}
-use Rattle.alta_session.specs.declared.status.Status.TheVariants.{Full}
+use Rattle.alta_session.specs.declared.status.Status.TheVariants.{Full, Damaged}
 use Rattle.alta_session.proofs.FullnessLaws.{records_append, records_same, full_on, full_more, full_clip, over_first}
 use Rattle.alta_session.proofs.MachineLaws.{after_append, replies_append, replies_same, after_same, reply_some}
 use Rattle.alta_session.proofs.ProgressLaws.{some_none, some_either, some_on, some_more, some_clip, progress_none, progress_stop, progress_on, progress_more, progress_full, progress_clip}
-use Rattle.alta_store.specs.Meaning.{StandsForEither}
+use Rattle.alta_images.specs.Standing.{StandsForEither}
 use Rattle.alta_store.proofs.Agreements.{images_stand}
 
 -- each image now is one of those at any moment
@@ -81,6 +81,7 @@ stops_on tells a b c d e f s0 s1 xs ys status first stops = record {
         progress = subst (λ (l : List ℕ). Progress m (xs ++ ys) (l ++ stops.given) f.images) (sym one.given_is) (progress_on m xs ys stops.given f.images two.progress);
         images = leaves_on d e f m xs ys one.images two.images;
         full = subst (λ (l : List ℕ). IsFullOnly (room_in s0) m (xs ++ ys) (l ++ stops.given) status) (sym one.given_is) (full_on (room_in s0) (room_in s1) m xs ys stops.given status one.room two.full);
+        undamaged = two.undamaged;
       };
 }
 
@@ -93,6 +94,7 @@ stops_more tells a b d e s0 xs ys status stops = record {
     progress = progress_more m xs ys stops.given e.images one.progress;
     images = leaves_as d e (StandsAfterSome m xs) (StandsAfterSome m (xs ++ ys)) one.images (λ z here. some_more m xs ys z here);
     full = full_more (room_in s0) m xs ys stops.given status one.full;
+    undamaged = one.undamaged;
   };
 }
 
@@ -104,30 +106,35 @@ stops_clip tells a b d e s0 xs ys status same stops = record {
     progress = progress_clip m xs ys stops.given e.images same one.progress;
     images = leaves_as d e (StandsAfterSome m xs) (StandsAfterSome m ys) one.images (λ z here. some_clip m xs ys z same here);
     full = full_clip (room_in s0) m xs ys stops.given status same one.full;
+    undamaged = one.undamaged;
   };
 }
 
 -- it stopped before any line
-unfoldable pub stops_none : (tells : Type 0) (told : Option (List Event)) (d : DiskState) (session : Session) (lines : List (List ℕ)) (status : Status) → IsLawful tells d → ((need gap : ℕ) → status ≡ Full need gap → ⊥) → StopsWithin tells told told d d session lines status
-stops_none tells told d session lines status lawful not_full = record {
+unfoldable pub stops_none : (tells : Type 0) (told : Option (List Event)) (d : DiskState) (session : Session) (lines : List (List ℕ)) (status : Status) → IsLawful tells d → ((need gap : ℕ) → status ≡ Full need gap → ⊥)
+    → ((place : ℕ) → status ≡ Damaged place → ⊥) → StopsWithin tells told told d d session lines status
+stops_none tells told d session lines status lawful not_full whole = record {
   given = [];
   gave = gives_none told;
   each = λ m tell agrees. record {
     progress = progress_none m lines d.images (images_stand tells d m.state lawful agrees.store.settled agrees.stands);
     images = leaves_none tells d session m lines lawful agrees;
     full = λ need gap is. absurd (not_full need gap is);
+    undamaged = whole;
   };
 }
 
 -- it stopped behind all lines
-unfoldable pub stops_full : (tells : Type 0) (a b : Option (List Event)) (d e : DiskState) (s0 s1 : Session) (lines : List (List ℕ)) (status : Status) → IsLawful tells e → ((need gap : ℕ) → status ≡ Full need gap → ⊥) → Fed tells a b d e s0 s1 lines → StopsWithin tells a b d e s0 lines status
-stops_full tells a b d e s0 s1 lines status lawful not_full fed = record {
+unfoldable pub stops_full : (tells : Type 0) (a b : Option (List Event)) (d e : DiskState) (s0 s1 : Session) (lines : List (List ℕ)) (status : Status) → IsLawful tells e → ((need gap : ℕ) → status ≡ Full need gap → ⊥)
+    → ((place : ℕ) → status ≡ Damaged place → ⊥) → Fed tells a b d e s0 s1 lines → StopsWithin tells a b d e s0 lines status
+stops_full tells a b d e s0 s1 lines status lawful not_full whole fed = record {
   given = fed.given;
   gave = fed.gave;
   each = λ m tell agrees. let one : FedFrom tells d e s0 s1 lines fed.given m = fed.each m tell agrees in record {
     progress = subst (λ (l : List ℕ). Progress m lines l e.images) (sym one.given_is) (progress_full m lines e.images (images_stand tells e (after m lines).state lawful one.agrees.store.settled one.agrees.stands));
     images = one.images;
     full = λ need gap is. absurd (not_full need gap is);
+    undamaged = whole;
   };
 }
 
@@ -149,20 +156,23 @@ fed_line tells a b d e s0 s1 line reply gave is now leaves room = record {
 -- less than its reply was given
 pub stops_line : (tells : Type 0) (a b : Option (List Event)) (d e : DiskState) (s0 : Session) (line part : List ℕ) (status : Status) → IsLawful tells e → Gives a b part → ((m : Machine) → tells → AgreesOn tells d s0 m → (left : List ℕ) × ((step m line).1 ≡ part ++ left) × (0 < length left))
     → ((m : Machine) → tells → AgreesOn tells d s0 m → LeavesOnly (StandsForEither m.state (step m line).0.state) d e)
-    → ((m : Machine) → tells → AgreesOn tells d s0 m → IsFullOnly (room_in s0) m (line ∷ []) part status) → StopsWithin tells a b d e s0 (line ∷ []) status
-stops_line tells a b d e s0 line part status lawful gave is leaves full = record {
+    → ((m : Machine) → tells → AgreesOn tells d s0 m → IsFullOnly (room_in s0) m (line ∷ []) part status)
+    → ((m : Machine) (place : ℕ) → tells → AgreesOn tells d s0 m → status ≡ Damaged place → ⊥) → StopsWithin tells a b d e s0 (line ∷ []) status
+stops_line tells a b d e s0 line part status lawful gave is leaves full whole = record {
   given = part;
   gave = gave;
   each = λ m tell agrees. let rest = is m tell agrees in record {
     progress = progress_stop m line [] part rest.0 e.images rest.1 rest.2 (leaves_now tells d e (StandsForEither m.state (step m line).0.state) lawful (leaves m tell agrees));
     images = leaves_as d e (StandsForEither m.state (step m line).0.state) (StandsAfterSome m (line ∷ [])) (leaves m tell agrees) (λ z here. some_either m line [] z here);
     full = full m tell agrees;
+    undamaged = λ place is. whole m place tell agrees is;
   };
 }
 
 -- none of it was given
 pub stops_unanswered : (tells : Type 0) (a : Option (List Event)) (d e : DiskState) (s0 : Session) (line : List ℕ) (status : Status) → IsLawful tells e → ((m : Machine) → tells → AgreesOn tells d s0 m → LeavesOnly (StandsForEither m.state (step m line).0.state) d e)
-    → ((m : Machine) (need gap : ℕ) → tells → AgreesOn tells d s0 m → status ≡ Full need gap → (need ≡ record_bytes m line) × (gap ≡ room_in s0) × (gap < need)) → StopsWithin tells a a d e s0 (line ∷ []) status
-stops_unanswered tells a d e s0 line status lawful leaves full =
+    → ((m : Machine) (need gap : ℕ) → tells → AgreesOn tells d s0 m → status ≡ Full need gap → (need ≡ record_bytes m line) × (gap ≡ room_in s0) × (gap < need))
+    → ((m : Machine) (place : ℕ) → tells → AgreesOn tells d s0 m → status ≡ Damaged place → ⊥) → StopsWithin tells a a d e s0 (line ∷ []) status
+stops_unanswered tells a d e s0 line status lawful leaves full whole =
     stops_line tells a a d e s0 line [] status lawful (gives_none a) (λ m tell agrees. ((step m line).1, refl, reply_some m line)) leaves
-    (λ m tell agrees need gap is. let found = full m need gap tell agrees is in (0, over_first (room_in s0) m line need gap found.0 found.1 found.2, refl))
+    (λ m tell agrees need gap is. let found = full m need gap tell agrees is in (0, over_first (room_in s0) m line need gap found.0 found.1 found.2, refl)) whole

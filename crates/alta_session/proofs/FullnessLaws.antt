@@ -10,7 +10,7 @@ use Rattle.alta_meta.specs.declared.document.State.{State}
 use Rattle.alta_session.specs.Fullness.{bytes_of_change, record_bytes, records_bytes, Overflows, IsFullOnly, IsInterrupted, IsFullExactly}
 use Rattle.alta_session.specs.Keeping.{clip}
 use Rattle.alta_session.specs.Machine.{Machine, step, changed_by, adding, after, replies}
-use Rattle.alta_session.specs.Status.{EndsLine}
+use Rattle.alta_session.specs.Status.{StopsLine}
 use Rattle.alta_session.specs.declared.status.Status.{Status}
 use Rattle.alta_session.specs.declared.status.Status.TheVariants.{Full}
 use Rattle.alta_session.proofs.MachineLaws.{replies_append, length_replies, step_clip, step_long, replies_same, length_same}
@@ -198,7 +198,7 @@ over_none room m lines k need gap fit over =
     omega (arith, all, fit, over_next room m lines k need gap over, records_within m lines (k + 1) (length lines) (omega (arith, over.within)), over.left, over.short)
 
 -- exactly: where answering a line ended it, or all of the lines fitted
-always : (room : ℕ) (m : Machine) (lines : List (List ℕ)) (given : List ℕ) (status : Status) → IsFullOnly room m lines given status → EndsLine status ⊎ (records_bytes m lines ≤ room)
+always : (room : ℕ) (m : Machine) (lines : List (List ℕ)) (given : List ℕ) (status : Status) → IsFullOnly room m lines given status → StopsLine status ⊎ (records_bytes m lines ≤ room)
     → (k need gap : ℕ) → Overflows room m lines k need gap → (status ≡ Full need gap) ⊎ IsInterrupted status
 always room m lines given status only (inl (inl memory)) k need gap over = inr (inl memory)
 always room m lines given status only (inl (inr (inl disk))) k need gap over = inr (inr (inl disk))
@@ -209,5 +209,5 @@ always room m lines given status only (inl (inr (inr (inr (n, g, is))))) k need 
     inl (is ∙ ap (λ (i : ℕ). Full i g) same.0 ∙ ap (λ (i : ℕ). Full need i) same.1)
 always room m lines given status only (inr fit) k need gap over = absurd (over_none room m lines k need gap fit over)
 
-pub full_exactly : (room : ℕ) (m : Machine) (lines : List (List ℕ)) (given : List ℕ) (status : Status) → IsFullOnly room m lines given status → EndsLine status ⊎ (records_bytes m lines ≤ room) → IsFullExactly room m lines given status
+pub full_exactly : (room : ℕ) (m : Machine) (lines : List (List ℕ)) (given : List ℕ) (status : Status) → IsFullOnly room m lines given status → StopsLine status ⊎ (records_bytes m lines ≤ room) → IsFullExactly room m lines given status
 full_exactly room m lines given status only ends = record { only = only; always = always room m lines given status only ends }

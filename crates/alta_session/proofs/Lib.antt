@@ -8,8 +8,10 @@ pub mod FedLaws
 pub mod FeedLaws
 pub mod FullnessLaws
 pub mod KeepingLaws
+pub mod LoadingLaws
 pub mod MachineLaws
 pub mod ProgressLaws
+pub mod QueryingLaws
 pub mod RunLaws
 pub mod SearchLaws
 pub mod ServeLaws

@@ -8,7 +8,7 @@ use Rattle.alta_session.specs.Keeping.{clip}
 use Rattle.alta_session.specs.Machine.{Machine, step, after, replies}
 use Rattle.alta_session.specs.Progress.{StandsAfterSome, StandsAfter, Progress}
 use Rattle.alta_session.proofs.MachineLaws.{after_append, replies_append, length_replies, reply_some, replies_clip, after_take, length_same}
-use Rattle.alta_store.specs.Meaning.{StandsFor, StandsForEither}
+use Rattle.alta_images.specs.Standing.{StandsFor, StandsForEither}
 
 -- an image that stands for the state after this many lines stands for one after some
 pub some_of : (answered : ℕ) (m : Machine) (lines : List (List ℕ)) (image : List ℕ) → StandsAfter answered m lines image → StandsAfterSome m lines image

@@ -19,16 +19,16 @@ use Rattle.alta_session.specs.Keeping.{clip}
 use Rattle.alta_session.specs.Machine.{Machine, after, replies}
 use Rattle.alta_session.specs.Progress.{StandsAfterSome, Progress, StopsWithin, StopsWithinFrom}
 use Rattle.alta_session.specs.Run.{AnswersInTime, Runs, RunsFrom}
-use Rattle.alta_session.specs.Status.{EndsLine}
+use Rattle.alta_session.specs.Status.{StopsLine, EndsLine}
 use Rattle.alta_session.specs.declared.session.Session.{Session}
 use Rattle.alta_session.specs.declared.status.Status.{Status}
-use Rattle.alta_session.specs.declared.status.Status.TheVariants.{Done, Full, TooLong}
+use Rattle.alta_session.specs.declared.status.Status.TheVariants.{Done, Full, TooLong, Damaged}
 use Rattle.alta_session.proofs.FedLaws.{leaves_on, leaves_none, fed_clip, stops_clip, stops_none, stops_full}
 use Rattle.alta_session.proofs.FullnessLaws.{records_append, full_on, full_exactly}
 use Rattle.alta_session.proofs.KeepingLaws.{whole_from_clip, begun_from_clip, last_piece_clip}
 use Rattle.alta_session.proofs.MachineLaws.{after_append, replies_append}
 use Rattle.alta_session.proofs.ProgressLaws.{progress_begins, progress_acked, progress_on, progress_full}
-use Rattle.alta_session.proofs.StatusLaws.{ends_not_done, ends_not_long}
+use Rattle.alta_session.proofs.StatusLaws.{ends_not_done, ends_not_long, ends_whole}
 use Rattle.alta_store.proofs.Agreements.{images_stand}
 
 -- A run that was in time goes on by a take, and then by gives: it is in time where all was answered before the take.
@@ -46,8 +46,8 @@ in_time_on m run event gives before now given k t =
 -- what a run from a machine keeps
 runs_from : (limit : ℕ) (d e : DiskState) (session : Session) (run : List Event) (status : Status) (m : Machine) → AnswersInTime m run → Progress m (lines_in limit run) (given_in run) e.images
     → (status ≡ Done → (has_ended run ≡ true) × (given_in run ≡ joined (replies m (lines_in limit run)))) → LeavesOnly (StandsAfterSome m (lines_in limit run)) d e
-    → IsFullExactly (room_in session) m (lines_in limit run) (given_in run) status → RunsFrom limit d e session run status m
-runs_from limit d e session run status m time p done leaves full = record {
+    → IsFullExactly (room_in session) m (lines_in limit run) (given_in run) status → ((place : ℕ) → status ≡ Damaged place → ⊥) → RunsFrom limit d e session run status m
+runs_from limit d e session run status m time p done leaves full never = record {
   replies = record {
     begin = progress_begins m (lines_in limit run) (given_in run) e.images p;
     all = done;
@@ -62,10 +62,11 @@ runs_from limit d e session run status m time p done leaves full = record {
     ever = leaves;
   };
   full = full;
+  undamaged = never;
 }
 
 -- it ended in answering a line, or all that came before fitted too
-ends_on : (room later : ℕ) (m : Machine) (xs ys : List (List ℕ)) (status : Status) → later + records_bytes m xs ≡ room → EndsLine status ⊎ (records_bytes (after m xs) ys ≤ later) → EndsLine status ⊎ (records_bytes m (xs ++ ys) ≤ room)
+ends_on : (room later : ℕ) (m : Machine) (xs ys : List (List ℕ)) (status : Status) → later + records_bytes m xs ≡ room → StopsLine status ⊎ (records_bytes (after m xs) ys ≤ later) → StopsLine status ⊎ (records_bytes m (xs ++ ys) ≤ room)
 ends_on room later m xs ys status fit (inl ends) = inl ends
 ends_on room later m xs ys status fit (inr more) = inr (omega (arith, fit, more, records_append m xs ys))
 
@@ -77,7 +78,7 @@ given_on run gives event given none is =
 after_from : (tells : Type 0) (limit : ℕ) (d e f : DiskState) (s0 s1 : Session) (run gives : List Event) (event : Event) (given : List ℕ) (later : List (List ℕ)) (status : Status) (m : Machine) → GoingFrom tells d e s0 s1 run m
     → StopsWithinFrom e f s1 later given status (after m (whole (taken_in run))) → AllGiven gives → given_in gives ≡ given → given_in (event ∷ []) ≡ [] → lines_in limit (run ++ event ∷ gives) ≡ whole (taken_in run) ++ later
     → (status ≡ Done → (has_ended (run ++ event ∷ gives) ≡ true) × (given ≡ joined (replies (after m (whole (taken_in run))) later)))
-    → EndsLine status ⊎ (records_bytes (after m (whole (taken_in run))) later ≤ room_in s1) → RunsFrom limit d f s0 (run ++ event ∷ gives) status m
+    → StopsLine status ⊎ (records_bytes (after m (whole (taken_in run))) later ≤ room_in s1) → RunsFrom limit d f s0 (run ++ event ∷ gives) status m
 after_from tells limit d e f s0 s1 run gives event given later status m going stops all_given gave none lines done ends =
     let before : List (List ℕ) = whole (taken_in run) in
     let now : List Event = run ++ event ∷ gives in
@@ -92,7 +93,7 @@ after_from tells limit d e f s0 s1 run gives event given later status m going st
     (λ is. ((done is).0, given_is ∙ ap (λ (l : List ℕ). joined (replies m before) ++ l) (done is).1 ∙ sym (joined_append (replies m before) (replies (after m before) later)) ∙ ap joined (sym (replies_append m before later) ∙ ap (λ (l : List (List ℕ)). replies m l) (sym lines))))
     (subst R (sym lines) (leaves_on d e f m before later going.images stops.images))
     (subst F (sym lines) (full_exactly (room_in s0) m (before ++ later) (given_in now) status
-    (subst G (sym given_is) (full_on (room_in s0) (room_in s1) m before later given status going.room stops.full)) (ends_on (room_in s0) (room_in s1) m before later status going.room ends)))
+    (subst G (sym given_is) (full_on (room_in s0) (room_in s1) m before later given status going.room stops.full)) (ends_on (room_in s0) (room_in s1) m before later status going.room ends))) stops.undamaged
 
 -- at the start
 pub goes_none : (tells : Type 0) (limit : ℕ) (told : Option (List Event)) (left : Option (List ℕ)) (d : DiskState) (session : Session) → IsLawful tells d → Goes tells limit told told left left d d session session [] 0
@@ -178,7 +179,7 @@ runs_stopped tells limit a b c d la lb lc ld e f h s0 s1 kept taken piece status
       too_long = (λ long. absurd (ends_not_long status ends long), λ past. absurd (omega arith));
       last = λ past. absurd (omega arith);
       each = λ m tell agrees. let one : GoingFrom tells e f s0 s1 run m = goes.each m tell agrees in
-          after_from tells limit e f h s0 s1 run gives (Taken piece) stops.given later status m one (stops.each (after m (whole bytes)) tell one.agrees) stops.gave.2 stops.gave.3 refl lines (λ done. absurd (ends_not_done status ends done)) (inl ends);
+          after_from tells limit e f h s0 s1 run gives (Taken piece) stops.given later status m one (stops.each (after m (whole bytes)) tell one.agrees) stops.gave.2 stops.gave.3 refl lines (λ done. absurd (ends_not_done status ends done)) (inl (ends_whole status ends (stops.each (after m (whole bytes)) tell one.agrees).undamaged));
     }
 
 -- a piece passed the limit
@@ -189,7 +190,7 @@ runs_past tells limit a b c la lb lc e f s0 s1 kept taken piece lawful goes took
     let run : List Event = goes.run in
     let bytes : List ℕ = taken_in run in
     let now : List Event = run ++ Taken piece ∷ [] in
-    let stops : StopsWithin tells c c f f s1 [] TooLong = stops_none tells c f s1 [] TooLong lawful (λ need gap is. cc) in
+    let stops : StopsWithin tells c c f f s1 [] TooLong = stops_none tells c f s1 [] TooLong lawful (λ need gap is. cc) (λ place is. cc) in
     let taken_now : taken_in now ≡ bytes ++ piece = taken_on run [] piece tt in
     let lines : lines_in limit now ≡ whole bytes ++ [] =
     lines_past limit run piece goes.not_ended goes.within (omega (arith, goes.taken_is)) ∙ open_lines limit run bytes goes.not_ended (within_all limit run goes.within) ∙ sym (append-nil (whole bytes)) in
@@ -209,7 +210,7 @@ ended_on run gives given = taken_in_append run (Ended ∷ gives) ∙ ap (λ (l :
 -- the input ended, and of a last line some was answered
 ended_with : (tells : Type 0) (limit : ℕ) (a b c d : Option (List Event)) (la lb lc ld : Option (List ℕ)) (e f h : DiskState) (s0 s1 : Session) (kept : List ℕ) (taken : ℕ) (status : Status) (goes : Goes tells limit a b la lb e f s0 s1 kept taken) → Grows b c (Ended ∷ []) → Consumes lb lc []
     → (stops : StopsWithin tells c d f h s1 (last_piece (begun (taken_in goes.run))) status) → ld ≡ lc → ((m : Machine) → tells → AgreesOn tells f s1 m → status ≡ Done → stops.given ≡ joined (replies m (last_piece (begun (taken_in goes.run))))) → (status ≡ TooLong → ⊥)
-    → ((m : Machine) → tells → AgreesOn tells f s1 m → EndsLine status ⊎ (records_bytes m (last_piece (begun (taken_in goes.run))) ≤ room_in s1)) → Runs tells limit a d la ld e h s0 status
+    → ((m : Machine) → tells → AgreesOn tells f s1 m → StopsLine status ⊎ (records_bytes m (last_piece (begun (taken_in goes.run))) ≤ room_in s1)) → Runs tells limit a d la ld e h s0 status
 ended_with tells limit a b c d la lb lc ld e f h s0 s1 kept taken status goes took more stops same all not_long ends =
     let run : List Event = goes.run in
     let bytes : List ℕ = taken_in run in
@@ -237,7 +238,8 @@ pub runs_ended : (tells : Type 0) (limit : ℕ) (a b c d : Option (List Event)) 
 runs_ended tells limit a b c d la lb lc ld e f h s0 s1 kept taken status goes took more stops same ends =
     let line : List ℕ = begun (taken_in goes.run) in
     ended_with tells limit a b c d la lb lc ld e f h s0 s1 kept taken status goes took more (stops_clip tells c d f h s1 (last_piece kept) (last_piece line) status (last_same kept line goes.kept_is) stops) same
-    (λ m tell agrees done. absurd (ends_not_done status ends done)) (ends_not_long status ends) (λ m tell agrees. inl ends)
+    (λ m tell agrees done. absurd (ends_not_done status ends done)) (ends_not_long status ends)
+    (λ m tell agrees. inl (ends_whole status ends (stops.each m tell agrees).undamaged))
 
 -- and all of it
 pub runs_done : (tells : Type 0) (limit : ℕ) (a b c d : Option (List Event)) (la lb lc ld : Option (List ℕ)) (e f h : DiskState) (s0 s1 s2 : Session) (kept : List ℕ) (taken : ℕ) → IsLawful tells h → Goes tells limit a b la lb e f s0 s1 kept taken → Grows b c (Ended ∷ []) → Consumes lb lc []
@@ -246,13 +248,13 @@ unfolding stops_full
 runs_done tells limit a b c d la lb lc ld e f h s0 s1 s2 kept taken lawful goes took more fed same =
     let line : List ℕ = begun (taken_in goes.run) in
     let fed_now : Fed tells c d f h s1 s2 (last_piece line) = fed_clip tells c d f h s1 s2 (last_piece kept) (last_piece line) (last_same kept line goes.kept_is) fed in
-    ended_with tells limit a b c d la lb lc ld e f h s0 s1 kept taken Done goes took more (stops_full tells c d f h s1 s2 (last_piece line) Done lawful (λ need gap is. cc) fed_now) same
+    ended_with tells limit a b c d la lb lc ld e f h s0 s1 kept taken Done goes took more (stops_full tells c d f h s1 s2 (last_piece line) Done lawful (λ need gap is. cc) (λ place is. cc) fed_now) same
     (λ m tell agrees done. (fed_now.each m tell agrees).given_is) (λ long. cc) (λ m tell agrees. inr (omega (arith, (fed_now.each m tell agrees).room)))
 
 -- a take failed
 pub runs_failed : (tells : Type 0) (limit : ℕ) (a b c : Option (List Event)) (la lb lc : Option (List ℕ)) (e f : DiskState) (s0 s1 : Session) (kept : List ℕ) (taken : ℕ) (status : Status) → IsLawful tells f → Goes tells limit a b la lb e f s0 s1 kept taken → c ≡ b → lc ≡ lb → (status ≡ Done → ⊥) → (status ≡ TooLong → ⊥) → ((need gap : ℕ) → status ≡ Full need gap → ⊥)
-    → Runs tells limit a c la lc e f s0 status
-runs_failed tells limit a b c la lb lc e f s0 s1 kept taken status lawful goes same kept_input not_done not_long not_full =
+    → ((place : ℕ) → status ≡ Damaged place → ⊥) → Runs tells limit a c la lc e f s0 status
+runs_failed tells limit a b c la lb lc e f s0 s1 kept taken status lawful goes same kept_input not_done not_long not_full never =
     let run : List Event = goes.run in
     let bytes : List ℕ = taken_in run in
     let lines : lines_in limit run ≡ whole bytes = open_lines limit run bytes goes.not_ended (within_all limit run goes.within) in
@@ -266,5 +268,5 @@ runs_failed tells limit a b c la lb lc e f s0 s1 kept taken status lawful goes s
           runs_from limit e f s0 run status m one.in_time
           (subst (λ (l : List (List ℕ)). Progress m l (given_in run) f.images) (sym lines) (subst (λ (l : List ℕ). Progress m (whole bytes) l f.images) (sym one.given_is) (progress_full m (whole bytes) f.images (images_stand tells f (after m (whole bytes)).state lawful one.agrees.store.settled one.agrees.stands))))
           (λ done. absurd (not_done done)) (subst (λ (l : List (List ℕ)). LeavesOnly (StandsAfterSome m l) e f) (sym lines) one.images)
-          (full_exactly (room_in s0) m (lines_in limit run) (given_in run) status (λ need gap is. absurd (not_full need gap is)) (inr (omega (arith, one.room, ap (λ (l : List (List ℕ)). records_bytes m l) lines))));
+          (full_exactly (room_in s0) m (lines_in limit run) (given_in run) status (λ need gap is. absurd (not_full need gap is)) (inr (omega (arith, one.room, ap (λ (l : List (List ℕ)). records_bytes m l) lines)))) never;
     }

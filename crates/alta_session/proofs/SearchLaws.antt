@@ -20,6 +20,7 @@ use Rattle.alta_compile.specs.Tree.{Tree}
 use Rattle.alta_search.specs.Documents.{told}
 use Rattle.alta_content.specs.declared.document.DocRow.{DocRow}
 use Rattle.alta_search.specs.Told.{AnswerRow, answer_of}
+use Rattle.alta_session.specs.Machine.{IsRefusal}
 use Rattle.alta_session.specs.Searching.{answer_lines, row_lines, cause_name, found_line, found_by, counted_by, explained_by, searching, counting, explaining, query_refusal}
 
 -- what was written is the reply
@@ -151,3 +152,9 @@ pub counted_are : (now : List ℕ) (count : ℕ) (rows : List DocRow) (documents
     → now ≡ found_line (length documents)
 counted_are now count rows documents counted are is =
     is ∙ ap found_line (counted ∙ sym (length-map rows answer_of) ∙ ap (λ (l : List AnswerRow). length l) are ∙ length-map documents told)
+
+-- what was written is no refusal
+pub other_written : {E F : Type 0} (text : Result (List ℕ) E) (reply : Result (String Global) F) → IfOk text (λ t. (r : String Global) × (reply ≡ Ok r) × (t ≡ string_bytes r))
+    → IfOk reply (λ r. IsRefusal (string_bytes r) → ⊥) → IfOk text (λ t. IsRefusal t → ⊥)
+other_written (Err e) reply h k = tt
+other_written {F = F} (Ok t) reply (r, is, written) k = λ refusal. subst (λ (x : Result (String Global) F). IfOk x (λ r. IsRefusal (string_bytes r) → ⊥)) is k (subst IsRefusal written refusal)

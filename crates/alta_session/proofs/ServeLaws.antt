@@ -18,7 +18,7 @@ use Rattle.alta_session.proofs.FullnessLaws.{full_exactly}
 use Rattle.alta_session.proofs.ProgressLaws.{some_none}
 use Rattle.alta_store.specs.Agreement.{HasRoom}
 use Rattle.alta_store.proofs.Agreements.{room_held}
-use Rattle.alta_store.specs.Meaning.{StandsFor}
+use Rattle.alta_images.specs.Standing.{StandsFor}
 
 -- calls that change nothing leave images of the same state
 same_stands : (P : List ℕ → Type 0) (d e : DiskState) → Passes Same d e → ((c : List ℕ) → d.images c → P c) → (c : List ℕ) → e.images c → P c

@@ -1,6 +1,6 @@
 -- Laws of statuses.
 use Rattle.std.proofs.Common.{◌≡◌, ◌≢◌, ◌⊎◌, ℕ, inl, inr, refl, ap, sym, subst, ◌∙◌, Result, Ok, Err}
-use Rattle.alta_session.specs.Status.{EndsLine, EndsRunning, EndsRun, EndsInit, IsOpened, IsUnopened, Completes, Yields, status_for}
+use Rattle.alta_session.specs.Status.{StopsLine, EndsLine, EndsRunning, EndsRun, EndsInit, IsOpened, Completes, Yields, status_for}
 use Rattle.alta_session.specs.declared.status.Status.{Status}
 use Rattle.alta_session.specs.declared.status.Status.TheVariants.{Done, Usage, DiskFault, TakeFault, GiveFault, Memory, Damaged, NoRoot, Full, TooLong, Exists}
 use Rattle.alta_store.specs.Answers.{IsOutside, AnswersFault}
@@ -8,49 +8,55 @@ use Rattle.alta_store.specs.declared.fault.StoreFault.{StoreFault}
 use Rattle.alta_store.specs.declared.fault.StoreFault.TheVariants.{Disk as StoreDisk, Memory as StoreMemory, Damaged as StoreDamaged, NoRoot as StoreNoRoot, Full as StoreFull, Taken, Missing, Numbers}
 
 pub ends_not_done : (status : Status) → EndsLine status → (status ≡ Done → ⊥)
-ends_not_done status (inl is) done = cc
-ends_not_done status (inr (inl is)) done = cc
-ends_not_done status (inr (inr (inl is))) done = cc
-ends_not_done status (inr (inr (inr (need, gap, is)))) done = cc
+ends_not_done status (inl (inl is)) done = cc
+ends_not_done status (inl (inr (inl is))) done = cc
+ends_not_done status (inl (inr (inr (inl is)))) done = cc
+ends_not_done status (inl (inr (inr (inr (need, gap, is))))) done = cc
+ends_not_done status (inr (place, is)) done = cc
 
 pub ends_not_long : (status : Status) → EndsLine status → (status ≡ TooLong → ⊥)
-ends_not_long status (inl is) long = cc
-ends_not_long status (inr (inl is)) long = cc
-ends_not_long status (inr (inr (inl is))) long = cc
-ends_not_long status (inr (inr (inr (need, gap, is)))) long = cc
+ends_not_long status (inl (inl is)) long = cc
+ends_not_long status (inl (inr (inl is))) long = cc
+ends_not_long status (inl (inr (inr (inl is)))) long = cc
+ends_not_long status (inl (inr (inr (inr (need, gap, is))))) long = cc
+ends_not_long status (inr (place, is)) long = cc
+
+-- where no damage is found
+pub ends_whole : (status : Status) → EndsLine status → ((place : ℕ) → status ≡ Damaged place → ⊥) → StopsLine status
+ends_whole status (inl stops) whole = stops
+ends_whole status (inr (place, is)) whole = absurd (whole place is)
 
 -- what an open index never ends with
-pub running_opened : (status : Status) → EndsRunning status → IsOpened status
-running_opened status (inl is) = record { rooted = λ other. cc; whole = λ place other. cc }
-running_opened status (inr (inl is)) = record { rooted = λ other. cc; whole = λ place other. cc }
-running_opened status (inr (inr (inl is))) = record { rooted = λ other. cc; whole = λ place other. cc }
-running_opened status (inr (inr (inr (inl is)))) = record { rooted = λ other. cc; whole = λ place other. cc }
-running_opened status (inr (inr (inr (inr (inl is))))) = record { rooted = λ other. cc; whole = λ place other. cc }
-running_opened status (inr (inr (inr (inr (inr (inl is)))))) = record { rooted = λ other. cc; whole = λ place other. cc }
-running_opened status (inr (inr (inr (inr (inr (inr (need, gap, is))))))) = record { rooted = λ other. cc; whole = λ place other. cc }
+pub running_rooted : (status : Status) → EndsRunning status → status ≢ NoRoot
+running_rooted status (inl is) other = cc
+running_rooted status (inr (inl is)) other = cc
+running_rooted status (inr (inr (inl is))) other = cc
+running_rooted status (inr (inr (inr (inl (inl is))))) other = cc
+running_rooted status (inr (inr (inr (inl (inr (inl is)))))) other = cc
+running_rooted status (inr (inr (inr (inl (inr (inr (inl is))))))) other = cc
+running_rooted status (inr (inr (inr (inl (inr (inr (inr (need, gap, is)))))))) other = cc
+running_rooted status (inr (inr (inr (inr (place, is))))) other = cc
 
 pub running_never : (status : Status) → EndsRunning status → (status ≢ Usage) × (status ≢ Exists)
 running_never status (inl is) = (λ other. cc, λ other. cc)
 running_never status (inr (inl is)) = (λ other. cc, λ other. cc)
 running_never status (inr (inr (inl is))) = (λ other. cc, λ other. cc)
-running_never status (inr (inr (inr (inl is)))) = (λ other. cc, λ other. cc)
-running_never status (inr (inr (inr (inr (inl is))))) = (λ other. cc, λ other. cc)
-running_never status (inr (inr (inr (inr (inr (inl is)))))) = (λ other. cc, λ other. cc)
-running_never status (inr (inr (inr (inr (inr (inr (need, gap, is))))))) = (λ other. cc, λ other. cc)
+running_never status (inr (inr (inr (inl (inl is))))) = (λ other. cc, λ other. cc)
+running_never status (inr (inr (inr (inl (inr (inl is)))))) = (λ other. cc, λ other. cc)
+running_never status (inr (inr (inr (inl (inr (inr (inl is))))))) = (λ other. cc, λ other. cc)
+running_never status (inr (inr (inr (inl (inr (inr (inr (need, gap, is)))))))) = (λ other. cc, λ other. cc)
+running_never status (inr (inr (inr (inr (place, is))))) = (λ other. cc, λ other. cc)
 
-pub opened_not : (status : Status) → IsOpened status → IsUnopened status → ⊥
-opened_not status opened (inl is) = opened.rooted is
-opened_not status opened (inr (place, is)) = opened.whole place is
-
--- where no call fails
-pub running_completes : (status : Status) (takes gives disk : Type 0) → EndsRunning status → (status ≡ TakeFault → takes) → (status ≡ GiveFault → gives) → (status ≡ DiskFault → disk) → (takes → ⊥) → (gives → ⊥) → (disk → ⊥) → Completes status
-running_completes status takes gives disk (inl is) t g d no_take no_give no_disk = inl is
-running_completes status takes gives disk (inr (inl is)) t g d no_take no_give no_disk = absurd (no_take (t is))
-running_completes status takes gives disk (inr (inr (inl is))) t g d no_take no_give no_disk = inr (inl is)
-running_completes status takes gives disk (inr (inr (inr (inl is)))) t g d no_take no_give no_disk = inr (inr (inl is))
-running_completes status takes gives disk (inr (inr (inr (inr (inl is))))) t g d no_take no_give no_disk = absurd (no_disk (d is))
-running_completes status takes gives disk (inr (inr (inr (inr (inr (inl is)))))) t g d no_take no_give no_disk = absurd (no_give (g is))
-running_completes status takes gives disk (inr (inr (inr (inr (inr (inr (need, gap, is))))))) t g d no_take no_give no_disk = inr (inr (inr (need, gap, is)))
+-- where no call fails, and no damage is found
+pub running_completes : (status : Status) (takes gives disk : Type 0) → EndsRunning status → (status ≡ TakeFault → takes) → (status ≡ GiveFault → gives) → (status ≡ DiskFault → disk) → (takes → ⊥) → (gives → ⊥) → (disk → ⊥) → ((place : ℕ) → status ≡ Damaged place → ⊥) → Completes status
+running_completes status takes gives disk (inl is) t g d no_take no_give no_disk whole = inl is
+running_completes status takes gives disk (inr (inl is)) t g d no_take no_give no_disk whole = absurd (no_take (t is))
+running_completes status takes gives disk (inr (inr (inl is))) t g d no_take no_give no_disk whole = inr (inl is)
+running_completes status takes gives disk (inr (inr (inr (inl (inl is))))) t g d no_take no_give no_disk whole = inr (inr (inl is))
+running_completes status takes gives disk (inr (inr (inr (inl (inr (inl is)))))) t g d no_take no_give no_disk whole = absurd (no_disk (d is))
+running_completes status takes gives disk (inr (inr (inr (inl (inr (inr (inl is))))))) t g d no_take no_give no_disk whole = absurd (no_give (g is))
+running_completes status takes gives disk (inr (inr (inr (inl (inr (inr (inr (need, gap, is)))))))) t g d no_take no_give no_disk whole = inr (inr (inr (need, gap, is)))
+running_completes status takes gives disk (inr (inr (inr (inr (place, is))))) t g d no_take no_give no_disk whole = absurd (whole place is)
 
 -- what a fault of the opening becomes
 pub opening_ends : (e : StoreFault) → IsOutside e ⊎ ((e ≡ StoreNoRoot) ⊎ ((place : ℕ) × (e ≡ StoreDamaged place))) → EndsRun e
@@ -60,15 +66,17 @@ opening_ends e (inr (inl is)) = subst EndsRun (sym is) tt
 opening_ends e (inr (inr (place, is))) = subst EndsRun (sym is) tt
 
 -- what a fault of a line becomes
-pub line_ends_run : (e : StoreFault) → IsOutside e ⊎ ((need gap : ℕ) × (e ≡ StoreFull need gap)) → EndsRun e
+pub line_ends_run : (e : StoreFault) → IsOutside e ⊎ (((need gap : ℕ) × (e ≡ StoreFull need gap)) ⊎ ((place : ℕ) × (e ≡ StoreDamaged place))) → EndsRun e
 line_ends_run e (inl (inl is)) = subst EndsRun (sym is) tt
 line_ends_run e (inl (inr is)) = subst EndsRun (sym is) tt
-line_ends_run e (inr (need, gap, is)) = subst EndsRun (sym is) tt
+line_ends_run e (inr (inl (need, gap, is))) = subst EndsRun (sym is) tt
+line_ends_run e (inr (inr (place, is))) = subst EndsRun (sym is) tt
 
-pub line_ends : (r : Status) (e : StoreFault) → r ≡ status_for e → IsOutside e ⊎ ((need gap : ℕ) × (e ≡ StoreFull need gap)) → EndsLine r
-line_ends r e is (inl (inl memory)) = inl (is ∙ ap status_for memory)
-line_ends r e is (inl (inr disk)) = inr (inl (is ∙ ap status_for disk))
-line_ends r e is (inr (need, gap, full)) = inr (inr (inr (need, gap, is ∙ ap status_for full)))
+pub line_ends : (r : Status) (e : StoreFault) → r ≡ status_for e → IsOutside e ⊎ (((need gap : ℕ) × (e ≡ StoreFull need gap)) ⊎ ((place : ℕ) × (e ≡ StoreDamaged place))) → EndsLine r
+line_ends r e is (inl (inl memory)) = inl (inl (is ∙ ap status_for memory))
+line_ends r e is (inl (inr disk)) = inl (inr (inl (is ∙ ap status_for disk)))
+line_ends r e is (inr (inl (need, gap, full))) = inl (inr (inr (inr (need, gap, is ∙ ap status_for full))))
+line_ends r e is (inr (inr (place, damaged))) = inr (place, is ∙ ap status_for damaged)
 
 -- it is not full: nothing was to be written
 pub opening_not_full : (e : StoreFault) (status : Status) (need gap : ℕ) → IsOutside e ⊎ ((e ≡ StoreNoRoot) ⊎ ((place : ℕ) × (e ≡ StoreDamaged place))) → status ≡ status_for e → status ≡ Full need gap → ⊥

@@ -6,12 +6,13 @@ use Rattle.alta_journal.specs.declared.places.TheConstants.{HEAD_BYTES}
 use Rattle.alta_session.specs.Agreement.{AgreesOn, IsSound, room_in}
 use Rattle.alta_session.specs.Fullness.{IsFull, bytes_of_change}
 use Rattle.alta_session.specs.Machine.{Machine, IsRefusal}
+use Rattle.alta_session.specs.Loading.{HasBrokenList}
 use Rattle.alta_session.specs.declared.session.Session.{Session}
 use Rattle.alta_store.specs.Agreement.{Agrees}
 use Rattle.alta_store.specs.Answers.{IsOutside}
-use Rattle.alta_store.specs.Meaning.{StandsForEither}
+use Rattle.alta_images.specs.Standing.{StandsForEither}
 use Rattle.alta_store.specs.declared.fault.StoreFault.{StoreFault}
-use Rattle.alta_store.specs.declared.fault.StoreFault.TheVariants.{Disk, Memory, Full}
+use Rattle.alta_store.specs.declared.fault.StoreFault.TheVariants.{Disk, Memory, Damaged, Full}
 
 -- A line may be answered: no call of the session has failed, its store agrees with its disk, and the disk may be as long as the
 -- smallest index.
@@ -34,6 +35,8 @@ pub record AnswersFrom {D : Type 0} (tells : Type 0) (state : D → DiskState) (
   -- a refusal calls nothing, and fails for want of memory alone
   pub refused : IsRefusal stepped.1 → (disk_now ≡ disk) × IfErr result (λ e. e ≡ Memory)
   pub need : (need gap : ℕ) → result ≡ Err (Full need gap) → (need ≡ bytes_of_change bytes m.state stepped.0.state) × (gap ≡ room_in session)
+  -- and on a disk that stands for a state no damage is found
+  pub undamaged : (place : ℕ) → result ≡ Err (Damaged place) → ⊥
   pub room : OnOk result (room_in session_now + bytes_of_change bytes m.state stepped.0.state ≡ room_in session)
 
 -- A call that answers by this step of the machine, on whichever machine session and disk agree.
@@ -42,8 +45,9 @@ pub record Answers {D : Type 0} (tells : Type 0) (state : D → DiskState) (disk
   pub can : OnOk result (CanAnswer tells (state disk_now) session_now)
   pub unchanged : IfOk result (λ reply. IsRefusal reply → (disk_now ≡ disk) × (session_now ≡ session))
   -- each error comes from its cause
-  pub only : IfErr result (λ e. IsOutside e ⊎ ((need gap : ℕ) × (e ≡ Full need gap)))
+  pub only : IfErr result (λ e. IsOutside e ⊎ (((need gap : ℕ) × (e ≡ Full need gap)) ⊎ ((place : ℕ) × (e ≡ Damaged place))))
   pub full : (need gap : ℕ) → tells → result ≡ Err (Full need gap) → IsFull (state disk_now).content need gap
+  pub broken : (place : ℕ) → tells → result ≡ Err (Damaged place) → HasBrokenList (state disk_now).content place
   pub cause : result ≡ Err Disk → Rose (state disk).faults (state disk_now).faults
   pub faults : (state disk).faults ≤ (state disk_now).faults
   pub same_limit : (state disk_now).limit ≡ (state disk).limit

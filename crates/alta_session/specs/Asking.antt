@@ -3,9 +3,9 @@ use Rattle.std.specs.Prelude.{◌≡◌, ◌+◌, List, ℕ, length}
 use Rattle.alta_codec.specs.Name.{IsName}
 use Rattle.alta_journal.specs.Record.{body_of}
 use Rattle.alta_journal.specs.declared.entry.Entry.TheVariants.{Add as AddEntry}
-use Rattle.alta_model.specs.Command.{adds, deletes}
+use Rattle.alta_model.specs.Command.{adds, deletes, searches, counts, explains, opens, fetches, closes, asks_stats}
 use Rattle.alta_model.specs.Lines.{asks, reading_of}
-use Rattle.alta_session.specs.Machine.{Machine, step, changed_by, turned_by, adding, deleting, stats_of}
+use Rattle.alta_session.specs.Machine.{Machine, Searches, step, changed_by, turned_by, adding, deleting, stats_of}
 use Rattle.alta_session.specs.Cursors.{opening, fetching, closing}
 use Rattle.alta_session.specs.declared.session.Ask.{Ask}
 use Rattle.alta_session.specs.Searching.{searching, counting, explaining}
@@ -19,11 +19,11 @@ Asks line (Add name title body) =
     ((m : Machine) → step m line ≡ changed_by m (adding name.now title.now body.now m.state)) × (IsName name.now → IsDocument name.now title.now body.now)
     × (length (body_of (AddEntry name.now title.now body.now)) ≡ length line + 9) × (reading_of line ≡ asks (adds name.now title.now body.now))
 Asks line (Delete name) = ((m : Machine) → step m line ≡ changed_by m (deleting name.now m.state)) × (reading_of line ≡ asks (deletes name.now))
-Asks line (Search text) = (m : Machine) → step m line ≡ (m, searching text.now m.state.documents)
-Asks line (Count text) = (m : Machine) → step m line ≡ (m, counting text.now m.state.documents)
-Asks line (Explain text) = (m : Machine) → step m line ≡ (m, explaining text.now)
-Asks line (Open text) = (m : Machine) → step m line ≡ turned_by m (opening text.now m.state.documents m.cursors)
-Asks line (Fetch cursor count) = (m : Machine) → step m line ≡ turned_by m (fetching cursor count m.cursors)
-Asks line (Close cursor) = (m : Machine) → step m line ≡ turned_by m (closing cursor m.cursors)
-Asks line Stats = (m : Machine) → step m line ≡ (m, stats_of m.state)
-Asks line (Refused reply) = (m : Machine) → step m line ≡ (m, reply.now)
+Asks line (Search text) = ((m : Machine) → step m line ≡ (m, searching text.now m.state.documents)) × (reading_of line ≡ asks (searches text.now))
+Asks line (Count text) = ((m : Machine) → step m line ≡ (m, counting text.now m.state.documents)) × (reading_of line ≡ asks (counts text.now))
+Asks line (Explain text) = ((m : Machine) → step m line ≡ (m, explaining text.now)) × (reading_of line ≡ asks (explains text.now))
+Asks line (Open text) = ((m : Machine) → step m line ≡ turned_by m (opening text.now m.state.documents m.cursors)) × (reading_of line ≡ asks (opens text.now))
+Asks line (Fetch cursor count) = ((m : Machine) → step m line ≡ turned_by m (fetching cursor count m.cursors)) × (reading_of line ≡ asks (fetches cursor count))
+Asks line (Close cursor) = ((m : Machine) → step m line ≡ turned_by m (closing cursor m.cursors)) × (reading_of line ≡ asks (closes cursor))
+Asks line Stats = ((m : Machine) → step m line ≡ (m, stats_of m.state)) × (reading_of line ≡ asks asks_stats)
+Asks line (Refused reply) = ((m : Machine) → step m line ≡ (m, reply.now)) × (Searches line → ⊥)

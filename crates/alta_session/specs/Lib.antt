@@ -6,6 +6,7 @@ pub mod Fed
 pub mod Fullness
 pub mod Going
 pub mod Keeping
+pub mod Loading
 pub mod Machine
 pub mod Progress
 pub mod Run

@@ -9,7 +9,7 @@ use Rattle.alta_model.specs.declared.line.LineFault.{LineFault}
 use Rattle.alta_model.specs.declared.line.LineFault.TheVariants.{TooLong, NotUtf8, Unknown, Bad}
 use Rattle.alta_search.specs.Open.{OpenAnswers}
 use Rattle.alta_session.specs.Cursors.{Turn, opening, fetching, closing}
-use Rattle.alta_session.specs.Searching.{searching, counting, explaining}
+use Rattle.alta_session.specs.Searching.{IsNoQuery, searching, counting, explaining}
 use Rattle.alta_images.specs.States.{has_name, number_of, words_in, with_added, with_deleted}
 
 -- The machine between two lines: a state, and the cursors that are open, each with the answers that are still to come.
@@ -96,12 +96,12 @@ replies m (line ∷ lines) = (step m line).1 ∷ replies (step m line).0 lines
 abbrev pub IsRefusal : List ℕ → Type 0
 IsRefusal reply = starts_with nat_eq reply (codes "! ") ≡ true
 
--- the command looks at the documents, at a cursor, or at nothing
+-- the command calls no disk: it looks at the counts, at a cursor or at nothing, or its text is no query
 abbrev pub IsLook : Command → Type 0
-IsLook (searches text) = Unit {0}
-IsLook (counts text) = Unit {0}
+IsLook (searches text) = IsNoQuery text
+IsLook (counts text) = IsNoQuery text
 IsLook (explains text) = Unit {0}
-IsLook (opens text) = Unit {0}
+IsLook (opens text) = IsNoQuery text
 IsLook (fetches cursor count) = Unit {0}
 IsLook (closes cursor) = Unit {0}
 IsLook asks_stats = Unit {0}
@@ -109,8 +109,23 @@ IsLook _ = ⊥
 
 abbrev pub LooksIn : Reading → Type 0
 LooksIn (asks command) = IsLook command
-LooksIn (refuses fault) = ⊥
+LooksIn (refuses fault) = Unit {0}
 
--- the line asks for the answers of a query, all at once or by a cursor, for their count, for its plan, or for the counts
+-- the line is no command, or its command calls no disk
 abbrev pub Looks : List ℕ → Type 0
 Looks line = LooksIn (reading_of line)
+
+-- the command asks for the answers of a query, all at once or by a cursor, or for their count
+abbrev pub IsSearch : Command → Type 0
+IsSearch (searches text) = Unit {0}
+IsSearch (counts text) = Unit {0}
+IsSearch (opens text) = Unit {0}
+IsSearch _ = ⊥
+
+abbrev pub SearchesIn : Reading → Type 0
+SearchesIn (asks command) = IsSearch command
+SearchesIn (refuses fault) = ⊥
+
+-- the line does so
+abbrev pub Searches : List ℕ → Type 0
+Searches line = SearchesIn (reading_of line)

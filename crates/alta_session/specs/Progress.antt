@@ -9,7 +9,8 @@ use Rattle.alta_session.specs.Fullness.{IsFullOnly}
 use Rattle.alta_session.specs.Machine.{Machine, after, replies}
 use Rattle.alta_session.specs.declared.session.Session.{Session}
 use Rattle.alta_session.specs.declared.status.Status.{Status}
-use Rattle.alta_store.specs.Meaning.{StandsFor}
+use Rattle.alta_session.specs.declared.status.Status.TheVariants.{Damaged}
+use Rattle.alta_images.specs.Standing.{StandsFor}
 
 -- the image stands for the state after some of the lines, in order from the first
 pub record StandsAfterSome (start : Machine) (lines : List (List ℕ)) (image : List ℕ) : Type 0 where
@@ -40,6 +41,7 @@ pub record StopsWithinFrom (disk disk_now : DiskState) (session : Session) (line
   pub progress : Progress m lines given disk_now.images
   pub images : LeavesOnly (StandsAfterSome m lines) disk disk_now
   pub full : IsFullOnly (room_in session) m lines given status
+  pub undamaged : (place : ℕ) → status ≡ Damaged place → ⊥
 
 pub record StopsWithin (tells : Type 0) (told told_now : Option (List Event)) (disk disk_now : DiskState) (session : Session) (lines : List (List ℕ)) (status : Status) : Type 0 where
   pub given : List ℕ

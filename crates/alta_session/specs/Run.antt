@@ -13,9 +13,9 @@ use Rattle.alta_session.specs.Machine.{Machine, started_at, replies}
 use Rattle.alta_session.specs.Progress.{StandsAfterSome, StandsAfter}
 use Rattle.alta_session.specs.declared.session.Session.{Session}
 use Rattle.alta_session.specs.declared.status.Status.{Status}
-use Rattle.alta_session.specs.declared.status.Status.TheVariants.{Done, TooLong}
+use Rattle.alta_session.specs.declared.status.Status.TheVariants.{Done, TooLong, Damaged}
 use Rattle.alta_store.specs.Agreement.{HasRoom}
-use Rattle.alta_store.specs.Meaning.{StandsFor}
+use Rattle.alta_images.specs.Standing.{StandsFor}
 
 -- At each take, what was given so far is the replies to the whole lines taken so far.
 abbrev pub AnswersInTime : Machine → List Event → Type 0
@@ -56,6 +56,7 @@ pub record RunsFrom (limit : ℕ) (disk disk_now : DiskState) (session : Session
   pub replies : Replies limit m run status
   pub keeps : Keeps limit m run disk disk_now
   pub full : IsFullExactly (room_in session) m (lines_in limit run) (given_in run) status
+  pub undamaged : (place : ℕ) → status ≡ Damaged place → ⊥
 
 pub record Runs (tells : Type 0) (limit : ℕ) (told told_now : Option (List Event)) (left left_now : Option (List ℕ)) (disk disk_now : DiskState) (session : Session) (status : Status) : Type 0 where
   pub run : List Event

@@ -1,5 +1,5 @@
 -- What queries are answered.
-use Rattle.std.specs.Prelude.{ℕ, List, [], ◌∷◌, ◌++◌, length, map, Result, Ok, Err, codes, decimal}
+use Rattle.std.specs.Prelude.{◌≡◌, ℕ, List, [], ◌∷◌, ◌++◌, length, map, Result, Ok, Err, codes, decimal}
 use Rattle.alta_compile.specs.Explained.{explained}
 use Rattle.alta_compile.specs.PlanOf.{plan_of}
 use Rattle.alta_meta.specs.declared.document.Document.{Document}
@@ -12,6 +12,10 @@ use Rattle.alta_query.specs.declared.fault.Cause.{Cause}
 use Rattle.alta_query.specs.declared.fault.Cause.TheVariants as cause
 use Rattle.alta_search.specs.Documents.{told}
 use Rattle.alta_search.specs.Told.{AnswerRow}
+
+-- the text is no query
+abbrev pub IsNoQuery : List ℕ → Type 0
+IsNoQuery text = (f : Fault) × (query_of text ≡ Err f)
 
 -- a line for each answer, with its number and its name
 abbrev pub row_lines : List AnswerRow → List ℕ

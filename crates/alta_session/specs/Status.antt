@@ -31,9 +31,13 @@ line_of (Full need gap) = codes "alta: full, need " ++ (decimal need ++ (codes "
 line_of TooLong = codes "alta: input too long"
 line_of Exists = codes "alta: index exists"
 
--- a status with which answering a line may end a run
+-- a status with which answering a line may end a run, where the disk stands for a state
+abbrev pub StopsLine : Status → Type 0
+StopsLine status = (status ≡ Memory) ⊎ ((status ≡ DiskFault) ⊎ ((status ≡ GiveFault) ⊎ ((need gap : ℕ) × (status ≡ Full need gap))))
+
+-- or, where it stands for none, damage
 abbrev pub EndsLine : Status → Type 0
-EndsLine status = (status ≡ Memory) ⊎ ((status ≡ DiskFault) ⊎ ((status ≡ GiveFault) ⊎ ((need gap : ℕ) × (status ≡ Full need gap))))
+EndsLine status = StopsLine status ⊎ ((place : ℕ) × (status ≡ Damaged place))
 
 -- a status with which a run over an open index may end
 abbrev pub EndsRunning : Status → Type 0
@@ -47,10 +51,6 @@ Completes status = (status ≡ Done) ⊎ ((status ≡ TooLong) ⊎ ((status ≡ 
 pub record IsOpened (status : Status) : Type 0 where
   pub rooted : status ≢ NoRoot
   pub whole : (place : ℕ) → status ≢ Damaged place
-
--- there is no index, or it is damaged
-abbrev pub IsUnopened : Status → Type 0
-IsUnopened status = (status ≡ NoRoot) ⊎ ((place : ℕ) × (status ≡ Damaged place))
 
 -- no index was made: there is one already, or the disk is too small
 abbrev pub IsUnmade : Status → Type 0

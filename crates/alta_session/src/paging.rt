@@ -1,5 +1,8 @@
 // The commands on cursors.
-ghost use Rattle.std.specs.Prelude.{◌≡◌, ◌<◌, ◌++◌, ℕ, List, length, codes, decimal, IfOk, IfErr, OnOk, string_bytes, if◌then◌else◌};
+ghost use Rattle.std.specs.Prelude.{◌≡◌, ◌⊎◌, ◌<◌, ◌≤◌, ◌++◌, [], ℕ, nat_le, List, length, codes, decimal, IfOk, IfErr, OnOk, string_bytes, if◌then◌else◌};
+ghost use Rattle.alta_compile.specs.PlanOf.{plan_of};
+ghost use Rattle.alta_disk.specs.Disk.{DiskState};
+ghost use Rattle.alta_images.specs.Standing.{StandsFor};
 ghost use Rattle.alta_meta.specs.declared.document.State.{State};
 ghost use Rattle.alta_model.specs.Deciding.{answers};
 ghost use Rattle.alta_query.specs.View.{shape};
@@ -7,14 +10,16 @@ ghost use Rattle.alta_search.specs.Open.{AreOpen, IsFetch, OpenAnswers, least_fr
 ghost use Rattle.alta_search.specs.declared.cursors.TheConstants.{CURSORS};
 ghost use Rattle.alta_session.specs.Answering.{IsReply};
 ghost use Rattle.alta_session.specs.Cursors.{Turns, closing, fetching, opened_over, opening};
+ghost use Rattle.alta_session.specs.Loading.{Loads, Queries, open_loads, search_loads};
 ghost use Rattle.alta_session.specs.Machine.{IsRefusal};
-ghost use Rattle.alta_session.specs.Searching.{row_lines};
-ghost use Rattle.alta_store.specs.Agreement.{IsIntact, Knows};
+ghost use Rattle.alta_session.specs.Searching.{IsNoQuery, row_lines};
+ghost use Rattle.alta_store.specs.Agreement.{Agrees};
+ghost use Rattle.alta_store.specs.Answers.{IsOutside};
 
 use crate::replying::{put_answers, refused, text, written};
-use crate::searching::load;
+use crate::searching::planned;
 use alta_codec::{Steps, Text};
-use alta_compile::compile;
+use alta_disk::Disk;
 use alta_query::{Query, parse};
 use alta_search::{Cursor, Cursors, Page};
 use alta_store::{Store, StoreFault};
@@ -23,61 +28,72 @@ use std::marker::Brand;
 use std::sync::ledger::{Blank, Ledger};
 
 /// The reply to an open: the number of a cursor over the answers of the text, or that the text is no query, or that as many are
-/// open as may be. It fails for want of memory alone.
-pub(crate) fn open(
+/// open as may be. What it loads of the disk are the lists of the query, and its faults are those of loading them.
+pub(crate) fn open<D: Disk>(
     alloc: Global,
+    disk: &mut D,
     store: &Store,
     cursors: &mut Cursors,
     text: &str,
 ) -> Result<Text, StoreFault>
-    requires { IsIntact store.now }
-    ensures turned { (s : State) (all : List OpenAnswers) → Knows store.now s → AreOpen cursors.old all → Turns (opening text.now s.documents all) cursors.new result }
-    ensures memory { IfErr result (λ e. e ≡ StoreFault.Memory) }
-    ensures refused { IfOk result (λ reply. IsRefusal reply → cursors.new ≡ cursors.old) }
+    requires { Agrees D.tells (D.state disk.old) store.now }
+    ensures turned { (s : State) (all : List OpenAnswers) → D.tells → StandsFor s (D.state disk.old).content → AreOpen cursors.old all → Turns (opening text.now s.documents all) cursors.new result }
+    ensures kept { IfOk result (λ reply. IsRefusal reply → cursors.new ≡ cursors.old) }
+    ensures queries { Queries D.tells D.state disk.old disk.new (open_loads store.now cursors.old text.now) (IsNoQuery text.now ⊎ (CURSORS ≤ length cursors.old)) result }
 {
     match parse(alloc, text) {
-        Ok(query) => open_query(alloc, store, cursors, &query),
+        Ok(query) => open_query(alloc, disk, store, cursors, &query),
         Err(fault) => refused(alloc, fault),
     }
 }
 
 // The reply to an open of a query.
-fn open_query(
+fn open_query<D: Disk>(
     alloc: Global,
+    disk: &mut D,
     store: &Store,
     cursors: &mut Cursors,
     query: &Query,
 ) -> Result<Text, StoreFault>
-    requires { IsIntact store.now }
-    ensures turned { (s : State) (all : List OpenAnswers) → Knows store.now s → AreOpen cursors.old all → Turns (opened_over (answers s.documents (shape query.now)) all) cursors.new result }
-    ensures memory { IfErr result (λ e. e ≡ StoreFault.Memory) }
-    ensures refused { IfOk result (λ reply. IsRefusal reply → cursors.new ≡ cursors.old) }
+    requires { Agrees D.tells (D.state disk.old) store.now }
+    ensures turned { (s : State) (all : List OpenAnswers) → D.tells → StandsFor s (D.state disk.old).content → AreOpen cursors.old all
+        → Turns (opened_over (answers s.documents (shape query.now)) all) cursors.new result }
+    ensures kept { IfOk result (λ reply. IsRefusal reply → cursors.new ≡ cursors.old) }
+    ensures queries { Queries D.tells D.state disk.old disk.new (if nat_le CURSORS (length cursors.old) then [] else search_loads store.now (plan_of (shape query.now))) (CURSORS ≤ length cursors.old) result }
 {
     if cursors.is_full() {
         return text(alloc, "! too many cursors\n");
     }
-    match put_cursor(alloc, store, cursors, query) {
+    match put_cursor(alloc, disk, store, cursors, query) {
         Ok(number) => numbered(alloc, "cursor", number),
-        Err(_) => Err(StoreFault::Memory),
+        Err(fault) => Err(fault),
     }
 }
 
 // Opens a cursor over the answers of a query, and answers its number.
-fn put_cursor(
+fn put_cursor<D: Disk>(
     alloc: Global,
+    disk: &mut D,
     store: &Store,
     cursors: &mut Cursors,
     query: &Query,
-) -> Result<u64, AllocError>
-    requires intact { IsIntact store.now }
+) -> Result<u64, StoreFault>
+    requires agrees { Agrees D.tells (D.state disk.old) store.now }
     requires room { length cursors.old < CURSORS }
-    ensures opened { OnOk result ((s : State) (all : List OpenAnswers) → Knows store.now s → AreOpen cursors.old all → AreOpen cursors.new (with_opened (answers s.documents (shape query.now)) all)) }
+    ensures opened { (s : State) (all : List OpenAnswers) → D.tells → StandsFor s (D.state disk.old).content → AreOpen cursors.old all
+        → OnOk result (AreOpen cursors.new (with_opened (answers s.documents (shape query.now)) all)) }
     ensures number { IfOk result (λ number. (all : List OpenAnswers) → AreOpen cursors.old all → number ≡ least_free all) }
+    ensures undamaged { (s : State) → D.tells → StandsFor s (D.state disk.old).content → IfErr result IsOutside }
+    ensures loads { Loads D.tells (search_loads store.now (plan_of (shape query.now))) (D.state disk.old) (D.state disk.new) result }
 {
-    let plan = compile(alloc, query)?;
-    let snapshot = load(alloc, store, &plan)?;
-    let number = cursors.open(Cursor::new(plan, snapshot))?;
-    Ok(number)
+    let (plan, snapshot) = match planned(alloc, disk, store, query) {
+        Ok(planned) => planned,
+        Err(fault) => return Err(fault),
+    };
+    match cursors.open(Cursor::new(plan, snapshot)) {
+        Ok(number) => Ok(number),
+        Err(_) => Err(StoreFault::Memory),
+    }
 }
 
 // What was done, with a cursor's number.

@@ -1,9 +1,12 @@
 // Queries over the documents of a store, answered by readers.
-ghost use Rattle.std.specs.Prelude.{◌≡◌, ◌++◌, ◌<◌, [], List, map, codes, length, string_bytes, IfOk};
+ghost use Rattle.std.specs.Prelude.{◌≡◌, ◌++◌, ◌<◌, [], List, map, codes, length, string_bytes, Ok, IfOk, IfErr};
 ghost use Rattle.alta_compile.specs.Explained.{explained};
 ghost use Rattle.alta_compile.specs.PlanOf.{plan_of};
 ghost use Rattle.alta_compile.specs.Space.{Placed};
 ghost use Rattle.alta_compile.specs.View.{tree};
+ghost use Rattle.alta_disk.specs.Disk.{DiskState};
+ghost use Rattle.alta_images.specs.Standing.{StandsFor};
+ghost use Rattle.alta_meta.specs.declared.document.Document.{Document};
 ghost use Rattle.alta_meta.specs.declared.document.State.{State};
 ghost use Rattle.alta_model.specs.Deciding.{answers};
 ghost use Rattle.alta_query.specs.Shape.{Shape};
@@ -16,38 +19,56 @@ ghost use Rattle.alta_search.specs.Plans.{tests_of};
 ghost use Rattle.alta_search.specs.Told.{answer_of};
 ghost use Rattle.alta_search.specs.View.{Shows};
 ghost use Rattle.alta_session.specs.Answering.{IsReply};
-ghost use Rattle.alta_session.specs.Searching.{answer_lines, found_line, searching, counting, explaining};
-ghost use Rattle.alta_store.specs.Agreement.{IsIntact, Knows};
+ghost use Rattle.alta_session.specs.Loading.{Loads, Queries, search_loads, text_loads, of_load};
+ghost use Rattle.alta_session.specs.Machine.{IsRefusal};
+ghost use Rattle.alta_session.specs.Searching.{IsNoQuery, answer_lines, found_line, found_by, counted_by, searching, counting, explaining};
+ghost use Rattle.alta_store.specs.Agreement.{Agrees};
+ghost use Rattle.alta_store.specs.Answers.{IsOutside};
 
 use crate::replying::{put_answers, put_count, refused, written};
 use alta_codec::{Steps, Text};
 use alta_compile::{Plan, a_plan_is_text, compile};
+use alta_disk::Disk;
+use alta_loading::{LoadFault, load_snapshot};
 use alta_query::{Query, parse, print};
-use alta_search::{Page, Snapshot, load_newest};
-use alta_store::{Store, StoreFault};
+use alta_search::{Page, Snapshot};
+use alta_store::{Sources, Store, StoreFault, a_search_sees_the_state};
 use std::alloc::{AllocError, Global};
 use std::marker::Brand;
 use std::sync::ledger::{Blank, Ledger};
 
 /// The reply to a search: a line for each document that matches, with its number and name, and how many they are, or that
-/// the text is no query. It fails for want of memory alone.
-pub(crate) fn search(alloc: Global, store: &Store, text: &str) -> Result<Text, StoreFault>
-    requires { IsIntact store.now }
-    ensures { (s : State) → Knows store.now s → IsReply (searching text.now s.documents) result }
+/// the text is no query. What it loads of the disk are the lists of the query, and its faults are those of loading them.
+pub(crate) fn search<D: Disk>(
+    alloc: Global,
+    disk: &mut D,
+    store: &Store,
+    text: &str,
+) -> Result<Text, StoreFault>
+    requires { Agrees D.tells (D.state disk.old) store.now }
+    ensures reply { (s : State) → D.tells → StandsFor s (D.state disk.old).content → IfOk result (λ reply. reply ≡ searching text.now s.documents) }
+    ensures queries { Queries D.tells D.state disk.old disk.new (text_loads store.now text.now) (IsNoQuery text.now) result }
 {
     match parse(alloc, text) {
-        Ok(query) => written(listed(alloc, store, &query)),
+        Ok(query) => listed(alloc, disk, store, &query),
         Err(fault) => refused(alloc, fault),
     }
 }
 
-/// The reply to a count: how many documents match, or that the text is no query. It fails for want of memory alone.
-pub(crate) fn count(alloc: Global, store: &Store, text: &str) -> Result<Text, StoreFault>
-    requires { IsIntact store.now }
-    ensures { (s : State) → Knows store.now s → IsReply (counting text.now s.documents) result }
+/// The reply to a count: how many documents match, or that the text is no query. What it loads of the disk are the lists of the
+/// query, and its faults are those of loading them.
+pub(crate) fn count<D: Disk>(
+    alloc: Global,
+    disk: &mut D,
+    store: &Store,
+    text: &str,
+) -> Result<Text, StoreFault>
+    requires { Agrees D.tells (D.state disk.old) store.now }
+    ensures reply { (s : State) → D.tells → StandsFor s (D.state disk.old).content → IfOk result (λ reply. reply ≡ counting text.now s.documents) }
+    ensures queries { Queries D.tells D.state disk.old disk.new (text_loads store.now text.now) (IsNoQuery text.now) result }
 {
     match parse(alloc, text) {
-        Ok(query) => written(counted(alloc, store, &query)),
+        Ok(query) => counted(alloc, disk, store, &query),
         Err(fault) => refused(alloc, fault),
     }
 }
@@ -82,14 +103,30 @@ fn headed(alloc: Global, head: &str, lines: &str) -> Result<String, AllocError>
 }
 
 // The answers of a query, a line for each, and how many they are.
-fn listed(alloc: Global, store: &Store, query: &Query) -> Result<String, AllocError>
-    requires { IsIntact store.now }
-    ensures { IfOk result (λ reply. (s : State) → Knows store.now s
-        → string_bytes reply ≡ answer_lines (answers s.documents (shape query.now)) ++ found_line (length (answers s.documents (shape query.now)))) }
+fn listed<D: Disk>(
+    alloc: Global,
+    disk: &mut D,
+    store: &Store,
+    query: &Query,
+) -> Result<Text, StoreFault>
+    requires { Agrees D.tells (D.state disk.old) store.now }
+    ensures reply { (s : State) → D.tells → StandsFor s (D.state disk.old).content → IfOk result (λ reply. reply ≡ found_by s.documents (Ok (shape query.now))) }
+    ensures queries { Queries D.tells D.state disk.old disk.new (search_loads store.now (plan_of (shape query.now))) ⊥ result }
 {
-    let plan = compile(alloc, query)?;
-    let snapshot = load(alloc, store, &plan)?;
-    let page = all_found(alloc, &plan, &snapshot)?;
+    match planned(alloc, disk, store, query) {
+        Ok((plan, snapshot)) => written(all_listed(alloc, &plan, &snapshot)),
+        Err(fault) => Err(fault),
+    }
+}
+
+// The answers of a plan over a snapshot, a line for each, and how many they are.
+fn all_listed(alloc: Global, plan: &Plan, snapshot: &Snapshot) -> Result<String, AllocError>
+    requires { snapshot.now.tests ≡ tests_of (tree plan.now) }
+    ensures lines { IfOk result (λ reply. (documents : List Document) → AreToCome (tree plan.now) snapshot.now 0 documents
+        → string_bytes reply ≡ answer_lines documents ++ found_line (length documents)) }
+    ensures other { IfOk result (λ reply. ¬ (IsRefusal (string_bytes reply))) }
+{
+    let page = all_found(alloc, plan, snapshot)?;
     let mut reply = String::new(alloc);
     put_answers(&mut reply, &page.answers)?;
     put_count(&mut reply, page.answers.len() as u64)?;
@@ -97,28 +134,102 @@ fn listed(alloc: Global, store: &Store, query: &Query) -> Result<String, AllocEr
 }
 
 // How many answers a query has.
-fn counted(alloc: Global, store: &Store, query: &Query) -> Result<String, AllocError>
-    requires { IsIntact store.now }
-    ensures { IfOk result (λ reply. (s : State) → Knows store.now s → string_bytes reply ≡ found_line (length (answers s.documents (shape query.now)))) }
+fn counted<D: Disk>(
+    alloc: Global,
+    disk: &mut D,
+    store: &Store,
+    query: &Query,
+) -> Result<Text, StoreFault>
+    requires { Agrees D.tells (D.state disk.old) store.now }
+    ensures reply { (s : State) → D.tells → StandsFor s (D.state disk.old).content → IfOk result (λ reply. reply ≡ counted_by s.documents (Ok (shape query.now))) }
+    ensures queries { Queries D.tells D.state disk.old disk.new (search_loads store.now (plan_of (shape query.now))) ⊥ result }
 {
-    let plan = compile(alloc, query)?;
-    let snapshot = load(alloc, store, &plan)?;
-    let count = all_tallied(alloc, &plan, &snapshot)?;
+    match planned(alloc, disk, store, query) {
+        Ok((plan, snapshot)) => written(all_counted(alloc, &plan, &snapshot)),
+        Err(fault) => Err(fault),
+    }
+}
+
+// How many answers a plan has over a snapshot.
+fn all_counted(alloc: Global, plan: &Plan, snapshot: &Snapshot) -> Result<String, AllocError>
+    requires { snapshot.now.tests ≡ tests_of (tree plan.now) }
+    ensures lines { IfOk result (λ reply. (documents : List Document) → AreToCome (tree plan.now) snapshot.now 0 documents → string_bytes reply ≡ found_line (length documents)) }
+    ensures other { IfOk result (λ reply. ¬ (IsRefusal (string_bytes reply))) }
+{
+    let count = all_tallied(alloc, plan, snapshot)?;
     let mut reply = String::new(alloc);
     put_count(&mut reply, count)?;
     Ok(reply)
 }
 
-/// The snapshot of a store's documents for a plan. Over it the answers of the plan of a query are the documents that the query
-/// matches. It fails for want of memory alone.
-pub(crate) fn load(alloc: Global, store: &Store, plan: &Plan) -> Result<Snapshot, AllocError>
-    requires { IsIntact store.now }
-    ensures tests { IfOk result (λ snapshot. snapshot.tests ≡ tests_of (tree plan.now)) }
-    ensures answers { IfOk result (λ snapshot. (s : State) (q : Shape) → Knows store.now s → tree plan.now ≡ plan_of q → AreToCome (tree plan.now) snapshot 0 (answers s.documents q)) }
+/// The plan of a query, and the snapshot of a store's documents for it, whose lists are loaded from the disk. Over it the answers of the
+/// plan are the documents that the query matches.
+///
+/// # Errors
+///
+/// `Damaged` at the first fault of the first list that has one, in the order of loading; never where the disk stands for a state.
+/// `Disk` where a read failed. `Memory` where there is no memory.
+pub(crate) fn planned<D: Disk>(
+    alloc: Global,
+    disk: &mut D,
+    store: &Store,
+    query: &Query,
+) -> Result<(Plan, Snapshot), StoreFault>
+    requires { Agrees D.tells (D.state disk.old) store.now }
+    ensures plan { IfOk result (λ found. tree found.0 ≡ plan_of (shape query.now)) }
+    ensures tests { IfOk result (λ found. found.1.tests ≡ tests_of (tree found.0)) }
+    ensures answers { (s : State) → D.tells → StandsFor s (D.state disk.old).content → IfOk result (λ found. AreToCome (tree found.0) found.1 0 (answers s.documents (shape query.now))) }
+    ensures undamaged { (s : State) → D.tells → StandsFor s (D.state disk.old).content → IfErr result IsOutside }
+    ensures loads { Loads D.tells (search_loads store.now (plan_of (shape query.now))) (D.state disk.old) (D.state disk.new) result }
 {
-    let (level, gone) = store.newest();
-    let snapshot = load_newest(alloc, plan, level, gone)?;
-    Ok(snapshot)
+    let Ok(plan) = compile(alloc, query) else {
+        return Err(StoreFault::Memory);
+    };
+    match load(alloc, disk, store, &plan) {
+        Ok(snapshot) => Ok((plan, snapshot)),
+        Err(fault) => Err(fault),
+    }
+}
+
+// The snapshot of a store's documents for a plan, whose lists are loaded from the disk.
+fn load<D: Disk>(
+    alloc: Global,
+    disk: &mut D,
+    store: &Store,
+    plan: &Plan,
+) -> Result<Snapshot, StoreFault>
+    requires { Agrees D.tells (D.state disk.old) store.now }
+    ensures tests { IfOk result (λ snapshot. snapshot.tests ≡ tests_of (tree plan.now)) }
+    ensures answers { (s : State) (q : Shape) → D.tells → StandsFor s (D.state disk.old).content → tree plan.now ≡ plan_of q
+        → IfOk result (λ snapshot. AreToCome (tree plan.now) snapshot 0 (answers s.documents q)) }
+    ensures undamaged { (s : State) → D.tells → StandsFor s (D.state disk.old).content → IfErr result IsOutside }
+    ensures loads { Loads D.tells (search_loads store.now (tree plan.now)) (D.state disk.old) (D.state disk.new) result }
+{
+    a_search_sees_the_state::<D>();
+    let Ok(sources) = store.sources() else {
+        return Err(StoreFault::Memory);
+    };
+    let Sources {
+        levels,
+        newest,
+        gone,
+        rows,
+    } = sources;
+    match load_snapshot(alloc, disk, plan, levels, newest, rows, gone) {
+        Ok(snapshot) => Ok(snapshot),
+        Err(fault) => Err(load_fault(fault)),
+    }
+}
+
+// The fault of a search whose lists were not loaded.
+fn load_fault(fault: LoadFault) -> StoreFault
+    ensures { result ≡ of_load fault }
+{
+    match fault {
+        LoadFault::Disk => StoreFault::Disk,
+        LoadFault::Memory => StoreFault::Memory,
+        LoadFault::Damaged(place) => StoreFault::Damaged(place),
+    }
 }
 
 // All answers of a plan. Nobody reads how many steps they took.

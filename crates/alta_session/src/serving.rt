@@ -11,10 +11,11 @@ ghost use Rattle.alta_session.specs.Keeping.{clip};
 ghost use Rattle.alta_session.specs.Fullness.{IsFull};
 ghost use Rattle.alta_session.specs.Progress.{StopsWithin};
 ghost use Rattle.alta_session.specs.Run.{KeepsDisk, Runs, Serves};
-ghost use Rattle.alta_session.specs.Status.{EndsLine, EndsRunning, IsOpened, IsUnopened, Completes, Yields};
+ghost use Rattle.alta_session.specs.Loading.{HasBrokenList};
+ghost use Rattle.alta_session.specs.Status.{EndsLine, EndsRunning, IsOpened, Completes, Yields};
 ghost use Rattle.alta_root.specs.Slots.{HasNoRoot};
-ghost use Rattle.alta_store.specs.Brokenness.{IsBrokenAt};
-ghost use Rattle.alta_store.specs.Meaning.{StandsFor};
+ghost use Rattle.alta_images.specs.Broken.{IsBrokenAt};
+ghost use Rattle.alta_images.specs.Standing.{StandsFor};
 
 use crate::giving::give_all;
 use crate::status::status_of;
@@ -46,6 +47,7 @@ fn answer<C: Console, D: Disk>(
     ensures can { OnOk result (CanAnswer D.tells (D.state disk.new) session.new) }
     ensures ends { IfErr result EndsLine }
     ensures full { (need gap : ℕ) → D.tells → result ≡ Err (Status.Full need gap) → IsFull (D.state disk.new).content need gap }
+    ensures broken { (place : ℕ) → D.tells → result ≡ Err (Status.Damaged place) → HasBrokenList (D.state disk.new).content place }
     ensures give_fault { result ≡ Err Status.GiveFault → Rose (C.give_faults console.old) (C.give_faults console.new) }
     ensures disk_fault { result ≡ Err Status.DiskFault → Rose (D.state disk.old).faults (D.state disk.new).faults }
     ensures input_kept { C.left console.new ≡ C.left console.old }
@@ -96,6 +98,7 @@ fn end_line<C: Console, D: Disk>(
     ensures can { OnOk result (CanAnswer D.tells (D.state disk.new) session.new) }
     ensures ends { IfErr result EndsLine }
     ensures full { (need gap : ℕ) → D.tells → result ≡ Err (Status.Full need gap) → IsFull (D.state disk.new).content need gap }
+    ensures broken { (place : ℕ) → D.tells → result ≡ Err (Status.Damaged place) → HasBrokenList (D.state disk.new).content place }
     ensures give_fault { result ≡ Err Status.GiveFault → Rose (C.give_faults console.old) (C.give_faults console.new) }
     ensures disk_fault { result ≡ Err Status.DiskFault → Rose (D.state disk.old).faults (D.state disk.new).faults }
     ensures input_kept { C.left console.new ≡ C.left console.old }
@@ -144,6 +147,7 @@ fn feed_line<C: Console, D: Disk>(
     ensures can { OnOk result (CanAnswer D.tells (D.state disk.new) session.new) }
     ensures ends { IfErr result EndsLine }
     ensures full { (need gap : ℕ) → D.tells → result ≡ Err (Status.Full need gap) → IsFull (D.state disk.new).content need gap }
+    ensures broken { (place : ℕ) → D.tells → result ≡ Err (Status.Damaged place) → HasBrokenList (D.state disk.new).content place }
     ensures give_fault { result ≡ Err Status.GiveFault → Rose (C.give_faults console.old) (C.give_faults console.new) }
     ensures disk_fault { result ≡ Err Status.DiskFault → Rose (D.state disk.old).faults (D.state disk.new).faults }
     ensures input_kept { C.left console.new ≡ C.left console.old }
@@ -184,6 +188,7 @@ fn feed<C: Console, D: Disk>(
     ensures can { OnOk result (CanAnswer D.tells (D.state disk.new) session.new) }
     ensures ends { IfErr result EndsLine }
     ensures full { (need gap : ℕ) → D.tells → result ≡ Err (Status.Full need gap) → IsFull (D.state disk.new).content need gap }
+    ensures broken { (place : ℕ) → D.tells → result ≡ Err (Status.Damaged place) → HasBrokenList (D.state disk.new).content place }
     ensures give_fault { result ≡ Err Status.GiveFault → Rose (C.give_faults console.old) (C.give_faults console.new) }
     ensures disk_fault { result ≡ Err Status.DiskFault → Rose (D.state disk.old).faults (D.state disk.new).faults }
     ensures input_kept { C.left console.new ≡ C.left console.old }
@@ -216,6 +221,7 @@ fn finish<C: Console, D: Disk>(
     ensures err { IfErr result (StopsWithin D.tells (C.told console.old) (C.told console.new) (D.state disk.old) (D.state disk.new) session.old (last_piece begun.now)) }
     ensures ends { IfErr result EndsLine }
     ensures full { (need gap : ℕ) → D.tells → result ≡ Err (Status.Full need gap) → IsFull (D.state disk.new).content need gap }
+    ensures broken { (place : ℕ) → D.tells → result ≡ Err (Status.Damaged place) → HasBrokenList (D.state disk.new).content place }
     ensures give_fault { result ≡ Err Status.GiveFault → Rose (C.give_faults console.old) (C.give_faults console.new) }
     ensures disk_fault { result ≡ Err Status.DiskFault → Rose (D.state disk.old).faults (D.state disk.new).faults }
     ensures input_kept { C.left console.new ≡ C.left console.old }
@@ -244,6 +250,7 @@ fn answer_lines<C: Console, D: Disk>(
     ensures run { Runs D.tells limit (C.told console.old) (C.told console.new) (C.left console.old) (C.left console.new) (D.state disk.old) (D.state disk.new) session.old result }
     ensures ends { EndsRunning result }
     ensures full { (need gap : ℕ) → D.tells → result ≡ Status.Full need gap → IsFull (D.state disk.new).content need gap }
+    ensures broken { (place : ℕ) → D.tells → result ≡ Status.Damaged place → HasBrokenList (D.state disk.new).content place }
     ensures read_all { result ≡ Status.Done → IfSome (C.left console.new) (λ bytes. bytes ≡ []) }
     ensures take_fault { result ≡ Status.TakeFault → Rose (C.take_faults console.old) (C.take_faults console.new) }
     ensures give_fault { result ≡ Status.GiveFault → Rose (C.give_faults console.old) (C.give_faults console.new) }
@@ -287,8 +294,9 @@ fn answer_lines<C: Console, D: Disk>(
 ///
 /// It ends with `Done` where the input was read to its end and every reply was given, `TooLong` where more bytes were
 /// taken than the limit, `DiskFault`, `TakeFault` or `GiveFault` where such a call failed, `Memory` where there was no
-/// memory, `NoRoot` where the disk has no index, `Damaged` where the index breaks a rule of the format, with the first
-/// place that shows it (after these two nothing was taken or given, and the disk holds what it held), and `Full` where the record of a line that adds or deletes a document does not fit in what the
+/// memory, `NoRoot` where the disk has no index, `Damaged` where the index breaks a rule of the format, at opening with the first
+/// place that shows it (after these two nothing was taken or given, and the disk holds what it held), or later with the first fault of
+/// the lists that a line loads, and never where the disk stands for a state, and `Full` where the record of a line that adds or deletes a document does not fit in what the
 /// journal has left behind the lines before it: with the bytes of that record, which are the line's and nine more where it
 /// adds and 14 where it deletes, and those left.
 pub fn serve<C: Console, D: Disk>(
@@ -303,11 +311,15 @@ pub fn serve<C: Console, D: Disk>(
 
     ensures no_root { D.tells → result ≡ Status.NoRoot → HasNoRoot (D.state disk.old).content }
     ensures rooted { D.tells → HasNoRoot (D.state disk.old).content → (result ≡ Status.NoRoot) ⊎ Yields result }
-    ensures damaged { (place : ℕ) → D.tells → result ≡ Status.Damaged place → IsBrokenAt (D.state disk.old).content place }
-    ensures undamaged { (place : ℕ) → D.tells → IsBrokenAt (D.state disk.old).content place → (result ≡ Status.Damaged place) ⊎ Yields result }
-    // Then console and disk are as they were.
-    ensures unopened { IsUnopened result → (console.new ≡ console.old) × KeepsDisk D.tells (D.state disk.old) (D.state disk.new) }
-    // Where the content stands for a state, it is opened.
+    // Where opening finds that a rule is broken, console and disk are as they were.
+    ensures undamaged { (place : ℕ) → D.tells → IsBrokenAt (D.state disk.old).content place
+        → (console.new ≡ console.old) × KeepsDisk D.tells (D.state disk.old) (D.state disk.new) × ((result ≡ Status.Damaged place) ⊎ Yields result) }
+    ensures unopened { result ≡ Status.NoRoot → (console.new ≡ console.old) × KeepsDisk D.tells (D.state disk.old) (D.state disk.new) }
+    // Damage is found so, or later, in a list of a level.
+    ensures damaged { (place : ℕ) → result ≡ Status.Damaged place
+        → ((console.new ≡ console.old) × KeepsDisk D.tells (D.state disk.old) (D.state disk.new) × (D.tells → IsBrokenAt (D.state disk.old).content place))
+        ⊎ (D.tells → HasBrokenList (D.state disk.new).content place) }
+    // Where the content stands for a state, it is opened, and no damage is found.
     ensures stands { (s : State) → D.tells → StandsFor s (D.state disk.old).content → IsOpened result }
     ensures never { (result ≢ Status.Usage) × (result ≢ Status.Exists) }
     ensures full { (need gap : ℕ) → D.tells → result ≡ Status.Full need gap → IsFull (D.state disk.new).content need gap }

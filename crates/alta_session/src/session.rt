@@ -10,11 +10,13 @@ ghost use Rattle.alta_meta.specs.declared.document.State.{State};
 ghost use Rattle.alta_session.specs.Agreement.{AgreesOn, IsSound};
 ghost use Rattle.alta_session.specs.Answering.{Answers, CanAnswer, IsReply};
 ghost use Rattle.alta_session.specs.Asking.{Asks};
-ghost use Rattle.alta_session.specs.Machine.{Machine, started_at, step, changed_by, adding, deleting, Looks};
+ghost use Rattle.alta_session.specs.Loading.{Loads, line_loads};
+ghost use Rattle.alta_session.specs.Machine.{Machine, started_at, step, changed_by, adding, deleting, Looks, Searches};
 ghost use Rattle.alta_store.specs.Answers.{IsOutside, AnswersFault};
 ghost use Rattle.alta_root.specs.Slots.{HasNoRoot};
-ghost use Rattle.alta_store.specs.Brokenness.{IsBrokenAt};
-ghost use Rattle.alta_store.specs.Meaning.{StandsFor};
+ghost use Rattle.alta_images.specs.Broken.{IsBrokenAt};
+ghost use Rattle.alta_images.specs.Opened.{Opened, IsOpened};
+ghost use Rattle.alta_images.specs.Standing.{StandsFor};
 ghost use Rattle.alta_images.specs.States.{IsDocument};
 
 use crate::paging::{close, fetch, open};
@@ -46,7 +48,7 @@ impl Session {
         ensures agrees { (s : State) → (D.tells → StandsFor s (D.state disk.old).content) → IfOk result (λ session. AgreesOn D.tells (D.state disk.new) session (started_at s)) }
         ensures can { IfOk result (λ session. CanAnswer D.tells (D.state disk.new) session) }
 
-        ensures stands { (s : State) → D.tells → StandsFor s (D.state disk.old).content → IfErr result IsOutside }
+        ensures opened { (o : Opened) → D.tells → IsOpened o (D.state disk.old).content → IfErr result IsOutside }
         ensures no_root { D.tells → result ≡ Err StoreFault.NoRoot → HasNoRoot (D.state disk.old).content }
         ensures rooted { D.tells → HasNoRoot (D.state disk.old).content → AnswersFault result StoreFault.NoRoot }
         ensures damaged { (place : ℕ) → D.tells → result ≡ Err (StoreFault.Damaged place) → IsBrokenAt (D.state disk.old).content place }
@@ -82,9 +84,11 @@ impl Session {
     ///
     /// `Disk` where a call of the disk failed. `Memory` where there is no memory. `Full` where the record of the line does
     /// not fit in the journal: with the bytes of that record, which are the line's and nine more where it adds and 14
-    /// where it deletes, and those left. Then the index is as before the line or as after it, and the session is not
-    /// sound. `search`, `count`, `explain`, `open`, `fetch`, `close` and `stats` call no disk and fail for want of memory alone,
-    /// and so does each line that is refused.
+    /// where it deletes, and those left. `Damaged` exactly where a list that the line loads has a fault, with the first in the order of
+    /// loading; never where the disk stands for a state. Then the index is as before the line or as after it, and the session is not
+    /// sound. `search`, `count` and `open` load the lists of their query, write nothing, and read no more than these lists have; an
+    /// open loads none where as many cursors are open as may be. `explain`, `fetch`, `close` and `stats` call no disk and fail for want
+    /// of memory alone, and so does each line that is refused.
     pub fn line<D: Disk>(
         &mut self,
         alloc: Global,
@@ -96,6 +100,7 @@ impl Session {
         ensures answers { Answers D.tells D.state disk.old disk.new self.old self.new (length line.now + 9) result (λ m. step m line.now) }
         ensures not_sound { OnErr result (¬ (IsSound self.new)) }
         ensures no_disk { Looks line.now → (disk.new ≡ disk.old) × IfErr result (λ e. e ≡ StoreFault.Memory) }
+        ensures loads { Searches line.now → Loads D.tells (line_loads self.old line.now) (D.state disk.old) (D.state disk.new) result }
     {
         match self.reply(alloc, disk, line) {
             Ok(reply) => Ok(reply),
@@ -117,14 +122,15 @@ impl Session {
         requires can { CanAnswer D.tells (D.state disk.old) self.old }
         ensures answers { Answers D.tells D.state disk.old disk.new self.old self.new (length line.now + 9) result (λ m. step m line.now) }
         ensures no_disk { Looks line.now → (disk.new ≡ disk.old) × IfErr result (λ e. e ≡ StoreFault.Memory) }
+        ensures loads { Searches line.now → Loads D.tells (line_loads self.old line.now) (D.state disk.old) (D.state disk.new) result }
     {
         match asked(line) {
             Ask::Add { name, title, body } => self.add(alloc, disk, name, title, body),
             Ask::Delete(name) => self.delete(alloc, disk, name),
-            Ask::Search(text) => search(alloc, &self.store, text),
-            Ask::Count(text) => count(alloc, &self.store, text),
+            Ask::Search(text) => search(alloc, disk, &self.store, text),
+            Ask::Count(text) => count(alloc, disk, &self.store, text),
             Ask::Explain(text) => explain(alloc, text),
-            Ask::Open(text) => open(alloc, &self.store, &mut self.cursors, text),
+            Ask::Open(text) => open(alloc, disk, &self.store, &mut self.cursors, text),
             Ask::Fetch { cursor, count } => fetch(alloc, &mut self.cursors, cursor, count),
             Ask::Close(cursor) => close(alloc, &mut self.cursors, cursor),
             Ask::Stats => stats(alloc, self.store.counts()),

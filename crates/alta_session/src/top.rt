@@ -5,10 +5,11 @@ ghost use Rattle.alta_disk.specs.Disk.{DiskState, Stands};
 ghost use Rattle.alta_meta.specs.declared.document.State.{State};
 ghost use Rattle.alta_session.specs.Fullness.{IsFull};
 ghost use Rattle.alta_session.specs.Run.{KeepsDisk, Serves};
-ghost use Rattle.alta_session.specs.Status.{IsOpened, IsUnopened, IsUnmade, Completes, Yields, EndsInit};
+ghost use Rattle.alta_session.specs.Loading.{HasBrokenList};
+ghost use Rattle.alta_session.specs.Status.{IsOpened, IsUnmade, Completes, Yields, EndsInit};
 ghost use Rattle.alta_root.specs.Slots.{HasNoRoot};
-ghost use Rattle.alta_store.specs.Brokenness.{IsBrokenAt};
-ghost use Rattle.alta_store.specs.Meaning.{StandsFor};
+ghost use Rattle.alta_images.specs.Broken.{IsBrokenAt};
+ghost use Rattle.alta_images.specs.Standing.{StandsFor};
 ghost use Rattle.alta_images.specs.States.{empty};
 
 use crate::{Status, serve};
@@ -53,9 +54,12 @@ pub fn alta<C: Console, D: Disk>(
     ensures never_exists { words.now ≡ codes "run" ∷ [] → result ≢ Status.Exists }
     ensures no_root { D.tells → result ≡ Status.NoRoot → HasNoRoot (D.state disk.old).content }
     ensures rooted { words.now ≡ codes "run" ∷ [] → D.tells → HasNoRoot (D.state disk.old).content → (result ≡ Status.NoRoot) ⊎ Yields result }
-    ensures damaged { (place : ℕ) → D.tells → result ≡ Status.Damaged place → IsBrokenAt (D.state disk.old).content place }
-    ensures undamaged { (place : ℕ) → words.now ≡ codes "run" ∷ [] → D.tells → IsBrokenAt (D.state disk.old).content place → (result ≡ Status.Damaged place) ⊎ Yields result }
-    ensures unopened { IsUnopened result → (console.new ≡ console.old) × KeepsDisk D.tells (D.state disk.old) (D.state disk.new) }
+    ensures undamaged { (place : ℕ) → words.now ≡ codes "run" ∷ [] → D.tells → IsBrokenAt (D.state disk.old).content place
+        → (console.new ≡ console.old) × KeepsDisk D.tells (D.state disk.old) (D.state disk.new) × ((result ≡ Status.Damaged place) ⊎ Yields result) }
+    ensures unopened { result ≡ Status.NoRoot → (console.new ≡ console.old) × KeepsDisk D.tells (D.state disk.old) (D.state disk.new) }
+    ensures damaged { (place : ℕ) → result ≡ Status.Damaged place
+        → ((console.new ≡ console.old) × KeepsDisk D.tells (D.state disk.old) (D.state disk.new) × (D.tells → IsBrokenAt (D.state disk.old).content place))
+        ⊎ (D.tells → HasBrokenList (D.state disk.new).content place) }
     ensures stands { (s : State) → D.tells → StandsFor s (D.state disk.old).content → IsOpened result }
     ensures full { (need gap : ℕ) → words.now ≡ codes "run" ∷ [] → D.tells → result ≡ Status.Full need gap → IsFull (D.state disk.new).content need gap }
     ensures complete { (s : State) → words.now ≡ codes "run" ∷ [] → D.tells → StandsFor s (D.state disk.old).content → ¬ (Rose (C.take_faults console.old) (C.take_faults console.new)) → ¬ (Rose (C.give_faults console.old) (C.give_faults console.new)) → ¬ (Rose (D.state disk.old).faults (D.state disk.new).faults) → Completes result }

@@ -1,7 +1,9 @@
 -- What a store and a disk that agree say of images.
-use Rattle.std.proofs.Common.{◌≡◌, List, ℕ, refl, sym, subst, ap, ◌∙◌}
+use Rattle.std.proofs.Common.{◌≡◌, List, ℕ, sym, subst, ap, ◌∙◌}
+use Rattle.alta_catalog.proofs.MayLaws.{means_may}
 use Rattle.alta_disk.specs.Disk.{DiskState, IsLawful, Each, Only}
 use Rattle.alta_images.specs.Opened.{Opened, IsOpened, journal_of}
+use Rattle.alta_images.specs.Standing.{StandsFor}
 use Rattle.alta_images.proofs.OneReading.{one_opened}
 use Rattle.alta_journal.specs.Journal.{EndsAt}
 use Rattle.alta_journal.specs.Places.{left_behind, start_of}
@@ -12,31 +14,24 @@ use Rattle.alta_root.specs.declared.slot.Slot.{Slot}
 use Rattle.alta_root.proofs.SlotLaws.{one_counts}
 use Rattle.alta_meta.specs.declared.document.State.{State}
 use Rattle.alta_store.specs.Agreement.{Agrees, HasRoom, Holds, Keeps, Knows, room_of}
-use Rattle.alta_store.specs.Meaning.{StandsFor, state_in}
 use Rattle.alta_store.specs.declared.store.Store.{Store}
-use Rattle.alta_store.proofs.Plain.{one_state}
 
--- what the store goes on with stands for its state
-pub stands_of : (store : Store) (image : List ℕ) (holds : Holds store image) → StandsFor (state_in holds.opened) image
-stands_of store image holds = record { opened = holds.opened; is = record { is = holds.is; plain = holds.keeps.plain }; state_is = refl }
-
--- and for no other
-pub state_held : (store : Store) (image : List ℕ) (holds : Holds store image) (s : State) → StandsFor s image → state_in holds.opened ≡ s
-state_held store image holds s stands = one_state (state_in holds.opened) s image (stands_of store image holds) stands
-
--- a store that agrees with its disk knows the state that the disk stands for
-pub knows_of : (tells : Type 0) (disk : DiskState) (store : Store) → Agrees tells disk store → (s : State) → tells → StandsFor s disk.content → Knows store s
-knows_of tells disk store agrees s told stands =
-    let holds = agrees.content told in
-    subst (Knows store) (state_held store disk.content holds s stands) holds.keeps.knows
-
--- where nothing is pending each image stands for the content's state
-pub images_stand : (tells : Type 0) (disk : DiskState) (s : State) → IsLawful tells disk → Only disk.content disk.images → (tells → StandsFor s disk.content) → Each disk.images (StandsFor s)
-images_stand tells disk s lawful only stands = λ c here. subst (StandsFor s) (sym (only c here)) (stands (lawful.told c here))
+-- what an image stands for is opened
+abbrev pub opened_of : (s : State) (image : List ℕ) (stands : StandsFor s image) → IsOpened stands.opened image
+opened_of s image stands = record { counts = stands.counts; named = stands.means.named }
 
 -- what an image is opened as is what the store goes on with
 pub kept : (store : Store) (image : List ℕ) → Holds store image → (opened : Opened) → IsOpened opened image → Keeps store opened
 kept store image holds opened is = subst (Keeps store) (one_opened image holds.opened opened holds.is is) holds.keeps
+
+-- a store that agrees with its disk knows the state that the disk stands for
+pub knows_of : (tells : Type 0) (disk : DiskState) (store : Store) → Agrees tells disk store → (s : State) → tells → StandsFor s disk.content → Knows store s
+knows_of tells disk store agrees s told stands =
+    ((kept store disk.content (agrees.content told) stands.opened (opened_of s disk.content stands)).knows s (means_may s stands.opened disk.content stands.means)).0
+
+-- where nothing is pending each image stands for the content's state
+pub images_stand : (tells : Type 0) (disk : DiskState) (s : State) → IsLawful tells disk → Only disk.content disk.images → (tells → StandsFor s disk.content) → Each disk.images (StandsFor s)
+images_stand tells disk s lawful only stands = λ c here. subst (StandsFor s) (sym (only c here)) (stands (lawful.told c here))
 
 -- the room that the store has left is the one that the journal of the image has
 pub room_held : (store : Store) (image : List ℕ) (room : ℕ) → Holds store image → HasRoom image room → room_of store ≡ room

@@ -12,12 +12,12 @@ use Rattle.alta_journal.specs.declared.places.TheConstants.{START_A, HALF_BYTES,
 use Rattle.alta_journal.proofs.HalfLaws.{half_long, half_byte}
 use Rattle.alta_images.specs.States.{empty}
 use Rattle.alta_images.specs.Switching.{empty_root, IsFormatted}
-use Rattle.alta_images.proofs.FormattedLaws.{formatted_counts, formatted_named, formatted_opened}
+use Rattle.alta_images.proofs.FormattedLaws.{formatted_stands}
 use Rattle.alta_root.specs.Places.{fields_at, gate_of}
 use Rattle.alta_root.specs.Root.{body_of, fields_of, wide_bytes}
 use Rattle.alta_root.specs.declared.slot.Slot.TheVariants.{A}
 use Rattle.alta_store.specs.Clearing.{AreZero, IsClear, empty_fields}
-use Rattle.alta_store.specs.Meaning.{StandsFor}
+use Rattle.alta_images.specs.Standing.{StandsFor}
 
 -- the byte at a place
 abbrev byte_at : ℕ → List ℕ → ℕ
@@ -118,8 +118,4 @@ module _ (c0 c1 c2 : List ℕ) (clear : IsClear HEAD_BYTES c0) (body : Holds c0 
 
   -- the formatted disk stands for the empty state
   pub stands : StandsFor empty c2
-  stands = record {
-    opened = formatted_opened;
-    is = record { is = record { counts = formatted_counts c2 is_formatted; named = formatted_named c2 is_formatted }; plain = (refl, refl) };
-    state_is = refl;
-  }
+  stands = formatted_stands c2 is_formatted

@@ -1,12 +1,7 @@
 pub mod Agreements
 pub mod Commits
-pub mod DocumentLaws
-pub mod EndLaws
-pub mod EntryLaws
-pub mod FollowingLaws
 pub mod Formatted
-pub mod KnowledgeLaws
 pub mod Loads
-pub mod Naming
-pub mod Plain
-pub mod WordCounts
+pub mod Reading
+pub mod SearchLaws
+pub mod Speaking

@@ -1,11 +1,21 @@
 -- What was loaded from a disk is what its content says.
-use Rattle.std.proofs.Common.{◌≡◌, ◌⊎◌, inl, inr, ⊎_elim, ℕ, suc, zero, ◌+◌, ◌-◌, ◌<◌, ◌≤◌, Global, Bool, cond, List, [], ◌∷◌, ◌++◌, length, get_or, refl, sym, ◌∙◌, ap, subst, arith, length-append}
-use Rattle.std.specs.Prelude.{String, Result, Ok, Err, IfOk, IfErr}
-use Rattle.std.specs.BTreeMap.{BTreeMap}
+use Rattle.std.proofs.Common.{◌≡◌, ◌⊎◌, inl, inr, ⊎_elim, ℕ, suc, zero, ◌+◌, ◌-◌, ◌<◌, ◌≤◌, true, Bool, cond, List, [], ◌∷◌, ◌++◌, length, map, get_or, refl, sym, ◌∙◌, ap, subst, arith, length-append}
+use Rattle.std.specs.Prelude.{Result, Ok, Err, IfOk, IfErr}
 use Rattle.std.specs.List.{All, flat_map}
 use Rattle.std.proofs.lemmas.List.{length-take-le}
 use Rattle.std.proofs.lemmas.Result.{IfOk-at_ok, IfErr-at_err}
+use Rattle.alta_catalog.specs.Rows.{MayStart}
+use Rattle.alta_catalog.specs.declared.fault.CatalogFault.{CatalogFault}
+use Rattle.alta_catalog.specs.declared.fault.CatalogFault.TheVariants.{Memory as CatalogMemory, Damaged as CatalogDamaged}
+use Rattle.alta_catalog.proofs.MayLaws.{may_start}
 use Rattle.alta_disk.specs.Disk.{DiskState, IsLawful, Only}
+use Rattle.alta_images.specs.Broken.{HasLevels, IsBrokenAt, in_records, in_entries}
+use Rattle.alta_images.specs.Entries.{Allows, AllowsAll, after_entry, after_entries, entries_in, IsRefusedAt}
+use Rattle.alta_images.specs.Known.{Known, admits, known_behind, known_of, replayed}
+use Rattle.alta_images.specs.Opened.{Opened, IsOpened, half_of, have_ends, journal_of, known_at}
+use Rattle.alta_images.proofs.KnownLaws.{admitted_from, allowed_from, known_entry, replayed_allows}
+use Rattle.alta_images.proofs.OneReading.{one_place, opened_unbroken, opened_rooted, broken_rooted}
+use Rattle.alta_images.proofs.Tests.{by_test}
 use Rattle.alta_journal.specs.Journal.{IsBroken}
 use Rattle.alta_journal.specs.Placed.{placed, IsReplay}
 use Rattle.alta_journal.specs.Places.{half_at}
@@ -13,36 +23,27 @@ use Rattle.alta_journal.specs.Record.{record_of}
 use Rattle.alta_journal.specs.declared.entry.Entry.{Entry}
 use Rattle.alta_journal.specs.declared.placed.Placed.{Placed}
 use Rattle.alta_journal.specs.declared.places.TheConstants.{HALF_BYTES}
-use Rattle.alta_journal.proofs.Frames.{ends_inside}
-use Rattle.alta_journal.specs.declared.half.Tail.{Tail}
-use Rattle.alta_meta.specs.declared.document.Document.{Document}
-use Rattle.alta_meta.specs.declared.document.State.{State}
-use Rattle.alta_store.specs.Agreement.{Holds, Knows}
 use Rattle.alta_journal.specs.declared.replaying.OpenFault.{OpenFault}
 use Rattle.alta_journal.specs.declared.replaying.OpenFault.TheVariants.{Disk as JournalDisk, Memory as JournalMemory, Damaged as JournalDamaged}
-use Rattle.alta_store.specs.Answers.{IsOutside, AnswersFault, of_opening, of_root}
-use Rattle.alta_store.specs.Brokenness.{HasLevels, IsBrokenAt}
-use Rattle.alta_images.specs.Broken.{HasLevels as HasLevelsFine, in_records, in_entries}
-use Rattle.alta_images.specs.Entries.{Allows, AllowsAll, after_entry, after_entries, entries_in, IsRefusedAt}
-use Rattle.alta_images.specs.Known.{Known, admits, known_behind, known_of, replayed}
-use Rattle.alta_images.specs.Opened.{Opened, half_of, journal_of}
-use Rattle.alta_images.proofs.KnownLaws.{admitted_from, allowed_from, known_entry, replayed_allows}
-use Rattle.alta_images.proofs.Tests.{by_test}
-use Rattle.alta_root.specs.Slots.{Counts, HasNoRoot}
+use Rattle.alta_journal.proofs.Frames.{ends_inside}
+use Rattle.alta_meta.specs.declared.document.State.{State}
+use Rattle.alta_opening.specs.Extents.{extent_of}
+use Rattle.alta_opening.specs.declared.fault.OpeningFault.{OpeningFault}
+use Rattle.alta_opening.specs.declared.fault.OpeningFault.TheVariants.{Disk as LevelsDisk, Memory as LevelsMemory, Damaged as LevelsDamaged}
+use Rattle.alta_root.specs.Slots.{HasNoRoot}
 use Rattle.alta_root.specs.declared.fault.RootFault.{RootFault}
 use Rattle.alta_root.specs.declared.fault.RootFault.TheVariants.{Disk as RootDisk, NoRoot as RootNone, Damaged as RootDamaged}
 use Rattle.alta_root.specs.declared.root.Root.{Root}
-use Rattle.alta_root.specs.declared.root.Roots.{Roots}
 use Rattle.alta_root.specs.declared.slot.Slot.{Slot}
-use Rattle.alta_root.proofs.SlotLaws.{one_counts}
-use Rattle.alta_images.specs.Views.{start_at}
-use Rattle.alta_store.specs.Meaning.{IsPlain, StandsFor, state_in}
+use Rattle.alta_catalog.specs.Knowing.{KnowsBy}
+use Rattle.alta_store.specs.Agreement.{Holds, levels_of}
+use Rattle.alta_store.specs.Answers.{IsOutside, AnswersFault, of_catalog, of_levels, of_opening, of_root}
 use Rattle.alta_store.specs.declared.fault.StoreFault.{StoreFault}
 use Rattle.alta_store.specs.declared.fault.StoreFault.TheVariants.{NoRoot, Damaged}
 use Rattle.alta_store.specs.declared.store.Store.{Store}
-use Rattle.alta_store.proofs.Agreements.{stands_of}
 use Rattle.alta_store.proofs.Commits.{journal_fits}
-use Rattle.alta_store.proofs.Plain.{broken_indexed, no_levels, no_list, one_place, stands_indexed, stands_unbroken}
+use Rattle.alta_store.proofs.Speaking.{start_known}
+use Rattle.alta_table.specs.Tables.{Tables}
 
 -- the entries of placed ones
 entries_in-placed : (place : ℕ) (entries : List Entry) → entries_in (placed place entries) ≡ entries
@@ -81,49 +82,52 @@ refused_is : (s : State) (found : List Placed) (place : ℕ) → IsRefusedAt s f
 refused_is s found place r =
     ap (λ (ps : List Placed). replayed (known_of s) ps) r.split ∙ refused_at s r.before r.refused r.behind r.allowed r.not_allowed ∙ ap (λ (n : ℕ). Err n) (sym r.place_is)
 
--- ---- behind a plain root that counts
+-- ---- behind a root that counts, and levels that are fine
 
-module _ (content : List ℕ) (slot : Slot) (root : Root) (counts : Counts slot root content) (plain : IsPlain root) where
-  no_more : HasLevels content → ⊥
-  no_more has = has.not_plain (subst IsPlain (sym (ap (λ (r : Roots). r.root) (one_counts content has.slot slot has.root root has.counts counts))) plain)
-
-  levels : HasLevelsFine slot root [] [] content
-  levels = record { counts = counts; list = no_list root content plain.1; tables = no_levels root [] content plain.0 }
-
+module _ (content : List ℕ) (slot : Slot) (root : Root) (deleted : List ℕ) (levels : List Tables) (has : HasLevels slot root deleted levels content) (ends_there : have_ends levels deleted ≡ true) where
   -- what is opened with these entries
   abbrev opened_with : List Entry → ℕ → Opened
-  opened_with entries tail = record { slot = slot; root = root; deleted = []; levels = []; entries = entries; tail = tail }
+  opened_with entries tail = record { slot = slot; root = root; deleted = deleted; levels = levels; entries = entries; tail = tail }
 
-  pub loads : (store : Store) (found : List Placed) → store.tail.half ≡ half_of slot → IsReplay (journal_of slot) found store.tail.place content
-      → AllowsAll (start_at root.next_number) (entries_in found) × Knows store (after_entries (start_at root.next_number) (entries_in found)) → Holds store content
-  loads store found half (entries, is, ends) (allowed, knows) =
+  -- what is known at the root is that of a state that it may speak of
+  replays : (s : State) → MayStart s root deleted levels → (found : List Placed) (r : Result Known ℕ) → replayed (known_of s) found ≡ r → replayed (known_at root deleted levels) found ≡ r
+  replays s starts found r is = ap (λ (k : Known). replayed k found) (sym (start_known root deleted levels s starts)) ∙ is
+
+  pub loads : (store : Store) (found : List Placed) → store.tail.half ≡ half_of slot → levels_of store ≡ levels → map extent_of levels ≡ root.levels.items → IsReplay (journal_of slot) found store.tail.place content
+      → ((s : State) → (may : MayStart s root deleted levels) → AllowsAll s (entries_in found) × KnowsBy store.catalog may.olds (after_entries s (entries_in found))) → Holds store content
+  loads store found half levels_are extents (entries, is, ends) applied =
       let same : entries_in found ≡ entries = ap entries_in is ∙ entries_in-placed (journal_of slot) entries in
-      let start = start_at root.next_number in
+      let some = may_start root deleted levels in
       record {
         opened = opened_with entries store.tail.place;
         is = record {
-          counts = counts;
+          counts = has.counts;
           named = record {
-            list = levels.list;
-            tables = levels.tables;
-            ends = refl;
+            list = has.list;
+            tables = has.tables;
+            ends = ends_there;
             journal = ends;
-            known = known_of (after_entries start entries);
-            admitted = replayed_allows start (journal_of slot) entries (subst (AllowsAll start) same allowed);
+            known = known_of (after_entries some.0 entries);
+            admitted = replays some.0 some.1 (placed (journal_of slot) entries) (Ok (known_of (after_entries some.0 entries)))
+                (replayed_allows some.0 (journal_of slot) entries (subst (AllowsAll some.0) same (applied some.0 some.1).0));
           };
         };
-        keeps = record { plain = plain; half = half; place = refl; knows = subst (λ (es : List Entry). Knows store (after_entries start es)) same knows };
+        keeps = record {
+          half = half;
+          place = refl;
+          levels = levels_are;
+          extents = extents;
+          knows = λ s may. subst (KnowsBy store.catalog may.starts.olds) (ap (after_entries may.start) same ∙ sym may.state_is) (applied may.start may.starts).1;
+        };
       }
 
   pub damaged_record : (place : ℕ) → IsBroken (journal_of slot) place content → IsBrokenAt content place
-  damaged_record place broken = inl (in_records slot root [] [] place levels refl broken, no_more)
+  damaged_record place broken = in_records slot root deleted levels place has ends_there broken
 
-  pub refused_entry : (found : List Placed) (place tail : ℕ) → IsReplay (journal_of slot) found tail content → IsRefusedAt (start_at root.next_number) found place → IsBrokenAt content place
-  refused_entry found place tail (entries, is, ends) refused =
-      inl (
-        in_entries slot root [] [] entries tail place levels refl ends (subst (λ (ps : List Placed). replayed (known_of (start_at root.next_number)) ps ≡ Err place) is (refused_is (start_at root.next_number) found place refused)),
-        no_more,
-      )
+  pub refused_entry : (found : List Placed) (place tail : ℕ) → IsReplay (journal_of slot) found tail content → (s : State) → MayStart s root deleted levels → IsRefusedAt s found place → IsBrokenAt content place
+  refused_entry found place tail (entries, is, ends) s starts refused =
+      in_entries slot root deleted levels entries tail place has ends_there ends
+      (replays s starts (placed (journal_of slot) entries) (Err place) (subst (λ (ps : List Placed). replayed (known_of s) ps ≡ Err place) is (refused_is s found place refused)))
 
 is_damaged : OpenFault → StoreFault → Type 0
 is_damaged f (Damaged place) = f ≡ JournalDamaged place
@@ -154,6 +158,43 @@ root_damaged_as (RootDamaged place) = refl
 pub of_root_damaged : (f : RootFault) (place : ℕ) → of_root f ≡ Damaged place → f ≡ RootDamaged place
 unfolding is_root_damaged
 of_root_damaged f place e = subst (is_root_damaged f) e (root_damaged_as f)
+
+is_levels_damaged : OpeningFault → StoreFault → Type 0
+is_levels_damaged f (Damaged place) = f ≡ LevelsDamaged place
+is_levels_damaged f other = Unit {0}
+
+levels_damaged_as : (f : OpeningFault) → is_levels_damaged f (of_levels f)
+unfolding is_levels_damaged
+levels_damaged_as LevelsDisk = tt
+levels_damaged_as LevelsMemory = tt
+levels_damaged_as (LevelsDamaged place) = refl
+
+-- only damaged levels are answered as damage
+pub of_levels_damaged : (f : OpeningFault) (place : ℕ) → of_levels f ≡ Damaged place → f ≡ LevelsDamaged place
+unfolding is_levels_damaged
+of_levels_damaged f place e = subst (is_levels_damaged f) e (levels_damaged_as f)
+
+is_catalog_damaged : CatalogFault → StoreFault → Type 0
+is_catalog_damaged f (Damaged place) = f ≡ CatalogDamaged place
+is_catalog_damaged f other = Unit {0}
+
+catalog_damaged_as : (f : CatalogFault) → is_catalog_damaged f (of_catalog f)
+unfolding is_catalog_damaged
+catalog_damaged_as CatalogMemory = tt
+catalog_damaged_as (CatalogDamaged place) = refl
+
+-- only damaged entries are answered as damage
+pub of_catalog_damaged : (f : CatalogFault) (place : ℕ) → of_catalog f ≡ Damaged place → f ≡ CatalogDamaged place
+unfolding is_catalog_damaged
+of_catalog_damaged f place e = subst (is_catalog_damaged f) e (catalog_damaged_as f)
+
+fault_in : {T : Type 0} → CatalogFault → Result T CatalogFault → CatalogFault
+fault_in d (Ok x) = d
+fault_in d (Err e) = e
+
+pub same_catalog : {T : Type 0} (a b : CatalogFault) → ◌≡◌ {A = Result T CatalogFault} (Err a) (Err b) → a ≡ b
+unfolding fault_in
+same_catalog a b e = ap (fault_in a) e
 
 error_in : {T : Type 0} → StoreFault → Result T StoreFault → StoreFault
 error_in d (Ok x) = d
@@ -188,11 +229,11 @@ module _ (tells : Type 0) (content : List ℕ) (r : Result Store StoreFault)
   by_error : (e : StoreFault) → r ≡ Err e → IsOutside e ⊎ ((e ≡ NoRoot) ⊎ ((place : ℕ) × (e ≡ Damaged place)))
   by_error e is = IfErr-at_err (λ e. IsOutside e ⊎ ((e ≡ NoRoot) ⊎ ((place : ℕ) × (e ≡ Damaged place)))) is only
 
-  -- content that stands for a state is opened, or a call failed, or memory was wanting
-  pub outside : (s : State) → tells → StandsFor s content → IfErr r IsOutside
-  outside s told stands = if_err r IsOutside (λ e is. ⊎_elim (λ out. out)
-      (λ more. ⊎_elim (λ none. absurd (stands_indexed s content stands (no_root told (is ∙ ap Err none))))
-      (λ (place, at). absurd (stands_unbroken s content place stands (damaged told place (is ∙ ap Err at)))) more) (by_error e is))
+  -- content that is opened is opened here, or a call failed, or memory was wanting
+  pub outside : (o : Opened) → tells → IsOpened o content → IfErr r IsOutside
+  outside o told opened = if_err r IsOutside (λ e is. ⊎_elim (λ out. out)
+      (λ more. ⊎_elim (λ none. absurd (opened_rooted content o opened (no_root told (is ∙ ap Err none))))
+      (λ (place, at). absurd (opened_unbroken content o place opened (damaged told place (is ∙ ap Err at)))) more) (by_error e is))
 
   answers : (e : StoreFault) → IsOutside e → r ≡ Err e → (want : StoreFault) → AnswersFault r want
   answers e out is want = ⊎_elim (λ memory. inr (inl (is ∙ ap Err memory))) (λ disk. inr (inr (is ∙ ap Err disk))) out
@@ -202,16 +243,16 @@ module _ (tells : Type 0) (content : List ℕ) (r : Result Store StoreFault)
   rooted told none = cases r refl
     where
       cases : (q : Result Store StoreFault) → r ≡ q → AnswersFault r NoRoot
-      cases (Ok store) is = let h = held store is told in absurd (stands_indexed (state_in h.opened) content (stands_of store content h) none)
+      cases (Ok store) is = let h = held store is told in absurd (opened_rooted content h.opened h.is none)
       cases (Err e) is = ⊎_elim (λ out. answers e out is NoRoot)
-          (λ more. ⊎_elim (λ same. inl (is ∙ ap Err same)) (λ (place, at). absurd (broken_indexed content place (damaged told place (is ∙ ap Err at)) none)) more) (by_error e is)
+          (λ more. ⊎_elim (λ same. inl (is ∙ ap Err same)) (λ (place, at). absurd (broken_rooted content place (damaged told place (is ∙ ap Err at)) none)) more) (by_error e is)
 
   -- a broken rule is answered so, at its first place
   pub broken_at : (place : ℕ) → tells → IsBrokenAt content place → AnswersFault r (Damaged place)
   broken_at place told broken = cases r refl
     where
       cases : (q : Result Store StoreFault) → r ≡ q → AnswersFault r (Damaged place)
-      cases (Ok store) is = let h = held store is told in absurd (stands_unbroken (state_in h.opened) content place (stands_of store content h) broken)
+      cases (Ok store) is = let h = held store is told in absurd (opened_unbroken content h.opened place h.is broken)
       cases (Err e) is = ⊎_elim (λ out. answers e out is (Damaged place))
-          (λ more. ⊎_elim (λ none. absurd (broken_indexed content place broken (no_root told (is ∙ ap Err none))))
+          (λ more. ⊎_elim (λ none. absurd (broken_rooted content place broken (no_root told (is ∙ ap Err none))))
           (λ (spot, at). inl (is ∙ ap Err at ∙ ap (λ (p : ℕ). Err (Damaged p)) (one_place content spot place (damaged told spot (is ∙ ap Err at)) broken))) more) (by_error e is)

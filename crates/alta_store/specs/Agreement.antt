@@ -1,5 +1,5 @@
 -- A store and its disk.
-use Rattle.std.specs.Prelude.{◌≡◌, ℕ, ◌+◌, ◌-◌, ◌≤◌, true, List, Bool}
+use Rattle.std.specs.Prelude.{◌≡◌, ℕ, ◌+◌, ◌-◌, ◌≤◌, true, List, Bool, map}
 use Rattle.alta_disk.specs.Disk.{DiskState, Only}
 use Rattle.alta_images.specs.Opened.{Opened, IsOpened, half_of, journal_of}
 use Rattle.alta_journal.specs.Journal.{EndsAt}
@@ -7,23 +7,31 @@ use Rattle.alta_journal.specs.Places.{left_behind, start_of}
 use Rattle.alta_journal.specs.declared.entry.Entry.{Entry}
 use Rattle.alta_journal.specs.declared.places.TheConstants.{HEAD_BYTES}
 use Rattle.alta_meta.specs.declared.document.State.{State}
+use Rattle.alta_opening.specs.Extents.{extent_of}
 use Rattle.alta_root.specs.Slots.{Counts}
 use Rattle.alta_root.specs.declared.root.Root.{Root}
 use Rattle.alta_root.specs.declared.slot.Slot.{Slot}
-use Rattle.alta_store.specs.Following.{Follows}
-use Rattle.alta_store.specs.Meaning.{IsPlain, state_in}
+use Rattle.alta_catalog.specs.Knowing.{Knows as CatalogKnows, KnowsBy, levels_of as levels_in}
+use Rattle.alta_catalog.specs.Rows.{MayBe}
+use Rattle.alta_table.specs.Tables.{Tables}
 use Rattle.alta_store.specs.declared.store.Store.{Store}
 
 -- the store's catalog stands at this state
 abbrev pub Knows : Store → State → Type 0
-Knows store s = Follows store.catalog s
+Knows store s = CatalogKnows store.catalog s
 
--- The store goes on with what is opened, where its journal ends, and knows the state that it speaks of.
+-- the tables of the store's levels
+abbrev pub levels_of : Store → List Tables
+levels_of store = levels_in store.catalog
+
+-- The store goes on with what is opened: where its journal ends, over its levels, which fill the extents of the root, and knows each
+-- state that it may speak of.
 pub record Keeps (store : Store) (opened : Opened) : Type 0 where
-  pub plain : IsPlain opened.root
   pub half : store.tail.half ≡ half_of opened.slot
   pub place : store.tail.place ≡ opened.tail
-  pub knows : Knows store (state_in opened)
+  pub levels : levels_of store ≡ opened.levels
+  pub extents : map extent_of opened.levels ≡ opened.root.levels.items
+  pub knows : (s : State) → (may : MayBe s opened) → KnowsBy store.catalog may.starts.olds s
 
 -- The image is opened, and the store goes on with what it is opened as.
 pub record Holds (store : Store) (image : List ℕ) : Type 0 where

@@ -2,6 +2,10 @@
 use Rattle.std.specs.Prelude.{◌≡◌, ◌⊎◌, Result, Err}
 use Rattle.alta_journal.specs.declared.replaying.OpenFault.{OpenFault}
 use Rattle.alta_journal.specs.declared.replaying.OpenFault.TheVariants.{Disk as JournalDisk, Memory as JournalMemory, Damaged as JournalDamaged}
+use Rattle.alta_catalog.specs.declared.fault.CatalogFault.{CatalogFault}
+use Rattle.alta_catalog.specs.declared.fault.CatalogFault.TheVariants.{Memory as CatalogMemory, Damaged as CatalogDamaged}
+use Rattle.alta_opening.specs.declared.fault.OpeningFault.{OpeningFault}
+use Rattle.alta_opening.specs.declared.fault.OpeningFault.TheVariants.{Disk as LevelsDisk, Memory as LevelsMemory, Damaged as LevelsDamaged}
 use Rattle.alta_root.specs.declared.fault.RootFault.{RootFault}
 use Rattle.alta_root.specs.declared.fault.RootFault.TheVariants.{Disk as RootDisk, NoRoot as NoRootThere, Damaged as RootDamaged}
 use Rattle.alta_store.specs.declared.fault.StoreFault.{StoreFault}
@@ -26,3 +30,14 @@ abbrev pub of_root : RootFault → StoreFault
 of_root RootDisk = Disk
 of_root NoRootThere = NoRoot
 of_root (RootDamaged place) = Damaged place
+
+-- the fault of an opening whose levels were not read
+abbrev pub of_levels : OpeningFault → StoreFault
+of_levels LevelsDisk = Disk
+of_levels LevelsMemory = Memory
+of_levels (LevelsDamaged place) = Damaged place
+
+-- the fault of an opening whose entries were not applied
+abbrev pub of_catalog : CatalogFault → StoreFault
+of_catalog CatalogMemory = Memory
+of_catalog (CatalogDamaged place) = Damaged place

@@ -1,8 +1,10 @@
 // Why a call of the store was not done.
 ghost use Rattle.std.specs.Prelude.{◌≡◌};
-ghost use Rattle.alta_store.specs.Answers.{of_opening, of_root};
+ghost use Rattle.alta_store.specs.Answers.{of_catalog, of_levels, of_opening, of_root};
 
+use alta_catalog::CatalogFault;
 use alta_journal::OpenFault;
+use alta_opening::OpeningFault;
 use alta_root::RootFault;
 use thiserror::Error;
 
@@ -43,6 +45,27 @@ pub(crate) fn opening_fault(fault: OpenFault) -> StoreFault
         OpenFault::Disk => StoreFault::Disk,
         OpenFault::Memory => StoreFault::Memory,
         OpenFault::Damaged(place) => StoreFault::Damaged(place),
+    }
+}
+
+// The fault of an opening whose levels were not read.
+pub(crate) fn levels_fault(fault: OpeningFault) -> StoreFault
+    ensures { result ≡ of_levels fault }
+{
+    match fault {
+        OpeningFault::Disk => StoreFault::Disk,
+        OpeningFault::Memory => StoreFault::Memory,
+        OpeningFault::Damaged(place) => StoreFault::Damaged(place),
+    }
+}
+
+// The fault of an opening whose entries were not applied.
+pub(crate) fn catalog_fault(fault: CatalogFault) -> StoreFault
+    ensures { result ≡ of_catalog fault }
+{
+    match fault {
+        CatalogFault::Memory => StoreFault::Memory,
+        CatalogFault::Damaged(place) => StoreFault::Damaged(place),
     }
 }
 

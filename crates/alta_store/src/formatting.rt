@@ -3,7 +3,7 @@ ghost use Rattle.std.specs.Prelude.{◌≡◌, ◌≤◌, ◌+◌, ◌↔◌, tr
 ghost use Rattle.alta_codec.specs.Faults.{HasCause};
 ghost use Rattle.alta_disk.specs.Disk.{DiskState, Same, Passes, Stands};
 ghost use Rattle.alta_journal.specs.declared.places.TheConstants.{HEAD_BYTES};
-ghost use Rattle.alta_store.specs.Meaning.{StandsFor};
+ghost use Rattle.alta_images.specs.Standing.{StandsFor};
 ghost use Rattle.alta_store.specs.Clearing.{AreZero, IsClear};
 ghost use Rattle.alta_images.specs.States.{empty};
 

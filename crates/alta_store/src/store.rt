@@ -1,42 +1,49 @@
 // The store.
-ghost use Rattle.std.specs.BTreeMap.{get_by_text};
-ghost use Rattle.std.specs.Str.{bytes_eq};
-ghost use Rattle.std.specs.Prelude.{◌||◌, ◌≡◌, ◌⊎◌, ◌↔◌, ◌+◌, ◌<◌, ◌≤◌, ◌++◌, ◌∷◌, [], ℕ, List, true, false, length, is_some, Result, Ok, Err, Some, IfOk, IfErr, OnOk, OnErr, IsErr, IsTrue, HoldsAt, MatchOption};
+ghost use Rattle.std.specs.Prelude.{◌≡◌, ◌⊎◌, ◌↔◌, ◌+◌, ◌<◌, ◌≤◌, ℕ, List, true, false, length, Result, Ok, Err, Some, IfOk, IfErr, OnOk, OnErr, IsErr, IsTrue, HoldsAt, MatchOption, All};
+ghost use Rattle.alta_catalog.specs.Knowing.{KnowsBy, levels_of as levels_in};
+ghost use Rattle.alta_catalog.specs.Names.{AreNames, AreNamesOf};
+ghost use Rattle.alta_catalog.specs.Rows.{MayStart};
+ghost use Rattle.alta_catalog.specs.declared.fault.CatalogFault.TheVariants.{Memory as NoMemory, Damaged as DamagedEntry};
 ghost use Rattle.alta_codec.specs.Faults.{Rose};
-ghost use Rattle.alta_disk.specs.Calls.{Reads};
+ghost use Rattle.alta_codec.specs.Rising.{IsRising};
+ghost use Rattle.alta_content.specs.Rows.{AreDocuments};
 ghost use Rattle.alta_disk.specs.Disk.{DiskState, Same, Only, Passes, LeavesOnly};
-ghost use Rattle.alta_images.specs.Opened.{Opened, IsOpened, half_of};
+ghost use Rattle.alta_images.specs.Broken.{IsBrokenAt};
+ghost use Rattle.alta_images.specs.Entries.{AllowsAll, IsRefusedAt, after_entries, entries_in};
+ghost use Rattle.alta_images.specs.Opened.{Opened, IsOpened, half_of, have_ends, known_at, live_in, rows_in};
+ghost use Rattle.alta_images.specs.Ordered.{AreBelow, IsOrdered};
+ghost use Rattle.alta_images.specs.Standing.{StandsFor, StandsForEither};
+ghost use Rattle.alta_images.specs.States.{has_name, has_number, number_of, words_in, with_added, with_deleted, without, IsDocument};
 ghost use Rattle.alta_images.specs.Switching.{with_entry};
+ghost use Rattle.alta_journal.specs.Entry.{IsSound as IsEntry};
 ghost use Rattle.alta_journal.specs.Record.{body_of};
 ghost use Rattle.alta_journal.specs.declared.entry.Entry.TheVariants.{Add, Delete};
 ghost use Rattle.alta_journal.specs.declared.places.TheConstants.{HALF_BYTES, HEAD_BYTES};
 ghost use Rattle.alta_meta.specs.declared.document.State.{State};
-ghost use Rattle.alta_memlevel.specs.Documents.{HasDocuments};
-ghost use Rattle.alta_store.specs.Agreement.{Agrees, Holds, IsIntact, Keeps, Knows, HasRoom, is_sound, room_of};
+ghost use Rattle.alta_opening.specs.Costs.{named_bytes};
 ghost use Rattle.alta_root.specs.Root.{IsSound};
 ghost use Rattle.alta_root.specs.Slots.{Counts, HasNoRoot};
+ghost use Rattle.alta_root.specs.declared.root.Root.{Root};
 ghost use Rattle.alta_root.specs.declared.slot.Slot.{Slot};
+ghost use Rattle.alta_store.specs.Agreement.{Agrees, Holds, IsIntact, Keeps, HasRoom, is_sound, room_of};
 ghost use Rattle.alta_store.specs.Answers.{IsOutside, AnswersFault};
-ghost use Rattle.alta_store.specs.Brokenness.{IsBrokenAt};
-ghost use Rattle.alta_store.specs.Meaning.{IsPlain, StandsFor, StandsForEither};
-ghost use Rattle.alta_store.specs.Naming.{AreNames};
-ghost use Rattle.alta_images.specs.States.{has_name, number_of, words_in, with_added, with_deleted, without, IsDocument};
+ghost use Rattle.alta_store.specs.Searched.{IsSearched};
 ghost use Rattle.alta_store.specs.declared.fault.StoreFault.TheVariants.{Disk as DiskFault, Memory, NoRoot, Damaged, Taken, Missing, Numbers, Full};
 
 use crate::StoreFault;
-use crate::catalog::Catalog;
-use crate::fault::{opening_fault, root_fault};
-use crate::lists::Names;
-use crate::names::rows_in;
-use crate::replaying::apply_entries;
+use crate::fault::{catalog_fault, levels_fault, opening_fault, root_fault};
+use alta_catalog::{Catalog, CatalogFault, Names, apply_entries};
 use alta_codec::{Loc, Text};
 use alta_disk::Disk;
-use alta_journal::{Entry, Half, JournalFault, Ready, Tail, append, ready, replay};
+use alta_journal::{Entry, Half, JournalFault, Placed, Ready, Tail, append, ready, replay};
 use alta_memlevel::MemLevel;
-use alta_root::{LAST_NEXT, Root, Slot, read_roots};
+use alta_opening::{OpenLevels, open_levels};
+use alta_root::{Root, Slot, read_roots};
+use alta_rows::AllRows;
+use alta_table::Table;
 use std::alloc::{AllocError, Global};
 
-/// The documents of an index in memory, and where its journal goes on.
+/// What is known of the documents of an index, and where its journal goes on.
 #[derive(Drop)]
 pub struct Store {
     alloc: Global,
@@ -45,8 +52,18 @@ pub struct Store {
     sound: bool,
 }
 
+/// What a search looks at: the tables of the levels, the oldest first, the newest documents, the ends of all documents that are gone,
+/// rising, and the rows of levels and newest documents.
+#[derive(Drop)]
+pub struct Sources<'a> {
+    pub levels: &'a [Table],
+    pub newest: &'a MemLevel,
+    pub gone: &'a [Loc],
+    pub rows: AllRows,
+}
+
 impl Store {
-    ghost use Rattle.alta_store.specs.Agreement.{Agrees, Knows, is_sound, room_of};
+    ghost use Rattle.alta_store.specs.Agreement.{Agrees, Knows, is_sound, levels_of, room_of};
 
     /// Whether the store may be used: false after an error of the disk, of memory, or for want of room.
     pub fn sound(&self) -> bool
@@ -55,11 +72,19 @@ impl Store {
         self.sound
     }
 
-    /// The newest documents as a level in memory, and the ends of those that are deleted, in order.
-    pub fn newest(&self) -> (&MemLevel, &[Loc])
-        ensures { (s : State) → Knows self.now s → HasDocuments result.1.now s.documents result.0.now }
+    /// What a search looks at. It takes memory for the list of the rows alone, which are shared, but for the last 1,024 of the newest
+    /// documents at most. Fails for want of memory alone.
+    pub fn sources(&self) -> Result<Sources<'_>, AllocError>
+        requires { IsIntact self.now }
+        ensures { IfOk result (λ found. IsSearched self.now found.levels.now found.newest.now found.gone.now found.rows) }
     {
-        self.catalog.newest()
+        let (newest, gone) = self.catalog.newest();
+        Ok(Sources {
+            levels: self.catalog.levels(),
+            newest,
+            gone,
+            rows: self.catalog.rows()?,
+        })
     }
 
     /// How many live documents there are, how many words they have in all, and the number that the next document gets. All three
@@ -67,7 +92,7 @@ impl Store {
     pub fn counts(&self) -> (u64, u64, u64)
         ensures { (s : State) → Knows self.now s → result ≡ (length s.documents, words_in s, s.next) }
     {
-        (self.catalog.count, self.catalog.words, self.catalog.next)
+        self.catalog.counts()
     }
 
     /// The names of the live documents with their numbers, in the order of bytes, each once. One pass over the names, which
@@ -77,9 +102,9 @@ impl Store {
     ///
     /// `AllocError` where there was no memory left for the list.
     pub fn names(&self, alloc: Global) -> Result<Names, AllocError>
-        ensures { (s : State) → Knows self.now s → IfOk result (AreNames s) }
+        ensures { (s : State) → Knows self.now s → IfOk result (AreNamesOf s) }
     {
-        rows_in(alloc, &self.catalog.names)
+        self.catalog.names(alloc)
     }
 
     // The store may no longer be used.
@@ -91,23 +116,22 @@ impl Store {
         fault
     }
 
-    /// Opens the index of a disk: one sync, then both slots, then the journal's records of the half that the root uses, by themselves,
-    /// then their entries against the documents before them. The store then stands for the state that the content stands for, and
-    /// nothing is pending.
+    /// Opens the index of a disk: one sync, then both slots; then what the root that counts names, in the order of [`open_levels`]: its
+    /// deletion list, its levels, the one against the other; then the journal's records of the half that the root uses, by themselves,
+    /// then their entries against the documents before them. No stream or summary is read. The store then goes on with what the content
+    /// is opened as, and nothing is pending.
     ///
     /// # Errors
     ///
     /// `NoRoot` exactly where the content has no index, and `Damaged` exactly where it has one that breaks a rule of the
-    /// format, with the first place in this order: the length of a disk that is too short, the first field of a slot that breaks its
-    /// rule, and the place in the journal. As yet a root that names a level or a deletion list is answered as damage at 0. Both
-    /// yield to `Memory`, and to `Disk` where a call of the disk failed. After each error but `Disk` the sync was done: nothing is
+    /// format, with the place of the first in that order. Both yield to `Memory`, and to `Disk` where a call of the disk failed. After each error but `Disk` the sync was done: nothing is
     /// pending, and the content is the only image. After `Disk` each image is one of those before.
     pub fn open<D: Disk>(alloc: Global, disk: &mut D) -> Result<Store, StoreFault>
         ensures agrees { IfOk result (λ store. Agrees D.tells (D.state disk.new) store) }
         ensures sound { IfOk result (λ store. is_sound store ≡ true) }
         ensures limit { OnOk result (HEAD_BYTES ≤ (D.state disk.new).limit) }
 
-        ensures stands { (s : State) → D.tells → StandsFor s (D.state disk.old).content → IfErr result IsOutside }
+        ensures opened { (o : Opened) → D.tells → IsOpened o (D.state disk.old).content → IfErr result IsOutside }
         ensures no_root { D.tells → result ≡ Err NoRoot → HasNoRoot (D.state disk.old).content }
         ensures rooted { D.tells → HasNoRoot (D.state disk.old).content → AnswersFault result NoRoot }
         ensures damaged { (place : ℕ) → D.tells → result ≡ Err (Damaged place) → IsBrokenAt (D.state disk.old).content place }
@@ -121,7 +145,8 @@ impl Store {
         ensures images { Passes Same (D.state disk.old) (D.state disk.new) }
         ensures cause { result ≡ Err DiskFault → Rose (D.state disk.old).faults (D.state disk.new).faults }
         ensures faults { (D.state disk.old).faults ≤ (D.state disk.new).faults }
-        ensures read { (D.state disk.new).taken ≤ (D.state disk.old).taken + (592 + HALF_BYTES) }
+        ensures read { D.tells → (slot : Slot) → (root : Root) → Counts slot root (D.state disk.old).content
+            → (D.state disk.new).taken ≤ (D.state disk.old).taken + (592 + named_bytes root (D.state disk.old).content + HALF_BYTES) }
         ensures same_limit { (D.state disk.new).limit ≡ (D.state disk.old).limit }
     {
         let Ok(()) = disk.sync() else {
@@ -174,10 +199,10 @@ impl Store {
         ensures read { (D.state disk.new).taken ≡ (D.state disk.old).taken }
         ensures same_limit { (D.state disk.new).limit ≡ (D.state disk.old).limit }
     {
-        if self.catalog.names.contains_key(name) {
+        if self.catalog.number_of(name).is_some() {
             return Err(StoreFault::Taken);
         }
-        if self.catalog.next >= LAST_NEXT {
+        if !self.catalog.has_room() {
             return Err(StoreFault::Numbers);
         }
         match self.commit(disk, name, title, body) {
@@ -196,14 +221,14 @@ impl Store {
     ) -> Result<u64, StoreFault>
         requires document { IsDocument name.now title.now body.now }
         requires agrees { Agrees D.tells (D.state disk.old) self.old }
-        requires free { is_some (get_by_text self.old.catalog.names name.now) ≡ false }
-        requires number { self.old.catalog.next < 4294967296 }
+        requires free { (s : State) → Knows self.old s → has_name name.now s ≡ false }
+        requires number { (s : State) → Knows self.old s → s.next < 4294967296 }
         requires limit { HEAD_BYTES ≤ (D.state disk.old).limit }
 
         ensures agrees { OnOk result (Agrees D.tells (D.state disk.new) self.new) }
         ensures stands { (s : State) → D.tells → StandsFor s (D.state disk.old).content → OnOk result (StandsFor (with_added name.now title.now body.now s) (D.state disk.new).content) }
         ensures keeps { (opened : Opened) → D.tells → IsOpened opened (D.state disk.old).content → OnOk result (IsOpened (with_entry opened (Add name.now title.now body.now)) (D.state disk.new).content × Keeps self.new (with_entry opened (Add name.now title.now body.now))) }
-        ensures number { IfOk result (λ n. n ≡ self.old.catalog.next) }
+        ensures number { (s : State) → Knows self.old s → IfOk result (λ n. n ≡ s.next) }
         ensures sound { is_sound self.new ≡ is_sound self.old }
         ensures images { (s : State) → (D.tells → StandsFor s (D.state disk.old).content) → LeavesOnly (StandsForEither s (with_added name.now title.now body.now s)) (D.state disk.old) (D.state disk.new) }
         ensures full { (need gap : ℕ) → result ≡ Err (Full need gap) → (need ≡ length (body_of (Add name.now title.now body.now))) × (gap ≡ room_of self.old) × (gap < need) }
@@ -216,7 +241,7 @@ impl Store {
         ensures read { (D.state disk.new).taken ≡ (D.state disk.old).taken }
         ensures same_limit { (D.state disk.new).limit ≡ (D.state disk.old).limit }
     {
-        let number = self.catalog.next;
+        let (_, _, number) = self.catalog.counts();
         let Ok(ready) = record_of_add(self.alloc, name, title, body) else {
             return Err(StoreFault::Memory);
         };
@@ -268,7 +293,7 @@ impl Store {
         ensures read { (D.state disk.new).taken ≡ (D.state disk.old).taken }
         ensures same_limit { (D.state disk.new).limit ≡ (D.state disk.old).limit }
     {
-        let Some(number) = self.catalog.names.get(name).copied() else {
+        let Some(number) = self.catalog.number_of(name) else {
             return Err(StoreFault::Missing);
         };
         match self.remove(disk, name, number) {
@@ -280,7 +305,7 @@ impl Store {
     // Deletes a document that was found. All memory is taken before the first write.
     fn remove<D: Disk>(&mut self, disk: &mut D, name: &str, number: u64) -> Result<(), StoreFault>
         requires agrees { Agrees D.tells (D.state disk.old) self.old }
-        requires named { get_by_text self.old.catalog.names name.now ≡ Some number }
+        requires named { (s : State) → Knows self.old s → (has_number number s ≡ true) × (without number s ≡ with_deleted name.now s) }
         requires limit { HEAD_BYTES ≤ (D.state disk.old).limit }
 
         ensures agrees { OnOk result (Agrees D.tells (D.state disk.new) self.new) }
@@ -341,35 +366,6 @@ fn half_of(slot: Slot) -> Half
     }
 }
 
-// The root that counts, if it names neither a level nor a deletion list: as yet the store opens no other.
-fn plain_root<D: Disk>(disk: &mut D) -> Result<(Half, Root), StoreFault>
-    ensures counts { D.tells → IfOk result (λ r. (slot : Slot) × Counts slot r.1 (D.state disk.old).content × (r.0 ≡ half_of slot)) }
-    ensures plain { IfOk result (λ r. IsPlain r.1) }
-    ensures kept { IfOk result (λ r. (size : ℕ) × IsSound size r.1) }
-    ensures long { OnOk result (HEAD_BYTES ≤ (D.state disk.old).limit) }
-    ensures no_root { D.tells → result ≡ Err NoRoot → HasNoRoot (D.state disk.old).content }
-    ensures damaged { D.tells → (place : ℕ) → result ≡ Err (Damaged place) → IsBrokenAt (D.state disk.old).content place }
-    ensures only { IfErr result (λ e. IsOutside e ⊎ ((e ≡ NoRoot) ⊎ ((place : ℕ) × (e ≡ Damaged place)))) }
-    ensures cause { result ≡ Err DiskFault → Rose (D.state disk.old).faults (D.state disk.new).faults }
-    ensures reads { Reads D.tells 592 (D.state disk.old) (D.state disk.new) }
-{
-    match read_roots(disk) {
-        Ok(roots) => {
-            if !is_plain(&roots.root) {
-                return Err(StoreFault::Damaged(0));
-            }
-            Ok((half_of(roots.slot), roots.root))
-        }
-        Err(fault) => Err(root_fault(fault)),
-    }
-}
-
-fn is_plain(root: &Root) -> bool
-    ensures { IsTrue result ↔ IsPlain root.now }
-{
-    root.levels.is_empty() && root.deletions.place == 0 && root.deletions.bytes == 0
-}
-
 // Reads the store that a disk holds.
 fn load<D: Disk>(alloc: Global, disk: &mut D) -> Result<Store, StoreFault>
     ensures loaded { IfOk result (λ store. D.tells → Holds store (D.state disk.old).content) }
@@ -383,25 +379,64 @@ fn load<D: Disk>(alloc: Global, disk: &mut D) -> Result<Store, StoreFault>
     ensures images { Passes Same (D.state disk.old) (D.state disk.new) }
     ensures cause { result ≡ Err DiskFault → Rose (D.state disk.old).faults (D.state disk.new).faults }
     ensures faults { (D.state disk.old).faults ≤ (D.state disk.new).faults }
-    ensures read { (D.state disk.new).taken ≤ (D.state disk.old).taken + (592 + HALF_BYTES) }
+    ensures read { D.tells → (slot : Slot) → (root : Root) → Counts slot root (D.state disk.old).content
+        → (D.state disk.new).taken ≤ (D.state disk.old).taken + (592 + named_bytes root (D.state disk.old).content + HALF_BYTES) }
     ensures same_limit { (D.state disk.new).limit ≡ (D.state disk.old).limit }
 {
-    let (half, root) = match plain_root(disk) {
-        Ok(read) => read,
-        Err(fault) => return Err(fault),
+    let roots = match read_roots(disk) {
+        Ok(roots) => roots,
+        Err(fault) => return Err(root_fault(fault)),
     };
-    let (found, tail) = match replay(alloc, disk, half) {
+    let levels = match open_levels(alloc, disk, &roots.root) {
+        Ok(levels) => levels,
+        Err(fault) => return Err(levels_fault(fault)),
+    };
+    let (found, tail) = match replay(alloc, disk, half_of(roots.slot)) {
         Ok(read) => read,
         Err(fault) => return Err(opening_fault(fault)),
     };
-    let mut catalog = Catalog::new(alloc, &root);
-    match apply_entries(alloc, &mut catalog, &found) {
-        Ok(()) => Ok(Store {
+    match catalog_of(alloc, &roots.root, levels, &found) {
+        Ok(catalog) => Ok(Store {
             alloc,
             tail,
             catalog,
             sound: true,
         }),
+        Err(fault) => Err(catalog_fault(fault)),
+    }
+}
+
+// What is known of a root's levels, and then of the entries of its journal.
+fn catalog_of(
+    alloc: Global,
+    root: &Root,
+    levels: OpenLevels,
+    found: &[Placed],
+) -> Result<Catalog, CatalogFault>
+    requires sound { (size : ℕ) × IsSound size root.now }
+    requires rows { AreDocuments (rows_in levels.levels.items) }
+    requires below { AreBelow root.now (rows_in levels.levels.items) }
+    requires rising { IsRising levels.deleted.items }
+    requires ends { have_ends levels.levels.items levels.deleted.items ≡ true }
+    requires ordered { IsOrdered (known_at root.now levels.deleted.items levels.levels.items) }
+    requires names { AreNames levels.names (live_in levels.deleted.items (rows_in levels.levels.items)) }
+    requires entries { All (λ p. IsEntry p.entry) found.now }
+    ensures knows { (s : State) → (may : MayStart s root.now levels.deleted.items levels.levels.items)
+        → IfOk result (λ catalog. AllowsAll s (entries_in found.now) × KnowsBy catalog may.olds (after_entries s (entries_in found.now))) }
+    ensures levels { IfOk result (λ catalog. levels_in catalog ≡ levels.levels.items) }
+    ensures damaged { (s : State) → MayStart s root.now levels.deleted.items levels.levels.items → All (λ p. p.place < 4294967296) found.now → (place : ℕ) → result ≡ Err (DamagedEntry place) → IsRefusedAt s found.now place }
+    ensures only { IfErr result (λ e. (e ≡ NoMemory) ⊎ ((place : ℕ) × (e ≡ DamagedEntry place))) }
+{
+    let OpenLevels {
+        deleted,
+        levels,
+        names,
+    } = levels;
+    let Ok(mut catalog) = Catalog::new(alloc, root, levels, &deleted, names) else {
+        return Err(CatalogFault::Memory);
+    };
+    match apply_entries(alloc, &mut catalog, found) {
+        Ok(()) => Ok(catalog),
         Err(fault) => Err(fault),
     }
 }

@@ -247,7 +247,7 @@ fn the_later_slot_and_its_half_count(rt: HostRuntime) -> Result<(), Fail> {
         put(&mut other, at, bytes);
         assert_eq!(rt; opened(alloc, other), want, "at {at}");
     }
-    // A deletion list is not opened as yet.
+    // The deletion list begins with a location of 0, which no list has.
     let mut listed = content.clone()?;
     listed.push(1)?;
     put(
@@ -255,7 +255,7 @@ fn the_later_slot_and_its_half_count(rt: HostRuntime) -> Result<(), Fail> {
         4_120,
         b"\0\0\0\0\0\x20\x20\0\0\0\0\0\0\0\0\x01",
     );
-    assert_eq!(rt; opened(alloc, listed), Some(StoreFault::Damaged(0)));
+    assert_eq!(rt; opened(alloc, listed), Some(StoreFault::Damaged(2_105_344)));
     Ok(())
 }
 

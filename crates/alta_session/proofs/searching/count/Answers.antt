@@ -1,17 +1,26 @@
+use Rattle.alta_compile.specs.PlanOf.{plan_of}
 use Rattle.alta_query.specs.View.{shape}
-use Rattle.alta_store.specs.Agreement.{Knows}
-use Rattle.alta_session.proofs.SearchLaws.{is_written_for, parsed, not_parsed, count_found, count_refused}
+use Rattle.alta_session.specs.Loading.{search_loads, text_loads}
+use Rattle.alta_session.specs.Searching.{IsNoQuery}
+use Rattle.alta_session.proofs.LoadingLaws.{is_query, none_loaded, queries_found, queries_idle, text_found}
+use Rattle.alta_session.proofs.SearchLaws.{parsed, not_parsed, count_found, count_refused}
 use Rattle.alta_session.proofs.searching.count.Goals as goal
 
-pub returns-in-Ok : goal.returns-in-Ok
-returns-in-Ok c = λ s knows. record {
-  reply = count_found c.written.result c.args.text.now s.documents (shape c.in-Ok.query) (parsed c.parse.result c.in-Ok.query c.args.text.now c.in-Ok.is c.parse.ensures.reading)
-      (is_written_for (Knows c.args.store.now) c.written.result c.counted.result _ c.written.ensures.reply c.counted.ensures s knows);
-  memory = c.written.ensures.memory;
-}
+pub returns-in-Ok-clause-reply : goal.returns-in-Ok-clause-reply
+returns-in-Ok-clause-reply g c = λ s tell stands.
+    count_found c.counted.result c.args.text.now s.documents (shape c.in-Ok.query) (parsed c.parse.result c.in-Ok.query c.args.text.now c.in-Ok.is c.parse.ensures.reading) (c.counted.ensures.reply s tell stands)
 
-pub returns-in-Err : goal.returns-in-Err
-returns-in-Err c = λ s knows. record {
-  reply = count_refused c.refused.result c.args.text.now s.documents c.in-Err.fault (not_parsed c.parse.result c.in-Err.fault c.args.text.now c.in-Err.is c.parse.ensures.reading) c.refused.ensures.reply c.refused.ensures.wanting;
-  memory = c.refused.ensures.memory;
-}
+pub returns-in-Ok-clause-queries : goal.returns-in-Ok-clause-queries
+returns-in-Ok-clause-queries g c =
+    let is = parsed c.parse.result c.in-Ok.query c.args.text.now c.in-Ok.is c.parse.ensures.reading in
+    queries_found g.D.Disk.tells g.D.Disk.state c.args.disk.now c.counted.new.disk (search_loads c.args.store.now (plan_of (shape c.in-Ok.query))) (text_loads c.args.store.now c.args.text.now) (IsNoQuery c.args.text.now) c.counted.result
+    (text_found c.args.store.now c.args.text.now (shape c.in-Ok.query) is) (is_query c.args.text.now (shape c.in-Ok.query) is) c.counted.ensures.queries
+
+pub returns-in-Err-clause-reply : goal.returns-in-Err-clause-reply
+returns-in-Err-clause-reply g c = λ s tell stands.
+    count_refused c.refused.result c.args.text.now s.documents c.in-Err.fault (not_parsed c.parse.result c.in-Err.fault c.args.text.now c.in-Err.is c.parse.ensures.reading) c.refused.ensures.reply c.refused.ensures.wanting
+
+pub returns-in-Err-clause-queries : goal.returns-in-Err-clause-queries
+returns-in-Err-clause-queries g c =
+    queries_idle g.D.Disk.tells g.D.Disk.state c.args.disk.now (text_loads c.args.store.now c.args.text.now) (IsNoQuery c.args.text.now) c.refused.result c.refused.ensures.memory
+    (none_loaded c.args.store.now c.args.text.now c.in-Err.fault c.refused.result (not_parsed c.parse.result c.in-Err.fault c.args.text.now c.in-Err.is c.parse.ensures.reading) c.refused.ensures.wanting)

@@ -1,12 +1,26 @@
-use Rattle.std.proofs.Common.{◌++◌, ℕ, List, ap, ◌∙◌}
+use Rattle.std.proofs.Common.{◌++◌, ℕ, List, length}
+use Rattle.alta_compile.specs.PlanOf.{plan_of}
+use Rattle.alta_compile.specs.View.{tree}
+use Rattle.alta_meta.specs.declared.document.Document.{Document}
 use Rattle.alta_model.specs.Deciding.{answers}
 use Rattle.alta_query.specs.View.{shape}
+use Rattle.alta_search.specs.Documents.{AreToCome}
+use Rattle.alta_session.specs.Loading.{search_loads}
 use Rattle.alta_session.specs.Searching.{found_line}
-use Rattle.alta_session.proofs.SearchLaws.{counted_are}
+use Rattle.alta_session.proofs.LoadingLaws.{queries_failed, queries_loaded}
+use Rattle.alta_session.proofs.SearchLaws.{is_written_for, other_written}
 use Rattle.alta_session.proofs.searching.counted.Goals as goal
 
-pub returns : goal.returns
-returns c = λ s knows.
-    let to_come = c.in_ok-snapshot.ensures.answers s (shape c.args.query.now) knows c.in_ok-plan.ensures.plan in
-    counted_are _ c.in_ok-count.count _ (answers s.documents (shape c.args.query.now)) (c.in_ok-count.ensures to_come.space to_come.shows) to_come.answers
-    (c.in_ok-put_count.ensures ∙ ap (λ (l : List ℕ). l ++ found_line c.in_ok-count.count) c.new-reply.ensures.bytes)
+pub returns-in-Ok-clause-reply : goal.returns-in-Ok-clause-reply
+returns-in-Ok-clause-reply g c = λ s tell stands.
+    is_written_for (λ (documents : List Document). AreToCome (tree c.in-Ok.plan) c.in-Ok.snapshot 0 documents) c.written.result c.all_counted.result (λ (documents : List Document). found_line (length documents))
+    c.written.ensures.reply c.all_counted.ensures.lines (answers s.documents (shape c.args.query.now)) (c.in-Ok.ensures.answers s tell stands)
+
+pub returns-in-Ok-clause-queries : goal.returns-in-Ok-clause-queries
+returns-in-Ok-clause-queries g c =
+    queries_loaded g.D.Disk.tells g.D.Disk.state c.args.disk.now c.planned.new.disk (search_loads c.args.store.now (plan_of (shape c.args.query.now))) _ c.written.result c.in-Ok.ensures.loads c.written.ensures.memory
+    (other_written c.written.result c.all_counted.result c.written.ensures.reply c.all_counted.ensures.other)
+
+pub returns-in-Err-clause-queries : goal.returns-in-Err-clause-queries
+returns-in-Err-clause-queries g c =
+    queries_failed g.D.Disk.tells g.D.Disk.state c.args.disk.now c.planned.new.disk (search_loads c.args.store.now (plan_of (shape c.args.query.now))) c.in-Err.fault c.in-Err.ensures.loads c.in-Err.ensures.undamaged

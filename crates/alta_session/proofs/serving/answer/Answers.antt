@@ -1,12 +1,12 @@
 use Rattle.std.proofs.Common.{◌≡◌, ◌+◌, ℕ, List, length, ap, sym, subst, ◌∙◌, Result, Ok, Err, arith}
 use Rattle.alta_session.specs.Answering.{Answers}
 use Rattle.alta_session.specs.Machine.{step}
-use Rattle.alta_session.specs.declared.status.Status.TheVariants.{DiskFault, GiveFault, Full as StatusFull}
+use Rattle.alta_session.specs.declared.status.Status.TheVariants.{Damaged as StatusDamaged, DiskFault, GiveFault, Full as StatusFull}
 use Rattle.alta_session.proofs.FedLaws.{fed_line, stops_line, stops_unanswered}
 use Rattle.alta_session.proofs.FullnessLaws.{record_is}
-use Rattle.alta_session.proofs.StatusLaws.{line_ends, line_ends_run, status_full, status_disk}
+use Rattle.alta_session.proofs.StatusLaws.{line_ends, line_ends_run, status_damaged, status_full, status_disk}
 use Rattle.alta_store.specs.declared.fault.StoreFault.{StoreFault}
-use Rattle.alta_store.specs.declared.fault.StoreFault.TheVariants.{Full}
+use Rattle.alta_store.specs.declared.fault.StoreFault.TheVariants.{Damaged, Full}
 use Rattle.alta_session.proofs.serving.answer.Goals as goal
 
 -- the line was not answered
@@ -26,11 +26,17 @@ returns-in-Err-clause-err g c =
     let failed : c.line.result ≡ Err (Full need gap) = c.in-Err.is ∙ ap Err (status_full _ c.in-Err.fault need gap c.status_of.ensures is) in
     let found = (c.line.ensures.answers.from m tell agrees).need need gap failed in
     (found.0 ∙ sym (record_is m c.args.line.now), found.1, (c.line.ensures.answers.full need gap tell failed).short))
+    (λ m place tell agrees is. (c.line.ensures.answers.from m tell agrees).undamaged place (c.in-Err.is ∙ ap Err (status_damaged _ c.in-Err.fault place c.status_of.ensures is)))
 
 pub returns-in-Err-clause-full : goal.returns-in-Err-clause-full
 returns-in-Err-clause-full g c = λ need gap tell is.
     let same : c.status_of.result ≡ StatusFull need gap = cc in
     c.line.ensures.answers.full need gap tell (c.in-Err.is ∙ ap Err (status_full _ c.in-Err.fault need gap c.status_of.ensures same))
+
+pub returns-in-Err-clause-broken : goal.returns-in-Err-clause-broken
+returns-in-Err-clause-broken g c = λ place tell is.
+    let same : c.status_of.result ≡ StatusDamaged place = cc in
+    c.line.ensures.answers.broken place tell (c.in-Err.is ∙ ap Err (status_damaged _ c.in-Err.fault place c.status_of.ensures same))
 
 pub returns-in-Err-clause-disk_fault : goal.returns-in-Err-clause-disk_fault
 returns-in-Err-clause-disk_fault g c = λ is.
@@ -71,7 +77,7 @@ returns-clause-err g c =
     stops_line g.D.Disk.tells (g.C.Console.told c.args.console.now) (g.C.Console.told c.give_all.new.console) (g.D.Disk.state c.args.disk.now) (g.D.Disk.state c.line.new.disk) c.args.session.now c.args.line.now part.0 GiveFault
     (g.met.D.Disk.lawful c.line.new.disk) part.4
     (λ m tell agrees. (part.1, sym (c.as_bytes.ensures.value ∙ c.as_str.ensures ∙ (answers.from m tell agrees).reply) ∙ part.2, part.3))
-    (λ m tell agrees. (answers.from m tell agrees).images) (λ m tell agrees need gap is. absurd cc)
+    (λ m tell agrees. (answers.from m tell agrees).images) (λ m tell agrees need gap is. absurd cc) (λ m place tell agrees is. absurd cc)
 
 pub returns-clause-disk_count : goal.returns-clause-disk_count
 returns-clause-disk_count g c = c.line.ensures.answers.faults

@@ -32,6 +32,7 @@ takes-init g c =
 pub returns-in-Err-clause-run : goal.returns-in-Err-clause-run
 returns-in-Err-clause-run g c =
     runs_failed g.D.Disk.tells c.args.limit _ _ _ _ _ _ _ _ _ c.takes.session c.takes.begun.items c.takes.taken _ (g.met.D.Disk.lawful c.takes.disk) c.takes.invariant.goes c.in-Err.ensures.not_told c.in-Err.ensures.input_kept (λ same. cc) (λ same. cc) (λ need gap same. cc)
+    (λ place same. cc)
 
 pub returns-in-Ok-finish-clause-run : goal.returns-in-Ok-finish-clause-run
 returns-in-Ok-finish-clause-run g c =
@@ -83,3 +84,9 @@ returns-in-Err-finish-clause-full g c = λ need gap tell is. c.finish.ensures.fu
 
 pub returns-in-Err-feed-clause-full : goal.returns-in-Err-feed-clause-full
 returns-in-Err-feed-clause-full g c = λ need gap tell is. c.feed.ensures.full need gap tell (c.in-Err-feed.is ∙ ap Err is)
+
+pub returns-in-Err-finish-clause-broken : goal.returns-in-Err-finish-clause-broken
+returns-in-Err-finish-clause-broken g c = λ place tell is. c.finish.ensures.broken place tell (c.in-Err-finish.is ∙ ap Err is)
+
+pub returns-in-Err-feed-clause-broken : goal.returns-in-Err-feed-clause-broken
+returns-in-Err-feed-clause-broken g c = λ place tell is. c.feed.ensures.broken place tell (c.in-Err-feed.is ∙ ap Err is)

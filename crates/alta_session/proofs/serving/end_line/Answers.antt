@@ -8,6 +8,7 @@ use Rattle.alta_session.proofs.serving.end_line.Goals as goal
 
 pub returns-in-Err-clause-err : goal.returns-in-Err-clause-err
 returns-in-Err-clause-err g c = stops_none g.D.Disk.tells (g.C.Console.told c.args.console.now) (g.D.Disk.state c.args.disk.now) c.args.session.now _ c.in-Err.status (g.met.D.Disk.lawful c.args.disk.now) (λ need gap is. let memory : c.in-Err.status ≡ Memory = c.in-Err.ensures.memory in cc)
+    (λ place is. let memory : c.in-Err.status ≡ Memory = c.in-Err.ensures.memory in cc)
 
 pub answer-requires-2-clause-one_line : goal.answer-requires-2-clause-one_line
 answer-requires-2-clause-one_line g c =

@@ -1,5 +1,5 @@
 use Rattle.std.proofs.Common.{◌≡◌, ◌∙◌, refl, ap, Err, rules, arith}
-use Rattle.alta_session.specs.declared.status.Status.TheVariants.{Full}
+use Rattle.alta_session.specs.declared.status.Status.TheVariants.{Damaged, Full}
 use Rattle.alta_session.proofs.FedLaws.{fed_none}
 use Rattle.alta_session.proofs.FeedLaws.{feed_on, kept_on, feed_stops}
 use Rattle.alta_session.proofs.serving.feed.Goals as goal
@@ -41,3 +41,8 @@ pub returns-in-Err-clause-full : goal.returns-in-Err-clause-full
 returns-in-Err-clause-full g c = λ need gap tell is.
     let same : c.in-Err.status ≡ Full need gap = cc in
     c.feed_line.ensures.full need gap tell (c.in-Err.is ∙ ap Err same)
+
+pub returns-in-Err-clause-broken : goal.returns-in-Err-clause-broken
+returns-in-Err-clause-broken g c = λ place tell is.
+    let same : c.in-Err.status ≡ Damaged place = cc in
+    c.feed_line.ensures.broken place tell (c.in-Err.is ∙ ap Err same)

@@ -1,6 +1,6 @@
 use Rattle.std.proofs.Common.{◌≡◌, ◌++◌, ◌∙◌, length, ap, sym, subst, Err, arith}
 use Rattle.alta_console.specs.Lines.{NoNewline}
-use Rattle.alta_session.specs.declared.status.Status.TheVariants.{Full, Memory}
+use Rattle.alta_session.specs.declared.status.Status.TheVariants.{Damaged, Full, Memory}
 use Rattle.alta_session.proofs.FedLaws.{stops_none}
 use Rattle.alta_session.proofs.FeedLaws.{fed_free, kept_free, fed_ended, kept_ended, stops_ended}
 use Rattle.alta_session.proofs.KeepingLaws.{clip_short, free_clip, free_append, no_newline_found, newline_found}
@@ -24,6 +24,7 @@ returns-in-Ok-clause-free g c =
 
 pub returns-in-Err-clause-err : goal.returns-in-Err-clause-err
 returns-in-Err-clause-err g c = stops_none g.D.Disk.tells (g.C.Console.told c.args.console.now) (g.D.Disk.state c.args.disk.now) c.args.session.now _ c.in-Err.status (g.met.D.Disk.lawful c.args.disk.now) (λ need gap is. let memory : c.in-Err.status ≡ Memory = c.in-Err.ensures.memory in cc)
+    (λ place is. let memory : c.in-Err.status ≡ Memory = c.in-Err.ensures.memory in cc)
 
 pub returns-in-Ok-end_line-clause-ok : goal.returns-in-Ok-end_line-clause-ok
 returns-in-Ok-end_line-clause-ok g c = fed_ended g.D.Disk.tells _ _ _ _ _ _ c.args.begun.now.items c.args.bytes.now c.in-Some.n (newline_found c.in-Some.n c.args.bytes.now c.in-Some.ensures) c.in-Ok-end_line.ensures.ok
@@ -38,3 +39,8 @@ pub returns-in-Err-end_line-clause-full : goal.returns-in-Err-end_line-clause-fu
 returns-in-Err-end_line-clause-full g c = λ need gap tell is.
     let same : c.in-Err-end_line.status ≡ Full need gap = cc in
     c.end_line.ensures.full need gap tell (c.in-Err-end_line.is ∙ ap Err same)
+
+pub returns-in-Err-end_line-clause-broken : goal.returns-in-Err-end_line-clause-broken
+returns-in-Err-end_line-clause-broken g c = λ place tell is.
+    let same : c.in-Err-end_line.status ≡ Damaged place = cc in
+    c.end_line.ensures.broken place tell (c.in-Err-end_line.is ∙ ap Err same)

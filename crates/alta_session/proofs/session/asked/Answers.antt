@@ -5,7 +5,7 @@ use Rattle.alta_model.specs.declared.line.Line.{Line}
 use Rattle.alta_model.specs.declared.line.Line.TheVariants.{Add, Delete, Search, Count, Explain, OpenCursor, Fetch, Close, Stats}
 use Rattle.alta_model.specs.declared.line.LineFault.TheVariants.{TooLong, NotUtf8, Unknown, Bad}
 use Rattle.alta_session.proofs.AddingLaws.{line_is_document}
-use Rattle.alta_session.proofs.AskLaws.{step_other, step_asks, step_refuses, reading_is, record_of_line}
+use Rattle.alta_session.proofs.AskLaws.{IsOther, none_searched, refused_searched, step_other, step_asks, step_refuses, reading_is, record_of_line}
 use Rattle.alta_session.proofs.session.asked.Goals as goal
 
 pub returns-in-Add : goal.returns-in-Add
@@ -25,29 +25,50 @@ returns-in-Delete c = (
 )
 
 pub returns-in-Search : goal.returns-in-Search
-returns-in-Search c = step_asks c.args.bytes.now c.in-Ok.line (Search c.in-Search.text) c.in-Ok.ensures.reading c.in-Search.is
+returns-in-Search c = (
+  step_asks c.args.bytes.now c.in-Ok.line (Search c.in-Search.text) c.in-Ok.ensures.reading c.in-Search.is,
+  reading_is c.args.bytes.now c.in-Ok.line (Search c.in-Search.text) c.in-Ok.ensures.reading c.in-Search.is,
+)
 
 pub returns-in-Count : goal.returns-in-Count
-returns-in-Count c = step_asks c.args.bytes.now c.in-Ok.line (Count c.in-Count.text) c.in-Ok.ensures.reading c.in-Count.is
+returns-in-Count c = (
+  step_asks c.args.bytes.now c.in-Ok.line (Count c.in-Count.text) c.in-Ok.ensures.reading c.in-Count.is,
+  reading_is c.args.bytes.now c.in-Ok.line (Count c.in-Count.text) c.in-Ok.ensures.reading c.in-Count.is,
+)
 
 pub returns-in-Explain : goal.returns-in-Explain
-returns-in-Explain c = step_asks c.args.bytes.now c.in-Ok.line (Explain c.in-Explain.text) c.in-Ok.ensures.reading c.in-Explain.is
+returns-in-Explain c = (
+  step_asks c.args.bytes.now c.in-Ok.line (Explain c.in-Explain.text) c.in-Ok.ensures.reading c.in-Explain.is,
+  reading_is c.args.bytes.now c.in-Ok.line (Explain c.in-Explain.text) c.in-Ok.ensures.reading c.in-Explain.is,
+)
 
 pub returns-in-OpenCursor : goal.returns-in-OpenCursor
-returns-in-OpenCursor c = step_asks c.args.bytes.now c.in-Ok.line (OpenCursor c.in-OpenCursor.text) c.in-Ok.ensures.reading c.in-OpenCursor.is
+returns-in-OpenCursor c = (
+  step_asks c.args.bytes.now c.in-Ok.line (OpenCursor c.in-OpenCursor.text) c.in-Ok.ensures.reading c.in-OpenCursor.is,
+  reading_is c.args.bytes.now c.in-Ok.line (OpenCursor c.in-OpenCursor.text) c.in-Ok.ensures.reading c.in-OpenCursor.is,
+)
 
 pub returns-in-Fetch : goal.returns-in-Fetch
-returns-in-Fetch c = step_asks c.args.bytes.now c.in-Ok.line (Fetch c.in-Fetch.cursor c.in-Fetch.count) c.in-Ok.ensures.reading c.in-Fetch.is
+returns-in-Fetch c = (
+  step_asks c.args.bytes.now c.in-Ok.line (Fetch c.in-Fetch.cursor c.in-Fetch.count) c.in-Ok.ensures.reading c.in-Fetch.is,
+  reading_is c.args.bytes.now c.in-Ok.line (Fetch c.in-Fetch.cursor c.in-Fetch.count) c.in-Ok.ensures.reading c.in-Fetch.is,
+)
 
 pub returns-in-Close : goal.returns-in-Close
-returns-in-Close c = step_asks c.args.bytes.now c.in-Ok.line (Close c.in-Close.cursor) c.in-Ok.ensures.reading c.in-Close.is
+returns-in-Close c = (
+  step_asks c.args.bytes.now c.in-Ok.line (Close c.in-Close.cursor) c.in-Ok.ensures.reading c.in-Close.is,
+  reading_is c.args.bytes.now c.in-Ok.line (Close c.in-Close.cursor) c.in-Ok.ensures.reading c.in-Close.is,
+)
 
 pub returns-in-Stats : goal.returns-in-Stats
-returns-in-Stats c = step_asks c.args.bytes.now c.in-Ok.line Stats c.in-Ok.ensures.reading c.in-Stats.is
+returns-in-Stats c = (
+  step_asks c.args.bytes.now c.in-Ok.line Stats c.in-Ok.ensures.reading c.in-Stats.is,
+  reading_is c.args.bytes.now c.in-Ok.line Stats c.in-Ok.ensures.reading c.in-Stats.is,
+)
 
 pub returns-in_default : goal.returns-in_default
 returns-in_default c =
-    step_other c.args.bytes.now c.in-Ok.line c.in-Ok.ensures.reading (record {
+    let other : IsOther c.in-Ok.line = record {
       adds = c.in_default.not-Add;
       deletes = c.in_default.not-Delete;
       searches = c.in_default.not-Search;
@@ -57,16 +78,29 @@ returns-in_default c =
       fetches = c.in_default.not-Fetch;
       closes = c.in_default.not-Close;
       asks_stats = c.in_default.not-Stats;
-    })
+    } in
+    (step_other c.args.bytes.now c.in-Ok.line c.in-Ok.ensures.reading other, none_searched c.args.bytes.now c.in-Ok.line c.in-Ok.ensures.reading other)
 
 pub returns-in-Err-TooLong : goal.returns-in-Err-TooLong
-returns-in-Err-TooLong c = step_refuses c.args.bytes.now c.in-Err-TooLong.field-0 TooLong c.in-Err-TooLong.ensures.reading c.in-Err-TooLong.field-0-is
+returns-in-Err-TooLong c = (
+  step_refuses c.args.bytes.now c.in-Err-TooLong.field-0 TooLong c.in-Err-TooLong.ensures.reading c.in-Err-TooLong.field-0-is,
+  refused_searched c.args.bytes.now c.in-Err-TooLong.field-0 c.in-Err-TooLong.ensures.reading,
+)
 
 pub returns-in-Err-NotUtf8 : goal.returns-in-Err-NotUtf8
-returns-in-Err-NotUtf8 c = step_refuses c.args.bytes.now c.in-Err-NotUtf8.field-0 NotUtf8 c.in-Err-NotUtf8.ensures.reading c.in-Err-NotUtf8.field-0-is
+returns-in-Err-NotUtf8 c = (
+  step_refuses c.args.bytes.now c.in-Err-NotUtf8.field-0 NotUtf8 c.in-Err-NotUtf8.ensures.reading c.in-Err-NotUtf8.field-0-is,
+  refused_searched c.args.bytes.now c.in-Err-NotUtf8.field-0 c.in-Err-NotUtf8.ensures.reading,
+)
 
 pub returns-in-Err-Unknown : goal.returns-in-Err-Unknown
-returns-in-Err-Unknown c = step_refuses c.args.bytes.now c.in-Err-Unknown.field-0 Unknown c.in-Err-Unknown.ensures.reading c.in-Err-Unknown.field-0-is
+returns-in-Err-Unknown c = (
+  step_refuses c.args.bytes.now c.in-Err-Unknown.field-0 Unknown c.in-Err-Unknown.ensures.reading c.in-Err-Unknown.field-0-is,
+  refused_searched c.args.bytes.now c.in-Err-Unknown.field-0 c.in-Err-Unknown.ensures.reading,
+)
 
 pub returns-in-Err-Bad : goal.returns-in-Err-Bad
-returns-in-Err-Bad c = step_refuses c.args.bytes.now c.in-Err-Bad.field-0 Bad c.in-Err-Bad.ensures.reading c.in-Err-Bad.field-0-is
+returns-in-Err-Bad c = (
+  step_refuses c.args.bytes.now c.in-Err-Bad.field-0 Bad c.in-Err-Bad.ensures.reading c.in-Err-Bad.field-0-is,
+  refused_searched c.args.bytes.now c.in-Err-Bad.field-0 c.in-Err-Bad.ensures.reading,
+)

@@ -1,5 +1,5 @@
 use Rattle.std.proofs.Common.{◌≡◌, ◌≢◌, ℕ, List, [], ◌∷◌, length, codes, refl, ap, sym, ◌∙◌, rules, arith}
-use Rattle.alta_session.proofs.StatusLaws.{init_opened, opened_not, init_never}
+use Rattle.alta_session.proofs.StatusLaws.{init_opened, init_never}
 use Rattle.alta_session.proofs.top.alta.Goals as goal
 
 abbrev first_length : List (List ℕ) → ℕ
@@ -29,9 +29,9 @@ returns-then-is_word g c =
       never_exists = λ run is. other run;
       no_root = λ tell is. absurd ((init_opened c.init.result c.init.ensures.ends).rooted is);
       rooted = λ run tell none. absurd (other run);
-      damaged = λ place tell is. absurd ((init_opened c.init.result c.init.ensures.ends).whole place is);
       undamaged = λ place run tell broken. absurd (other run);
-      unopened = λ is. absurd (opened_not c.init.result (init_opened c.init.result c.init.ensures.ends) is);
+      unopened = λ is. absurd ((init_opened c.init.result c.init.ensures.ends).rooted is);
+      damaged = λ place is. absurd ((init_opened c.init.result c.init.ensures.ends).whole place is);
       stands = λ s tell stands. init_opened c.init.result c.init.ensures.ends;
       full = λ need gap run tell is. absurd (other run);
       complete = λ s run tell stands takes gives disk. absurd (other run);
@@ -89,9 +89,9 @@ returns g c =
       never_exists = λ run is. run_not run;
       no_root = λ tell is. absurd cc;
       rooted = λ run tell none. absurd (run_not run);
-      damaged = λ place tell is. absurd cc;
       undamaged = λ place run tell broken. absurd (run_not run);
-      unopened = λ is. absurd (opened_not _ (record { rooted = λ none. cc; whole = λ place broken. cc }) is);
+      unopened = λ is. absurd cc;
+      damaged = λ place is. absurd cc;
       stands = λ s tell stands. record { rooted = λ is. cc; whole = λ place is. cc };
       full = λ need gap run tell is. absurd (run_not run);
       complete = λ s run tell stands takes gives disk. absurd (run_not run);

@@ -1,7 +1,7 @@
 use Rattle.std.proofs.Common.{sym, subst}
 use Rattle.alta_disk.proofs.Moments.{stands_only}
 use Rattle.alta_journal.specs.declared.places.TheConstants.{HEAD_BYTES}
-use Rattle.alta_store.specs.Meaning.{StandsFor}
+use Rattle.alta_images.specs.Standing.{StandsFor}
 use Rattle.alta_store.specs.Clearing.{IsClear}
 use Rattle.alta_images.specs.States.{empty}
 use Rattle.alta_store.proofs.Formatted.{stands}

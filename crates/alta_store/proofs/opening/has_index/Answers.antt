@@ -1,4 +1,4 @@
-use Rattle.alta_store.proofs.Plain.{counts_rooted, damaged_rooted, is_none, is_there, shown_none}
+use Rattle.alta_store.proofs.Reading.{counts_rooted, damaged_rooted, is_none, is_there, shown_none}
 use Rattle.alta_store.proofs.opening.has_index.Goals as goal
 
 pub returns-in-Ok-clause-found : goal.returns-in-Ok-clause-found

@@ -1,49 +1,77 @@
-use Rattle.std.proofs.Common.{◌≡◌, List, ℕ, ap, subst, ◌∙◌, sym}
+use Rattle.std.proofs.Common.{◌≡◌, List, ℕ, ap, subst, ◌∙◌, sym, arith}
 use Rattle.std.specs.Prelude.{Err}
+use Rattle.alta_catalog.proofs.MayLaws.{may_start}
+use Rattle.alta_images.specs.Broken.{HasLevels, IsBrokenAt}
+use Rattle.alta_images.specs.Opened.{half_of, journal_of}
 use Rattle.alta_journal.specs.Journal.{IsBroken}
 use Rattle.alta_journal.specs.Placed.{IsReplay}
 use Rattle.alta_journal.specs.Places.{start_of}
-use Rattle.alta_journal.specs.declared.placed.Placed.{Placed}
 use Rattle.alta_journal.specs.declared.half.Half.{Half}
-use Rattle.alta_images.specs.Opened.{half_of, journal_of}
-use Rattle.alta_images.specs.Views.{start_at}
-use Rattle.alta_store.proofs.Loads.{small_places, loads, damaged_record, refused_entry, of_damaged, same_error}
+use Rattle.alta_journal.specs.declared.placed.Placed.{Placed}
+use Rattle.alta_root.specs.Slots.{Counts}
+use Rattle.alta_store.specs.Agreement.{Holds}
+use Rattle.alta_store.proofs.Loads.{damaged_record, loads, of_catalog_damaged, of_damaged, of_levels_damaged, of_root_damaged, refused_entry, same_error, small_places}
+use Rattle.alta_store.proofs.Reading.{shown_broken}
 use Rattle.alta_store.proofs.store.load.Goals as goal
+
+pub returns-in-Err-clause-damaged : goal.returns-in-Err-clause-damaged
+returns-in-Err-clause-damaged g c = λ told place e.
+    shown_broken (g.D.Disk.state c.args.disk.now).content c.in-Err.fault place (of_root_damaged c.in-Err.fault place (sym c.root_fault.ensures ∙ same_error _ _ e)) (c.in-Err.ensures.answer told)
+
+pub returns-in-Err-open_levels-clause-damaged : goal.returns-in-Err-open_levels-clause-damaged
+returns-in-Err-open_levels-clause-damaged g c = λ told place e.
+    let counts = subst (Counts c.in-Ok.roots.slot c.in-Ok.roots.root) (sym (c.read_roots.ensures.reads.content told)) (c.in-Ok.ensures.counts told) in
+    subst (λ (image : List ℕ). IsBrokenAt image place) (c.read_roots.ensures.reads.content told)
+    (c.in-Err-open_levels.ensures.damaged told c.in-Ok.roots.slot counts place
+    (ap Err (of_levels_damaged c.in-Err-open_levels.fault place (sym c.levels_fault.ensures ∙ same_error _ _ e))))
 
 pub returns-in-Err-replay-clause-damaged : goal.returns-in-Err-replay-clause-damaged
 returns-in-Err-replay-clause-damaged g c = λ told place e.
-    let (slot, counts, half) = c.in-Ok.ensures.counts told in
-    damaged_record (g.D.Disk.state c.args.disk.now).content slot c.in-Ok.read.1 counts c.in-Ok.ensures.plain place
-    (subst (λ (image : List ℕ). IsBroken (journal_of slot) place image) (c.plain_root.ensures.reads.content told)
-    (subst (λ (h : Half). IsBroken (start_of h) place (g.D.Disk.state c.plain_root.new.disk).content) half
-    (c.in-Err-replay.ensures.damaged told place (of_damaged c.in-Err-replay.fault place (sym c.opening_fault.ensures ∙ same_error _ _ e)))))
+    let slot = c.in-Ok.roots.slot in
+    let root = c.in-Ok.roots.root in
+    let middle = (g.D.Disk.state c.read_roots.new.disk).content in
+    let counts = subst (Counts slot root) (sym (c.read_roots.ensures.reads.content told)) (c.in-Ok.ensures.counts told) in
+    let has = c.in-Ok-open_levels.ensures.levels told slot counts in
+    subst (λ (image : List ℕ). IsBrokenAt image place) (c.read_roots.ensures.reads.content told)
+    (damaged_record middle slot root _ _ has c.in-Ok-open_levels.ensures.ends place
+    (subst (λ (image : List ℕ). IsBroken (journal_of slot) place image) (c.open_levels.ensures.reads.content told)
+    (subst (λ (h : Half). IsBroken (start_of h) place (g.D.Disk.state c.open_levels.new.disk).content) c.half_of.ensures
+    (c.in-Err-replay.ensures.damaged told place (of_damaged c.in-Err-replay.fault place (sym c.opening_fault.ensures ∙ same_error _ _ e))))))
 
-pub returns-in-Ok-apply_entries-clause-loaded : goal.returns-in-Ok-apply_entries-clause-loaded
-returns-in-Ok-apply_entries-clause-loaded g c = λ told.
+pub returns-in-Ok-catalog_of-clause-loaded : goal.returns-in-Ok-catalog_of-clause-loaded
+returns-in-Ok-catalog_of-clause-loaded g c = λ told.
+    let slot = c.in-Ok.roots.slot in
+    let root = c.in-Ok.roots.root in
     let found = c.deref.result.now in
-    let (slot, counts, half) = c.in-Ok.ensures.counts told in
-    loads (g.D.Disk.state c.args.disk.now).content slot c.in-Ok.read.1 counts c.in-Ok.ensures.plain _ found (c.in-Ok-replay.ensures.half ∙ half)
-    (subst (λ (image : List ℕ). IsReplay (journal_of slot) found c.in-Ok-replay.read.1.place image) (c.plain_root.ensures.reads.content told)
-    (subst (λ (h : Half). IsReplay (start_of h) found c.in-Ok-replay.read.1.place (g.D.Disk.state c.plain_root.new.disk).content) half
-    (subst (λ (xs : List Placed). IsReplay (start_of c.in-Ok.read.0) xs c.in-Ok-replay.read.1.place (g.D.Disk.state c.plain_root.new.disk).content) (sym c.deref.ensures.value) (c.in-Ok-replay.ensures.read told))))
-    (c.in-Ok-apply_entries.ensures.applied (start_at c.in-Ok.read.1.next_number) c.new-catalog.ensures)
+    let middle = (g.D.Disk.state c.read_roots.new.disk).content in
+    let counts = subst (Counts slot root) (sym (c.read_roots.ensures.reads.content told)) (c.in-Ok.ensures.counts told) in
+    let has = c.in-Ok-open_levels.ensures.levels told slot counts in
+    subst (Holds _) (c.read_roots.ensures.reads.content told)
+    (loads middle slot root _ _ has c.in-Ok-open_levels.ensures.ends _ found (c.in-Ok-replay.ensures.half ∙ c.half_of.ensures) c.in-Ok-catalog_of.ensures.levels c.in-Ok-open_levels.ensures.extents
+    (subst (λ (image : List ℕ). IsReplay (journal_of slot) found c.in-Ok-replay.read.1.place image) (c.open_levels.ensures.reads.content told)
+    (subst (λ (h : Half). IsReplay (start_of h) found c.in-Ok-replay.read.1.place (g.D.Disk.state c.open_levels.new.disk).content) c.half_of.ensures
+    (subst (λ (xs : List Placed). IsReplay (start_of c.half_of.result) xs c.in-Ok-replay.read.1.place (g.D.Disk.state c.open_levels.new.disk).content) (sym c.deref.ensures.value) (c.in-Ok-replay.ensures.read told))))
+    c.in-Ok-catalog_of.ensures.knows)
+
+pub returns-in-Ok-catalog_of-clause-intact : goal.returns-in-Ok-catalog_of-clause-intact
+returns-in-Ok-catalog_of-clause-intact g c =
+    let some = may_start c.in-Ok.roots.root c.in-Ok-open_levels.levels.deleted.items c.in-Ok-open_levels.levels.levels.items in
+    (_, (c.in-Ok-catalog_of.ensures.knows some.0 some.1).1.0)
 
 pub returns-clause-damaged : goal.returns-clause-damaged
 returns-clause-damaged g c = λ told place e.
-    let n = c.in-Ok.read.1.next_number in
+    let slot = c.in-Ok.roots.slot in
+    let root = c.in-Ok.roots.root in
     let found = c.deref.result.now in
-    let content = (g.D.Disk.state c.args.disk.now).content in
-    let (slot, counts, half) = c.in-Ok.ensures.counts told in
-    let replay : IsReplay (journal_of slot) found c.in-Ok-replay.read.1.place content =
-    subst (λ (image : List ℕ). IsReplay (journal_of slot) found c.in-Ok-replay.read.1.place image) (c.plain_root.ensures.reads.content told)
-    (subst (λ (h : Half). IsReplay (start_of h) found c.in-Ok-replay.read.1.place (g.D.Disk.state c.plain_root.new.disk).content) half
-    (subst (λ (xs : List Placed). IsReplay (start_of c.in-Ok.read.0) xs c.in-Ok-replay.read.1.place (g.D.Disk.state c.plain_root.new.disk).content) (sym c.deref.ensures.value) (c.in-Ok-replay.ensures.read told))) in
-    refused_entry content slot c.in-Ok.read.1 counts c.in-Ok.ensures.plain found place c.in-Ok-replay.read.1.place replay
-    (c.in-Err-apply_entries.ensures.damaged (start_at n) c.new-catalog.ensures
-    (small_places slot found c.in-Ok-replay.read.1.place content replay) place (ap Err (same_error _ _ e)))
-
-pub returns-in-Ok-apply_entries-clause-intact : goal.returns-in-Ok-apply_entries-clause-intact
-returns-in-Ok-apply_entries-clause-intact g c = (_, (c.in-Ok-apply_entries.ensures.applied (start_at c.in-Ok.read.1.next_number) c.new-catalog.ensures).1)
-
-pub returns-in-Err-clause-no_root : goal.returns-in-Err-clause-no_root
-returns-in-Err-clause-no_root g c = λ told e. c.in-Err.ensures.no_root told (ap Err (same_error _ _ e))
+    let middle = (g.D.Disk.state c.read_roots.new.disk).content in
+    let counts = subst (Counts slot root) (sym (c.read_roots.ensures.reads.content told)) (c.in-Ok.ensures.counts told) in
+    let has = c.in-Ok-open_levels.ensures.levels told slot counts in
+    let replay : IsReplay (journal_of slot) found c.in-Ok-replay.read.1.place middle =
+    subst (λ (image : List ℕ). IsReplay (journal_of slot) found c.in-Ok-replay.read.1.place image) (c.open_levels.ensures.reads.content told)
+    (subst (λ (h : Half). IsReplay (start_of h) found c.in-Ok-replay.read.1.place (g.D.Disk.state c.open_levels.new.disk).content) c.half_of.ensures
+    (subst (λ (xs : List Placed). IsReplay (start_of c.half_of.result) xs c.in-Ok-replay.read.1.place (g.D.Disk.state c.open_levels.new.disk).content) (sym c.deref.ensures.value) (c.in-Ok-replay.ensures.read told))) in
+    let some = may_start root c.in-Ok-open_levels.levels.deleted.items c.in-Ok-open_levels.levels.levels.items in
+    subst (λ (image : List ℕ). IsBrokenAt image place) (c.read_roots.ensures.reads.content told)
+    (refused_entry middle slot root _ _ has c.in-Ok-open_levels.ensures.ends found place c.in-Ok-replay.read.1.place replay some.0 some.1
+    (c.in-Err-catalog_of.ensures.damaged some.0 some.1 (small_places slot found c.in-Ok-replay.read.1.place middle replay) place
+    (ap Err (of_catalog_damaged c.in-Err-catalog_of.fault place (sym c.catalog_fault.ensures ∙ same_error _ _ e)))))

@@ -5,9 +5,11 @@ use Rattle.alta_journal.specs.declared.entry.Entry.TheVariants.{Add}
 use Rattle.alta_meta.specs.declared.document.State.{State}
 use Rattle.alta_session.specs.Fullness.{bytes_of_change}
 use Rattle.alta_session.specs.Machine.{adding}
-use Rattle.alta_store.specs.Meaning.{StandsFor, StandsForEither}
+use Rattle.alta_images.specs.Standing.{StandsFor, StandsForEither}
 use Rattle.alta_images.specs.States.{with_added, has_name}
-use Rattle.alta_store.specs.declared.fault.StoreFault.TheVariants.{Disk, Taken, Numbers, Full}
+use Rattle.alta_store.specs.Answers.{IsOutside}
+use Rattle.alta_store.specs.declared.fault.StoreFault.{StoreFault}
+use Rattle.alta_store.specs.declared.fault.StoreFault.TheVariants.{Damaged, Disk, Taken, Numbers, Full}
 use Rattle.alta_session.proofs.AddingLaws.{adding_bad, adding_taken, adding_full, adding_added, added_is_none, added_where, leaves_adding, refused_for}
 use Rattle.alta_session.proofs.AgreementLaws.{knows_state}
 use Rattle.alta_session.proofs.AnsweringLaws.{same_fault, same_store, looked, answers_same, changed, changed_rests}
@@ -62,11 +64,18 @@ returns-in-Numbers g c =
     let full = (c.add.ensures.numbers m.state (knows_state g.D.Disk.tells (g.D.Disk.state c.args.disk.now) c.args.self.now m agrees tell)).0 is in
     changed_rests m _ _ (adding_full c.args.name.now c.args.title.now c.args.body.now m.state (search rules) full.0 full.1)))
 
-only_left : (A B C D : Type 0) → A ⊎ (B ⊎ (C ⊎ D)) → (B → ⊥) → (C → ⊥) → A ⊎ D
-only_left A B C D (inl a) b c = inl a
-only_left A B C D (inr (inl x)) b c = absurd (b x)
-only_left A B C D (inr (inr (inl x))) b c = absurd (c x)
-only_left A B C D (inr (inr (inr d))) b c = inr d
+only_left : (A B C D E : Type 0) → A ⊎ (B ⊎ (C ⊎ D)) → (B → ⊥) → (C → ⊥) → A ⊎ (D ⊎ E)
+only_left A B C D E (inl a) b c = inl a
+only_left A B C D E (inr (inl x)) b c = absurd (b x)
+only_left A B C D E (inr (inr (inl x))) b c = absurd (c x)
+only_left A B C D E (inr (inr (inr d))) b c = inr (inl d)
+
+not_damaged : (e : StoreFault) (place : ℕ) → IsOutside e ⊎ ((e ≡ Taken) ⊎ ((e ≡ Numbers) ⊎ ((need gap : ℕ) × (e ≡ Full need gap)))) → e ≡ Damaged place → ⊥
+not_damaged e place (inl (inl memory)) is = cc
+not_damaged e place (inl (inr disk)) is = cc
+not_damaged e place (inr (inl taken)) is = cc
+not_damaged e place (inr (inr (inl numbers))) is = cc
+not_damaged e place (inr (inr (inr (need, gap, full)))) is = cc
 
 -- the addition failed
 pub returns-in_default : goal.returns-in_default
@@ -85,15 +94,17 @@ returns-in_default g c = record {
             let found = c.add.ensures.full need gap (c.in-Err.is ∙ ap Err same) in
             let adds = added_where c.args.name.now c.args.title.now c.args.body.now m.state (search rules) not_taken not_full in
             (found.0 ∙ sym (bytes_more _ c.args.name.now c.args.title.now c.args.body.now m.state _ _ adds), found.1);
+        undamaged = λ place is. let same : c.in-Err.fault ≡ Damaged place = cc in not_damaged c.in-Err.fault place c.in-Err.ensures.only same;
         room = tt;
       };
   can = tt;
   unchanged = tt;
-  only = only_left _ _ _ _ c.in-Err.ensures.only c.in_default.not-Taken c.in_default.not-Numbers;
+  only = only_left _ _ _ _ _ c.in-Err.ensures.only c.in_default.not-Taken c.in_default.not-Numbers;
   full = λ need gap tell is.
       let same : c.in-Err.fault ≡ Full need gap = cc in
       let failed : c.add.result ≡ Err (Full need gap) = c.in-Err.is ∙ ap Err same in
       record { room = c.add.ensures.full_room need gap tell failed; short = (c.add.ensures.full need gap failed).2 };
+  broken = λ place tell is. let same : c.in-Err.fault ≡ Damaged place = cc in absurd (not_damaged c.in-Err.fault place c.in-Err.ensures.only same);
   cause = λ is. let same : c.in-Err.fault ≡ Disk = cc in c.add.ensures.cause (c.in-Err.is ∙ ap Err same);
   faults = c.add.ensures.faults;
   same_limit = c.add.ensures.same_limit;

@@ -7,9 +7,11 @@ use Rattle.alta_journal.proofs.Spelling.{body_long, delete_long}
 use Rattle.alta_meta.specs.declared.document.State.{State}
 use Rattle.alta_session.specs.Fullness.{bytes_of_change}
 use Rattle.alta_session.specs.Machine.{deleting}
-use Rattle.alta_store.specs.Meaning.{StandsFor, StandsForEither}
+use Rattle.alta_images.specs.Standing.{StandsFor, StandsForEither}
 use Rattle.alta_images.specs.States.{with_deleted, number_of}
-use Rattle.alta_store.specs.declared.fault.StoreFault.TheVariants.{Disk, Missing, Full}
+use Rattle.alta_store.specs.Answers.{IsOutside}
+use Rattle.alta_store.specs.declared.fault.StoreFault.{StoreFault}
+use Rattle.alta_store.specs.declared.fault.StoreFault.TheVariants.{Damaged, Disk, Missing, Full}
 use Rattle.alta_session.proofs.AgreementLaws.{knows_state}
 use Rattle.alta_session.proofs.AnsweringLaws.{same_fault, same_store, looked, answers_same, changed, changed_rests}
 use Rattle.alta_session.proofs.DeletingLaws.{deleting_bad, deleting_missing, deleting_deleted, leaves_deleting, missing_for, deleted_where, deleted_is_none, fewer_where}
@@ -59,10 +61,16 @@ returns-in-Missing g c = λ bytes.
     (looked g.D.Disk.tells g.D.Disk.state c.args.disk.now c.args.self.now bytes c.text-in-Missing.result _ _ (g.met.D.Disk.lawful c.args.disk.now) c.requires c.text-in-Missing.ensures
     (λ m tell agrees. changed_rests m _ _ (deleting_missing c.args.name.now m.state (search rules) ((c.delete.ensures.missing m.state (knows_state g.D.Disk.tells (g.D.Disk.state c.args.disk.now) c.args.self.now m agrees tell)).0 is))))
 
-only_left : (A B C : Type 0) → A ⊎ (B ⊎ C) → (B → ⊥) → A ⊎ C
-only_left A B C (inl a) b = inl a
-only_left A B C (inr (inl x)) b = absurd (b x)
-only_left A B C (inr (inr y)) b = inr y
+only_left : (A B C D : Type 0) → A ⊎ (B ⊎ C) → (B → ⊥) → A ⊎ (C ⊎ D)
+only_left A B C D (inl a) b = inl a
+only_left A B C D (inr (inl x)) b = absurd (b x)
+only_left A B C D (inr (inr y)) b = inr (inl y)
+
+not_damaged : (e : StoreFault) (place : ℕ) → IsOutside e ⊎ ((e ≡ Missing) ⊎ ((need gap : ℕ) × (e ≡ Full need gap))) → e ≡ Damaged place → ⊥
+not_damaged e place (inl (inl memory)) is = cc
+not_damaged e place (inl (inr disk)) is = cc
+not_damaged e place (inr (inl missing)) is = cc
+not_damaged e place (inr (inr (need, gap, full))) is = cc
 
 -- the deletion failed
 pub returns-in_default : goal.returns-in_default
@@ -78,15 +86,17 @@ returns-in_default g c = λ bytes. record {
         let found = c.delete.ensures.full need gap 0 (c.in-Err.is ∙ ap Err same) in
         let n = deleted_where c.args.name.now m.state (search rules) (λ none. c.in_default.not-Missing (same_fault _ _ _ c.in-Err.is ((c.delete.ensures.missing m.state (knows_state g.D.Disk.tells (g.D.Disk.state c.args.disk.now) c.args.self.now m agrees tell)).1 none))) in
         (found.0 ∙ long 0 ∙ sym (bytes_fewer bytes c.args.name.now m.state _ _ (deleting_deleted c.args.name.now m.state n.0 (search rules) n.1) (fewer_where c.args.name.now m.state n.0 n.1)), found.1);
+    undamaged = λ place is. let same : c.in-Err.fault ≡ Damaged place = cc in not_damaged c.in-Err.fault place c.in-Err.ensures.only same;
     room = tt;
   };
   can = tt;
   unchanged = tt;
-  only = only_left _ _ _ c.in-Err.ensures.only c.in_default.not-Missing;
+  only = only_left _ _ _ _ c.in-Err.ensures.only c.in_default.not-Missing;
   full = λ need gap tell is.
       let same : c.in-Err.fault ≡ Full need gap = cc in
       let failed : c.delete.result ≡ Err (Full need gap) = c.in-Err.is ∙ ap Err same in
       record { room = c.delete.ensures.full_room need gap tell failed; short = (c.delete.ensures.full need gap 0 failed).2 };
+  broken = λ place tell is. let same : c.in-Err.fault ≡ Damaged place = cc in absurd (not_damaged c.in-Err.fault place c.in-Err.ensures.only same);
   cause = λ is. let same : c.in-Err.fault ≡ Disk = cc in c.delete.ensures.cause (c.in-Err.is ∙ ap Err same);
   faults = c.delete.ensures.faults;
   same_limit = c.delete.ensures.same_limit;

@@ -1,13 +1,22 @@
-use Rattle.std.proofs.Common.{refl, ◌≡◌, ◌+◌, ◌++◌, ℕ, List, length, codes, decimal, ◌∙◌, ap, sym, subst}
+use Rattle.std.proofs.Common.{refl, ◌≡◌, ◌⊎◌, ◌+◌, ◌≤◌, ◌++◌, ℕ, inl, List, Result, IfOk, length, codes, decimal, ◌∙◌, ap, sym, subst}
+use Rattle.std.specs.Prelude.{nat_le}
 use Rattle.alta_meta.specs.declared.document.State.{State}
+use Rattle.alta_model.specs.Lines.{Reading}
+use Rattle.alta_search.specs.Open.{AreOpen}
+use Rattle.alta_search.specs.declared.cursors.OpenCursor.{OpenCursor}
+use Rattle.alta_search.specs.declared.cursors.TheConstants.{CURSORS}
 use Rattle.alta_session.specs.Answering.{Answers}
 use Rattle.alta_session.specs.Cursors.{opening, fetching, closing}
-use Rattle.alta_session.specs.Machine.{changed_by, adding, deleting, step, stats_of}
-use Rattle.alta_session.specs.Searching.{searching, counting}
+use Rattle.alta_session.specs.Loading.{Loads, loads_in, open_loads, text_loads}
+use Rattle.alta_session.specs.Machine.{IsRefusal, LooksIn, SearchesIn, changed_by, adding, deleting, step, stats_of}
+use Rattle.alta_session.specs.Searching.{IsNoQuery, searching, counting}
 use Rattle.alta_images.specs.States.{words_in}
 use Rattle.alta_session.proofs.AgreementLaws.{knows_state}
-use Rattle.alta_session.proofs.AnsweringLaws.{looked, looked_at, answers_by, step_rests, turned}
+use Rattle.alta_session.proofs.AnsweringLaws.{if_so, looked, answers_by, step_rests, turned}
 use Rattle.alta_session.proofs.AskLaws.{adds_more, deletes_more}
+use Rattle.alta_session.proofs.LoadingLaws.{of_either, of_text}
+use Rattle.alta_session.proofs.QueryingLaws.{count_refuses, kept_all, open_refuses, queried, search_refuses}
+use Rattle.alta_store.specs.Agreement.{levels_of}
 use Rattle.alta_session.proofs.session.Session.reply.Goals as goal
 
 pub returns-in-Add-clause-answers : goal.returns-in-Add-clause-answers
@@ -31,52 +40,77 @@ pub returns-in-Delete-clause-no_disk : goal.returns-in-Delete-clause-no_disk
 returns-in-Delete-clause-no_disk g c = λ looks.
     absurd (deletes_more c.args.line.now c.in-Delete.name.now c.in-Delete.ensures.1 looks)
 
--- a query leaves session and disk as they are
+-- a query is answered over the disk
 pub search-requires : goal.search-requires
-search-requires g c = c.requires.can.agrees.intact
+search-requires g c = c.requires.can.agrees
 
 pub count-requires : goal.count-requires
-count-requires g c = c.requires.can.agrees.intact
+count-requires g c = c.requires.can.agrees
 
 pub open-requires : goal.open-requires
-open-requires g c = c.requires.can.agrees.intact
+open-requires g c = c.requires.can.agrees
 
 pub returns-in-Search-clause-answers : goal.returns-in-Search-clause-answers
 returns-in-Search-clause-answers g c =
-    let intact = c.requires.can.agrees.intact in
-    looked_at g.D.Disk.tells g.D.Disk.state c.args.disk.now c.args.self.now (length c.args.line.now + 9) c.search.result (λ m. step m c.args.line.now) (λ m. searching c.in-Search.text.now m.state.documents)
-    (g.met.D.Disk.lawful c.args.disk.now) c.requires.can (c.search.ensures intact.0 intact.1).memory
-    (λ m tell agrees. (step_rests m _ _ (c.in-Search.ensures m), (c.search.ensures m.state (knows_state g.D.Disk.tells (g.D.Disk.state c.args.disk.now) c.args.self.now m agrees tell)).reply))
+    queried g.D.Disk.tells g.D.Disk.state c.args.disk.now c.search.new.disk c.args.self.now c.args.self.now.cursors (length c.args.line.now + 9) (text_loads c.args.self.now.store c.in-Search.text.now) (IsNoQuery c.in-Search.text.now) c.search.result (λ m. step m c.args.line.now)
+    (λ s all. (all, searching c.in-Search.text.now s.documents)) (g.met.D.Disk.lawful c.args.disk.now) c.requires.can c.search.ensures.queries (of_text c.args.self.now.store c.in-Search.text.now)
+    (kept_all c.search.result c.args.self.now.cursors) (λ s all tell stands are. record { reply = c.search.ensures.reply s tell stands; open_now = if_so c.search.result (AreOpen c.args.self.now.cursors all) are })
+    (λ s all are refusal. search_refuses c.in-Search.text.now s.documents refusal) c.in-Search.ensures.0
+
+pub returns-in-Search-clause-no_disk : goal.returns-in-Search-clause-no_disk
+returns-in-Search-clause-no_disk g c = λ looks. c.search.ensures.queries.idles (subst LooksIn c.in-Search.ensures.1 looks)
+
+pub returns-in-Search-clause-loads : goal.returns-in-Search-clause-loads
+returns-in-Search-clause-loads g c = λ searches.
+    subst (λ (r : Reading). Loads g.D.Disk.tells (loads_in c.args.self.now r) (g.D.Disk.state c.args.disk.now) (g.D.Disk.state c.search.new.disk) c.search.result) (sym c.in-Search.ensures.1) c.search.ensures.queries.loaded
 
 pub returns-in-Count-clause-answers : goal.returns-in-Count-clause-answers
 returns-in-Count-clause-answers g c =
-    let intact = c.requires.can.agrees.intact in
-    looked_at g.D.Disk.tells g.D.Disk.state c.args.disk.now c.args.self.now (length c.args.line.now + 9) c.count.result (λ m. step m c.args.line.now) (λ m. counting c.in-Count.text.now m.state.documents)
-    (g.met.D.Disk.lawful c.args.disk.now) c.requires.can (c.count.ensures intact.0 intact.1).memory
-    (λ m tell agrees. (step_rests m _ _ (c.in-Count.ensures m), (c.count.ensures m.state (knows_state g.D.Disk.tells (g.D.Disk.state c.args.disk.now) c.args.self.now m agrees tell)).reply))
+    queried g.D.Disk.tells g.D.Disk.state c.args.disk.now c.count.new.disk c.args.self.now c.args.self.now.cursors (length c.args.line.now + 9) (text_loads c.args.self.now.store c.in-Count.text.now) (IsNoQuery c.in-Count.text.now) c.count.result (λ m. step m c.args.line.now)
+    (λ s all. (all, counting c.in-Count.text.now s.documents)) (g.met.D.Disk.lawful c.args.disk.now) c.requires.can c.count.ensures.queries (of_text c.args.self.now.store c.in-Count.text.now)
+    (kept_all c.count.result c.args.self.now.cursors) (λ s all tell stands are. record { reply = c.count.ensures.reply s tell stands; open_now = if_so c.count.result (AreOpen c.args.self.now.cursors all) are })
+    (λ s all are refusal. count_refuses c.in-Count.text.now s.documents refusal) c.in-Count.ensures.0
+
+pub returns-in-Count-clause-no_disk : goal.returns-in-Count-clause-no_disk
+returns-in-Count-clause-no_disk g c = λ looks. c.count.ensures.queries.idles (subst LooksIn c.in-Count.ensures.1 looks)
+
+pub returns-in-Count-clause-loads : goal.returns-in-Count-clause-loads
+returns-in-Count-clause-loads g c = λ searches.
+    subst (λ (r : Reading). Loads g.D.Disk.tells (loads_in c.args.self.now r) (g.D.Disk.state c.args.disk.now) (g.D.Disk.state c.count.new.disk) c.count.result) (sym c.in-Count.ensures.1) c.count.ensures.queries.loaded
 
 -- a cursor is opened, read or closed
 pub returns-in-Open-clause-answers : goal.returns-in-Open-clause-answers
 returns-in-Open-clause-answers g c =
-    turned g.D.Disk.tells g.D.Disk.state c.args.disk.now c.args.self.now c.open.new.cursors (length c.args.line.now + 9) c.open.result (λ m. step m c.args.line.now)
-    (λ s all. opening c.in-Open.text.now s.documents all) (g.met.D.Disk.lawful c.args.disk.now) c.requires.can c.open.ensures.memory c.open.ensures.refused c.open.ensures.turned c.in-Open.ensures
+    let session = c.args.self.now in
+    let text = c.in-Open.text.now in
+    queried g.D.Disk.tells g.D.Disk.state c.args.disk.now c.open.new.disk session c.open.new.cursors (length c.args.line.now + 9) (open_loads session.store session.cursors text) (IsNoQuery text ⊎ (CURSORS ≤ length session.cursors)) c.open.result
+    (λ m. step m c.args.line.now) (λ s all. opening text s.documents all) (g.met.D.Disk.lawful c.args.disk.now) c.requires.can c.open.ensures.queries
+    (of_either (levels_of session.store) (nat_le CURSORS (length session.cursors)) (text_loads session.store text) (of_text session.store text)) c.open.ensures.kept c.open.ensures.turned
+    (λ s all are refusal. open_refuses text s.documents session.cursors all are refusal) c.in-Open.ensures.0
+
+pub returns-in-Open-clause-no_disk : goal.returns-in-Open-clause-no_disk
+returns-in-Open-clause-no_disk g c = λ looks. c.open.ensures.queries.idles (inl (subst LooksIn c.in-Open.ensures.1 looks))
+
+pub returns-in-Open-clause-loads : goal.returns-in-Open-clause-loads
+returns-in-Open-clause-loads g c = λ searches.
+    subst (λ (r : Reading). Loads g.D.Disk.tells (loads_in c.args.self.now r) (g.D.Disk.state c.args.disk.now) (g.D.Disk.state c.open.new.disk) c.open.result) (sym c.in-Open.ensures.1) c.open.ensures.queries.loaded
 
 pub returns-in-Fetch-clause-answers : goal.returns-in-Fetch-clause-answers
 returns-in-Fetch-clause-answers g c =
     turned g.D.Disk.tells g.D.Disk.state c.args.disk.now c.args.self.now c.fetch.new.cursors (length c.args.line.now + 9) c.fetch.result (λ m. step m c.args.line.now)
     (λ s all. fetching c.in-Fetch.cursor c.in-Fetch.count all) (g.met.D.Disk.lawful c.args.disk.now) c.requires.can c.fetch.ensures.memory c.fetch.ensures.refused
-    (λ s all knows h. c.fetch.ensures.turned all h) c.in-Fetch.ensures
+    (λ s all knows h. c.fetch.ensures.turned all h) c.in-Fetch.ensures.0
 
 pub returns-in-Close-clause-answers : goal.returns-in-Close-clause-answers
 returns-in-Close-clause-answers g c =
     turned g.D.Disk.tells g.D.Disk.state c.args.disk.now c.args.self.now c.close.new.cursors (length c.args.line.now + 9) c.close.result (λ m. step m c.args.line.now)
     (λ s all. closing c.in-Close.cursor all) (g.met.D.Disk.lawful c.args.disk.now) c.requires.can c.close.ensures.memory c.close.ensures.refused
-    (λ s all knows h. c.close.ensures.turned all h) c.in-Close.ensures
+    (λ s all knows h. c.close.ensures.turned all h) c.in-Close.ensures.0
 
 pub returns-in-Explain-clause-answers : goal.returns-in-Explain-clause-answers
 returns-in-Explain-clause-answers g c =
     looked g.D.Disk.tells g.D.Disk.state c.args.disk.now c.args.self.now (length c.args.line.now + 9) c.explain.result _ _ (g.met.D.Disk.lawful c.args.disk.now) c.requires.can c.explain.ensures
-    (λ m tell agrees. step_rests m _ _ (c.in-Explain.ensures m))
+    (λ m tell agrees. step_rests m _ _ (c.in-Explain.ensures.0 m))
 
 -- the counts
 stats_is : (s : State) (counts : ℕ × ℕ × ℕ) → counts ≡ (length s.documents, words_in s, s.next)
@@ -88,17 +122,32 @@ stats_is s counts is =
 pub returns-in-Stats-clause-answers : goal.returns-in-Stats-clause-answers
 returns-in-Stats-clause-answers g c =
     looked g.D.Disk.tells g.D.Disk.state c.args.disk.now c.args.self.now (length c.args.line.now + 9) c.stats.result _ _ (g.met.D.Disk.lawful c.args.disk.now) c.requires.can (record { reply = c.stats.ensures.reply; memory = c.stats.ensures.memory })
-    (λ m tell agrees. step_rests m _ _ (c.in-Stats.ensures m ∙ ap (λ (t : List ℕ). (m, t)) (sym (stats_is m.state c.counts.result (c.counts.ensures m.state (knows_state g.D.Disk.tells (g.D.Disk.state c.args.disk.now) c.args.self.now m agrees tell))))))
+    (λ m tell agrees. step_rests m _ _ (c.in-Stats.ensures.0 m ∙ ap (λ (t : List ℕ). (m, t)) (sym (stats_is m.state c.counts.result (c.counts.ensures m.state (knows_state g.D.Disk.tells (g.D.Disk.state c.args.disk.now) c.args.self.now m agrees tell))))))
 
 -- a line that is refused
 pub returns-in-Refused-clause-answers : goal.returns-in-Refused-clause-answers
 returns-in-Refused-clause-answers g c =
     looked g.D.Disk.tells g.D.Disk.state c.args.disk.now c.args.self.now (length c.args.line.now + 9) c.text.result _ _ (g.met.D.Disk.lawful c.args.disk.now) c.requires.can c.text.ensures
-    (λ m tell agrees. step_rests m _ _ (c.in-Refused.ensures m))
+    (λ m tell agrees. step_rests m _ _ (c.in-Refused.ensures.0 m))
 
--- queries call no disk
-pub returns-in-Search-clause-no_disk : goal.returns-in-Search-clause-no_disk
-returns-in-Search-clause-no_disk g c = λ looks. (refl, (c.search.ensures c.requires.can.agrees.intact.0 c.requires.can.agrees.intact.1).memory)
+-- the other lines load nothing
+pub returns-in-Add-clause-loads : goal.returns-in-Add-clause-loads
+returns-in-Add-clause-loads g c = λ searches. absurd (subst SearchesIn c.in-Add.ensures.3 searches)
 
-pub returns-in-Count-clause-no_disk : goal.returns-in-Count-clause-no_disk
-returns-in-Count-clause-no_disk g c = λ looks. (refl, (c.count.ensures c.requires.can.agrees.intact.0 c.requires.can.agrees.intact.1).memory)
+pub returns-in-Delete-clause-loads : goal.returns-in-Delete-clause-loads
+returns-in-Delete-clause-loads g c = λ searches. absurd (subst SearchesIn c.in-Delete.ensures.1 searches)
+
+pub returns-in-Explain-clause-loads : goal.returns-in-Explain-clause-loads
+returns-in-Explain-clause-loads g c = λ searches. absurd (subst SearchesIn c.in-Explain.ensures.1 searches)
+
+pub returns-in-Fetch-clause-loads : goal.returns-in-Fetch-clause-loads
+returns-in-Fetch-clause-loads g c = λ searches. absurd (subst SearchesIn c.in-Fetch.ensures.1 searches)
+
+pub returns-in-Close-clause-loads : goal.returns-in-Close-clause-loads
+returns-in-Close-clause-loads g c = λ searches. absurd (subst SearchesIn c.in-Close.ensures.1 searches)
+
+pub returns-in-Stats-clause-loads : goal.returns-in-Stats-clause-loads
+returns-in-Stats-clause-loads g c = λ searches. absurd (subst SearchesIn c.in-Stats.ensures.1 searches)
+
+pub returns-in-Refused-clause-loads : goal.returns-in-Refused-clause-loads
+returns-in-Refused-clause-loads g c = λ searches. absurd (c.in-Refused.ensures.1 searches)

@@ -2,7 +2,7 @@ use Rattle.std.proofs.Common.{refl, ap, subst, sym}
 use Rattle.std.specs.Prelude.{Err}
 use Rattle.alta_store.specs.declared.fault.StoreFault.TheVariants.{Damaged}
 use Rattle.alta_store.proofs.Loads.{same_error}
-use Rattle.alta_store.specs.Meaning.{StandsFor}
+use Rattle.alta_images.specs.Standing.{StandsFor}
 use Rattle.alta_session.proofs.AgreementLaws.{agrees_started}
 use Rattle.alta_session.proofs.StatusLaws.{ok_answers, err_answers}
 use Rattle.alta_session.proofs.session.Session.start.Goals as goal

@@ -1,7 +1,7 @@
 use Rattle.std.proofs.Common.{inl, sym}
 use Rattle.alta_disk.proofs.Moments.{leaves_start}
 use Rattle.alta_journal.specs.declared.entry.Entry.TheVariants.{Add}
-use Rattle.alta_store.specs.Meaning.{StandsForEither}
+use Rattle.alta_images.specs.Standing.{StandsForEither}
 use Rattle.alta_images.specs.States.{with_added}
 use Rattle.alta_store.proofs.Agreements.{images_stand}
 use Rattle.alta_store.proofs.Commits.{closed, either, agrees_after, keeps_after, stands_after, add_allowed, add_knows, added_is, fits_ok, fits_failed, room_left, too_long, unmoved}
@@ -17,8 +17,8 @@ returns-in-Ok-append-clause-agrees g c =
     c.in-Ok.ready.entry (add_allowed c.args.self.now c.args.name.now c.args.title.now c.args.body.now c.in-Ok.ready.entry c.in-Ok.ensures c.requires.free c.requires.number)
     (fits_ok _ _ _ c.in-Ok-append.ensures.full)
     (g.D.Disk.state c.append.new.disk) c.in-Ok-append.ensures.images (g.met.D.Disk.lawful c.append.new.disk) c.in-Ok-append.ensures.durable c.in-Ok-append.ensures.appended
-    _ c.in-Ok-append.ensures.tail c.in-Ok-append.ensures.half
-    (add_knows c.args.self.now c.args.name.now c.args.title.now c.args.body.now c.in-Ok.ready.entry c.in-Ok.ensures _ c.in-Ok-add.ensures)
+    _ c.in-Ok-append.ensures.tail c.in-Ok-append.ensures.half c.add.ensures.levels
+    (add_knows c.args.self.now c.args.name.now c.args.title.now c.args.body.now c.in-Ok.ready.entry c.in-Ok.ensures _ c.in-Ok-add.ensures.added)
 
 pub returns-in-Ok-append-clause-stands : goal.returns-in-Ok-append-clause-stands
 returns-in-Ok-append-clause-stands g c = λ s told stands.
@@ -35,8 +35,8 @@ returns-in-Ok-append-clause-keeps g c = λ opened told there.
     c.in-Ok.ready.entry (add_allowed c.args.self.now c.args.name.now c.args.title.now c.args.body.now c.in-Ok.ready.entry c.in-Ok.ensures c.requires.free c.requires.number)
     (fits_ok _ _ _ c.in-Ok-append.ensures.full)
     (g.D.Disk.state c.append.new.disk) c.in-Ok-append.ensures.images (g.met.D.Disk.lawful c.append.new.disk) c.in-Ok-append.ensures.durable c.in-Ok-append.ensures.appended
-    _ c.in-Ok-append.ensures.tail c.in-Ok-append.ensures.half
-    (add_knows c.args.self.now c.args.name.now c.args.title.now c.args.body.now c.in-Ok.ready.entry c.in-Ok.ensures _ c.in-Ok-add.ensures)
+    _ c.in-Ok-append.ensures.tail c.in-Ok-append.ensures.half c.add.ensures.levels
+    (add_knows c.args.self.now c.args.name.now c.args.title.now c.args.body.now c.in-Ok.ready.entry c.in-Ok.ensures _ c.in-Ok-add.ensures.added)
     (Add c.args.name.now c.args.title.now c.args.body.now) c.in-Ok.ensures opened told there
 
 pub returns-in-Ok-append-clause-images : goal.returns-in-Ok-append-clause-images

@@ -1,14 +1,9 @@
-use Rattle.std.proofs.Common.{ap, sym, ◌∙◌, rules}
+use Rattle.std.proofs.Common.{ap, sym, ◌∙◌}
 use Rattle.std.specs.Prelude.{Err}
 use Rattle.alta_store.specs.declared.fault.StoreFault.{StoreFault}
 use Rattle.alta_store.proofs.Commits.{same_long}
-use Rattle.alta_store.proofs.FollowingLaws.{number_named}
 use Rattle.alta_store.proofs.Loads.{same_error}
 use Rattle.alta_store.proofs.store.Store.delete.Goals as goal
-
-pub returns-in-Ok-clause-number : goal.returns-in-Ok-clause-number
-returns-in-Ok-clause-number g c = λ s knows.
-    number_named c.args.self.now.catalog s knows c.args.name.now c.in-Some.number (search rules)
 
 pub returns-in-Err-clause-full : goal.returns-in-Err-clause-full
 returns-in-Err-clause-full g c = λ need gap number e.

@@ -1,11 +1,12 @@
-use Rattle.std.proofs.Common.{List, ℕ, inr, subst, sym}
+use Rattle.std.proofs.Common.{List, ℕ, inr, subst, sym, ap, arith}
+use Rattle.alta_opening.specs.Costs.{named_bytes}
+use Rattle.alta_root.specs.Slots.{Counts}
 use Rattle.std.proofs.lemmas.Result.{IfOk-at_ok}
 use Rattle.alta_disk.proofs.Moments.{only_same}
 use Rattle.alta_store.specs.Agreement.{Agrees, Holds, IsIntact, Keeps}
 use Rattle.alta_images.specs.Opened.{IsOpened}
 use Rattle.alta_root.specs.Slots.{HasNoRoot}
-use Rattle.alta_store.specs.Brokenness.{IsBrokenAt}
-use Rattle.alta_store.specs.Meaning.{StandsFor}
+use Rattle.alta_images.specs.Broken.{IsBrokenAt}
 use Rattle.alta_store.specs.declared.store.Store.{Store}
 use Rattle.alta_store.proofs.Agreements.{kept}
 use Rattle.alta_store.proofs.Loads.{if_ok, if_err, only_synced, held, outside, rooted, broken_at}
@@ -22,10 +23,10 @@ returns-clause-agrees g c =
       intact = IfOk-at_ok IsIntact is c.load.ensures.intact;
     })
 
-pub returns-clause-stands : goal.returns-clause-stands
-returns-clause-stands g c = λ s told stands.
+pub returns-clause-opened : goal.returns-clause-opened
+returns-clause-opened g c = λ o told opened.
     outside g.D.Disk.tells (g.D.Disk.state c.sync.new.self).content c.load.result c.load.ensures.loaded c.load.ensures.no_root c.load.ensures.damaged c.load.ensures.only
-    s told (subst (StandsFor s) (sym (c.sync.ensures.content told)) stands)
+    o told (subst (IsOpened o) (sym (c.sync.ensures.content told)) opened)
 
 pub returns-clause-no_root : goal.returns-clause-no_root
 returns-clause-no_root g c = λ told e. subst HasNoRoot (c.sync.ensures.content told) (c.load.ensures.no_root told e)
@@ -56,3 +57,9 @@ returns-clause-settled g c =
     only_same g.D.Disk.tells (g.D.Disk.state c.sync.new.self) (g.met.D.Disk.lawful c.sync.new.self)
     (only_synced g.D.Disk.tells (g.D.Disk.state c.args.disk.now) (g.D.Disk.state c.sync.new.self) (g.met.D.Disk.lawful c.sync.new.self) c.in-Ok.ensures.durable c.sync.ensures.content)
     (g.D.Disk.state c.load.new.disk) c.load.ensures.images c.load.ensures.content))
+
+pub returns-clause-read : goal.returns-clause-read
+returns-clause-read g c = λ told slot root counts.
+    let same = c.sync.ensures.content told in
+    let read = c.load.ensures.read told slot root (subst (Counts slot root) (sym same) counts) in
+    omega (arith, read, ap (λ (image : List ℕ). named_bytes root image) same, c.sync.ensures.taken)

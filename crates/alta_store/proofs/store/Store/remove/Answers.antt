@@ -2,11 +2,10 @@ use Rattle.std.proofs.Common.{ap, inl, sym}
 use Rattle.alta_disk.proofs.Moments.{leaves_start}
 use Rattle.alta_journal.specs.Record.{Record}
 use Rattle.alta_journal.specs.declared.entry.Entry.TheVariants.{Delete}
-use Rattle.alta_store.specs.Meaning.{StandsForEither}
+use Rattle.alta_images.specs.Standing.{StandsForEither}
 use Rattle.alta_images.specs.States.{with_deleted}
 use Rattle.alta_store.proofs.Agreements.{images_stand, knows_of}
 use Rattle.alta_store.proofs.Commits.{closed, either, agrees_after, keeps_after, stands_after, delete_knows, delete_allowed, deleted_after, fits_ok, fits_failed, room_left, too_long, unmoved}
-use Rattle.alta_store.proofs.FollowingLaws.{live_number}
 use Rattle.alta_store.proofs.store.Store.remove.Goals as goal
 
 pub append-requires-clause-closed : goal.append-requires-clause-closed
@@ -16,7 +15,7 @@ append-requires-clause-closed g c =
 pub remove-requires : goal.remove-requires
 remove-requires g c =
     let intact = c.requires.agrees.intact in
-    (intact.0, intact.1, live_number c.args.self.now.catalog intact.0 intact.1 c.args.name.now c.args.number c.requires.named)
+    (intact.0, intact.1, (c.requires.named intact.0 intact.1).0)
 
 pub returns-in-Ok-append-clause-agrees : goal.returns-in-Ok-append-clause-agrees
 returns-in-Ok-append-clause-agrees g c =
@@ -24,7 +23,7 @@ returns-in-Ok-append-clause-agrees g c =
     c.in-Ok.ready.entry (delete_allowed c.args.self.now c.args.name.now c.args.number c.in-Ok.ready.entry (ap (λ (r : Record). r.entry) c.in-Ok.ensures) c.requires.named)
     (fits_ok _ _ _ c.in-Ok-append.ensures.full)
     (g.D.Disk.state c.append.new.disk) c.in-Ok-append.ensures.images (g.met.D.Disk.lawful c.append.new.disk) c.in-Ok-append.ensures.durable c.in-Ok-append.ensures.appended
-    _ c.in-Ok-append.ensures.tail c.in-Ok-append.ensures.half (delete_knows c.args.self.now c.args.name.now c.args.number c.in-Ok.ready.entry (ap (λ (r : Record). r.entry) c.in-Ok.ensures) c.requires.named _ c.in-Ok-remove.ensures)
+    _ c.in-Ok-append.ensures.tail c.in-Ok-append.ensures.half c.remove.ensures.levels (delete_knows c.args.self.now c.args.name.now c.args.number c.in-Ok.ready.entry (ap (λ (r : Record). r.entry) c.in-Ok.ensures) c.requires.named _ c.in-Ok-remove.ensures.removed)
 
 pub returns-in-Ok-append-clause-stands : goal.returns-in-Ok-append-clause-stands
 returns-in-Ok-append-clause-stands g c = λ s told stands.
@@ -41,7 +40,7 @@ returns-in-Ok-append-clause-keeps g c = λ opened told there.
     c.in-Ok.ready.entry (delete_allowed c.args.self.now c.args.name.now c.args.number c.in-Ok.ready.entry (ap (λ (r : Record). r.entry) c.in-Ok.ensures) c.requires.named)
     (fits_ok _ _ _ c.in-Ok-append.ensures.full)
     (g.D.Disk.state c.append.new.disk) c.in-Ok-append.ensures.images (g.met.D.Disk.lawful c.append.new.disk) c.in-Ok-append.ensures.durable c.in-Ok-append.ensures.appended
-    _ c.in-Ok-append.ensures.tail c.in-Ok-append.ensures.half (delete_knows c.args.self.now c.args.name.now c.args.number c.in-Ok.ready.entry (ap (λ (r : Record). r.entry) c.in-Ok.ensures) c.requires.named _ c.in-Ok-remove.ensures)
+    _ c.in-Ok-append.ensures.tail c.in-Ok-append.ensures.half c.remove.ensures.levels (delete_knows c.args.self.now c.args.name.now c.args.number c.in-Ok.ready.entry (ap (λ (r : Record). r.entry) c.in-Ok.ensures) c.requires.named _ c.in-Ok-remove.ensures.removed)
     (Delete c.args.number) (ap (λ (r : Record). r.entry) c.in-Ok.ensures) opened told there
 
 pub returns-in-Ok-append-clause-images : goal.returns-in-Ok-append-clause-images
@@ -72,3 +71,13 @@ pub returns-in-Err-Full-clause-full_room : goal.returns-in-Err-Full-clause-full_
 returns-in-Err-Full-clause-full_room g c = λ need gap told e.
     let full = c.in-Err-Full.ensures.full (too_long _ _ _ _ _ c.in-Err-Full.field-0-is c.in-Err-Full.ensures.room) in
     room_left g.D.Disk.state c.args.disk.now c.append.new.disk full.1 c.args.self.now (c.requires.agrees.content told) _ _ _ need gap _ c.in-Err-Full.field-0-is full.0 e
+
+pub returns-in_default-clause-images : goal.returns-in_default-clause-images
+returns-in_default-clause-images g c = λ s stands.
+    leaves_start g.D.Disk.tells (g.D.Disk.state c.args.disk.now) (StandsForEither s (with_deleted c.args.name.now s)) (g.met.D.Disk.lawful c.args.disk.now)
+    (λ image here. inl (images_stand g.D.Disk.tells (g.D.Disk.state c.args.disk.now) s (g.met.D.Disk.lawful c.args.disk.now) c.requires.agrees.settled stands image here))
+
+pub returns-in_default-remove-clause-images : goal.returns-in_default-remove-clause-images
+returns-in_default-remove-clause-images g c = λ s stands.
+    leaves_start g.D.Disk.tells (g.D.Disk.state c.args.disk.now) (StandsForEither s (with_deleted c.args.name.now s)) (g.met.D.Disk.lawful c.args.disk.now)
+    (λ image here. inl (images_stand g.D.Disk.tells (g.D.Disk.state c.args.disk.now) s (g.met.D.Disk.lawful c.args.disk.now) c.requires.agrees.settled stands image here))

@@ -1,0 +1,338 @@
+-- Laws of calls that load lists.
+use Rattle.std.proofs.Common.{◌≡◌, ◌⊎◌, ℕ, ◌+◌, ◌<◌, ◌≤◌, inl, inr, ⊎_elim, List, [], ◌∷◌, ◌++◌, Bool, true, false, cond, zero, suc, length, map, refl, ap, sym, subst, ◌∙◌, arith, Result, Ok, Err, IfOk, IfErr, Option, Some, None}
+use Rattle.std.specs.Prelude.{All, Contains, nat_le}
+use Rattle.std.proofs.lemmas.Bool.Decides.{nat_tests}
+use Rattle.std.proofs.lemmas.List.Elements.{All-nil}
+use Rattle.std.proofs.lemmas.Result.{IfOk-weaker}
+use Rattle.std.specs.Str.{bytes_eq}
+use Rattle.alta_catalog.specs.Knowing.{memory_of}
+use Rattle.alta_codec.specs.Faults.{Rose}
+use Rattle.alta_compile.specs.PlanOf.{plan_of}
+use Rattle.alta_content.specs.declared.content.Content.{Content}
+use Rattle.alta_disk.specs.Calls.{Reads}
+use Rattle.alta_disk.specs.Disk.{DiskState, IsLawful}
+use Rattle.alta_disk.proofs.Moments.{only_same}
+use Rattle.alta_images.specs.Broken.{IsBrokenAmong}
+use Rattle.alta_loading.specs.Answers.{IfDamaged}
+use Rattle.alta_loading.specs.Loads.{Load, Tells, IsFirstFault, IsWhole, load_at, load_in, load_sizes, loads_from, row_from, stored_by}
+use Rattle.alta_loading.specs.Met.{each_once, loads_met, loads_of_tests, terms_met}
+use Rattle.alta_loading.specs.Terms.{loads_of}
+use Rattle.alta_loading.specs.declared.fault.LoadFault.{LoadFault}
+use Rattle.alta_loading.specs.declared.fault.LoadFault.TheVariants.{Disk as LoadDisk, Memory as LoadMemory, Damaged as LoadDamaged}
+use Rattle.alta_loading.proofs.Places.{fault_of_level}
+use Rattle.alta_loading.proofs.Runs.{reads_none, reads_most}
+use Rattle.alta_images.specs.Standing.{StandsFor}
+use Rattle.alta_meta.specs.declared.document.State.{State}
+use Rattle.alta_query.specs.Answer.{IsMemory, fault_in}
+use Rattle.alta_query.specs.Faults.{Fault}
+use Rattle.alta_query.specs.Reading.{query_of}
+use Rattle.alta_query.specs.Shape.{Shape}
+use Rattle.alta_query.specs.declared.fault.Cause.TheVariants.{Memory as WantsMemory}
+use Rattle.alta_query.specs.declared.fault.QueryFault.{QueryFault}
+use Rattle.alta_query.specs.declared.test.Test.{Test}
+use Rattle.alta_search.specs.Plans.{tests_of}
+use Rattle.alta_search.specs.declared.cursors.OpenCursor.{OpenCursor}
+use Rattle.alta_search.specs.declared.cursors.TheConstants.{CURSORS}
+use Rattle.alta_session.specs.Loading.{HasBrokenList, Loads, Queries, loads_of_query, of_load, open_loads, search_loads, text_loads}
+use Rattle.alta_session.specs.Machine.{IsRefusal}
+use Rattle.alta_session.specs.Searching.{IsNoQuery}
+use Rattle.alta_session.proofs.StatusLaws.{ok_answers, err_answers}
+use Rattle.alta_store.specs.Agreement.{Agrees, Holds, levels_of}
+use Rattle.alta_store.specs.Answers.{IsOutside}
+use Rattle.alta_store.specs.declared.fault.StoreFault.{StoreFault}
+use Rattle.alta_store.specs.declared.fault.StoreFault.TheVariants.{Disk, Memory, Damaged}
+use Rattle.alta_store.specs.declared.store.Store.{Store}
+use Rattle.alta_table.specs.Tables.{Tables}
+use Rattle.alta_table.specs.declared.term.TermRow.{TermRow}
+
+err_weaker : {T E : Type 0} (r : Result T E) (P Q : E → Type 0) → ((e : E) → P e → Q e) → IfErr r P → IfErr r Q
+err_weaker (Ok x) P Q weaker here = tt
+err_weaker (Err e) P Q weaker here = weaker e here
+
+-- ---- what was answered
+
+-- nothing was called, and memory was wanting
+pub loads_memory : {X : Type 0} (tells : Type 0) (loads : List Load) (d : DiskState) → Loads {X = X} tells loads d d (Err Memory)
+loads_memory tells loads d = record {
+  reads = reads_most tells 0 (load_sizes loads) d d (omega arith) (reads_none tells d);
+  only = inl (inl refl);
+  whole = λ tell. tt;
+  first = λ place tell is. absurd cc;
+  damaged = λ place tell fault. inr (inl refl);
+  cause = λ is. absurd cc;
+}
+
+-- there was nothing to load
+pub loads_idle : {X : Type 0} (tells : Type 0) (d : DiskState) (result : Result X StoreFault) → IfErr result (λ e. e ≡ Memory) → Loads tells [] d d result
+loads_idle tells d (Ok x) memory = record {
+  reads = reads_none tells d;
+  only = tt;
+  whole = λ tell. All-nil (IsWhole d.content);
+  first = λ place tell is. absurd cc;
+  damaged = λ place tell none. absurd none;
+  cause = λ is. absurd cc;
+}
+loads_idle {X} tells d (Err e) memory = subst (λ (f : StoreFault). Loads {X = X} tells [] d d (Err f)) (sym memory) (loads_memory tells [] d)
+
+-- the lists were loaded, and behind them memory alone may have been wanting
+pub loads_then : {X Y : Type 0} (tells : Type 0) (loads : List Load) (d e : DiskState) (x : X) (result : Result Y StoreFault) → Loads {X = X} tells loads d e (Ok x) → IfErr result (λ e. e ≡ Memory) → Loads tells loads d e result
+loads_then tells loads d e x (Ok y) one memory = record {
+  reads = one.reads;
+  only = tt;
+  whole = one.whole;
+  first = λ place tell is. absurd cc;
+  damaged = λ place tell fault. absurd (ok_answers x (Damaged place) (Ok x) refl (one.damaged place tell fault));
+  cause = λ is. absurd cc;
+}
+loads_then {Y = Y} tells loads d e x (Err f) one memory = subst (λ (g : StoreFault). Loads {X = Y} tells loads d e (Err g)) (sym memory) (record {
+  reads = one.reads;
+  only = inl (inl refl);
+  whole = λ tell. tt;
+  first = λ place tell is. absurd cc;
+  damaged = λ place tell fault. inr (inl refl);
+  cause = λ is. absurd cc;
+})
+
+-- they were not
+pub loads_fault : {X Y : Type 0} (tells : Type 0) (loads : List Load) (d e : DiskState) (f : StoreFault) → Loads {X = X} tells loads d e (Err f) → Loads {X = Y} tells loads d e (Err f)
+loads_fault tells loads d e f one = record {
+  reads = one.reads;
+  only = one.only;
+  whole = λ tell. tt;
+  first = λ place tell is. let same : f ≡ Damaged place = cc in one.first place tell (ap Err same);
+  damaged = λ place tell fault. err_answers f (Damaged place) (Err f) refl (one.damaged place tell fault);
+  cause = λ is. let same : f ≡ Disk = cc in one.cause (ap Err same);
+}
+
+-- of what was loaded of the disk
+pub loads_told : {X Y : Type 0} (tells : Type 0) (loads : List Load) (d e : DiskState) (x : X) (y : Y) → Reads tells (load_sizes loads) d e → (tells → Tells {X = X} d.content loads (Ok x)) → Loads {X = Y} tells loads d e (Ok y)
+loads_told tells loads d e x y reads told = record {
+  reads = reads;
+  only = tt;
+  whole = λ tell. (told tell).whole;
+  first = λ place tell is. absurd cc;
+  damaged = λ place tell fault. absurd ((told tell).damaged place fault);
+  cause = λ is. absurd cc;
+}
+
+pub loads_failed : {X Y : Type 0} (tells : Type 0) (loads : List Load) (d e : DiskState) (f : LoadFault) → Reads tells (load_sizes loads) d e → (tells → Tells {X = X} d.content loads (Err f)) → (f ≡ LoadDisk → Rose d.faults e.faults)
+    → Loads {X = Y} tells loads d e (Err (of_load f))
+loads_failed tells loads d e LoadDisk reads told cause = record {
+  reads = reads;
+  only = inl (inr refl);
+  whole = λ tell. tt;
+  first = λ place tell is. absurd cc;
+  damaged = λ place tell fault. inr (inr refl);
+  cause = λ is. cause refl;
+}
+loads_failed tells loads d e LoadMemory reads told cause = record {
+  reads = reads;
+  only = inl (inl refl);
+  whole = λ tell. tt;
+  first = λ place tell is. absurd cc;
+  damaged = λ place tell fault. inr (inl refl);
+  cause = λ is. absurd cc;
+}
+loads_failed tells loads d e (LoadDamaged p) reads told cause = record {
+  reads = reads;
+  only = inr (p, refl);
+  whole = λ tell. tt;
+  first = λ place tell is. let same : p ≡ place = cc in subst (IsFirstFault d.content loads) same (told tell).first;
+  damaged = λ place tell fault. inl (ap (λ (n : ℕ). Err (Damaged n)) ((told tell).damaged place fault));
+  cause = λ is. absurd cc;
+}
+
+-- no list was damaged
+no_damage : {X : Type 0} (r : Result X LoadFault) → IfDamaged r (λ place. ⊥) → IfErr r (λ f. IsOutside (of_load f))
+no_damage (Ok x) none = tt
+no_damage (Err LoadDisk) none = inr refl
+no_damage (Err LoadMemory) none = inl refl
+no_damage (Err (LoadDamaged place)) none = absurd none
+
+pub outside_of : {X : Type 0} (r : Result X LoadFault) (f : LoadFault) → r ≡ Err f → IfDamaged r (λ place. ⊥) → IsOutside (of_load f)
+outside_of {X} r f is none = subst (λ (x : Result X LoadFault). IfErr x (λ g. IsOutside (of_load g))) is (no_damage r none)
+
+-- ---- the lists of a text
+pub text_found : (store : Store) (text : List ℕ) (q : Shape) → query_of text ≡ Ok q → text_loads store text ≡ search_loads store (plan_of q)
+unfolding text_loads
+text_found store text q is = ap (loads_of_query store) is
+
+pub text_none : (store : Store) (text : List ℕ) (f : Fault) → query_of text ≡ Err f → text_loads store text ≡ []
+unfolding text_loads
+text_none store text f is = ap (loads_of_query store) is
+
+-- ---- the levels of lists
+
+-- each list is one of these levels, and one of its rows
+abbrev pub AreOf : List Tables → List Load → Type 0
+AreOf levels [] = Unit {0}
+AreOf levels (load ∷ loads) = Contains levels load.level × (load.row < length load.level.terms) × AreOf levels loads
+
+both_of : (levels : List Tables) (a b : List Load) → AreOf levels a → AreOf levels b → AreOf levels (a ++ b)
+both_of levels [] b one two = two
+both_of levels (x ∷ a) b one two = (one.0, one.1, both_of levels a b one.2 two)
+
+row_below : (i : ℕ) (rows : List TermRow) (term : List ℕ) (row : ℕ) → row_from i rows term ≡ Some row → row < i + length rows
+row_below i [] term row is = absurd cc
+row_below i (r ∷ rows) term row is = elim (bytes_eq r.term term) as (λ (b : Bool). cond b (Some i) (row_from (i + 1) rows term) ≡ Some row → row < i + length (r ∷ rows)) [
+  | true ↦ λ e. let same : i ≡ row = cc in omega (arith, same)
+  | false ↦ λ e. omega (arith, row_below (i + 1) rows term row e)
+] is
+
+of_option : (levels : List Tables) (number : ℕ) (level : Tables) (o : Option ℕ) → Contains levels level → ((row : ℕ) → o ≡ Some row → row < length level.terms) → AreOf levels (load_at number level o)
+of_option levels number level None among within = tt
+of_option levels number level (Some row) among within = (among, within row refl, tt)
+
+of_level : (levels : List Tables) (number : ℕ) (level : Tables) (term : List ℕ) → Contains levels level → AreOf levels (load_in number level term)
+of_level levels number level term among =
+    of_option levels number level (row_from 0 level.terms term) among (λ row is. omega (arith, row_below 0 level.terms term row is))
+
+first_is : (x : Tables) (xs : List Tables) → Contains (x ∷ xs) x
+first_is x xs = (zero, omega arith, refl)
+
+later_is : (x : Tables) (xs : List Tables) (y : Tables) → Contains xs y → Contains (x ∷ xs) y
+later_is x xs y (k, within, is) = (suc k, omega (arith, within), is)
+
+of_levels : (levels rest : List Tables) (number : ℕ) (term : List ℕ) → ((level : Tables) → Contains rest level → Contains levels level) → AreOf levels (loads_from number rest term)
+of_levels levels [] number term among = tt
+of_levels levels (level ∷ rest) number term among =
+    both_of levels (load_in number level term) (loads_from (number + 1) rest term) (of_level levels number level term (among level (first_is level rest)))
+    (of_levels levels rest (number + 1) term (λ l here. among l (later_is level rest l here)))
+
+of_terms : (levels : List Tables) (terms : List (List ℕ)) → AreOf levels (loads_of levels terms)
+of_terms levels [] = tt
+of_terms levels (term ∷ terms) = both_of levels (loads_from 0 levels term) (loads_of levels terms) (of_levels levels levels 0 term (λ l here. here)) (of_terms levels terms)
+
+of_tests : (levels : List Tables) (newest : Content) (tests : List Test) → AreOf levels (loads_of_tests levels newest tests)
+of_tests levels newest [] = tt
+of_tests levels newest (test ∷ tests) = both_of levels (loads_met levels newest test) (loads_of_tests levels newest tests) (of_terms levels (terms_met levels newest test)) (of_tests levels newest tests)
+
+of_query : (store : Store) (r : Result Shape Fault) → AreOf (levels_of store) (loads_of_query store r)
+of_query store (Ok q) = of_tests (levels_of store) (memory_of store.catalog).content (each_once (tests_of (plan_of q)))
+of_query store (Err f) = tt
+
+pub of_text : (store : Store) (text : List ℕ) → AreOf (levels_of store) (text_loads store text)
+unfolding text_loads
+of_text store text = of_query store (query_of text)
+
+pub of_either : (levels : List Tables) (b : Bool) (loads : List Load) → AreOf levels loads → AreOf levels (cond b [] loads)
+of_either levels true loads are = tt
+of_either levels false loads are = are
+
+-- the first fault among them is one of their levels'
+fault_among : (levels : List Tables) (image : List ℕ) (loads : List Load) (p : ℕ) → AreOf levels loads → IsFirstFault image loads p → IsBrokenAmong levels image p
+fault_among levels image [] p of_them fault = absurd fault
+fault_among levels image (load ∷ loads) p of_them (inl fault) = record { level = load.level; among = of_them.0; broken = fault_of_level load.level image load.row p of_them.1 fault }
+fault_among levels image (load ∷ loads) p of_them (inr later) = fault_among levels image loads p of_them.2 later.1
+
+-- where store and image hold the same
+pub broken_list : (store : Store) (image : List ℕ) (loads : List Load) (p : ℕ) → Holds store image → AreOf (levels_of store) loads → IsFirstFault image loads p → HasBrokenList image p
+broken_list store image loads p holds of_them fault = record {
+  opened = holds.opened;
+  is = holds.is;
+  broken = subst (λ (l : List Tables). IsBrokenAmong l image p) holds.keeps.levels (fault_among (levels_of store) image loads p of_them fault);
+}
+
+-- ---- the disk is as it was
+pub agrees_read : (tells : Type 0) (bytes : ℕ) (d e : DiskState) (store : Store) → IsLawful tells d → Agrees tells d store → Reads tells bytes d e → Agrees tells e store
+agrees_read tells bytes d e store lawful agrees reads = record {
+  settled = only_same tells d lawful agrees.settled e reads.images reads.content;
+  content = λ tell. subst (Holds store) (sym (reads.content tell)) (agrees.content tell);
+  intact = agrees.intact;
+}
+
+-- ---- calls that answer a text
+
+-- the lists of a query were loaded
+pub queries_loaded : {D X : Type 0} (tells : Type 0) (state : D → DiskState) (disk disk_now : D) (loads : List Load) (x : X) (result : Result (List ℕ) StoreFault) → Loads {X = X} tells loads (state disk) (state disk_now) (Ok x)
+    → IfErr result (λ e. e ≡ Memory) → IfOk result (λ reply. IsRefusal reply → ⊥) → Queries tells state disk disk_now loads ⊥ result
+queries_loaded tells state disk disk_now loads x result loaded memory other = record {
+  loaded = loads_then tells loads (state disk) (state disk_now) x result loaded memory;
+  undamaged = λ s tell stands. err_weaker result (λ e. e ≡ Memory) IsOutside (λ e is. inl is) memory;
+  refused = IfOk-weaker result (λ reply. IsRefusal reply → ⊥) (λ reply. IsRefusal reply → disk_now ≡ disk) (λ reply no refusal. absurd (no refusal)) other;
+  idles = λ none. absurd none;
+}
+
+-- they were not
+pub queries_failed : {D X : Type 0} (tells : Type 0) (state : D → DiskState) (disk disk_now : D) (loads : List Load) (f : StoreFault) → Loads {X = X} tells loads (state disk) (state disk_now) (Err f)
+    → ((s : State) → tells → StandsFor s (state disk).content → IsOutside f) → Queries tells state disk disk_now loads ⊥ (Err f)
+queries_failed tells state disk disk_now loads f loaded outside = record {
+  loaded = loads_fault tells loads (state disk) (state disk_now) f loaded;
+  undamaged = outside;
+  refused = tt;
+  idles = λ none. absurd none;
+}
+
+-- the text is this query
+pub queries_found : {D : Type 0} (tells : Type 0) (state : D → DiskState) (disk disk_now : D) (loads now : List Load) (idle : Type 0) (result : Result (List ℕ) StoreFault) → now ≡ loads → (idle → ⊥)
+    → Queries tells state disk disk_now loads ⊥ result → Queries tells state disk disk_now now idle result
+queries_found tells state disk disk_now loads now idle result is busy one = record {
+  loaded = subst (λ (l : List Load). Loads tells l (state disk) (state disk_now) result) (sym is) one.loaded;
+  undamaged = one.undamaged;
+  refused = one.refused;
+  idles = λ none. absurd (busy none);
+}
+
+pub is_query : (text : List ℕ) (q : Shape) → query_of text ≡ Ok q → IsNoQuery text → ⊥
+is_query text q is (f, none) = cc
+
+-- it is none, or memory was wanting for it
+idle_loads : {X : Type 0} (tells : Type 0) (d : DiskState) (loads : List Load) (result : Result X StoreFault) → IfErr result (λ e. e ≡ Memory) → IfOk result (λ x. loads ≡ []) → Loads tells loads d d result
+idle_loads {X} tells d loads (Ok x) memory none = subst (λ (l : List Load). Loads {X = X} tells l d d (Ok x)) (sym none) (loads_idle tells d (Ok x) tt)
+idle_loads {X} tells d loads (Err e) memory none = subst (λ (f : StoreFault). Loads {X = X} tells loads d d (Err f)) (sym memory) (loads_memory tells loads d)
+
+pub queries_idle : {D : Type 0} (tells : Type 0) (state : D → DiskState) (disk : D) (loads : List Load) (idle : Type 0) (result : Result (List ℕ) StoreFault) → IfErr result (λ e. e ≡ Memory) → IfOk result (λ x. loads ≡ [])
+    → Queries tells state disk disk loads idle result
+queries_idle tells state disk loads idle result memory none = record {
+  loaded = idle_loads tells (state disk) loads result memory none;
+  undamaged = λ s tell stands. err_weaker result (λ e. e ≡ Memory) IsOutside (λ e is. inl is) memory;
+  refused = IfOk-weaker result (λ x. loads ≡ []) (λ reply. IsRefusal reply → disk ≡ disk) (λ x is refusal. refl) none;
+  idles = λ here. (refl, memory);
+}
+
+no_loads : (store : Store) (text : List ℕ) (e : QueryFault) → IsMemory e ⊎ (query_of text ≡ Err (fault_in e)) → (e.cause ≡ WantsMemory → ⊥) → text_loads store text ≡ []
+no_loads store text e (inl wanting) other = absurd (other (ap (λ (f : QueryFault). f.cause) wanting))
+no_loads store text e (inr is) other = text_none store text (fault_in e) is
+
+pub none_loaded : (store : Store) (text : List ℕ) (e : QueryFault) (result : Result (List ℕ) StoreFault) → IsMemory e ⊎ (query_of text ≡ Err (fault_in e)) → IfOk result (λ t. e.cause ≡ WantsMemory → ⊥) → IfOk result (λ x. text_loads store text ≡ [])
+none_loaded store text e result why other = IfOk-weaker result (λ t. e.cause ≡ WantsMemory → ⊥) (λ t. text_loads store text ≡ []) (λ t no. no_loads store text e why no) other
+
+-- ---- an open
+either_loads : (b : Bool) (a c : List Load) → a ≡ c → cond b [] a ≡ cond b [] c
+either_loads b a c is = ap (λ (l : List Load). cond b [] l) is
+
+none_loads : (b : Bool) (a : List Load) → a ≡ [] → cond b [] a ≡ []
+none_loads true a is = refl
+none_loads false a is = is
+
+pub open_none_loads : (store : Store) (cursors : List OpenCursor) (text : List ℕ) (result : Result (List ℕ) StoreFault) → IfOk result (λ x. text_loads store text ≡ []) → IfOk result (λ x. open_loads store cursors text ≡ [])
+open_none_loads store cursors text result none =
+    IfOk-weaker result (λ x. text_loads store text ≡ []) (λ x. open_loads store cursors text ≡ []) (λ x is. none_loads (nat_le CURSORS (length cursors)) (text_loads store text) is) none
+
+pub queries_opened : {D : Type 0} (tells : Type 0) (state : D → DiskState) (disk disk_now : D) (store : Store) (cursors : List OpenCursor) (text : List ℕ) (q : Shape) (result : Result (List ℕ) StoreFault) → query_of text ≡ Ok q
+    → Queries tells state disk disk_now (cond (nat_le CURSORS (length cursors)) [] (search_loads store (plan_of q))) (CURSORS ≤ length cursors) result
+    → Queries tells state disk disk_now (open_loads store cursors text) (IsNoQuery text ⊎ (CURSORS ≤ length cursors)) result
+queries_opened tells state disk disk_now store cursors text q result is one = record {
+  loaded = subst (λ (l : List Load). Loads tells l (state disk) (state disk_now) result) (sym (either_loads (nat_le CURSORS (length cursors)) (text_loads store text) (search_loads store (plan_of q)) (text_found store text q is))) one.loaded;
+  undamaged = one.undamaged;
+  refused = one.refused;
+  idles = λ idle. ⊎_elim (λ none. absurd (is_query text q is none)) one.idles idle;
+}
+
+fewer_test : (n : ℕ) → n < CURSORS → nat_le CURSORS n ≡ false
+fewer_test n less = grind (arith, nat_tests)
+
+full_test : (n : ℕ) → CURSORS ≤ n → nat_le CURSORS n ≡ true
+full_test n le = grind (arith, nat_tests)
+
+-- fewer are open than may be
+pub fewer_loads : (cursors : List OpenCursor) (loads : List Load) → length cursors < CURSORS → cond (nat_le CURSORS (length cursors)) [] loads ≡ loads
+fewer_loads cursors loads fewer = ap (λ (b : Bool). cond b [] loads) (fewer_test (length cursors) fewer)
+
+-- as many are
+pub full_loads : (cursors : List OpenCursor) (loads : List Load) → CURSORS ≤ length cursors → cond (nat_le CURSORS (length cursors)) [] loads ≡ []
+full_loads cursors loads full = ap (λ (b : Bool). cond b [] loads) (full_test (length cursors) full)
+
+pub all_ok : {T E : Type 0} (r : Result T E) (P : Type 0) → P → IfOk r (λ x. P)
+all_ok (Ok x) P here = here
+all_ok (Err e) P here = tt

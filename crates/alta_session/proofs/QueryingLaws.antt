@@ -1,0 +1,131 @@
+-- Laws of lines that ask for the answers of a query.
+use Rattle.std.proofs.Common.{◌≡◌, ◌⊎◌, ◌≤◌, ◌<◌, ◌++◌, ℕ, inl, inr, ⊎_elim, Bool, true, false, cond, List, [], ◌∷◌, length, refl, ap, sym, subst, ◌∙◌, arith, Result, Ok, Err, IfOk, IfErr, OnOk, codes, decimal}
+use Rattle.std.specs.Prelude.{nat_le}
+use Rattle.std.proofs.lemmas.Bool.{cases_lt}
+use Rattle.std.proofs.lemmas.Bool.Decides.{nat_tests}
+use Rattle.alta_disk.specs.Disk.{DiskState, IsLawful, Same}
+use Rattle.alta_disk.proofs.Moments.{leaves_by}
+use Rattle.alta_images.specs.Standing.{StandsFor, StandsForEither}
+use Rattle.alta_loading.specs.Loads.{Load, load_sizes}
+use Rattle.alta_meta.specs.declared.document.Document.{Document}
+use Rattle.alta_meta.specs.declared.document.State.{State}
+use Rattle.alta_model.specs.Deciding.{answers}
+use Rattle.alta_query.specs.Faults.{Fault}
+use Rattle.alta_query.specs.Reading.{query_of}
+use Rattle.alta_query.specs.Shape.{Shape}
+use Rattle.alta_search.specs.Open.{AreOpen, OpenAnswers, least_free, with_opened}
+use Rattle.alta_search.specs.declared.cursors.OpenCursor.{OpenCursor}
+use Rattle.alta_search.specs.declared.cursors.TheConstants.{CURSORS}
+use Rattle.alta_search.proofs.CursorAnswers.{same_length}
+use Rattle.alta_session.specs.Agreement.{AgreesOn}
+use Rattle.alta_session.specs.Answering.{Answers, CanAnswer}
+use Rattle.alta_session.specs.Cursors.{Turn, Turns, opening, opened_by}
+use Rattle.alta_session.specs.Loading.{HasBrokenList, Loads, Queries}
+use Rattle.alta_session.specs.Machine.{IsRefusal, Machine, turned_by}
+use Rattle.alta_session.specs.Searching.{IsNoQuery, answer_lines, counted_by, counting, found_by, found_line, searching}
+use Rattle.alta_session.specs.declared.session.Session.{Session}
+use Rattle.alta_session.proofs.AnsweringLaws.{answers_by, if_so, ok_weaker, with_cursors}
+use Rattle.alta_session.proofs.CursorLaws.{found_other, cursor_other, lines_other, no_refusal}
+use Rattle.alta_session.proofs.FullnessLaws.{none_added}
+use Rattle.alta_session.proofs.LoadingLaws.{AreOf, agrees_read, broken_list}
+use Rattle.alta_store.specs.Agreement.{Agrees, levels_of}
+use Rattle.alta_store.specs.Answers.{IsOutside}
+use Rattle.alta_store.specs.declared.fault.StoreFault.{StoreFault}
+use Rattle.alta_store.specs.declared.fault.StoreFault.TheVariants.{Disk, Memory, Damaged, Full}
+use Rattle.alta_store.proofs.Agreements.{images_stand}
+
+ok_both : {T E : Type 0} (r : Result T E) (P Q R : T → Type 0) → ((x : T) → P x → Q x → R x) → IfOk r P → IfOk r Q → IfOk r R
+ok_both (Ok x) P Q R both one two = both x one two
+ok_both (Err e) P Q R both one two = tt
+
+pub kept_all : {E : Type 0} (r : Result (List ℕ) E) (cursors : List OpenCursor) → IfOk r (λ reply. IsRefusal reply → cursors ≡ cursors)
+kept_all (Ok x) cursors = λ refusal. refl
+kept_all (Err e) cursors = tt
+
+-- ---- faults
+not_full : {T : Type 0} (r : Result T StoreFault) (need gap : ℕ) → IfErr r (λ e. IsOutside e ⊎ ((place : ℕ) × (e ≡ Damaged place))) → r ≡ Err (Full need gap) → ⊥
+not_full (Ok x) need gap only is = cc
+not_full (Err e) need gap (inl (inl memory)) is = cc
+not_full (Err e) need gap (inl (inr disk)) is = cc
+not_full (Err e) need gap (inr (place, damaged)) is = cc
+
+not_damaged : {T : Type 0} (r : Result T StoreFault) (place : ℕ) → IfErr r IsOutside → r ≡ Err (Damaged place) → ⊥
+not_damaged (Ok x) place outside is = cc
+not_damaged (Err e) place (inl memory) is = cc
+not_damaged (Err e) place (inr disk) is = cc
+
+only_so : {T : Type 0} (r : Result T StoreFault) → IfErr r (λ e. IsOutside e ⊎ ((place : ℕ) × (e ≡ Damaged place)))
+    → IfErr r (λ e. IsOutside e ⊎ (((need gap : ℕ) × (e ≡ Full need gap)) ⊎ ((place : ℕ) × (e ≡ Damaged place))))
+only_so (Ok x) only = tt
+only_so (Err e) (inl outside) = inl outside
+only_so (Err e) (inr damaged) = inr (inr damaged)
+
+-- ---- a call that answers a query, with this turn of the machine
+pub queried : {D : Type 0} (tells : Type 0) (state : D → DiskState) (disk disk_now : D) (session : Session) (cursors : List OpenCursor) (bytes : ℕ) (loads : List Load) (idle : Type 0) (result : Result (List ℕ) StoreFault)
+    (steps : Machine → Machine × List ℕ) (turn : State → List OpenAnswers → Turn) → IsLawful tells (state disk) → CanAnswer tells (state disk) session
+    → Queries tells state disk disk_now loads idle result → AreOf (levels_of session.store) loads → IfOk result (λ reply. IsRefusal reply → cursors ≡ session.cursors)
+    → ((s : State) (all : List OpenAnswers) → tells → StandsFor s (state disk).content → AreOpen session.cursors all → Turns (turn s all) cursors result)
+    → ((s : State) (all : List OpenAnswers) → AreOpen session.cursors all → IsRefusal (turn s all).1 → idle)
+    → ((m : Machine) → steps m ≡ turned_by m (turn m.state m.cursors)) → Answers tells state disk disk_now session (with_cursors session cursors) bytes result steps
+queried tells state disk disk_now session cursors bytes loads idle result steps turn lawful can queries of_them kept turns idles is =
+    let reads = queries.loaded.reads in
+    let agrees_now : Agrees tells (state disk_now) session.store = agrees_read tells (load_sizes loads) (state disk) (state disk_now) session.store lawful can.agrees reads in
+    answers_by tells state disk disk_now session (with_cursors session cursors) bytes result (λ m. turned_by m (turn m.state m.cursors)) steps (λ m. sym (is m)) (record {
+      from = λ m tell agrees.
+          let one : Turns (turn m.state m.cursors) cursors result = turns m.state m.cursors tell (agrees.stands tell) agrees.cursors in
+          let before : (c : List ℕ) → (state disk).images c → StandsForEither m.state m.state c = λ c here. inl (images_stand tells (state disk) m.state lawful agrees.store.settled agrees.stands c here) in
+          record {
+            reply = one.reply;
+            agrees = ok_weaker result (AreOpen cursors (turn m.state m.cursors).0) _
+                (λ open_now. record { store = agrees_now; stands = λ told. subst (StandsFor m.state) (sym (reads.content told)) (agrees.stands told); cursors = open_now }) one.open_now;
+            images = leaves_by tells (state disk) (state disk_now) (StandsForEither m.state m.state) Same lawful reads.images before (λ x z here same. subst (StandsForEither m.state m.state) (sym same) (before x here));
+            refused = λ refusal. queries.idles (idles m.state m.cursors agrees.cursors refusal);
+            need = λ need gap failed. absurd (not_full result need gap queries.loaded.only failed);
+            undamaged = λ place failed. not_damaged result place (queries.undamaged m.state tell (agrees.stands tell)) failed;
+            room = if_so result _ (omega (arith, none_added bytes m.state));
+          };
+      can = if_so result (CanAnswer tells (state disk_now) (with_cursors session cursors)) (record { sound = can.sound; agrees = agrees_now; limit = omega (arith, can.limit, reads.costs.limit) });
+      unchanged = ok_both result (λ reply. IsRefusal reply → disk_now ≡ disk) (λ reply. IsRefusal reply → cursors ≡ session.cursors) _
+          (λ reply same_disk same_cursors refusal. (same_disk refusal, ap (with_cursors session) (same_cursors refusal))) queries.refused kept;
+      only = only_so result queries.loaded.only;
+      full = λ need gap tell failed. absurd (not_full result need gap queries.loaded.only failed);
+      broken = λ place tell failed.
+          subst (λ (c : List ℕ). HasBrokenList c place) (sym (reads.content tell)) (broken_list session.store (state disk).content loads place (can.agrees.content tell) of_them (queries.loaded.first place tell failed));
+      cause = queries.loaded.cause;
+      faults = reads.costs.faults;
+      same_limit = reads.costs.limit;
+    })
+
+-- ---- replies that refuse
+search_idle : (documents : List Document) (r : Result Shape Fault) → IsRefusal (found_by documents r) → (f : Fault) × (r ≡ Err f)
+search_idle documents (Ok q) refusal = absurd (no_refusal (answer_lines (answers documents q) ++ found_line (length (answers documents q))) (lines_other (answers documents q) (length (answers documents q))) refusal)
+search_idle documents (Err f) refusal = (f, refl)
+
+pub search_refuses : (text : List ℕ) (documents : List Document) → IsRefusal (searching text documents) → IsNoQuery text
+unfolding searching
+search_refuses text documents refusal = search_idle documents (query_of text) refusal
+
+count_idle : (documents : List Document) (r : Result Shape Fault) → IsRefusal (counted_by documents r) → (f : Fault) × (r ≡ Err f)
+count_idle documents (Ok q) refusal = absurd (no_refusal (found_line (length (answers documents q))) (found_other (length (answers documents q))) refusal)
+count_idle documents (Err f) refusal = (f, refl)
+
+pub count_refuses : (text : List ℕ) (documents : List Document) → IsRefusal (counting text documents) → IsNoQuery text
+unfolding counting
+count_refuses text documents refusal = count_idle documents (query_of text) refusal
+
+over_idle : (documents : List Document) (all : List OpenAnswers) (b : Bool) → nat_le CURSORS (length all) ≡ b
+    → IsRefusal (cond {A = List OpenAnswers × List ℕ} b (all, codes "! too many cursors\n") (with_opened documents all, codes "cursor " ++ decimal (least_free all) ++ codes "\n")).1 → CURSORS ≤ length all
+over_idle documents all true test refusal = at_least (length all) test
+  where
+    at_least : (n : ℕ) → nat_le CURSORS n ≡ true → CURSORS ≤ n
+    at_least n test = grind (arith, nat_tests)
+over_idle documents all false test refusal = absurd (no_refusal (codes "cursor " ++ decimal (least_free all) ++ codes "\n") (cursor_other (least_free all)) refusal)
+
+open_idle : (documents : List Document) (all : List OpenAnswers) (r : Result Shape Fault) → IsRefusal (opened_by documents all r).1 → ((f : Fault) × (r ≡ Err f)) ⊎ (CURSORS ≤ length all)
+open_idle documents all (Ok q) refusal = inr (over_idle (answers documents q) all (nat_le CURSORS (length all)) refl refusal)
+open_idle documents all (Err f) refusal = inl (f, refl)
+
+pub open_refuses : (text : List ℕ) (documents : List Document) (cursors : List OpenCursor) (all : List OpenAnswers) → AreOpen cursors all → IsRefusal (opening text documents all).1 → IsNoQuery text ⊎ (CURSORS ≤ length cursors)
+unfolding opening
+open_refuses text documents cursors all are refusal =
+    ⊎_elim (λ no_query. inl no_query) (λ full. inr (omega (arith, full, same_length cursors all are))) (open_idle documents all (query_of text) refusal)

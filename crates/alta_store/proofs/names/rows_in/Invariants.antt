@@ -1,6 +1,0 @@
-use Rattle.std.proofs.Common.{◌≡◌, ◌++◌, map}
-use Rattle.alta_store.specs.Naming.{row_of}
-use Rattle.alta_store.proofs.names.rows_in.Given as goal
-
-abbrev pub invariant-loop-name : goal.invariant-loop-name
-invariant-loop-name l = l.rows ++ map row_of l.name-iterator ≡ map row_of l.names.entries

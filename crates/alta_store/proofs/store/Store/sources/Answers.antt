@@ -1,0 +1,26 @@
+use Rattle.std.proofs.Common.{◌++◌, IsTrue, List, ap, subst, sym, ◌∙◌, ap₂}
+use Rattle.alta_content.specs.declared.document.DocRow.{DocRow}
+use Rattle.alta_images.specs.Opened.{rows_in}
+use Rattle.alta_images.specs.Ordered.{RowsRise}
+use Rattle.alta_codec.specs.Rising.{IsRising}
+use Rattle.alta_memlevel.specs.Added.{Added, HasContent, Level}
+use Rattle.alta_table.specs.Tables.{Tables}
+use Rattle.alta_store.proofs.store.Store.sources.Goals as goal
+
+pub returns : goal.returns
+returns c =
+    let s = c.requires.0 in
+    let knows = c.requires.1 in
+    let memory = c.newest.ensures.memory in
+    let gone = c.newest.ensures.gone in
+    let rows = c.in_ok-rows.ensures
+    ∙ ap₂ (λ (levels : List Tables) (newest : Level). rows_in levels ++ newest.content.documents) (sym c.levels.ensures) (sym memory) in
+    record {
+      levels_are = c.levels.ensures;
+      newest_is = memory;
+      gone_are = gone;
+      added = (knows.added, subst (λ (m : Level). IsTrue m.sound) (sym memory) knows.sound, subst (λ (m : Level). HasContent knows.added m.content) (sym memory) knows.content);
+      rows_are = rows;
+      rise = subst RowsRise (sym c.in_ok-rows.ensures) (c.newest.ensures.rise s knows);
+      rising = (c.newest.ensures.parts s knows).has.rising;
+    }
