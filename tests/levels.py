@@ -199,9 +199,9 @@ def compare(program, folder, chance):
 
 
 def broken_lists(program, folder, content, places, levels):
-    """A list of the last level is broken, and then its head."""
+    """A list of the longest level is broken, and then its head."""
     path = os.path.join(folder, "broken")
-    place, level_ = places[-1], levels[-1]
+    level_, place = max(zip(levels, places), key=lambda pair: len(pair[0]))
     _, count, document_bytes, term_bytes = read_head(level_)
     middle = 32 + document_bytes
     terms = read_terms(level_, middle, middle + term_bytes, count)
