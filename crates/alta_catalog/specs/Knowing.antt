@@ -1,7 +1,7 @@
 -- What a catalog knows of a state.
 use Rattle.std.proofs.Common.{Global}
 use Rattle.std.specs.Prelude.{◌≡◌, ℕ, ◌+◌, ◌-◌, ◌*◌, ◌≤◌, IsTrue, Contains, List, [], ◌∷◌, ◌++◌, String, is_some, Some, length, map}
-use Rattle.std.specs.List.{All}
+use Rattle.std.specs.List.{All, sum_by}
 use Rattle.std.specs.BTreeMap.{BTreeMap, get_by_text}
 use Rattle.alta_codec.specs.Rising.{IsRising}
 use Rattle.alta_content.specs.Rows.{end_of}
@@ -11,6 +11,9 @@ use Rattle.alta_meta.specs.declared.document.Document.{Document}
 use Rattle.alta_meta.specs.declared.document.State.{State}
 use Rattle.alta_images.specs.Opened.{rows_in}
 use Rattle.alta_images.specs.States.{has_name, words_in}
+use Rattle.alta_images.specs.Work.{added_from}
+use Rattle.alta_journal.specs.declared.entry.Entry.{Entry}
+use Rattle.alta_root.specs.declared.root.Root.{Root}
 use Rattle.alta_catalog.specs.Rows.{AreRowsOf, documents_left}
 use Rattle.alta_catalog.specs.declared.catalog.Catalog.{Catalog}
 use Rattle.alta_rows.specs.All.{joined, rows_in as rows_of}
@@ -78,6 +81,14 @@ levels_of c = c.levels.items
 abbrev pub gone_of : Catalog → List ℕ
 gone_of c = c.gone
 
+-- the number of the next document
+abbrev pub next_of : Catalog → ℕ
+next_of c = c.next
+
+-- the location of its first cell
+abbrev pub location_of : Catalog → ℕ
+location_of c = c.location
+
 -- the level in memory
 abbrev pub memory_of : Catalog → Level
 memory_of c = c.memory
@@ -93,3 +104,15 @@ pub record AreParts (levels : List Tables) (gone : List ℕ) (memory : Level) (o
   pub newest : List Document
   pub has : HasDocuments gone newest memory
   pub split : s.documents ≡ documents_left gone olds ++ newest
+
+-- the documents that entries add behind a root
+abbrev pub newest_of : Root → List Entry → List Added
+newest_of root entries = added_from root.next_number root.next_location entries
+
+-- The catalog follows a root by these entries: in memory it has exactly the documents that they add, and goes on behind them.
+pub record Follows (c : Catalog) (root : Root) (entries : List Entry) : Type 0 where
+  pub first : c.first ≡ root.next_number
+  pub content : HasContent (newest_of root entries) c.memory.content
+  pub made : AreMade (newest_of root entries)
+  pub next : c.next ≡ root.next_number + length (newest_of root entries)
+  pub location : c.location ≡ root.next_location + sum_by (λ (a : Added). a.row.cells) (newest_of root entries)

@@ -1,24 +1,30 @@
 // What is known of all live documents.
 ghost use Rattle.std.specs.BTreeMap.{BTreeMap};
-ghost use Rattle.std.specs.Prelude.{◌≡◌, ◌↔◌, ◌++◌, ◌+◌, ◌<◌, ◌≤◌, ℕ, true, false, length, IsTrue, IfOk, IfSome, IfNone, OnOk};
+ghost use Rattle.std.specs.List.{sum_by};
+ghost use Rattle.std.specs.Prelude.{◌≡◌, ◌↔◌, ◌++◌, ◌∷◌, [], ◌+◌, ◌-◌, ◌*◌, ◌<◌, ◌≤◌, ℕ, List, true, false, length, IsTrue, IfOk, IfSome, IfNone, OnOk};
 ghost use Rattle.alta_codec.specs.Name.{IsName};
 ghost use Rattle.alta_codec.specs.Rising.{IsRising};
 ghost use Rattle.alta_content.specs.Rows.{AreDocuments};
 ghost use Rattle.alta_images.specs.Opened.{have_ends, live_in, rows_in};
 ghost use Rattle.alta_images.specs.Ordered.{AreBelow, AreOrdered, RowsRise};
 ghost use Rattle.alta_images.specs.States.{has_name, has_number, number_of, with_added, with_deleted, without, words_in};
+ghost use Rattle.alta_journal.specs.declared.entry.Entry.{Entry};
+ghost use Rattle.alta_journal.specs.declared.entry.Entry.TheVariants.{Add as AddEntry, Delete as DeleteEntry};
+ghost use Rattle.alta_memlevel.specs.Added.{Added, HasContent};
 ghost use Rattle.alta_meta.specs.declared.document.State.{State};
 ghost use Rattle.alta_root.specs.Root.{IsSound};
-ghost use Rattle.alta_catalog.specs.Knowing.{AreParts, Knows, KnowsBy, gone_of, levels_of, memory_of};
+ghost use Rattle.alta_catalog.specs.Flushing.{IsEmptied, MayStand, ends_below, level_in};
+ghost use Rattle.alta_catalog.specs.Knowing.{AreParts, Follows, Knows, KnowsBy, gone_of, levels_of, location_of, memory_of, newest_of, next_of};
 ghost use Rattle.alta_catalog.specs.Names.{AreNames, AreNamesOf};
-ghost use Rattle.alta_catalog.specs.Rows.{MayStart};
+ghost use Rattle.alta_catalog.specs.Rows.{AreRowsOf, MayStart, documents_left};
+ghost use Rattle.alta_root.specs.declared.root.Root.{Root};
 
 use crate::finding::{end_of, find};
 use crate::lists::Names;
 use crate::names::{forget, note, rows_in};
-use crate::sharing::{rows_of, share_runs, with_runs};
+use crate::sharing::{level_rows, rows_of, share_runs, with_runs};
 use crate::starting::{ends_of, tally_levels};
-use alta_codec::{Loc, Text};
+use alta_codec::{DocNumber, Loc, Text};
 use alta_content::DocRow;
 use alta_deletions::Deletions;
 use alta_memlevel::MemLevel;
@@ -28,6 +34,7 @@ use alta_rows::{AllRows, LevelRows};
 use alta_table::Table;
 use std::alloc::{AllocError, Global};
 use std::collections::BTreeMap;
+use std::mem;
 use std::rc::Rc;
 
 // The cells of a document that are no words: its name's, its title's end, and its own end.
@@ -76,6 +83,7 @@ impl Catalog {
         ensures knows { (s : State) → (may : MayStart s root.now deleted.now levels.items) → IfOk result (λ c. KnowsBy c may.olds s) }
         ensures levels { IfOk result (λ c. levels_of c ≡ levels.items) }
         ensures gone { IfOk result (λ c. gone_of c ≡ deleted.now) }
+        ensures follows { IfOk result (λ c. Follows c root.now []) }
     {
         let gone = ends_of(alloc, deleted)?;
         let tally = tally_levels(&levels, &gone);
@@ -187,6 +195,7 @@ impl Catalog {
         ensures added { OnOk result ((s : State) → (knows : Knows self.old s) → KnowsBy self.new knows.olds (with_added name.now title.now body.now s)) }
         ensures levels { levels_of self.new ≡ levels_of self.old }
         ensures gone { gone_of self.new ≡ gone_of self.old }
+        ensures follows { (root : Root) → (entries : List Entry) → Follows self.old root entries → OnOk result (Follows self.new root (entries ++ AddEntry name.now title.now body.now ∷ [])) }
     {
         let cells = cells(alloc, name, title, body)?;
         let count = cells.len() as u64;
@@ -217,6 +226,7 @@ impl Catalog {
         ensures missing { IfOk result (λ there. there ≡ false → (s : State) → Knows self.old s → has_number number s ≡ false) }
         ensures unchanged { IfOk result (λ there. there ≡ false → self.new ≡ self.old) }
         ensures levels { levels_of self.new ≡ levels_of self.old }
+        ensures follows { (root : Root) → (entries : List Entry) → Follows self.old root entries → IfOk result (λ there. there ≡ true → Follows self.new root (entries ++ DeleteEntry number ∷ [])) }
     {
         let Some(row) = find(&self.levels, &self.memory, self.first, number) else {
             return Ok(false);
@@ -241,11 +251,74 @@ impl Catalog {
         requires { (s : State) × Knows self.old s × (has_number number s ≡ true) }
         ensures removed { OnOk result ((s : State) → (knows : Knows self.old s) → KnowsBy self.new knows.olds (without number s)) }
         ensures levels { levels_of self.new ≡ levels_of self.old }
+        ensures follows { (root : Root) → (entries : List Entry) → Follows self.old root entries → OnOk result (Follows self.new root (entries ++ DeleteEntry number ∷ [])) }
     {
         match self.delete(number) {
             Ok(true) => Ok(()),
             Ok(false) => unreachable!(),
             Err(fault) => Err(fault),
         }
+    }
+
+    /// The number that the next document gets, and the location of its first cell.
+    pub fn bounds(&self) -> (DocNumber, Loc)
+        ensures follows { (root : Root) → (entries : List Entry) → Follows self.now root entries → (result.0 ≡ root.next_number + length (newest_of root entries)) × (result.1 ≡ root.next_location + sum_by (λ (a : Added). a.row.cells) (newest_of root entries)) }
+        ensures within { (s : State) → Knows self.now s → (1 ≤ result.0) × (result.0 ≤ 4294967296) × (1 ≤ result.1) × (result.1 ≤ 1 + (result.0 - 1) * 262146) }
+        ensures next { (s : State) → Knows self.now s → result.0 ≡ s.next }
+        ensures are { (result.0 ≡ next_of self.now) × (result.1 ≡ location_of self.now) }
+    {
+        (self.next, self.location)
+    }
+
+    /// The ends of documents that are gone and lie below a location. They are the first ones of all. Fails for want of memory alone.
+    pub fn gone_below(&self, alloc: Global, location: Loc) -> Result<Vec<Loc>, AllocError>
+        ensures value { IfOk result (λ ends. ends.items ≡ ends_below location (gone_of self.now)) }
+        ensures rising { IfOk result (λ ends. IsRising ends.items) }
+    {
+        let mut ends = Vec::new(alloc);
+        for end in self.gone.ends() {
+            if *end < location {
+                ends.push(*end)?;
+            }
+        }
+        Ok(ends)
+    }
+
+    /// Takes the newest documents out. Until [`put_level`](Catalog::put_level) the catalog knows the documents of levels alone.
+    pub fn take_newest(&mut self) -> MemLevel
+        ensures memory { result ≡ memory_of self.old }
+        ensures emptied { IsEmptied self.old self.new }
+    {
+        mem::replace(&mut self.memory, MemLevel::new(self.alloc))
+    }
+
+    /// Goes on over one level more, which has the live ones of the newest documents that were taken out, or over the same levels where
+    /// none was live. These ends of the levels' documents are deleted then. The rows of that level are copied, to be shared; no other row
+    /// is looked at.
+    ///
+    /// # Errors
+    ///
+    /// `AllocError` where memory is wanting: the catalog may no longer be used.
+    pub fn put_level(
+        &mut self,
+        level: Option<Table>,
+        deleted: &[Loc],
+    ) -> Result<(), AllocError>
+        requires rising { IsRising deleted.now }
+        ensures knows { (before : Catalog) → (s : State) → (location : ℕ) → (olds : List Added) → IsEmptied before self.old → Knows before s → MayStand before location level deleted.now
+            → OnOk result (AreRowsOf (rows_in (levels_of self.new)) olds → KnowsBy self.new olds (record { next = s.next; documents = documents_left deleted.now olds })) }
+        ensures same { (before : Catalog) → (s : State) → (location : ℕ) → IsEmptied before self.old → Knows before s → MayStand before location level deleted.now → OnOk result (Knows self.new s) }
+        ensures levels { OnOk result (levels_of self.new ≡ levels_of self.old ++ level_in level) }
+        ensures gone { OnOk result (gone_of self.new ≡ deleted.now) }
+        ensures follows { (root : Root) → root.next_number ≡ next_of self.old → root.next_location ≡ location_of self.old → HasContent [] (memory_of self.old).content → OnOk result (Follows self.new root []) }
+    {
+        let gone = ends_of(self.alloc, deleted)?;
+        if let Some(level) = level {
+            self.rows.push(level_rows(self.alloc, level.documents())?)?;
+            self.levels.push(level)?;
+        }
+        self.gone = gone;
+        self.first = self.next;
+        Ok(())
     }
 }

@@ -18,7 +18,7 @@ pub use catalog::Catalog;
 pub use fault::CatalogFault;
 pub use laws::{
     a_catalog_knows_one, a_root_may_start, a_state_may_be, an_entry_goes_on, something_may_be,
-    what_may_be_is_known,
+    what_is_gone, what_may_be_is_known,
 };
 pub use lists::{NameRow, Names};
 pub use replaying::apply_entries;

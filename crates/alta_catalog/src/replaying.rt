@@ -1,11 +1,13 @@
 // The documents that the entries of a journal leave.
-ghost use Rattle.std.specs.Prelude.{◌≡◌, ◌⊎◌, ◌+◌, ◌<◌, ℕ, true, false, Err, IfOk, IfErr, OnOk, All};
+ghost use Rattle.std.specs.Prelude.{◌≡◌, ◌⊎◌, ◌+◌, ◌++◌, ◌∷◌, [], ◌<◌, ℕ, List, true, false, Err, IfOk, IfErr, OnOk, All};
 ghost use Rattle.alta_journal.specs.Entry.{IsSound};
+ghost use Rattle.alta_journal.specs.declared.entry.Entry.{Entry};
 ghost use Rattle.alta_journal.specs.declared.entry.Entry.TheVariants.{Add};
 ghost use Rattle.alta_meta.specs.declared.document.State.{State};
 ghost use Rattle.alta_images.specs.Entries.{Allows, AllowsAll, after_entry, after_entries, entries_in, IsRefusedAt};
 ghost use Rattle.alta_images.specs.States.{with_added};
-ghost use Rattle.alta_catalog.specs.Knowing.{Knows, KnowsBy, levels_of};
+ghost use Rattle.alta_root.specs.declared.root.Root.{Root};
+ghost use Rattle.alta_catalog.specs.Knowing.{Follows, Knows, KnowsBy, levels_of};
 ghost use Rattle.alta_catalog.specs.declared.fault.CatalogFault.TheVariants.{Memory, Damaged};
 
 use crate::CatalogFault;
@@ -34,6 +36,7 @@ pub fn apply_entries(
     ensures applied { (s : State) → (knows : Knows catalog.old s) → OnOk result (AllowsAll s (entries_in found.now) × KnowsBy catalog.new knows.olds (after_entries s (entries_in found.now))) }
     ensures damaged { (s : State) → Knows catalog.old s → All (λ p. p.place < 4294967296) found.now → (place : ℕ) → result ≡ Err (Damaged place) → IsRefusedAt s found.now place }
     ensures levels { levels_of catalog.new ≡ levels_of catalog.old }
+    ensures follows { (root : Root) → (entries : List Entry) → Follows catalog.old root entries → OnOk result (Follows catalog.new root (entries ++ entries_in found.now)) }
     ensures only { IfErr result (λ e. (e ≡ Memory) ⊎ ((place : ℕ) × (e ≡ Damaged place))) }
 {
     for placed in found {
@@ -60,6 +63,7 @@ fn apply_entry(alloc: Global, catalog: &mut Catalog, entry: &Entry) -> Result<bo
     ensures allowed { (s : State) → (knows : Knows catalog.old s) → IfOk result (λ allowed. allowed ≡ true → Allows s entry.now × KnowsBy catalog.new knows.olds (after_entry s entry.now)) }
     ensures refused { (s : State) → Knows catalog.old s → IfOk result (λ allowed. allowed ≡ false → Allows s entry.now → ⊥) }
     ensures levels { levels_of catalog.new ≡ levels_of catalog.old }
+    ensures follows { (root : Root) → (entries : List Entry) → Follows catalog.old root entries → IfOk result (λ allowed. allowed ≡ true → Follows catalog.new root (entries ++ entry.now ∷ [])) }
 {
     match entry {
         Entry::Add { name, title, body } => {
@@ -82,6 +86,7 @@ fn add(
     ensures allowed { (s : State) → (knows : Knows catalog.old s) → IfOk result (λ allowed. allowed ≡ true → Allows s (Add name.now title.now body.now) × KnowsBy catalog.new knows.olds (with_added name.now title.now body.now s)) }
     ensures refused { (s : State) → Knows catalog.old s → IfOk result (λ allowed. allowed ≡ false → Allows s (Add name.now title.now body.now) → ⊥) }
     ensures levels { levels_of catalog.new ≡ levels_of catalog.old }
+    ensures follows { (root : Root) → (entries : List Entry) → Follows catalog.old root entries → IfOk result (λ allowed. allowed ≡ true → Follows catalog.new root (entries ++ Add name.now title.now body.now ∷ [])) }
 {
     if !catalog.has_room() {
         return Ok(false);

@@ -22,8 +22,8 @@ pub(crate) fn rows_of(alloc: Global, levels: &[Table]) -> Result<Vec<Rc<LevelRow
     Ok(rows)
 }
 
-// The rows of a level, copied.
-fn level_rows(alloc: Global, rows: &[DocRow]) -> Result<Rc<LevelRows>, AllocError>
+/// The rows of a level, copied.
+pub(crate) fn level_rows(alloc: Global, rows: &[DocRow]) -> Result<Rc<LevelRows>, AllocError>
     requires { AreDocuments rows.now }
     ensures { IfOk result (λ level. rows_in level ≡ rows.now) }
 {

@@ -1,11 +1,11 @@
 // A flush.
-ghost use Rattle.std.specs.Prelude.{◌≡◌, ◌⊎◌, ◌≤◌, ◌+◌, ◌-◌, ◌*◌, [], List, ℕ, true, Err, Ok, IsTrue, IfOk, OnOk};
+ghost use Rattle.std.specs.Prelude.{◌≡◌, ◌⊎◌, ◌≤◌, ◌+◌, ◌-◌, ◌*◌, [], map, List, ℕ, true, Err, Ok, IsTrue, IfOk, OnOk};
 ghost use Rattle.alta_codec.specs.Faults.{Rose};
 ghost use Rattle.alta_codec.specs.Rising.{IsRising};
 ghost use Rattle.alta_disk.specs.Calls.{Costs};
 ghost use Rattle.alta_disk.specs.Disk.{DiskState, LeavesOnly, Only};
 ghost use Rattle.alta_images.specs.Holding.{Holding, IsHeld};
-ghost use Rattle.alta_images.specs.Opened.{Opened};
+ghost use Rattle.alta_images.specs.Opened.{Opened, rows_in};
 ghost use Rattle.alta_images.specs.Standing.{StandsFor};
 ghost use Rattle.alta_images.specs.Views.{state_of};
 ghost use Rattle.alta_images.specs.Working.{flushed};
@@ -15,7 +15,7 @@ ghost use Rattle.alta_root.specs.Places.{other};
 ghost use Rattle.alta_root.specs.Slots.{Counts};
 ghost use Rattle.alta_root.specs.declared.places.TheConstants.{DOCUMENT_CELLS, HEAD_BYTES, LAST_NEXT};
 ghost use Rattle.alta_flush.specs.Drafts.{Drafts, IsFull, is_many};
-ghost use Rattle.alta_flush.specs.Flushes.{IsFlushed, IsFlushedOpened, MayBecome, MayFlush, MayFlushOpened, flush_places};
+ghost use Rattle.alta_flush.specs.Flushes.{IsFlushed, IsFlushedOpened, MayBecome, MayFlush, MayFlushOpened, flush_places, tables_in};
 ghost use Rattle.alta_flush.specs.declared.fault.FlushFault.TheVariants.{Disk as DiskFault, Full, Memory};
 
 use crate::draft::{Draft, make_draft, pieces_in};
@@ -119,6 +119,7 @@ pub fn flush<D: Disk>(
 
     // What counts then; and where nothing was written.
     ensures counts { IfOk result (λ done. (done.slot ≡ other slot) × (done.root.next_number ≡ next) × (done.root.next_location ≡ location)) }
+    ensures level { (added : List Added) → HasContent added newest.old.content → IfOk result (λ done. rows_in (tables_in done.level) ≡ map (λ (a : Added). a.row) (live_of ends.entry.gone.now added)) }
     ensures memory { result ≡ Err Memory → disk.new ≡ disk.old }
     ensures unwritten { (need gap : ℕ) → result ≡ Err (Full need gap) → disk.new ≡ disk.old }
 

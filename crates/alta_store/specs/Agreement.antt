@@ -1,17 +1,16 @@
 -- A store and its disk.
-use Rattle.std.specs.Prelude.{◌≡◌, ℕ, ◌+◌, ◌-◌, ◌≤◌, true, List, Bool, map}
+use Rattle.std.specs.Prelude.{◌≡◌, ℕ, ◌+◌, ◌-◌, ◌≤◌, ◌<◌, true, List, Bool, map}
+use Rattle.std.specs.List.{All}
+use Rattle.alta_content.specs.Rows.{end_of}
+use Rattle.alta_content.specs.declared.document.DocRow.{DocRow}
 use Rattle.alta_disk.specs.Disk.{DiskState, Only}
-use Rattle.alta_images.specs.Opened.{Opened, IsOpened, half_of, journal_of}
-use Rattle.alta_journal.specs.Journal.{EndsAt}
+use Rattle.alta_images.specs.Opened.{Opened, IsOpened, half_of, rows_in}
 use Rattle.alta_journal.specs.Places.{left_behind, start_of}
 use Rattle.alta_journal.specs.declared.entry.Entry.{Entry}
 use Rattle.alta_journal.specs.declared.places.TheConstants.{HEAD_BYTES}
 use Rattle.alta_meta.specs.declared.document.State.{State}
 use Rattle.alta_opening.specs.Extents.{extent_of}
-use Rattle.alta_root.specs.Slots.{Counts}
-use Rattle.alta_root.specs.declared.root.Root.{Root}
-use Rattle.alta_root.specs.declared.slot.Slot.{Slot}
-use Rattle.alta_catalog.specs.Knowing.{Knows as CatalogKnows, KnowsBy, levels_of as levels_in}
+use Rattle.alta_catalog.specs.Knowing.{Follows, Knows as CatalogKnows, KnowsBy, levels_of as levels_in}
 use Rattle.alta_catalog.specs.Rows.{MayBe}
 use Rattle.alta_table.specs.Tables.{Tables}
 use Rattle.alta_store.specs.declared.store.Store.{Store}
@@ -24,13 +23,17 @@ Knows store s = CatalogKnows store.catalog s
 abbrev pub levels_of : Store → List Tables
 levels_of store = levels_in store.catalog
 
--- The store goes on with what is opened: where its journal ends, over its levels, which fill the extents of the root, and knows each
--- state that it may speak of.
+-- The store goes on with what is opened: the root that counts, where its journal ends, its levels, which fill the extents of the root,
+-- the ends that its deletion list has, and the documents that the entries add; and it knows each state that it may speak of.
 pub record Keeps (store : Store) (opened : Opened) : Type 0 where
+  pub slot : store.slot ≡ opened.slot
+  pub root : store.root ≡ opened.root
+  pub listed : store.listed.items ≡ opened.deleted
   pub half : store.tail.half ≡ half_of opened.slot
   pub place : store.tail.place ≡ opened.tail
   pub levels : levels_of store ≡ opened.levels
   pub extents : map extent_of opened.levels ≡ opened.root.levels.items
+  pub follows : Follows store.catalog opened.root opened.entries
   pub knows : (s : State) → (may : MayBe s opened) → KnowsBy store.catalog may.starts.olds s
 
 -- The image is opened, and the store goes on with what it is opened as.
@@ -39,9 +42,14 @@ pub record Holds (store : Store) (image : List ℕ) : Type 0 where
   pub is : IsOpened opened image
   pub keeps : Keeps store opened
 
--- the store's catalog stands at some state, also where the disk does not tell what it holds
-abbrev pub IsIntact : Store → Type 0
-IsIntact store = (s : State) × Knows store s
+-- Also where the disk does not tell what it holds: the store's catalog stands at some state, and follows the root by some entries, behind
+-- the documents of its levels.
+pub record IsIntact (store : Store) : Type 0 where
+  pub state : State
+  pub knows : Knows store state
+  pub entries : List Entry
+  pub follows : Follows store.catalog store.root entries
+  pub below : All (λ (row : DocRow). end_of row < store.root.next_location) (rows_in (levels_of store))
 
 -- Store and disk agree: nothing is pending, and the store goes on with what the content is opened as.
 pub record Agrees (tells : Type 0) (disk : DiskState) (store : Store) : Type 0 where
@@ -49,19 +57,13 @@ pub record Agrees (tells : Type 0) (disk : DiskState) (store : Store) : Type 0 w
   pub content : tells → Holds store disk.content
   pub intact : IsIntact store
 
--- The journal of the root that counts has so many bytes left behind the gate of its next record.
-pub record HasRoom (content : List ℕ) (room : ℕ) : Type 0 where
-  pub slot : Slot
-  pub root : Root
-  pub counts : Counts slot root content
-  pub place : ℕ
-  pub entries : List Entry
-  pub journal : EndsAt (journal_of slot) place entries content
-  pub room_is : room ≡ left_behind (journal_of slot) place
-
 -- how many bytes are left in the journal behind the gate of the next record
 abbrev pub room_of : Store → ℕ
 room_of store = left_behind (start_of store.tail.half) store.tail.place
+
+-- the journal has no entry
+abbrev pub HasNoEntry : Store → Type 0
+HasNoEntry store = store.tail.place ≡ start_of store.tail.half
 
 -- whether the store may be used
 abbrev pub is_sound : Store → Bool

@@ -4,12 +4,14 @@ use Rattle.alta_journal.specs.declared.replaying.OpenFault.{OpenFault}
 use Rattle.alta_journal.specs.declared.replaying.OpenFault.TheVariants.{Disk as JournalDisk, Memory as JournalMemory, Damaged as JournalDamaged}
 use Rattle.alta_catalog.specs.declared.fault.CatalogFault.{CatalogFault}
 use Rattle.alta_catalog.specs.declared.fault.CatalogFault.TheVariants.{Memory as CatalogMemory, Damaged as CatalogDamaged}
+use Rattle.alta_flush.specs.declared.fault.FlushFault.{FlushFault}
+use Rattle.alta_flush.specs.declared.fault.FlushFault.TheVariants.{Disk as FlushDisk, Memory as FlushMemory, Full as FlushFull}
 use Rattle.alta_opening.specs.declared.fault.OpeningFault.{OpeningFault}
 use Rattle.alta_opening.specs.declared.fault.OpeningFault.TheVariants.{Disk as LevelsDisk, Memory as LevelsMemory, Damaged as LevelsDamaged}
 use Rattle.alta_root.specs.declared.fault.RootFault.{RootFault}
 use Rattle.alta_root.specs.declared.fault.RootFault.TheVariants.{Disk as RootDisk, NoRoot as NoRootThere, Damaged as RootDamaged}
 use Rattle.alta_store.specs.declared.fault.StoreFault.{StoreFault}
-use Rattle.alta_store.specs.declared.fault.StoreFault.TheVariants.{Disk, Memory, NoRoot, Damaged}
+use Rattle.alta_store.specs.declared.fault.StoreFault.TheVariants.{Disk, Memory, NoRoot, Damaged, Full}
 
 -- want of memory, or a fault of the disk, which comes only where its count rose
 abbrev pub IsOutside : StoreFault → Type 0
@@ -41,3 +43,9 @@ of_levels (LevelsDamaged place) = Damaged place
 abbrev pub of_catalog : CatalogFault → StoreFault
 of_catalog CatalogMemory = Memory
 of_catalog (CatalogDamaged place) = Damaged place
+
+-- the fault of a flush
+abbrev pub of_flush : FlushFault → StoreFault
+of_flush FlushDisk = Disk
+of_flush FlushMemory = Memory
+of_flush (FlushFull need gap) = Full need gap

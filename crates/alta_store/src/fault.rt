@@ -1,8 +1,9 @@
 // Why a call of the store was not done.
 ghost use Rattle.std.specs.Prelude.{◌≡◌};
-ghost use Rattle.alta_store.specs.Answers.{of_catalog, of_levels, of_opening, of_root};
+ghost use Rattle.alta_store.specs.Answers.{of_catalog, of_flush, of_levels, of_opening, of_root};
 
 use alta_catalog::CatalogFault;
+use alta_flush::FlushFault;
 use alta_journal::OpenFault;
 use alta_opening::OpeningFault;
 use alta_root::RootFault;
@@ -77,5 +78,16 @@ pub(crate) fn root_fault(fault: RootFault) -> StoreFault
         RootFault::Disk => StoreFault::Disk,
         RootFault::NoRoot => StoreFault::NoRoot,
         RootFault::Damaged(place) => StoreFault::Damaged(place),
+    }
+}
+
+// The fault of a flush.
+pub(crate) fn flush_fault(fault: FlushFault) -> StoreFault
+    ensures { result ≡ of_flush fault }
+{
+    match fault {
+        FlushFault::Disk => StoreFault::Disk,
+        FlushFault::Memory => StoreFault::Memory,
+        FlushFault::Full { need, gap } => StoreFault::Full { need, gap },
     }
 }

@@ -1,22 +1,23 @@
 // The store.
-ghost use Rattle.std.specs.Prelude.{◌≡◌, ◌⊎◌, ◌↔◌, ◌+◌, ◌<◌, ◌≤◌, ℕ, List, true, false, length, Result, Ok, Err, Some, IfOk, IfErr, OnOk, OnErr, IsErr, IsTrue, HoldsAt, MatchOption, All};
-ghost use Rattle.alta_catalog.specs.Knowing.{KnowsBy, levels_of as levels_in};
+ghost use Rattle.std.specs.Prelude.{◌≡◌, ◌⊎◌, ◌↔◌, ◌++◌, ◌+◌, ◌-◌, ◌<◌, ◌≤◌, ℕ, List, true, false, length, Result, Ok, Err, Some, IfOk, IfErr, OnOk, OnErr, IsErr, IsTrue, HoldsAt, MatchOption, All};
+ghost use Rattle.alta_catalog.specs.Knowing.{Follows, KnowsBy, levels_of as levels_in};
 ghost use Rattle.alta_catalog.specs.Names.{AreNames, AreNamesOf};
 ghost use Rattle.alta_catalog.specs.Rows.{MayStart};
 ghost use Rattle.alta_catalog.specs.declared.fault.CatalogFault.TheVariants.{Memory as NoMemory, Damaged as DamagedEntry};
 ghost use Rattle.alta_codec.specs.Faults.{Rose};
 ghost use Rattle.alta_codec.specs.Rising.{IsRising};
 ghost use Rattle.alta_content.specs.Rows.{AreDocuments};
-ghost use Rattle.alta_disk.specs.Disk.{DiskState, Same, Only, Passes, LeavesOnly};
+ghost use Rattle.alta_disk.specs.Disk.{DiskState, Same, Only, Passes};
 ghost use Rattle.alta_images.specs.Broken.{IsBrokenAt};
 ghost use Rattle.alta_images.specs.Entries.{AllowsAll, IsRefusedAt, after_entries, entries_in};
-ghost use Rattle.alta_images.specs.Opened.{Opened, IsOpened, half_of, have_ends, known_at, live_in, rows_in};
+ghost use Rattle.alta_images.specs.Opened.{Opened, IsOpened, half_of, have_ends, journal_of, known_at, live_in, rows_in};
 ghost use Rattle.alta_images.specs.Ordered.{AreBelow, IsOrdered};
-ghost use Rattle.alta_images.specs.Standing.{StandsFor, StandsForEither};
 ghost use Rattle.alta_images.specs.States.{has_name, has_number, number_of, words_in, with_added, with_deleted, without, IsDocument};
-ghost use Rattle.alta_images.specs.Switching.{with_entry};
+ghost use Rattle.alta_images.specs.Work.{enters, flushes};
 ghost use Rattle.alta_journal.specs.Entry.{IsSound as IsEntry};
+ghost use Rattle.alta_journal.specs.Places.{left_behind, start_of};
 ghost use Rattle.alta_journal.specs.Record.{body_of};
+ghost use Rattle.alta_journal.specs.declared.entry.Entry.{Entry};
 ghost use Rattle.alta_journal.specs.declared.entry.Entry.TheVariants.{Add, Delete};
 ghost use Rattle.alta_journal.specs.declared.places.TheConstants.{HALF_BYTES, HEAD_BYTES};
 ghost use Rattle.alta_meta.specs.declared.document.State.{State};
@@ -25,28 +26,40 @@ ghost use Rattle.alta_root.specs.Root.{IsSound};
 ghost use Rattle.alta_root.specs.Slots.{Counts, HasNoRoot};
 ghost use Rattle.alta_root.specs.declared.root.Root.{Root};
 ghost use Rattle.alta_root.specs.declared.slot.Slot.{Slot};
-ghost use Rattle.alta_store.specs.Agreement.{Agrees, Holds, IsIntact, Keeps, HasRoom, is_sound, room_of};
+ghost use Rattle.alta_store.specs.Agreement.{Agrees, HasNoEntry, Holds, IsIntact, Keeps, is_sound, room_of};
 ghost use Rattle.alta_store.specs.Answers.{IsOutside, AnswersFault};
+ghost use Rattle.alta_store.specs.Calls.{Enters, MakesRoom, NoRefusal, Obeys, RefusesAdd};
 ghost use Rattle.alta_store.specs.Searched.{IsSearched};
-ghost use Rattle.alta_store.specs.declared.fault.StoreFault.TheVariants.{Disk as DiskFault, Memory, NoRoot, Damaged, Taken, Missing, Numbers, Full};
+ghost use Rattle.alta_store.specs.declared.fault.StoreFault.TheVariants.{Disk as DiskFault, NoRoot, Damaged, Taken, Missing, Numbers};
 
 use crate::StoreFault;
-use crate::fault::{catalog_fault, levels_fault, opening_fault, root_fault};
+use crate::fault::{catalog_fault, flush_fault, levels_fault, opening_fault, root_fault};
 use alta_catalog::{Catalog, CatalogFault, Names, apply_entries};
 use alta_codec::{Loc, Text};
 use alta_disk::Disk;
-use alta_journal::{Entry, Half, JournalFault, Placed, Ready, Tail, append, ready, replay};
+use alta_flush::{Ends, flush};
+use alta_journal::{Entry, HALF_BYTES, Half, Placed, Ready, Tail, append, ready, replay};
 use alta_memlevel::MemLevel;
 use alta_opening::{OpenLevels, open_levels};
 use alta_root::{Root, Slot, read_roots};
 use alta_rows::AllRows;
 use alta_table::Table;
 use std::alloc::{AllocError, Global};
+use std::collections::BTreeMap;
 
-/// What is known of the documents of an index, and where its journal goes on.
+// How many bytes the record of a document without name, title and body takes behind its gate, and that of a deletion.
+const ADD_BYTES: u64 = 15;
+
+const DELETE_BYTES: u64 = 14;
+
+/// What is known of the documents of an index, the root that counts, and where its journal goes on.
 #[derive(Drop)]
 pub struct Store {
     alloc: Global,
+    slot: Slot,
+    root: Root,
+    // The ends that the root's deletion list has.
+    listed: Vec<Loc>,
     tail: Tail,
     catalog: Catalog,
     sound: bool,
@@ -155,14 +168,14 @@ impl Store {
         load(alloc, disk)
     }
 
-    /// Adds a document, by one record in the journal, and answers its number. The title has no tab, title and body have no
-    /// newline. While it runs, each image that a stop may leave stands for the state before or after; once it has
-    /// answered, each stands for the state after, and is opened as before with one entry more.
+    /// Adds a document, by one record in the journal, and answers its number. Where the record does not fit in the journal, a flush
+    /// comes first, as [`flush`](Store::flush). The title has no tab, title and body have no newline. While it runs, each image that a
+    /// stop may leave stands for the state before or after; once it has answered, each stands for the state after.
     ///
     /// # Errors
     ///
     /// `Taken` exactly where a live document has the name, else `Numbers` exactly where no number is left; then nothing was
-    /// called and nothing has changed. `Full` where the record does not fit in the journal, `Disk` where a call of the disk
+    /// called and nothing has changed. `Full` where a flush comes first and has no place, `Disk` where a call of the disk
     /// failed, and `Memory`: then the store may no longer be used.
     pub fn add<D: Disk>(
         &mut self,
@@ -176,28 +189,13 @@ impl Store {
         requires agrees { Agrees D.tells (D.state disk.old) self.old }
         requires limit { HEAD_BYTES ≤ (D.state disk.old).limit }
 
-        ensures agrees { OnOk result (Agrees D.tells (D.state disk.new) self.new) }
-        ensures stands { (s : State) → D.tells → StandsFor s (D.state disk.old).content → OnOk result (StandsFor (with_added name.now title.now body.now s) (D.state disk.new).content) }
-        ensures keeps { (opened : Opened) → D.tells → IsOpened opened (D.state disk.old).content → OnOk result (IsOpened (with_entry opened (Add name.now title.now body.now)) (D.state disk.new).content × Keeps self.new (with_entry opened (Add name.now title.now body.now))) }
+        ensures obeys { Obeys D.tells (enters (Add name.now title.now body.now)) (with_added name.now title.now body.now) RefusesAdd (D.state disk.old) (D.state disk.new) self.old self.new result }
         ensures number { (s : State) → Knows self.old s → IfOk result (λ n. (n ≡ s.next) × (has_name name.now s ≡ false) × (s.next < 4294967296)) }
-        ensures sound { OnOk result (is_sound self.new ≡ true) }
-        ensures unsound { IfErr result (λ e. ((e ≡ Taken) ⊎ (e ≡ Numbers)) ⊎ (is_sound self.new ≡ false)) }
-
-        // At each moment of the call.
-        ensures images { (s : State) → (D.tells → StandsFor s (D.state disk.old).content) → LeavesOnly (StandsForEither s (with_added name.now title.now body.now s)) (D.state disk.old) (D.state disk.new) }
-
         ensures taken { (s : State) → Knows self.old s → (result ≡ Err Taken) ↔ (has_name name.now s ≡ true) }
         ensures numbers { (s : State) → Knows self.old s → (result ≡ Err Numbers) ↔ ((has_name name.now s ≡ false) × (4294967296 ≤ s.next)) }
         ensures refused { (result ≡ Err Taken) ⊎ (result ≡ Err Numbers) → (disk.new ≡ disk.old) × (self.new ≡ self.old) }
-        ensures full { (need gap : ℕ) → result ≡ Err (Full need gap) → (need ≡ length (body_of (Add name.now title.now body.now))) × (gap ≡ room_of self.old) × (gap < need) }
-        ensures full_kept { (need gap : ℕ) → result ≡ Err (Full need gap) → disk.new ≡ disk.old }
-        ensures full_room { (need gap : ℕ) → D.tells → result ≡ Err (Full need gap) → HasRoom (D.state disk.new).content gap }
-        ensures room { OnOk result (room_of self.new + length (body_of (Add name.now title.now body.now)) ≡ room_of self.old) }
-        ensures only { IfErr result (λ e. IsOutside e ⊎ ((e ≡ Taken) ⊎ ((e ≡ Numbers) ⊎ ((need gap : ℕ) × (e ≡ Full need gap))))) }
-        ensures cause { result ≡ Err DiskFault → Rose (D.state disk.old).faults (D.state disk.new).faults }
-        ensures faults { (D.state disk.old).faults ≤ (D.state disk.new).faults }
-        ensures read { (D.state disk.new).taken ≡ (D.state disk.old).taken }
-        ensures same_limit { (D.state disk.new).limit ≡ (D.state disk.old).limit }
+        ensures sound { OnOk result (is_sound self.new ≡ true) }
+        ensures unsound { IfErr result (λ e. RefusesAdd e ⊎ (is_sound self.new ≡ false)) }
     {
         if self.catalog.number_of(name).is_some() {
             return Err(StoreFault::Taken);
@@ -205,14 +203,14 @@ impl Store {
         if !self.catalog.has_room() {
             return Err(StoreFault::Numbers);
         }
-        match self.commit(disk, name, title, body) {
+        match self.enter(disk, name, title, body) {
             Ok(number) => Ok(number),
             Err(fault) => Err(self.failed(fault)),
         }
     }
 
-    // Adds a document whose name is free and for which a number is left. All memory is taken before the first write.
-    fn commit<D: Disk>(
+    // Adds a document whose name is free and for which a number is left, behind a flush where its record does not fit.
+    fn enter<D: Disk>(
         &mut self,
         disk: &mut D,
         name: &str,
@@ -225,21 +223,35 @@ impl Store {
         requires number { (s : State) → Knows self.old s → s.next < 4294967296 }
         requires limit { HEAD_BYTES ≤ (D.state disk.old).limit }
 
-        ensures agrees { OnOk result (Agrees D.tells (D.state disk.new) self.new) }
-        ensures stands { (s : State) → D.tells → StandsFor s (D.state disk.old).content → OnOk result (StandsFor (with_added name.now title.now body.now s) (D.state disk.new).content) }
-        ensures keeps { (opened : Opened) → D.tells → IsOpened opened (D.state disk.old).content → OnOk result (IsOpened (with_entry opened (Add name.now title.now body.now)) (D.state disk.new).content × Keeps self.new (with_entry opened (Add name.now title.now body.now))) }
+        ensures obeys { Obeys D.tells (enters (Add name.now title.now body.now)) (with_added name.now title.now body.now) NoRefusal (D.state disk.old) (D.state disk.new) self.old self.new result }
+        ensures number { (s : State) → Knows self.old s → IfOk result (λ n. n ≡ s.next) }
+        ensures sound { OnOk result (is_sound self.new ≡ is_sound self.old) }
+    {
+        match self.make_room(disk, bytes_of_add(name, title, body)) {
+            Ok(()) => self.commit(disk, name, title, body),
+            Err(fault) => Err(fault),
+        }
+    }
+
+    // Adds a document whose name is free and for which a number is left, and whose record fits. All memory is taken before the first
+    // write.
+    fn commit<D: Disk>(
+        &mut self,
+        disk: &mut D,
+        name: &str,
+        title: &str,
+        body: &str,
+    ) -> Result<u64, StoreFault>
+        requires document { IsDocument name.now title.now body.now }
+        requires agrees { Agrees D.tells (D.state disk.old) self.old }
+        requires free { (s : State) → Knows self.old s → has_name name.now s ≡ false }
+        requires number { (s : State) → Knows self.old s → s.next < 4294967296 }
+        requires fits { length (body_of (Add name.now title.now body.now)) ≤ room_of self.old }
+        requires limit { HEAD_BYTES ≤ (D.state disk.old).limit }
+
+        ensures enters { Enters D.tells (Add name.now title.now body.now) (with_added name.now title.now body.now) (D.state disk.old) (D.state disk.new) self.old self.new result }
         ensures number { (s : State) → Knows self.old s → IfOk result (λ n. n ≡ s.next) }
         ensures sound { is_sound self.new ≡ is_sound self.old }
-        ensures images { (s : State) → (D.tells → StandsFor s (D.state disk.old).content) → LeavesOnly (StandsForEither s (with_added name.now title.now body.now s)) (D.state disk.old) (D.state disk.new) }
-        ensures full { (need gap : ℕ) → result ≡ Err (Full need gap) → (need ≡ length (body_of (Add name.now title.now body.now))) × (gap ≡ room_of self.old) × (gap < need) }
-        ensures full_kept { (need gap : ℕ) → result ≡ Err (Full need gap) → disk.new ≡ disk.old }
-        ensures full_room { (need gap : ℕ) → D.tells → result ≡ Err (Full need gap) → HasRoom (D.state disk.new).content gap }
-        ensures room { OnOk result (room_of self.new + length (body_of (Add name.now title.now body.now)) ≡ room_of self.old) }
-        ensures only { IfErr result (λ e. IsOutside e ⊎ ((need gap : ℕ) × (e ≡ Full need gap))) }
-        ensures cause { result ≡ Err DiskFault → Rose (D.state disk.old).faults (D.state disk.new).faults }
-        ensures faults { (D.state disk.old).faults ≤ (D.state disk.new).faults }
-        ensures read { (D.state disk.new).taken ≡ (D.state disk.old).taken }
-        ensures same_limit { (D.state disk.new).limit ≡ (D.state disk.old).limit }
     {
         let (_, _, number) = self.catalog.counts();
         let Ok(ready) = record_of_add(self.alloc, name, title, body) else {
@@ -250,78 +262,69 @@ impl Store {
         };
         match append(disk, &mut self.tail, &ready) {
             Ok(()) => Ok(number),
-            Err(JournalFault::Full { need, left }) => Err(StoreFault::Full { need, gap: left }),
-            Err(JournalFault::Disk) => Err(StoreFault::Disk),
+            Err(_) => Err(StoreFault::Disk),
         }
     }
 
-    /// Deletes the live document with this name, by one record in the journal, and answers its number. While it runs, each image
-    /// that a stop may leave stands for the state before or after; once it has answered, each stands for the state after, by
-    /// the view of before with one entry more.
+    /// Deletes the live document with this name, by one record in the journal, and answers its number. Where the record does not fit in
+    /// the journal, a flush comes first, as [`flush`](Store::flush). While it runs, each image that a stop may leave stands for the state
+    /// before or after; once it has answered, each stands for the state after.
     ///
     /// # Errors
     ///
-    /// `Missing` exactly where no live document has the name; then nothing was called and nothing has changed. `Full` where the
-    /// record does not fit in the journal, `Disk` where a call of the disk failed, and `Memory`: then the store may no longer be
-    /// used.
+    /// `Missing` exactly where no live document has the name; then nothing was called and nothing has changed. `Full` where a flush
+    /// comes first and has no place, `Disk` where a call of the disk failed, and `Memory`: then the store may no longer be used.
     pub fn delete<D: Disk>(&mut self, disk: &mut D, name: &str) -> Result<u64, StoreFault>
         requires sound { is_sound self.old ≡ true }
         requires agrees { Agrees D.tells (D.state disk.old) self.old }
         requires limit { HEAD_BYTES ≤ (D.state disk.old).limit }
 
-        ensures agrees { OnOk result (Agrees D.tells (D.state disk.new) self.new) }
-        ensures stands { (s : State) → D.tells → StandsFor s (D.state disk.old).content → OnOk result (StandsFor (with_deleted name.now s) (D.state disk.new).content) }
-        ensures keeps { (opened : Opened) → D.tells → IsOpened opened (D.state disk.old).content → IfOk result (λ n. IsOpened (with_entry opened (Delete n)) (D.state disk.new).content × Keeps self.new (with_entry opened (Delete n))) }
+        ensures obeys { (s : State) → (number : ℕ) → Knows self.old s → number_of name.now s ≡ Some number
+            → Obeys D.tells (enters (Delete number)) (with_deleted name.now) NoRefusal (D.state disk.old) (D.state disk.new) self.old self.new result }
         ensures number { (s : State) → Knows self.old s → IfOk result (λ n. number_of name.now s ≡ Some n) }
-        ensures sound { OnOk result (is_sound self.new ≡ true) }
-        ensures unsound { IfErr result (λ e. (e ≡ Missing) ⊎ (is_sound self.new ≡ false)) }
-
-        // At each moment of the call.
-        ensures images { (s : State) → (D.tells → StandsFor s (D.state disk.old).content) → LeavesOnly (StandsForEither s (with_deleted name.now s)) (D.state disk.old) (D.state disk.new) }
-
         ensures missing { (s : State) → Knows self.old s → (result ≡ Err Missing) ↔ (has_name name.now s ≡ false) }
         ensures refused { result ≡ Err Missing → (disk.new ≡ disk.old) × (self.new ≡ self.old) }
-
-        // The record of each number is as long.
-        ensures full { (need gap number : ℕ) → result ≡ Err (Full need gap) → (need ≡ length (body_of (Delete number))) × (gap ≡ room_of self.old) × (gap < need) }
-        ensures full_kept { (need gap : ℕ) → result ≡ Err (Full need gap) → disk.new ≡ disk.old }
-        ensures full_room { (need gap : ℕ) → D.tells → result ≡ Err (Full need gap) → HasRoom (D.state disk.new).content gap }
-        ensures room { IfOk result (λ n. room_of self.new + length (body_of (Delete n)) ≡ room_of self.old) }
-        ensures only { IfErr result (λ e. IsOutside e ⊎ ((e ≡ Missing) ⊎ ((need gap : ℕ) × (e ≡ Full need gap)))) }
-        ensures cause { result ≡ Err DiskFault → Rose (D.state disk.old).faults (D.state disk.new).faults }
-        ensures faults { (D.state disk.old).faults ≤ (D.state disk.new).faults }
-        ensures read { (D.state disk.new).taken ≡ (D.state disk.old).taken }
-        ensures same_limit { (D.state disk.new).limit ≡ (D.state disk.old).limit }
+        ensures sound { OnOk result (is_sound self.new ≡ true) }
+        ensures unsound { IfErr result (λ e. (e ≡ Missing) ⊎ (is_sound self.new ≡ false)) }
     {
         let Some(number) = self.catalog.number_of(name) else {
             return Err(StoreFault::Missing);
         };
-        match self.remove(disk, name, number) {
+        match self.leave_out(disk, name, number) {
             Ok(()) => Ok(number),
             Err(fault) => Err(self.failed(fault)),
         }
     }
 
-    // Deletes a document that was found. All memory is taken before the first write.
-    fn remove<D: Disk>(&mut self, disk: &mut D, name: &str, number: u64) -> Result<(), StoreFault>
+    // Deletes a document that was found, behind a flush where the record does not fit.
+    fn leave_out<D: Disk>(
+        &mut self,
+        disk: &mut D,
+        name: &str,
+        number: u64,
+    ) -> Result<(), StoreFault>
         requires agrees { Agrees D.tells (D.state disk.old) self.old }
         requires named { (s : State) → Knows self.old s → (has_number number s ≡ true) × (without number s ≡ with_deleted name.now s) }
         requires limit { HEAD_BYTES ≤ (D.state disk.old).limit }
 
-        ensures agrees { OnOk result (Agrees D.tells (D.state disk.new) self.new) }
-        ensures stands { (s : State) → D.tells → StandsFor s (D.state disk.old).content → OnOk result (StandsFor (with_deleted name.now s) (D.state disk.new).content) }
-        ensures keeps { (opened : Opened) → D.tells → IsOpened opened (D.state disk.old).content → OnOk result (IsOpened (with_entry opened (Delete number)) (D.state disk.new).content × Keeps self.new (with_entry opened (Delete number))) }
+        ensures obeys { Obeys D.tells (enters (Delete number)) (with_deleted name.now) NoRefusal (D.state disk.old) (D.state disk.new) self.old self.new result }
+        ensures sound { OnOk result (is_sound self.new ≡ is_sound self.old) }
+    {
+        match self.make_room(disk, DELETE_BYTES) {
+            Ok(()) => self.remove(disk, name, number),
+            Err(fault) => Err(fault),
+        }
+    }
+
+    // Deletes a document that was found, by a record that fits. All memory is taken before the first write.
+    fn remove<D: Disk>(&mut self, disk: &mut D, name: &str, number: u64) -> Result<(), StoreFault>
+        requires agrees { Agrees D.tells (D.state disk.old) self.old }
+        requires named { (s : State) → Knows self.old s → (has_number number s ≡ true) × (without number s ≡ with_deleted name.now s) }
+        requires fits { length (body_of (Delete number)) ≤ room_of self.old }
+        requires limit { HEAD_BYTES ≤ (D.state disk.old).limit }
+
+        ensures enters { Enters D.tells (Delete number) (with_deleted name.now) (D.state disk.old) (D.state disk.new) self.old self.new result }
         ensures sound { is_sound self.new ≡ is_sound self.old }
-        ensures images { (s : State) → (D.tells → StandsFor s (D.state disk.old).content) → LeavesOnly (StandsForEither s (with_deleted name.now s)) (D.state disk.old) (D.state disk.new) }
-        ensures full { (need gap : ℕ) → result ≡ Err (Full need gap) → (need ≡ length (body_of (Delete number))) × (gap ≡ room_of self.old) × (gap < need) }
-        ensures full_kept { (need gap : ℕ) → result ≡ Err (Full need gap) → disk.new ≡ disk.old }
-        ensures full_room { (need gap : ℕ) → D.tells → result ≡ Err (Full need gap) → HasRoom (D.state disk.new).content gap }
-        ensures room { OnOk result (room_of self.new + length (body_of (Delete number)) ≡ room_of self.old) }
-        ensures only { IfErr result (λ e. IsOutside e ⊎ ((need gap : ℕ) × (e ≡ Full need gap))) }
-        ensures cause { result ≡ Err DiskFault → Rose (D.state disk.old).faults (D.state disk.new).faults }
-        ensures faults { (D.state disk.old).faults ≤ (D.state disk.new).faults }
-        ensures read { (D.state disk.new).taken ≡ (D.state disk.old).taken }
-        ensures same_limit { (D.state disk.new).limit ≡ (D.state disk.old).limit }
     {
         let Ok(ready) = ready(self.alloc, &Entry::Delete { number }) else {
             return Err(StoreFault::Memory);
@@ -331,10 +334,113 @@ impl Store {
         };
         match append(disk, &mut self.tail, &ready) {
             Ok(()) => Ok(()),
-            Err(JournalFault::Full { need, left }) => Err(StoreFault::Full { need, gap: left }),
-            Err(JournalFault::Disk) => Err(StoreFault::Disk),
+            Err(_) => Err(StoreFault::Disk),
         }
     }
+
+    /// Makes the live newest documents a level, behind the others, at the first gap that holds it, writes the deletion list where it has
+    /// changed, and switches the root; the journal is empty then. With an empty journal nothing is done, and no disk is called. While it
+    /// runs, and when it has answered, each image that a stop may leave stands for the state of before.
+    ///
+    /// # Errors
+    ///
+    /// `Full` where no gap below the disk's limit holds the level or the list, with the bytes that are needed and the greatest gap; or
+    /// where there are 16 levels and one to write, with 17 and 16. `Disk` where a call of the disk failed, and `Memory`. Then the store
+    /// may no longer be used.
+    pub fn flush<D: Disk>(&mut self, disk: &mut D) -> Result<(), StoreFault>
+        requires sound { is_sound self.old ≡ true }
+        requires agrees { Agrees D.tells (D.state disk.old) self.old }
+        requires limit { HEAD_BYTES ≤ (D.state disk.old).limit }
+
+        ensures obeys { Obeys D.tells flushes (λ s. s) NoRefusal (D.state disk.old) (D.state disk.new) self.old self.new result }
+        ensures idle { HasNoEntry self.old → (result ≡ Ok ()) × (disk.new ≡ disk.old) × (self.new ≡ self.old) }
+        ensures sound { OnOk result (is_sound self.new ≡ true) }
+        ensures unsound { OnErr result (is_sound self.new ≡ false) }
+    {
+        if self.tail.place == self.tail.half.start() {
+            return Ok(());
+        }
+        match self.put_newest(disk) {
+            Ok(()) => Ok(()),
+            Err(fault) => Err(self.failed(fault)),
+        }
+    }
+
+    // Makes room in the journal for a record of so many bytes behind its gate: by a flush, where it does not fit.
+    fn make_room<D: Disk>(&mut self, disk: &mut D, bytes: u64) -> Result<(), StoreFault>
+        requires agrees { Agrees D.tells (D.state disk.old) self.old }
+        requires limit { HEAD_BYTES ≤ (D.state disk.old).limit }
+        requires short { bytes < HALF_BYTES }
+
+        ensures makes { (entry : Entry) → length (body_of entry) ≡ bytes → MakesRoom D.tells entry (D.state disk.old) (D.state disk.new) self.old self.new result }
+        ensures room { OnOk result (bytes ≤ room_of self.new) }
+        ensures sound { OnOk result (is_sound self.new ≡ is_sound self.old) }
+    {
+        if bytes <= room_behind(self.tail) {
+            return Ok(());
+        }
+        self.put_newest(disk)
+    }
+
+    // A flush of a journal that has an entry.
+    fn put_newest<D: Disk>(&mut self, disk: &mut D) -> Result<(), StoreFault>
+        requires agrees { Agrees D.tells (D.state disk.old) self.old }
+        requires some { HasNoEntry self.old → ⊥ }
+        requires limit { HEAD_BYTES ≤ (D.state disk.old).limit }
+
+        ensures obeys { Obeys D.tells flushes (λ s. s) NoRefusal (D.state disk.old) (D.state disk.new) self.old self.new result }
+        ensures none { OnOk result (HasNoEntry self.new) }
+        ensures sound { OnOk result (is_sound self.new ≡ is_sound self.old) }
+    {
+        let Ok(deleted) = self.catalog.gone_below(self.alloc, self.root.next_location) else {
+            return Err(StoreFault::Memory);
+        };
+        let (next, location) = self.catalog.bounds();
+        let mut newest = self.catalog.take_newest();
+        let ends = Ends {
+            listed: &self.listed,
+            deleted: &deleted,
+            gone: self.catalog.gone(),
+        };
+        let done = match flush(self.alloc, disk, self.slot, &self.root, ends, &mut newest, next, location) {
+            Ok(done) => done,
+            Err(fault) => return Err(flush_fault(fault)),
+        };
+        let Ok(()) = self.catalog.put_level(done.level, &deleted) else {
+            return Err(StoreFault::Memory);
+        };
+        self.tail = tail_of(done.slot);
+        self.slot = done.slot;
+        self.root = done.root;
+        self.listed = deleted;
+        Ok(())
+    }
+}
+
+// The tail of a half without records, of a root in this slot.
+fn tail_of(slot: Slot) -> Tail
+    ensures { (result.half ≡ half_of slot) × (result.place ≡ journal_of slot) }
+{
+    let half = half_of(slot);
+    Tail {
+        half,
+        place: half.start(),
+    }
+}
+
+// How many bytes the journal has left behind the gate of its next record.
+fn room_behind(tail: Tail) -> u64
+    ensures { result ≡ left_behind (start_of tail.half) tail.place }
+{
+    tail.half.start() + HALF_BYTES - (tail.place + 1)
+}
+
+// How many bytes the record of a document takes behind its gate.
+fn bytes_of_add(name: &str, title: &str, body: &str) -> u64
+    requires { IsDocument name.now title.now body.now }
+    ensures { result ≡ length (body_of (Add name.now title.now body.now)) }
+{
+    ADD_BYTES + name.len() as u64 + title.len() as u64 + body.len() as u64
 }
 
 // The record of a document that is added.
@@ -387,17 +493,25 @@ fn load<D: Disk>(alloc: Global, disk: &mut D) -> Result<Store, StoreFault>
         Ok(roots) => roots,
         Err(fault) => return Err(root_fault(fault)),
     };
-    let levels = match open_levels(alloc, disk, &roots.root) {
-        Ok(levels) => levels,
+    let opened = match open_levels(alloc, disk, &roots.root) {
+        Ok(opened) => opened,
         Err(fault) => return Err(levels_fault(fault)),
     };
+    let OpenLevels {
+        deleted: listed,
+        levels,
+        names,
+    } = opened;
     let (found, tail) = match replay(alloc, disk, half_of(roots.slot)) {
         Ok(read) => read,
         Err(fault) => return Err(opening_fault(fault)),
     };
-    match catalog_of(alloc, &roots.root, levels, &found) {
+    match catalog_of(alloc, &roots.root, levels, &listed, names, &found) {
         Ok(catalog) => Ok(Store {
             alloc,
+            slot: roots.slot,
+            root: roots.root,
+            listed,
             tail,
             catalog,
             sound: true,
@@ -410,29 +524,27 @@ fn load<D: Disk>(alloc: Global, disk: &mut D) -> Result<Store, StoreFault>
 fn catalog_of(
     alloc: Global,
     root: &Root,
-    levels: OpenLevels,
+    levels: Vec<Table>,
+    deleted: &[Loc],
+    names: BTreeMap<String, u64>,
     found: &[Placed],
 ) -> Result<Catalog, CatalogFault>
     requires sound { (size : ℕ) × IsSound size root.now }
-    requires rows { AreDocuments (rows_in levels.levels.items) }
-    requires below { AreBelow root.now (rows_in levels.levels.items) }
-    requires rising { IsRising levels.deleted.items }
-    requires ends { have_ends levels.levels.items levels.deleted.items ≡ true }
-    requires ordered { IsOrdered (known_at root.now levels.deleted.items levels.levels.items) }
-    requires names { AreNames levels.names (live_in levels.deleted.items (rows_in levels.levels.items)) }
+    requires rows { AreDocuments (rows_in levels.items) }
+    requires below { AreBelow root.now (rows_in levels.items) }
+    requires rising { IsRising deleted.now }
+    requires ends { have_ends levels.items deleted.now ≡ true }
+    requires ordered { IsOrdered (known_at root.now deleted.now levels.items) }
+    requires names { AreNames names (live_in deleted.now (rows_in levels.items)) }
     requires entries { All (λ p. IsEntry p.entry) found.now }
-    ensures knows { (s : State) → (may : MayStart s root.now levels.deleted.items levels.levels.items)
+    ensures knows { (s : State) → (may : MayStart s root.now deleted.now levels.items)
         → IfOk result (λ catalog. AllowsAll s (entries_in found.now) × KnowsBy catalog may.olds (after_entries s (entries_in found.now))) }
-    ensures levels { IfOk result (λ catalog. levels_in catalog ≡ levels.levels.items) }
-    ensures damaged { (s : State) → MayStart s root.now levels.deleted.items levels.levels.items → All (λ p. p.place < 4294967296) found.now → (place : ℕ) → result ≡ Err (DamagedEntry place) → IsRefusedAt s found.now place }
+    ensures levels { IfOk result (λ catalog. levels_in catalog ≡ levels.items) }
+    ensures follows { IfOk result (λ catalog. Follows catalog root.now (entries_in found.now)) }
+    ensures damaged { (s : State) → MayStart s root.now deleted.now levels.items → All (λ p. p.place < 4294967296) found.now → (place : ℕ) → result ≡ Err (DamagedEntry place) → IsRefusedAt s found.now place }
     ensures only { IfErr result (λ e. (e ≡ NoMemory) ⊎ ((place : ℕ) × (e ≡ DamagedEntry place))) }
 {
-    let OpenLevels {
-        deleted,
-        levels,
-        names,
-    } = levels;
-    let Ok(mut catalog) = Catalog::new(alloc, root, levels, &deleted, names) else {
+    let Ok(mut catalog) = Catalog::new(alloc, root, levels, deleted, names) else {
         return Err(CatalogFault::Memory);
     };
     match apply_entries(alloc, &mut catalog, found) {
