@@ -1,5 +1,7 @@
 pub mod Agreements
+pub mod Changing
 pub mod Commits
+pub mod Flushing
 pub mod Formatted
 pub mod Loads
 pub mod Reading
