@@ -155,8 +155,8 @@ module _ (c : Catalog) (s : State) (f : Knows c s) where
     cells_count : row.cells ≡ length cells
     cells_count = ap (λ (r : DocRow). r.cells) row_is
 
-    made : IsMade a
-    made = record {
+    pub made_added : IsMade (record { row = row; cells = cells })
+    made_added = record {
       title = title;
       body = body;
       named = subst IsName (sym (ap (λ (r : DocRow). r.name) row_is)) named;
@@ -205,7 +205,7 @@ module _ (c : Catalog) (s : State) (f : Knows c s) where
         sound = sound;
         content = content f.added f.content;
         shared = shared_on c new f.shared levels shared;
-        made = All-push IsMade f.added a f.made made;
+        made = All-push IsMade f.added a f.made made_added;
         space = subst IsSpace same (space_push all a f.space document
             (λ k d inside. omega (arith, (f.behind k d inside).0, number_is_next)) (λ k d inside. omega (arith, (f.behind k d inside).1, first_is)));
         filled = subst (All (λ (b : Added). 3 ≤ b.row.cells)) same (All-push (λ (b : Added). 3 ≤ b.row.cells) all a f.filled (omega (arith, cells_count, long.0)));

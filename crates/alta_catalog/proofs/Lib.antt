@@ -2,6 +2,7 @@ pub mod DocumentLaws
 pub mod EndLaws
 pub mod EntryLaws
 pub mod FindingLaws
+pub mod FollowLaws
 pub mod KnowingLaws
 pub mod KnownLaws
 pub mod MayLaws

@@ -275,8 +275,9 @@ impl Catalog {
         ensures value { IfOk result (λ ends. ends.items ≡ ends_below location (gone_of self.now)) }
         ensures rising { IfOk result (λ ends. IsRising ends.items) }
     {
+        let gone = self.gone.ends();
         let mut ends = Vec::new(alloc);
-        for end in self.gone.ends() {
+        for end in gone {
             if *end < location {
                 ends.push(*end)?;
             }
