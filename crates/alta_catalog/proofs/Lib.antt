@@ -9,6 +9,7 @@ pub mod MayLaws
 pub mod Naming
 pub mod NotingLaws
 pub mod OneLevel
+pub mod PartLaws
 pub mod RisingLaws
 pub mod SharingLaws
 pub mod SpaceLaws
