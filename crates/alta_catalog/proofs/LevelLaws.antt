@@ -1,8 +1,9 @@
 -- What a catalog knows once its newest documents are a level.
 use Rattle.std.proofs.Common.{◌≡◌, ⊎_elim, ℕ, ◌+◌, ◌<◌, ◌≤◌, not, IsTrue, Global, List, [], ◌∷◌, ◌++◌, length, map, refl, sym, ◌∙◌, ap, subst, arith}
-use Rattle.std.specs.Prelude.{Contains, Option, String}
+use Rattle.std.specs.Prelude.{Contains, Option, String, Vec}
 use Rattle.std.specs.List.{All, sum_by}
 use Rattle.std.specs.BTreeMap.{BTreeMap}
+use Rattle.std.proofs.lemmas.Grind.{flat_map-append}
 use Rattle.std.proofs.lemmas.List.{map-append}
 use Rattle.std.proofs.lemmas.List.Elements.{All-append, All-contains, All-filter, Contains-append_left, filter-append}
 use Rattle.alta_codec.specs.Rising.{IsRising}
@@ -15,14 +16,16 @@ use Rattle.alta_images.specs.States.{word_count}
 use Rattle.alta_images.proofs.KeptStates.{map_filter}
 use Rattle.alta_images.proofs.KnownLaws.{all_both, all_weaker}
 use Rattle.alta_images.proofs.WrittenLaws.{all_left, all_right}
-use Rattle.alta_memlevel.specs.Added.{Added, HasContent, IsDocument, live_of}
+use Rattle.alta_memlevel.specs.Added.{Added, HasContent, IsDocument, Level, live_of}
 use Rattle.alta_memlevel.specs.Documents.{IsBefore, document_in}
 use Rattle.alta_meta.specs.declared.document.Document.{Document}
 use Rattle.alta_meta.specs.declared.document.State.{State}
 use Rattle.alta_rows.specs.All.{joined, rows_in as rows_of}
+use Rattle.alta_rows.specs.declared.level.LevelRows.{LevelRows}
+use Rattle.std.specs.declared.rc.Rc.{Rc}
 use Rattle.alta_table.specs.Tables.{Tables}
 use Rattle.alta_catalog.specs.Counting.{row_words}
-use Rattle.alta_catalog.specs.Flushing.{MayStand, ends_below, level_in}
+use Rattle.alta_catalog.specs.Flushing.{IsEmptied, MayStand, ends_below, level_in}
 use Rattle.alta_catalog.specs.Knowing.{IsEndIn, Knows, KnowsBy, Notes}
 use Rattle.alta_catalog.specs.Rows.{AreRowsOf, documents_left}
 use Rattle.alta_catalog.specs.declared.catalog.Catalog.{Catalog}
@@ -32,6 +35,9 @@ use Rattle.alta_catalog.proofs.PartLaws.{below_member, left_behind, left_front, 
 use Rattle.alta_catalog.proofs.SettledLaws.{AreSettled, settled_knows, settled_part, settled_space, space_settled}
 use Rattle.alta_catalog.proofs.SpaceLaws.{left_append}
 use Rattle.alta_catalog.proofs.StartLaws.{IsCounted, all_rows, live_long, live_named, live_words, row_of}
+
+levels_more : (levels more : List Tables) → rows_in (levels ++ more) ≡ rows_in levels ++ rows_in more
+levels_more levels more = flat_map-append (λ (t : Tables). t.documents) levels more
 
 -- A catalog that goes on over a level more, with these deleted ends, and without newest documents.
 pub record IsPut (before : Catalog) (level : Option Tables) (deleted : List ℕ) (new : Catalog) : Type 0 where
@@ -47,6 +53,28 @@ pub record IsPut (before : Catalog) (level : Option Tables) (deleted : List ℕ)
   pub count : new.count ≡ before.count
   pub words : new.words ≡ before.words
   pub names : new.names ≡ before.names
+
+pub put_is : (b now new : Catalog) (s : State) (level : Option Tables) (deleted : List ℕ) → IsEmptied b now → Knows b s → IsRising deleted → new.levels.items ≡ now.levels.items ++ level_in level
+    → joined (map rows_of new.rows.items) ≡ joined (map rows_of now.rows.items) ++ rows_in (level_in level) → new.memory ≡ now.memory → new.gone ≡ deleted → new.first ≡ now.next → new.next ≡ now.next → new.location ≡ now.location
+    → new.count ≡ now.count → new.words ≡ now.words → new.names ≡ now.names → IsPut b level deleted new
+put_is b now new s level deleted emptied f rising levels rows memory gone first next location count words names =
+    let more : new.levels.items ≡ b.levels.items ++ level_in level = levels ∙ ap (λ (ls : Vec Tables Global). ls.items ++ level_in level) emptied.levels in
+    record {
+      levels = more;
+      shared =
+          rows ∙ ap (λ (rs : Vec (Rc LevelRows Global) Global). joined (map rows_of rs.items) ++ rows_in (level_in level)) emptied.rows ∙ ap (λ (rs : List DocRow). rs ++ rows_in (level_in level)) f.shared
+          ∙ sym (levels_more b.levels.items (level_in level)) ∙ ap rows_in (sym more);
+      sound = subst (λ (m : Level). IsTrue m.sound) (sym memory) emptied.sound;
+      content = subst (λ (m : Level). HasContent [] m.content) (sym memory) emptied.empty;
+      gone = gone;
+      rising = rising;
+      first = first ∙ emptied.next;
+      next = next ∙ emptied.next;
+      location = location ∙ emptied.location;
+      count = count ∙ emptied.count;
+      words = words ∙ emptied.words;
+      names = names ∙ emptied.names;
+    }
 
 -- a row that ends below the location is one of those in front
 in_front : (location : ℕ) (xs ys : List DocRow) → All (λ (row : DocRow). location ≤ end_of row) ys → (row : DocRow) → Contains (xs ++ ys) row → end_of row < location → Contains xs row
@@ -99,6 +127,9 @@ module _ (b : Catalog) (s : State) (f : Knows b s) (location : ℕ) (level : Opt
   counted : All IsCounted all
   counted = all_weaker IsDocument IsCounted all (λ a is. sym is.counted) (space_all all f.space)
 
+  rows_put : (new : Catalog) → IsPut b level deleted new → rows_in new.levels.items ≡ rows_then
+  rows_put new put = ap rows_in put.levels ∙ levels_more b.levels.items (level_in level)
+
   module _ (olds : List Added) (of : AreRowsOf rows_then olds) where
     named_then : map named_of (documents_left b.gone all) ≡ map named_of (documents_left deleted olds)
     named_then =
@@ -128,8 +159,8 @@ module _ (b : Catalog) (s : State) (f : Knows b s) (location : ℕ) (level : Opt
         let (d, inside, same) = document_among olds a.row (subst (λ (rs : List DocRow). Contains rs a.row) (sym of.rows_are) (Contains-append_left old_rows (rows_in (level_in level)) a.row old)) in
         (d, inside, ap end_of same ∙ is)
 
-    pub put_knows : (new : Catalog) → IsPut b level deleted new → AreRowsOf (rows_in new.levels.items) olds → KnowsBy new olds (record { next = s.next; documents = documents_left deleted olds })
-    put_knows new put rows = settled_knows new olds then_state (record {
+    knows_then : (new : Catalog) → IsPut b level deleted new → AreRowsOf (rows_in new.levels.items) olds → KnowsBy new olds (record { next = s.next; documents = documents_left deleted olds })
+    knows_then new put rows = settled_knows new olds then_state (record {
       rows = rows;
       sound = put.sound;
       content = put.content;
@@ -151,6 +182,9 @@ module _ (b : Catalog) (s : State) (f : Knows b s) (location : ℕ) (level : Opt
       count = put.count ∙ f.count ∙ long_then;
       words = put.words ∙ f.words ∙ words_then;
     })
+
+  pub put_knows : (new : Catalog) → IsPut b level deleted new → (olds : List Added) → AreRowsOf (rows_in new.levels.items) olds → KnowsBy new olds (record { next = s.next; documents = documents_left deleted olds })
+  put_knows new put olds of = knows_then olds (subst (λ (rs : List DocRow). AreRowsOf rs olds) (rows_put new put) of) new put of
 
   -- with the live ones of the newest documents, the documents that are left stay the same
   abbrev live : List Added
@@ -180,7 +214,7 @@ module _ (b : Catalog) (s : State) (f : Knows b s) (location : ℕ) (level : Opt
       ∙ ap (λ (ds : List Added). documents_left b.gone f.olds ++ map document_in ds) (left_behind (λ (a : Added). end_of a.row) location b.gone live live_far)
       ∙ sym (left_append b.gone f.olds f.added) ∙ f.notes.documents
 
-  pub put_same : (new : Catalog) → IsPut b level deleted new → rows_then ≡ rows_in new.levels.items → Knows new s
-  put_same new put rows =
+  pub put_same : (new : Catalog) → IsPut b level deleted new → Knows new s
+  put_same new put =
       subst (λ (ds : List Document). Knows new (record { next = s.next; documents = ds })) left_same
-      (put_knows (f.olds ++ live) live_rows_are new put (subst (λ (rs : List DocRow). AreRowsOf rs (f.olds ++ live)) rows live_rows_are)).0
+      (put_knows new put (f.olds ++ live) (subst (λ (rs : List DocRow). AreRowsOf rs (f.olds ++ live)) (sym (rows_put new put)) live_rows_are)).0
