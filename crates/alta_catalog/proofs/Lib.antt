@@ -2,13 +2,17 @@ pub mod DocumentLaws
 pub mod EndLaws
 pub mod EntryLaws
 pub mod FindingLaws
+pub mod FollowLaws
 pub mod KnowingLaws
 pub mod KnownLaws
+pub mod LevelLaws
 pub mod MayLaws
 pub mod Naming
 pub mod NotingLaws
 pub mod OneLevel
+pub mod PartLaws
 pub mod RisingLaws
+pub mod SettledLaws
 pub mod SharingLaws
 pub mod SpaceLaws
 pub mod StartLaws

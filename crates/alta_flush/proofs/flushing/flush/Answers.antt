@@ -14,7 +14,7 @@ use Rattle.std.specs.Prelude.{Option}
 use Rattle.alta_flush.specs.Flushes.{MayBecome, bare_view, tables_in}
 use Rattle.alta_switch.specs.declared.piece.Piece.{Piece}
 use Rattle.alta_flush.specs.Drafts.{Drafts}
-use Rattle.alta_flush.proofs.DraftLaws.{draft_fits, draft_may}
+use Rattle.alta_flush.proofs.DraftLaws.{draft_fits, draft_may, level_rows}
 use Rattle.alta_flush.proofs.BringLaws.{brings_held, brings_then, coming_of, flushed_then, view_then}
 use Rattle.alta_flush.proofs.CallLaws.{brings_as, bytes_now, drafts_as, full_held, held_now, leaves_one, leaves_same, leaves_told, names_as, tables_then}
 use Rattle.alta_flush.proofs.FlushLaws.{then_of}
@@ -170,3 +170,8 @@ returns-in-Err-clause-narrow g c = λ o told may need gap e.
     now.limit c.in-Err.fault
     (drafts_as (bare_view o) c.args.newest.now.content c.args.ends c.args.next c.args.location may.given now.limit c.limit-limit.result c.limit-limit.ensures c.args.root.now (Err c.in-Err.fault)
     (c.in-Err.ensures.drafted (newest (bare_view o)) may.given.newest_are)) need gap e
+
+pub returns-clause-level : goal.returns-clause-level
+returns-clause-level g c = λ added has.
+    let drafted = c.in-Ok.ensures.drafted added has in
+    level_rows c.limit-limit.result c.args.root.now c.args.ends c.args.next c.args.location (content_of (live_of c.args.ends.gone.now added)) c.in-Ok.draft drafted.1
