@@ -3,6 +3,7 @@ pub mod EndLaws
 pub mod EntryLaws
 pub mod FindingLaws
 pub mod FollowLaws
+pub mod GoneLaws
 pub mod KnowingLaws
 pub mod KnownLaws
 pub mod LevelLaws
