@@ -1,6 +1,6 @@
 -- Calls that change a store, one behind the other.
 use Rattle.std.proofs.Common.{◌≡◌, ◌⊎◌, inl, inr, ⊎_elim, ℕ, ◌+◌, ◌≤◌, Bool, true, false, cond, List, refl, sym, ◌∙◌, ap, subst, arith, Result, Ok, Err}
-use Rattle.std.specs.Prelude.{OnOk, IfErr}
+use Rattle.std.specs.Prelude.{Some}
 use Rattle.alta_codec.specs.Faults.{Rose}
 use Rattle.alta_disk.specs.Calls.{Costs}
 use Rattle.alta_disk.specs.Disk.{DiskState, IsLawful, LeavesOnly}
@@ -33,6 +33,10 @@ Turns = ℕ → Opened → Opened → Type 0
 
 pub costs_none : (bytes : ℕ) (a : DiskState) → Costs bytes a a
 costs_none bytes a = record { faults = omega arith; taken_up = omega arith; taken = omega arith; limit = refl }
+
+-- what an append costs
+pub costs_appended : (a b : DiskState) → a.faults ≤ b.faults → b.taken ≡ a.taken → b.limit ≡ a.limit → Costs 0 a b
+costs_appended a b faults taken limit = record { faults = faults; taken_up = omega (arith, taken); taken = omega (arith, taken); limit = limit }
 
 -- memory was wanting before a call
 pub changes_none : {T : Type 0} (tells : Type 0) (work : Work) (turns : Turns) (step : State → State) (refuses : StoreFault → Type 0) (bytes : ℕ) (a : DiskState) (store later : Store) (fault : StoreFault)
@@ -81,16 +85,16 @@ changes_idle tells work turns bytes a store u lawful agrees same still = record 
 -- ---- the same in other words
 
 pub changes_as : {T : Type 0} (tells : Type 0) (work work' : Work) (turns turns' : Turns) (step : State → State) (refuses refuses' : StoreFault → Type 0) (bytes : ℕ) (a b : DiskState) (store later : Store) (result : Result T StoreFault)
-    → ((limit : ℕ) (held : Holding) → work limit held ≡ work' limit held) → ((limit : ℕ) (o p : Opened) → turns limit o p → turns' limit o p) → ((e : StoreFault) → refuses e → refuses' e)
+    → ((held : Holding) → tells → IsHeld held a.content → work a.limit held ≡ work' a.limit held) → ((o p : Opened) → tells → IsOpened o a.content → turns a.limit o p → turns' a.limit o p) → ((e : StoreFault) → refuses e → refuses' e)
     → Changes tells work turns step refuses bytes a b store later result → Changes tells work' turns' step refuses' bytes a b store later result
 changes_as {T} tells work work' turns turns' step refuses refuses' bytes a b store later (Ok x) same leads may c = record {
   agrees = c.agrees;
   knows = c.knows;
-  works = λ held told has. let w = c.works held told has in (w.0, sym (same a.limit held) ∙ w.1, w.2);
-  full = λ held need gap told has e. sym (same a.limit held) ∙ c.full held need gap told has e;
+  works = λ held told has. let w = c.works held told has in (w.0, sym (same held told has) ∙ w.1, w.2);
+  full = λ held need gap told has e. sym (same held told has) ∙ c.full held need gap told has e;
   images = c.images;
   stands = c.stands;
-  becomes = λ o told opened. let w = c.becomes o told opened in (w.0, leads a.limit o w.0 w.1, w.2);
+  becomes = λ o told opened. let w = c.becomes o told opened in (w.0, leads o w.0 told opened w.1, w.2, w.3);
   narrow = c.narrow;
   only = tt;
   cause = c.cause;
@@ -100,7 +104,7 @@ changes_as {T} tells work work' turns turns' step refuses refuses' bytes a b sto
   agrees = tt;
   knows = λ s knows. tt;
   works = λ held told has. tt;
-  full = λ held need gap told has e. sym (same a.limit held) ∙ c.full held need gap told has e;
+  full = λ held need gap told has e. sym (same held told has) ∙ c.full held need gap told has e;
   images = c.images;
   stands = λ s told stands. tt;
   becomes = λ o told opened. tt;
@@ -109,6 +113,53 @@ changes_as {T} tells work work' turns turns' step refuses refuses' bytes a b sto
   cause = c.cause;
   costs = c.costs;
 }
+
+-- what a call that was done answers makes no difference
+pub changes_ok : {T X : Type 0} (tells : Type 0) (work : Work) (turns : Turns) (step : State → State) (refuses : StoreFault → Type 0) (bytes : ℕ) (a b : DiskState) (store later : Store) (x : T) (y : X)
+    → Changes tells work turns step refuses bytes a b store later (Ok x) → Changes tells work turns step refuses bytes a b store later (Ok y)
+changes_ok {T} {X} tells work turns step refuses bytes a b store later x y c = record {
+  agrees = c.agrees;
+  knows = c.knows;
+  works = c.works;
+  full = λ held need gap told has e. absurd (not_ok (faults.Full need gap) e);
+  images = c.images;
+  stands = c.stands;
+  becomes = c.becomes;
+  narrow = λ need gap told e. absurd (not_ok (faults.Full need gap) e);
+  only = tt;
+  cause = λ e. absurd (not_ok faults.Disk e);
+  costs = c.costs;
+}
+  where
+    not_ok : (fault : StoreFault) → ◌≡◌ {A = Result X StoreFault} (Ok y) (Err fault) → ⊥
+    not_ok fault e = absurd cc
+
+pub some_is : {X : Type 0} (x y : X) → Some x ≡ Some y → x ≡ y
+some_is x y e = cc
+
+-- the fault of a call that failed, handed on
+pub changes_fault : {T X : Type 0} (tells : Type 0) (work : Work) (turns : Turns) (step : State → State) (refuses refuses' : StoreFault → Type 0) (bytes : ℕ) (a b : DiskState) (store later last : Store) (fault other : StoreFault)
+    → other ≡ fault → ((e : StoreFault) → refuses e → refuses' e) → Changes {T = T} tells work turns step refuses bytes a b store later (Err fault) → Changes {T = X} tells work turns step refuses' bytes a b store last (Err other)
+changes_fault {T} {X} tells work turns step refuses refuses' bytes a b store later last fault other is may c = record {
+  agrees = tt;
+  knows = λ s knows. tt;
+  works = λ held told has. tt;
+  full = λ held need gap told has e. c.full held need gap told has (carried (faults.Full need gap) e);
+  images = c.images;
+  stands = λ s told stands. tt;
+  becomes = λ o told opened. tt;
+  narrow = λ need gap told e. c.narrow need gap told (carried (faults.Full need gap) e);
+  only = subst (λ (f : StoreFault). IsOutside f ⊎ (refuses' f ⊎ ((need : ℕ) × (gap : ℕ) × (f ≡ faults.Full need gap)))) (sym is)
+      (⊎_elim (λ outside. inl outside) (λ rest. ⊎_elim (λ refused. inr (inl (may fault refused))) (λ full. inr (inr full)) rest) c.only);
+  cause = λ e. c.cause (carried faults.Disk e);
+  costs = c.costs;
+}
+  where
+    carried : (f : StoreFault) → ◌≡◌ {A = Result X StoreFault} (Err other) (Err f) → ◌≡◌ {A = Result T StoreFault} (Err fault) (Err f)
+    carried f e = ap (λ (g : StoreFault). Err g) (sym is ∙ same other f e)
+      where
+        same : (g h : StoreFault) → ◌≡◌ {A = Result X StoreFault} (Err g) (Err h) → g ≡ h
+        same g h e = cc
 
 -- ---- one behind the other
 
@@ -154,7 +205,7 @@ changes_failed {T} tells work then turns next step refuses m n a b store middle 
         same f g e = cc
 
 -- both were done, or the second failed
-module _ {T : Type 0} (tells : Type 0) (work then : Work) (turns next : Turns) (step : State → State) (refuses : StoreFault → Type 0) (m n : ℕ) (a b c : DiskState) (store middle later : Store) (u : Unit {0})
+module _ (tells : Type 0) (work then : Work) (turns next : Turns) (step : State → State) (refuses : StoreFault → Type 0) (m n : ℕ) (a b c : DiskState) (store middle later : Store) (u : Unit {0})
     (one : Changes tells work turns (λ s. s) NoRefusal m a b store middle (Ok u)) where
   narrow_then : (need gap : ℕ) → IsNarrow b.limit c.content need gap → IsNarrow a.limit c.content need gap
   narrow_then need gap narrow = subst (λ (limit : ℕ). IsNarrow limit c.content need gap) one.costs.limit narrow
@@ -165,13 +216,13 @@ module _ {T : Type 0} (tells : Type 0) (work then : Work) (turns next : Turns) (
   abbrev through : Turns
   through = λ limit o p. (q : Opened) × turns limit o q × next limit q p
 
-  images_then : (result : Result T StoreFault) → Changes tells then next step refuses n b c middle later result → (s : State) → (tells → StandsFor s a.content) → LeavesOnly (StandsForEither s (step s)) a c
+  images_then : {T : Type 0} (result : Result T StoreFault) → Changes tells then next step refuses n b c middle later result → (s : State) → (tells → StandsFor s a.content) → LeavesOnly (StandsForEither s (step s)) a c
   images_then result two s stands =
       leaves_then a b c (StandsForEither s (step s))
       (leaves_as a b (StandsForEither s s) (StandsForEither s (step s)) (one.images s stands) (λ image either. ⊎_elim (λ here. inl here) (λ here. inl here) either))
       (two.images s (λ told. one.stands s told (stands told)))
 
-  pub changes_then : (result : Result T StoreFault) → Changes tells then next step refuses n b c middle later result → Changes tells both through step refuses (m + n) a c store later result
+  pub changes_then : {T : Type 0} (result : Result T StoreFault) → Changes tells then next step refuses n b c middle later result → Changes tells both through step refuses (m + n) a c store later result
   changes_then (Ok x) two = record {
     agrees = two.agrees;
     knows = λ s knows. two.knows s (one.knows s knows);
@@ -184,8 +235,8 @@ module _ {T : Type 0} (tells : Type 0) (work then : Work) (turns next : Turns) (
     stands = λ s told stands. two.stands s told (one.stands s told stands);
     becomes = λ o told opened.
         let w = one.becomes o told opened in
-        let v = two.becomes w.0 told w.2.0 in
-        (v.0, (w.0, w.1, subst (λ (limit : ℕ). next limit w.0 v.0) one.costs.limit v.1), v.2);
+        let v = two.becomes w.0 told w.2 in
+        (v.0, (w.0, w.1, subst (λ (limit : ℕ). next limit w.0 v.0) one.costs.limit v.1), v.2, v.3);
     narrow = λ need gap told e. narrow_then need gap (two.narrow need gap told e);
     only = tt;
     cause = λ e. rose_later a.faults b.faults c.faults one.costs.faults (two.cause e);
@@ -220,7 +271,7 @@ pub obeys_entry : {T : Type 0} (tells : Type 0) (entry : Entry) (step : State �
     (λ limit o p. (q : Opened) × (((fits o.entries entry ≡ true) × (q ≡ o)) ⊎ ((fits o.entries entry ≡ false) × BecomesFlushed limit o q)) × (p ≡ with_entry q entry)) step NoRefusal (1 + 0) a b store later result
     → Obeys tells (enters entry) step NoRefusal a b store later result
 obeys_entry tells entry step a b store later result c =
-    changes_as tells _ _ _ _ step NoRefusal NoRefusal 1 a b store later result (enter_work entry)
-    (λ limit o p turned.
+    changes_as tells _ _ _ _ step NoRefusal NoRefusal 1 a b store later result (λ held told has. enter_work entry a.limit held)
+    (λ o p told opened turned.
     ⊎_elim (λ fitted. inl (fitted.0, turned.2 ∙ ap (λ (q : Opened). with_entry q entry) fitted.1)) (λ flushed. inr (flushed.0, turned.0, flushed.1, turned.2)) turned.1)
     (λ e refused. refused) c

@@ -22,6 +22,8 @@ use Rattle.alta_images.proofs.AppendLaws.{opened_appended, stands_appended, stan
 use Rattle.alta_images.proofs.Entering.{after_more}
 use Rattle.alta_images.proofs.HeldLaws.{held_appended}
 use Rattle.alta_images.proofs.NameLaws.{All-has_byte}
+use Rattle.alta_journal.specs.declared.appending.JournalFault.{JournalFault}
+use Rattle.alta_journal.specs.declared.appending.JournalFault.TheVariants.{Disk as JournalDisk, Full as JournalFull}
 use Rattle.alta_journal.specs.Entry.{KeepsRules}
 use Rattle.alta_journal.specs.Journal.{Appended, Appends}
 use Rattle.alta_journal.specs.Places.{start_of, left_behind, HasClosedGate}
@@ -60,14 +62,21 @@ keeps_rules_of a b c name title body same_name same_title same_body d =
     subst (λ (x : List ℕ). KeepsRules (Add x b c)) (sym same_name) (subst (λ (x : List ℕ). KeepsRules (Add name x c)) (sym same_title)
     (subst (λ (x : List ℕ). KeepsRules (Add name title x)) (sym same_body) (keeps_rules name title body d)))
 
--- the records of all deletes are as long
-pub same_long : (m n : ℕ) → length (body_of (Delete m)) ≡ length (body_of (Delete n))
-same_long m n = omega (arith, body_long (Delete m), body_long (Delete n), delete_long m, delete_long n)
+-- the record of a delete is as long as this
+pub delete_bytes : (number : ℕ) → length (body_of (Delete number)) ≡ 14
+delete_bytes number = omega (arith, body_long (Delete number), delete_long number)
 
 -- the halves end in the head
 pub journal_fits : (slot : Slot) → journal_of slot + HALF_BYTES ≤ HEAD_BYTES
 journal_fits A = omega arith
 journal_fits B = omega arith
+
+-- a record that fits is not found too long
+pub never_full : (fault : JournalFault) (need left : ℕ) → fault ≡ JournalFull need left → fault ≡ JournalDisk → ⊥
+never_full fault need left full disk = absurd cc
+
+pub ap_err : {T : Type 0} {fault other : JournalFault} → fault ≡ other → ◌≡◌ {A = Result T JournalFault} (Err fault) (Err other)
+ap_err {T} is = ap (λ (f : JournalFault). Err f) is
 
 ok_fails : {T : Type 0} (x : T) (fault : StoreFault) → ◌≡◌ {A = Result T StoreFault} (Ok x) (Err fault) → ⊥
 ok_fails x fault e = absurd cc

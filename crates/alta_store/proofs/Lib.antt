@@ -4,6 +4,7 @@ pub mod Commits
 pub mod Flushing
 pub mod Formatted
 pub mod Loads
+pub mod Naming
 pub mod Reading
 pub mod SearchLaws
 pub mod Speaking
