@@ -14,6 +14,7 @@ use Rattle.alta_images.specs.Work.{enters, fits}
 use Rattle.alta_images.specs.Working.{Full, entered}
 use Rattle.alta_images.proofs.Tests.{by_test}
 use Rattle.alta_journal.specs.declared.entry.Entry.{Entry}
+use Rattle.alta_journal.specs.declared.entry.Entry.TheVariants.{Delete}
 use Rattle.alta_meta.specs.declared.document.State.{State}
 use Rattle.alta_store.specs.Agreement.{Agrees, Keeps, Knows}
 use Rattle.alta_store.specs.Answers.{IsOutside}
@@ -275,3 +276,8 @@ obeys_entry tells entry step a b store later result c =
     (λ o p told opened turned.
     ⊎_elim (λ fitted. inl (fitted.0, turned.2 ∙ ap (λ (q : Opened). with_entry q entry) fitted.1)) (λ flushed. inr (flushed.0, turned.0, flushed.1, turned.2)) turned.1)
     (λ e refused. refused) c
+
+-- a delete by the same number
+pub deletes_as : {T : Type 0} (tells : Type 0) (m n : ℕ) (step : State → State) (a b : DiskState) (store later : Store) (result : Result T StoreFault) → m ≡ n
+    → Obeys tells (enters (Delete m)) step NoRefusal a b store later result → Obeys tells (enters (Delete n)) step NoRefusal a b store later result
+deletes_as tells m n step a b store later result is obeys = subst (λ (k : ℕ). Obeys tells (enters (Delete k)) step NoRefusal a b store later result) is obeys

@@ -362,11 +362,11 @@ module _ (tells_gone : TellsGone) (tells_deleted : TellsDeleted) (tells : Type 0
     -- ---- it failed
 
     module _ (fault : FlushFault) (many_fails : (added : List Added) → HasContent added content → is_many_of store.root (content_of (live_of ends.gone.now added)) ≡ true
-          → (◌≡◌ {A = Result Flushed FlushFault} (Err fault) (Err flush_faults.Memory)) ⊎ (◌≡◌ {A = Result Flushed FlushFault} (Err fault) (Err (flush_faults.Full 17 16))))
+        → (◌≡◌ {A = Result Flushed FlushFault} (Err fault) (Err flush_faults.Memory)) ⊎ (◌≡◌ {A = Result Flushed FlushFault} (Err fault) (Err (flush_faults.Full 17 16))))
         (full : (held : Holding) → tells → MayFlush held content ends next location a.content → (need gap : ℕ) → ◌≡◌ {A = Result Flushed FlushFault} (Err fault) (Err (flush_faults.Full need gap))
-          → flushed a.limit held ≡ Err (record { need = need; gap = gap }))
+        → flushed a.limit held ≡ Err (record { need = need; gap = gap }))
         (narrow : (o : Opened) → tells → MayFlushOpened o content ends next location a.content → (need gap : ℕ) → ◌≡◌ {A = Result Flushed FlushFault} (Err fault) (Err (flush_faults.Full need gap))
-          → flush_places a.limit o ends ≡ Err (record { need = need; gap = gap }))
+        → flush_places a.limit o ends ≡ Err (record { need = need; gap = gap }))
         (unmoved : (fault ≡ flush_faults.Disk) ⊎ (a ≡ b)) (cause : fault ≡ flush_faults.Disk → Rose a.faults b.faults) (costs : Costs 1 a b) where
       full_of : {T : Type 0} (other : StoreFault) (need gap : ℕ) → other ≡ of_flush fault → ◌≡◌ {A = Result T StoreFault} (Err other) (Err (store_faults.Full need gap)) → fault ≡ flush_faults.Full need gap
       full_of {T} other need gap is e = by_fault fault (sym is ∙ same e)
@@ -460,7 +460,7 @@ module _ (tells_gone : TellsGone) (tells_deleted : TellsDeleted) (tells : Type 0
     -- ---- it was done
 
     module _ (done : Flushed) (few : (added : List Added) → HasContent added content → is_many_of store.root (content_of (live_of ends.gone.now added)) ≡ true
-          → (◌≡◌ {A = Result Flushed FlushFault} (Ok done) (Err flush_faults.Memory)) ⊎ (◌≡◌ {A = Result Flushed FlushFault} (Ok done) (Err (flush_faults.Full 17 16)))) (costs : Costs 1 a b) where
+        → (◌≡◌ {A = Result Flushed FlushFault} (Ok done) (Err flush_faults.Memory)) ⊎ (◌≡◌ {A = Result Flushed FlushFault} (Ok done) (Err (flush_faults.Full 17 16)))) (costs : Costs 1 a b) where
       not_many : IsMany → ⊥
       not_many (added, has, many_is) =
           ⊎_elim (λ (e : ◌≡◌ {A = Result Flushed FlushFault} (Ok done) (Err flush_faults.Memory)). no_memory e) (λ (e : ◌≡◌ {A = Result Flushed FlushFault} (Ok done) (Err (flush_faults.Full 17 16))). no_full e) (few added has many_is)
@@ -594,7 +594,7 @@ module _ (store later : Store) (intact : IsIntact store) (emptied : Catalog) (is
         }
 
     module _ (knows_by : (before : Catalog) → (s : State) → (location : ℕ) → (olds : List Added) → IsEmptied before emptied → CatalogKnows before s → MayStand before location level deleted
-          → AreRowsOf (rows_in (levels_in later.catalog)) olds → KnowsBy later.catalog olds (record { next = s.next; documents = documents_left deleted olds }))
+        → AreRowsOf (rows_in (levels_in later.catalog)) olds → KnowsBy later.catalog olds (record { next = s.next; documents = documents_left deleted olds }))
         (levels_are : levels_in later.catalog ≡ levels_in emptied ++ level_in level) (slot : Slot) (root : Root) (slot_later : later.slot ≡ slot) (root_later : later.root ≡ root) (listed_later : later.listed.items ≡ deleted)
         (half_later : later.tail.half ≡ half_of slot) (place_later : later.tail.place ≡ journal_of slot) (limit : ℕ) (ends : Ends) (ends_are : ends.deleted.now ≡ deleted) (next location : ℕ)
         (done : Flushed) (done_slot : done.slot ≡ slot) (done_root : done.root ≡ root) (done_level : done.level ≡ level) where

@@ -38,7 +38,9 @@ use alta_catalog::{Catalog, CatalogFault, Names, apply_entries, what_is_gone};
 use alta_codec::{Loc, Text};
 use alta_disk::Disk;
 use alta_flush::{Ends, flush};
-use alta_journal::{Entry, HALF_BYTES, Half, JournalFault, Placed, Ready, Tail, append, ready, replay};
+use alta_journal::{
+    Entry, HALF_BYTES, Half, JournalFault, Placed, Ready, Tail, append, ready, replay,
+};
 use alta_memlevel::MemLevel;
 use alta_opening::{OpenLevels, open_levels};
 use alta_root::{Root, Slot, read_roots};
@@ -405,7 +407,16 @@ impl Store {
             deleted: &deleted,
             gone: self.catalog.gone(),
         };
-        let done = match flush(self.alloc, disk, self.slot, &self.root, ends, &mut newest, next, location) {
+        let done = match flush(
+            self.alloc,
+            disk,
+            self.slot,
+            &self.root,
+            ends,
+            &mut newest,
+            next,
+            location,
+        ) {
             Ok(done) => done,
             Err(fault) => return Err(flush_fault(fault)),
         };

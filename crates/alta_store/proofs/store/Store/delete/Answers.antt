@@ -1,10 +1,7 @@
-use Rattle.std.proofs.Common.{◌≡◌, refl, sym, ◌∙◌, subst}
-use Rattle.std.specs.Prelude.{Some}
+use Rattle.std.proofs.Common.{sym, ◌∙◌}
 use Rattle.alta_images.specs.States.{with_deleted}
-use Rattle.alta_images.specs.Work.{enters}
-use Rattle.alta_journal.specs.declared.entry.Entry.TheVariants.{Delete}
-use Rattle.alta_store.specs.Calls.{NoRefusal, Obeys}
-use Rattle.alta_store.proofs.Changing.{changes_fault, changes_ok, some_is}
+use Rattle.alta_store.specs.Calls.{NoRefusal}
+use Rattle.alta_store.proofs.Changing.{changes_fault, changes_ok, deletes_as, some_is}
 use Rattle.alta_store.proofs.store.Store.delete.Goals as goal
 
 pub leave_out-requires-clause-named : goal.leave_out-requires-clause-named
@@ -12,12 +9,13 @@ leave_out-requires-clause-named g c = λ s knows. sym (c.in-Some.ensures.value s
 
 pub returns-in-Ok-clause-obeys : goal.returns-in-Ok-clause-obeys
 returns-in-Ok-clause-obeys g c = λ s number knows named.
-    subst (λ n. Obeys g.D.Disk.tells (enters (Delete n)) (with_deleted c.args.name.now) NoRefusal (g.D.Disk.state c.args.disk.now) (g.D.Disk.state c.leave_out.new.disk) c.args.self.now c.leave_out.new.self _)
-    (some_is _ _ (c.in-Some.ensures.value s knows ∙ named)) (changes_ok g.D.Disk.tells _ _ (with_deleted c.args.name.now) NoRefusal 1 (g.D.Disk.state c.args.disk.now) (g.D.Disk.state c.leave_out.new.disk) c.args.self.now c.leave_out.new.self _ _ c.in-Ok.ensures.obeys)
+    deletes_as g.D.Disk.tells c.in-Some.number number (with_deleted c.args.name.now) (g.D.Disk.state c.args.disk.now) (g.D.Disk.state c.leave_out.new.disk) c.args.self.now c.leave_out.new.self _
+    (some_is c.in-Some.number number (c.in-Some.ensures.value s knows ∙ named))
+    (changes_ok g.D.Disk.tells _ _ (with_deleted c.args.name.now) NoRefusal 1 (g.D.Disk.state c.args.disk.now) (g.D.Disk.state c.leave_out.new.disk) c.args.self.now c.leave_out.new.self _ _ c.in-Ok.ensures.obeys)
 
 pub returns-in-Err-clause-obeys : goal.returns-in-Err-clause-obeys
 returns-in-Err-clause-obeys g c = λ s number knows named.
-    subst (λ n. Obeys g.D.Disk.tells (enters (Delete n)) (with_deleted c.args.name.now) NoRefusal (g.D.Disk.state c.args.disk.now) (g.D.Disk.state c.leave_out.new.disk) c.args.self.now c.failed.new.self _)
-    (some_is _ _ (c.in-Some.ensures.value s knows ∙ named))
+    deletes_as g.D.Disk.tells c.in-Some.number number (with_deleted c.args.name.now) (g.D.Disk.state c.args.disk.now) (g.D.Disk.state c.leave_out.new.disk) c.args.self.now c.failed.new.self _
+    (some_is c.in-Some.number number (c.in-Some.ensures.value s knows ∙ named))
     (changes_fault g.D.Disk.tells _ _ (with_deleted c.args.name.now) NoRefusal NoRefusal 1 (g.D.Disk.state c.args.disk.now) (g.D.Disk.state c.leave_out.new.disk) c.args.self.now c.leave_out.new.self c.failed.new.self _ _
     c.failed.ensures.fault (λ e refused. refused) c.in-Err.ensures.obeys)
