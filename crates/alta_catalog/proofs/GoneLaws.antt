@@ -1,19 +1,19 @@
 -- What is gone of a catalog that follows an opened image.
-use Rattle.std.proofs.Common.{◌≡◌, ⊎_elim, ℕ, ◌+◌, ◌<◌, ◌≤◌, Bool, true, false, not, nat_lt, List, [], ◌∷◌, ◌++◌, length, map, refl, sym, ◌∙◌, ap, subst, arith, Ok, Result}
+use Rattle.std.proofs.Common.{◌≡◌, ⊎_elim, ℕ, ◌<◌, ◌≤◌, Bool, true, false, not, nat_lt, List, [], ◌∷◌, ◌++◌, map, refl, sym, ◌∙◌, ap, subst, arith, Ok}
 use Rattle.std.specs.Prelude.{◌&&◌, ◌||◌, Contains}
-use Rattle.std.specs.List.{All, filter, list_all, list_any}
-use Rattle.std.proofs.lemmas.Bool.{false≢true, le-ltb, lt-ltb}
+use Rattle.std.specs.List.{All, filter, list_all}
+use Rattle.std.proofs.lemmas.Bool.{le-ltb, lt-ltb}
 use Rattle.std.proofs.lemmas.List.{append-nil, map-append}
-use Rattle.std.proofs.lemmas.List.Elements.{All-append, All-contains, All-filter, All-head, All-map, All-nil, All-cons, All-tail, filter-append}
+use Rattle.std.proofs.lemmas.List.Elements.{All-append, All-contains, All-filter, All-head, All-map, All-nil, All-cons, filter-append}
 use Rattle.alta_codec.specs.Rising.{IsRising}
 use Rattle.alta_codec.specs.declared.extent.Extent.{Extent}
 use Rattle.alta_content.specs.Rows.{end_of, ends_among, live_rows}
 use Rattle.alta_content.specs.declared.document.DocRow.{DocRow}
 use Rattle.alta_content.proofs.Outside.{filter_alike, filter_all}
 use Rattle.alta_content.proofs.Rises.{Contains-cases, Contains-head, Contains-tail, RisesAbove, above_from_rising, filter-has, filter-keeps, filter-rises}
-use Rattle.alta_images.specs.Entries.{AllowsAll, after_entries}
+use Rattle.alta_images.specs.Entries.{AllowsAll}
 use Rattle.alta_images.specs.Levels.{Level}
-use Rattle.alta_images.specs.Opened.{IsOpened, Opened, are_in_order, comes_behind, have_ends, is_below, journal_of, levels_from, rows_in, with_level}
+use Rattle.alta_images.specs.Opened.{IsOpened, Opened, are_in_order, comes_behind, is_below, journal_of, levels_from, rows_in, with_level}
 use Rattle.alta_images.specs.Known.{Known, replayed}
 use Rattle.alta_images.specs.Ordered.{AreBelow, Precedes, RowsRise}
 use Rattle.alta_images.specs.Standing.{view_of}

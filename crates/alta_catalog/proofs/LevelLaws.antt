@@ -1,5 +1,5 @@
 -- What a catalog knows once its newest documents are a level.
-use Rattle.std.proofs.Common.{◌≡◌, ⊎_elim, ℕ, ◌+◌, ◌<◌, ◌≤◌, not, IsTrue, Global, List, [], ◌∷◌, ◌++◌, length, map, refl, sym, ◌∙◌, ap, subst, arith}
+use Rattle.std.proofs.Common.{◌≡◌, ⊎_elim, ℕ, ◌<◌, ◌≤◌, not, IsTrue, Global, List, [], ◌∷◌, ◌++◌, length, map, sym, ◌∙◌, ap, subst, arith}
 use Rattle.std.specs.Prelude.{Contains, Option, String, Vec}
 use Rattle.std.specs.List.{All, sum_by}
 use Rattle.std.specs.BTreeMap.{BTreeMap}
@@ -9,13 +9,13 @@ use Rattle.std.proofs.lemmas.List.Elements.{All-append, All-contains, All-filter
 use Rattle.alta_codec.specs.Rising.{IsRising}
 use Rattle.alta_content.specs.Rows.{IsPlaced, end_of, ends_among, live_rows}
 use Rattle.alta_content.specs.declared.document.DocRow.{DocRow}
-use Rattle.alta_images.specs.Known.{Named, named, named_of}
+use Rattle.alta_images.specs.Known.{named, named_of}
 use Rattle.alta_images.specs.Opened.{live_in, rows_in}
 use Rattle.alta_images.specs.Ordered.{RowsRise}
 use Rattle.alta_images.specs.States.{word_count}
 use Rattle.alta_images.proofs.KeptStates.{map_filter}
 use Rattle.alta_images.proofs.KnownLaws.{all_both, all_weaker}
-use Rattle.alta_images.proofs.WrittenLaws.{all_left, all_right}
+use Rattle.alta_images.proofs.WrittenLaws.{all_right}
 use Rattle.alta_memlevel.specs.Added.{Added, HasContent, IsDocument, Level, live_of}
 use Rattle.alta_memlevel.specs.Documents.{IsBefore, document_in}
 use Rattle.alta_meta.specs.declared.document.Document.{Document}
@@ -77,11 +77,11 @@ put_is b now new s level deleted emptied f rising levels rows memory gone first 
     }
 
 -- a row that ends below the location is one of those in front
-in_front : (location : ℕ) (xs ys : List DocRow) → All (λ (row : DocRow). location ≤ end_of row) ys → (row : DocRow) → Contains (xs ++ ys) row → end_of row < location → Contains xs row
-in_front location [] ys far row has less = absurd (omega (arith, less, All-contains (λ (r : DocRow). location ≤ end_of r) ys row far has))
-in_front location (x ∷ xs) ys far row has less =
+row_in_front : (location : ℕ) (xs ys : List DocRow) → All (λ (row : DocRow). location ≤ end_of row) ys → (row : DocRow) → Contains (xs ++ ys) row → end_of row < location → Contains xs row
+row_in_front location [] ys far row has less = absurd (omega (arith, less, All-contains (λ (r : DocRow). location ≤ end_of r) ys row far has))
+row_in_front location (x ∷ xs) ys far row has less =
     ⊎_elim (λ (same : x ≡ row). (0, omega arith, same))
-    (λ more. there x xs row (in_front location xs ys far row more less))
+    (λ more. there x xs row (row_in_front location xs ys far row more less))
     (here_or_there x (xs ++ ys) row has)
 
 module _ (b : Catalog) (s : State) (f : Knows b s) (location : ℕ) (level : Option Tables) (deleted : List ℕ) (may : MayStand b location level deleted) where
@@ -155,7 +155,7 @@ module _ (b : Catalog) (s : State) (f : Knows b s) (location : ℕ) (level : Opt
         let both = below_member location b.gone end (subst (λ (es : List ℕ). Contains es end) may.deleted_are has) in
         let (a, member, is) = f.ends end both.0 in
         let row : Contains (old_rows ++ newest_rows) a.row = subst (λ (rs : List DocRow). Contains rs a.row) (rows_of_all b s f) (row_among all a member) in
-        let old : Contains old_rows a.row = in_front location old_rows newest_rows far a.row row (omega (arith, is, both.1)) in
+        let old : Contains old_rows a.row = row_in_front location old_rows newest_rows far a.row row (omega (arith, is, both.1)) in
         let (d, inside, same) = document_among olds a.row (subst (λ (rs : List DocRow). Contains rs a.row) (sym of.rows_are) (Contains-append_left old_rows (rows_in (level_in level)) a.row old)) in
         (d, inside, ap end_of same ∙ is)
 

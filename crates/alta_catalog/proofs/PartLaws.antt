@@ -1,16 +1,14 @@
 -- Ends below a location, and documents that are known by their rows.
-use Rattle.std.proofs.Common.{◌≡◌, ⊎_elim, inl, inr, ℕ, ◌+◌, ◌<◌, ◌≤◌, Bool, true, false, not, nat_lt, Global, List, [], ◌∷◌, ◌++◌, length, map, refl, sym, ◌∙◌, ap, subst, arith}
-use Rattle.std.specs.Prelude.{◌⊎◌, ◌||◌, ◌==◌, Contains, Some, String, is_some}
+use Rattle.std.proofs.Common.{◌≡◌, ⊎_elim, ℕ, ◌+◌, ◌<◌, ◌≤◌, Bool, true, false, not, nat_lt, Global, List, [], ◌∷◌, map, refl, sym, ◌∙◌, ap, subst, arith}
+use Rattle.std.specs.Prelude.{◌||◌, ◌==◌, Contains, Some, String}
 use Rattle.std.specs.List.{All, filter, list_any}
 use Rattle.std.specs.BTreeMap.{BTreeMap, get_by_text}
 use Rattle.std.specs.Str.{bytes_eq}
-use Rattle.std.proofs.lemmas.Bool.{false≢true, lt-ltb, ltb-true, ltb-false}
-use Rattle.std.proofs.lemmas.List.Elements.{All-nil, All-cons, All-head, All-tail}
+use Rattle.std.proofs.lemmas.Bool.{ltb-true, ltb-false}
 use Rattle.alta_content.proofs.Outside.{filter_alike, filter_all}
 use Rattle.alta_images.proofs.KnownLaws.{all_weaker}
 use Rattle.alta_images.proofs.Tests.{apart_test, by_test, filter_drop, filter_keep}
 use Rattle.alta_images.specs.Known.{Named, named_of}
-use Rattle.alta_images.specs.States.{has_name}
 use Rattle.alta_meta.specs.declared.document.Document.{Document}
 use Rattle.alta_meta.specs.declared.document.State.{State}
 use Rattle.alta_catalog.specs.Flushing.{ends_below}

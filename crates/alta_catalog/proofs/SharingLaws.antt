@@ -1,6 +1,5 @@
 -- The rows of documents that stand one behind the other.
-use Rattle.std.proofs.Common.{◌≡◌, ℕ, ◌<◌, List, [], ◌∷◌, ◌++◌, map, arith}
-use Rattle.std.specs.List.{All}
+use Rattle.std.proofs.Common.{◌<◌, List, [], ◌∷◌, map}
 use Rattle.std.proofs.lemmas.List.Elements.{All-map}
 use Rattle.alta_codec.specs.Rising.{IsRising}
 use Rattle.alta_content.specs.Rows.{RowsRise, end_of}

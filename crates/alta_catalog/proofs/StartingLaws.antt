@@ -1,9 +1,7 @@
 -- A catalog of what opening found stands at each state of which its root may speak.
-use Rattle.std.proofs.Common.{refl, ◌≡◌, ℕ, ◌+◌, ◌-◌, ◌*◌, ◌<◌, ◌≤◌, true, IsTrue, List, [], ◌++◌, length, map, sym, ◌∙◌, ap, subst, arith}
+use Rattle.std.proofs.Common.{◌≡◌, ℕ, ◌+◌, ◌-◌, ◌*◌, ◌<◌, ◌≤◌, true, IsTrue, List, [], length, map, sym, ◌∙◌, ap, subst, arith}
 use Rattle.std.specs.Prelude.{Contains}
 use Rattle.std.specs.List.{All, sum_by}
-use Rattle.std.proofs.lemmas.List.{append-nil}
-use Rattle.std.proofs.lemmas.List.Elements.{All-nil}
 use Rattle.alta_codec.specs.Rising.{IsRising}
 use Rattle.alta_content.specs.Rows.{AreDocuments, end_of, live_rows, start}
 use Rattle.alta_content.specs.declared.document.DocRow.{DocRow}
@@ -11,13 +9,12 @@ use Rattle.alta_images.specs.Known.{named_of}
 use Rattle.alta_images.specs.Opened.{have_ends, live_in, rows_in}
 use Rattle.alta_images.specs.Ordered.{AreBelow, AreOrdered}
 use Rattle.alta_memlevel.specs.Added.{Added, HasContent, IsSpace}
-use Rattle.alta_memlevel.specs.Documents.{IsBefore, IsMade}
 use Rattle.alta_meta.specs.declared.document.Document.{Document}
 use Rattle.alta_meta.specs.declared.document.State.{State}
 use Rattle.alta_root.specs.Root.{IsSound}
 use Rattle.alta_root.specs.declared.root.Root.{Root}
 use Rattle.alta_catalog.specs.Counting.{cells_in, row_words}
-use Rattle.alta_catalog.specs.Knowing.{IsEndIn, KnowsBy, Notes}
+use Rattle.alta_catalog.specs.Knowing.{KnowsBy}
 use Rattle.alta_catalog.specs.Names.{AreNames}
 use Rattle.alta_rows.specs.All.{joined, rows_in as rows_of}
 use Rattle.alta_catalog.specs.Rows.{MayStart, documents_left}

@@ -300,11 +300,7 @@ impl Catalog {
     /// # Errors
     ///
     /// `AllocError` where memory is wanting: the catalog may no longer be used.
-    pub fn put_level(
-        &mut self,
-        level: Option<Table>,
-        deleted: &[Loc],
-    ) -> Result<(), AllocError>
+    pub fn put_level(&mut self, level: Option<Table>, deleted: &[Loc]) -> Result<(), AllocError>
         requires rising { IsRising deleted.now }
         ensures knows { (before : Catalog) → (s : State) → (location : ℕ) → (olds : List Added) → IsEmptied before self.old → Knows before s → MayStand before location level deleted.now
             → OnOk result (AreRowsOf (rows_in (levels_of self.new)) olds → KnowsBy self.new olds (record { next = s.next; documents = documents_left deleted.now olds })) }

@@ -49,6 +49,19 @@ fn level(alloc: Global, bytes: &[u8], total: u64) -> Result<Table, LevelFault>
     Table::open(alloc, &bytes[..len], 1000, total)
 }
 
+// The same document as a level behind others: with the number 4, at the locations 28 to 36.
+fn later_level(alloc: Global) -> Result<Table, LevelFault>
+    ensures { IfOk result (λ table. AreDocuments table.documents) }
+{
+    let mut bytes = Vec::from_slice(alloc, LEVEL).or(Err(LevelFault::Memory))?;
+    if bytes.len() < 34 {
+        return Err(LevelFault::Memory);
+    }
+    bytes[32] = 4;
+    bytes[33] = 28;
+    level(alloc, &bytes, 126)
+}
+
 // The catalog of a level with one document, which lies below the root.
 fn catalog_of(alloc: Global, root: &Root, level: Table) -> Result<Option<Catalog>, AllocError>
     requires sound { (size : ℕ) × IsSound size root.now }
@@ -166,6 +179,34 @@ fn documents_come_and_go(rt: HostRuntime) -> Result<(), Fail> {
     Ok(())
 }
 
+#[test]
+fn newest_documents_become_a_level(rt: HostRuntime) -> Result<(), Fail> {
+    let alloc = rt.alloc();
+    let table = level(alloc, LEVEL, 126).or(Err("the level is damaged"))?;
+    let Some(mut catalog) = catalog_of(alloc, &root(), table)? else {
+        return Err(Fail::from("the level has no single document"));
+    };
+    let steps: [Step; 4] = [
+        (0, "b", true, (2, 12, 4)),
+        (1, "", true, (1, 6, 4)),
+        (0, "a", true, (2, 12, 5)),
+        (3, "", true, (1, 6, 5)),
+    ];
+    let found = differing(alloc, &mut catalog, &steps).or(Err("no memory"))?;
+    assert_eq!(rt; found, None);
+    assert_eq!(rt; catalog.bounds(), (5, 37));
+    let deleted = catalog.gone_below(alloc, 19)?;
+    assert_eq!(rt; catalog.take_newest().len(), 2);
+    let table = later_level(alloc).or(Err("the later level is damaged"))?;
+    catalog.put_level(Some(table), &deleted)?;
+    assert_eq!(rt; catalog.number_of("a"), Some(4));
+    assert_eq!(rt; catalog.counts(), (1, 6, 5));
+    assert_eq!(rt; catalog.gone(), [9].as_slice());
+    assert_eq!(rt; catalog.levels().len(), 2);
+    assert_eq!(rt; catalog.newest().0.len(), 0);
+    Ok(())
+}
+
 fn is_a(row: &NameRow) -> bool {
     row.name.as_str() == "a" && row.number == 4
 }
@@ -199,6 +240,7 @@ fn laws() {
     a_root_may_start();
     something_may_be();
     an_entry_goes_on();
+    what_is_gone();
     what_may_be_is_known();
     a_catalog_knows_one();
 }

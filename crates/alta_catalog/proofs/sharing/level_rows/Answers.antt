@@ -1,4 +1,4 @@
-use Rattle.std.proofs.Common.{◌≡◌, List, map, subst, sym}
+use Rattle.std.proofs.Common.{List, map, subst, sym}
 use Rattle.alta_codec.specs.Rising.{IsRising}
 use Rattle.alta_content.specs.Rows.{end_of}
 use Rattle.alta_content.specs.declared.document.DocRow.{DocRow}

@@ -1,4 +1,4 @@
-use Rattle.std.proofs.Common.{List, ℕ, nat_lt, subst, sym, ◌∙◌, take_all, ap}
+use Rattle.std.proofs.Common.{nat_lt, subst, sym, ◌∙◌, take_all, ap}
 use Rattle.alta_codec.specs.Rising.{IsRising}
 use Rattle.alta_content.proofs.Rises.{filter-rises}
 use Rattle.alta_catalog.specs.Flushing.{ends_below}
