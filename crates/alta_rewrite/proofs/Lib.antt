@@ -1,0 +1,7 @@
+pub mod DraftLaws
+pub mod PieceLaws
+pub mod PlaceLaws
+pub mod ReadLaws
+pub mod RootLaws
+pub mod SegmentLaws
+pub mod SwitchLaws
