@@ -1,3 +1,5 @@
+pub mod LevelLaws
+pub mod OpenedLaws
 pub mod DraftLaws
 pub mod PieceLaws
 pub mod PlaceLaws
