@@ -1,5 +1,7 @@
 pub mod LevelLaws
+pub mod NameLaws
 pub mod OpenedLaws
+pub mod CallLaws
 pub mod DraftLaws
 pub mod PieceLaws
 pub mod PlaceLaws
