@@ -190,7 +190,7 @@ module _ (o : Opened) (there : List Level) (levels : NextLevels) (ends : Ends) (
   list : ListComes o.root pieces old come.deletions ends.deleted.now
   list =
       list_comes o.root ends limit old pieces rising (taken_by o.root (as_list draft.places.oldest ++ as_list draft.places.newest))
-      (subst (Spells (bytes_at o.root.deletions old)) (sym may.given.listed) (list_spelled o.root o.deleted old fits may.is.named.list)) draft.places.list put.list_there placed.list_is
+      (subst (Spells (bytes_at o.root.deletions old)) (sym may.given.agrees.listed) (list_spelled o.root o.deleted old fits may.is.named.list)) draft.places.list put.list_there placed.list_is
 
   all_old : All (Contains (extents_of o.root)) o.root.levels.items
   all_old = All-tail (Contains (extents_of o.root)) o.root.deletions o.root.levels.items (All-contains_itself (extents_of o.root))
@@ -264,8 +264,8 @@ module _ (o : Opened) (there : List Level) (levels : NextLevels) (ends : Ends) (
 
     pub view_then : later.view ≡ view_of coming_of later.view.levels
     view_then =
-        ap (λ n. viewed n (o.root.next_location + sum_by (λ (a : Added). a.row.cells) (newest (view_of o there)))) (sym may.given.next_is)
-        ∙ ap (viewed next) (sym may.given.location_is)
+        ap (λ n. viewed n (o.root.next_location + sum_by (λ (a : Added). a.row.cells) (newest (view_of o there)))) (sym may.given.agrees.next_is)
+        ∙ ap (viewed next) (sym may.given.agrees.location_is)
       where
         viewed : ℕ → ℕ → View
         viewed n l = record { next = n; location = l; levels = later.view.levels; deleted = ends.deleted.now; entries = [] }

@@ -154,14 +154,14 @@ module _ (o : Opened) (there : List Level) (levels : NextLevels) (ends : Ends) (
     taken_is = ap (λ (es : List Extent). o.root.deletions ∷ es) (sym may.have.extents)
 
     pub opened_switch : (limit : ℕ) → switched limit held (levels_to_come levels view) job ≡ (rewrite_places limit o.root levels ends >>= λ places. Ok (then_of held o.root levels ends job places))
-    opened_switch limit = switch_is limit held o.root levels ends job taken_is refl may.given.listed may.given.deleted
+    opened_switch limit = switch_is limit held o.root levels ends job taken_is refl may.given.agrees.listed may.given.agrees.deleted
 
     module _ (limit : ℕ) (places : Places) (places_are : rewrite_places limit o.root levels ends ≡ Ok places) where
       abbrev pub then : Holding
       then = then_of held o.root levels ends job places
 
       pub opened_then : switched limit held (levels_to_come levels view) job ≡ Ok then
-      opened_then = switched_then limit held o.root levels ends job taken_is refl may.given.listed may.given.deleted places places_are
+      opened_then = switched_then limit held o.root levels ends job taken_is refl may.given.agrees.listed may.given.agrees.deleted places places_are
 
       pub same_state : state_of then.view ≡ state_of view
       same_state = switch_keeps limit held (levels_to_come levels view) job then opened_then may.given.documents
@@ -169,7 +169,7 @@ module _ (o : Opened) (there : List Level) (levels : NextLevels) (ends : Ends) (
       pub then_rows : level_rows then.view.levels ≡ rows_to_come levels view
       then_rows =
           let is : IsSwitched limit held (levels_to_come levels view) job then = switched_is limit held (levels_to_come levels view) job then opened_then in
-          ap (λ (h : Holding). level_rows h.view.levels) is.then_is ∙ rows_placed limit held o.root levels ends job taken_is refl may.given.listed may.given.deleted is.now is.placed_is
+          ap (λ (h : Holding). level_rows h.view.levels) is.then_is ∙ rows_placed limit held o.root levels ends job taken_is refl may.given.agrees.listed may.given.agrees.deleted is.now is.placed_is
 
       abbrev root : Root
       root = root_to_come o.root ends levels.stay_from next location places
@@ -181,7 +181,7 @@ module _ (o : Opened) (there : List Level) (levels : NextLevels) (ends : Ends) (
           record {
             rise = subst RowsRise (sym are) may.given.rise;
             below = subst (AreBelow root) (sym are) may.given.below;
-            ends = subst (λ (ds : List ℕ). have_ends tables ds ≡ true) (ap (gone_among view) are ∙ sym may.given.deleted) (gone_ends view tables);
+            ends = subst (λ (ds : List ℕ). have_ends tables ds ≡ true) (ap (gone_among view) are ∙ sym may.given.agrees.deleted) (gone_ends view tables);
           }
 
       pub place : InPlace root ends.deleted.now (map tables_by then.view.levels)

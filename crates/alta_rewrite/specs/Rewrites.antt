@@ -36,14 +36,18 @@ contents_to_come levels view = map content_to_come (levels_to_come levels view)
 abbrev pub rows_to_come : NextLevels → View → List DocRow
 rows_to_come levels view = rows_of (contents_to_come levels view)
 
--- A rewrite is given what a view says: the ends that are deleted, those of the levels to come that are gone, and the number and location
--- behind the newest documents. The rows of the levels to come rise and lie below these, and their documents that are not gone are those
--- of the state.
-pub record IsGiven (view : View) (levels : NextLevels) (ends : Ends) (next location : ℕ) : Type 0 where
+-- The ends, the number and the location of a rewrite are those of a view: the ends that are deleted, those of the levels to come that are
+-- gone, and what stands behind the newest documents.
+pub record Agrees (view : View) (levels : NextLevels) (ends : Ends) (next location : ℕ) : Type 0 where
   pub listed : ends.listed.now ≡ view.deleted
   pub deleted : ends.deleted.now ≡ gone_among view (rows_to_come levels view)
   pub next_is : next ≡ view.next + length (newest view)
   pub location_is : location ≡ view.location + sum_by (λ (a : Added). a.row.cells) (newest view)
+
+-- A rewrite agrees with a view, the rows of the levels to come rise and lie below that number and location, and their documents that
+-- are not gone are those of the state.
+pub record IsGiven (view : View) (levels : NextLevels) (ends : Ends) (next location : ℕ) : Type 0 where
+  pub agrees : Agrees view levels ends next location
   pub rise : RowsRise (rows_to_come levels view)
   pub below : All (λ (row : DocRow). (row.number < next) × (end_of row < location)) (rows_to_come levels view)
   pub documents : documents_left view (contents_to_come levels view) ≡ (state_of view).documents
@@ -69,6 +73,17 @@ pub record IsRewritten (limit : ℕ) (slot : Slot) (held : Holding) (levels : Ne
   pub slot_is : done.slot ≡ other slot
   pub counts : Counts done.slot done.root image
   pub tables : map tables_by then.view.levels ≡ tables_between done.oldest levels.stay_from (map tables_by held.view.levels) done.newest
+
+-- ---- levels in place of others
+
+abbrev pub no_content : Content
+no_content = record { documents = []; lists = [] }
+
+-- these levels put a content in place of the n oldest, and another behind all
+pub record Replaces (levels : NextLevels) (n : ℕ) (oldest newest : Content) : Type 0 where
+  pub stay_from_is : levels.stay_from ≡ n
+  pub oldest_is : levels.oldest.now ≡ oldest
+  pub newest_is : levels.newest.now ≡ newest
 
 -- ---- what is opened, whatever the streams of levels that stay are
 

@@ -14,6 +14,7 @@
 mod draft;
 mod ends;
 mod fault;
+mod laws;
 mod levels;
 mod places;
 mod rewriting;
@@ -22,5 +23,8 @@ mod rewriting;
 
 pub use ends::Ends;
 pub use fault::RewriteFault;
+pub use laws::{
+    a_join_may_be_written, documents_have_one_content, what_is_opened_is_spaced, work_is_a_rewrite,
+};
 pub use levels::NextLevels;
 pub use rewriting::{Rewritten, rewrite};
