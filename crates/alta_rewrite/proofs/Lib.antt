@@ -1,11 +1,13 @@
+pub mod CallLaws
+pub mod DraftLaws
+pub mod JoinedLaws
 pub mod LevelLaws
 pub mod NameLaws
 pub mod OpenedLaws
-pub mod CallLaws
-pub mod DraftLaws
 pub mod PieceLaws
 pub mod PlaceLaws
 pub mod ReadLaws
 pub mod RootLaws
 pub mod SegmentLaws
+pub mod SpaceLaws
 pub mod SwitchLaws

@@ -216,7 +216,7 @@ module _ (o : Opened) (there : List Level) (levels : NextLevels) (ends : Ends) (
     old_read =
         read_stays o.root.levels.items o.levels old middle
         (All-weaker (Contains (extents_of o.root)) (IsKept old middle) (λ e among. stand e (bytes_at e old) (inr (among, refl))) o.root.levels.items all_old)
-        (opened_read o there levels ends next location old may fits)
+        (opened_read o old may.is)
 
     new_read : (content : Content) → IsPart content → (taken : List Extent) (found : Option Extent) → IsThere found (segment_of content) pieces → IsPlaceFor taken (length (segment_of content)) limit found
         → AreRead (as_list found) (tables_in (table_to_come found content)) middle

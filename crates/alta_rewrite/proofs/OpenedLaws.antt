@@ -20,7 +20,7 @@ use Rattle.alta_images.specs.Entries.{AllowsAll}
 use Rattle.alta_images.specs.Holding.{Holding, taken_by as taken_by_held}
 use Rattle.alta_images.specs.Known.{Known, known_of, replayed}
 use Rattle.alta_images.specs.Levels.{Level}
-use Rattle.alta_images.specs.Opened.{Opened, bytes_at, have_ends, journal_of, known_at, live_in, rows_in, tables_at}
+use Rattle.alta_images.specs.Opened.{Opened, IsOpened, bytes_at, have_ends, journal_of, known_at, live_in, rows_in, tables_at}
 use Rattle.alta_images.specs.Ordered.{AreBelow, AreOrdered, IsOrdered, RowsRise}
 use Rattle.alta_images.specs.Standing.{tables_by, view_of}
 use Rattle.alta_images.specs.Switching.{InPlace}
@@ -38,7 +38,7 @@ use Rattle.alta_table.proofs.FrontLaws.{whole_has_parts}
 use Rattle.alta_table.proofs.TableLaws.{tables_are}
 use Rattle.alta_table.specs.Tables.{Tables}
 use Rattle.alta_rewrite.specs.Drafts.{rewrite_places, root_to_come, table_to_come}
-use Rattle.alta_rewrite.specs.Rewrites.{MayRewriteOpened, levels_to_come, rows_to_come, tables_between, tables_in}
+use Rattle.alta_rewrite.specs.Rewrites.{HaveRows, MayRewriteOpened, levels_to_come, rows_to_come, tables_between, tables_in}
 use Rattle.alta_rewrite.specs.declared.ends.Ends.{Ends}
 use Rattle.alta_rewrite.specs.declared.levels.NextLevels.{NextLevels}
 use Rattle.alta_rewrite.specs.declared.places.Places.{Places}
@@ -68,13 +68,13 @@ documents_stand (e ∷ es) (t ∷ ts) image fits inside read =
 
 -- ---- rows
 
-abbrev rows_of_table : Tables → List DocRow
+abbrev pub rows_of_table : Tables → List DocRow
 rows_of_table t = t.documents
 
-abbrev rows_of_level : Level → List DocRow
+abbrev pub rows_of_level : Level → List DocRow
 rows_of_level l = l.content.documents
 
-rows_by : (ts : List Tables) (ls : List Level) → map rows_of_table ts ≡ map rows_of_level ls → rows_in ts ≡ level_rows ls
+pub rows_by : (ts : List Tables) (ls : List Level) → map rows_of_table ts ≡ map rows_of_level ls → rows_in ts ≡ level_rows ls
 rows_by ts ls e =
     sym (flat_map-map (λ (rows : List DocRow). rows) rows_of_table ts) ∙ ap (flat_map (λ (rows : List DocRow). rows)) e ∙ flat_map-map (λ (rows : List DocRow). rows) rows_of_level ls
 
@@ -113,31 +113,37 @@ tables_then levels there places =
 
 -- ---- what is opened
 
+module _ (o : Opened) (old : List ℕ) (is : IsOpened o old) where
+  pub opened_read : AreRead o.root.levels.items o.levels old
+  opened_read =
+      let was = was_read o.root o.deleted [] o.root.levels.items old o.levels is.named.tables in
+      subst (λ (ts : List Tables). AreRead o.root.levels.items ts old) (sym was.final_is) was.read
+
+  all_end : All (EndsIn (length old)) o.root.levels.items
+  all_end = All-tail (EndsIn (length old)) o.root.deletions o.root.levels.items (root_ends (length old) o.root (counts_sound o.slot o.root old is.counts))
+
+  pub opened_documents : AreBytes old → All HasDocuments o.levels
+  opened_documents fits = documents_stand o.root.levels.items o.levels old fits all_end opened_read
+
+pub opened_known : (o : Opened) (there : List Level) → HaveRows o there → known_at o.root o.deleted o.levels ≡ known_of (rooted (view_of o there))
+opened_known o there have =
+    ap (λ (rows : List DocRow). known_by rows) (rows_by o.levels there have.rows ∙ sym (flat_map-map (λ (t : Tables). t.documents) tables_by there))
+    ∙ rooted_known (record o { levels = map tables_by there }) there refl
+  where
+    known_by : List DocRow → Known
+    known_by rows = record { next = o.root.next_number; live = live_in o.deleted rows }
+
+-- ---- what comes
+
 module _ (o : Opened) (there : List Level) (levels : NextLevels) (ends : Ends) (next location : ℕ) (old : List ℕ) (may : MayRewriteOpened o there levels ends next location old) (fits : AreBytes old) where
   abbrev view : View
   view = view_of o there
 
-  pub opened_read : AreRead o.root.levels.items o.levels old
-  opened_read =
-      let was = was_read o.root o.deleted [] o.root.levels.items old o.levels may.is.named.tables in
-      subst (λ (ts : List Tables). AreRead o.root.levels.items ts old) (sym was.final_is) was.read
-
-  all_end : All (EndsIn (length old)) o.root.levels.items
-  all_end = All-tail (EndsIn (length old)) o.root.deletions o.root.levels.items (root_ends (length old) o.root (counts_sound o.slot o.root old may.is.counts))
-
-  documents : All HasDocuments o.levels
-  documents = documents_stand o.root.levels.items o.levels old fits all_end opened_read
-
   known : known_at o.root o.deleted o.levels ≡ known_of (rooted view)
-  known =
-      ap (λ (rows : List DocRow). known_by rows) (rows_by o.levels there may.have.rows ∙ sym (flat_map-map (λ (t : Tables). t.documents) tables_by there))
-      ∙ rooted_known (record o { levels = map tables_by there }) there refl
-    where
-      known_by : List DocRow → Known
-      known_by rows = record { next = o.root.next_number; live = live_in o.deleted rows }
+  known = opened_known o there may.have
 
   rooted_ordered : IsOrdered (known_of (rooted view))
-  rooted_ordered = subst IsOrdered known (known_ordered o old may.is.named documents)
+  rooted_ordered = subst IsOrdered known (known_ordered o old may.is.named (opened_documents o old may.is fits))
 
   allowed : AllowsAll (rooted view) o.entries
   allowed = (allows_replayed (rooted view) (journal_of o.slot) o.entries may.is.named.known (subst (λ (k : Known). replayed k (placed_entries (journal_of o.slot) o.entries) ≡ Ok may.is.named.known) known may.is.named.admitted)).0
