@@ -18,8 +18,8 @@ mod laws;
 mod levels;
 mod places;
 mod rewriting;
-
-
+#[cfg(test)]
+mod tests;
 
 pub use ends::Ends;
 pub use fault::RewriteFault;
