@@ -41,6 +41,8 @@ pub few_placed : (levels : NextLevels) (places : Places) (stay : ℕ) (taken mor
     → length (as_list places.oldest) + stay + length (as_list places.newest) ≤ 16
 few_placed levels places stay taken more limit oldest newest first last oldest_is newest_is few =
     omega (
-      arith, few, one_level levels.oldest.now taken limit places.oldest (subst (λ n. IsPlaceFor taken n limit places.oldest) first oldest_is),
+      arith,
+      few,
+      one_level levels.oldest.now taken limit places.oldest (subst (λ n. IsPlaceFor taken n limit places.oldest) first oldest_is),
       one_level levels.newest.now more limit places.newest (subst (λ n. IsPlaceFor more n limit places.newest) last newest_is),
     )

@@ -220,11 +220,11 @@ module _ (o : Opened) (there : List Level) (levels : NextLevels) (ends : Ends) (
 
     new_read : (content : Content) → IsPart content → (taken : List Extent) (found : Option Extent) → IsThere found (segment_of content) pieces → IsPlaceFor taken (length (segment_of content)) limit found
         → AreRead (as_list found) (tables_in (table_to_come found content)) middle
-    new_read content part taken None here place = tt
-    new_read content part taken (Some x) here place =
+    new_read content part taken None here at = tt
+    new_read content part taken (Some x) here at =
         let same = stand x (segment_of content) (inl here) in
-        let first = placed_first taken (length (segment_of content)) limit x place.1 in
-        let segment : IsSegment (segment_of content) content = record { stands = content_stands content part place.0; spelled = (has_segment content place.0).segment_is } in (
+        let first = placed_first taken (length (segment_of content)) limit x at.1 in
+        let segment : IsSegment (segment_of content) content = record { stands = content_stands content part at.0; spelled = (has_segment content at.0).segment_is } in (
           level_read (record { extent = x; content = content }) middle (bytes_fit x middle puts.bytes) (ap length same ∙ sym first.1) (omega (arith, first.0.gap.before, first.1, short))
               (subst (λ (b : List ℕ). IsSegment b content) (sym same) segment),
           tt,
@@ -291,10 +291,10 @@ module _ (o : Opened) (there : List Level) (levels : NextLevels) (ends : Ends) (
 
     new_level_comes : (content : Content) → IsPart content → (taken : List Extent) (found : Option Extent) → IsThere found (segment_of content) pieces → IsPlaceFor taken (length (segment_of content)) limit found
         → All (LevelComes o.root pieces old) (new_levels content found)
-    new_level_comes content part taken None here place = All-nil (LevelComes o.root pieces old)
-    new_level_comes content part taken (Some extent) here place =
+    new_level_comes content part taken None here at = All-nil (LevelComes o.root pieces old)
+    new_level_comes content part taken (Some extent) here at =
         All-cons (LevelComes o.root pieces old) (record { extent = extent; content = content }) []
-        (segment_of content, inl here, record { stands = content_stands content part place.0; spelled = (has_segment content place.0).segment_is }) (All-nil (LevelComes o.root pieces old))
+        (segment_of content, inl here, record { stands = content_stands content part at.0; spelled = (has_segment content at.0).segment_is }) (All-nil (LevelComes o.root pieces old))
 
     comes : Comes (other o.slot) come pieces coming_of later.view.levels o.root old
     comes = record {

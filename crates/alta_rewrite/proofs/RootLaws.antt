@@ -118,6 +118,13 @@ content_stands content part some =
 abbrev by_none : Content → Bool → List Coming
 by_none content b = cond b [] (anew content ∷ [])
 
+pub at_most_one : (content : Content) → length (coming content) ≤ 1
+at_most_one content = of_rows (length content.documents == 0)
+  where
+    of_rows : (b : Bool) → length (by_none content b) ≤ 1
+    of_rows true = omega arith
+    of_rows false = omega arith
+
 -- a content takes a place exactly where it comes as a level
 pub one_level : (content : Content) (taken : List Extent) (limit : ℕ) (found : Option Extent) → IsPlaceFor taken (length (segment_of content)) limit found → length (as_list found) ≡ length (coming content)
 one_level content taken limit (Some x) is = sym (ap (λ b. length (by_none content b)) (has_segment content is.0).some)
@@ -146,8 +153,13 @@ module _ (root : Root) (levels : NextLevels) (ends : Ends) (limit size : ℕ) (s
   few_come : length (coming levels.oldest.now) + (length root.levels.items - levels.stay_from) + length (coming levels.newest.now) ≤ 16 → length come ≤ 16
   few_come few =
       omega (
-        arith, few, one_level levels.oldest.now (taken_by root []) limit places.oldest are.oldest_is, one_level levels.newest.now (taken_by root (as_list places.oldest)) limit places.newest are.newest_is,
-        length-append (as_list places.oldest) (staying ++ as_list places.newest), length-append staying (as_list places.newest), length-drop levels.stay_from root.levels.items,
+        arith,
+        few,
+        one_level levels.oldest.now (taken_by root []) limit places.oldest are.oldest_is,
+        one_level levels.newest.now (taken_by root (as_list places.oldest)) limit places.newest are.newest_is,
+        length-append (as_list places.oldest) (staying ++ as_list places.newest),
+        length-append staying (as_list places.newest),
+        length-drop levels.stay_from root.levels.items,
       )
 
   -- ---- the levels

@@ -8,7 +8,7 @@ ghost use Rattle.alta_images.specs.Levels.{Level};
 ghost use Rattle.alta_images.specs.Opened.{Opened, IsOpened};
 ghost use Rattle.alta_images.specs.Standing.{view_of};
 ghost use Rattle.alta_images.specs.Views.{View};
-ghost use Rattle.alta_images.specs.Work.{Job, gone, gone_among, is_merged, job_of, newest, newest_content, oldest_joined, rows_in, whole_of};
+ghost use Rattle.alta_images.specs.Work.{Job, coming, gone, gone_among, is_merged, job_of, newest, newest_content, oldest_joined, rows_in, whole_of};
 ghost use Rattle.alta_images.specs.Working.{IsJoin, all_contents, flushed, merged, stepped, switched};
 ghost use Rattle.alta_memlevel.specs.Added.{Added, IsSpace, live_of};
 ghost use Rattle.alta_memlevel.specs.Documents.{content_of};
@@ -40,6 +40,11 @@ pub fn a_join_may_be_written()
         → IsGiven view levels ends next location }
     ensures ends { (view : View) → (levels : NextLevels) → (n : ℕ) → (c : Content) → IsSpaced view → Replaces levels n c (newest_content view)
         → gone_among view (rows_to_come levels view) ≡ gone_among view (c.documents ++ rows_in (drop n view.levels)) }
+{}
+
+/// A content comes as one level at most.
+pub fn a_content_is_one_level_at_most()
+    ensures { (content : Content) → length (coming content) ≤ 1 }
 {}
 
 /// Levels with the rows of what is opened are spaced, whatever their streams are, where the newest documents are.

@@ -24,7 +24,8 @@ mod tests;
 pub use ends::Ends;
 pub use fault::RewriteFault;
 pub use laws::{
-    a_join_may_be_written, documents_have_one_content, what_is_opened_is_spaced, work_is_a_rewrite,
+    a_content_is_one_level_at_most, a_join_may_be_written, documents_have_one_content,
+    what_is_opened_is_spaced, work_is_a_rewrite,
 };
 pub use levels::NextLevels;
 pub use rewriting::{Rewritten, rewrite};
