@@ -5,7 +5,6 @@ use Rattle.std.proofs.lemmas.Simd.{map-map}
 use Rattle.alta_codec.specs.Bytes.{AreBytes}
 use Rattle.alta_codec.specs.Rising.{IsRising}
 use Rattle.alta_codec.specs.declared.extent.Extent.{Extent}
-use Rattle.alta_content.specs.declared.document.DocRow.{DocRow}
 use Rattle.alta_disk.proofs.Moments.{leaves_as, leaves_start}
 use Rattle.alta_disk.specs.Disk.{DiskState, IsLawful, LeavesOnly, Only, Passes}
 use Rattle.alta_images.proofs.WrittenLaws.{held_stands}

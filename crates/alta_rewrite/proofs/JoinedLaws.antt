@@ -1,7 +1,7 @@
 -- Flush, merge and step are rewrites, and joins may be written.
-use Rattle.std.proofs.Common.{◌≡◌, ℕ, zero, suc, ◌+◌, ◌≤◌, ◌<◌, Bool, true, false, cond, List, [], ◌∷◌, ◌++◌, length, map, take, drop, refl, sym, ap, subst, ◌∙◌, arith, append_assoc, take-append-drop}
-use Rattle.std.specs.Prelude.{not, ◌==◌, ◌&&◌, nat_le, Option, Some, None}
-use Rattle.std.specs.List.{All, filter, flat_map}
+use Rattle.std.proofs.Common.{◌≡◌, ℕ, ◌+◌, ◌≤◌, ◌<◌, Bool, true, false, List, [], ◌∷◌, ◌++◌, length, map, take, drop, refl, sym, ap, subst, ◌∙◌, arith, append_assoc, take-append-drop}
+use Rattle.std.specs.Prelude.{not, ◌==◌, ◌&&◌, nat_le, Some, None}
+use Rattle.std.specs.List.{All, filter}
 use Rattle.std.proofs.Math.Seq.{drop-length}
 use Rattle.std.proofs.lemmas.Bool.{false≢true}
 use Rattle.std.proofs.lemmas.Grind.{flat_map-append}
@@ -12,7 +12,7 @@ use Rattle.alta_content.specs.declared.content.Content.{Content}
 use Rattle.alta_content.specs.declared.document.DocRow.{DocRow}
 use Rattle.alta_images.proofs.InPlaceLaws.{all_low}
 use Rattle.alta_images.proofs.JoinLaws.{all_now, coming_rows, joined_left, merged_left, rise_now}
-use Rattle.alta_images.proofs.KeptStates.{AreGone, by_entries, by_levels, gone_are, live_rows_are, rise_left, rows_append, rows_by_levels, stay_contents}
+use Rattle.alta_images.proofs.KeptStates.{by_entries, by_levels, gone_are, live_rows_are, rise_left, rows_append, rows_by_levels, stay_contents}
 use Rattle.alta_images.proofs.KnownLaws.{all_both, all_weaker}
 use Rattle.alta_images.proofs.PlaceLaws.{LiesBelow, cells_in}
 use Rattle.alta_images.proofs.Tests.{filter_drop}
@@ -23,10 +23,9 @@ use Rattle.alta_images.specs.Joining.{content_of, joined_in, terms_in}
 use Rattle.alta_images.specs.Levels.{Level}
 use Rattle.alta_images.specs.Ordered.{RowsRise}
 use Rattle.alta_images.specs.Views.{View, state_of}
-use Rattle.alta_images.specs.Work.{Coming, Job, coming, gone, gone_among, is_gone, is_merged, job_of, newest, newest_content, oldest_joined, rows_in, stays, whole_of, with_oldest}
-use Rattle.alta_images.specs.Working.{Full, IsJoin, all_contents, content_to_come, documents_in, documents_left, flushed, merged, moved, rows_of, stepped, switched}
+use Rattle.alta_images.specs.Work.{Coming, Job, coming, gone, gone_among, is_gone, is_merged, job_of, newest, newest_content, oldest_joined, rows_in, stays, whole_of}
+use Rattle.alta_images.specs.Working.{IsJoin, all_contents, content_to_come, documents_left, flushed, merged, moved, rows_of, stepped, switched}
 use Rattle.alta_memlevel.specs.Added.{Added}
-use Rattle.std.specs.Prelude.{Result}
 use Rattle.alta_rewrite.specs.Rewrites.{Agrees, IsGiven, Replaces, contents_to_come, levels_to_come, no_content, rows_to_come}
 use Rattle.alta_rewrite.specs.declared.ends.Ends.{Ends}
 use Rattle.alta_rewrite.specs.declared.levels.NextLevels.{NextLevels}

@@ -1,5 +1,5 @@
 -- A new level may be opened.
-use Rattle.std.proofs.Common.{◌≡◌, ℕ, ◌+◌, ◌≤◌, ◌<◌, ◌^◌, List, length, sym, ap, subst, ◌∙◌, arith}
+use Rattle.std.proofs.Common.{◌≡◌, ℕ, ◌+◌, ◌≤◌, ◌<◌, ◌^◌, List, length, ap, subst, ◌∙◌, arith}
 use Rattle.std.specs.Prelude.{IfSome, Option, Some, None}
 use Rattle.alta_codec.specs.declared.extent.Extent.{Extent}
 use Rattle.alta_content.specs.Lists.{IsContent}

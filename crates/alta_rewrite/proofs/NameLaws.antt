@@ -1,5 +1,5 @@
 -- What is put brings or names what comes.
-use Rattle.std.proofs.Common.{◌≡◌, ⊎_elim, inl, inr, ℕ, zero, suc, ◌+◌, ◌-◌, ◌*◌, ◌≤◌, ◌<◌, ◌^◌, Bool, true, false, cond, List, [], ◌∷◌, ◌++◌, length, map, drop, refl, sym, ap, subst, ◌∙◌, arith, Result, Ok}
+use Rattle.std.proofs.Common.{◌≡◌, ⊎_elim, inl, inr, ℕ, zero, suc, ◌+◌, ◌-◌, ◌*◌, ◌≤◌, ◌<◌, ◌^◌, Bool, true, cond, List, [], ◌∷◌, ◌++◌, length, map, drop, refl, sym, ap, subst, ◌∙◌, arith, Ok}
 use Rattle.std.specs.Prelude.{◌==◌, Contains, Option, Some, None}
 use Rattle.std.specs.List.{All, sum_by}
 use Rattle.std.specs.Str.{bytes_eq}
@@ -42,7 +42,7 @@ use Rattle.alta_switch.specs.Comes.{Comes, LevelComes, ListComes, WillStand}
 use Rattle.alta_switch.specs.Puts.{MayPut, Puts}
 use Rattle.alta_switch.specs.declared.piece.Piece.{Piece}
 use Rattle.alta_table.specs.Tables.{Tables, tables_of}
-use Rattle.alta_rewrite.specs.Drafts.{IsDraft, extents_to_come, list_of, list_to_come, pairs_in, pieces_of, root_to_come, segment_of, table_to_come}
+use Rattle.alta_rewrite.specs.Drafts.{IsDraft, list_of, list_to_come, pairs_in, pieces_of, root_to_come, segment_of, table_to_come}
 use Rattle.alta_rewrite.specs.Places.{as_list}
 use Rattle.alta_rewrite.specs.Rewrites.{IsComing, MayRewriteOpened, tables_in}
 use Rattle.alta_rewrite.specs.declared.draft.Draft.{Draft}
@@ -50,12 +50,12 @@ use Rattle.alta_rewrite.specs.declared.ends.Ends.{Ends}
 use Rattle.alta_rewrite.specs.declared.levels.NextLevels.{NextLevels}
 use Rattle.alta_rewrite.specs.declared.places.Places.{Places}
 use Rattle.alta_rewrite.proofs.DraftLaws.{draft_may, draft_places, draft_put}
-use Rattle.alta_rewrite.proofs.OpenedLaws.{bytes_fit, come_of, come_ordered, come_place, held, opened_read, place, same_state, state_ordered, then}
+use Rattle.alta_rewrite.proofs.OpenedLaws.{bytes_fit, come_of, come_ordered, come_place, opened_read, place, same_state, state_ordered, then}
 use Rattle.alta_rewrite.proofs.PieceLaws.{ArePut, IsThere}
 use Rattle.alta_rewrite.proofs.PlaceLaws.{ArePlaces, IsPlaceFor}
 use Rattle.alta_rewrite.proofs.ReadLaws.{AreRead, read_again}
 use Rattle.alta_rewrite.proofs.RootLaws.{content_stands, has_segment, stream_some}
-use Rattle.alta_rewrite.proofs.SwitchLaws.{levels_then, new_levels}
+use Rattle.alta_rewrite.proofs.SwitchLaws.{new_levels}
 
 -- what is opened then, by what is opened before
 abbrev pub coming_at : Opened → NextLevels → Ends → ℕ → ℕ → Places → Opened

@@ -1,14 +1,13 @@
 -- What a rewrite makes of what is opened, whatever the streams of levels that stay are.
-use Rattle.std.proofs.Common.{◌≡◌, ℕ, ◌+◌, ◌≤◌, ◌<◌, true, List, [], ◌∷◌, ◌++◌, length, map, drop, refl, sym, ap, subst, ◌∙◌, arith, Result, Ok}
+use Rattle.std.proofs.Common.{◌≡◌, ℕ, true, List, [], ◌∷◌, ◌++◌, length, map, drop, refl, sym, ap, subst, ◌∙◌, arith, Ok}
 use Rattle.std.specs.Prelude.{Option, Some, None}
-use Rattle.std.specs.List.{All, flat_map, list_all, list_any, sum_by}
+use Rattle.std.specs.List.{All, flat_map}
 use Rattle.std.proofs.lemmas.List.{drop-map, length-drop, length-take-le, map-append}
 use Rattle.std.proofs.lemmas.List.Elements.{All-cons, All-head, All-nil, All-tail}
 use Rattle.std.proofs.lemmas.List.Folds.{flat_map-map}
 use Rattle.alta_codec.proofs.ByteLaws.{AreBytes-drop, AreBytes-take}
 use Rattle.alta_codec.specs.Bytes.{AreBytes}
 use Rattle.alta_codec.specs.declared.extent.Extent.{Extent}
-use Rattle.alta_content.specs.Rows.{end_of}
 use Rattle.alta_content.specs.declared.content.Content.{Content}
 use Rattle.alta_content.specs.declared.document.DocRow.{DocRow}
 use Rattle.alta_images.proofs.KeptStates.{IsSwitched, switch_keeps, switched_is}
@@ -25,10 +24,9 @@ use Rattle.alta_images.specs.Ordered.{AreBelow, AreOrdered, IsOrdered, RowsRise}
 use Rattle.alta_images.specs.Standing.{tables_by, view_of}
 use Rattle.alta_images.specs.Switching.{InPlace}
 use Rattle.alta_images.specs.Views.{View, rooted, state_of}
-use Rattle.alta_images.specs.Work.{Job, gone_among, newest, rows_in as level_rows}
-use Rattle.alta_images.specs.Working.{Full, switched}
+use Rattle.alta_images.specs.Work.{Job, gone_among, rows_in as level_rows}
+use Rattle.alta_images.specs.Working.{switched}
 use Rattle.alta_journal.specs.Placed.{placed as placed_entries}
-use Rattle.alta_memlevel.specs.Added.{Added}
 use Rattle.alta_meta.specs.declared.document.State.{State}
 use Rattle.alta_root.proofs.Frames.{counts_sound}
 use Rattle.alta_root.specs.Root.{extents_of}

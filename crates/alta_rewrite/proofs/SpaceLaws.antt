@@ -1,7 +1,7 @@
 -- What is opened is spaced, and documents have one content.
-use Rattle.std.proofs.Common.{◌≡◌, ℕ, ◌≤◌, ◌<◌, Bool, List, [], ◌∷◌, map, sym, ap, subst, ◌∙◌}
+use Rattle.std.proofs.Common.{◌≡◌, ℕ, ◌≤◌, ◌<◌, Bool, List, [], ◌∷◌, sym, subst}
 use Rattle.std.specs.Prelude.{not}
-use Rattle.std.specs.List.{All, filter}
+use Rattle.std.specs.List.{filter}
 use Rattle.std.proofs.lemmas.List.Elements.{All-filter}
 use Rattle.alta_codec.specs.Bytes.{AreBytes}
 use Rattle.alta_content.specs.Rows.{end_of, ends_among}

@@ -1,4 +1,4 @@
-use Rattle.std.proofs.Common.{ℕ, ◌≡◌, ◌+◌, ◌-◌, ◌≤◌, [], ◌++◌, ap, arith, length, subst, sym, ◌∙◌}
+use Rattle.std.proofs.Common.{◌-◌, [], ap, arith, length, ◌∙◌}
 use Rattle.alta_root.specs.Gaps.{taken_by}
 use Rattle.alta_rewrite.specs.Places.{as_list}
 use Rattle.alta_rewrite.proofs.LevelLaws.{few_placed, may_open}
