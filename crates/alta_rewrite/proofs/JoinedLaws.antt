@@ -12,15 +12,15 @@ use Rattle.alta_content.specs.declared.content.Content.{Content}
 use Rattle.alta_content.specs.declared.document.DocRow.{DocRow}
 use Rattle.alta_images.proofs.InPlaceLaws.{all_low}
 use Rattle.alta_images.proofs.JoinLaws.{all_now, coming_rows, joined_left, merged_left, rise_now}
-use Rattle.alta_images.proofs.KeptStates.{by_entries, by_levels, gone_are, live_rows_are, rise_left, rows_append, rows_by_levels, stay_contents}
+use Rattle.alta_images.proofs.KeptStates.{AreGone, by_entries, by_levels, gone_are, live_rows_are, rise_left, rows_append, rows_by_levels, stay_contents}
 use Rattle.alta_images.proofs.KnownLaws.{all_both, all_weaker}
 use Rattle.alta_images.proofs.PlaceLaws.{LiesBelow, cells_in}
 use Rattle.alta_images.proofs.Tests.{filter_drop}
 use Rattle.alta_images.proofs.WellLaws.{by_merged, by_terms}
-use Rattle.alta_images.proofs.WrittenLaws.{all_right}
+use Rattle.alta_images.proofs.WrittenLaws.{all_left, all_right}
 use Rattle.alta_images.specs.Holding.{Holding, IsSpaced, all_rows}
 use Rattle.alta_images.specs.Joining.{content_of, joined_in, terms_in}
-use Rattle.alta_images.specs.Levels.{Level}
+use Rattle.alta_images.specs.Levels.{Level, live_rows}
 use Rattle.alta_images.specs.Ordered.{RowsRise}
 use Rattle.alta_images.specs.Views.{View, state_of}
 use Rattle.alta_images.specs.Work.{Coming, Job, coming, gone, gone_among, is_gone, is_merged, job_of, newest, newest_content, oldest_joined, rows_in, stays, whole_of}
@@ -118,7 +118,7 @@ module _ (view : View) (levels : NextLevels) (ends : Ends) (next location : ℕ)
       given_by view levels ends next location (map content_to_come (coming c)) (ap (map content_to_come) (all_is levels c view is)) agrees
       (subst RowsRise (sym rows) (rise_left join.keeps (all_rows view) spaced.rise)) (subst (All P) (sym rows) (All-filter join.keeps P (all_rows view) (all_low view spaced positive))) (merged_left view c spaced join)
 
--- ---- no newest document that comes is gone
+-- ---- which documents that come are gone
 
 filter_none : {X : Type 0} (p : X → Bool) (xs : List X) → All (λ x. p x ≡ false) xs → filter p xs ≡ []
 filter_none p [] all = refl
@@ -128,23 +128,51 @@ not_true : (b : Bool) → not b ≡ true → b ≡ false
 not_true true e = absurd (false≢true e)
 not_true false e = refl
 
+pub gone_append : (view : View) (xs ys : List DocRow) → gone_among view (xs ++ ys) ≡ gone_among view xs ++ gone_among view ys
+gone_append view xs ys = ap (map end_of) (filter-append (is_gone view) xs ys) ∙ map-append end_of (filter (is_gone view) xs) (filter (is_gone view) ys)
+
+-- of rows without those whose end is gone none is gone
+live_none : (view : View) (rows : List DocRow) → AreGone view (gone view) rows → gone_among view (live_rows (gone view) rows) ≡ []
+live_none view rows are =
+    let live : DocRow → Bool = λ row. not (ends_among (gone view) row) in
+    ap (map end_of)
+    (filter_none (is_gone view) (filter live rows)
+    (all_weaker (λ (row : DocRow). (live row ≡ true) × (ends_among (gone view) row ≡ is_gone view row)) (λ (row : DocRow). is_gone view row ≡ false) (filter live rows)
+    (λ row both. sym both.1 ∙ not_true (ends_among (gone view) row) both.0)
+    (all_both (λ (row : DocRow). live row ≡ true) (λ (row : DocRow). ends_among (gone view) row ≡ is_gone view row) (filter live rows) (filter_passes live rows)
+    (All-filter live (λ (row : DocRow). ends_among (gone view) row ≡ is_gone view row) rows are))))
+
 module _ (view : View) (spaced : IsSpaced view) where
-  abbrev live : DocRow → Bool
-  live row = not (ends_among (gone view) row)
+  abbrev IsKnown : DocRow → Type 0
+  IsKnown row = ends_among (gone view) row ≡ is_gone view row
 
   abbrev news : List DocRow
   news = map (λ (a : Added). a.row) (newest view)
 
-  none_gone : All (λ (row : DocRow). is_gone view row ≡ false) (newest_content view).documents
-  none_gone =
-      subst (All (λ (row : DocRow). is_gone view row ≡ false)) (sym (live_rows_are view spaced))
-      (all_weaker (λ (row : DocRow). (live row ≡ true) × (ends_among (gone view) row ≡ is_gone view row)) (λ (row : DocRow). is_gone view row ≡ false) (filter live news)
-      (λ row both. sym both.1 ∙ not_true (ends_among (gone view) row) both.0)
-      (all_both (λ (row : DocRow). live row ≡ true) (λ (row : DocRow). ends_among (gone view) row ≡ is_gone view row) (filter live news) (filter_passes live news)
-      (All-filter live (λ (row : DocRow). ends_among (gone view) row ≡ is_gone view row) news (all_right (λ (row : DocRow). ends_among (gone view) row ≡ is_gone view row) (rows_in view.levels) news (gone_are view spaced)))))
+  levels_known : AreGone view (gone view) (rows_in view.levels)
+  levels_known = all_left IsKnown (rows_in view.levels) news (gone_are view spaced)
 
-  gone_append : (xs ys : List DocRow) → gone_among view (xs ++ ys) ≡ gone_among view xs ++ gone_among view ys
-  gone_append xs ys = ap (map end_of) (filter-append (is_gone view) xs ys) ∙ map-append end_of (filter (is_gone view) xs) (filter (is_gone view) ys)
+  newest_none : gone_among view (newest_content view).documents ≡ []
+  newest_none = ap (gone_among view) (live_rows_are view spaced) ∙ live_none view news (all_right IsKnown (rows_in view.levels) news (gone_are view spaced))
+
+  -- a join of the oldest levels without what is gone
+  pub oldest_none : (n : ℕ) → gone_among view (joined_in (map (λ (l : Level). l.content) (take n view.levels)) (gone view)).documents ≡ []
+  oldest_none n =
+      let contents = map (λ (l : Level). l.content) (take n view.levels) in
+      live_none view (rows_of contents)
+      (subst (AreGone view (gone view)) (sym (rows_by_levels (take n view.levels)))
+      (all_left IsKnown (rows_in (take n view.levels)) (rows_in (drop n view.levels))
+      (subst (AreGone view (gone view))
+      (ap rows_in (sym (take-append-drop n view.levels)) ∙ flat_map-append (λ (l : Level). l.content.documents) (take n view.levels) (drop n view.levels)) levels_known)))
+
+  -- a join of all without what is gone
+  pub all_none : (levels : NextLevels) → Replaces levels (length view.levels) (joined_in (all_contents view) (gone view)) no_content → gone_among view (rows_to_come levels view) ≡ []
+  all_none levels is =
+      let rows : rows_of (all_contents view) ≡ all_rows view =
+      rows_append (map (λ (l : Level). l.content) view.levels) (content_of (newest view)) ∙ ap (λ (rs : List DocRow). rs ++ map (λ (a : Added). a.row) (newest view)) (rows_by_levels view.levels) in
+      ap (λ (cs : List Coming). gone_among view (rows_of (map content_to_come cs))) (all_is levels (joined_in (all_contents view) (gone view)) view is)
+      ∙ ap (gone_among view) (coming_rows (joined_in (all_contents view) (gone view)))
+      ∙ live_none view (rows_of (all_contents view)) (subst (AreGone view (gone view)) (sym rows) (gone_are view spaced))
 
   pub gone_same : (levels : NextLevels) (n : ℕ) (c : Content) → Replaces levels n c (newest_content view) → gone_among view (rows_to_come levels view) ≡ gone_among view (c.documents ++ rows_in (drop n view.levels))
   gone_same levels n c is =
@@ -160,6 +188,6 @@ module _ (view : View) (spaced : IsSpaced view) where
       ∙ ap (λ (rows : List DocRow). rows ++ rows_of (map content_to_come old)) (coming_rows c)
       ∙ ap (λ (rows : List DocRow). c.documents ++ rows) (ap rows_of (stay_contents (drop n view.levels)) ∙ rows_by_levels (drop n view.levels)))
       ∙ ap (λ (rows : List DocRow). (c.documents ++ rows_in (drop n view.levels)) ++ rows) (coming_rows (newest_content view)))
-      ∙ gone_append (c.documents ++ rows_in (drop n view.levels)) (newest_content view).documents
-      ∙ ap (λ (es : List ℕ). gone_among view (c.documents ++ rows_in (drop n view.levels)) ++ es) (ap (map end_of) (filter_none (is_gone view) (newest_content view).documents none_gone))
+      ∙ gone_append view (c.documents ++ rows_in (drop n view.levels)) (newest_content view).documents
+      ∙ ap (λ (es : List ℕ). gone_among view (c.documents ++ rows_in (drop n view.levels)) ++ es) newest_none
       ∙ append-nil (gone_among view (c.documents ++ rows_in (drop n view.levels)))

@@ -2,6 +2,7 @@
 ghost use Rattle.std.specs.Prelude.{◌≡◌, ◌≤◌, ◌+◌, ◌==◌, ◌&&◌, nat_le, ℕ, true, false, List, [], ◌∷◌, ◌++◌, length, map, take, drop, Some, None};
 ghost use Rattle.alta_codec.specs.Bytes.{AreBytes};
 ghost use Rattle.alta_content.specs.declared.content.Content.{Content};
+ghost use Rattle.alta_content.specs.declared.document.DocRow.{DocRow};
 ghost use Rattle.alta_images.specs.Holding.{Holding, IsSpaced};
 ghost use Rattle.alta_images.specs.Joining.{content_of as joined_content_of, joined_in, terms_in};
 ghost use Rattle.alta_images.specs.Levels.{Level};
@@ -30,7 +31,7 @@ pub fn work_is_a_rewrite()
 {}
 
 /// A rewrite that agrees with a view is given what it needs, where a join comes in place of the oldest levels and the newest documents
-/// behind all; where a join comes in place of all; and where all levels stay. Of the newest documents that come none is gone.
+/// behind all; where a join comes in place of all; and where all levels stay.
 pub fn a_join_may_be_written()
     ensures oldest { (view : View) → (levels : NextLevels) → (ends : Ends) → (next location n : ℕ) → (c : Content) → IsSpaced view → 1 ≤ view.location → IsJoin view (map (λ (l : Level). l.content) (take n view.levels)) c
         → Replaces levels n c (newest_content view) → Agrees view levels ends next location → IsGiven view levels ends next location }
@@ -38,8 +39,16 @@ pub fn a_join_may_be_written()
         → Replaces levels (length view.levels) c no_content → Agrees view levels ends next location → IsGiven view levels ends next location }
     ensures stay { (view : View) → (levels : NextLevels) → (ends : Ends) → (next location : ℕ) → IsSpaced view → 1 ≤ view.location → Replaces levels 0 no_content (newest_content view) → Agrees view levels ends next location
         → IsGiven view levels ends next location }
-    ensures ends { (view : View) → (levels : NextLevels) → (n : ℕ) → (c : Content) → IsSpaced view → Replaces levels n c (newest_content view)
+{}
+
+/// Which ends of the levels to come are gone: those of rows one behind the other are those of each; of the newest documents that come
+/// none is, nor of a join that leaves out what is gone, so that after a merge there is none.
+pub fn gone_ends_of_levels_to_come()
+    ensures beside { (view : View) → (rows more : List DocRow) → gone_among view (rows ++ more) ≡ gone_among view rows ++ gone_among view more }
+    ensures newest { (view : View) → (levels : NextLevels) → (n : ℕ) → (c : Content) → IsSpaced view → Replaces levels n c (newest_content view)
         → gone_among view (rows_to_come levels view) ≡ gone_among view (c.documents ++ rows_in (drop n view.levels)) }
+    ensures oldest { (view : View) → (n : ℕ) → IsSpaced view → gone_among view (joined_in (map (λ (l : Level). l.content) (take n view.levels)) (gone view)).documents ≡ [] }
+    ensures all { (view : View) → (levels : NextLevels) → IsSpaced view → Replaces levels (length view.levels) (joined_in (all_contents view) (gone view)) no_content → gone_among view (rows_to_come levels view) ≡ [] }
 {}
 
 /// A content comes as one level at most.
