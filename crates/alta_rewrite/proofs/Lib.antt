@@ -1,3 +1,4 @@
+pub mod BeginLaws
 pub mod CallLaws
 pub mod DraftLaws
 pub mod JoinedLaws
