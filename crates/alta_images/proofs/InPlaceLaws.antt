@@ -29,7 +29,7 @@ use Rattle.alta_images.proofs.WellLaws.{by_merged, by_terms}
 use Rattle.alta_images.proofs.WrittenLaws.{held_stands}
 
 -- all rows lie below what comes behind the newest documents
-all_low : (view : View) → IsSpaced view → 1 ≤ view.location → All (LiesBelow (view.next + length (newest view)) (view.location + cells_in (newest view))) (all_rows view)
+pub all_low : (view : View) → IsSpaced view → 1 ≤ view.location → All (LiesBelow (view.next + length (newest view)) (view.location + cells_in (newest view))) (all_rows view)
 all_low view spaced positive =
     let P : DocRow → Type 0 = LiesBelow (view.next + length (newest view)) (view.location + cells_in (newest view)) in
     All-append P (level_rows view.levels) (map (λ (a : Added). a.row) (newest view))

@@ -141,7 +141,7 @@ module _ (view : View) (spaced : IsSpaced view) (oldest rest : List Level) (leve
       ∙ sym (flat_map-append (documents_in G) (contents_of view.levels) (newest_content view ∷ []))
       ∙ flushing_documents_by view spaced G flush_are
 
-  joined_left : documents_left view now ≡ (state_of view).documents
+  pub joined_left : documents_left view now ≡ (state_of view).documents
   joined_left = left_is view now rise_now (all_now IsFilled spaced.filled) (all_now (λ (r : DocRow). ends_among (gone view) r ≡ is_gone view r) (gone_are view spaced)) ∙ now_documents
 
 -- A switch that puts a join in place of the oldest levels, and the newest documents behind all, changes no state.
@@ -175,14 +175,16 @@ all_left_documents view spaced =
     ∙ sym (filter-append (stay view.entries) (rooted view).documents (map doc_of (newest view)))
     ∙ sym (after_documents (rooted view) view.entries view.location spaced.numbers spaced.allowed)
 
+-- the documents of a join of all
+pub merged_left : (view : View) (c : Content) → IsSpaced view → IsJoin view (contents_of view.levels ++ content_of (newest view) ∷ []) c → documents_left view (map content_to_come (coming c)) ≡ (state_of view).documents
+merged_left view c spaced is =
+    let rows : rows_of (map content_to_come (coming c)) ≡ filter is.keeps (all_rows view) =
+    coming_rows c ∙ is.rows ∙ ap (filter is.keeps) (rows_append (contents_of view.levels) (content_of (newest view)) ∙ ap (λ (rs : List DocRow). rs ++ map (λ (a : Added). a.row) (newest view)) (rows_by_levels view.levels)) in
+    left_is view (map content_to_come (coming c)) (subst RowsRise (sym rows) (rise_left is.keeps (all_rows view) spaced.rise)) (subst (All IsFilled) (sym rows) (All-filter is.keeps IsFilled (all_rows view) spaced.filled))
+    (subst (AreGone view (gone view)) (sym rows) (All-filter is.keeps (λ (r : DocRow). ends_among (gone view) r ≡ is_gone view r) (all_rows view) (gone_are view spaced)))
+    ∙ coming_documents (gone view) c ∙ is.documents ∙ all_left_documents view spaced
+
 -- A switch that makes one content of all, or none, changes no state.
 pub merge_keeps : (limit : ℕ) (held then : Holding) (c : Content) (job : Option Job) → IsSpaced held.view → IsJoin held.view (contents_of held.view.levels ++ content_of (newest held.view) ∷ []) c
     → switched limit held (coming c) job ≡ Ok then → state_of then.view ≡ state_of held.view
-merge_keeps limit held then c job spaced is e =
-    let view = held.view in
-    let rows : rows_of (map content_to_come (coming c)) ≡ filter is.keeps (all_rows view) =
-    coming_rows c ∙ is.rows ∙ ap (filter is.keeps) (rows_append (contents_of view.levels) (content_of (newest view)) ∙ ap (λ (rs : List DocRow). rs ++ map (λ (a : Added). a.row) (newest view)) (rows_by_levels view.levels)) in
-    switch_keeps limit held (coming c) job then e
-    (left_is view (map content_to_come (coming c)) (subst RowsRise (sym rows) (rise_left is.keeps (all_rows view) spaced.rise)) (subst (All IsFilled) (sym rows) (All-filter is.keeps IsFilled (all_rows view) spaced.filled))
-    (subst (AreGone view (gone view)) (sym rows) (All-filter is.keeps (λ (r : DocRow). ends_among (gone view) r ≡ is_gone view r) (all_rows view) (gone_are view spaced)))
-    ∙ coming_documents (gone view) c ∙ is.documents ∙ all_left_documents view spaced)
+merge_keeps limit held then c job spaced is e = switch_keeps limit held (coming c) job then e (merged_left held.view c spaced is)

@@ -144,15 +144,14 @@ ends_below root levels deleted ends below =
     (λ end has. end_below end root.next_location (rows_in levels) has (all_weaker (Below root) (λ (row : DocRow). end_of row < root.next_location) (rows_in levels) (λ row both. both.1) below))
     (all_from (λ end. list_any (λ (row : DocRow). ends_among (end ∷ []) row) (rows_in levels)) deleted ends)
 
-view_spaced : (o : Opened) (levels : List Level) (image : List ℕ) → IsNamed o image → AreLevels o levels image → IsSpace (newest (view_of o levels)) → IsSpaced (view_of o levels)
-view_spaced o levels image named are space =
-    let documents : All HasDocuments o.levels = subst (All HasDocuments) (sym are.tables) (has_documents levels image are.segments) in
+-- levels with the rows of what is opened, whatever their lists are
+pub rows_spaced : (o : Opened) (levels : List Level) (image : List ℕ) → IsNamed o image → All HasDocuments o.levels → rows_in o.levels ≡ level_rows levels → known_at o.root o.deleted o.levels ≡ known_of (rooted (view_of o levels))
+    → IsSpace (newest (view_of o levels)) → IsSpaced (view_of o levels)
+rows_spaced o levels image named documents rows known space =
     let here : AreSpaced o.root (rows_in o.levels) =
     levels_spaced o.root o.deleted [] o.root.levels.items image o.levels named.tables documents (record { rise = tt; below = All-nil (Below o.root); filled = All-nil IsFilled }) in
-    let rows : rows_in o.levels ≡ level_rows levels = ap rows_in are.tables ∙ flat_map-map (λ (t : Tables). t.documents) tables_by levels in
     let spaced : AreSpaced o.root (level_rows levels) = subst (AreSpaced o.root) rows here in
     let view = view_of o levels in
-    let known = rooted_known o levels are.tables in
     let ordered : IsOrdered (known_of (rooted view)) = subst IsOrdered known (known_ordered o image named documents) in
     let news = map (λ (a : Added). a.row) (newest view) in
     record {
@@ -172,6 +171,11 @@ view_spaced o levels image named are space =
       space = space;
       allowed = (allows_replayed (rooted view) (journal_of o.slot) o.entries named.known (subst (λ (k : Known). replayed k (placed (journal_of o.slot) o.entries) ≡ Ok named.known) known named.admitted)).0;
     }
+
+view_spaced : (o : Opened) (levels : List Level) (image : List ℕ) → IsNamed o image → AreLevels o levels image → IsSpace (newest (view_of o levels)) → IsSpaced (view_of o levels)
+view_spaced o levels image named are space =
+    rows_spaced o levels image named (subst (All HasDocuments) (sym are.tables) (has_documents levels image are.segments)) (ap rows_in are.tables ∙ flat_map-map (λ (t : Tables). t.documents) tables_by levels)
+    (rooted_known o levels are.tables) space
 
 pub held_spaced : (held : Holding) (image : List ℕ) → IsHeld held image → IsSpace (newest held.view) → IsSpaced held.view
 held_spaced held image is space =

@@ -1,0 +1,14 @@
+pub mod BeginLaws
+pub mod CallLaws
+pub mod DraftLaws
+pub mod JoinedLaws
+pub mod LevelLaws
+pub mod NameLaws
+pub mod OpenedLaws
+pub mod PieceLaws
+pub mod PlaceLaws
+pub mod ReadLaws
+pub mod RootLaws
+pub mod SegmentLaws
+pub mod SpaceLaws
+pub mod SwitchLaws

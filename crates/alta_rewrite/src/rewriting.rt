@@ -1,0 +1,118 @@
+// A switch of the root to other levels.
+ghost use Rattle.std.specs.Prelude.{◌≡◌, ◌≤◌, ◌+◌, ◌-◌, ◌*◌, List, ℕ, length, Option, Err, Ok, IfOk, OnOk};
+ghost use Rattle.alta_codec.specs.Faults.{Rose};
+ghost use Rattle.alta_codec.specs.Rising.{IsRising};
+ghost use Rattle.alta_content.specs.Parts.{IsPart};
+ghost use Rattle.alta_disk.specs.Calls.{Costs};
+ghost use Rattle.alta_disk.specs.Disk.{DiskState, LeavesOnly, Only};
+ghost use Rattle.alta_images.specs.Holding.{Holding};
+ghost use Rattle.alta_images.specs.Levels.{Level};
+ghost use Rattle.alta_images.specs.Opened.{Opened};
+ghost use Rattle.alta_images.specs.Standing.{StandsFor};
+ghost use Rattle.alta_images.specs.Views.{state_of};
+ghost use Rattle.alta_images.specs.Work.{Job, coming};
+ghost use Rattle.alta_images.specs.Working.{switched};
+ghost use Rattle.alta_root.specs.Places.{other};
+ghost use Rattle.alta_root.specs.Slots.{Counts};
+ghost use Rattle.alta_root.specs.declared.places.TheConstants.{DOCUMENT_CELLS, HEAD_BYTES, LAST_NEXT};
+ghost use Rattle.alta_rewrite.specs.Drafts.{rewrite_places};
+ghost use Rattle.alta_rewrite.specs.Rewrites.{IsRewritten, IsRewrittenOpened, MayBecome, MayRewrite, MayRewriteOpened, levels_to_come};
+ghost use Rattle.alta_rewrite.specs.declared.fault.RewriteFault.TheVariants.{Disk as DiskFault, Full, Memory};
+
+use crate::draft::{make_draft, pieces_in};
+use crate::{Ends, NextLevels, RewriteFault};
+use alta_codec::{DocNumber, Loc};
+use alta_disk::Disk;
+use alta_level::Table;
+use alta_root::{Root, Slot};
+use alta_switch::put_root;
+use std::alloc::Global;
+
+/// What counts behind a rewrite.
+#[derive(Drop)]
+pub struct Rewritten {
+    /// The slot that counts.
+    pub slot: Slot,
+    /// Its root.
+    pub root: Root,
+    /// The tables of the level in front of those that stay, where there is one.
+    pub oldest: Option<Table>,
+    /// The tables of the level behind them, where there is one.
+    pub newest: Option<Table>,
+}
+
+/// Writes the levels that come anew, and the deletion list where it has changed, and makes a root the one that counts that names
+/// them between and beside the levels that stay. The journal of that root is empty. Nothing is pending at the start.
+///
+/// `slot` and `root` count; `next` and `location` stand behind all documents, as bounds of a root. At most 16 levels come. Each that
+/// is written takes the first gap that holds it beside the root's extents and those before it, and then the deletion list. All
+/// memory is taken before the first write; each level and the list are one write. At each moment every image stands for the state
+/// of before, where the levels to come have its documents.
+///
+/// # Errors
+///
+/// `Disk` where a call of the disk failed; the images are then as at some moment before. `Memory` where there is too little
+/// memory, and `Full` where no gap holds a level or the list, with the bytes that are needed and the greatest gap. In both cases
+/// nothing was written.
+pub fn rewrite<D: Disk>(
+    alloc: Global,
+    disk: &mut D,
+    slot: Slot,
+    root: &Root,
+    levels: NextLevels<'_>,
+    ends: Ends<'_>,
+    next: DocNumber,
+    location: Loc,
+) -> Result<Rewritten, RewriteFault>
+    requires settled { Only (D.state disk.old).content (D.state disk.old).images }
+    requires counts { D.tells → Counts slot root.now (D.state disk.old).content }
+    requires limit { HEAD_BYTES ≤ (D.state disk.old).limit }
+    requires oldest { IsPart levels.oldest.now }
+    requires newest { IsPart levels.newest.now }
+    requires index { levels.stay_from ≤ length root.now.levels.items }
+    requires few { length (coming levels.oldest.now) + (length root.now.levels.items - levels.stay_from) + length (coming levels.newest.now) ≤ 16 }
+    requires rising { IsRising ends.deleted.now }
+    requires number { (1 ≤ next) × (next ≤ LAST_NEXT) }
+    requires location { (1 ≤ location) × (location ≤ 1 + (next - 1) * DOCUMENT_CELLS) }
+
+    // What is held then, and why no place is left.
+    ensures works { (held : Holding) → (job : Option Job) → D.tells → MayRewrite held levels.entry ends.entry next location (D.state disk.old).content
+        → IfOk result (λ done. (then : Holding) × IsRewritten (D.state disk.old).limit slot held levels.entry job then done (D.state disk.new).content) }
+    ensures full { (held : Holding) → (job : Option Job) → D.tells → MayRewrite held levels.entry ends.entry next location (D.state disk.old).content → (need gap : ℕ)
+        → result ≡ Err (Full need gap) → switched (D.state disk.old).limit held (levels_to_come levels.entry held.view) job ≡ Err (record { need = need; gap = gap }) }
+    ensures why { (need gap : ℕ) → result ≡ Err (Full need gap) → rewrite_places (D.state disk.old).limit root.now levels.entry ends.entry ≡ Err (record { need = need; gap = gap }) }
+
+    // At each moment of the call.
+    ensures stands { (held : Holding) → (D.tells → MayRewrite held levels.entry ends.entry next location (D.state disk.old).content)
+        → LeavesOnly (StandsFor (state_of held.view)) (D.state disk.old) (D.state disk.new) }
+
+    // The same where the streams of levels that stay may be damaged.
+    ensures opened { (o : Opened) → (there : List Level) → (D.tells → MayRewriteOpened o there levels.entry ends.entry next location (D.state disk.old).content)
+        → LeavesOnly (MayBecome (D.state disk.old).limit o levels.entry ends.entry next location) (D.state disk.old) (D.state disk.new) }
+    ensures opened_then { (o : Opened) → (there : List Level) → D.tells → MayRewriteOpened o there levels.entry ends.entry next location (D.state disk.old).content
+        → IfOk result (λ done. (coming : Opened) × IsRewrittenOpened (D.state disk.old).limit o coming levels.entry ends.entry next location done (D.state disk.new).content) }
+
+    // What counts then; and where nothing was written.
+    ensures counts { IfOk result (λ done. (done.slot ≡ other slot) × (done.root.next_number ≡ next) × (done.root.next_location ≡ location)) }
+    ensures memory { result ≡ Err Memory → disk.new ≡ disk.old }
+    ensures unwritten { (need gap : ℕ) → result ≡ Err (Full need gap) → disk.new ≡ disk.old }
+
+    ensures durable { OnOk result (Only (D.state disk.new).content (D.state disk.new).images) }
+    ensures cause { result ≡ Err DiskFault → Rose (D.state disk.old).faults (D.state disk.new).faults }
+    ensures costs { Costs 1 (D.state disk.old) (D.state disk.new) }
+{
+    let limit = disk.limit();
+    let draft = match make_draft(alloc, root, levels, ends, next, location, limit) {
+        Ok(draft) => draft,
+        Err(fault) => return Err(fault),
+    };
+    let pieces = pieces_in(alloc, &draft)?;
+    put_root(disk, slot.other(), &draft.root, &pieces)?;
+    drop(pieces);
+    Ok(Rewritten {
+        slot: slot.other(),
+        root: draft.root,
+        oldest: draft.oldest_level,
+        newest: draft.newest_level,
+    })
+}
