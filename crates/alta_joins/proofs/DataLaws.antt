@@ -1,0 +1,132 @@
+-- The segment of a level on an image: its tables, and behind them the lists that are read.
+use Rattle.std.proofs.Common.{◌≡◌, ◌⊎◌, inl, inr, ℕ, ◌+◌, ◌-◌, ◌≤◌, List, [], ◌∷◌, ◌++◌, length, take, drop, refl, sym, subst, ap, ◌∙◌, Ok, arith, length-append, length-drop}
+use Rattle.std.proofs.Math.Seq.{drop-append_seam}
+use Rattle.std.proofs.lemmas.List.{drop-drop, drop-take, length-take, take-take}
+use Rattle.std.proofs.lemmas.List.Sums.{sum_by-cons}
+use Rattle.alta_codec.proofs.ByteLaws.{AreBytes-drop, AreBytes-take}
+use Rattle.alta_codec.specs.Bytes.{AreBytes}
+use Rattle.alta_content.specs.declared.content.Content.{Content}
+use Rattle.alta_content.specs.declared.content.TermList.{TermList}
+use Rattle.alta_content.specs.declared.document.DocRow.{DocRow}
+use Rattle.alta_disk.specs.Parts.{part}
+use Rattle.alta_images.specs.Broken.{IsBrokenIn, IsFaultAmong}
+use Rattle.alta_images.specs.Opened.{bytes_at, tables_at}
+use Rattle.alta_joins.specs.Contents.{IsContentOf, IsSegmentOn, StandsOn, level_with}
+use Rattle.alta_joins.specs.Damages.{IsDamageOn}
+use Rattle.alta_level.specs.Damage.{AreListsOf, IsFaultInLists, data_in, data_place, stored_at}
+use Rattle.alta_level.specs.Damage.IsSegmentFault.{in_lists}
+use Rattle.alta_level.specs.Segments.{IsSegment, rows_of}
+use Rattle.alta_level.specs.Stored.{IsListFault, Stored}
+use Rattle.alta_level.proofs.Spelled.{lists_spell, segment_found}
+use Rattle.alta_opening.specs.Extents.{extent_of}
+use Rattle.alta_table.specs.Tables.{AreTables, KeepRules, Tables, tables_bytes, tables_of, total_of}
+use Rattle.alta_table.specs.Terms.{data_bytes, data_of}
+use Rattle.alta_table.specs.declared.term.TermRow.{TermRow}
+use Rattle.alta_table.proofs.FrontLaws.{whole_has_parts}
+use Rattle.alta_table.proofs.TableLaws.{tables_are}
+
+-- ---- bytes that stand behind others
+
+-- the part behind the first bytes of a part
+pub part_behind : (a b place : ℕ) (image : List ℕ) → drop a (part place (a + b) image) ≡ part (place + a) b image
+part_behind a b place image = drop-take a b (drop place image) ∙ ap (take b) (drop-drop a place image)
+
+tables_front : Tables → List ℕ
+tables_front level = tables_bytes level.documents level.terms
+
+-- ---- a content, by its lists
+
+same_tables : (place : ℕ) (d e : List DocRow) (s t : List TermRow) → d ≡ e → s ≡ t → ◌≡◌ {A = Tables} (record { place = place; documents = d; terms = s }) (record { place = place; documents = e; terms = t })
+same_tables place d e s t a b =
+    ap (λ (x : List DocRow). record { place = place; documents = x; terms = s }) a ∙ ap (λ (x : List TermRow). record { place = place; documents = e; terms = x }) b
+
+module _ (level : Tables) (data : List ℕ) (content : Content) (keeps : KeepRules (total_of level.documents level.terms) level.documents level.terms) (long : length data ≡ data_bytes level.terms)
+    (rows : content.documents ≡ level.documents) (lists : AreListsOf level.documents level.terms data (data_place level) content.lists) where
+  bytes : List ℕ
+  bytes = tables_bytes level.documents level.terms ++ data
+
+  pub content_segment : IsSegment (tables_bytes level.documents level.terms ++ data) content
+  content_segment =
+      let front = tables_bytes level.documents level.terms in
+      let size : length (front ++ data) ≡ total_of level.documents level.terms = length-append front data ∙ ap (λ (n : ℕ). length front + n) long in
+      let tables : AreTables (front ++ data) level.place (length (front ++ data)) level = record {
+        at = refl;
+        keeps = subst (λ (n : ℕ). KeepRules n level.documents level.terms) (sym size) keeps;
+        behind = data;
+        spelled = refl;
+      } in
+      segment_found (front ++ data) level.place level content tables rows
+      (subst (λ (d : List ℕ). AreListsOf level.documents level.terms d (data_place level) content.lists) (sym (drop-append_seam front data)) lists)
+
+  pub content_kept : IsContentOf level content
+  content_kept = record {
+    stands = content_segment.stands;
+    tables = same_tables level.place content.documents level.documents (rows_of content.lists) level.terms rows (sym (lists_spell level.documents level.terms data (data_place level) content.lists lists (sym long)).rows_are);
+  }
+
+-- ---- on an image
+
+module _ (level : Tables) (image : List ℕ) (are : AreBytes image) (stands : StandsOn image level) where
+  pub segment_size : length (bytes_at (extent_of level) image) ≡ total_of level.documents level.terms
+  segment_size = omega (arith, stands.whole, length-take (total_of level.documents level.terms) (drop level.place image), length-drop level.place image)
+
+  pub segment_bytes : AreBytes (bytes_at (extent_of level) image)
+  segment_bytes = AreBytes-take (total_of level.documents level.terms) (drop level.place image) (AreBytes-drop level.place image are)
+
+  pub tables_stand : AreTables (bytes_at (extent_of level) image) level.place (length (bytes_at (extent_of level) image)) level
+  unfolding tables_at
+  tables_stand =
+      let bs = bytes_at (extent_of level) image in
+      tables_are bs level.place (length bs) level segment_bytes (whole_has_parts bs level.place (length bs) segment_bytes (omega arith))
+      (ap (λ (n : ℕ). tables_of bs level.place n) segment_size ∙ stands.tables)
+
+  -- the bytes behind the tables
+  pub data_stands : data_in (bytes_at (extent_of level) image) level ≡ part (data_place level) (data_bytes level.terms) image
+  data_stands = part_behind (length (tables_bytes level.documents level.terms)) (data_bytes level.terms) level.place image
+
+  pub segment_is : bytes_at (extent_of level) image ≡ tables_bytes level.documents level.terms ++ part (data_place level) (data_bytes level.terms) image
+  segment_is =
+      let front = tables_bytes level.documents level.terms in
+      let tables = tables_stand in
+      let behind : tables.behind ≡ part (data_place level) (data_bytes level.terms) image = sym (drop-append_seam front tables.behind) ∙ ap (drop (length front)) (sym tables.spelled) ∙ data_stands in
+      tables.spelled ∙ ap (λ (l : List ℕ). front ++ l) behind
+
+  -- what is a content's behind the tables is its segment on the image
+  pub segment_on : (data : List ℕ) (content : Content) → data ≡ part (data_place level) (data_bytes level.terms) image → IsSegment (tables_bytes level.documents level.terms ++ data) content
+      → IsSegmentOn image level content
+  segment_on data content read is =
+      subst (λ (b : List ℕ). IsSegment b content) (ap (λ (d : List ℕ). tables_bytes level.documents level.terms ++ d) read ∙ sym segment_is) is
+
+  -- the first fault of the lists is the first damage
+  pub damage_on : (data : List ℕ) (p : ℕ) → data ≡ part (data_place level) (data_bytes level.terms) image → IsFaultInLists level.documents level.terms data (data_place level) p → IsDamageOn image level p
+  damage_on data p read fault =
+      in_lists level p tables_stand (subst (λ (d : List ℕ). IsFaultInLists level.documents level.terms d (data_place level) p) (read ∙ sym data_stands) fault)
+
+-- ---- a fault of lists is one among those of the level
+
+same_stored : (row : TermRow) (bytes : List ℕ) (n at : ℕ) → data_of row ≤ n → stored_at row (take n bytes) at ≡ stored_at row bytes at
+same_stored row bytes n at le =
+    let f : List ℕ → List ℕ → Stored = λ s t. record { stream = s; stream_place = at; summary = t; summary_place = at + row.stream; term = row.term; count = row.count } in
+    let size : n ≡ row.stream + (n - row.stream) = omega (arith, le) in
+    let first : take row.stream (take n bytes) ≡ take row.stream bytes = take-take row.stream n bytes (omega (arith, le)) in
+    let behind : drop row.stream (take n bytes) ≡ take (n - row.stream) (drop row.stream bytes) = ap (λ (k : ℕ). drop row.stream (take k bytes)) size ∙ drop-take row.stream (n - row.stream) bytes in
+    let second : take row.summary (drop row.stream (take n bytes)) ≡ take row.summary (drop row.stream bytes) =
+    ap (take row.summary) behind ∙ take-take row.summary (n - row.stream) (drop row.stream bytes) (omega (arith, le)) in
+    ap (λ (s : List ℕ). f s (take row.summary (drop row.stream (take n bytes)))) first ∙ ap (λ (t : List ℕ). f (take row.stream bytes) t) second
+
+among : (documents : List DocRow) (rows : List TermRow) (n at p : ℕ) (image : List ℕ) → data_bytes rows ≤ n → IsFaultInLists documents rows (part at n image) at p → IsFaultAmong documents rows at image p
+unfolding IsFaultInLists
+among documents [] n at p image le fault = fault
+among documents (row ∷ rows) n at p image le (inl fault) =
+    inl (subst (λ (s : Stored). IsListFault documents s p) (same_stored row (drop at image) n at (omega (arith, le, sum_by-cons data_of row rows))) fault)
+among documents (row ∷ rows) n at p image le (inr (whole, fault)) =
+    let size : n ≡ data_of row + (n - data_of row) = omega (arith, le, sum_by-cons data_of row rows) in
+    let behind : drop (data_of row) (part at n image) ≡ part (at + data_of row) (n - data_of row) image =
+    ap (λ (k : ℕ). drop (data_of row) (part at k image)) size ∙ part_behind (data_of row) (n - data_of row) at image in
+    inr (among documents rows (n - data_of row) (at + data_of row) p image (omega (arith, le, sum_by-cons data_of row rows))
+    (subst (λ (b : List ℕ). IsFaultInLists documents rows b (at + data_of row) p) behind fault))
+
+pub broken_in : (level : Tables) (image data : List ℕ) (p : ℕ) → data ≡ part (data_place level) (data_bytes level.terms) image → IsFaultInLists level.documents level.terms data (data_place level) p
+    → IsBrokenIn level image p
+broken_in level image data p read fault =
+    among level.documents level.terms (data_bytes level.terms) (data_place level) p image (omega arith) (subst (λ (d : List ℕ). IsFaultInLists level.documents level.terms d (data_place level) p) read fault)

@@ -1,0 +1,16 @@
+//! Levels read whole from the disk, and joined to one content: at once, or in slices.
+#![tactic(auto)]
+
+mod fault;
+mod joining;
+mod laws;
+mod level;
+mod levels;
+
+pub use alta_merge::Job;
+pub use fault::JoinFault;
+pub use joining::{begin_job, finish_job, join_levels, run_job, step_job};
+pub use laws::{joins_are_levels, joins_keep_documents, read_levels_are_opened};
+
+pub use level::read_level;
+pub use levels::read_levels;
