@@ -11,6 +11,11 @@ use Rattle.alta_content.specs.declared.document.DocRow.{DocRow}
 use Rattle.alta_disk.specs.Parts.{part}
 use Rattle.alta_images.specs.Broken.{IsBrokenIn, IsFaultAmong}
 use Rattle.alta_images.specs.Opened.{bytes_at, tables_at}
+use Rattle.std.specs.Prelude.{Result, IfOk}
+use Rattle.alta_joins.specs.Answers.{IfDamaged}
+use Rattle.alta_joins.specs.declared.fault.JoinFault.{JoinFault}
+use Rattle.alta_joins.proofs.FaultLaws.{damaged_goes, damaged_of, ok_goes, only_of}
+use Rattle.alta_joins.proofs.LevelRuns.{TellsOne}
 use Rattle.alta_joins.specs.Contents.{IsContentOf, IsSegmentOn, StandsOn, level_with}
 use Rattle.alta_joins.specs.Damages.{IsDamageOn}
 use Rattle.alta_level.specs.Damage.{AreListsOf, IsFaultInLists, data_in, data_place, stored_at}
@@ -31,37 +36,31 @@ use Rattle.alta_table.proofs.TableLaws.{tables_are}
 pub part_behind : (a b place : ℕ) (image : List ℕ) → drop a (part place (a + b) image) ≡ part (place + a) b image
 part_behind a b place image = drop-take a b (drop place image) ∙ ap (take b) (drop-drop a place image)
 
-tables_front : Tables → List ℕ
-tables_front level = tables_bytes level.documents level.terms
-
 -- ---- a content, by its lists
 
 same_tables : (place : ℕ) (d e : List DocRow) (s t : List TermRow) → d ≡ e → s ≡ t → ◌≡◌ {A = Tables} (record { place = place; documents = d; terms = s }) (record { place = place; documents = e; terms = t })
 same_tables place d e s t a b =
     ap (λ (x : List DocRow). record { place = place; documents = x; terms = s }) a ∙ ap (λ (x : List TermRow). record { place = place; documents = e; terms = x }) b
 
-module _ (level : Tables) (data : List ℕ) (content : Content) (keeps : KeepRules (total_of level.documents level.terms) level.documents level.terms) (long : length data ≡ data_bytes level.terms)
-    (rows : content.documents ≡ level.documents) (lists : AreListsOf level.documents level.terms data (data_place level) content.lists) where
-  bytes : List ℕ
-  bytes = tables_bytes level.documents level.terms ++ data
-
-  pub content_segment : IsSegment (tables_bytes level.documents level.terms ++ data) content
+module _ (level : Tables) (tail : List ℕ) (content : Content) (keeps : KeepRules (total_of level.documents level.terms) level.documents level.terms) (long : length tail ≡ data_bytes level.terms)
+    (rows : content.documents ≡ level.documents) (lists : AreListsOf level.documents level.terms tail (data_place level) content.lists) where
+  pub content_segment : IsSegment (tables_bytes level.documents level.terms ++ tail) content
   content_segment =
       let front = tables_bytes level.documents level.terms in
-      let size : length (front ++ data) ≡ total_of level.documents level.terms = length-append front data ∙ ap (λ (n : ℕ). length front + n) long in
-      let tables : AreTables (front ++ data) level.place (length (front ++ data)) level = record {
+      let size : length (front ++ tail) ≡ total_of level.documents level.terms = length-append front tail ∙ ap (λ (n : ℕ). length front + n) long in
+      let tables : AreTables (front ++ tail) level.place (length (front ++ tail)) level = record {
         at = refl;
         keeps = subst (λ (n : ℕ). KeepRules n level.documents level.terms) (sym size) keeps;
-        behind = data;
+        behind = tail;
         spelled = refl;
       } in
-      segment_found (front ++ data) level.place level content tables rows
-      (subst (λ (d : List ℕ). AreListsOf level.documents level.terms d (data_place level) content.lists) (sym (drop-append_seam front data)) lists)
+      segment_found (front ++ tail) level.place level content tables rows
+      (subst (λ (d : List ℕ). AreListsOf level.documents level.terms d (data_place level) content.lists) (sym (drop-append_seam front tail)) lists)
 
   pub content_kept : IsContentOf level content
   content_kept = record {
     stands = content_segment.stands;
-    tables = same_tables level.place content.documents level.documents (rows_of content.lists) level.terms rows (sym (lists_spell level.documents level.terms data (data_place level) content.lists lists (sym long)).rows_are);
+    tables = same_tables level.place content.documents level.documents (rows_of content.lists) level.terms rows (sym (lists_spell level.documents level.terms tail (data_place level) content.lists lists (sym long)).rows_are);
   }
 
 -- ---- on an image
@@ -92,14 +91,14 @@ module _ (level : Tables) (image : List ℕ) (are : AreBytes image) (stands : St
       tables.spelled ∙ ap (λ (l : List ℕ). front ++ l) behind
 
   -- what is a content's behind the tables is its segment on the image
-  pub segment_on : (data : List ℕ) (content : Content) → data ≡ part (data_place level) (data_bytes level.terms) image → IsSegment (tables_bytes level.documents level.terms ++ data) content
+  pub segment_on : (tail : List ℕ) (content : Content) → tail ≡ part (data_place level) (data_bytes level.terms) image → IsSegment (tables_bytes level.documents level.terms ++ tail) content
       → IsSegmentOn image level content
-  segment_on data content read is =
+  segment_on tail content read is =
       subst (λ (b : List ℕ). IsSegment b content) (ap (λ (d : List ℕ). tables_bytes level.documents level.terms ++ d) read ∙ sym segment_is) is
 
   -- the first fault of the lists is the first damage
-  pub damage_on : (data : List ℕ) (p : ℕ) → data ≡ part (data_place level) (data_bytes level.terms) image → IsFaultInLists level.documents level.terms data (data_place level) p → IsDamageOn image level p
-  damage_on data p read fault =
+  pub damage_on : (tail : List ℕ) (p : ℕ) → tail ≡ part (data_place level) (data_bytes level.terms) image → IsFaultInLists level.documents level.terms tail (data_place level) p → IsDamageOn image level p
+  damage_on tail p read fault =
       in_lists level p tables_stand (subst (λ (d : List ℕ). IsFaultInLists level.documents level.terms d (data_place level) p) (read ∙ sym data_stands) fault)
 
 -- ---- a fault of lists is one among those of the level
@@ -126,7 +125,27 @@ among documents (row ∷ rows) n at p image le (inr (whole, fault)) =
     inr (among documents rows (n - data_of row) (at + data_of row) p image (omega (arith, le, sum_by-cons data_of row rows))
     (subst (λ (b : List ℕ). IsFaultInLists documents rows b (at + data_of row) p) behind fault))
 
-pub broken_in : (level : Tables) (image data : List ℕ) (p : ℕ) → data ≡ part (data_place level) (data_bytes level.terms) image → IsFaultInLists level.documents level.terms data (data_place level) p
+pub broken_in : (level : Tables) (image tail : List ℕ) (p : ℕ) → tail ≡ part (data_place level) (data_bytes level.terms) image → IsFaultInLists level.documents level.terms tail (data_place level) p
     → IsBrokenIn level image p
-broken_in level image data p read fault =
+broken_in level image tail p read fault =
     among level.documents level.terms (data_bytes level.terms) (data_place level) p image (omega arith) (subst (λ (d : List ℕ). IsFaultInLists level.documents level.terms d (data_place level) p) read fault)
+
+-- ---- what a call that reads the bytes behind the tables tells of the level
+
+module _ (level : Tables) (image : List ℕ) (are : AreBytes image) (stands : StandsOn image level) (tail : List ℕ) (read : tail ≡ part (data_place level) (data_bytes level.terms) image)
+    (result : Result Content JoinFault) (found : IfOk result (λ content. IsSegment (tables_bytes level.documents level.terms ++ tail) content))
+    (first : IfDamaged result (IsFaultInLists level.documents level.terms tail (data_place level))) where
+  pub tells_one : ((c d : Content) → IsSegmentOn image level c → IsSegmentOn image level d → c ≡ d) → ((c : Content) (p : ℕ) → IsSegmentOn image level c → IsDamageOn image level p → ⊥)
+      → ((p q : ℕ) → IsDamageOn image level p → IsDamageOn image level q → p ≡ q) → TellsOne {X = Content} (λ x. x) image level result
+  tells_one once apart alone =
+      let segment = ok_goes result (λ c. IsSegment (tables_bytes level.documents level.terms ++ tail) c) (IsSegmentOn image level) (λ c is. segment_on level image are stands tail c read is) found in
+      let damage = damaged_goes result (IsFaultInLists level.documents level.terms tail (data_place level)) (IsDamageOn image level) (λ p fault. damage_on level image are stands tail p read fault) first in
+      record {
+        segment = segment;
+        only = λ c is. only_of {X = Content} (λ x. x) (IsSegmentOn image level) (IsDamageOn image level) result segment damage once apart c is;
+        first = damage;
+        damaged = λ p d. damaged_of {X = Content} (λ x. x) (IsSegmentOn image level) (IsDamageOn image level) result segment damage alone apart p d;
+      }
+
+  pub tells_broken : IfDamaged result (IsBrokenIn level image)
+  tells_broken = damaged_goes result (IsFaultInLists level.documents level.terms tail (data_place level)) (IsBrokenIn level image) (λ p fault. broken_in level image tail p read fault) first

@@ -1,6 +1,7 @@
 -- A join that goes on is that of a store's job.
 use Rattle.std.proofs.Common.{◌≡◌, ℕ, suc, zero, ◌+◌, ◌-◌, ◌<◌, ◌≤◌, Bool, true, false, List, [], ◌∷◌, length, drop, refl, sym, subst, ap, ◌∙◌, arith, length-drop}
-use Rattle.std.specs.Prelude.{nat_le, ◌↔◌, IsTrue}
+use Rattle.std.specs.Prelude.{nat_le, ◌↔◌, IfOk, IsTrue, OnErr, OnOk, Result, Ok, Err}
+use Rattle.std.specs.declared.alloc.AllocError.{AllocError}
 use Rattle.std.proofs.lemmas.Bool.{cases_Bool, leb-true, le-leb, true≢false, false≢true}
 use Rattle.std.proofs.lemmas.List.{drop-drop}
 use Rattle.alta_content.specs.declared.content.Content.{Content}
@@ -8,6 +9,7 @@ use Rattle.alta_content.specs.Joining.{joined as content_joined, terms_in as con
 use Rattle.alta_images.specs.Joining.{terms_in}
 use Rattle.alta_images.specs.Work.{Job, whole_of}
 use Rattle.alta_joins.specs.Jobs.{IsMerging, begun_job, moved_by}
+use Rattle.alta_joins.proofs.RowSteps.{drop-all}
 use Rattle.alta_joins.proofs.SameWords.{joined-same, terms-same}
 use Rattle.alta_merge.specs.Merging.{Merging}
 
@@ -24,10 +26,9 @@ merging_begun merging older newer dead whole left = record {
 module _ (old : Merging) (job : Job) (is : IsMerging old job) where
   pub merging_moved : (new : Merging) (n : ℕ) → new.whole ≡ old.whole → new.left ≡ drop n old.left → IsMerging new (moved_by job n)
   merging_moved new n whole left =
-      let sum : n + job.merged ≡ job.merged + n = omega arith in
       record {
         whole = whole ∙ is.whole;
-        left = left ∙ ap (drop n) is.left ∙ drop-drop n job.merged (terms_of_job job) ∙ ap (λ (k : ℕ). drop k (terms_of_job job)) sum;
+        left = left ∙ ap (drop n) is.left ∙ drop-drop n job.merged (terms_of_job job);
       }
 
   pub left_long : length old.left ≡ length (terms_of_job job) - job.merged
@@ -36,13 +37,6 @@ module _ (old : Merging) (job : Job) (is : IsMerging old job) where
   -- a term is left exactly where not all are merged
   pub some_left : (k : ℕ) → k < length old.left → job.merged + k < length (terms_of_job job)
   some_left k less = omega (arith, left_long, less)
-
-none : {X : Type 0} (xs : List X) → length xs ≡ 0 → xs ≡ []
-none [] e = refl
-none (x ∷ xs) e = absurd (omega (arith, e))
-
-empty-drop : {X : Type 0} (k : ℕ) (xs : List X) → length xs ≤ k → drop k xs ≡ []
-empty-drop k xs le = none (drop k xs) (omega (arith, length-drop k xs, le))
 
 -- none is left exactly where all are merged
 pub merging_done : (new : Merging) (job : Job) (n : ℕ) (done : Bool) → IsMerging new (moved_by job n) → (IsTrue done → new.left ≡ []) → (new.left ≡ [] → IsTrue done) → done ≡ nat_le (length (terms_of_job job)) (job.merged + n)
@@ -53,5 +47,16 @@ merging_done new job n false is there back =
     by_room (nat_le (length (terms_of_job job)) (job.merged + n)) refl
   where
     by_room : (b : Bool) → nat_le (length (terms_of_job job)) (job.merged + n) ≡ b → false ≡ b
-    by_room true e = absurd (false≢true (back (is.left ∙ empty-drop (job.merged + n) (terms_of_job job) (leb-true (length (terms_of_job job)) (job.merged + n) e))))
+    by_room true e = absurd (false≢true (back (is.left ∙ drop-all (job.merged + n) (terms_of_job job) (leb-true (length (terms_of_job job)) (job.merged + n) e))))
     by_room false e = refl
+
+-- what a step answers is whether all are merged
+pub step_done : (old new : Merging) (job : Job) (n : ℕ) (r : Result Bool AllocError) → IsMerging old job → new.whole ≡ old.whole → OnOk r (new.left ≡ drop n old.left) → IfOk r (λ done. IsTrue done ↔ (new.left ≡ []))
+    → IfOk r (λ done. done ≡ nat_le (length (terms_of_job job)) (job.merged + n))
+step_done old new job n (Ok done) is whole left iff = merging_done new job n done (merging_moved old job is new n whole left) iff.0 iff.1
+step_done old new job n (Err e) is whole left iff = tt
+
+-- a list that is not empty
+pub some_of : {X : Type 0} (xs : List X) → (xs ≡ [] → ⊥) → 0 < length xs
+some_of [] other = absurd (other refl)
+some_of (x ∷ xs) other = omega arith

@@ -1,10 +1,15 @@
 -- Levels that are read one after the other.
-use Rattle.std.proofs.Common.{◌≡◌, ◌⊎◌, inl, inr, ℕ, ◌+◌, ◌≤◌, List, [], ◌∷◌, ◌++◌, length, take, drop, get_or, refl, sym, subst, ap, ◌∙◌, arith}
+use Rattle.std.proofs.Common.{◌≡◌, ◌⊎◌, inl, inr, ℕ, suc, ◌+◌, ◌<◌, ◌≤◌, List, [], ◌∷◌, ◌++◌, length, take, drop, drop-cons, get_or, refl, sym, subst, ap, ◌∙◌, arith, take-append-drop}
+use Rattle.std.proofs.lemmas.List.{take_more}
+use Rattle.std.proofs.lemmas.List.Elements.{Contains-get_or}
+use Rattle.std.proofs.lemmas.List.Sums.{sum_by_more_le, sum_by_push}
 use Rattle.std.specs.Prelude.{Result, Ok, Err, IfOk, Contains}
 use Rattle.std.specs.List.{sum_by}
 use Rattle.alta_content.specs.declared.content.Content.{Content}
 use Rattle.alta_disk.specs.Calls.{Reads}
-use Rattle.alta_disk.specs.Disk.{DiskState}
+use Rattle.alta_disk.specs.Disk.{DiskState, IsLawful}
+use Rattle.alta_images.specs.Broken.{IsBrokenAmong, IsBrokenIn}
+use Rattle.alta_joins.proofs.FaultLaws.{fault_goes}
 use Rattle.alta_joins.specs.Answers.{IfDamaged, IsDamaged, IsFound}
 use Rattle.alta_joins.specs.Contents.{AreContentsOf, AreSegmentsOn, IsContentOf, IsSegmentOn, data_size}
 use Rattle.alta_joins.specs.Damages.{IsDamageOn, IsFirstDamage, Tells}
@@ -64,7 +69,7 @@ damage_behind image (l ∷ ls) rest (d ∷ ds) p (is, are) damage = inr ((d, is)
 
 -- ---- what is told so far
 
-abbrev pub told_none : (image : List ℕ) → Tells {X = List Content} (λ x. x) image [] (Ok [])
+pub told_none : (image : List ℕ) → Tells {X = List Content} (λ x. x) image [] (Ok [])
 told_none image = record { segments = tt; only = λ contents are. sym (none_behind image contents are); first = tt; damaged = λ p damage. damage }
 
 -- what a call tells of one level
@@ -115,3 +120,55 @@ pub record Run (tells : Type 0) (levels : List Tables) (contents : List Content)
   pub told : tells → Tells {X = List Content} (λ x. x) old.content levels (Ok contents)
   pub kept : AreContentsOf levels contents
   pub reads : Reads tells (sum_by data_size levels) old new
+
+pub run_none : (tells : Type 0) (s : DiskState) → IsLawful tells s → Run tells [] [] s s
+run_none tells s lawful = record { told = λ t. told_none s.content; kept = tt; reads = reads_none tells s lawful }
+
+module _ (tells : Type 0) (levels : List Tables) (i : ℕ) (level : Tables) (inside : i < length levels) (is : level ≡ get_or levels i level) (contents : List Content) (old mid new : DiskState)
+    (run : Run tells (take i levels) contents old mid) (reads : Reads tells (data_size level) mid new) where
+  levels_on : take (i + 1) levels ≡ take i levels ++ level ∷ []
+  levels_on = take_more levels i level inside ∙ ap (λ (l : Tables). take i levels ++ l ∷ []) (sym is)
+
+  levels_split : levels ≡ take i levels ++ level ∷ drop (i + 1) levels
+  levels_split =
+      let next : suc i ≡ i + 1 = omega arith in
+      sym (take-append-drop i levels)
+      ∙ ap (λ (ls : List Tables). take i levels ++ ls) (drop-cons levels i level inside ∙ ap (λ (l : Tables). l ∷ drop (suc i) levels) (sym is) ∙ ap (λ (k : ℕ). level ∷ drop k levels) next)
+
+  so_far : Reads tells (sum_by data_size (take i levels) + data_size level) old new
+  so_far = reads_then tells (sum_by data_size (take i levels)) (data_size level) (sum_by data_size (take i levels) + data_size level) old mid new refl run.reads reads
+
+  one_cost : sum_by data_size (take i levels) + data_size level ≤ sum_by data_size levels
+  one_cost = omega (arith, sum_by_more_le data_size levels i level inside, ap data_size is)
+
+  -- one level more
+  pub run_on : (content : Content) (now : List Content) → now ≡ contents ++ content ∷ [] → (tells → TellsOne {X = Content} (λ x. x) mid.content level (Ok content)) → IsContentOf level content
+      → Run tells (take (i + 1) levels) now old new
+  run_on content now is_now one kept =
+      subst (λ (cs : List Content). Run tells (take (i + 1) levels) cs old new) (sym is_now)
+      (subst (λ (ls : List Tables). Run tells ls (contents ++ content ∷ []) old new) (sym levels_on)
+      (record {
+        told = λ t. told_more old.content (take i levels) contents level content (run.told t) (subst (λ (image : List ℕ). TellsOne {X = Content} (λ x. x) image level (Ok content)) (run.reads.content t) (one t));
+        kept = contents_more (take i levels) contents level content run.kept kept;
+        reads = subst (λ (n : ℕ). Reads tells n old new) (sym (sum_by_push data_size (take i levels) level)) so_far;
+      }))
+
+  -- the reads end here
+  pub run_cost : Reads tells (sum_by data_size levels) old new
+  run_cost = reads_within tells (sum_by data_size (take i levels) + data_size level) (sum_by data_size levels) old new one_cost so_far
+
+  -- it ends with a fault of this level
+  pub run_ended : {X : Type 0} (view : X → List Content) (e : JoinFault) → tells → (tells → TellsOne {X = Content} (λ x. x) mid.content level (Err e)) → Tells view old.content levels (Err e)
+  run_ended view e t one =
+      subst (λ (ls : List Tables). Tells view old.content ls (Err e)) (sym levels_split)
+      (told_ended old.content (take i levels) contents level (drop (i + 1) levels) (run.told t) view e (subst (λ (image : List ℕ). TellsOne {X = Content} (λ x. x) image level (Err e)) (run.reads.content t) (one t)))
+
+  pub run_broken : (X : Type 0) (e : JoinFault) → tells → (tells → IfDamaged {X = Content} (Err e) (IsBrokenIn level mid.content)) → IfDamaged {X = X} (Err e) (IsBrokenAmong levels old.content)
+  run_broken X e t one =
+      fault_goes Content X e (IsBrokenIn level mid.content) (IsBrokenAmong levels old.content)
+      (λ p broken. record {
+        level = level;
+        among = subst (Contains levels) (sym is) (Contains-get_or levels i level inside);
+        broken = subst (λ (image : List ℕ). IsBrokenIn level image p) (run.reads.content t) broken;
+      })
+      (one t)

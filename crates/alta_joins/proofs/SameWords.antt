@@ -37,21 +37,18 @@ terms-same contents = in_order-same (flat_map (λ (c : Content). terms_of c.list
 locations-same : (contents : List Content) (term : List ℕ) → locations_in contents term ≡ locations_among (parts_of contents) term
 locations-same contents term = sym (flat_map-map (λ (lists : List TermList). locations_of lists term) (λ (c : Content). c.lists) contents)
 
--- a term with these locations
-with_locations : (List ℕ → List ℕ) → List ℕ → TermList
-with_locations f term = record { term = term; locations = f term }
+-- each term of contents with its locations
+abbrev gathered_with : (List ℕ → List ℕ) → List (List ℕ) → List TermList
+gathered_with f ts = map (λ term. record { term = term; locations = f term }) ts
 
-map-alike : (f g : List ℕ → List ℕ) → ((t : List ℕ) → f t ≡ g t) → (ts : List (List ℕ)) → map (with_locations f) ts ≡ map (with_locations g) ts
-unfolding with_locations
-map-alike f g same [] = refl
-map-alike f g same (t ∷ ts) =
-    ap (λ (l : List ℕ). record { term = t; locations = l } ∷ map (with_locations f) ts) (same t) ∙ ap (λ (ls : List TermList). record { term = t; locations = g t } ∷ ls) (map-alike f g same ts)
+gathered-alike : (f g : List ℕ → List ℕ) → ((t : List ℕ) → f t ≡ g t) → (ts : List (List ℕ)) → gathered_with f ts ≡ gathered_with g ts
+gathered-alike f g same [] = refl
+gathered-alike f g same (t ∷ ts) =
+    ap (λ (l : List ℕ). record { term = t; locations = l } ∷ gathered_with f ts) (same t) ∙ ap (λ (ls : List TermList). record { term = t; locations = g t } ∷ ls) (gathered-alike f g same ts)
 
-gathered-same : (contents : List Content)
-    → map (λ term. record { term = term; locations = locations_in contents term }) (terms_in contents) ≡ map (λ term. record { term = term; locations = locations_among (parts_of contents) term }) (content_terms contents)
-unfolding with_locations
+gathered-same : (contents : List Content) → gathered_with (locations_in contents) (terms_in contents) ≡ gathered_with (locations_among (parts_of contents)) (content_terms contents)
 gathered-same contents =
-    ap (map (with_locations (locations_in contents))) (terms-same contents) ∙ map-alike (locations_in contents) (locations_among (parts_of contents)) (locations-same contents) (content_terms contents)
+    ap (gathered_with (locations_in contents)) (terms-same contents) ∙ gathered-alike (locations_in contents) (locations_among (parts_of contents)) (locations-same contents) (content_terms contents)
 
 pub joined-same : (contents : List Content) (dead : List ℕ) → joined_in contents dead ≡ content_join contents dead
 joined-same contents dead =

@@ -60,8 +60,12 @@ pub fn run_job(job: &mut Job) -> Result<(), AllocError>
     ensures wanting { (j : work.Job) → IsMerging job.old j
         → OnErr result ((k : ℕ) × (j.merged + k < length (terms_in (j.older ∷ j.newer ∷ []))) × IsMerging job.new (moved_by j k)) }
 {
-    while !job.step(u64::MAX)? {}
-    Ok(())
+    loop {
+        let done = job.step(u64::MAX)?;
+        if done {
+            return Ok(());
+        }
+    }
 }
 
 /// The content that a join comes to, without a copy. It has neither rows nor terms where no row is left.
