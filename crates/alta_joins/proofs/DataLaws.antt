@@ -1,5 +1,5 @@
 -- The segment of a level on an image: its tables, and behind them the lists that are read.
-use Rattle.std.proofs.Common.{◌≡◌, ◌⊎◌, inl, inr, ℕ, ◌+◌, ◌-◌, ◌≤◌, List, [], ◌∷◌, ◌++◌, length, take, drop, refl, sym, subst, ap, ◌∙◌, Ok, arith, length-append, length-drop}
+use Rattle.std.proofs.Common.{◌≡◌, ◌⊎◌, inl, inr, ℕ, ◌+◌, ◌-◌, ◌≤◌, List, [], ◌∷◌, ◌++◌, length, take, drop, refl, sym, subst, ap, ap₂, ◌∙◌, ◌<◌, ◌^◌, Ok, arith, length-append, length-drop}
 use Rattle.std.proofs.Math.Seq.{drop-append_seam}
 use Rattle.std.proofs.lemmas.List.{drop-drop, drop-take, length-take, take-take}
 use Rattle.std.proofs.lemmas.List.Sums.{sum_by-cons}
@@ -8,6 +8,8 @@ use Rattle.alta_codec.specs.Bytes.{AreBytes}
 use Rattle.alta_content.specs.declared.content.Content.{Content}
 use Rattle.alta_content.specs.declared.content.TermList.{TermList}
 use Rattle.alta_content.specs.declared.document.DocRow.{DocRow}
+use Rattle.alta_codec.specs.declared.extent.Extent.{Extent}
+use Rattle.alta_disk.specs.Disk.{DiskState, IsLawful}
 use Rattle.alta_disk.specs.Parts.{part}
 use Rattle.alta_images.specs.Broken.{IsBrokenIn, IsFaultAmong}
 use Rattle.alta_images.specs.Opened.{bytes_at, tables_at}
@@ -18,7 +20,7 @@ use Rattle.alta_joins.proofs.FaultLaws.{damaged_goes, damaged_of, ok_goes, only_
 use Rattle.alta_joins.proofs.LevelRuns.{TellsOne}
 use Rattle.alta_joins.specs.Contents.{IsContentOf, IsSegmentOn, StandsOn, level_with}
 use Rattle.alta_joins.specs.Damages.{IsDamageOn}
-use Rattle.alta_level.specs.Damage.{AreListsOf, IsFaultInLists, data_in, data_place, stored_at}
+use Rattle.alta_level.specs.Damage.{AreListsOf, IsFaultInLists, IsSegmentFault, data_in, data_place, stored_at}
 use Rattle.alta_level.specs.Damage.IsSegmentFault.{in_lists}
 use Rattle.alta_level.specs.Segments.{IsSegment, rows_of}
 use Rattle.alta_level.specs.Stored.{IsListFault, Stored}
@@ -149,3 +151,27 @@ module _ (level : Tables) (image : List ℕ) (are : AreBytes image) (stands : St
 
   pub tells_broken : IfDamaged result (IsBrokenIn level image)
   tells_broken = damaged_goes result (IsFaultInLists level.documents level.terms tail (data_place level)) (IsBrokenIn level image) (λ p fault. broken_in level image tail p read fault) first
+
+-- the same of a disk
+module _ (tells : Type 0) (a : DiskState) (lawful : IsLawful tells a) (level : Tables) (stands : tells → StandsOn a.content level) (extent : Extent) (place : extent.place ≡ data_place level)
+    (size : extent.bytes ≡ data_bytes level.terms) (below : extent.place + extent.bytes < 2 ^ 64) (bytes : List ℕ) (read : tells → bytes ≡ bytes_at extent a.content)
+    (result : Result Content JoinFault) (found : IfOk result (λ content. IsSegment (tables_bytes level.documents level.terms ++ bytes) content))
+    (first : IfDamaged result (IsFaultInLists level.documents level.terms bytes (data_place level))) where
+  told_bytes : tells → AreBytes a.content
+  told_bytes told = lawful.bytes a.clock a.content (lawful.counts_now a.clock a.content (omega arith) (lawful.present told))
+
+  told_read : tells → bytes ≡ part (data_place level) (data_bytes level.terms) a.content
+  told_read told = read told ∙ ap₂ (λ (p n : ℕ). part p n a.content) place size
+
+  pub call_tells : ((b : List ℕ) → (c d : Content) → AreBytes b → length b < 2 ^ 64 → IsSegment b c → IsSegment b d → c ≡ d)
+      → ((b : List ℕ) → (p q : ℕ) → (c : Content) → AreBytes b → length b < 2 ^ 64 → IsSegment b c → IsSegmentFault b p q → ⊥)
+      → ((b : List ℕ) → (p q r : ℕ) → AreBytes b → length b < 2 ^ 64 → IsSegmentFault b p q → IsSegmentFault b p r → q ≡ r) → tells → TellsOne {X = Content} (λ x. x) a.content level result
+  call_tells once apart alone told =
+      let are = told_bytes told in
+      let b = bytes_at (extent_of level) a.content in
+      let fit = segment_bytes level a.content are (stands told) in
+      let small : length b < 2 ^ 64 = omega (arith, segment_size level a.content are (stands told), below, place, size) in
+      tells_one level a.content are (stands told) bytes (told_read told) result found first (λ x y. once b x y fit small) (λ x p. apart b level.place p x fit small) (λ p q. alone b level.place p q fit small)
+
+  pub call_broken : tells → IfDamaged result (IsBrokenIn level a.content)
+  call_broken told = tells_broken level a.content (told_bytes told) (stands told) bytes (told_read told) result found first

@@ -1,6 +1,7 @@
 -- Levels that are read one after the other.
 use Rattle.std.proofs.Common.{◌≡◌, ◌⊎◌, inl, inr, ℕ, suc, ◌+◌, ◌<◌, ◌≤◌, List, [], ◌∷◌, ◌++◌, length, take, drop, drop-cons, get_or, refl, sym, subst, ap, ◌∙◌, arith, take-append-drop}
-use Rattle.std.proofs.lemmas.List.{take_more}
+use Rattle.std.proofs.lemmas.List.{append-nil, take_more}
+use Rattle.alta_joins.proofs.RowSteps.{drop-all}
 use Rattle.std.proofs.lemmas.List.Elements.{Contains-get_or}
 use Rattle.std.proofs.lemmas.List.Sums.{sum_by_more_le, sum_by_push}
 use Rattle.std.specs.Prelude.{Result, Ok, Err, IfOk, Contains}
@@ -123,6 +124,10 @@ pub record Run (tells : Type 0) (levels : List Tables) (contents : List Content)
 
 pub run_none : (tells : Type 0) (s : DiskState) → IsLawful tells s → Run tells [] [] s s
 run_none tells s lawful = record { told = λ t. told_none s.content; kept = tt; reads = reads_none tells s lawful }
+
+-- all levels were read
+pub all_of : (levels : List Tables) (i : ℕ) → length levels ≤ i → take i levels ≡ levels
+all_of levels i le = sym (append-nil (take i levels)) ∙ ap (λ (ls : List Tables). take i levels ++ ls) (sym (drop-all i levels le)) ∙ take-append-drop i levels
 
 module _ (tells : Type 0) (levels : List Tables) (i : ℕ) (level : Tables) (inside : i < length levels) (is : level ≡ get_or levels i level) (contents : List Content) (old mid new : DiskState)
     (run : Run tells (take i levels) contents old mid) (reads : Reads tells (data_size level) mid new) where
