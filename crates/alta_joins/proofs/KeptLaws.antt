@@ -14,6 +14,8 @@ use Rattle.alta_content.specs.declared.content.Content.{Content}
 use Rattle.alta_content.specs.declared.content.TermList.{TermList}
 use Rattle.alta_content.specs.declared.document.DocRow.{DocRow}
 use Rattle.alta_content.proofs.Documents.{states_kept}
+use Rattle.alta_content.proofs.Folds.{join_of_join}
+use Rattle.alta_content.proofs.Kept.{join_may_join}
 use Rattle.alta_images.specs.Entries.{AllowsAll, after_entry}
 use Rattle.alta_images.specs.Holding.{Holding, IsHeld, IsSpaced, IsWell, all_rows}
 use Rattle.alta_images.specs.Joining.{content_of, joined_in}
@@ -38,10 +40,11 @@ use Rattle.alta_journal.specs.declared.entry.Entry.{Entry}
 use Rattle.alta_journal.specs.declared.entry.Entry.TheVariants.{Add, Delete}
 use Rattle.alta_journal.proofs.Spelling.{add_long}
 use Rattle.alta_level.specs.Segments.{IsSegment}
-use Rattle.alta_memlevel.specs.Added.{Added, HasContent, IsSpace}
+use Rattle.alta_memlevel.specs.Added.{Added, HasContent, IsSpace, live_of}
 use Rattle.alta_memlevel.specs.Documents.{AreAdded, AreMade, IsBefore, IsFrom, IsMade}
 use Rattle.alta_memlevel.proofs.Behind.{may_join_behind}
 use Rattle.alta_memlevel.proofs.Cells.{cells_few, cells_long}
+use Rattle.alta_memlevel.proofs.Live.{live_joined}
 use Rattle.alta_memlevel.proofs.One as one
 use Rattle.alta_meta.specs.Cells.{cells_of}
 use Rattle.alta_meta.specs.declared.document.Document.{Document}
@@ -71,6 +74,30 @@ joins_keep contents may = λ dead deleted all.
     ∙ sym (map_rows join.lists (live_rows deleted join.documents))
     ∙ ap (map document_with) (states_kept contents dead deleted may all)
     ∙ map_contents deleted contents
+
+-- ---- joins of joins
+
+pub fold_beside : (before middle after : List Content) (dead : List ℕ) → MayJoin (before ++ (middle ++ after)) → MayJoin (before ++ joined_in middle dead ∷ after)
+fold_beside before middle after dead may =
+    subst (λ (c : Content). MayJoin (before ++ c ∷ after)) (sym (joined-same middle dead)) (join_may_join before middle after dead may)
+
+pub fold_same : (before middle after : List Content) (dead : List ℕ) → MayJoin (before ++ (middle ++ after)) → joined_in (before ++ joined_in middle dead ∷ after) dead ≡ joined_in (before ++ (middle ++ after)) dead
+fold_same before middle after dead may =
+    ap (λ (c : Content). joined_in (before ++ c ∷ after) dead) (joined-same middle dead) ∙ joined-same (before ++ content_join middle dead ∷ after) dead
+    ∙ join_of_join before middle after dead may ∙ sym (joined-same (before ++ (middle ++ after)) dead)
+
+module _ (contents : List Content) (added : List Added) (gone : List ℕ) (space : IsSpace added) (may : MayJoin (contents ++ content_of added ∷ [])) where
+  -- the content without the gone documents is the join of the one content without them
+  live_is : content_of (live_of gone added) ≡ joined_in (content_of added ∷ []) gone
+  live_is =
+      content_of-same (live_of gone added) ∙ live_joined added gone space
+      ∙ ap (λ (c : Content). content_join (c ∷ []) gone) (sym (content_of-same added)) ∙ sym (joined-same (content_of added ∷ []) gone)
+
+  pub live_may_join : MayJoin (contents ++ content_of (live_of gone added) ∷ [])
+  live_may_join = subst (λ (c : Content). MayJoin (contents ++ c ∷ [])) (sym live_is) (fold_beside contents (content_of added ∷ []) [] gone may)
+
+  pub live_same : joined_in (contents ++ content_of (live_of gone added) ∷ []) gone ≡ joined_in (contents ++ content_of added ∷ []) gone
+  live_same = ap (λ (c : Content). joined_in (contents ++ c ∷ []) gone) live_is ∙ fold_same contents (content_of added ∷ []) [] gone may
 
 -- ---- the documents that entries add
 

@@ -7,6 +7,7 @@ use Rattle.alta_codec.proofs.ByteLaws.{AreBytes-drop, AreBytes-take}
 use Rattle.alta_codec.specs.Bytes.{AreBytes}
 use Rattle.alta_codec.specs.declared.extent.Extent.{Extent}
 use Rattle.alta_content.specs.declared.content.Content.{Content}
+use Rattle.alta_images.specs.Broken.{HasLevels}
 use Rattle.alta_images.specs.Chain.{◌>>=◌}
 use Rattle.alta_images.specs.Known.{Named}
 use Rattle.alta_images.specs.Levels.{Level}
@@ -20,6 +21,7 @@ use Rattle.alta_level.specs.Segments.{IsSegment}
 use Rattle.alta_opening.specs.Extents.{extent_of}
 use Rattle.alta_root.specs.Root.{AreLevels as AreExtents}
 use Rattle.alta_root.specs.declared.root.Root.{Root}
+use Rattle.alta_root.specs.declared.slot.Slot.{Slot}
 use Rattle.alta_root.proofs.Frames.{counts_sound}
 use Rattle.alta_table.specs.Tables.{AreTables, Tables, tables_of, total_of}
 use Rattle.alta_table.proofs.FrontLaws.{whole_has_parts}
@@ -116,11 +118,18 @@ all_laid size before (e ∷ es) (t ∷ ts) image are is (own, sound) (found, rea
       extents_are = ap (λ (x : Extent). x ∷ map extent_of ts) first.extent_is ∙ ap (λ (xs : List Extent). e ∷ xs) rest.extents_are;
     }
 
+found_laid : (slot : Slot) (root : Root) (deleted : List ℕ) (levels : List Tables) (image : List ℕ) → AreBytes image → HasLevels slot root deleted levels image → AreLaid root.levels.items levels image
+found_laid slot root deleted levels image are has =
+    let read = was_read root deleted [] root.levels.items image levels has.tables in
+    subst (λ (ts : List Tables). AreLaid root.levels.items ts image) (sym read.final_is)
+    (all_laid (length image) (root.deletions ∷ []) root.levels.items read.more image are refl (counts_sound slot root image has.counts).levels read.read)
+
+pub found_stand : (slot : Slot) (root : Root) (deleted : List ℕ) (levels : List Tables) (image : List ℕ) → AreBytes image → HasLevels slot root deleted levels image → All (StandsOn image) levels
+found_stand slot root deleted levels image are has = (found_laid slot root deleted levels image are has).stand
+
 opened_laid : (o : Opened) (image : List ℕ) → AreBytes image → IsOpened o image → AreLaid o.root.levels.items o.levels image
 opened_laid o image are opened =
-    let read = was_read o.root o.deleted [] o.root.levels.items image o.levels opened.named.tables in
-    subst (λ (ts : List Tables). AreLaid o.root.levels.items ts image) (sym read.final_is)
-    (all_laid (length image) (o.root.deletions ∷ []) o.root.levels.items read.more image are refl (counts_sound o.slot o.root image opened.counts).levels read.read)
+    found_laid o.slot o.root o.deleted o.levels image are (record { counts = opened.counts; list = opened.named.list; tables = opened.named.tables })
 
 pub opened_stand : (o : Opened) (image : List ℕ) → AreBytes image → IsOpened o image → All (StandsOn image) o.levels
 opened_stand o image are opened = (opened_laid o image are opened).stand

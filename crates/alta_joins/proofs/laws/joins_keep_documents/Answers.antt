@@ -1,20 +1,14 @@
-use Rattle.alta_joins.proofs.KeptLaws.{all_join, held_added, held_is_spaced, held_joins, joins_keep, oldest_join}
+use Rattle.alta_joins.proofs.KeptLaws.{fold_beside, fold_same, joins_keep, live_may_join, live_same}
 use Rattle.alta_joins.proofs.laws.joins_keep_documents.Goals as goal
 
 pub returns-clause-keep : goal.returns-clause-keep
 returns-clause-keep c = λ contents may. joins_keep contents may
 
-pub returns-clause-added : goal.returns-clause-added
-returns-clause-added c = λ held image is. held_added held image is
+pub returns-clause-beside : goal.returns-clause-beside
+returns-clause-beside c = λ before middle after dead may. fold_beside before middle after dead may
 
-pub returns-clause-spaced : goal.returns-clause-spaced
-returns-clause-spaced c = λ held image is. held_is_spaced held image is
+pub returns-clause-folds : goal.returns-clause-folds
+returns-clause-folds c = λ before middle after dead may. fold_same before middle after dead may
 
-pub returns-clause-oldest : goal.returns-clause-oldest
-returns-clause-oldest c = λ held image is. oldest_join held image is
-
-pub returns-clause-all : goal.returns-clause-all
-returns-clause-all c = λ held image is. all_join held image is
-
-pub returns-clause-joins : goal.returns-clause-joins
-returns-clause-joins c = λ held image is well. held_joins held image is well
+pub returns-clause-live : goal.returns-clause-live
+returns-clause-live c = λ contents added gone space may. (live_may_join contents added gone space may, live_same contents added gone space may)

@@ -1,5 +1,8 @@
-use Rattle.alta_joins.proofs.OpenedLaws.{levels_segments, opened_stand, read_levels_are, with_contents}
+use Rattle.alta_joins.proofs.OpenedLaws.{found_stand, levels_segments, opened_stand, read_levels_are, with_contents}
 use Rattle.alta_joins.proofs.laws.read_levels_are_opened.Goals as goal
+
+pub returns-clause-found : goal.returns-clause-found
+returns-clause-found c = λ slot root deleted levels image are has. found_stand slot root deleted levels image are has
 
 pub returns-clause-stand : goal.returns-clause-stand
 returns-clause-stand c = λ o image are opened. opened_stand o image are opened
