@@ -25,7 +25,7 @@ use Rattle.alta_level.specs.Damage.IsSegmentFault.{in_lists}
 use Rattle.alta_level.specs.Segments.{IsSegment, rows_of}
 use Rattle.alta_level.specs.Stored.{IsListFault, Stored}
 use Rattle.alta_level.proofs.Spelled.{lists_spell, segment_found}
-use Rattle.alta_opening.specs.Extents.{extent_of}
+use Rattle.alta_joins.specs.Contents.{extent_of}
 use Rattle.alta_table.specs.Tables.{AreTables, KeepRules, Tables, tables_bytes, tables_of, total_of}
 use Rattle.alta_table.specs.Terms.{data_bytes, data_of}
 use Rattle.alta_table.specs.declared.term.TermRow.{TermRow}

@@ -16,7 +16,7 @@ use Rattle.alta_joins.specs.Contents.{AreContentsOf, AreSegmentsOn, IsContentOf,
 use Rattle.alta_joins.specs.Damages.{IsDamageOn, IsFirstDamage, Tells}
 use Rattle.alta_joins.specs.declared.fault.JoinFault.{JoinFault}
 use Rattle.alta_joins.specs.declared.fault.JoinFault.TheVariants as faults
-use Rattle.alta_opening.proofs.DiskReads.{reads_none, reads_then, reads_within}
+use Rattle.alta_joins.proofs.DiskReads.{reads_none, reads_then, reads_within}
 use Rattle.alta_table.specs.Tables.{Tables}
 
 -- ---- one level more

@@ -1,4 +1,5 @@
 pub mod DataLaws
+pub mod DiskReads
 pub mod FaultLaws
 pub mod JobLaws
 pub mod KeptLaws

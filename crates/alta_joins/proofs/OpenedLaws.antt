@@ -18,7 +18,7 @@ use Rattle.alta_images.proofs.Steps.{not_failed, one_value}
 use Rattle.alta_images.proofs.Tests.{by_test}
 use Rattle.alta_joins.specs.Contents.{AreContentsOf, AreSegmentsOn, IsSegmentOn, StandsOn, level_with, levels_with}
 use Rattle.alta_level.specs.Segments.{IsSegment}
-use Rattle.alta_opening.specs.Extents.{extent_of}
+use Rattle.alta_joins.specs.Contents.{extent_of}
 use Rattle.alta_root.specs.Root.{AreLevels as AreExtents}
 use Rattle.alta_root.specs.declared.root.Root.{Root}
 use Rattle.alta_root.specs.declared.slot.Slot.{Slot}

@@ -6,7 +6,7 @@ use Rattle.alta_joins.specs.Answers.{IfDamaged, IsDamaged, IsFound}
 use Rattle.alta_joins.specs.Contents.{AreSegmentsOn, IsSegmentOn}
 use Rattle.alta_joins.specs.declared.fault.JoinFault.{JoinFault}
 use Rattle.alta_level.specs.Damage.{IsSegmentFault}
-use Rattle.alta_opening.specs.Extents.{extent_of}
+use Rattle.alta_joins.specs.Contents.{extent_of}
 use Rattle.alta_table.specs.Tables.{Tables}
 
 -- the segment of the level on an image has its first damage at a place
