@@ -1,12 +1,11 @@
 -- The segment of a level on an image: its tables, and behind them the lists that are read.
-use Rattle.std.proofs.Common.{◌≡◌, ◌⊎◌, inl, inr, ℕ, ◌+◌, ◌-◌, ◌≤◌, List, [], ◌∷◌, ◌++◌, length, take, drop, refl, sym, subst, ap, ap₂, ◌∙◌, ◌<◌, ◌^◌, Ok, arith, length-append, length-drop}
+use Rattle.std.proofs.Common.{◌≡◌, inl, inr, ℕ, ◌+◌, ◌-◌, ◌≤◌, List, [], ◌∷◌, ◌++◌, length, take, drop, refl, sym, subst, ap, ap₂, ◌∙◌, ◌<◌, ◌^◌, arith, length-append, length-drop}
 use Rattle.std.proofs.Math.Seq.{drop-append_seam}
 use Rattle.std.proofs.lemmas.List.{drop-drop, drop-take, length-take, take-take}
 use Rattle.std.proofs.lemmas.List.Sums.{sum_by-cons}
 use Rattle.alta_codec.proofs.ByteLaws.{AreBytes-drop, AreBytes-take}
 use Rattle.alta_codec.specs.Bytes.{AreBytes}
 use Rattle.alta_content.specs.declared.content.Content.{Content}
-use Rattle.alta_content.specs.declared.content.TermList.{TermList}
 use Rattle.alta_content.specs.declared.document.DocRow.{DocRow}
 use Rattle.alta_codec.specs.declared.extent.Extent.{Extent}
 use Rattle.alta_disk.specs.Disk.{DiskState, IsLawful}
@@ -18,14 +17,13 @@ use Rattle.alta_joins.specs.Answers.{IfDamaged}
 use Rattle.alta_joins.specs.declared.fault.JoinFault.{JoinFault}
 use Rattle.alta_joins.proofs.FaultLaws.{damaged_goes, damaged_of, ok_goes, only_of}
 use Rattle.alta_joins.proofs.LevelRuns.{TellsOne}
-use Rattle.alta_joins.specs.Contents.{IsContentOf, IsSegmentOn, StandsOn, level_with}
+use Rattle.alta_joins.specs.Contents.{IsContentOf, IsSegmentOn, StandsOn, extent_of}
 use Rattle.alta_joins.specs.Damages.{IsDamageOn}
 use Rattle.alta_level.specs.Damage.{AreListsOf, IsFaultInLists, IsSegmentFault, data_in, data_place, stored_at}
 use Rattle.alta_level.specs.Damage.IsSegmentFault.{in_lists}
 use Rattle.alta_level.specs.Segments.{IsSegment, rows_of}
 use Rattle.alta_level.specs.Stored.{IsListFault, Stored}
 use Rattle.alta_level.proofs.Spelled.{lists_spell, segment_found}
-use Rattle.alta_joins.specs.Contents.{extent_of}
 use Rattle.alta_table.specs.Tables.{AreTables, KeepRules, Tables, tables_bytes, tables_of, total_of}
 use Rattle.alta_table.specs.Terms.{data_bytes, data_of}
 use Rattle.alta_table.specs.declared.term.TermRow.{TermRow}

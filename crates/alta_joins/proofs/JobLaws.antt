@@ -1,13 +1,13 @@
 -- A join that goes on is that of a store's job.
-use Rattle.std.proofs.Common.{◌≡◌, ℕ, suc, zero, ◌+◌, ◌-◌, ◌<◌, ◌≤◌, Bool, true, false, List, [], ◌∷◌, length, drop, refl, sym, subst, ap, ◌∙◌, arith, length-drop}
-use Rattle.std.specs.Prelude.{nat_le, ◌↔◌, IfOk, IsTrue, OnErr, OnOk, Result, Ok, Err}
+use Rattle.std.proofs.Common.{◌≡◌, ℕ, ◌+◌, ◌-◌, ◌<◌, Bool, true, false, List, [], ◌∷◌, length, drop, refl, sym, ap, ◌∙◌, arith, length-drop}
+use Rattle.std.specs.Prelude.{nat_le, ◌↔◌, IfOk, IsTrue, OnOk, Result, Ok, Err}
 use Rattle.std.specs.declared.alloc.AllocError.{AllocError}
-use Rattle.std.proofs.lemmas.Bool.{cases_Bool, leb-true, le-leb, true≢false, false≢true}
+use Rattle.std.proofs.lemmas.Bool.{leb-true, le-leb, false≢true}
 use Rattle.std.proofs.lemmas.List.{drop-drop}
 use Rattle.alta_content.specs.declared.content.Content.{Content}
 use Rattle.alta_content.specs.Joining.{joined as content_joined, terms_in as content_terms}
 use Rattle.alta_images.specs.Joining.{terms_in}
-use Rattle.alta_images.specs.Work.{Job, whole_of}
+use Rattle.alta_images.specs.Work.{Job}
 use Rattle.alta_joins.specs.Jobs.{IsMerging, begun_job, moved_by}
 use Rattle.alta_joins.proofs.RowSteps.{drop-all}
 use Rattle.alta_joins.proofs.SameWords.{joined-same, terms-same}

@@ -1,15 +1,13 @@
 -- Joins of the contents of levels and of the newest documents keep documents.
 use Rattle.std.proofs.Common.{◌≡◌, inl, ℕ, ◌+◌, ◌-◌, ◌*◌, ◌<◌, ◌≤◌, List, [], ◌∷◌, ◌++◌, length, map, take, drop, refl, sym, subst, ap, ◌∙◌, arith, take-append-drop, Ok}
-use Rattle.std.specs.Prelude.{true}
 use Rattle.std.specs.List.{All, flat_map}
 use Rattle.std.proofs.lemmas.Grind.{flat_map-append}
 use Rattle.std.proofs.lemmas.List.{map-append}
 use Rattle.std.proofs.lemmas.List.Elements.{All-nil, All-cons, All-head, All-tail, All-map, All-weaker}
-use Rattle.alta_codec.specs.Name.{IsName}
 use Rattle.alta_content.specs.Cells.{with_cells}
 use Rattle.alta_content.specs.Joining.{joined_in as content_join}
 use Rattle.alta_content.specs.Parts.{IsPart, MayJoin}
-use Rattle.alta_content.specs.Rows.{end_of, ends_among, live_rows}
+use Rattle.alta_content.specs.Rows.{end_of, live_rows}
 use Rattle.alta_content.specs.declared.content.Content.{Content}
 use Rattle.alta_content.specs.declared.content.TermList.{TermList}
 use Rattle.alta_content.specs.declared.document.DocRow.{DocRow}
@@ -17,16 +15,16 @@ use Rattle.alta_content.proofs.Documents.{states_kept}
 use Rattle.alta_content.proofs.Folds.{join_of_join}
 use Rattle.alta_content.proofs.Kept.{join_may_join}
 use Rattle.alta_images.specs.Entries.{AllowsAll, after_entry}
-use Rattle.alta_images.specs.Holding.{Holding, IsHeld, IsSpaced, IsWell, all_rows}
+use Rattle.alta_images.specs.Holding.{Holding, IsHeld, IsSpaced, IsWell}
 use Rattle.alta_images.specs.Joining.{content_of, joined_in}
 use Rattle.alta_images.specs.Known.{Known, replayed}
 use Rattle.alta_images.specs.Levels.{Level, document_of}
 use Rattle.alta_images.specs.Opened.{Opened, IsNamed, bytes_at, journal_of}
 use Rattle.alta_images.specs.Ordered.{RowsRise}
-use Rattle.alta_images.specs.Standing.{AreLevels, tables_by, view_of}
+use Rattle.alta_images.specs.Standing.{AreLevels, view_of}
 use Rattle.alta_images.specs.Views.{View, rooted}
 use Rattle.alta_images.specs.Work.{added_at, added_from, newest, rows_in as level_rows}
-use Rattle.alta_images.specs.Working.{AreJoins, JoinsKeep, all_contents, documents_in, oldest_contents, rows_of}
+use Rattle.alta_images.specs.Working.{AreJoins, JoinsKeep, all_contents, documents_in, oldest_contents}
 use Rattle.alta_images.proofs.KeptStates.{added_behind, added_high, contents_of, rows_by_levels}
 use Rattle.alta_images.proofs.KnownLaws.{all_both, all_weaker, allows_replayed}
 use Rattle.alta_images.proofs.MergeLaws.{joins_are}

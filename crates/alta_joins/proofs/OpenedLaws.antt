@@ -1,5 +1,5 @@
 -- Tables that were opened stand on the image, and with contents that were read they are the levels of what is opened.
-use Rattle.std.proofs.Common.{◌≡◌, ℕ, ◌+◌, ◌≤◌, true, List, [], ◌∷◌, ◌++◌, length, map, take, drop, refl, sym, subst, ap, ap₂, ◌∙◌, arith, Result, Ok, Err, append_assoc, length-drop}
+use Rattle.std.proofs.Common.{◌≡◌, ℕ, ◌+◌, ◌≤◌, true, List, [], ◌∷◌, ◌++◌, length, map, drop, refl, sym, subst, ap, ap₂, ◌∙◌, arith, Result, Ok, Err, append_assoc, length-drop}
 use Rattle.std.specs.List.{All}
 use Rattle.std.proofs.lemmas.List.{append-nil, length-take}
 use Rattle.std.proofs.lemmas.List.Elements.{All-nil, All-cons, All-head, All-tail}
@@ -8,7 +8,6 @@ use Rattle.alta_codec.specs.Bytes.{AreBytes}
 use Rattle.alta_codec.specs.declared.extent.Extent.{Extent}
 use Rattle.alta_content.specs.declared.content.Content.{Content}
 use Rattle.alta_images.specs.Broken.{HasLevels}
-use Rattle.alta_images.specs.Chain.{◌>>=◌}
 use Rattle.alta_images.specs.Known.{Named}
 use Rattle.alta_images.specs.Levels.{Level}
 use Rattle.alta_images.specs.Opened.{Opened, IsOpened, are_in_order, bytes_at, levels_from, names_in, tables_at, with_level}
@@ -16,14 +15,13 @@ use Rattle.alta_images.specs.Standing.{AreLevels, tables_by}
 use Rattle.alta_images.proofs.OrderLaws.{first_of_levels}
 use Rattle.alta_images.proofs.Steps.{not_failed, one_value}
 use Rattle.alta_images.proofs.Tests.{by_test}
-use Rattle.alta_joins.specs.Contents.{AreContentsOf, AreSegmentsOn, IsSegmentOn, StandsOn, level_with, levels_with}
+use Rattle.alta_joins.specs.Contents.{AreContentsOf, AreSegmentsOn, StandsOn, level_with, levels_with, extent_of}
 use Rattle.alta_level.specs.Segments.{IsSegment}
-use Rattle.alta_joins.specs.Contents.{extent_of}
 use Rattle.alta_root.specs.Root.{AreLevels as AreExtents}
 use Rattle.alta_root.specs.declared.root.Root.{Root}
 use Rattle.alta_root.specs.declared.slot.Slot.{Slot}
 use Rattle.alta_root.proofs.Frames.{counts_sound}
-use Rattle.alta_table.specs.Tables.{AreTables, Tables, tables_of, total_of}
+use Rattle.alta_table.specs.Tables.{AreTables, Tables}
 use Rattle.alta_table.proofs.FrontLaws.{whole_has_parts}
 use Rattle.alta_table.proofs.TableLaws.{tables_are}
 

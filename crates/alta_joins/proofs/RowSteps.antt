@@ -1,12 +1,12 @@
 -- The rows of a term table, one after the other, and the bytes of their lists.
-use Rattle.std.proofs.Common.{◌≡◌, ℕ, zero, suc, ◌+◌, ◌-◌, ◌<◌, ◌≤◌, List, [], ◌∷◌, length, take, drop, get_or, refl, sym, subst, ap, ◌∙◌, arith, length-drop}
-use Rattle.std.specs.List.{list_any, sum_by}
+use Rattle.std.proofs.Common.{◌≡◌, ℕ, zero, suc, ◌+◌, ◌<◌, ◌≤◌, List, [], ◌∷◌, length, take, drop, get_or, refl, sym, subst, ap, ◌∙◌, arith, length-drop}
+use Rattle.std.specs.List.{sum_by}
 use Rattle.std.proofs.lemmas.Bool.{true≢false}
-use Rattle.std.proofs.lemmas.List.Sums.{sum_by-cons, sum_by_more}
+use Rattle.std.proofs.lemmas.List.Sums.{sum_by-cons}
 use Rattle.alta_content.specs.declared.content.TermList.{TermList}
 use Rattle.alta_content.specs.declared.document.DocRow.{DocRow}
 use Rattle.alta_level.proofs.Progress.{Progress}
-use Rattle.alta_table.specs.Terms.{HasEnd, counts_of, data_bytes, data_of, is_end, streams_of, summaries_of, terms_of}
+use Rattle.alta_table.specs.Terms.{HasEnd, counts_of, data_bytes, data_of, streams_of, summaries_of, terms_of}
 use Rattle.alta_table.specs.declared.term.TermRow.{TermRow}
 
 -- row i of these

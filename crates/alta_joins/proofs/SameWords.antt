@@ -4,7 +4,7 @@ use Rattle.std.specs.Cmp.Lexicographic.{slice_cmp}
 use Rattle.std.specs.List.{flat_map}
 use Rattle.std.specs.Ordering.{match_ordering, nat_cmp}
 use Rattle.std.proofs.lemmas.List.Folds.{flat_map-map}
-use Rattle.alta_content.specs.Cells.{cell_at, cells_at, locations_from as content_locations, with_cells}
+use Rattle.alta_content.specs.Cells.{cell_at, locations_from as content_locations, with_cells}
 use Rattle.alta_content.specs.Joining.{in_order as content_order, joined_in as content_join, locations_among, parts_of, terms_in as content_terms, with_term as content_with}
 use Rattle.alta_content.specs.Lists.{locations_of, terms_of}
 use Rattle.alta_content.specs.Rows.{live_rows}

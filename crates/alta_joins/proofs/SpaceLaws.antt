@@ -1,21 +1,18 @@
 -- Contents whose rows rise may be joined, and so may those of levels and of the newest documents behind them.
-use Rattle.std.proofs.Common.{◌≡◌, ◌⊎◌, inl, inr, ⊎_elim, ℕ, ◌+◌, ◌-◌, ◌*◌, ◌<◌, ◌≤◌, List, [], ◌∷◌, ◌++◌, length, map, take, drop, refl, sym, subst, ap, ◌∙◌, arith, take-append-drop, Ok}
-use Rattle.std.specs.List.{All, flat_map}
-use Rattle.std.proofs.lemmas.Grind.{flat_map-append}
-use Rattle.std.proofs.lemmas.List.Elements.{All-nil, All-cons, All-head, All-tail, All-append, All-map, All-weaker}
+use Rattle.std.proofs.Common.{◌≡◌, inl, inr, ◌<◌, ◌≤◌, List, [], ◌∷◌, ◌++◌, refl, sym, subst, ap, ◌∙◌, arith}
+use Rattle.std.specs.List.{All}
+use Rattle.std.proofs.lemmas.List.Elements.{All-nil, All-cons, All-head, All-tail, All-append, All-weaker}
 use Rattle.alta_content.specs.Joining.{rows_in}
-use Rattle.alta_content.specs.Lists.{IsContent}
 use Rattle.alta_content.specs.Parts.{IsPart, MayJoin}
 use Rattle.alta_content.specs.Rows.{AreDocuments, AreDocumentsBehind, Before, behind_row, end_of, start}
 use Rattle.alta_content.specs.declared.content.Content.{Content}
 use Rattle.alta_content.specs.declared.document.DocRow.{DocRow}
 use Rattle.alta_codec.specs.Name.{IsName}
 use Rattle.alta_codec.specs.declared.location.TheConstants.{TOP}
-use Rattle.alta_images.specs.Levels.{Level}
 use Rattle.alta_images.specs.Opened.{rows_in as table_rows}
 use Rattle.alta_images.specs.Ordered.{Precedes, RowsRise}
-use Rattle.alta_images.proofs.WrittenLaws.{all_left, all_right}
-use Rattle.alta_joins.specs.Contents.{AreContentsOf, IsContentOf}
+use Rattle.alta_images.proofs.WrittenLaws.{all_left}
+use Rattle.alta_joins.specs.Contents.{AreContentsOf}
 use Rattle.alta_table.specs.Tables.{Tables}
 
 -- ---- rows that keep the rules, and rise

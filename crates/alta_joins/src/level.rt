@@ -32,11 +32,7 @@ use std::alloc::{AllocError, Global};
 ///
 /// `Damaged` exactly where a list of the level has a fault, at the place of the first fault of the first list that has one. `Disk`
 /// where the read failed. `Memory` where there was no memory.
-pub fn read_level<D: Disk>(
-    alloc: Global,
-    disk: &mut D,
-    level: &Table,
-) -> Result<Content, JoinFault>
+pub fn read_level<D: Disk>(alloc: Global, disk: &mut D, level: &Table) -> Result<Content, JoinFault>
     requires { D.tells → StandsOn (D.state disk.old).content level.now }
     // What is read is the content of the segment that stands there, and if there is one it is read.
     ensures segment { D.tells → IfOk result (IsSegmentOn (D.state disk.old).content level.now) }
@@ -79,11 +75,7 @@ fn data_extent(level: &Table) -> Result<Extent, JoinFault>
 }
 
 // The bytes of an extent.
-fn read_part<D: Disk>(
-    alloc: Global,
-    disk: &mut D,
-    extent: Extent,
-) -> Result<Vec<u8>, JoinFault>
+fn read_part<D: Disk>(alloc: Global, disk: &mut D, extent: Extent) -> Result<Vec<u8>, JoinFault>
     requires { D.tells → extent.place + extent.bytes ≤ length (D.state disk.old).content }
     ensures read { D.tells → IfOk result (λ bytes. bytes.items ≡ bytes_at extent (D.state disk.old).content) }
     ensures long { IfOk result (λ bytes. length bytes.items ≡ extent.bytes) }
@@ -104,12 +96,7 @@ fn zeros(alloc: Global, n: usize) -> Result<Vec<u8>, AllocError>
 }
 
 // The content of a level, whose lists stand in these bytes behind its tables.
-fn content_in(
-    alloc: Global,
-    level: &Table,
-    bytes: &[u8],
-    place: u64,
-) -> Result<Content, JoinFault>
+fn content_in(alloc: Global, level: &Table, bytes: &[u8], place: u64) -> Result<Content, JoinFault>
     requires long { length bytes.now ≡ data_bytes level.now.terms }
     requires place { place ≡ data_place level.now }
     requires below { place + length bytes.now < 2 ^ 64 }

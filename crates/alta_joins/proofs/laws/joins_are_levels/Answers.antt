@@ -1,8 +1,8 @@
-use Rattle.std.proofs.Common.{◌≡◌, ◌<◌, inl, inr, length, ℕ, List, sym, ap, subst, arith}
+use Rattle.std.proofs.Common.{◌<◌, inl, inr, length, ℕ, List, sym, ap, subst, arith}
 use Rattle.std.specs.Prelude.{not}
 use Rattle.std.proofs.lemmas.List.Elements.{All-filter}
 use Rattle.alta_content.specs.Lists.{IsContent}
-use Rattle.alta_content.specs.Parts.{IsEmpty, IsPart, MayJoin}
+use Rattle.alta_content.specs.Parts.{IsPart, MayJoin}
 use Rattle.alta_content.specs.Rows.{end_of, ends_among}
 use Rattle.alta_content.specs.declared.content.Content.{Content}
 use Rattle.alta_content.specs.declared.document.DocRow.{DocRow}

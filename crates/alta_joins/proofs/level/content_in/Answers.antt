@@ -1,7 +1,6 @@
 use Rattle.std.proofs.Common.{◌≡◌, ℕ, List, sym, subst, ◌∙◌}
 use Rattle.alta_content.specs.declared.content.Content.{Content}
 use Rattle.alta_content.specs.declared.content.TermList.{TermList}
-use Rattle.alta_content.specs.declared.document.DocRow.{DocRow}
 use Rattle.alta_level.specs.Damage.{AreListsOf, data_place}
 use Rattle.alta_table.specs.Tables.{Tables}
 use Rattle.alta_joins.proofs.DataLaws.{content_kept, content_segment}

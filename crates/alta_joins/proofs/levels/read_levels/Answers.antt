@@ -1,4 +1,4 @@
-use Rattle.std.proofs.Common.{List, ℕ, Vec, Global, take, sym, subst, arith, Ok, Err}
+use Rattle.std.proofs.Common.{List, ℕ, Vec, Global, sym, subst, arith}
 use Rattle.std.proofs.lemmas.List.Elements.{All-get_or}
 use Rattle.alta_content.specs.declared.content.Content.{Content}
 use Rattle.alta_joins.specs.Contents.{AreContentsOf, StandsOn}
@@ -47,6 +47,6 @@ loop-level-preserved g c =
     (λ t. record { segment = c.in-Ok.ensures.segment t; only = c.in-Ok.ensures.only t; first = c.in-Ok.ensures.first t; damaged = c.in-Ok.ensures.damaged t }) c.in-Ok.ensures.kept
 
 pub returns-clause-joined : goal.returns-clause-joined
-returns-clause-joined g c = λ rows. 
+returns-clause-joined g c = λ rows.
     contents_join c.args.levels.now c.loop-level.contents.items
     (subst (λ (ls : List Tables). AreContentsOf ls c.loop-level.contents.items) (all_of c.args.levels.now c.loop-level.level-index (omega arith)) c.loop-level.invariant.kept) rows
