@@ -4,7 +4,10 @@ ghost use Rattle.alta_content.specs.Parts.{IsPart, MayJoin};
 
 use alta_content::Content;
 use alta_disk::MemoryDisk;
-use alta_joins::{JoinFault, begin_job, finish_job, join_levels, joins_are_levels, read_levels, read_levels_are_opened, step_job};
+use alta_joins::{
+    JoinFault, begin_job, finish_job, join_levels, joins_are_levels, read_levels,
+    read_levels_are_opened, step_job,
+};
 use alta_level::build;
 use alta_merge::may_join;
 use alta_opening::open_levels;
@@ -47,12 +50,8 @@ fn put_at(image: &mut [u8], place: usize, bytes: &[u8]) {
     }
 }
 
-// The disk with these bytes changed, whose calls with these numbers, from 1, fail.
-fn disk_of(
-    alloc: Global,
-    changes: &[(usize, u8)],
-    fail: Vec<u64>,
-) -> Result<MemoryDisk, AllocError> {
+// The disk with these bytes changed.
+fn image_of(alloc: Global, changes: &[(usize, u8)]) -> Result<Vec<u8>, AllocError> {
     let mut image = vec![in alloc; 0u8; SIZE as usize]?;
     put_at(&mut image, 0, ROOT);
     put_at(&mut image, 40, LEVELS);
@@ -61,19 +60,16 @@ fn disk_of(
     for (place, byte) in changes {
         put_at(&mut image, *place, &[*byte]);
     }
-    Ok(MemoryDisk::new(alloc, image, SIZE, fail))
+    Ok(image)
 }
 
-// The contents of both levels.
-fn read(
-    alloc: Global,
-    changes: &[(usize, u8)],
-    fail: Vec<u64>,
-) -> Result<Vec<Content>, JoinFault>
+// The contents of both levels of a disk whose calls with these numbers, from 1, fail.
+fn read(alloc: Global, image: Vec<u8>, fail: Vec<u64>) -> Result<Vec<Content>, JoinFault>
     ensures { IfOk result (λ contents. MayJoin contents.items) }
 {
     read_levels_are_opened();
-    let mut disk = disk_of(alloc, changes, fail)?;
+    let limit = image.len() as u64;
+    let mut disk = MemoryDisk::new(alloc, image, limit, fail);
     let Ok(roots) = read_roots(&mut disk) else {
         return Err(JoinFault::Damaged(0));
     };
@@ -83,12 +79,9 @@ fn read(
     read_levels(alloc, &mut disk, &found.levels)
 }
 
-fn count(
-    alloc: Global,
-    changes: &[(usize, u8)],
-    fail: Vec<u64>,
-) -> Result<usize, JoinFault> {
-    let contents = read(alloc, changes, fail)?;
+fn count(alloc: Global, changes: &[(usize, u8)], fail: Vec<u64>) -> Result<usize, JoinFault> {
+    let image = image_of(alloc, changes)?;
+    let contents = read(alloc, image, fail)?;
     Ok(contents.len())
 }
 
@@ -105,7 +98,8 @@ fn segment(alloc: Global, content: &Content) -> Result<Vec<u8>, AllocError>
 // The segment of both levels, without what is dead.
 fn joined(alloc: Global, dead: &[u64]) -> Result<Vec<u8>, JoinFault> {
     joins_are_levels();
-    let contents = read(alloc, &[], Vec::new(alloc))?;
+    let image = image_of(alloc, &[])?;
+    let contents = read(alloc, image, Vec::new(alloc))?;
     let content = join_levels(alloc, contents, dead)?;
     Ok(segment(alloc, &content)?)
 }
@@ -113,7 +107,8 @@ fn joined(alloc: Global, dead: &[u64]) -> Result<Vec<u8>, JoinFault> {
 // The same in steps of one term, and in how many.
 fn stepped(alloc: Global, dead: &[u64]) -> Result<(Vec<u8>, u64), JoinFault> {
     joins_are_levels();
-    let mut contents = read(alloc, &[], Vec::new(alloc))?;
+    let image = image_of(alloc, &[])?;
+    let mut contents = read(alloc, image, Vec::new(alloc))?;
     let newer = contents.pop();
     let older = contents.pop();
     match (older, newer) {
@@ -164,7 +159,11 @@ fn each_read_may_fail(rt: HostRuntime) -> Result<(), Fail> {
     let alloc = rt.alloc();
     for call in 8..11u64 {
         let fail = vec![in alloc; call]?;
-        let want = if call < 10 { Err(JoinFault::Disk) } else { Ok(2) };
+        let want = if call < 10 {
+            Err(JoinFault::Disk)
+        } else {
+            Ok(2)
+        };
         assert_eq!(rt; count(alloc, &[], fail), want, "{call}");
     }
     Ok(())
