@@ -1,0 +1,10 @@
+pub mod DataLaws
+pub mod DiskReads
+pub mod FaultLaws
+pub mod JobLaws
+pub mod KeptLaws
+pub mod LevelRuns
+pub mod OpenedLaws
+pub mod RowSteps
+pub mod SameWords
+pub mod SpaceLaws

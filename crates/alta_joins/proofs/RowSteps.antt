@@ -1,0 +1,53 @@
+-- The rows of a term table, one after the other, and the bytes of their lists.
+use Rattle.std.proofs.Common.{◌≡◌, ℕ, zero, suc, ◌+◌, ◌<◌, ◌≤◌, List, [], ◌∷◌, length, take, drop, get_or, refl, sym, subst, ap, ◌∙◌, arith, length-drop}
+use Rattle.std.specs.List.{sum_by}
+use Rattle.std.proofs.lemmas.Bool.{true≢false}
+use Rattle.std.proofs.lemmas.List.Sums.{sum_by-cons}
+use Rattle.alta_content.specs.declared.content.TermList.{TermList}
+use Rattle.alta_content.specs.declared.document.DocRow.{DocRow}
+use Rattle.alta_level.proofs.Progress.{Progress}
+use Rattle.alta_table.specs.Terms.{HasEnd, counts_of, data_bytes, data_of, streams_of, summaries_of, terms_of}
+use Rattle.alta_table.specs.declared.term.TermRow.{TermRow}
+
+-- row i of these
+abbrev pub row_of : List TermRow → ℕ → TermRow
+row_of rows i = record {
+  term = get_or (terms_of rows) i [];
+  count = get_or (counts_of rows) i 0;
+  stream = get_or (streams_of rows) i 0;
+  summary = get_or (summaries_of rows) i 0;
+}
+
+pub rows_from : (rows : List TermRow) (i : ℕ) → i < length rows → drop i rows ≡ row_of rows i ∷ drop (i + 1) rows
+rows_from [] i l = absurd (omega (arith, l))
+rows_from (row ∷ rows) zero l = refl
+rows_from (row ∷ rows) (suc i) l =
+    let next : suc (i + 1) ≡ suc i + 1 = omega arith in
+    rows_from rows i (omega (arith, l)) ∙ ap (λ (k : ℕ). row_of rows i ∷ drop k (row ∷ rows)) next
+
+none : {X : Type 0} (xs : List X) → length xs ≡ 0 → xs ≡ []
+none [] e = refl
+none (x ∷ xs) e = absurd (omega (arith, e))
+
+-- nothing is left behind all
+pub drop-all : {X : Type 0} (k : ℕ) (xs : List X) → length xs ≤ k → drop k xs ≡ []
+drop-all k xs le = none (drop k xs) (omega (arith, length-drop k xs, le))
+
+-- there is a row, since one is that of the ends
+pub some_row : (rows : List TermRow) → HasEnd rows → 0 < length rows
+some_row [] has = absurd (true≢false (sym has))
+some_row (row ∷ rows) has = omega arith
+
+-- the bytes of all lists end with those of the last
+pub last_list : (rows : List TermRow) (i : ℕ) → i + 1 ≡ length rows → data_bytes rows ≡ sum_by data_of (take i rows) + (get_or (streams_of rows) i 0 + get_or (summaries_of rows) i 0)
+last_list [] i e = absurd (omega (arith, e))
+last_list (row ∷ []) zero e = omega (arith, sum_by-cons data_of row [])
+last_list (row ∷ other ∷ rows) zero e = absurd (omega (arith, e))
+last_list (row ∷ []) (suc i) e = absurd (omega (arith, e))
+last_list (row ∷ other ∷ rows) (suc i) e =
+    omega (arith, sum_by-cons data_of row (other ∷ rows), sum_by-cons data_of row (take i (other ∷ rows)), last_list (other ∷ rows) i (omega (arith, e)))
+
+module _ (documents : List DocRow) (rows : List TermRow) (streams : List ℕ) (start : ℕ) (read : List TermList) (i : ℕ) (rest : List ℕ) (at : ℕ) (h : Progress documents rows streams start read (drop i rows) rest at) where
+  -- the next row is row i
+  pub next_row : i < length rows → Progress documents rows streams start read (row_of rows i ∷ drop (i + 1) rows) rest at
+  next_row l = subst (λ (left : List TermRow). Progress documents rows streams start read left rest at) (rows_from rows i l) h

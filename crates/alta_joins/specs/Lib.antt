@@ -1,0 +1,4 @@
+pub mod Answers
+pub mod Contents
+pub mod Damages
+pub mod Jobs

@@ -1,0 +1,78 @@
+// Joins of contents, at once and in slices.
+ghost use Rattle.std.specs.Prelude.{◌≡◌, ◌+◌, ◌<◌, ◌∷◌, ℕ, [], length, nat_le, IfOk, OnOk, OnErr, IsTrue};
+ghost use Rattle.alta_content.specs.Parts.{MayJoin};
+ghost use Rattle.alta_images.specs.Joining.{joined_in, terms_in};
+ghost use Rattle.alta_images.specs.Work as work;
+ghost use Rattle.alta_images.specs.Work.{whole_of};
+ghost use Rattle.alta_joins.specs.Jobs.{IsMerging, begun_job, moved_by};
+
+use alta_codec::Loc;
+use alta_content::Content;
+use alta_merge::Job;
+use std::alloc::{AllocError, Global};
+
+/// Joins contents, each before the next, without the documents whose end is dead. The dead ends may stand in any order, and may be
+/// ends of no document. Each location is moved or copied once, and each term costs a comparison for each content.
+pub fn join_levels(
+    alloc: Global,
+    contents: Vec<Content>,
+    dead: &[Loc],
+) -> Result<Content, AllocError>
+    requires { MayJoin contents.items }
+    ensures { IfOk result (λ content. content ≡ joined_in contents.items dead.now) }
+{
+    let mut job = Job::over(alloc, contents, dead)?;
+    run_job(&mut job)?;
+    Ok(job.finish())
+}
+
+/// Begins the join of two contents, the first before the second, without the documents whose end is dead. It takes a few
+/// allocations, whatever the number of terms.
+pub fn begin_job(
+    alloc: Global,
+    older: Content,
+    newer: Content,
+    dead: &[Loc],
+) -> Result<Job, AllocError>
+    requires { MayJoin (older ∷ newer ∷ []) }
+    ensures { IfOk result (λ job. IsMerging job (begun_job older newer dead.now)) }
+{
+    Job::new(alloc, older, newer, dead)
+}
+
+/// Moves a join on by `n` terms, or by all that are left, and answers whether none is left then. Where memory is wanting, it has
+/// moved on by the terms before the one that wanted it, and goes on from there.
+pub fn step_job(job: &mut Job, n: u64) -> Result<bool, AllocError>
+    ensures whole { job.new.whole ≡ job.old.whole }
+    ensures moved { (j : work.Job) → IsMerging job.old j → OnOk result (IsMerging job.new (moved_by j n)) }
+    ensures done { (j : work.Job) → IsMerging job.old j → IfOk result (λ done. done ≡ nat_le (length (terms_in (j.older ∷ j.newer ∷ []))) (j.merged + n)) }
+    ensures ended { IfOk result (λ done. IsTrue done → job.new.left ≡ []) }
+    ensures wanting { (j : work.Job) → IsMerging job.old j
+        → OnErr result ((k : ℕ) × (k < n) × (j.merged + k < length (terms_in (j.older ∷ j.newer ∷ []))) × IsMerging job.new (moved_by j k)) }
+{
+    job.step(n)
+}
+
+/// Moves a join on to its end. Where memory is wanting, it has moved on by the terms before the one that wanted it.
+pub fn run_job(job: &mut Job) -> Result<(), AllocError>
+    ensures whole { job.new.whole ≡ job.old.whole }
+    ensures ended { OnOk result (job.new.left ≡ []) }
+    ensures wanting { (j : work.Job) → IsMerging job.old j
+        → OnErr result ((k : ℕ) × (j.merged + k < length (terms_in (j.older ∷ j.newer ∷ []))) × IsMerging job.new (moved_by j k)) }
+{
+    loop {
+        let done = job.step(u64::MAX)?;
+        if done {
+            return Ok(());
+        }
+    }
+}
+
+/// The content that a join comes to, without a copy. It has neither rows nor terms where no row is left.
+pub fn finish_job(job: Job) -> Content
+    requires { job.left ≡ [] }
+    ensures whole { result ≡ job.whole }
+    ensures content { (j : work.Job) → IsMerging job j → result ≡ whole_of j }
+{
+    job.finish()
+}

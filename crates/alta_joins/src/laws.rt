@@ -1,0 +1,85 @@
+// Laws of levels that are read, and of their joins. The functions have nothing to run: their contracts are the laws.
+ghost use Rattle.std.specs.Prelude.{◌≡◌, ℕ, ◌<◌, ◌≤◌, List, [], ◌∷◌, ◌++◌, All, length, map};
+ghost use Rattle.alta_codec.specs.Bytes.{AreBytes};
+ghost use Rattle.alta_content.specs.Joining.{joined_in as content_join, terms_in as content_terms};
+ghost use Rattle.alta_content.specs.Lists.{IsContent};
+ghost use Rattle.alta_content.specs.Parts.{IsPart, MayJoin};
+ghost use Rattle.alta_content.specs.Rows.{AreDocuments, live_rows};
+ghost use Rattle.alta_content.specs.declared.content.Content.{Content};
+ghost use Rattle.alta_content.specs.declared.content.TermList.{TermList};
+ghost use Rattle.alta_content.specs.declared.document.DocRow.{DocRow};
+ghost use Rattle.alta_images.specs.Broken.{HasLevels};
+ghost use Rattle.alta_images.specs.Holding.{Holding, IsHeld, IsSpaced, IsWell};
+ghost use Rattle.alta_images.specs.Joining.{content_of, joined_in, terms_in};
+ghost use Rattle.alta_images.specs.Levels.{Level, document_of};
+ghost use Rattle.alta_images.specs.Opened.{Opened, IsOpened, rows_in};
+ghost use Rattle.alta_images.specs.Ordered.{AreBelow, RowsRise};
+ghost use Rattle.alta_images.specs.Standing.{AreLevels};
+ghost use Rattle.alta_images.specs.Work.{newest};
+ghost use Rattle.alta_images.specs.Working.{AreJoins, JoinsKeep, all_contents, oldest_contents, rows_of};
+ghost use Rattle.alta_joins.specs.Contents.{AreContentsOf, AreSegmentsOn, StandsOn, levels_with};
+ghost use Rattle.alta_memlevel.specs.Added.{Added, HasContent, IsSpace, live_of};
+ghost use Rattle.alta_memlevel.specs.Documents.{AreAdded, IsBefore, content_of as memory_content, document_of as memory_document};
+ghost use Rattle.alta_root.specs.declared.root.Root.{Root};
+ghost use Rattle.alta_root.specs.declared.slot.Slot.{Slot};
+ghost use Rattle.alta_table.specs.Tables.{Tables};
+
+/// The words on what levels mean are those on contents and on documents that were added.
+pub fn words_agree()
+    ensures joins { (contents : List Content) → (dead : List ℕ) → joined_in contents dead ≡ content_join contents dead }
+    ensures terms { (contents : List Content) → terms_in contents ≡ content_terms contents }
+    ensures documents { (lists : List TermList) → (row : DocRow) → document_of lists row ≡ memory_document lists row }
+    ensures contents { (added : List Added) → content_of added ≡ memory_content added }
+{}
+
+/// The tables that opening finds stand on the image; with contents that were read they are the levels of what is opened; and where
+/// what is opened has levels, their contents are those that are read.
+pub fn read_levels_are_opened()
+    ensures found { (slot : Slot) → (root : Root) → (deleted : List ℕ) → (levels : List Tables) → (image : List ℕ) → AreBytes image → HasLevels slot root deleted levels image
+        → All (StandsOn image) levels }
+    ensures stand { (o : Opened) → (image : List ℕ) → AreBytes image → IsOpened o image → All (StandsOn image) o.levels }
+    ensures levels { (o : Opened) → (contents : List Content) → (image : List ℕ) → AreBytes image → IsOpened o image → AreContentsOf o.levels contents → AreSegmentsOn image o.levels contents
+        → AreLevels o (levels_with o.levels contents) image }
+    ensures contents { (levels : List Tables) → (contents : List Content) → AreContentsOf levels contents → map (λ (l : Level). l.content) (levels_with levels contents) ≡ contents }
+    ensures segments { (o : Opened) → (levels : List Level) → (image : List ℕ) → AreBytes image → IsOpened o image → AreLevels o levels image
+        → AreSegmentsOn image o.levels (map (λ (l : Level). l.content) levels) }
+{}
+
+/// Contents of tables whose rows rise may be joined, and so may the content of documents that stand behind them.
+pub fn read_contents_may_join()
+    ensures levels { (levels : List Tables) → (contents : List Content) → AreContentsOf levels contents → AreDocuments (rows_in levels) → MayJoin contents }
+    ensures rows { (levels : List Tables) → (contents : List Content) → AreContentsOf levels contents → rows_of contents ≡ rows_in levels }
+    ensures beside { (levels : List Tables) → (contents : List Content) → (number location : ℕ) → (added : List Added) → (content : Content) → AreContentsOf levels contents → AreDocuments (rows_in levels)
+        → 1 ≤ number → 1 ≤ location → All (IsBefore number location) (rows_in levels) → AreAdded number location added → HasContent added content → MayJoin (contents ++ content ∷ []) }
+{}
+
+/// The join of contents that may be joined is a level's content where a row is left, and else empty. Its rows are those of the
+/// contents whose end is not dead; they rise where those do, and lie below the next ones of a root where those do.
+pub fn joins_are_levels()
+    ensures part { (contents : List Content) → (dead : List ℕ) → MayJoin contents → IsPart (joined_in contents dead) }
+    ensures level { (contents : List Content) → (dead : List ℕ) → MayJoin contents → 0 < length (joined_in contents dead).documents → IsContent (joined_in contents dead) }
+    ensures rows { (contents : List Content) → (dead : List ℕ) → (joined_in contents dead).documents ≡ live_rows dead (rows_of contents) }
+    ensures rise { (contents : List Content) → (dead : List ℕ) → RowsRise (rows_of contents) → RowsRise (joined_in contents dead).documents }
+    ensures below { (root : Root) → (contents : List Content) → (dead : List ℕ) → AreBelow root (rows_of contents) → AreBelow root (joined_in contents dead).documents }
+{}
+
+/// Joins of contents that may be joined keep documents. In place of some that stand beside each other their join may be joined with the
+/// others, and the join of all is the same; so documents may be left out before the join that leaves them out.
+pub fn joins_keep_documents()
+    ensures keep { (contents : List Content) → MayJoin contents → JoinsKeep contents }
+    ensures beside { (before middle after : List Content) → (dead : List ℕ) → MayJoin (before ++ (middle ++ after)) → MayJoin (before ++ joined_in middle dead ∷ after) }
+    ensures folds { (before middle after : List Content) → (dead : List ℕ) → MayJoin (before ++ (middle ++ after))
+        → joined_in (before ++ joined_in middle dead ∷ after) dead ≡ joined_in (before ++ (middle ++ after)) dead }
+    ensures live { (contents : List Content) → (added : List Added) → (gone : List ℕ) → IsSpace added → MayJoin (contents ++ content_of added ∷ [])
+        → MayJoin (contents ++ content_of (live_of gone added) ∷ []) × (joined_in (contents ++ content_of (live_of gone added) ∷ []) gone ≡ joined_in (contents ++ content_of added ∷ []) gone) }
+{}
+
+/// The documents that the entries of what is held add stand behind its levels, and its levels and their content may be joined; so
+/// what a task may put in place of levels are joins of them.
+pub fn what_is_held_may_join()
+    ensures added { (held : Holding) → (image : List ℕ) → IsHeld held image → AreAdded held.view.next held.view.location (newest held.view) }
+    ensures spaced { (held : Holding) → (image : List ℕ) → IsHeld held image → IsSpaced held.view }
+    ensures oldest { (held : Holding) → (image : List ℕ) → IsHeld held image → MayJoin (oldest_contents held.view) }
+    ensures all { (held : Holding) → (image : List ℕ) → IsHeld held image → MayJoin (all_contents held.view) }
+    ensures joins { (held : Holding) → (image : List ℕ) → IsHeld held image → IsWell held → AreJoins held }
+{}

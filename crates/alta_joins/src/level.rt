@@ -1,0 +1,224 @@
+// The content of a level, read from its segment.
+ghost use Rattle.std.specs.Prelude.{◌≡◌, ◌≢◌, ◌+◌, ◌++◌, ◌<◌, ◌≤◌, ◌^◌, ℕ, length, Err, IfErr, IfOk};
+ghost use Rattle.alta_codec.specs.Faults.{Rose};
+ghost use Rattle.alta_content.specs.declared.content.Content.{Content};
+ghost use Rattle.alta_disk.specs.Calls.{Reads};
+ghost use Rattle.alta_disk.specs.Disk.{DiskState};
+ghost use Rattle.alta_images.specs.Broken.{IsBrokenIn};
+ghost use Rattle.alta_images.specs.Opened.{bytes_at};
+ghost use Rattle.alta_joins.specs.Answers.{IfDamaged, IsDamaged, IsFound};
+ghost use Rattle.alta_joins.specs.Contents.{IsContentOf, IsSegmentOn, StandsOn, row_at};
+ghost use Rattle.alta_joins.specs.Damages.{IsDamageOn};
+ghost use Rattle.alta_joins.specs.declared.fault.JoinFault.TheVariants.{Disk as DiskFault, Memory};
+ghost use Rattle.alta_level.specs.Damage.{AreListsOf, IsFaultInLists, data_place, stored_at};
+ghost use Rattle.alta_level.specs.Segments.{IsSegment};
+ghost use Rattle.alta_level.specs.Stored.{IsListFault, IsListOf, stored_of};
+ghost use Rattle.alta_table.specs.Tables.{tables_bytes};
+ghost use Rattle.alta_table.specs.Terms.{data_bytes};
+
+use crate::fault::JoinFault;
+use alta_codec::{Bytes, Extent};
+use alta_content::{Content, DocRow, DocRows, Locations, TermList, TermLists};
+use alta_disk::Disk;
+use alta_level::{StoredList, read_list, segments_read_back};
+use alta_table::{LevelFault, Table};
+use std::alloc::{AllocError, Global};
+
+/// Reads the content of a level. Its streams and summaries stand one behind the other, and are read by one read of the disk. The
+/// rows are those of the tables that were opened, and are copied. Each list is tested as [`alta_level::read_list`] tests it, and
+/// each number of a stream is read once. The memory is that of what is read and of the content.
+///
+/// # Errors
+///
+/// `Damaged` exactly where a list of the level has a fault, at the place of the first fault of the first list that has one. `Disk`
+/// where the read failed. `Memory` where there was no memory.
+pub fn read_level<D: Disk>(alloc: Global, disk: &mut D, level: &Table) -> Result<Content, JoinFault>
+    requires { D.tells → StandsOn (D.state disk.old).content level.now }
+    // What is read is the content of the segment that stands there, and if there is one it is read.
+    ensures segment { D.tells → IfOk result (IsSegmentOn (D.state disk.old).content level.now) }
+    ensures only { D.tells → (content : Content) → IsSegmentOn (D.state disk.old).content level.now content → IsFound (λ x. x) result content }
+    // The damage is the first, and if there is one that is the answer.
+    ensures first { D.tells → IfDamaged result (IsDamageOn (D.state disk.old).content level.now) }
+    ensures damaged { D.tells → (place : ℕ) → IsDamageOn (D.state disk.old).content level.now place → IsDamaged result place }
+    // It is one of a stream or a summary.
+    ensures broken { D.tells → IfDamaged result (IsBrokenIn level.now (D.state disk.old).content) }
+    // Whatever the disk tells, what is read keeps the rules of a content, and has these tables.
+    ensures kept { IfOk result (IsContentOf level.now) }
+    ensures cause { result ≡ Err DiskFault → Rose (D.state disk.old).faults (D.state disk.new).faults }
+    ensures reads { Reads D.tells (data_bytes level.now.terms) (D.state disk.old) (D.state disk.new) }
+{
+    segments_read_back();
+    let extent = data_extent(level)?;
+    let bytes = read_part(alloc, disk, extent)?;
+    content_in(alloc, level, &bytes, extent.place)
+}
+
+// Where the streams and summaries of a level stand.
+fn data_extent(level: &Table) -> Result<Extent, JoinFault>
+    ensures place { IfOk result (λ extent. extent.place ≡ data_place level.now) }
+    ensures bytes { IfOk result (λ extent. extent.bytes ≡ data_bytes level.now.terms) }
+    ensures below { IfOk result (λ extent. extent.place + extent.bytes < 2 ^ 64) }
+    ensures only { IfErr result (λ fault. fault ≡ Memory) }
+{
+    // This call tells that there is a term.
+    let _documents = level.documents();
+    let (first, _summary) = level.stream_place(0);
+    let (_stream, last) = level.stream_place(level.terms() - 1);
+    // A level lies within its disk, so there is always such an end.
+    let Some(end) = last.place.checked_add(last.bytes) else {
+        return Err(JoinFault::Memory);
+    };
+    Ok(Extent {
+        place: first.place,
+        bytes: end - first.place,
+    })
+}
+
+// The bytes of an extent.
+fn read_part<D: Disk>(alloc: Global, disk: &mut D, extent: Extent) -> Result<Vec<u8>, JoinFault>
+    requires { D.tells → extent.place + extent.bytes ≤ length (D.state disk.old).content }
+    ensures read { D.tells → IfOk result (λ bytes. bytes.items ≡ bytes_at extent (D.state disk.old).content) }
+    ensures long { IfOk result (λ bytes. length bytes.items ≡ extent.bytes) }
+    ensures undamaged { IfDamaged result (λ place. ⊥) }
+    ensures cause { result ≡ Err DiskFault → Rose (D.state disk.old).faults (D.state disk.new).faults }
+    ensures reads { Reads D.tells extent.bytes (D.state disk.old) (D.state disk.new) }
+{
+    let mut bytes = zeros(alloc, extent.bytes as usize)?;
+    disk.read(extent.place, &mut bytes)?;
+    Ok(bytes)
+}
+
+// A buffer of this length.
+fn zeros(alloc: Global, n: usize) -> Result<Vec<u8>, AllocError>
+    ensures { IfOk result (λ v. length v.items ≡ n) }
+{
+    Ok(vec![in alloc; 0u8; n]?)
+}
+
+// The content of a level, whose lists stand in these bytes behind its tables.
+fn content_in(alloc: Global, level: &Table, bytes: &[u8], place: u64) -> Result<Content, JoinFault>
+    requires long { length bytes.now ≡ data_bytes level.now.terms }
+    requires place { place ≡ data_place level.now }
+    requires below { place + length bytes.now < 2 ^ 64 }
+    ensures kept { IfOk result (IsContentOf level.now) }
+    ensures segment { IfOk result (IsSegment (tables_bytes level.now.documents level.now.terms ++ bytes.now)) }
+    ensures first { IfDamaged result (IsFaultInLists level.now.documents level.now.terms bytes.now (data_place level.now)) }
+    ensures lean { result ≢ Err DiskFault }
+{
+    let lists = match lists_in(alloc, level, bytes, place) {
+        Ok(lists) => lists,
+        Err(fault) => return Err(fault),
+    };
+    let documents = copy_rows(alloc, level.documents())?;
+    Ok(Content {
+        documents: DocRows::from_vec(documents),
+        lists: TermLists::from_vec(lists),
+    })
+}
+
+// The lists of all rows, whose streams and summaries stand one behind the other.
+fn lists_in(
+    alloc: Global,
+    level: &Table,
+    bytes: &[u8],
+    place: u64,
+) -> Result<Vec<TermList>, JoinFault>
+    requires whole { data_bytes level.now.terms ≤ length bytes.now }
+    requires below { place + length bytes.now < 2 ^ 64 }
+    ensures found { IfOk result (λ lists. AreListsOf level.now.documents level.now.terms bytes.now place lists.items) }
+    ensures first { IfDamaged result (IsFaultInLists level.now.documents level.now.terms bytes.now place) }
+    ensures lean { result ≢ Err DiskFault }
+{
+    let mut lists = Vec::with_capacity(alloc, level.terms())?;
+    let mut rest = bytes;
+    let mut at = place;
+    for row in 0..level.terms() {
+        let (stream, summary) = level.stream_place(row);
+        let len = stream.bytes + summary.bytes;
+        match list_at(alloc, level, row, rest, at) {
+            Err(fault) => return Err(fault),
+            Ok(list) => {
+                let Ok(()) = lists.push(list) else {
+                    return Err(JoinFault::Memory);
+                };
+            }
+        }
+        let (_list, behind) = rest.split_at(len as usize);
+        rest = behind;
+        at += len;
+    }
+    Ok(lists)
+}
+
+// The list of a row, whose stream begins the bytes, which begin at a place.
+fn list_at(
+    alloc: Global,
+    level: &Table,
+    row: usize,
+    bytes: &[u8],
+    place: u64,
+) -> Result<TermList, JoinFault>
+    requires row { row < length level.now.terms }
+    requires whole { (row_at level.now row).stream + (row_at level.now row).summary ≤ length bytes.now }
+    requires below { place + length bytes.now < 2 ^ 64 }
+    ensures term { IfOk result (λ l. l.term ≡ (row_at level.now row).term) }
+    ensures found { IfOk result (λ l. IsListOf level.now.documents (stored_at (row_at level.now row) bytes.now place) l.locations) }
+    ensures first { IfDamaged result (IsListFault level.now.documents (stored_at (row_at level.now row) bytes.now place)) }
+    ensures lean { result ≢ Err DiskFault }
+{
+    let list = stored(level, row, bytes, place);
+    match read_list(alloc, &list, level.documents()) {
+        Ok(locations) => {
+            let term = Vec::from_slice(alloc, level.term(row))?;
+            Ok(TermList {
+                term: Bytes::from_vec(term),
+                locations: Locations::from_vec(locations),
+            })
+        }
+        Err(LevelFault::Damaged(place)) => Err(JoinFault::Damaged(place)),
+        Err(LevelFault::Memory) => Err(JoinFault::Memory),
+    }
+}
+
+// The list of a row, as it stands at the front of these bytes.
+fn stored<'a>(level: &'a Table, row: usize, bytes: &'a [u8], place: u64) -> StoredList<'a>
+    requires row { row < length level.now.terms }
+    requires whole { (row_at level.now row).stream + (row_at level.now row).summary ≤ length bytes.now }
+    requires below { place + length bytes.now < 2 ^ 64 }
+    ensures { stored_of result ≡ stored_at (row_at level.now row) bytes.now place }
+{
+    let (first, second) = level.stream_place(row);
+    let (stream, behind) = bytes.split_at(first.bytes as usize);
+    let (summary, _rest) = behind.split_at(second.bytes as usize);
+    StoredList {
+        stream,
+        stream_place: place,
+        summary,
+        summary_place: place + first.bytes,
+        term: level.term(row),
+        count: level.count(row),
+    }
+}
+
+// Equal rows, in memory of their own.
+fn copy_rows(alloc: Global, rows: &[DocRow]) -> Result<Vec<DocRow>, AllocError>
+    ensures { IfOk result (λ copies. copies.items ≡ rows.now) }
+{
+    let mut copies = Vec::with_capacity(alloc, rows.len())?;
+    for row in rows {
+        copies.push(copy_row(row)?)?;
+    }
+    Ok(copies)
+}
+
+// An equal row, in memory of its own.
+fn copy_row(row: &DocRow) -> Result<DocRow, AllocError>
+    ensures { IfOk result (λ copy. copy ≡ row.now) }
+{
+    Ok(DocRow {
+        number: row.number,
+        first: row.first,
+        cells: row.cells,
+        name: row.name.copy()?,
+    })
+}

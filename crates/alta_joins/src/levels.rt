@@ -1,0 +1,56 @@
+// The contents of several levels.
+ghost use Rattle.std.specs.Prelude.{◌≡◌, All, Err, IfOk};
+ghost use Rattle.std.specs.List.{sum_by};
+ghost use Rattle.alta_codec.specs.Faults.{Rose};
+ghost use Rattle.alta_content.specs.Parts.{MayJoin};
+ghost use Rattle.alta_content.specs.Rows.{AreDocuments};
+ghost use Rattle.alta_disk.specs.Calls.{Reads};
+ghost use Rattle.alta_disk.specs.Disk.{DiskState};
+ghost use Rattle.alta_images.specs.Broken.{IsBrokenAmong};
+ghost use Rattle.alta_images.specs.Opened.{rows_in};
+ghost use Rattle.alta_joins.specs.Answers.{IfDamaged};
+ghost use Rattle.alta_joins.specs.Contents.{AreContentsOf, StandsOn, data_size};
+ghost use Rattle.alta_joins.specs.Damages.{Tells};
+ghost use Rattle.alta_joins.specs.declared.fault.JoinFault.TheVariants.{Disk as DiskFault};
+
+use crate::fault::JoinFault;
+use crate::level::read_level;
+use alta_content::Content;
+use alta_disk::Disk;
+use alta_table::Table;
+use std::alloc::Global;
+
+/// Reads the contents of levels, one after the other, each as [`read_level`] reads one.
+///
+/// # Errors
+///
+/// Those of [`read_level`]: the damage is the first of the first level that has one.
+pub fn read_levels<D: Disk>(
+    alloc: Global,
+    disk: &mut D,
+    levels: &[Table],
+) -> Result<Vec<Content>, JoinFault>
+    requires { D.tells → All (StandsOn (D.state disk.old).content) levels.now }
+    // The contents are those of the segments that stand there, or the damage is the first.
+    ensures tells { D.tells → Tells (λ contents. contents.items) (D.state disk.old).content levels.now result }
+    // It is one of a stream or a summary.
+    ensures broken { D.tells → IfDamaged result (IsBrokenAmong levels.now (D.state disk.old).content) }
+    // Whatever the disk tells, what is read keeps the rules of contents, and has these tables.
+    ensures kept { IfOk result (λ contents. AreContentsOf levels.now contents.items) }
+    ensures joined { AreDocuments (rows_in levels.now) → IfOk result (λ contents. MayJoin contents.items) }
+    ensures cause { result ≡ Err DiskFault → Rose (D.state disk.old).faults (D.state disk.new).faults }
+    ensures reads { Reads D.tells (sum_by data_size levels.now) (D.state disk.old) (D.state disk.new) }
+{
+    let mut contents = Vec::with_capacity(alloc, levels.len())?;
+    for level in levels {
+        match read_level(alloc, disk, level) {
+            Err(fault) => return Err(fault),
+            Ok(content) => {
+                let Ok(()) = contents.push(content) else {
+                    return Err(JoinFault::Memory);
+                };
+            }
+        }
+    }
+    Ok(contents)
+}

@@ -1,0 +1,5 @@
+//! Levels of a whole disk, read and joined. It holds no product, only tests.
+#![tactic(auto)]
+
+#[cfg(test)]
+mod tests;
