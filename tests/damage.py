@@ -26,7 +26,7 @@ from typing import NamedTuple
 from answers import Document, Machine, loads, meets, spelled
 from levels import entry_of_add, entry_of_delete, journal, level
 from reading import HALF, HALVES, HEAD, NOTHING, SLOT, SLOTS, Add, Extent, NoIndex, Root, opened
-from segments import SMALL, Broken, segment, stream
+from segments import SMALL, Broken, damaged, segment, stream
 
 GATE = b"\xa5"
 LIMIT = 10  # seconds that a run may take
@@ -482,7 +482,8 @@ def invented_index(chance):
     deleted = sorted(set(chance.sample(ends, chance.randrange(len(ends) + 1))))
     if chance.random() < 0.08:
         deleted = sorted({*deleted, chance.randrange(1, location + 9)})
-    parts = [invented_level(chance, documents) for documents in levels] + [stream(deleted)]
+    parts = [invented_level(chance, documents) for documents in levels]
+    parts = [damaged(chance, part) if chance.random() < 0.05 else part for part in parts] + [stream(deleted)]
     body, extents = place_parts(parts, [chance.randrange(9) for _ in parts])
     next_number = number + chance.choice([1] * 12 + [0, 2, 300])
     root = Root(chance.randrange(256), next_number, location + chance.choice([1] * 12 + [0, 2, 300]), extents[-1], extents[:-1])
@@ -501,12 +502,9 @@ def field_change(chance, index):
     """A field of eight bytes of a slot, or of the head of a level, with a value at some edge."""
     first, _ = chance.choice(index.parts[:2] + index.parts[4:])
     place = first + 8 * chance.randrange(0, 8)
-    edges = [0, 1, 31, 32, HEAD - 1, HEAD, len(index.content), len(index.content) + 1, NUMBER_EDGE, 2**62, 2**63, 2**64 - 1]
+    edges = [0, 1, 31, 32, HEAD - 1, HEAD, len(index.content), len(index.content) + 1, 2**32, 2**62, 2**63, 2**64 - 1]
     edges += [first for first, _ in index.parts[4:]] + [int.from_bytes(index.content[place : place + 8], "big") + chance.choice([1, -1])]
     return place, (chance.choice(edges) % 2**64).to_bytes(8, "big")
-
-
-NUMBER_EDGE = 2**32
 
 
 def some_place(chance, index):
@@ -561,11 +559,12 @@ def written_index(program, folder, chance, name):
     subprocess.run([program, path, "init"], check=True)
     words = ["red", "Fox", "quick", "brown", "dog", "lazy", "Over", "fox"]
     for _ in range(chance.choice([1, 2, 3])):
-        lines = []
+        lines = ["flush"]
         for _ in range(chance.randrange(1, 25)):
             text = " ".join(chance.choice(words) for _ in range(chance.randrange(12)))
-            kinds = [f"delete {chance.choice('abcdefgh')}", "flush", "stats"]
+            kinds = [f"delete {chance.choice('abcdefgh')}", "stats"]
             lines.append(chance.choice(kinds) if chance.random() < 0.3 else f"add {chance.choice('abcdefgh')}\t{text}\t{text} {text}")
+        lines.insert(chance.randrange(len(lines)), "flush")
         subprocess.run([program, path, "run"], input="".join(line + "\n" for line in lines).encode(), check=True, capture_output=True)
     with open(path, "rb") as file:
         content = file.read()
