@@ -280,23 +280,24 @@ class Round:
 
 
 class Style(NamedTuple):
-    """How scripts are made: which part of the lines are flushes and the like, which part of the changes deletes, how many bytes a
-    large text has, and the greatest number of lines."""
+    """How scripts are made: which part of the lines are flushes, merges and steps, which part of these are no flushes, which part
+    of the changes deletes, how many bytes a large text has, and the greatest number of lines."""
 
     flushes: float
+    merges: float
     deletes: float
     large: int
     lines: int
 
 
 STYLES = [
-    Style(flushes=0.1, deletes=0.3, large=0, lines=40),
-    Style(flushes=0.02, deletes=0.45, large=0, lines=40),
+    Style(flushes=0.1, merges=0.3, deletes=0.3, large=0, lines=40),
+    Style(flushes=0.04, merges=0.3, deletes=0.45, large=0, lines=40),
     # the journal is full before it is flushed
-    Style(flushes=0.01, deletes=0.1, large=60000, lines=40),
-    Style(flushes=0.01, deletes=0.5, large=65400, lines=90),
+    Style(flushes=0.01, merges=0.3, deletes=0.1, large=60000, lines=40),
+    Style(flushes=0.01, merges=0.3, deletes=0.5, large=65400, lines=90),
     # a root with as many levels as it may have
-    Style(flushes=0.45, deletes=0.2, large=0, lines=60),
+    Style(flushes=0.45, merges=0.05, deletes=0.2, large=0, lines=60),
 ]
 
 
@@ -313,13 +314,20 @@ def asked(chance):
     return f"{chance.choice(['search', 'count', 'open'])} {spelled(chance.choice(QUERIES))}"
 
 
-def script(chance, commands, style):
+def command(chance, style, may_join):
+    """A flush, a merge or a step."""
+    if may_join and chance.random() < style.merges:
+        return chance.choice(["merge", "step 1", "step 5", "step 1000"])
+    return "flush"
+
+
+def script(chance, style, may_join):
     """The lines of a run."""
     lines = []
     for _ in range(chance.randrange(1, style.lines)):
         kind = chance.random()
         if kind < style.flushes:
-            lines.append(chance.choice(commands))
+            lines.append(command(chance, style, may_join))
         elif kind < style.flushes + 0.8 * (1 - style.flushes):
             lines.append(change(chance, style))
         else:
@@ -352,10 +360,9 @@ class Sums(NamedTuple):
 
 def try_round(program, path, chance, style, may_join):
     """Some runs over a new index."""
-    commands = ["flush"] * 6 + (["merge"] + [f"step {terms}" for terms in (1, 5, 1000)] if may_join else [])
     tried = Round(program, path, may_join)
     for _ in range(chance.randrange(2, 6)):
-        tried.run(script(chance, commands, style))
+        tried.run(script(chance, style, may_join))
     return tried
 
 
