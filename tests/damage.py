@@ -17,6 +17,7 @@ import argparse
 import os
 import random
 import re
+import resource
 import subprocess
 import sys
 import tempfile
@@ -25,11 +26,12 @@ from typing import NamedTuple
 
 from answers import Document, Machine, loads, meets, spelled
 from levels import entry_of_add, entry_of_delete, journal, level
-from reading import HALF, HALVES, HEAD, NOTHING, SLOT, SLOTS, Add, Extent, NoIndex, Root, opened
+from reading import HALF, HALVES, HEAD, NOTHING, PAYLOAD, SLOT, SLOTS, Add, Extent, NoIndex, Root, opened
 from segments import SMALL, Broken, damaged, segment, stream
 
 GATE = b"\xa5"
 LIMIT = 10  # seconds that a run may take
+MEMORY = 2**30  # bytes that it may have where a file is longer
 SHOWN = 5  # cases that are told in full
 # the statuses of a run, and the lines that may come with each
 TABLE = {
@@ -63,11 +65,12 @@ class Answer(NamedTuple):
 
 
 class Index(NamedTuple):
-    """An index file, and its used parts: where each begins and ends."""
+    """An index file, its used parts, each by where it begins and ends, and the extents of its levels."""
 
     name: str
     content: bytes
     parts: list[tuple[int, int]]
+    levels: list[Extent]
 
 
 # ---- queries
@@ -257,7 +260,7 @@ def slot_bytes(root, is_open=True):
 
 
 def slot_part(slot, root):
-    """The fields of a slot, and the first bytes that nothing is said of."""
+    """Where the fields of a slot begin, and where the first bytes end that nothing is said of."""
     return SLOTS[slot], SLOTS[slot] + 40 + 16 * len(root.levels) + 4
 
 
@@ -271,14 +274,19 @@ def place_parts(parts, gaps):
     return body, extents
 
 
-def index_of(name, slots, halves, body, extents):
-    """The file of two slots, each a root and whether its gate is open, of the entries of both halves, and of the levels."""
+def used_by(root):
+    """Where the extents of a root begin and end."""
+    return [(extent.place, extent.place + extent.length) for extent in (root.deletions, *root.levels) if extent.length]
+
+
+def index_of(name, slots, halves, body, counting):
+    """The file of two slots, each a root and whether its gate is open, of the entries of both halves, and of what the root that
+    counts names."""
     content = b"".join(slot_bytes(*slot) for slot in slots)
     content += b"".join(journal(entries).ljust(HALF, b"\0") for entries in halves) + body
     parts = [slot_part(slot, slots[slot][0]) for slot in (0, 1)]
     parts += [(HALVES[half], HALVES[half] + len(journal(halves[half])) + 4) for half in (0, 1)]
-    parts += [(extent.place, extent.place + extent.length) for extent in extents if extent.length]
-    return Index(name, content, parts)
+    return Index(name, content, parts + used_by(counting), counting.levels)
 
 
 def end_of(document):
@@ -312,7 +320,7 @@ def both_slots():
     body, extents = place_parts([stream(ends), level(OLD), level(NEW)], [3, 7, 40])
     root = Root(0, 9, 600, extents[0], extents[1:])
     before = Root(255, 4, 100, Extent(extents[2].place - 30, 20), extents[1:2])
-    return index_of("both slots", [(root, True), (before, True)], [NEWEST, OLDER], body, extents)
+    return index_of("both slots", [(root, True), (before, True)], [NEWEST, OLDER], body, root)
 
 
 def one_slot():
@@ -320,7 +328,15 @@ def one_slot():
     body, extents = place_parts([b"", level(OLD), level(NEW)], [0, 0, 0])
     root = Root(7, 9, 600, NOTHING, extents[1:])
     to_come = Root(8, 4, 100, Extent(HEAD + 5, 1), extents[1:2])
-    return index_of("one slot", [(to_come, False), (root, True)], [OLDER[:1], NEWEST], body, extents)
+    return index_of("one slot", [(to_come, False), (root, True)], [OLDER[:1], NEWEST], body, root)
+
+
+def wide_level():
+    """A level with a list whose summary has two groups of rows."""
+    documents = [(1, 1, "a", "fox", "red " * 4163 + "dog"), (2, 4170, "b", "red dog", "quick")]
+    body, extents = place_parts([level(documents)], [0])
+    root = Root(1, 3, 4180, NOTHING, extents)
+    return index_of("a wide level", [(Root(0, 1, 1, NOTHING, []), True), (root, True)], [OLDER[:1], NEWEST[1:2]], body, root)
 
 
 def changed(content, place, new):
@@ -356,7 +372,7 @@ def flushed_index(entries, ends, slot):
     empty, first = Root(0, 1, 1, NOTHING, []), Root(1, 2, 10, NOTHING, extents[:1])
     second = Root(2, 2, 10, extents[1], extents[:1])
     roots = [empty, first] if slot == 1 else [second, first]
-    return index_of("flushed", [(root, True) for root in roots], entries, body, extents).content
+    return index_of("flushed", [(root, True) for root in roots], entries, body, roots[slot]).content
 
 
 def table():
@@ -387,6 +403,68 @@ def try_table(trial):
         if answer[:3] != row:
             raise SystemExit(f"damage: {case.what}, with {case.lines}: the reading says {answer[:3]}, and the row {row}")
         trial.try_case(case)
+
+
+# ---- journals and roots at their bounds
+
+
+def journal_index(slot, entries, next_number=1):
+    """An index without levels whose journal has these payloads."""
+    root = Root(3, next_number, 1, NOTHING, [])
+    slots = [(root, True), (Root(2, 1, 1, NOTHING, []), True)]
+    halves = [entries, OLDER[:1]]
+    if slot == 1:
+        slots, halves = slots[::-1], halves[::-1]
+    return index_of("a journal", slots, halves, b"", root).content
+
+
+def add_of(length, name="a"):
+    """An add whose payload has so many bytes."""
+    return entry_of_add(name, "", "y" * (length - 10 - len(name)))
+
+
+def filled(slot, left):
+    """An index whose records leave so many bytes of the half."""
+    payloads = [add_of(PAYLOAD, f"{i}") for i in range(15)]
+    rest = HALF - sum(5 + len(payload) for payload in payloads) - left
+    return journal_index(slot, payloads + [add_of(rest - 5)])[: HEAD + (left == 0)]
+
+
+def edges():
+    """Damages and whole files at the bounds of records, halves and roots."""
+    for slot in (0, 1):
+        for length in (PAYLOAD - 1, PAYLOAD, PAYLOAD + 1):
+            yield f"a payload of {length} bytes", journal_index(slot, [add_of(length), *OLDER[:1]])
+        for length in (1, 64, 65):
+            yield f"a name of {length} bytes", journal_index(slot, [entry_of_add("n" * length, "", "fox")])
+        for payload in (b"", b"\1", b"\2", b"\0", OLDER[0][:-1], OLDER[0] + b"y", OLDER[1][:-1], OLDER[1] + b"\0"):
+            yield f"a payload of {payload.hex()}", journal_index(slot, [payload])
+        for text in ("a\tb", "a\nb", "a\0b", "\u00e9", "\uffff"):
+            yield f"a title {text!r}", journal_index(slot, [entry_of_add_bytes("t", text.encode(), b"")])
+            yield f"a body {text!r}", journal_index(slot, [entry_of_add_bytes("t", b"", text.encode())])
+        for raw in (b"\x80", b"\xc0\x80", b"\xed\xa0\x80", b"\xf4\x90\x80\x80", b"\xe2\x82"):
+            yield f"a body of the bytes {raw.hex()}", journal_index(slot, [entry_of_add_bytes("t", b"", raw)])
+        for number in (2**32 - 2, 2**32 - 1, 2**32, 2**32 + 1):
+            yield f"the next number {number}", journal_index(slot, [], number)
+            yield f"an add at the next number {number}", journal_index(slot, OLDER[:1], number)
+        for left in range(8):
+            content = filled(slot, left)
+            yield f"{left} bytes left of a half", content
+            if left:
+                tail = HALVES[slot] + HALF - left
+                for behind in (b"\xa5", b"\xa5\0\0\0\0", b"\xa5\xff\xff\xff\xff"):
+                    yield f"{behind.hex()} in the last {left} bytes of a half", changed(content, tail, behind[:left])
+
+
+def entry_of_add_bytes(name, title, body):
+    """An add of texts that may be no texts."""
+    texts = b"".join(len(text).to_bytes(4, "big") + text for text in (title, body))
+    return b"\x01" + bytes([len(name)]) + name.encode() + texts
+
+
+def try_edges(trial):
+    for what, content in edges():
+        trial.try_case(Case(what, content, ["stats", "count fox"]))
 
 
 # ---- each byte, and each length
@@ -421,17 +499,18 @@ def case_of_change(chance, change):
     return Case(f"{value:02x} at {place} of {index.name}", changed(index.content, place, bytes([value])), all_counts(chance))
 
 
-def lists_part(content, place):
-    """Where the lists of the level at a place begin."""
-    return place + 32 + sum(int.from_bytes(content[place + at : place + at + 8], "big") for at in (16, 24))
+def place_in_lists(chance, index):
+    """A place in the lists of a level."""
+    place, length = chance.choice(index.levels)
+    tables = sum(int.from_bytes(index.content[place + at : place + at + 8], "big") for at in (16, 24))
+    return chance.randrange(place + 32 + tables, place + length)
 
 
 def broken_lists(chance, index):
     """A case in which several lists are broken, so that the order of loading decides."""
     content, told = index.content, []
     for _ in range(chance.choice([2, 3, 5])):
-        first, end = chance.choice(index.parts[-2:])
-        place = chance.randrange(lists_part(index.content, first), end)
+        place = place_in_lists(chance, index)
         value = chance.choice(values_of(content[place]))
         content = changed(content, place, bytes([value]))
         told.append(f"{value:02x} at {place}")
@@ -492,7 +571,7 @@ def invented_index(chance):
     slots = [(root, True), (other, chance.random() < 0.7)]
     if chance.random() < 0.5:
         slots.reverse()
-    return index_of("an invented index", slots, entries, body, extents)
+    return index_of("an invented index", slots, entries, body, root)
 
 
 # ---- random changes
@@ -571,8 +650,30 @@ def written_index(program, folder, chance, name):
     found = opened(content)
     parts = [slot_part(slot, found.root) for slot in (0, 1)]
     parts += [(HALVES[half], found.tail + 4 if half == found.slot else HALVES[half] + 60) for half in (0, 1)]
-    extents = [found.root.deletions, *found.root.levels]
-    return Index(f"{name} of the program", content, parts + [(e.place, e.place + e.length) for e in extents if e.length])
+    return Index(f"{name} of the program", content, parts + used_by(found.root), found.root.levels)
+
+
+# ---- a file that is longer than memory
+
+
+def in_little_memory():
+    resource.setrlimit(resource.RLIMIT_AS, (MEMORY, MEMORY))
+
+
+def try_long(trial):
+    """A deletion list of more bytes than the program may have: it ends for want of memory, or finds the first byte damaged."""
+    length = 4 * MEMORY
+    root = Root(0, 2, 10, Extent(HEAD, length), [])
+    with open(trial.path, "wb") as file:
+        file.write(slot_bytes(root))
+        file.truncate(HEAD + length)
+    words = [trial.program, trial.path, "run"]
+    done = subprocess.run(words, input=b"stats\n", capture_output=True, timeout=LIMIT, preexec_fn=in_little_memory)
+    os.remove(trial.path)
+    came = (done.returncode, done.stderr.decode(errors="replace"))
+    if came not in ((5, "alta: out of memory\n"), (6, f"alta: damaged at {HEAD}\n")) or done.stdout:
+        trial.differing += 1
+        print(f"damage: a deletion list of {length} bytes in a memory of {MEMORY}: {came}", file=sys.stderr)
 
 
 # ---- all of it
@@ -598,7 +699,7 @@ def try_bytes(chance, seconds, trial, is_all):
 
 
 def try_lists(chance, seconds, trial):
-    indexes = [both_slots(), one_slot()]
+    indexes = [both_slots(), one_slot(), wide_level()]
     until(seconds, (broken_lists(chance, chance.choice(indexes)) for _ in iter(int, 1)), trial)
 
 
@@ -607,7 +708,7 @@ def try_invented(chance, seconds, trial):
 
 
 def try_random(chance, seconds, trial, program, folder):
-    indexes = [written_index(program, folder, chance, f"file {i}") for i in range(4)] + [both_slots(), one_slot()]
+    indexes = [written_index(program, folder, chance, f"file {i}") for i in range(4)] + [both_slots(), one_slot(), wide_level()]
     until(seconds, (random_case(chance, chance.choice(indexes)) for _ in iter(int, 1)), trial)
 
 
@@ -626,6 +727,8 @@ def main():
     with tempfile.TemporaryDirectory(dir=memory) as folder:
         trial = Trial(os.path.abspath(options.program), folder)
         try_table(trial)
+        try_edges(trial)
+        try_long(trial)
         try_bytes(chance, options.seconds * 0.4, trial, options.all)
         try_lists(chance, options.seconds * 0.1, trial)
         try_invented(chance, options.seconds * 0.1, trial)
