@@ -17,6 +17,7 @@ import subprocess
 import sys
 import tempfile
 
+from answers import cells_of
 from segments import read_head, read_terms, segment, stream
 
 SLOT = 4096
@@ -50,20 +51,11 @@ def fail(message):
 # ---- the spelling of an index
 
 
-def cells(name, title, body):
-    """The terms of each cell of a document."""
-
-    def words(text):
-        return [[b"W" + w.lower().encode()] + ([b"X" + w.encode()] if w != w.lower() else []) for w in text.split()]
-
-    return [[b"N" + name.encode(), b"S"]] + words(title) + [[b"T"]] + words(body) + [[b"D"]]
-
-
 def level(documents):
     """The segment of documents: (number, first location, name, title, body)."""
     rows, lists = [], {}
     for number, first, name, title, body in documents:
-        of_document = cells(name, title, body)
+        of_document = cells_of(name, title, body)
         rows.append((number, first, len(of_document), name.encode()))
         for location, terms in enumerate(of_document, first):
             for term in terms:
@@ -156,7 +148,7 @@ def split(chance, changes, count):
             number = numbers.pop(change)
             if i < count:
                 first, name, title, body = next(d[1:] for d in documents if d[0] == number)
-                deleted.append(first + len(cells(name, title, body)) - 1)
+                deleted.append(first + len(cells_of(name, title, body)) - 1)
             else:
                 entries.append(entry_of_delete(number))
             continue
@@ -164,14 +156,14 @@ def split(chance, changes, count):
         numbers[change[0]] = number
         if i < count:
             documents.append((number, location, *change))
-            location += len(cells(*change))
+            location += len(cells_of(*change))
         else:
             entries.append(entry_of_add(*change))
     cuts = sorted(chance.sample(range(1, len(documents)), min(chance.choice([0, 1, 2, 4, 15]), len(documents) - 1)))
     groups = [documents[a:b] for a, b in zip([0] + cuts, cuts + [len(documents)])]
     # a deleted document may have been left out when its level was written
     left_out = {end for end in deleted if chance.random() < 0.3}
-    kept = [[d for d in group if d[1] + len(cells(*d[2:])) - 1 not in left_out] for group in groups]
+    kept = [[d for d in group if d[1] + len(cells_of(*d[2:])) - 1 not in left_out] for group in groups]
     levels = [level(group) for group in kept if group]
     ends = sorted(set(deleted) - left_out)
     slot, sequence = chance.randrange(2), chance.randrange(256)

@@ -20,6 +20,7 @@ import random
 import subprocess
 import sys
 import tempfile
+from typing import NamedTuple
 
 TOP = 2**62
 BLOCK = 64
@@ -74,9 +75,19 @@ def read_head(content):
     return fields
 
 
+class Row(NamedTuple):
+    """A document of a segment: its number, its first and its last location, its name, and where the name stands."""
+
+    number: int
+    first: int
+    last: int
+    name: bytes
+    place: int
+
+
 def read_documents(content, at, end, count):
-    """The ranges of the documents, first and last location."""
-    ranges = []
+    """The rows of the documents."""
+    rows = []
     before = last = 0
     for _ in range(count):
         difference, then = number(content, at, end)
@@ -96,10 +107,10 @@ def read_documents(content, at, end, count):
         at += 1
         rule(at + length <= end, at)
         rule(all(0x21 <= byte <= 0x7E for byte in content[at : at + length]), at)
+        rows.append(Row(before, first, last, bytes(content[at : at + length]), at))
         at += length
-        ranges.append((first, last))
     rule(at == end, at)
-    return ranges
+    return rows
 
 
 def read_terms(content, at, end, count):
@@ -138,6 +149,13 @@ def read_terms(content, at, end, count):
     rule(place == total, place)
     rule(any(term == b"D" for term, _, _ in terms), 8)
     return terms
+
+
+def read_tables(content):
+    """The documents and the terms of a segment, whose lists are not looked at."""
+    documents, terms, document_bytes, term_bytes = read_head(content)
+    middle = 32 + document_bytes
+    return read_documents(content, 32, middle, documents), read_terms(content, middle, middle + term_bytes, terms)
 
 
 def read_stream(content, at, end):
@@ -181,8 +199,8 @@ def blocks_of(locations, places):
     return [(locations[i], locations[i : i + BLOCK][-1], places[i] - places[0]) for i in starts]
 
 
-def read_list(content, ranges, term, stated, bounds):
-    """Tests the stream and the summary of a term."""
+def read_list(content, documents, term, stated, bounds):
+    """Tests the stream and the summary of a term, and answers its locations."""
     start, middle, end = bounds
     locations, places = read_stream(content, start, middle)
     rows = read_summary(content, middle, end)
@@ -192,18 +210,17 @@ def read_list(content, ranges, term, stated, bounds):
         for index in range(max(len(rows), len(want))):
             rule(rows[index : index + 1] == want[index : index + 1], middle + 24 * index)
     rule(len(locations) == stated, start)
-    rule(all(any(first <= x <= last for first, last in ranges) for x in locations), start)
-    rule(term != b"D" or locations == [last for _, last in ranges], start)
+    rule(all(any(row.first <= x <= row.last for row in documents) for x in locations), start)
+    rule(term != b"D" or locations == [row.last for row in documents], start)
+    return locations
 
 
 def first_broken(content):
     """The place of the first field that breaks a rule, None where none does."""
     try:
-        documents, terms, document_bytes, term_bytes = read_head(content)
-        middle = 32 + document_bytes
-        ranges = read_documents(content, 32, middle, documents)
-        for term, stated, bounds in read_terms(content, middle, middle + term_bytes, terms):
-            read_list(content, ranges, term, stated, bounds)
+        documents, terms = read_tables(content)
+        for term, stated, bounds in terms:
+            read_list(content, documents, term, stated, bounds)
     except Broken as fault:
         return fault.place
     return None

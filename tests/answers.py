@@ -1,0 +1,227 @@
+"""Answers command lines over documents by trying each of them, and spells queries and the order in which their tests are
+loaded, by docs/QUERIES.md and docs/FORMAT.md and by nothing of the program's. Texts are ASCII.
+
+A query is a tuple: ("word", w), ("phrase", [w, ..]), ("prefix", stem), ("name", n), ("near", k, side, side), ("title", atom),
+("and", [q, ..]), ("or", [q, ..]), ("not", q). A test is ("is", term) or ("begins", term).
+"""
+
+import re
+
+NUMBERS = 2**32
+CURSORS = 64
+ATOMS = ("word", "phrase", "prefix", "name", "near", "title")
+END = ("is", b"D")
+TITLE_END = ("is", b"T")
+# letters are joined by one of `:.'`, and digits by one of `,;.'`
+RUN = re.compile(r"(?:\w|(?<=[A-Za-z])[:.'](?=[A-Za-z])|(?<=[0-9])[,;.'](?=[0-9]))+", re.ASCII)
+
+
+# ---- documents
+
+
+def words_of(text):
+    """The words of an ASCII text."""
+    return [run for run in RUN.findall(text) if re.search("[A-Za-z0-9]", run)]
+
+
+def cell_of(word):
+    """The terms of a word."""
+    if len(word) > 128:
+        return []
+    folded = [b"W" + word.lower().encode()]
+    return folded if word == word.lower() else folded + [b"X" + word.encode()]
+
+
+def cells_of(name, title, body):
+    """The terms of each cell of a document."""
+    title, body = ([cell_of(word) for word in words_of(text)] for text in (title, body))
+    return [[b"N" + name.encode(), b"S"], *title, [b"T"], *body, [b"D"]]
+
+
+def meets(test, term):
+    kind, wanted = test
+    return term == wanted if kind == "is" else term.startswith(wanted)
+
+
+class Document:
+    """A document: its number, its name, how many words it has, and for each term where it stands."""
+
+    def __init__(self, number, name, title, body):
+        self.number, self.name = number, name
+        self.cells = cells_of(name, title, body)
+        self.words = len(self.cells) - 3
+        self.lists = {}
+        for place, terms in enumerate(self.cells):
+            for term in terms:
+                self.lists.setdefault(term, []).append(place)
+
+    def places(self, test):
+        """The places whose terms meet a test."""
+        return {place for term, places in self.lists.items() if meets(test, term) for place in places}
+
+
+# ---- queries
+
+
+def test_of(word):
+    return ("is", cell_of(word)[-1])
+
+
+def tests_of(atom):
+    """The tests of an atom, in order."""
+    kind = atom[0]
+    if kind == "phrase":
+        return [test_of(word) for word in atom[1]]
+    if kind == "word":
+        return [test_of(atom[1])]
+    if kind == "prefix":
+        return [("begins", cell_of(atom[1])[-1])]
+    if kind == "name":
+        return [("is", b"N" + atom[1].encode())]
+    if kind == "near":
+        return tests_of(atom[2]) + tests_of(atom[3])
+    return tests_of(atom[1]) + [TITLE_END]
+
+
+def loads(query):
+    """The tests of a query in the order in which they are loaded; a test that was loaded before stays in it."""
+    kind = query[0]
+    if kind in ATOMS:
+        return [END] + tests_of(query)
+    if kind == "not":
+        return [END] + loads(query[1])
+    if kind == "or":
+        return [test for member in query[1] for test in loads(member)]
+    atoms = [member for member in query[1] if member[0] in ATOMS]
+    found = [END] + [test for atom in atoms for test in tests_of(atom)] if atoms else []
+    return found + [test for member in query[1] if member[0] not in ATOMS for test in loads(member)]
+
+
+def last_places(atom, places):
+    """Of each solution of an atom without `title:`, the place of its last word."""
+    of_tests = [places(test) for test in tests_of(atom)]
+    if atom[0] == "near":
+        return [max(a, b) for a in of_tests[0] for b in of_tests[1] if abs(a - b) <= atom[1]]
+    many = len(of_tests)
+    return [start + many - 1 for start in of_tests[0] if all(start + i in of_tests[i] for i in range(many))]
+
+
+def matches(query, places):
+    """Whether a document matches a query, by the places of a test in it."""
+    kind = query[0]
+    if kind == "not":
+        return not matches(query[1], places)
+    if kind == "and":
+        return all(matches(member, places) for member in query[1])
+    if kind == "or":
+        return any(matches(member, places) for member in query[1])
+    if kind == "title":
+        return any(place < end for place in last_places(query[1], places) for end in places(TITLE_END))
+    return bool(last_places(query, places))
+
+
+def spelled(query):
+    """The text of a query."""
+    kind = query[0]
+    if kind == "word":
+        return query[1]
+    if kind == "phrase":
+        return '"' + " ".join(query[1]) + '"'
+    if kind == "prefix":
+        return query[1] + "*"
+    if kind == "name":
+        return "name:" + query[1]
+    if kind == "near":
+        return f"{spelled(query[2])} NEAR/{query[1]} {spelled(query[3])}"
+    if kind == "title":
+        return "title:" + spelled(query[1])
+    if kind == "not":
+        return "NOT " + member_of(query[1])
+    return (" " if kind == "and" else " OR ").join(member_of(member) for member in query[1])
+
+
+def member_of(query):
+    """A query as a member of another; a name before a parenthesis wants a blank."""
+    return f"( {spelled(query)} )" if query[0] in ("and", "or") else spelled(query)
+
+
+# ---- lines
+
+
+class Machine:
+    """The documents by their rising numbers, the next number and the open cursors; and the entries that lines have made."""
+
+    def __init__(self, queries, documents=(), next_number=1):
+        self.queries = {spelled(query): query for query in queries}
+        self.documents = {document.number: document for document in documents}
+        self.next_number = next_number
+        self.cursors = {}
+        self.entries = []
+
+    def reply(self, line):
+        """The reply to a line of a right form."""
+        word, _, rest = line.partition(" ")
+        return getattr(self, "answer_" + word)(rest)
+
+    def number_of(self, name):
+        return next((number for number, document in self.documents.items() if document.name == name), None)
+
+    def answers(self, query):
+        """The documents that match, as lines."""
+        return [f"{d.number} {d.name}\n" for d in self.documents.values() if matches(query, d.places)]
+
+    def answer_add(self, rest):
+        name, title, body = rest.split("\t", 2)
+        if self.number_of(name) is not None:
+            return "! name taken\n"
+        number = self.next_number
+        if number == NUMBERS:
+            return "! no numbers left\n"
+        self.documents[number] = Document(number, name, title, body)
+        self.next_number += 1
+        self.entries.append(("add", name, title, body))
+        return f"added {number}\n"
+
+    def answer_delete(self, name):
+        number = self.number_of(name)
+        if number is None:
+            return "! no such document\n"
+        del self.documents[number]
+        self.entries.append(("delete", number))
+        return f"deleted {number}\n"
+
+    def answer_search(self, text):
+        answers = self.answers(self.queries[text])
+        return "".join(answers) + f"found {len(answers)}\n"
+
+    def answer_count(self, text):
+        return f"found {len(self.answers(self.queries[text]))}\n"
+
+    def answer_open(self, text):
+        number = next((n for n in range(1, CURSORS + 1) if n not in self.cursors), None)
+        if number is None:
+            return "! too many cursors\n"
+        self.cursors[number] = self.answers(self.queries[text])
+        return f"cursor {number}\n"
+
+    def answer_fetch(self, rest):
+        cursor, count = map(int, rest.split(" "))
+        if cursor not in self.cursors:
+            return "! no such cursor\n"
+        page, left = self.cursors[cursor][:count], self.cursors[cursor][count:]
+        self.cursors[cursor] = left
+        return "".join(page) + ("more\n" if left else "end\n")
+
+    def answer_close(self, rest):
+        if self.cursors.pop(int(rest), None) is None:
+            return "! no such cursor\n"
+        return f"closed {rest}\n"
+
+    def answer_stats(self, _):
+        words = sum(document.words for document in self.documents.values())
+        return f"documents {len(self.documents)} words {words} next {self.next_number}\n"
+
+    def answer_flush(self, _):
+        return "ok\n"
+
+    answer_merge = answer_step = answer_flush
