@@ -1,7 +1,7 @@
 #!/usr/bin/env python3
 """Damages index files, and compares what the program says of each with a reading of docs/FORMAT.md that shares nothing with it.
 
-usage: tests/damage.py [--program PATH] [--seconds S] [--seed N] [--all]
+usage: tests/damage.py [--program PATH] [--seconds S] [--seed N] [--all] [--keep FOLDER]
 
 In each case a file with some bytes changed, or cut, is opened by `run` with some lines. Status, replies and the line on
 standard error have to be those that `reading.py` and `answers.py` work out: the first broken place in the order of opening, or
@@ -9,8 +9,8 @@ in that of loading, or the replies of what the file stands for. The file has to 
 that were answered. The cases are the rows of a table; each byte of two spelled indexes with levels, deletions and records in
 both halves, changed to each of several values, and these cut at each place; spelled indexes that break rules between their
 parts; lists broken at several places; and files that the program itself has written, changed at random. In `--seconds` as many
-of them are tried as the seed picks; with `--all` each byte, and the rest for as long. Ends with status 0 where all is as it has
-to be.
+of them are tried as the seed picks; with `--all` each byte, and the rest for as long. With `--keep` the files of the
+cases that are told stand in that folder. Ends with status 0 where all is as it has to be.
 """
 
 import argparse
@@ -140,7 +140,8 @@ class OpenedMachine(Machine):
     """The documents of a file that was opened. A search loads the lists of its tests, or raises `Broken` at the first that is."""
 
     def __init__(self, found):
-        live = [LevelDocument(of_level, row) for of_level in found.levels for row in of_level.rows if row.last not in set(found.ends)]
+        ends, rows = set(found.ends), [(of_level, row) for of_level in found.levels for row in of_level.rows]
+        live = [LevelDocument(of_level, row) for of_level, row in rows if row.last not in ends]
         super().__init__(QUERIES, live, found.root.next_number)
         self.levels = found.levels
         self.is_ascii = True
@@ -197,8 +198,8 @@ def expected(case):
 class Trial:
     """Runs the program over damaged files, and tells where it differs."""
 
-    def __init__(self, program, folder):
-        self.program, self.path = program, os.path.join(folder, "index")
+    def __init__(self, program, folder, keep=None):
+        self.program, self.path, self.keep = program, os.path.join(folder, "index"), keep
         self.cases = self.damaged = self.differing = 0
 
     def run(self, case):
@@ -222,8 +223,16 @@ class Trial:
         fault = fault_of(wanted, came, is_known)
         if fault:
             self.differing += 1
-            if self.differing <= SHOWN:
-                print(f"damage: {case.what}, with {case.lines}: {fault}", file=sys.stderr)
+            self.tell(case, fault)
+
+    def tell(self, case, fault):
+        """Tells the first cases that differ, and keeps their files where that is asked for."""
+        if self.differing > SHOWN:
+            return
+        print(f"damage: {case.what}, with {case.lines}: {fault}", file=sys.stderr)
+        if self.keep:
+            with open(os.path.join(self.keep, f"damage-{self.differing}"), "wb") as file:
+                file.write(case.content)
 
 
 def fault_of(wanted, came, is_known):
@@ -719,13 +728,14 @@ def main():
     parser.add_argument("--seconds", type=float, default=20.0)
     parser.add_argument("--seed", type=int, default=None)
     parser.add_argument("--all", action="store_true")
+    parser.add_argument("--keep", metavar="FOLDER")
     options = parser.parse_args()
     seed = options.seed if options.seed is not None else random.randrange(1 << 32)
     chance = random.Random(seed)
     # a folder in memory, where there is one, since each case writes a file of two million bytes
     memory = "/dev/shm" if os.access("/dev/shm", os.W_OK) else None
     with tempfile.TemporaryDirectory(dir=memory) as folder:
-        trial = Trial(os.path.abspath(options.program), folder)
+        trial = Trial(os.path.abspath(options.program), folder, options.keep)
         try_table(trial)
         try_edges(trial)
         try_long(trial)

@@ -331,7 +331,8 @@ def script(chance, style, may_join):
         elif kind < style.flushes + 0.8 * (1 - style.flushes):
             lines.append(change(chance, style))
         else:
-            lines.append(chance.choice([asked(chance), "stats", f"fetch {chance.randrange(1, 4)} {chance.randrange(1, 9)}", "close 1"]))
+            fetch = f"fetch {chance.randrange(1, 4)} {chance.randrange(1, 9)}"
+            lines.append(chance.choice([asked(chance), "stats", fetch, "close 1"]))
     return lines
 
 
@@ -354,8 +355,8 @@ class Sums(NamedTuple):
     refused: int = 0
 
     def and_round(self, tried):
-        held = tried.held
-        return Sums(self.indexes + 1, self.runs + tried.runs, self.unasked + held.unasked, max(self.levels, held.most), self.refused + tried.refused)
+        unasked, levels = self.unasked + tried.held.unasked, max(self.levels, tried.held.most)
+        return Sums(self.indexes + 1, self.runs + tried.runs, unasked, levels, self.refused + tried.refused)
 
 
 def try_round(program, path, chance, style, may_join):
