@@ -10,6 +10,7 @@ pub mod FullnessLaws
 pub mod KeepingLaws
 pub mod LoadingLaws
 pub mod MachineLaws
+pub mod ObeyingLaws
 pub mod ProgressLaws
 pub mod QueryingLaws
 pub mod RunLaws
@@ -17,3 +18,4 @@ pub mod SearchLaws
 pub mod ServeLaws
 pub mod StateLaws
 pub mod StatusLaws
+pub mod TaskLaws

@@ -61,7 +61,7 @@ pub fn alta<C: Console, D: Disk>(
         → ((console.new ≡ console.old) × KeepsDisk D.tells (D.state disk.old) (D.state disk.new) × (D.tells → IsBrokenAt (D.state disk.old).content place))
         ⊎ (D.tells → HasBrokenList (D.state disk.new).content place) }
     ensures stands { (s : State) → D.tells → StandsFor s (D.state disk.old).content → IsOpened result }
-    ensures full { (need gap : ℕ) → words.now ≡ codes "run" ∷ [] → D.tells → result ≡ Status.Full need gap → IsFull (D.state disk.new).content need gap }
+    ensures full { (need gap : ℕ) → words.now ≡ codes "run" ∷ [] → D.tells → result ≡ Status.Full need gap → IsFull (D.state disk.new) need gap }
     ensures complete { (s : State) → words.now ≡ codes "run" ∷ [] → D.tells → StandsFor s (D.state disk.old).content → ¬ (Rose (C.take_faults console.old) (C.take_faults console.new)) → ¬ (Rose (C.give_faults console.old) (C.give_faults console.new)) → ¬ (Rose (D.state disk.old).faults (D.state disk.new).faults) → Completes result }
 
     ensures take_fault { result ≡ Status.TakeFault → Rose (C.take_faults console.old) (C.take_faults console.new) }
