@@ -7,6 +7,7 @@ pub mod DeletingLaws
 pub mod FedLaws
 pub mod FeedLaws
 pub mod FullnessLaws
+pub mod GivenLaws
 pub mod KeepingLaws
 pub mod LoadingLaws
 pub mod MachineLaws
