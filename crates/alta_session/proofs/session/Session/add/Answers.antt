@@ -20,7 +20,7 @@ add-requires-clause-agrees g c = c.requires.can.agrees
 
 pub returns-then-not-name_ok : goal.returns-then-not-name_ok
 returns-then-not-name_ok g c =
-    looked g.D.Disk.tells g.D.Disk.state c.args.disk.now c.args.self.now _ c.text.result _ _ _ (g.met.D.Disk.lawful c.args.disk.now) c.requires.can c.text.ensures
+    looked g.D.Disk.tells g.D.Disk.state c.args.disk.now c.args.self.now c.text.result _ _ _ (g.met.D.Disk.lawful c.args.disk.now) c.requires.can c.text.ensures
     (λ m tell agrees. changed_rests m _ _ _ (adding_bad c.args.name.now c.args.title.now c.args.body.now m.state (search rules)) (add_bad c.args.name.now c.args.title.now c.args.body.now m.state (search rules)))
 
 pub returns-in-Ok : goal.returns-in-Ok

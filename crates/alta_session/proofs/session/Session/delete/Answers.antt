@@ -77,15 +77,16 @@ returns-in_default g c =
             refused = λ refusal. missing_for _ c.args.name.now m.state (search rules) (λ none. absurd (some none)) refusal;
             works = λ held here. tt;
             full = λ held need gap here is.
-                obeyed_full (g.D.Disk.state c.args.disk.now).limit held (enters (Delete number.0)) _ need gap (delete_enters c.args.name.now m.state number.0 (search rules) number.1) (does.full held need gap tell here is);
+                let same : c.in-Err.fault ≡ Full need gap = cc in
+                obeyed_full (g.D.Disk.state c.args.disk.now).limit held (enters (Delete number.0)) _ need gap (delete_enters c.args.name.now m.state number.0 (search rules) number.1) (does.full held need gap tell here (ap Err same));
             undamaged = λ place is. let same : c.in-Err.fault ≡ Damaged place = cc in none_damaged c.in-Err.fault place obeys.only same;
           };
       can = tt;
       unchanged = tt;
       only = some_only c.in-Err.fault obeys.only;
-      full = λ need gap tell is. narrow_at _ _ _ need gap obeys.costs.limit (obeys.narrow need gap tell is);
+      full = λ need gap tell is. let same : c.in-Err.fault ≡ Full need gap = cc in narrow_at _ _ _ need gap obeys.costs.limit (obeys.narrow need gap tell (ap Err same));
       broken = λ place tell is. let same : c.in-Err.fault ≡ Damaged place = cc in absurd (none_damaged c.in-Err.fault place obeys.only same);
-      cause = λ is. obeys.cause is;
+      cause = λ is. let same : c.in-Err.fault ≡ Disk = cc in obeys.cause (ap Err same);
       faults = obeys.costs.faults;
       same_limit = obeys.costs.limit;
     }

@@ -1,9 +1,9 @@
-use Rattle.std.proofs.Common.{refl, ◌≡◌, ℕ, List, codes, rules, arith}
+use Rattle.std.proofs.Common.{refl, ◌≡◌, ℕ, List, ap, codes, Err, rules, arith}
 use Rattle.std.specs.Prelude.{Some}
 use Rattle.alta_images.specs.Work.{flushes}
 use Rattle.alta_meta.specs.declared.document.State.{State}
 use Rattle.alta_session.specs.Machine.{IsRefusal}
-use Rattle.alta_store.specs.declared.fault.StoreFault.TheVariants.{Damaged}
+use Rattle.alta_store.specs.declared.fault.StoreFault.TheVariants.{Damaged, Disk, Full}
 use Rattle.alta_session.proofs.AnsweringLaws.{changed}
 use Rattle.alta_session.proofs.ObeyingLaws.{obeyed_works, obeyed_full, narrow_at, some_only, none_damaged}
 use Rattle.alta_session.proofs.session.Session.flush.Goals as goal
@@ -41,15 +41,17 @@ returns-in-Err g c =
         images = obeys.images m.state agrees.stands;
         refused = λ refusal. absurd (ok_is_none refusal);
         works = λ held here. tt;
-        full = λ held need gap here is. obeyed_full (g.D.Disk.state c.args.disk.now).limit held flushes (Some flushes) need gap refl (obeys.full held need gap tell here is);
+        full = λ held need gap here is.
+            let same : c.in-Err.fault ≡ Full need gap = cc in
+            obeyed_full (g.D.Disk.state c.args.disk.now).limit held flushes (Some flushes) need gap refl (obeys.full held need gap tell here (ap Err same));
         undamaged = λ place is. let same : c.in-Err.fault ≡ Damaged place = cc in none_damaged c.in-Err.fault place obeys.only same;
       };
       can = tt;
       unchanged = tt;
       only = some_only c.in-Err.fault obeys.only;
-      full = λ need gap tell is. narrow_at _ _ _ need gap obeys.costs.limit (obeys.narrow need gap tell is);
+      full = λ need gap tell is. let same : c.in-Err.fault ≡ Full need gap = cc in narrow_at _ _ _ need gap obeys.costs.limit (obeys.narrow need gap tell (ap Err same));
       broken = λ place tell is. let same : c.in-Err.fault ≡ Damaged place = cc in absurd (none_damaged c.in-Err.fault place obeys.only same);
-      cause = λ is. obeys.cause is;
+      cause = λ is. let same : c.in-Err.fault ≡ Disk = cc in obeys.cause (ap Err same);
       faults = obeys.costs.faults;
       same_limit = obeys.costs.limit;
     }
