@@ -2,7 +2,7 @@ use Rattle.std.proofs.Common.{◌≡◌, ◌⊎◌, ◌≤◌, ◌++◌, ℕ, in
 use Rattle.std.specs.Prelude.{nat_le, Some}
 use Rattle.alta_meta.specs.declared.document.State.{State}
 use Rattle.alta_images.specs.Work.{flushes}
-use Rattle.alta_model.specs.Command.{adds, deletes, searches, counts, explains, opens, fetches, closes, flushes as asks_flush, asks_stats}
+use Rattle.alta_model.specs.Command.{adds, deletes, searches, counts as asks_count, explains, opens, fetches, closes, flushes as asks_flush, asks_stats}
 use Rattle.alta_model.specs.Lines.{Reading, asks}
 use Rattle.alta_search.specs.Open.{AreOpen}
 use Rattle.alta_search.specs.declared.cursors.OpenCursor.{OpenCursor}
@@ -82,7 +82,7 @@ returns-in-Count-clause-answers g c =
     queried g.D.Disk.tells g.D.Disk.state c.args.disk.now c.count.new.disk c.args.self.now c.args.self.now.cursors (text_loads c.args.self.now.store c.in-Count.text.now) (IsNoQuery c.in-Count.text.now) c.count.result (λ m. step m c.args.line.now) (λ m. task_of m c.args.line.now)
     (λ s all. (all, counting c.in-Count.text.now s.documents)) (g.met.D.Disk.lawful c.args.disk.now) c.requires.can c.count.ensures.queries (of_text c.args.self.now.store c.in-Count.text.now)
     (kept_all c.count.result c.args.self.now.cursors) (λ s all tell stands are. record { reply = c.count.ensures.reply s tell stands; open_now = if_so c.count.result (AreOpen c.args.self.now.cursors all) are })
-    (λ s all are refusal. count_refuses c.in-Count.text.now s.documents refusal) c.in-Count.ensures.0 (λ m. task_reads m c.args.line.now (asks (counts c.in-Count.text.now)) c.in-Count.ensures.1)
+    (λ s all are refusal. count_refuses c.in-Count.text.now s.documents refusal) c.in-Count.ensures.0 (λ m. task_reads m c.args.line.now (asks (asks_count c.in-Count.text.now)) c.in-Count.ensures.1)
 
 pub returns-in-Count-clause-no_disk : goal.returns-in-Count-clause-no_disk
 returns-in-Count-clause-no_disk g c = λ looks. c.count.ensures.queries.idles (subst LooksIn c.in-Count.ensures.1 looks)
