@@ -92,7 +92,7 @@ fn a_record_that_does_not_fit_finds_the_journal_flushed(rt: HostRuntime) -> Resu
         let full = matches!(status, Status::Full { gap: 0, .. });
         assert_eq!(rt; full, answered < 2, "with a body of {body}");
         let ended = console.given().split(|byte| *byte == b'\n').count();
-        assert_eq!(rt; ended, answered + 1, "with a body of {body}");
+        assert_eq!(rt; ended, answered.saturating_add(1), "with a body of {body}");
         assert!(rt; want.starts_with(console.given()), "with a body of {body}");
     }
     Ok(())
