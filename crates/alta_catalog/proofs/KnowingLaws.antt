@@ -45,7 +45,7 @@ shared_on c new are levels rows =
     ap (λ (v : Vec (Rc LevelRows Global) Global). joined (map rows_of v.items)) rows ∙ are ∙ sym (ap (λ (v : Vec Tables Global). rows_in v.items) levels)
 
 -- the rows of the levels and of the level in memory are those of the documents
-rows_of_all : (c : Catalog) (s : State) (f : Knows c s) → map row_of (f.olds ++ f.added) ≡ rows_in c.levels.items ++ c.memory.content.documents
+pub rows_of_all : (c : Catalog) (s : State) (f : Knows c s) → map row_of (f.olds ++ f.added) ≡ rows_in c.levels.items ++ c.memory.content.documents
 rows_of_all c s f =
     map-append row_of f.olds f.added ∙ ap (λ (rs : List DocRow). rs ++ map row_of f.added) f.rows.rows_are
     ∙ ap (λ (rs : List DocRow). rows_in c.levels.items ++ rs) (sym f.content.documents)
@@ -83,14 +83,14 @@ few_cells name title body text_title text_body short = (
 )
 
 -- ---- rows of documents
-row_among : (xs : List Added) (b : Added) → Contains xs b → Contains (map (λ (a : Added). a.row) xs) b.row
+pub row_among : (xs : List Added) (b : Added) → Contains xs b → Contains (map (λ (a : Added). a.row) xs) b.row
 row_among [] b has = absurd (no_member b has)
 row_among (x ∷ xs) b has =
     ⊎_elim (λ (same : x ≡ b). (0, omega arith, ap (λ (a : Added). a.row) same))
     (λ more. there x.row (map (λ (a : Added). a.row) xs) b.row (row_among xs b more))
     (here_or_there x xs b has)
 
-document_among : (xs : List Added) (row : DocRow) → Contains (map (λ (a : Added). a.row) xs) row → (a : Added) × Contains xs a × (a.row ≡ row)
+pub document_among : (xs : List Added) (row : DocRow) → Contains (map (λ (a : Added). a.row) xs) row → (a : Added) × Contains xs a × (a.row ≡ row)
 document_among [] row has = absurd (no_member row has)
 document_among (x ∷ xs) row has =
     ⊎_elim (λ (same : x.row ≡ row). (x, (0, omega arith, refl), same))
@@ -155,8 +155,8 @@ module _ (c : Catalog) (s : State) (f : Knows c s) where
     cells_count : row.cells ≡ length cells
     cells_count = ap (λ (r : DocRow). r.cells) row_is
 
-    made : IsMade a
-    made = record {
+    pub made_added : IsMade (record { row = row; cells = cells })
+    made_added = record {
       title = title;
       body = body;
       named = subst IsName (sym (ap (λ (r : DocRow). r.name) row_is)) named;
@@ -205,7 +205,7 @@ module _ (c : Catalog) (s : State) (f : Knows c s) where
         sound = sound;
         content = content f.added f.content;
         shared = shared_on c new f.shared levels shared;
-        made = All-push IsMade f.added a f.made made;
+        made = All-push IsMade f.added a f.made made_added;
         space = subst IsSpace same (space_push all a f.space document
             (λ k d inside. omega (arith, (f.behind k d inside).0, number_is_next)) (λ k d inside. omega (arith, (f.behind k d inside).1, first_is)));
         filled = subst (All (λ (b : Added). 3 ≤ b.row.cells)) same (All-push (λ (b : Added). 3 ≤ b.row.cells) all a f.filled (omega (arith, cells_count, long.0)));

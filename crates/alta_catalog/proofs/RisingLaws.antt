@@ -10,11 +10,11 @@ use Rattle.alta_codec.specs.Rising.{IsRising}
 use Rattle.alta_deletions.specs.Ends.{with_end}
 use Rattle.alta_images.proofs.Tests.{filter_drop, filter_keep}
 
-all_pass : (p : ℕ → Bool) (xs : List ℕ) → All (λ x. p x ≡ true) xs → filter p xs ≡ xs
+pub all_pass : (p : ℕ → Bool) (xs : List ℕ) → All (λ x. p x ≡ true) xs → filter p xs ≡ xs
 all_pass p [] all = refl
 all_pass p (x ∷ xs) all = filter_keep p x xs (All-head (λ y. p y ≡ true) x xs all) ∙ ap (λ (ys : List ℕ). x ∷ ys) (all_pass p xs (All-tail (λ y. p y ≡ true) x xs all))
 
-none_pass : (p : ℕ → Bool) (xs : List ℕ) → All (λ x. p x ≡ false) xs → filter p xs ≡ []
+pub none_pass : (p : ℕ → Bool) (xs : List ℕ) → All (λ x. p x ≡ false) xs → filter p xs ≡ []
 none_pass p [] all = refl
 none_pass p (x ∷ xs) all = filter_drop p x xs (All-head (λ y. p y ≡ false) x xs all) ∙ none_pass p xs (All-tail (λ y. p y ≡ false) x xs all)
 

@@ -22,6 +22,7 @@ use Rattle.alta_catalog.specs.Names.{AreNames}
 use Rattle.alta_rows.specs.All.{joined, rows_in as rows_of}
 use Rattle.alta_catalog.specs.Rows.{MayStart, documents_left}
 use Rattle.alta_catalog.specs.declared.catalog.Catalog.{Catalog}
+use Rattle.alta_catalog.proofs.SettledLaws.{IsSettled, settled_knows}
 use Rattle.alta_catalog.proofs.SpaceLaws.{rise_of}
 use Rattle.alta_catalog.proofs.StartLaws.{all_rows, cells_fit, ends_there, filled_of, live_long, live_named, live_words, name_known, names_found, space_of}
 
@@ -58,44 +59,34 @@ module _ (c : Catalog) (root : Root) (size : ℕ) (sound : IsSound size root) (g
       all_rows (λ (r : DocRow). (r.number < root.next_number) × (end_of r < root.next_location)) olds
       (subst (AreBelow root) (sym may.rows.rows_are) below)
 
-  notes : Notes c.next c.names (documents_left c.gone (olds ++ [])) (record { next = root.next_number; documents = left })
-  notes = record {
-    next = next_is;
-    documents = ap (documents_left c.gone) (append-nil olds) ∙ ap (λ (g : List ℕ). documents_left g olds) gone_is;
-    names = λ q. name_known c.names left are_names q;
-    numbers = names_found c.names left are_names (subst AreOrdered live_is ordered);
-    rising = rise_of gone 0 root.next_number olds space (λ k d inside. omega arith) (λ k d inside. (all_below k d inside).0) (omega arith);
+  settled : IsSettled c olds (record { next = root.next_number; documents = left })
+  settled = record {
+    rows = may.rows;
+    sound = usable;
+    content = content;
+    shared = shared;
+    space = space;
+    filled = filled_of (rows_in c.levels.items) rows olds may.rows;
+    behind = λ k d inside. (omega (arith, (all_below k d inside).0, next_is), omega (arith, (all_below k d inside).1, location_is));
+    rising = subst IsRising (sym gone_is) rising;
+    ends = λ end has. ends_there c.levels.items olds may.rows.rows_are gone ends end (subst (λ (g : List ℕ). Contains g end) gone_is has);
+    notes = record {
+      next = next_is;
+      documents = ap (λ (g : List ℕ). documents_left g olds) gone_is;
+      names = λ q. name_known c.names left are_names q;
+      numbers = names_found c.names left are_names (subst AreOrdered live_is ordered);
+      rising = rise_of gone 0 root.next_number olds space (λ k d inside. omega arith) (λ k d inside. (all_below k d inside).0) (omega arith);
+    };
+    first = first_is ∙ sym next_is;
+    from = (omega (arith, next_is, sound.number), omega (arith, location_is, sound.location));
+    fits = (omega (arith, next_is, sound.number), subst (λ (n : ℕ). c.location ≤ 1 + (n - 1) * 262146) (sym next_is) (omega (arith, location_is, sound.location)));
+    count =
+        count_is ∙ ap (λ (g : List ℕ). length (live_rows g (rows_in c.levels.items))) gone_is
+        ∙ ap (λ (rs : List DocRow). length (live_rows gone rs)) (sym may.rows.rows_are) ∙ live_long gone olds;
+    words =
+        words_are ∙ ap (λ (g : List ℕ). sum_by row_words (live_rows g (rows_in c.levels.items))) gone_is
+        ∙ ap (λ (rs : List DocRow). sum_by row_words (live_rows gone rs)) (sym may.rows.rows_are) ∙ live_words gone olds may.rows.counted;
   }
 
   pub starts : KnowsBy c may.olds s
-  starts = subst (KnowsBy c may.olds) (sym may.state_is) (
-    record {
-      olds = olds;
-      added = [];
-      rows = may.rows;
-      sound = usable;
-      content = content;
-      shared = shared;
-      made = All-nil IsMade;
-      space = subst IsSpace (sym (append-nil olds)) space;
-      filled = subst (All (λ (a : Added). 3 ≤ a.row.cells)) (sym (append-nil olds)) (filled_of (rows_in c.levels.items) rows olds may.rows);
-      behind = subst (All (λ (a : Added). IsBefore c.next c.location a.row)) (sym (append-nil olds))
-          (λ k d inside. (omega (arith, (all_below k d inside).0, next_is), omega (arith, (all_below k d inside).1, location_is)));
-      rising = subst IsRising (sym gone_is) rising;
-      ends = λ end has.
-          subst (λ (xs : List Added). IsEndIn xs end) (sym (append-nil olds))
-          (ends_there c.levels.items olds may.rows.rows_are gone ends end (subst (λ (g : List ℕ). Contains g end) gone_is has));
-      notes = notes;
-      numbered = tt;
-      next = omega (arith, next_is, first_is);
-      from = (omega (arith, first_is, sound.number), omega (arith, location_is, sound.location));
-      fits = (omega (arith, next_is, sound.number), subst (λ (n : ℕ). c.location ≤ 1 + (n - 1) * 262146) (sym next_is) (omega (arith, location_is, sound.location)));
-      count =
-          count_is ∙ ap (λ (g : List ℕ). length (live_rows g (rows_in c.levels.items))) gone_is
-          ∙ ap (λ (rs : List DocRow). length (live_rows gone rs)) (sym may.rows.rows_are) ∙ live_long gone olds;
-      words =
-          words_are ∙ ap (λ (g : List ℕ). sum_by row_words (live_rows g (rows_in c.levels.items))) gone_is
-          ∙ ap (λ (rs : List DocRow). sum_by row_words (live_rows gone rs)) (sym may.rows.rows_are) ∙ live_words gone olds may.rows.counted;
-    },
-    refl,
-  )
+  starts = subst (KnowsBy c may.olds) (sym may.state_is) (settled_knows c olds (record { next = root.next_number; documents = left }) settled)

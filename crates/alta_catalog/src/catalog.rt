@@ -22,7 +22,7 @@ ghost use Rattle.alta_root.specs.declared.root.Root.{Root};
 use crate::finding::{end_of, find};
 use crate::lists::Names;
 use crate::names::{forget, note, rows_in};
-use crate::sharing::{level_rows, rows_of, share_runs, with_runs};
+use crate::sharing::{push_level, rows_of, share_runs, with_runs};
 use crate::starting::{ends_of, tally_levels};
 use alta_codec::{DocNumber, Loc, Text};
 use alta_content::DocRow;
@@ -275,8 +275,9 @@ impl Catalog {
         ensures value { IfOk result (λ ends. ends.items ≡ ends_below location (gone_of self.now)) }
         ensures rising { IfOk result (λ ends. IsRising ends.items) }
     {
+        let gone = self.gone.ends();
         let mut ends = Vec::new(alloc);
-        for end in self.gone.ends() {
+        for end in gone {
             if *end < location {
                 ends.push(*end)?;
             }
@@ -313,10 +314,7 @@ impl Catalog {
         ensures follows { (root : Root) → root.next_number ≡ next_of self.old → root.next_location ≡ location_of self.old → HasContent [] (memory_of self.old).content → OnOk result (Follows self.new root []) }
     {
         let gone = ends_of(self.alloc, deleted)?;
-        if let Some(level) = level {
-            self.rows.push(level_rows(self.alloc, level.documents())?)?;
-            self.levels.push(level)?;
-        }
+        push_level(self.alloc, &mut self.rows, &mut self.levels, level)?;
         self.gone = gone;
         self.first = self.next;
         Ok(())

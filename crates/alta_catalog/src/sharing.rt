@@ -3,6 +3,7 @@ ghost use Rattle.std.specs.Prelude.{◌≡◌, ◌++◌, ◌∷◌, [], map, IfO
 ghost use Rattle.alta_codec.specs.Rising.{IsRising};
 ghost use Rattle.alta_content.specs.Rows.{AreDocuments, end_of};
 ghost use Rattle.alta_images.specs.Opened.{rows_in as rows_of_levels};
+ghost use Rattle.alta_catalog.specs.Flushing.{level_in};
 ghost use Rattle.alta_rows.specs.All.{joined, rows_in};
 
 use alta_content::DocRow;
@@ -22,8 +23,25 @@ pub(crate) fn rows_of(alloc: Global, levels: &[Table]) -> Result<Vec<Rc<LevelRow
     Ok(rows)
 }
 
-/// The rows of a level, copied.
-pub(crate) fn level_rows(alloc: Global, rows: &[DocRow]) -> Result<Rc<LevelRows>, AllocError>
+/// One level more, where there is one, and its rows.
+pub(crate) fn push_level(
+    alloc: Global,
+    rows: &mut Vec<Rc<LevelRows>>,
+    levels: &mut Vec<Table>,
+    level: Option<Table>,
+) -> Result<(), AllocError>
+    ensures rows { OnOk result (joined (map rows_in rows.new.items) ≡ joined (map rows_in rows.old.items) ++ rows_of_levels (level_in level)) }
+    ensures levels { OnOk result (levels.new.items ≡ levels.old.items ++ level_in level) }
+{
+    if let Some(level) = level {
+        rows.push(level_rows(alloc, level.documents())?)?;
+        levels.push(level)?;
+    }
+    Ok(())
+}
+
+// The rows of a level, copied.
+fn level_rows(alloc: Global, rows: &[DocRow]) -> Result<Rc<LevelRows>, AllocError>
     requires { AreDocuments rows.now }
     ensures { IfOk result (λ level. rows_in level ≡ rows.now) }
 {

@@ -1,6 +1,12 @@
 -- What a draft brings.
-use Rattle.std.proofs.Common.{◌≡◌, ℕ, ◌+◌, ◌-◌, ◌*◌, ◌≤◌, false, List, ◌++◌, length, sym, ap, subst, ◌∙◌}
+use Rattle.std.proofs.Common.{◌≡◌, ℕ, ◌+◌, ◌-◌, ◌*◌, ◌≤◌, false, List, [], ◌++◌, length, sym, ap, subst, ◌∙◌}
 use Rattle.std.specs.List.{All}
+use Rattle.std.specs.Prelude.{Option, Some, None}
+use Rattle.std.proofs.lemmas.List.{append-nil}
+use Rattle.alta_codec.specs.declared.extent.Extent.{Extent}
+use Rattle.alta_images.specs.Opened.{rows_in}
+use Rattle.alta_root.specs.Gaps.{taken_by}
+use Rattle.alta_table.specs.Tables.{Tables}
 use Rattle.alta_content.specs.declared.content.Content.{Content}
 use Rattle.alta_root.proofs.Frames.{counts_sound}
 use Rattle.alta_root.specs.Places.{other}
@@ -10,16 +16,25 @@ use Rattle.alta_root.specs.declared.root.Root.{Root}
 use Rattle.alta_root.specs.declared.slot.Slot.{Slot}
 use Rattle.alta_switch.specs.Puts.{Fills, MayPut}
 use Rattle.alta_switch.specs.declared.piece.Piece.{Piece}
-use Rattle.alta_flush.specs.Drafts.{IsDraft, is_many, list_of, pairs_in, piece_of, pieces_of, segment_of}
+use Rattle.alta_flush.specs.Drafts.{IsDraft, is_many, list_of, pairs_in, piece_of, pieces_of, segment_of, table_to_come}
+use Rattle.alta_flush.specs.Flushes.{tables_in}
 use Rattle.alta_flush.specs.declared.draft.Draft.{Draft}
 use Rattle.alta_flush.specs.declared.ends.Ends.{Ends}
 use Rattle.alta_flush.proofs.PieceLaws.{ArePut, put_are, put_fit}
-use Rattle.alta_flush.proofs.PlaceLaws.{ArePlaces, places_are}
-use Rattle.alta_flush.proofs.RootLaws.{may_put}
+use Rattle.alta_flush.proofs.PlaceLaws.{ArePlaces, IsPlaceFor, places_are}
+use Rattle.alta_flush.proofs.RootLaws.{may_put, no_documents}
 
 module _ (limit : ℕ) (root : Root) (ends : Ends) (next location : ℕ) (content : Content) (draft : Draft) (is : IsDraft limit root ends next location content draft) where
   pub draft_places : ArePlaces limit root (length (segment_of content)) (length (list_of ends)) draft.places
   draft_places = places_are limit root (length (segment_of content)) (length (list_of ends)) draft.places is.places
+
+  -- the level has the rows of the content
+  pub level_rows : rows_in (tables_in draft.level) ≡ content.documents
+  level_rows = ap (λ (level : Option Tables). rows_in (tables_in level)) is.level ∙ by_place draft.places.level draft_places.level
+    where
+      by_place : (place : Option Extent) → IsPlaceFor (taken_by root []) (length (segment_of content)) limit place → rows_in (tables_in (table_to_come place content)) ≡ content.documents
+      by_place None none = sym (no_documents content none)
+      by_place (Some extent) some = append-nil content.documents
 
   module _ (pieces : List Piece) (are : pairs_in pieces ≡ pieces_of draft) where
     draft_pairs : pairs_in pieces ≡ piece_of draft.places.level (segment_of content) ++ piece_of draft.places.list (list_of ends)

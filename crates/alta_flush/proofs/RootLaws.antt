@@ -13,6 +13,7 @@ use Rattle.alta_content.specs.Parts.{IsPart}
 use Rattle.alta_content.specs.declared.document.DocRow.{DocRow}
 use Rattle.alta_content.specs.declared.content.Content.{Content}
 use Rattle.alta_images.proofs.FullLaws.{placed_first}
+use Rattle.alta_images.proofs.KeptStates.{no_rows}
 use Rattle.alta_images.proofs.KnownLaws.{all_both}
 use Rattle.alta_images.proofs.Tests.{by_test, equal_from, equal_test}
 use Rattle.alta_images.proofs.WrittenLaws.{all_left, all_right}
@@ -103,6 +104,12 @@ has_segment content some =
     by_test (length content.documents == 0)
     (λ none. let empty : length (segment_of content) ≡ 0 = ap (λ b. length (by_rows content b)) none in absurd (omega (arith, empty, some)))
     (λ is. record { some = is; segment_is = ap (by_rows content) is })
+
+-- and without bytes there are no documents
+pub no_documents : (content : Content) → length (segment_of content) ≡ 0 → content.documents ≡ []
+no_documents content none =
+    by_test (length content.documents == 0) (λ empty. no_rows content empty)
+    (λ some. let same : length (segment_of content) ≡ length (segment_bytes content) = ap (λ b. length (by_rows content b)) some in absurd (omega (arith, same, none, segment_long content)))
 
 pub content_stands : (content : Content) → IsPart content → 0 < length (segment_of content) → IsContent content
 content_stands content part some =

@@ -1,9 +1,9 @@
 // A flush.
-ghost use Rattle.std.specs.Prelude.{◌≡◌, ◌⊎◌, ◌≤◌, ◌+◌, ◌-◌, ◌*◌, [], map, List, ℕ, true, Err, Ok, IsTrue, IfOk, OnOk};
+ghost use Rattle.std.specs.Prelude.{◌≡◌, ◌⊎◌, ◌≤◌, ◌+◌, ◌-◌, ◌*◌, [], map, List, ℕ, ⊤, true, Err, Ok, IsTrue, IfOk, OnOk};
 ghost use Rattle.alta_codec.specs.Faults.{Rose};
 ghost use Rattle.alta_codec.specs.Rising.{IsRising};
 ghost use Rattle.alta_disk.specs.Calls.{Costs};
-ghost use Rattle.alta_disk.specs.Disk.{DiskState, LeavesOnly, Only};
+ghost use Rattle.alta_disk.specs.Disk.{DiskState, LeavesOnly, Only, Passes};
 ghost use Rattle.alta_images.specs.Holding.{Holding, IsHeld};
 ghost use Rattle.alta_images.specs.Opened.{Opened, rows_in};
 ghost use Rattle.alta_images.specs.Standing.{StandsFor};
@@ -123,6 +123,8 @@ pub fn flush<D: Disk>(
     ensures memory { result ≡ Err Memory → disk.new ≡ disk.old }
     ensures unwritten { (need gap : ℕ) → result ≡ Err (Full need gap) → disk.new ≡ disk.old }
 
+    // Each image at any moment comes from one of before.
+    ensures images { Passes (λ before later. ⊤) (D.state disk.old) (D.state disk.new) }
     ensures durable { OnOk result (Only (D.state disk.new).content (D.state disk.new).images) }
     ensures sound { OnOk result (IsTrue newest.new.sound) }
     ensures empty { OnOk result (HasContent [] newest.new.content) }

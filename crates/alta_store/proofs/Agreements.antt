@@ -1,19 +1,12 @@
 -- What a store and a disk that agree say of images.
-use Rattle.std.proofs.Common.{◌≡◌, List, ℕ, sym, subst, ap, ◌∙◌}
+use Rattle.std.proofs.Common.{List, ℕ, sym, subst}
 use Rattle.alta_catalog.proofs.MayLaws.{means_may}
 use Rattle.alta_disk.specs.Disk.{DiskState, IsLawful, Each, Only}
-use Rattle.alta_images.specs.Opened.{Opened, IsOpened, journal_of}
+use Rattle.alta_images.specs.Opened.{Opened, IsOpened}
 use Rattle.alta_images.specs.Standing.{StandsFor}
 use Rattle.alta_images.proofs.OneReading.{one_opened}
-use Rattle.alta_journal.specs.Journal.{EndsAt}
-use Rattle.alta_journal.specs.Places.{left_behind, start_of}
-use Rattle.alta_journal.specs.declared.half.Half.{Half}
-use Rattle.alta_journal.proofs.Unique.{one_reading}
-use Rattle.alta_root.specs.declared.root.Roots.{Roots}
-use Rattle.alta_root.specs.declared.slot.Slot.{Slot}
-use Rattle.alta_root.proofs.SlotLaws.{one_counts}
 use Rattle.alta_meta.specs.declared.document.State.{State}
-use Rattle.alta_store.specs.Agreement.{Agrees, HasRoom, Holds, Keeps, Knows, room_of}
+use Rattle.alta_store.specs.Agreement.{Agrees, Holds, Keeps, Knows}
 use Rattle.alta_store.specs.declared.store.Store.{Store}
 
 -- what an image stands for is opened
@@ -32,28 +25,3 @@ knows_of tells disk store agrees s told stands =
 -- where nothing is pending each image stands for the content's state
 pub images_stand : (tells : Type 0) (disk : DiskState) (s : State) → IsLawful tells disk → Only disk.content disk.images → (tells → StandsFor s disk.content) → Each disk.images (StandsFor s)
 images_stand tells disk s lawful only stands = λ c here. subst (StandsFor s) (sym (only c here)) (stands (lawful.told c here))
-
--- the room that the store has left is the one that the journal of the image has
-pub room_held : (store : Store) (image : List ℕ) (room : ℕ) → Holds store image → HasRoom image room → room_of store ≡ room
-room_held store image room holds left =
-    let o = holds.opened in
-    let slot : o.slot ≡ left.slot = ap (λ (r : Roots). r.slot) (one_counts image o.slot left.slot o.root left.root holds.is.counts left.counts) in
-    let journal : EndsAt (journal_of o.slot) left.place left.entries image = subst (λ (x : Slot). EndsAt (journal_of x) left.place left.entries image) (sym slot) left.journal in
-    let place : o.tail ≡ left.place = (one_reading (journal_of o.slot) o.tail left.place o.entries left.entries image holds.is.named.journal journal).0 in
-    ap (λ (h : Half). left_behind (start_of h) store.tail.place) holds.keeps.half
-    ∙ ap (λ (n : ℕ). left_behind (journal_of o.slot) n) (holds.keeps.place ∙ place)
-    ∙ ap (λ (x : Slot). left_behind (journal_of x) left.place) slot ∙ sym left.room_is
-
--- and the journal of the image has as much as the store
-pub room_there : (store : Store) (image : List ℕ) → Holds store image → HasRoom image (room_of store)
-room_there store image holds =
-    let o = holds.opened in
-    record {
-      slot = o.slot;
-      root = o.root;
-      counts = holds.is.counts;
-      place = o.tail;
-      entries = o.entries;
-      journal = holds.is.named.journal;
-      room_is = ap (λ (h : Half). left_behind (start_of h) store.tail.place) holds.keeps.half ∙ ap (λ (n : ℕ). left_behind (journal_of o.slot) n) holds.keeps.place;
-    }

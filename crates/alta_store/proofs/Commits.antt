@@ -1,19 +1,26 @@
 -- One entry more, on a store and its disk.
-use Rattle.std.proofs.Common.{◌≡◌, ℕ, ◌+◌, ◌<◌, ◌≤◌, true, false, List, length, inl, inr, ⊎_elim, refl, sym, ◌∙◌, ap, subst, arith}
+use Rattle.std.proofs.Common.{◌≡◌, ℕ, ◌+◌, ◌<◌, ◌≤◌, true, false, Vec, Global, List, [], ◌∷◌, ◌++◌, length, inl, inr, ⊎_elim, refl, sym, ◌∙◌, ap, subst, arith}
 use Rattle.std.specs.Prelude.{Result, Ok, Err}
-use Rattle.std.proofs.lemmas.Bool.{cases_lt}
-use Rattle.alta_catalog.specs.Knowing.{KnowsBy}
+use Rattle.std.specs.List.{All}
+use Rattle.alta_catalog.specs.Knowing.{Follows, KnowsBy}
 use Rattle.alta_catalog.specs.declared.catalog.Catalog.{Catalog}
 use Rattle.alta_catalog.proofs.MayLaws.{may_be}
+use Rattle.alta_codec.specs.Faults.{Rose}
+use Rattle.alta_content.specs.Rows.{end_of}
+use Rattle.alta_content.specs.declared.document.DocRow.{DocRow}
+use Rattle.alta_disk.specs.Calls.{Costs}
 use Rattle.alta_disk.specs.Disk.{DiskState, IsLawful, Only, Passes, Stands, LeavesOnly}
 use Rattle.alta_disk.proofs.Moments.{stands_only, leaves_from}
 use Rattle.alta_images.specs.Entries.{Allows, after_entries, after_entry}
-use Rattle.alta_images.specs.Opened.{Opened, IsOpened, journal_of}
+use Rattle.alta_images.specs.Holding.{Holding, IsHeld}
+use Rattle.alta_images.specs.Opened.{Opened, IsOpened, journal_of, rows_in}
 use Rattle.alta_images.specs.Standing.{StandsFor, StandsForEither}
 use Rattle.alta_images.specs.States.{IsDocument, has_name, has_number, with_added, with_deleted, without}
 use Rattle.alta_images.specs.Switching.{MayAppend, with_entry}
+use Rattle.alta_images.specs.Working.{entered}
 use Rattle.alta_images.proofs.AppendLaws.{opened_appended, stands_appended, stands_appending}
 use Rattle.alta_images.proofs.Entering.{after_more}
+use Rattle.alta_images.proofs.HeldLaws.{held_appended}
 use Rattle.alta_images.proofs.NameLaws.{All-has_byte}
 use Rattle.alta_journal.specs.declared.appending.JournalFault.{JournalFault}
 use Rattle.alta_journal.specs.declared.appending.JournalFault.TheVariants.{Disk as JournalDisk, Full as JournalFull}
@@ -28,14 +35,17 @@ use Rattle.alta_journal.specs.declared.places.TheConstants.{HALF_BYTES, HEAD_BYT
 use Rattle.alta_journal.proofs.Frames.{ends_closed}
 use Rattle.alta_journal.proofs.Spelling.{add_long, body_long, delete_long}
 use Rattle.alta_meta.specs.declared.document.State.{State}
+use Rattle.alta_root.specs.declared.root.Root.{Root}
 use Rattle.alta_root.specs.declared.slot.Slot.{Slot}
 use Rattle.alta_root.specs.declared.slot.Slot.TheVariants.{A, B}
-use Rattle.alta_store.specs.Agreement.{Agrees, HasRoom, Holds, Keeps, Knows, levels_of, room_of}
+use Rattle.alta_store.specs.Agreement.{Agrees, Keeps, Knows, levels_of}
+use Rattle.alta_store.specs.Calls.{Enters}
 use Rattle.alta_store.specs.declared.store.Store.{Store}
 use Rattle.alta_store.specs.declared.fault.StoreFault.{StoreFault}
-use Rattle.alta_store.specs.declared.fault.StoreFault.TheVariants.{Full as StoreFull}
-use Rattle.alta_store.proofs.Agreements.{kept, opened_of, room_there}
+use Rattle.alta_store.specs.declared.fault.StoreFault.TheVariants.{Disk as StoreDisk, Full as StoreFull}
+use Rattle.alta_store.proofs.Agreements.{kept, knows_of, opened_of}
 use Rattle.alta_store.proofs.Speaking.{may_append}
+use Rattle.alta_table.specs.Tables.{Tables}
 
 -- what the journal asks of a document
 pub keeps_rules : (name title body : List ℕ) → IsDocument name title body → KeepsRules (Add name title body)
@@ -52,34 +62,24 @@ keeps_rules_of a b c name title body same_name same_title same_body d =
     subst (λ (x : List ℕ). KeepsRules (Add x b c)) (sym same_name) (subst (λ (x : List ℕ). KeepsRules (Add name x c)) (sym same_title)
     (subst (λ (x : List ℕ). KeepsRules (Add name title x)) (sym same_body) (keeps_rules name title body d)))
 
--- the records of all deletes are as long
-pub same_long : (m n : ℕ) → length (body_of (Delete m)) ≡ length (body_of (Delete n))
-same_long m n = omega (arith, body_long (Delete m), body_long (Delete n), delete_long m, delete_long n)
+-- the record of a delete is as long as this
+pub delete_bytes : (number : ℕ) → length (body_of (Delete number)) ≡ 14
+delete_bytes number = omega (arith, body_long (Delete number), delete_long number)
 
 -- the halves end in the head
 pub journal_fits : (slot : Slot) → journal_of slot + HALF_BYTES ≤ HEAD_BYTES
 journal_fits A = omega arith
 journal_fits B = omega arith
 
--- a record that was not found too long fits
-pub fits_ok : {X : Type 0} (long left : ℕ) (u : Unit {0}) → (left < long → ◌≡◌ {A = Result (Unit {0}) JournalFault} (Ok u) (Err (JournalFull long left)) × X) → long ≤ left
-fits_ok long left u full = ⊎_elim (λ less. absurd (not_ok (full less).0)) (λ fits. fits) (cases_lt left long)
-  where
-    not_ok : ◌≡◌ {A = Result (Unit {0}) JournalFault} (Ok u) (Err (JournalFull long left)) → ⊥
-    not_ok e = absurd cc
+-- a record that fits is not found too long
+pub never_full : (fault : JournalFault) (need left : ℕ) → fault ≡ JournalFull need left → fault ≡ JournalDisk → ⊥
+never_full fault need left full disk = absurd cc
 
-pub fits_failed : {X : Type 0} (long left : ℕ) (fault : JournalFault) → fault ≡ JournalDisk → (left < long → ◌≡◌ {A = Result (Unit {0}) JournalFault} (Err fault) (Err (JournalFull long left)) × X) → long ≤ left
-fits_failed long left fault is full = ⊎_elim (λ less. absurd (not_disk (sym (ap (λ (f : JournalFault). Err f) is) ∙ (full less).0))) (λ fits. fits) (cases_lt left long)
-  where
-    not_disk : ◌≡◌ {A = Result (Unit {0}) JournalFault} (Err JournalDisk) (Err (JournalFull long left)) → ⊥
-    not_disk e = absurd cc
+pub ap_err : {T : Type 0} {fault other : JournalFault} → fault ≡ other → ◌≡◌ {A = Result T JournalFault} (Err fault) (Err other)
+ap_err {T} is = ap (λ (f : JournalFault). Err f) is
 
--- and one that was is too long
-pub too_long : (long left need room : ℕ) (fault : JournalFault) → fault ≡ JournalFull need room → (long ≤ left → fault ≡ JournalDisk) → left < long
-too_long long left need room fault is fits = ⊎_elim (λ less. less) (λ enough. absurd (not_full (sym is ∙ fits enough))) (cases_lt left long)
-  where
-    not_full : JournalFull need room ≡ JournalDisk → ⊥
-    not_full e = absurd cc
+ok_fails : {T : Type 0} (x : T) (fault : StoreFault) → ◌≡◌ {A = Result T StoreFault} (Ok x) (Err fault) → ⊥
+ok_fails x fault e = absurd cc
 
 module _ (tells : Type 0) (a : DiskState) (lawful : IsLawful tells a) (store : Store) (agrees : Agrees tells a store) where
   -- a record may be appended
@@ -115,6 +115,26 @@ module _ (tells : Type 0) (a : DiskState) (lawful : IsLawful tells a) (store : S
           ⊎_elim (λ still. inl still) (λ more. inr (subst (λ (u : State). StandsFor u z) (after_is told) more))
           (stands_appending s entry a.content z was (may told was.opened is) (here told was.opened is z step)))
 
+      -- a call of the disk failed
+      pub enters_failed : {T : Type 0} (later : Store) (e : Entry) (turn : State → State) (turns : (s : State) → Knows store s → after_entry s entry ≡ turn s) (fault : StoreFault) → fault ≡ StoreDisk
+          → Rose a.faults b.faults → Costs 0 a b → Enters {T = T} tells e turn a b store later (Err fault)
+      enters_failed {T} later e turn turns fault is rose costs = record {
+        agrees = tt;
+        knows = λ s k. tt;
+        works = λ held told has. tt;
+        full = λ held need gap told has failed. absurd (not_full need gap failed);
+        images = λ s stands. either s (turn s) stands (λ told. turns s (knows_of tells a store agrees s told (stands told)));
+        stands = λ s told stands. tt;
+        becomes = λ o told opened. tt;
+        narrow = λ need gap told failed. absurd (not_full need gap failed);
+        only = inl (inr is);
+        cause = λ failed. rose;
+        costs = costs;
+      }
+        where
+          not_full : (need gap : ℕ) → ◌≡◌ {A = Result T StoreFault} (Err fault) (Err (StoreFull need gap)) → ⊥
+          not_full need gap failed = absurd cc
+
       module _ (lawful_b : IsLawful tells b) (durable : Only b.content b.images)
           (appended : tells → Appended (start_of store.tail.half) store.tail.place entry a.content b.content) where
         step : tells → Appends (start_of store.tail.half) store.tail.place entry a.content b.content
@@ -138,16 +158,27 @@ module _ (tells : Type 0) (a : DiskState) (lawful : IsLawful tells a) (store : S
             subst (λ (u : State). StandsFor u b.content) after_is
             (stands_appended s entry a.content b.content stands (may told stands.opened is) (here told stands.opened is b.content (step told)) (done told stands.opened is))
 
-        module _ (later : Store) (place_is : later.tail.place ≡ store.tail.place + length (record_of entry)) (half_is : later.tail.half ≡ store.tail.half) (levels_are : levels_of later ≡ levels_of store)
+        -- what is held goes on with the entry
+        held_more : (told : tells) (held : Holding) → IsHeld held a.content → IsHeld (entered held entry) b.content
+        held_more told held is =
+            held_appended held entry a.content b.content is (may told is.opened is.is) (here told is.opened is.is b.content (step told)) (done told is.opened is.is)
+
+        module _ (later : Store) (slot_is : later.slot ≡ store.slot) (root_is : later.root ≡ store.root) (listed_is : later.listed ≡ store.listed) (place_is : later.tail.place ≡ store.tail.place + length (record_of entry))
+            (half_is : later.tail.half ≡ store.tail.half) (levels_are : levels_of later ≡ levels_of store)
+            (follows : (root : Root) (entries : List Entry) → Follows store.catalog root entries → Follows later.catalog root (entries ++ entry ∷ []))
             (knows : (s : State) → (k : Knows store s) → KnowsBy later.catalog k.olds (after_entry s entry)) where
           keeps_more : (told : tells) (o : Opened) → IsOpened o a.content → Keeps later (with_entry o entry)
           keeps_more told o is =
               let keeps = kept store a.content (agrees.content told) o is in
               record {
+                slot = slot_is ∙ keeps.slot;
+                root = root_is ∙ keeps.root;
+                listed = ap (λ (v : Vec ℕ Global). v.items) listed_is ∙ keeps.listed;
                 half = half_is ∙ keeps.half;
                 place = place_is ∙ ap (λ (n : ℕ). n + length (record_of entry)) keeps.place;
                 levels = levels_are ∙ keeps.levels;
                 extents = keeps.extents;
+                follows = follows o.root o.entries keeps.follows;
                 knows = λ s may.
                     let before : State = after_entries may.start o.entries in
                     let was = keeps.knows before (record { start = may.start; starts = may.starts; state_is = refl }) in
@@ -155,20 +186,44 @@ module _ (tells : Type 0) (a : DiskState) (lawful : IsLawful tells a) (store : S
                     subst (KnowsBy later.catalog may.starts.olds) (sym (may.state_is ∙ after_more may.start o.entries entry)) (now.0, now.1 ∙ was.1);
               }
 
-          -- the content is opened as before, with the entry as its last, and the store goes on with it
-          pub keeps_after : (e : Entry) → entry ≡ e → (opened : Opened) → tells → IsOpened opened a.content → IsOpened (with_entry opened e) b.content × Keeps later (with_entry opened e)
-          keeps_after e same opened told is =
-              subst (λ (x : Entry). IsOpened (with_entry opened x) b.content × Keeps later (with_entry opened x)) same (opened_more told opened is, keeps_more told opened is)
-
           -- store and disk agree
-          pub agrees_after : Agrees tells b later
+          agrees_after : Agrees tells b later
           agrees_after = record {
             settled = durable;
             content = λ told.
                 let held = agrees.content told in
                 record { opened = with_entry held.opened entry; is = opened_more told held.opened held.is; keeps = keeps_more told held.opened held.is };
-            intact = (after_entry agrees.intact.0 entry, (knows agrees.intact.0 agrees.intact.1).0);
+            intact = record {
+              state = after_entry agrees.intact.state entry;
+              knows = (knows agrees.intact.state agrees.intact.knows).0;
+              entries = agrees.intact.entries ++ entry ∷ [];
+              follows = subst (λ (root : Root). Follows later.catalog root (agrees.intact.entries ++ entry ∷ [])) (sym root_is) (follows store.root agrees.intact.entries agrees.intact.follows);
+              below = subst (λ (levels : List Tables). All (λ (row : DocRow). end_of row < later.root.next_location) (rows_in levels)) (sym levels_are)
+                  (subst (λ (root : Root). All (λ (row : DocRow). end_of row < root.next_location) (rows_in (levels_of store))) (sym root_is) agrees.intact.below);
+            };
           }
+
+          -- the entry was entered
+          module _ {T : Type 0} (e : Entry) (same : entry ≡ e) (turn : State → State) (turns : (s : State) → Knows store s → after_entry s entry ≡ turn s) where
+            pub enters_ok : (x : T) → Costs 0 a b → Enters tells e turn a b store later (Ok x)
+            enters_ok x costs = record {
+              agrees = agrees_after;
+              knows = λ s k. subst (Knows later) (turns s k) (knows s k).0;
+              works = λ held told has. (entered held e, refl, subst (λ (n : Entry). IsHeld (entered held n) b.content) same (held_more told held has));
+              full = λ held need gap told has failed. absurd (ok_fails x (StoreFull need gap) failed);
+              images = λ s stands. either s (turn s) stands (λ told. turns s (knows_of tells a store agrees s told (stands told)));
+              stands = λ s told stands. stands_after s (turn s) told stands (turns s (knows_of tells a store agrees s told stands));
+              becomes = λ o told is. (
+                with_entry o e,
+                refl,
+                subst (λ (n : Entry). IsOpened (with_entry o n) b.content) same (opened_more told o is),
+                subst (λ (n : Entry). Keeps later (with_entry o n)) same (keeps_more told o is),
+              );
+              narrow = λ need gap told failed. absurd (ok_fails x (StoreFull need gap) failed);
+              only = tt;
+              cause = λ failed. absurd (ok_fails x StoreDisk failed);
+              costs = costs;
+            }
 
 -- an add of a name that is free, while numbers are left
 module _ (store : Store) (name title body : List ℕ) (entry : Entry) (entry_is : entry ≡ Add name title body) where
@@ -192,20 +247,3 @@ module _ (store : Store) (name : List ℕ) (number : ℕ) (entry : Entry) (entry
 
   pub delete_knows : (later : Catalog) → ((s : State) → (k : Knows store s) → KnowsBy later k.olds (without number s)) → (s : State) → (k : Knows store s) → KnowsBy later k.olds (after_entry s entry)
   delete_knows later after s knows = subst (KnowsBy later knows.olds) (sym (ap (after_entry s) entry_is)) (after s knows)
-
--- where nothing was called the images are those of before
-pub unmoved : {D : Type 0} (state : D → DiskState) (old new : D) → old ≡ new → (P : List ℕ → Type 0) → LeavesOnly P (state old) (state old) → LeavesOnly P (state old) (state new)
-unmoved state old new same P leaves = subst (λ d. LeavesOnly P (state old) (state d)) same leaves
-
-left_is : (long need left room : ℕ) (fault : JournalFault) → fault ≡ JournalFull need left → ◌≡◌ {A = Result (Unit {0}) JournalFault} (Err fault) (Err (JournalFull long room)) → left ≡ room
-left_is long need left room fault is same = cc
-
-gap_is : {T : Type 0} (need left n gap : ℕ) → ◌≡◌ {A = Result T StoreFault} (Err (StoreFull need left)) (Err (StoreFull n gap)) → left ≡ gap
-gap_is need left n gap same = cc
-
--- what an append that found its record too long had left is what the image has
-pub room_left : {D T : Type 0} (state : D → DiskState) (old new : D) → new ≡ old → (store : Store) → Holds store (state old).content → (long need left n gap : ℕ) (fault : JournalFault) → fault ≡ JournalFull need left
-    → ◌≡◌ {A = Result (Unit {0}) JournalFault} (Err fault) (Err (JournalFull long (room_of store))) → ◌≡◌ {A = Result T StoreFault} (Err (StoreFull need left)) (Err (StoreFull n gap)) → HasRoom (state new).content gap
-room_left {D} {T} state old new same store holds long need left n gap fault is full answered =
-    subst (λ (d : D). HasRoom (state d).content gap) (sym same)
-    (subst (HasRoom (state old).content) (sym (left_is long need left (room_of store) fault is full) ∙ gap_is {T = T} need left n gap answered) (room_there store (state old).content holds))

@@ -1,7 +1,10 @@
 pub mod Agreements
+pub mod Changing
 pub mod Commits
+pub mod Flushing
 pub mod Formatted
 pub mod Loads
+pub mod Naming
 pub mod Reading
 pub mod SearchLaws
 pub mod Speaking

@@ -5,6 +5,7 @@ use Rattle.std.specs.List.{All, flat_map}
 use Rattle.std.proofs.lemmas.List.{length-take-le}
 use Rattle.std.proofs.lemmas.Result.{IfOk-at_ok, IfErr-at_err}
 use Rattle.alta_catalog.specs.Rows.{MayStart}
+use Rattle.alta_catalog.specs.declared.catalog.Catalog.{Catalog}
 use Rattle.alta_catalog.specs.declared.fault.CatalogFault.{CatalogFault}
 use Rattle.alta_catalog.specs.declared.fault.CatalogFault.TheVariants.{Memory as CatalogMemory, Damaged as CatalogDamaged}
 use Rattle.alta_catalog.proofs.MayLaws.{may_start}
@@ -35,7 +36,7 @@ use Rattle.alta_root.specs.declared.fault.RootFault.{RootFault}
 use Rattle.alta_root.specs.declared.fault.RootFault.TheVariants.{Disk as RootDisk, NoRoot as RootNone, Damaged as RootDamaged}
 use Rattle.alta_root.specs.declared.root.Root.{Root}
 use Rattle.alta_root.specs.declared.slot.Slot.{Slot}
-use Rattle.alta_catalog.specs.Knowing.{KnowsBy}
+use Rattle.alta_catalog.specs.Knowing.{Follows, KnowsBy}
 use Rattle.alta_store.specs.Agreement.{Holds, levels_of}
 use Rattle.alta_store.specs.Answers.{IsOutside, AnswersFault, of_catalog, of_levels, of_opening, of_root}
 use Rattle.alta_store.specs.declared.fault.StoreFault.{StoreFault}
@@ -82,6 +83,10 @@ refused_is : (s : State) (found : List Placed) (place : ℕ) → IsRefusedAt s f
 refused_is s found place r =
     ap (λ (ps : List Placed). replayed (known_of s) ps) r.split ∙ refused_at s r.before r.refused r.behind r.allowed r.not_allowed ∙ ap (λ (n : ℕ). Err n) (sym r.place_is)
 
+-- a catalog stands at each state behind entries from one that a root may speak of
+abbrev pub KnowsAll : Catalog → Root → List Tables → List Placed → List ℕ → Type 0
+KnowsAll catalog root levels found deleted = (s : State) → (may : MayStart s root deleted levels) → AllowsAll s (entries_in found) × KnowsBy catalog may.olds (after_entries s (entries_in found))
+
 -- ---- behind a root that counts, and levels that are fine
 
 module _ (content : List ℕ) (slot : Slot) (root : Root) (deleted : List ℕ) (levels : List Tables) (has : HasLevels slot root deleted levels content) (ends_there : have_ends levels deleted ≡ true) where
@@ -93,9 +98,9 @@ module _ (content : List ℕ) (slot : Slot) (root : Root) (deleted : List ℕ) (
   replays : (s : State) → MayStart s root deleted levels → (found : List Placed) (r : Result Known ℕ) → replayed (known_of s) found ≡ r → replayed (known_at root deleted levels) found ≡ r
   replays s starts found r is = ap (λ (k : Known). replayed k found) (sym (start_known root deleted levels s starts)) ∙ is
 
-  pub loads : (store : Store) (found : List Placed) → store.tail.half ≡ half_of slot → levels_of store ≡ levels → map extent_of levels ≡ root.levels.items → IsReplay (journal_of slot) found store.tail.place content
-      → ((s : State) → (may : MayStart s root deleted levels) → AllowsAll s (entries_in found) × KnowsBy store.catalog may.olds (after_entries s (entries_in found))) → Holds store content
-  loads store found half levels_are extents (entries, is, ends) applied =
+  pub loads : (store : Store) (found : List Placed) → store.slot ≡ slot → store.root ≡ root → store.listed.items ≡ deleted → Follows store.catalog root (entries_in found) → store.tail.half ≡ half_of slot → levels_of store ≡ levels → map extent_of levels ≡ root.levels.items → IsReplay (journal_of slot) found store.tail.place content
+      → KnowsAll store.catalog root levels found deleted → Holds store content
+  loads store found slot_is root_is listed follows half levels_are extents (entries, is, ends) applied =
       let same : entries_in found ≡ entries = ap entries_in is ∙ entries_in-placed (journal_of slot) entries in
       let some = may_start root deleted levels in
       record {
@@ -113,6 +118,10 @@ module _ (content : List ℕ) (slot : Slot) (root : Root) (deleted : List ℕ) (
           };
         };
         keeps = record {
+          slot = slot_is;
+          root = root_is;
+          listed = listed;
+          follows = subst (Follows store.catalog root) same follows;
           half = half;
           place = refl;
           levels = levels_are;

@@ -34,11 +34,13 @@ ghost use Rattle.alta_store.specs.declared.fault.StoreFault.TheVariants.{Disk as
 
 use crate::StoreFault;
 use crate::fault::{catalog_fault, flush_fault, levels_fault, opening_fault, root_fault};
-use alta_catalog::{Catalog, CatalogFault, Names, apply_entries};
+use alta_catalog::{Catalog, CatalogFault, Names, apply_entries, what_is_gone};
 use alta_codec::{Loc, Text};
 use alta_disk::Disk;
 use alta_flush::{Ends, flush};
-use alta_journal::{Entry, HALF_BYTES, Half, Placed, Ready, Tail, append, ready, replay};
+use alta_journal::{
+    Entry, HALF_BYTES, Half, JournalFault, Placed, Ready, Tail, append, ready, replay,
+};
 use alta_memlevel::MemLevel;
 use alta_opening::{OpenLevels, open_levels};
 use alta_root::{Root, Slot, read_roots};
@@ -262,7 +264,8 @@ impl Store {
         };
         match append(disk, &mut self.tail, &ready) {
             Ok(()) => Ok(number),
-            Err(_) => Err(StoreFault::Disk),
+            Err(JournalFault::Full { .. }) => unreachable!(),
+            Err(JournalFault::Disk) => Err(StoreFault::Disk),
         }
     }
 
@@ -304,7 +307,7 @@ impl Store {
         number: u64,
     ) -> Result<(), StoreFault>
         requires agrees { Agrees D.tells (D.state disk.old) self.old }
-        requires named { (s : State) → Knows self.old s → (has_number number s ≡ true) × (without number s ≡ with_deleted name.now s) }
+        requires named { (s : State) → Knows self.old s → number_of name.now s ≡ Some number }
         requires limit { HEAD_BYTES ≤ (D.state disk.old).limit }
 
         ensures obeys { Obeys D.tells (enters (Delete number)) (with_deleted name.now) NoRefusal (D.state disk.old) (D.state disk.new) self.old self.new result }
@@ -319,7 +322,7 @@ impl Store {
     // Deletes a document that was found, by a record that fits. All memory is taken before the first write.
     fn remove<D: Disk>(&mut self, disk: &mut D, name: &str, number: u64) -> Result<(), StoreFault>
         requires agrees { Agrees D.tells (D.state disk.old) self.old }
-        requires named { (s : State) → Knows self.old s → (has_number number s ≡ true) × (without number s ≡ with_deleted name.now s) }
+        requires named { (s : State) → Knows self.old s → number_of name.now s ≡ Some number }
         requires fits { length (body_of (Delete number)) ≤ room_of self.old }
         requires limit { HEAD_BYTES ≤ (D.state disk.old).limit }
 
@@ -334,7 +337,8 @@ impl Store {
         };
         match append(disk, &mut self.tail, &ready) {
             Ok(()) => Ok(()),
-            Err(_) => Err(StoreFault::Disk),
+            Err(JournalFault::Full { .. }) => unreachable!(),
+            Err(JournalFault::Disk) => Err(StoreFault::Disk),
         }
     }
 
@@ -353,7 +357,7 @@ impl Store {
         requires limit { HEAD_BYTES ≤ (D.state disk.old).limit }
 
         ensures obeys { Obeys D.tells flushes (λ s. s) NoRefusal (D.state disk.old) (D.state disk.new) self.old self.new result }
-        ensures idle { HasNoEntry self.old → (result ≡ Ok ()) × (disk.new ≡ disk.old) × (self.new ≡ self.old) }
+        ensures idle { HasNoEntry self.old → (result ≡ Ok tt) × (disk.new ≡ disk.old) × (self.new ≡ self.old) }
         ensures sound { OnOk result (is_sound self.new ≡ true) }
         ensures unsound { OnErr result (is_sound self.new ≡ false) }
     {
@@ -392,6 +396,7 @@ impl Store {
         ensures none { OnOk result (HasNoEntry self.new) }
         ensures sound { OnOk result (is_sound self.new ≡ is_sound self.old) }
     {
+        what_is_gone();
         let Ok(deleted) = self.catalog.gone_below(self.alloc, self.root.next_location) else {
             return Err(StoreFault::Memory);
         };
@@ -402,7 +407,16 @@ impl Store {
             deleted: &deleted,
             gone: self.catalog.gone(),
         };
-        let done = match flush(self.alloc, disk, self.slot, &self.root, ends, &mut newest, next, location) {
+        let done = match flush(
+            self.alloc,
+            disk,
+            self.slot,
+            &self.root,
+            ends,
+            &mut newest,
+            next,
+            location,
+        ) {
             Ok(done) => done,
             Err(fault) => return Err(flush_fault(fault)),
         };
@@ -440,7 +454,8 @@ fn bytes_of_add(name: &str, title: &str, body: &str) -> u64
     requires { IsDocument name.now title.now body.now }
     ensures { result ≡ length (body_of (Add name.now title.now body.now)) }
 {
-    ADD_BYTES + name.len() as u64 + title.len() as u64 + body.len() as u64
+    let texts = name.len() + title.len() + body.len();
+    ADD_BYTES + texts as u64
 }
 
 // The record of a document that is added.

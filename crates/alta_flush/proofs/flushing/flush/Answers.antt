@@ -1,5 +1,6 @@
 use Rattle.std.proofs.Common.{⊎_elim, inl, inr, ap, List, ◌++◌, Ok, Err, refl, subst, sym, ◌∙◌, arith}
 use Rattle.std.specs.List.{All}
+use Rattle.alta_disk.proofs.Moments.{passes_as, passes_start}
 use Rattle.alta_images.specs.Views.{state_of}
 use Rattle.alta_images.specs.Work.{newest, newest_content}
 use Rattle.alta_memlevel.specs.Added.{live_of}
@@ -10,11 +11,11 @@ use Rattle.alta_root.specs.declared.slot.Slot.{Slot}
 use Rattle.alta_switch.specs.Puts.{Fills, MayPut, Putting}
 use Rattle.alta_switch.specs.Brings.{IsOpenedEither}
 use Rattle.alta_table.specs.Tables.{Tables}
-use Rattle.std.specs.Prelude.{Option}
+use Rattle.std.specs.Prelude.{Option, ⊤}
 use Rattle.alta_flush.specs.Flushes.{MayBecome, bare_view, tables_in}
 use Rattle.alta_switch.specs.declared.piece.Piece.{Piece}
 use Rattle.alta_flush.specs.Drafts.{Drafts}
-use Rattle.alta_flush.proofs.DraftLaws.{draft_fits, draft_may}
+use Rattle.alta_flush.proofs.DraftLaws.{draft_fits, draft_may, level_rows}
 use Rattle.alta_flush.proofs.BringLaws.{brings_held, brings_then, coming_of, flushed_then, view_then}
 use Rattle.alta_flush.proofs.CallLaws.{brings_as, bytes_now, drafts_as, full_held, held_now, leaves_one, leaves_same, leaves_told, names_as, tables_then}
 use Rattle.alta_flush.proofs.FlushLaws.{then_of}
@@ -170,3 +171,24 @@ returns-in-Err-clause-narrow g c = λ o told may need gap e.
     now.limit c.in-Err.fault
     (drafts_as (bare_view o) c.args.newest.now.content c.args.ends c.args.next c.args.location may.given now.limit c.limit-limit.result c.limit-limit.ensures c.args.root.now (Err c.in-Err.fault)
     (c.in-Err.ensures.drafted (newest (bare_view o)) may.given.newest_are)) need gap e
+
+pub returns-clause-level : goal.returns-clause-level
+returns-clause-level g c = λ added has.
+    let drafted = c.in-Ok.ensures.drafted added has in
+    level_rows c.limit-limit.result c.args.root.now c.args.ends c.args.next c.args.location (content_of (live_of c.args.ends.gone.now added)) c.in-Ok.draft drafted.1
+
+pub returns-in-Err-clause-images : goal.returns-in-Err-clause-images
+returns-in-Err-clause-images g c = passes_start g.D.Disk.tells (g.D.Disk.state c.args.disk.now) (λ before later. ⊤) (g.met.D.Disk.lawful c.args.disk.now) (λ image. tt)
+
+pub returns-in_err-pieces-clause-images : goal.returns-in_err-pieces-clause-images
+returns-in_err-pieces-clause-images g c = passes_start g.D.Disk.tells (g.D.Disk.state c.args.disk.now) (λ before later. ⊤) (g.met.D.Disk.lawful c.args.disk.now) (λ image. tt)
+
+pub returns-in_err-put_root-clause-images : goal.returns-in_err-put_root-clause-images
+returns-in_err-put_root-clause-images g c =
+    passes_as (g.D.Disk.state c.args.disk.now) (g.D.Disk.state c.put_root.new.disk) (Putting c.other.result c.in-Ok.draft.root c.deref.result.now) (λ before later. ⊤) c.put_root.ensures.images
+    (λ z left. (left.0, left.1, tt))
+
+pub returns-clause-images : goal.returns-clause-images
+returns-clause-images g c =
+    passes_as (g.D.Disk.state c.args.disk.now) (g.D.Disk.state c.put_root.new.disk) (Putting c.other.result c.in-Ok.draft.root c.deref.result.now) (λ before later. ⊤) c.put_root.ensures.images
+    (λ z left. (left.0, left.1, tt))

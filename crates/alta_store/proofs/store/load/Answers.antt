@@ -1,8 +1,15 @@
-use Rattle.std.proofs.Common.{◌≡◌, List, ℕ, ap, subst, ◌∙◌, sym, arith}
+use Rattle.std.proofs.Common.{◌≡◌, ◌<◌, List, ℕ, ap, refl, subst, ◌∙◌, sym, arith}
+use Rattle.std.specs.List.{All}
+use Rattle.std.proofs.lemmas.List.Elements.{All-weaker}
+use Rattle.alta_catalog.specs.Rows.{MayStart}
+use Rattle.alta_content.specs.Rows.{end_of}
+use Rattle.alta_content.specs.declared.document.DocRow.{DocRow}
+use Rattle.alta_images.specs.Entries.{after_entries, entries_in}
+use Rattle.alta_table.specs.Tables.{Tables}
 use Rattle.std.specs.Prelude.{Err}
 use Rattle.alta_catalog.proofs.MayLaws.{may_start}
 use Rattle.alta_images.specs.Broken.{HasLevels, IsBrokenAt}
-use Rattle.alta_images.specs.Opened.{half_of, journal_of}
+use Rattle.alta_images.specs.Opened.{half_of, journal_of, rows_in}
 use Rattle.alta_journal.specs.Journal.{IsBroken}
 use Rattle.alta_journal.specs.Placed.{IsReplay}
 use Rattle.alta_journal.specs.Places.{start_of}
@@ -10,7 +17,7 @@ use Rattle.alta_journal.specs.declared.half.Half.{Half}
 use Rattle.alta_journal.specs.declared.placed.Placed.{Placed}
 use Rattle.alta_root.specs.Slots.{Counts}
 use Rattle.alta_store.specs.Agreement.{Holds}
-use Rattle.alta_store.proofs.Loads.{damaged_record, loads, of_catalog_damaged, of_damaged, of_levels_damaged, of_root_damaged, refused_entry, same_error, small_places}
+use Rattle.alta_store.proofs.Loads.{KnowsAll, damaged_record, loads, of_catalog_damaged, of_damaged, of_levels_damaged, of_root_damaged, refused_entry, same_error, small_places}
 use Rattle.alta_store.proofs.Reading.{shown_broken}
 use Rattle.alta_store.proofs.store.load.Goals as goal
 
@@ -42,36 +49,48 @@ pub returns-in-Ok-catalog_of-clause-loaded : goal.returns-in-Ok-catalog_of-claus
 returns-in-Ok-catalog_of-clause-loaded g c = λ told.
     let slot = c.in-Ok.roots.slot in
     let root = c.in-Ok.roots.root in
-    let found = c.deref.result.now in
+    let found = c.deref-2.result.now in
     let middle = (g.D.Disk.state c.read_roots.new.disk).content in
     let counts = subst (Counts slot root) (sym (c.read_roots.ensures.reads.content told)) (c.in-Ok.ensures.counts told) in
     let has = c.in-Ok-open_levels.ensures.levels told slot counts in
     subst (Holds _) (c.read_roots.ensures.reads.content told)
-    (loads middle slot root _ _ has c.in-Ok-open_levels.ensures.ends _ found (c.in-Ok-replay.ensures.half ∙ c.half_of.ensures) c.in-Ok-catalog_of.ensures.levels c.in-Ok-open_levels.ensures.extents
+    (loads middle slot root _ _ has c.in-Ok-open_levels.ensures.ends _ found refl refl refl c.in-Ok-catalog_of.ensures.follows (c.in-Ok-replay.ensures.half ∙ c.half_of.ensures) c.in-Ok-catalog_of.ensures.levels
+    c.in-Ok-open_levels.ensures.extents
     (subst (λ (image : List ℕ). IsReplay (journal_of slot) found c.in-Ok-replay.read.1.place image) (c.open_levels.ensures.reads.content told)
     (subst (λ (h : Half). IsReplay (start_of h) found c.in-Ok-replay.read.1.place (g.D.Disk.state c.open_levels.new.disk).content) c.half_of.ensures
-    (subst (λ (xs : List Placed). IsReplay (start_of c.half_of.result) xs c.in-Ok-replay.read.1.place (g.D.Disk.state c.open_levels.new.disk).content) (sym c.deref.ensures.value) (c.in-Ok-replay.ensures.read told))))
-    c.in-Ok-catalog_of.ensures.knows)
+    (subst (λ (xs : List Placed). IsReplay (start_of c.half_of.result) xs c.in-Ok-replay.read.1.place (g.D.Disk.state c.open_levels.new.disk).content) (sym c.deref-2.ensures.value) (c.in-Ok-replay.ensures.read told))))
+    (subst (KnowsAll _ root c.in-Ok-open_levels.opened.levels.items found) c.deref.ensures.value c.in-Ok-catalog_of.ensures.knows))
 
 pub returns-in-Ok-catalog_of-clause-intact : goal.returns-in-Ok-catalog_of-clause-intact
 returns-in-Ok-catalog_of-clause-intact g c =
-    let some = may_start c.in-Ok.roots.root c.in-Ok-open_levels.levels.deleted.items c.in-Ok-open_levels.levels.levels.items in
-    (_, (c.in-Ok-catalog_of.ensures.knows some.0 some.1).1.0)
+    let root = c.in-Ok.roots.root in
+    let some = may_start root c.deref.result.now c.in-Ok-open_levels.opened.levels.items in
+    record {
+      state = after_entries some.0 (entries_in c.deref-2.result.now);
+      knows = (c.in-Ok-catalog_of.ensures.knows some.0 some.1).1.0;
+      entries = entries_in c.deref-2.result.now;
+      follows = c.in-Ok-catalog_of.ensures.follows;
+      below = subst (λ (levels : List Tables). All (λ (row : DocRow). end_of row < root.next_location) (rows_in levels)) (sym c.in-Ok-catalog_of.ensures.levels)
+          (All-weaker (λ (row : DocRow). (row.number < root.next_number) × (end_of row < root.next_location)) (λ (row : DocRow). end_of row < root.next_location) (λ row both. both.1)
+          (rows_in c.in-Ok-open_levels.opened.levels.items) c.in-Ok-open_levels.ensures.below);
+    }
 
-pub returns-clause-damaged : goal.returns-clause-damaged
-returns-clause-damaged g c = λ told place e.
+pub returns-in-Err-catalog_of-clause-damaged : goal.returns-in-Err-catalog_of-clause-damaged
+returns-in-Err-catalog_of-clause-damaged g c = λ told place e.
     let slot = c.in-Ok.roots.slot in
     let root = c.in-Ok.roots.root in
-    let found = c.deref.result.now in
+    let found = c.deref-2.result.now in
     let middle = (g.D.Disk.state c.read_roots.new.disk).content in
     let counts = subst (Counts slot root) (sym (c.read_roots.ensures.reads.content told)) (c.in-Ok.ensures.counts told) in
     let has = c.in-Ok-open_levels.ensures.levels told slot counts in
     let replay : IsReplay (journal_of slot) found c.in-Ok-replay.read.1.place middle =
     subst (λ (image : List ℕ). IsReplay (journal_of slot) found c.in-Ok-replay.read.1.place image) (c.open_levels.ensures.reads.content told)
     (subst (λ (h : Half). IsReplay (start_of h) found c.in-Ok-replay.read.1.place (g.D.Disk.state c.open_levels.new.disk).content) c.half_of.ensures
-    (subst (λ (xs : List Placed). IsReplay (start_of c.half_of.result) xs c.in-Ok-replay.read.1.place (g.D.Disk.state c.open_levels.new.disk).content) (sym c.deref.ensures.value) (c.in-Ok-replay.ensures.read told))) in
-    let some = may_start root c.in-Ok-open_levels.levels.deleted.items c.in-Ok-open_levels.levels.levels.items in
+    (subst (λ (xs : List Placed). IsReplay (start_of c.half_of.result) xs c.in-Ok-replay.read.1.place (g.D.Disk.state c.open_levels.new.disk).content) (sym c.deref-2.ensures.value) (c.in-Ok-replay.ensures.read told))) in
+    let some = may_start root c.in-Ok-open_levels.opened.deleted.items c.in-Ok-open_levels.opened.levels.items in
     subst (λ (image : List ℕ). IsBrokenAt image place) (c.read_roots.ensures.reads.content told)
     (refused_entry middle slot root _ _ has c.in-Ok-open_levels.ensures.ends found place c.in-Ok-replay.read.1.place replay some.0 some.1
-    (c.in-Err-catalog_of.ensures.damaged some.0 some.1 (small_places slot found c.in-Ok-replay.read.1.place middle replay) place
+    (c.in-Err-catalog_of.ensures.damaged some.0
+    (subst (λ (ends : List ℕ). MayStart some.0 root ends c.in-Ok-open_levels.opened.levels.items) (sym c.deref.ensures.value) some.1)
+    (small_places slot found c.in-Ok-replay.read.1.place middle replay) place
     (ap Err (of_catalog_damaged c.in-Err-catalog_of.fault place (sym c.catalog_fault.ensures ∙ same_error _ _ e)))))

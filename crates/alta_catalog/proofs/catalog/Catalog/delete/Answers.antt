@@ -6,6 +6,7 @@ use Rattle.std.specs.Str.{bytes_eq}
 use Rattle.std.proofs.lemmas.Bool.{false≢true}
 use Rattle.alta_codec.specs.declared.location.TheConstants.{TOP}
 use Rattle.alta_content.specs.Rows.{end_of}
+use Rattle.alta_catalog.proofs.FollowLaws.{follows_deleted}
 use Rattle.alta_catalog.proofs.KnowingLaws.{counted, deleted_already, follow_on, knows_deleted, outside_read, row_fits, row_read, there_is}
 use Rattle.alta_catalog.proofs.catalog.Catalog.delete.Goals as goal
 
@@ -75,3 +76,6 @@ returns-clause-deleted c = λ e s knows.
           (subst (λ (bytes : List ℕ). (q : List ℕ) → get_by_text c.forget.new.names q ≡ update bytes_eq (get_by_text c.args.self.now.names) bytes None q) c.as_str.ensures c.forget.ensures)
           (omega (arith, less.0)) (omega (arith, less.1)),
     )
+
+pub returns-clause-follows : goal.returns-clause-follows
+returns-clause-follows c = λ root entries follows yes. follows_deleted c.args.self.now root entries follows _ refl refl refl refl c.args.number

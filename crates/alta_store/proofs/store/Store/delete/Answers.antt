@@ -1,11 +1,21 @@
-use Rattle.std.proofs.Common.{ap, sym, ◌∙◌}
-use Rattle.std.specs.Prelude.{Err}
-use Rattle.alta_store.specs.declared.fault.StoreFault.{StoreFault}
-use Rattle.alta_store.proofs.Commits.{same_long}
-use Rattle.alta_store.proofs.Loads.{same_error}
+use Rattle.std.proofs.Common.{sym, ◌∙◌}
+use Rattle.alta_images.specs.States.{with_deleted}
+use Rattle.alta_store.specs.Calls.{NoRefusal}
+use Rattle.alta_store.proofs.Changing.{changes_fault, changes_ok, deletes_as, some_is}
 use Rattle.alta_store.proofs.store.Store.delete.Goals as goal
 
-pub returns-in-Err-clause-full : goal.returns-in-Err-clause-full
-returns-in-Err-clause-full g c = λ need gap number e.
-    let full = c.remove.ensures.full need gap (c.in-Err.is ∙ ap (λ (f : StoreFault). Err f) (sym c.failed.ensures.fault ∙ same_error _ _ e)) in
-    (full.0 ∙ same_long c.in-Some.number number, full.1, full.2)
+pub leave_out-requires-clause-named : goal.leave_out-requires-clause-named
+leave_out-requires-clause-named g c = λ s knows. sym (c.in-Some.ensures.value s knows)
+
+pub returns-in-Ok-clause-obeys : goal.returns-in-Ok-clause-obeys
+returns-in-Ok-clause-obeys g c = λ s number knows named.
+    deletes_as g.D.Disk.tells c.in-Some.number number (with_deleted c.args.name.now) (g.D.Disk.state c.args.disk.now) (g.D.Disk.state c.leave_out.new.disk) c.args.self.now c.leave_out.new.self _
+    (some_is c.in-Some.number number (c.in-Some.ensures.value s knows ∙ named))
+    (changes_ok g.D.Disk.tells _ _ (with_deleted c.args.name.now) NoRefusal 1 (g.D.Disk.state c.args.disk.now) (g.D.Disk.state c.leave_out.new.disk) c.args.self.now c.leave_out.new.self _ _ c.in-Ok.ensures.obeys)
+
+pub returns-in-Err-clause-obeys : goal.returns-in-Err-clause-obeys
+returns-in-Err-clause-obeys g c = λ s number knows named.
+    deletes_as g.D.Disk.tells c.in-Some.number number (with_deleted c.args.name.now) (g.D.Disk.state c.args.disk.now) (g.D.Disk.state c.leave_out.new.disk) c.args.self.now c.failed.new.self _
+    (some_is c.in-Some.number number (c.in-Some.ensures.value s knows ∙ named))
+    (changes_fault g.D.Disk.tells _ _ (with_deleted c.args.name.now) NoRefusal NoRefusal 1 (g.D.Disk.state c.args.disk.now) (g.D.Disk.state c.leave_out.new.disk) c.args.self.now c.leave_out.new.self c.failed.new.self _ _
+    c.failed.ensures.fault (λ e refused. refused) c.in-Err.ensures.obeys)

@@ -1,11 +1,14 @@
-use Rattle.std.proofs.Common.{ap, inl, sym}
-use Rattle.alta_disk.proofs.Moments.{leaves_start}
-use Rattle.alta_journal.specs.Record.{Record}
-use Rattle.alta_journal.specs.declared.entry.Entry.TheVariants.{Delete}
-use Rattle.alta_images.specs.Standing.{StandsForEither}
+use Rattle.std.proofs.Common.{[], ◌∷◌, ◌++◌, ◌≤◌, ap, List, length, refl, subst, sym}
+use Rattle.alta_catalog.specs.Knowing.{Follows}
 use Rattle.alta_images.specs.States.{with_deleted}
-use Rattle.alta_store.proofs.Agreements.{images_stand, knows_of}
-use Rattle.alta_store.proofs.Commits.{closed, either, agrees_after, keeps_after, stands_after, delete_knows, delete_allowed, deleted_after, fits_ok, fits_failed, room_left, too_long, unmoved}
+use Rattle.alta_journal.specs.Record.{Record, body_of}
+use Rattle.alta_journal.specs.declared.entry.Entry.{Entry}
+use Rattle.alta_journal.specs.declared.entry.Entry.TheVariants.{Delete}
+use Rattle.alta_meta.specs.declared.document.State.{State}
+use Rattle.alta_store.specs.Agreement.{Knows, room_of}
+use Rattle.alta_store.proofs.Changing.{costs_appended}
+use Rattle.alta_store.proofs.Commits.{ap_err, closed, delete_allowed, delete_knows, deleted_after, enters_failed, enters_ok, never_full}
+use Rattle.alta_store.proofs.Naming.{named_at}
 use Rattle.alta_store.proofs.store.Store.remove.Goals as goal
 
 pub append-requires-clause-closed : goal.append-requires-clause-closed
@@ -15,69 +18,40 @@ append-requires-clause-closed g c =
 pub remove-requires : goal.remove-requires
 remove-requires g c =
     let intact = c.requires.agrees.intact in
-    (intact.0, intact.1, (c.requires.named intact.0 intact.1).0)
+    (intact.state, intact.knows, (named_at c.args.self.now intact.state intact.knows c.args.name.now c.args.number (c.requires.named intact.state intact.knows)).0)
 
-pub returns-in-Ok-append-clause-agrees : goal.returns-in-Ok-append-clause-agrees
-returns-in-Ok-append-clause-agrees g c =
-    agrees_after g.D.Disk.tells (g.D.Disk.state c.args.disk.now) (g.met.D.Disk.lawful c.args.disk.now) c.args.self.now c.requires.agrees
-    c.in-Ok.ready.entry (delete_allowed c.args.self.now c.args.name.now c.args.number c.in-Ok.ready.entry (ap (λ (r : Record). r.entry) c.in-Ok.ensures) c.requires.named)
-    (fits_ok _ _ _ c.in-Ok-append.ensures.full)
+pub returns-in-Ok-append-clause-enters : goal.returns-in-Ok-append-clause-enters
+returns-in-Ok-append-clause-enters g c =
+    let store = c.args.self.now in
+    let entry = c.in-Ok.ready.entry in
+    let is = ap (λ (r : Record). r.entry) c.in-Ok.ensures in
+    let named = λ (s : State) (knows : Knows store s). named_at store s knows c.args.name.now c.args.number (c.requires.named s knows) in
+    enters_ok g.D.Disk.tells (g.D.Disk.state c.args.disk.now) (g.met.D.Disk.lawful c.args.disk.now) store c.requires.agrees
+    entry (delete_allowed store c.args.name.now c.args.number entry is named)
+    (subst (λ (e : Entry). length (body_of e) ≤ room_of store) (sym is) c.requires.fits)
     (g.D.Disk.state c.append.new.disk) c.in-Ok-append.ensures.images (g.met.D.Disk.lawful c.append.new.disk) c.in-Ok-append.ensures.durable c.in-Ok-append.ensures.appended
-    _ c.in-Ok-append.ensures.tail c.in-Ok-append.ensures.half c.remove.ensures.levels (delete_knows c.args.self.now c.args.name.now c.args.number c.in-Ok.ready.entry (ap (λ (r : Record). r.entry) c.in-Ok.ensures) c.requires.named _ c.in-Ok-remove.ensures.removed)
+    _ refl refl refl c.in-Ok-append.ensures.tail c.in-Ok-append.ensures.half c.remove.ensures.levels
+    (λ root entries follows. subst (λ (e : Entry). Follows c.remove.new.self root (entries ++ e ∷ [])) (sym is) (c.in-Ok-remove.ensures.follows root entries follows))
+    (delete_knows store c.args.name.now c.args.number entry is named _ c.in-Ok-remove.ensures.removed)
+    (Delete c.args.number) is (with_deleted c.args.name.now)
+    (deleted_after store c.args.name.now c.args.number entry is named)
+    _ (costs_appended _ _ c.in-Ok-append.ensures.faults c.in-Ok-append.ensures.taken c.in-Ok-append.ensures.same_limit)
 
-pub returns-in-Ok-append-clause-stands : goal.returns-in-Ok-append-clause-stands
-returns-in-Ok-append-clause-stands g c = λ s told stands.
-    stands_after g.D.Disk.tells (g.D.Disk.state c.args.disk.now) (g.met.D.Disk.lawful c.args.disk.now) c.args.self.now c.requires.agrees
-    c.in-Ok.ready.entry (delete_allowed c.args.self.now c.args.name.now c.args.number c.in-Ok.ready.entry (ap (λ (r : Record). r.entry) c.in-Ok.ensures) c.requires.named)
-    (fits_ok _ _ _ c.in-Ok-append.ensures.full)
-    (g.D.Disk.state c.append.new.disk) c.in-Ok-append.ensures.images (g.met.D.Disk.lawful c.append.new.disk) c.in-Ok-append.ensures.durable c.in-Ok-append.ensures.appended
-    s (with_deleted c.args.name.now s) told stands
-    (deleted_after c.args.self.now c.args.name.now c.args.number c.in-Ok.ready.entry (ap (λ (r : Record). r.entry) c.in-Ok.ensures) c.requires.named s (knows_of g.D.Disk.tells (g.D.Disk.state c.args.disk.now) c.args.self.now c.requires.agrees s told stands))
+pub unreachable-requires : goal.unreachable-requires
+unreachable-requires g c =
+    never_full _ _ _ c.in-Err-Full.field-0-is
+    (c.in-Err-Full.ensures.room (subst (λ (e : Entry). length (body_of e) ≤ room_of c.args.self.now) (sym (ap (λ (r : Record). r.entry) c.in-Ok.ensures)) c.requires.fits))
 
-pub returns-in-Ok-append-clause-keeps : goal.returns-in-Ok-append-clause-keeps
-returns-in-Ok-append-clause-keeps g c = λ opened told there.
-    keeps_after g.D.Disk.tells (g.D.Disk.state c.args.disk.now) (g.met.D.Disk.lawful c.args.disk.now) c.args.self.now c.requires.agrees
-    c.in-Ok.ready.entry (delete_allowed c.args.self.now c.args.name.now c.args.number c.in-Ok.ready.entry (ap (λ (r : Record). r.entry) c.in-Ok.ensures) c.requires.named)
-    (fits_ok _ _ _ c.in-Ok-append.ensures.full)
-    (g.D.Disk.state c.append.new.disk) c.in-Ok-append.ensures.images (g.met.D.Disk.lawful c.append.new.disk) c.in-Ok-append.ensures.durable c.in-Ok-append.ensures.appended
-    _ c.in-Ok-append.ensures.tail c.in-Ok-append.ensures.half c.remove.ensures.levels (delete_knows c.args.self.now c.args.name.now c.args.number c.in-Ok.ready.entry (ap (λ (r : Record). r.entry) c.in-Ok.ensures) c.requires.named _ c.in-Ok-remove.ensures.removed)
-    (Delete c.args.number) (ap (λ (r : Record). r.entry) c.in-Ok.ensures) opened told there
-
-pub returns-in-Ok-append-clause-images : goal.returns-in-Ok-append-clause-images
-returns-in-Ok-append-clause-images g c = λ s stands.
-    either g.D.Disk.tells (g.D.Disk.state c.args.disk.now) (g.met.D.Disk.lawful c.args.disk.now) c.args.self.now c.requires.agrees
-    c.in-Ok.ready.entry (delete_allowed c.args.self.now c.args.name.now c.args.number c.in-Ok.ready.entry (ap (λ (r : Record). r.entry) c.in-Ok.ensures) c.requires.named)
-    (fits_ok _ _ _ c.in-Ok-append.ensures.full)
-    (g.D.Disk.state c.append.new.disk) c.in-Ok-append.ensures.images
-    s (with_deleted c.args.name.now s) stands
-    (λ told. deleted_after c.args.self.now c.args.name.now c.args.number c.in-Ok.ready.entry (ap (λ (r : Record). r.entry) c.in-Ok.ensures) c.requires.named s (knows_of g.D.Disk.tells (g.D.Disk.state c.args.disk.now) c.args.self.now c.requires.agrees s told (stands told)))
-
-pub returns-in-Err-Full-clause-images : goal.returns-in-Err-Full-clause-images
-returns-in-Err-Full-clause-images g c = λ s stands.
-    unmoved g.D.Disk.state c.args.disk.now c.append.new.disk (sym (c.in-Err-Full.ensures.full (too_long _ _ _ _ _ c.in-Err-Full.field-0-is c.in-Err-Full.ensures.room)).1) (StandsForEither s (with_deleted c.args.name.now s))
-    (leaves_start g.D.Disk.tells (g.D.Disk.state c.args.disk.now) (StandsForEither s (with_deleted c.args.name.now s)) (g.met.D.Disk.lawful c.args.disk.now)
-    (λ image here. inl (images_stand g.D.Disk.tells (g.D.Disk.state c.args.disk.now) s (g.met.D.Disk.lawful c.args.disk.now) c.requires.agrees.settled stands image here)))
-
-pub returns-clause-images : goal.returns-clause-images
-returns-clause-images g c = λ s stands.
-    either g.D.Disk.tells (g.D.Disk.state c.args.disk.now) (g.met.D.Disk.lawful c.args.disk.now) c.args.self.now c.requires.agrees
-    c.in-Ok.ready.entry (delete_allowed c.args.self.now c.args.name.now c.args.number c.in-Ok.ready.entry (ap (λ (r : Record). r.entry) c.in-Ok.ensures) c.requires.named)
-    (fits_failed _ _ _ c.in-Err-Disk.field-0-is c.in-Err-Disk.ensures.full)
+pub returns-clause-enters : goal.returns-clause-enters
+returns-clause-enters g c =
+    let store = c.args.self.now in
+    let entry = c.in-Ok.ready.entry in
+    let is = ap (λ (r : Record). r.entry) c.in-Ok.ensures in
+    let named = λ (s : State) (knows : Knows store s). named_at store s knows c.args.name.now c.args.number (c.requires.named s knows) in
+    enters_failed g.D.Disk.tells (g.D.Disk.state c.args.disk.now) (g.met.D.Disk.lawful c.args.disk.now) store c.requires.agrees
+    entry (delete_allowed store c.args.name.now c.args.number entry is named)
+    (subst (λ (e : Entry). length (body_of e) ≤ room_of store) (sym is) c.requires.fits)
     (g.D.Disk.state c.append.new.disk) c.in-Err-Disk.ensures.images
-    s (with_deleted c.args.name.now s) stands
-    (λ told. deleted_after c.args.self.now c.args.name.now c.args.number c.in-Ok.ready.entry (ap (λ (r : Record). r.entry) c.in-Ok.ensures) c.requires.named s (knows_of g.D.Disk.tells (g.D.Disk.state c.args.disk.now) c.args.self.now c.requires.agrees s told (stands told)))
-
-pub returns-in-Err-Full-clause-full_room : goal.returns-in-Err-Full-clause-full_room
-returns-in-Err-Full-clause-full_room g c = λ need gap told e.
-    let full = c.in-Err-Full.ensures.full (too_long _ _ _ _ _ c.in-Err-Full.field-0-is c.in-Err-Full.ensures.room) in
-    room_left g.D.Disk.state c.args.disk.now c.append.new.disk full.1 c.args.self.now (c.requires.agrees.content told) _ _ _ need gap _ c.in-Err-Full.field-0-is full.0 e
-
-pub returns-in_default-clause-images : goal.returns-in_default-clause-images
-returns-in_default-clause-images g c = λ s stands.
-    leaves_start g.D.Disk.tells (g.D.Disk.state c.args.disk.now) (StandsForEither s (with_deleted c.args.name.now s)) (g.met.D.Disk.lawful c.args.disk.now)
-    (λ image here. inl (images_stand g.D.Disk.tells (g.D.Disk.state c.args.disk.now) s (g.met.D.Disk.lawful c.args.disk.now) c.requires.agrees.settled stands image here))
-
-pub returns-in_default-remove-clause-images : goal.returns-in_default-remove-clause-images
-returns-in_default-remove-clause-images g c = λ s stands.
-    leaves_start g.D.Disk.tells (g.D.Disk.state c.args.disk.now) (StandsForEither s (with_deleted c.args.name.now s)) (g.met.D.Disk.lawful c.args.disk.now)
-    (λ image here. inl (images_stand g.D.Disk.tells (g.D.Disk.state c.args.disk.now) s (g.met.D.Disk.lawful c.args.disk.now) c.requires.agrees.settled stands image here))
+    _ (Delete c.args.number) (with_deleted c.args.name.now) (deleted_after store c.args.name.now c.args.number entry is named)
+    _ refl (c.in-Err-Disk.ensures.cause (ap_err c.in-Err-Disk.field-0-is))
+    (costs_appended _ _ c.in-Err-Disk.ensures.faults c.in-Err-Disk.ensures.taken c.in-Err-Disk.ensures.same_limit)

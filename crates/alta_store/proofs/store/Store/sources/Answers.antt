@@ -9,8 +9,8 @@ use Rattle.alta_store.proofs.store.Store.sources.Goals as goal
 
 pub returns : goal.returns
 returns c =
-    let s = c.requires.0 in
-    let knows = c.requires.1 in
+    let s = c.requires.state in
+    let knows = c.requires.knows in
     let memory = c.newest.ensures.memory in
     let gone = c.newest.ensures.gone in
     let rows = c.in_ok-rows.ensures

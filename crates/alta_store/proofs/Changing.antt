@@ -1,0 +1,283 @@
+-- Calls that change a store, one behind the other.
+use Rattle.std.proofs.Common.{◌≡◌, ◌⊎◌, inl, inr, ⊎_elim, ℕ, ◌+◌, ◌≤◌, Bool, true, false, cond, List, refl, sym, ◌∙◌, ap, subst, arith, Result, Ok, Err}
+use Rattle.std.specs.Prelude.{Some}
+use Rattle.alta_codec.specs.Faults.{Rose}
+use Rattle.alta_disk.specs.Calls.{Costs}
+use Rattle.alta_disk.specs.Disk.{DiskState, IsLawful, LeavesOnly}
+use Rattle.alta_disk.proofs.Moments.{leaves_as, leaves_start, leaves_then}
+use Rattle.alta_images.specs.Chain.{◌>>=◌}
+use Rattle.alta_images.specs.Holding.{Holding, IsHeld}
+use Rattle.alta_images.specs.Opened.{Opened, IsOpened}
+use Rattle.alta_images.specs.Standing.{StandsFor, StandsForEither}
+use Rattle.alta_images.specs.Switching.{with_entry}
+use Rattle.alta_images.specs.Work.{enters, fits}
+use Rattle.alta_images.specs.Working.{Full, entered}
+use Rattle.alta_images.proofs.Tests.{by_test}
+use Rattle.alta_journal.specs.declared.entry.Entry.{Entry}
+use Rattle.alta_journal.specs.declared.entry.Entry.TheVariants.{Delete}
+use Rattle.alta_meta.specs.declared.document.State.{State}
+use Rattle.alta_store.specs.Agreement.{Agrees, Keeps, Knows}
+use Rattle.alta_store.specs.Answers.{IsOutside}
+use Rattle.alta_store.specs.Calls.{BecomesFlushed, Changes, Enters, IsNarrow, MakesRoom, NoRefusal, Obeys, flushed_apart}
+use Rattle.alta_store.specs.declared.fault.StoreFault.{StoreFault}
+use Rattle.alta_store.specs.declared.fault.StoreFault.TheVariants as faults
+use Rattle.alta_store.specs.declared.store.Store.{Store}
+use Rattle.alta_store.proofs.Agreements.{images_stand}
+
+abbrev Work : Type 0
+Work = ℕ → Holding → Result Holding Full
+
+abbrev Turns : Type 1
+Turns = ℕ → Opened → Opened → Type 0
+
+-- ---- nothing was called
+
+pub costs_none : (bytes : ℕ) (a : DiskState) → Costs bytes a a
+costs_none bytes a = record { faults = omega arith; taken_up = omega arith; taken = omega arith; limit = refl }
+
+-- what an append costs
+pub costs_appended : (a b : DiskState) → a.faults ≤ b.faults → b.taken ≡ a.taken → b.limit ≡ a.limit → Costs 0 a b
+costs_appended a b faults taken limit = record { faults = faults; taken_up = omega (arith, taken); taken = omega (arith, taken); limit = limit }
+
+-- memory was wanting before a call
+pub changes_none : {T : Type 0} (tells : Type 0) (work : Work) (turns : Turns) (step : State → State) (refuses : StoreFault → Type 0) (bytes : ℕ) (a : DiskState) (store later : Store) (fault : StoreFault)
+    → IsLawful tells a → Agrees tells a store → fault ≡ faults.Memory → Changes {T = T} tells work turns step refuses bytes a a store later (Err fault)
+changes_none {T} tells work turns step refuses bytes a store later fault lawful agrees is = record {
+  agrees = tt;
+  knows = λ s knows. tt;
+  works = λ held told has. tt;
+  full = λ held need gap told has e. absurd (no_full need gap e);
+  images = λ s stands. leaves_start tells a (StandsForEither s (step s)) lawful (λ image here. inl (images_stand tells a s lawful agrees.settled stands image here));
+  stands = λ s told stands. tt;
+  becomes = λ o told opened. tt;
+  narrow = λ need gap told e. absurd (no_full need gap e);
+  only = inl (inl is);
+  cause = λ e. absurd (no_disk e);
+  costs = costs_none bytes a;
+}
+  where
+    no_full : (need gap : ℕ) → ◌≡◌ {A = Result T StoreFault} (Err fault) (Err (faults.Full need gap)) → ⊥
+    no_full need gap e = absurd cc
+
+    no_disk : ◌≡◌ {A = Result T StoreFault} (Err fault) (Err faults.Disk) → ⊥
+    no_disk e = absurd cc
+
+-- nothing was to be done
+pub changes_idle : (tells : Type 0) (work : Work) (turns : Turns) (bytes : ℕ) (a : DiskState) (store : Store) (u : Unit {0})
+    → IsLawful tells a → Agrees tells a store → ((held : Holding) → tells → IsHeld held a.content → work a.limit held ≡ Ok held)
+    → ((o : Opened) → tells → IsOpened o a.content → turns a.limit o o × Keeps store o) → Changes tells work turns (λ s. s) NoRefusal bytes a a store store (Ok u)
+changes_idle tells work turns bytes a store u lawful agrees same still = record {
+  agrees = agrees;
+  knows = λ s knows. knows;
+  works = λ held told has. (held, same held told has, has);
+  full = λ held need gap told has e. absurd (not_ok (faults.Full need gap) e);
+  images = λ s stands. leaves_start tells a (StandsForEither s s) lawful (λ image here. inl (images_stand tells a s lawful agrees.settled stands image here));
+  stands = λ s told stands. stands;
+  becomes = λ o told opened. (o, (still o told opened).0, opened, (still o told opened).1);
+  narrow = λ need gap told e. absurd (not_ok (faults.Full need gap) e);
+  only = tt;
+  cause = λ e. absurd (not_ok faults.Disk e);
+  costs = costs_none bytes a;
+}
+  where
+    not_ok : (fault : StoreFault) → ◌≡◌ {A = Result (Unit {0}) StoreFault} (Ok u) (Err fault) → ⊥
+    not_ok fault e = absurd cc
+
+-- ---- the same in other words
+
+pub changes_as : {T : Type 0} (tells : Type 0) (work work' : Work) (turns turns' : Turns) (step : State → State) (refuses refuses' : StoreFault → Type 0) (bytes : ℕ) (a b : DiskState) (store later : Store) (result : Result T StoreFault)
+    → ((held : Holding) → tells → IsHeld held a.content → work a.limit held ≡ work' a.limit held) → ((o p : Opened) → tells → IsOpened o a.content → turns a.limit o p → turns' a.limit o p) → ((e : StoreFault) → refuses e → refuses' e)
+    → Changes tells work turns step refuses bytes a b store later result → Changes tells work' turns' step refuses' bytes a b store later result
+changes_as {T} tells work work' turns turns' step refuses refuses' bytes a b store later (Ok x) same leads may c = record {
+  agrees = c.agrees;
+  knows = c.knows;
+  works = λ held told has. let w = c.works held told has in (w.0, sym (same held told has) ∙ w.1, w.2);
+  full = λ held need gap told has e. sym (same held told has) ∙ c.full held need gap told has e;
+  images = c.images;
+  stands = c.stands;
+  becomes = λ o told opened. let w = c.becomes o told opened in (w.0, leads o w.0 told opened w.1, w.2, w.3);
+  narrow = c.narrow;
+  only = tt;
+  cause = c.cause;
+  costs = c.costs;
+}
+changes_as {T} tells work work' turns turns' step refuses refuses' bytes a b store later (Err fault) same leads may c = record {
+  agrees = tt;
+  knows = λ s knows. tt;
+  works = λ held told has. tt;
+  full = λ held need gap told has e. sym (same held told has) ∙ c.full held need gap told has e;
+  images = c.images;
+  stands = λ s told stands. tt;
+  becomes = λ o told opened. tt;
+  narrow = c.narrow;
+  only = ⊎_elim (λ outside. inl outside) (λ rest. ⊎_elim (λ refused. inr (inl (may fault refused))) (λ full. inr (inr full)) rest) c.only;
+  cause = c.cause;
+  costs = c.costs;
+}
+
+-- what a call that was done answers makes no difference
+pub changes_ok : {T X : Type 0} (tells : Type 0) (work : Work) (turns : Turns) (step : State → State) (refuses : StoreFault → Type 0) (bytes : ℕ) (a b : DiskState) (store later : Store) (x : T) (y : X)
+    → Changes tells work turns step refuses bytes a b store later (Ok x) → Changes tells work turns step refuses bytes a b store later (Ok y)
+changes_ok {T} {X} tells work turns step refuses bytes a b store later x y c = record {
+  agrees = c.agrees;
+  knows = c.knows;
+  works = c.works;
+  full = λ held need gap told has e. absurd (not_ok (faults.Full need gap) e);
+  images = c.images;
+  stands = c.stands;
+  becomes = c.becomes;
+  narrow = λ need gap told e. absurd (not_ok (faults.Full need gap) e);
+  only = tt;
+  cause = λ e. absurd (not_ok faults.Disk e);
+  costs = c.costs;
+}
+  where
+    not_ok : (fault : StoreFault) → ◌≡◌ {A = Result X StoreFault} (Ok y) (Err fault) → ⊥
+    not_ok fault e = absurd cc
+
+pub some_is : {X : Type 0} (x y : X) → Some x ≡ Some y → x ≡ y
+some_is x y e = cc
+
+-- the fault of a call that failed, handed on
+pub changes_fault : {T X : Type 0} (tells : Type 0) (work : Work) (turns : Turns) (step : State → State) (refuses refuses' : StoreFault → Type 0) (bytes : ℕ) (a b : DiskState) (store later last : Store) (fault other : StoreFault)
+    → other ≡ fault → ((e : StoreFault) → refuses e → refuses' e) → Changes {T = T} tells work turns step refuses bytes a b store later (Err fault) → Changes {T = X} tells work turns step refuses' bytes a b store last (Err other)
+changes_fault {T} {X} tells work turns step refuses refuses' bytes a b store later last fault other is may c = record {
+  agrees = tt;
+  knows = λ s knows. tt;
+  works = λ held told has. tt;
+  full = λ held need gap told has e. c.full held need gap told has (carried (faults.Full need gap) e);
+  images = c.images;
+  stands = λ s told stands. tt;
+  becomes = λ o told opened. tt;
+  narrow = λ need gap told e. c.narrow need gap told (carried (faults.Full need gap) e);
+  only = subst (λ (f : StoreFault). IsOutside f ⊎ (refuses' f ⊎ ((need : ℕ) × (gap : ℕ) × (f ≡ faults.Full need gap)))) (sym is)
+      (⊎_elim (λ outside. inl outside) (λ rest. ⊎_elim (λ refused. inr (inl (may fault refused))) (λ full. inr (inr full)) rest) c.only);
+  cause = λ e. c.cause (carried faults.Disk e);
+  costs = c.costs;
+}
+  where
+    carried : (f : StoreFault) → ◌≡◌ {A = Result X StoreFault} (Err other) (Err f) → ◌≡◌ {A = Result T StoreFault} (Err fault) (Err f)
+    carried f e = ap (λ (g : StoreFault). Err g) (sym is ∙ same other f e)
+      where
+        same : (g h : StoreFault) → ◌≡◌ {A = Result X StoreFault} (Err g) (Err h) → g ≡ h
+        same g h e = cc
+
+-- ---- one behind the other
+
+pub costs_then : (m n : ℕ) (a b c : DiskState) → Costs m a b → Costs n b c → Costs (m + n) a c
+costs_then m n a b c one two = record {
+  faults = omega (arith, one.faults, two.faults);
+  taken_up = omega (arith, one.taken_up, two.taken_up);
+  taken = omega (arith, one.taken, two.taken);
+  limit = two.limit ∙ one.limit;
+}
+
+rose_later : (m n k : ℕ) → m ≤ n → Rose n k → Rose m k
+rose_later m n k le rose = grind (arith, le, rose)
+
+chain_ok : (work then : Work) (limit : ℕ) (held middle : Holding) → work limit held ≡ Ok middle → (work limit held >>= then limit) ≡ then limit middle
+chain_ok work then limit held middle is = ap (λ (r : Result Holding Full). r >>= then limit) is
+
+chain_err : (work then : Work) (limit : ℕ) (held : Holding) (full : Full) → work limit held ≡ Err full → (work limit held >>= then limit) ≡ Err full
+chain_err work then limit held full is = ap (λ (r : Result Holding Full). r >>= then limit) is
+
+-- the first failed
+pub changes_failed : {T : Type 0} (tells : Type 0) (work then : Work) (turns next : Turns) (step : State → State) (refuses : StoreFault → Type 0) (m n : ℕ) (a b : DiskState) (store middle : Store) (fault : StoreFault)
+    → Changes {T = Unit {0}} tells work turns (λ s. s) NoRefusal m a b store middle (Err fault)
+    → Changes {T = T} tells (λ limit held. work limit held >>= then limit) (λ limit o p. (q : Opened) × turns limit o q × next limit q p) step refuses (m + n) a b store middle (Err fault)
+changes_failed {T} tells work then turns next step refuses m n a b store middle fault c = record {
+  agrees = tt;
+  knows = λ s knows. tt;
+  works = λ held told has. tt;
+  full = λ held need gap told has e. chain_err work then a.limit held (record { need = need; gap = gap }) (c.full held need gap told has (carried (faults.Full need gap) e));
+  images = λ s stands. leaves_as a b (StandsForEither s s) (StandsForEither s (step s)) (c.images s stands) (λ image either. ⊎_elim (λ here. inl here) (λ here. inl here) either);
+  stands = λ s told stands. tt;
+  becomes = λ o told opened. tt;
+  narrow = λ need gap told e. c.narrow need gap told (carried (faults.Full need gap) e);
+  only = ⊎_elim (λ outside. inl outside) (λ rest. ⊎_elim (λ refused. absurd refused) (λ full. inr (inr full)) rest) c.only;
+  cause = λ e. c.cause (carried faults.Disk e);
+  costs = record { faults = c.costs.faults; taken_up = c.costs.taken_up; taken = omega (arith, c.costs.taken); limit = c.costs.limit };
+}
+  where
+    carried : (other : StoreFault) → ◌≡◌ {A = Result T StoreFault} (Err fault) (Err other) → ◌≡◌ {A = Result (Unit {0}) StoreFault} (Err fault) (Err other)
+    carried other e = ap (λ (f : StoreFault). Err f) (same fault other e)
+      where
+        same : (f g : StoreFault) → ◌≡◌ {A = Result T StoreFault} (Err f) (Err g) → f ≡ g
+        same f g e = cc
+
+-- both were done, or the second failed
+module _ (tells : Type 0) (work then : Work) (turns next : Turns) (step : State → State) (refuses : StoreFault → Type 0) (m n : ℕ) (a b c : DiskState) (store middle later : Store) (u : Unit {0})
+    (one : Changes tells work turns (λ s. s) NoRefusal m a b store middle (Ok u)) where
+  narrow_then : (need gap : ℕ) → IsNarrow b.limit c.content need gap → IsNarrow a.limit c.content need gap
+  narrow_then need gap narrow = subst (λ (limit : ℕ). IsNarrow limit c.content need gap) one.costs.limit narrow
+
+  abbrev both : Work
+  both = λ limit held. work limit held >>= then limit
+
+  abbrev through : Turns
+  through = λ limit o p. (q : Opened) × turns limit o q × next limit q p
+
+  images_then : {T : Type 0} (result : Result T StoreFault) → Changes tells then next step refuses n b c middle later result → (s : State) → (tells → StandsFor s a.content) → LeavesOnly (StandsForEither s (step s)) a c
+  images_then result two s stands =
+      leaves_then a b c (StandsForEither s (step s))
+      (leaves_as a b (StandsForEither s s) (StandsForEither s (step s)) (one.images s stands) (λ image either. ⊎_elim (λ here. inl here) (λ here. inl here) either))
+      (two.images s (λ told. one.stands s told (stands told)))
+
+  pub changes_then : {T : Type 0} (result : Result T StoreFault) → Changes tells then next step refuses n b c middle later result → Changes tells both through step refuses (m + n) a c store later result
+  changes_then (Ok x) two = record {
+    agrees = two.agrees;
+    knows = λ s knows. two.knows s (one.knows s knows);
+    works = λ held told has.
+        let w = one.works held told has in
+        let v = two.works w.0 told w.2 in
+        (v.0, chain_ok work then a.limit held w.0 w.1 ∙ ap (λ (limit : ℕ). then limit w.0) (sym one.costs.limit) ∙ v.1, v.2);
+    full = λ held need gap told has e. let w = one.works held told has in chain_ok work then a.limit held w.0 w.1 ∙ ap (λ (limit : ℕ). then limit w.0) (sym one.costs.limit) ∙ two.full w.0 need gap told w.2 e;
+    images = images_then (Ok x) two;
+    stands = λ s told stands. two.stands s told (one.stands s told stands);
+    becomes = λ o told opened.
+        let w = one.becomes o told opened in
+        let v = two.becomes w.0 told w.2 in
+        (v.0, (w.0, w.1, subst (λ (limit : ℕ). next limit w.0 v.0) one.costs.limit v.1), v.2, v.3);
+    narrow = λ need gap told e. narrow_then need gap (two.narrow need gap told e);
+    only = tt;
+    cause = λ e. rose_later a.faults b.faults c.faults one.costs.faults (two.cause e);
+    costs = costs_then m n a b c one.costs two.costs;
+  }
+  changes_then (Err fault) two = record {
+    agrees = tt;
+    knows = λ s knows. tt;
+    works = λ held told has. tt;
+    full = λ held need gap told has e. let w = one.works held told has in chain_ok work then a.limit held w.0 w.1 ∙ ap (λ (limit : ℕ). then limit w.0) (sym one.costs.limit) ∙ two.full w.0 need gap told w.2 e;
+    images = images_then (Err fault) two;
+    stands = λ s told stands. tt;
+    becomes = λ o told opened. tt;
+    narrow = λ need gap told e. narrow_then need gap (two.narrow need gap told e);
+    only = two.only;
+    cause = λ e. rose_later a.faults b.faults c.faults one.costs.faults (two.cause e);
+    costs = costs_then m n a b c one.costs two.costs;
+  }
+
+-- ---- an entry, behind a flush where it does not fit
+
+enter_work : (entry : Entry) (limit : ℕ) (held : Holding) → (cond (fits held.view.entries entry) (Ok held) (flushed_apart limit held) >>= λ then. Ok (entered then entry))
+    ≡ cond (fits held.view.entries entry) (Ok (entered held entry)) (flushed_apart limit held >>= λ then. Ok (entered then entry))
+enter_work entry limit held = by_case (fits held.view.entries entry)
+  where
+    by_case : (b : Bool) → (cond b (Ok held) (flushed_apart limit held) >>= λ then. Ok (entered then entry)) ≡ cond b (Ok (entered held entry)) (flushed_apart limit held >>= λ then. Ok (entered then entry))
+    by_case true = refl
+    by_case false = refl
+
+pub obeys_entry : {T : Type 0} (tells : Type 0) (entry : Entry) (step : State → State) (a b : DiskState) (store later : Store) (result : Result T StoreFault)
+    → Changes tells (λ limit held. cond (fits held.view.entries entry) (Ok held) (flushed_apart limit held) >>= λ then. Ok (entered then entry))
+    (λ limit o p. (q : Opened) × (((fits o.entries entry ≡ true) × (q ≡ o)) ⊎ ((fits o.entries entry ≡ false) × BecomesFlushed limit o q)) × (p ≡ with_entry q entry)) step NoRefusal (1 + 0) a b store later result
+    → Obeys tells (enters entry) step NoRefusal a b store later result
+obeys_entry tells entry step a b store later result c =
+    changes_as tells _ _ _ _ step NoRefusal NoRefusal 1 a b store later result (λ held told has. enter_work entry a.limit held)
+    (λ o p told opened turned.
+    ⊎_elim (λ fitted. inl (fitted.0, turned.2 ∙ ap (λ (q : Opened). with_entry q entry) fitted.1)) (λ flushed. inr (flushed.0, turned.0, flushed.1, turned.2)) turned.1)
+    (λ e refused. refused) c
+
+-- a delete by the same number
+pub deletes_as : {T : Type 0} (tells : Type 0) (m n : ℕ) (step : State → State) (a b : DiskState) (store later : Store) (result : Result T StoreFault) → m ≡ n
+    → Obeys tells (enters (Delete m)) step NoRefusal a b store later result → Obeys tells (enters (Delete n)) step NoRefusal a b store later result
+deletes_as tells m n step a b store later result is obeys = subst (λ (k : ℕ). Obeys tells (enters (Delete k)) step NoRefusal a b store later result) is obeys
