@@ -1,5 +1,5 @@
 -- Calls that change a store, one behind the other.
-use Rattle.std.proofs.Common.{◌≡◌, ◌⊎◌, inl, inr, ⊎_elim, ℕ, ◌+◌, ◌≤◌, Bool, true, false, cond, List, refl, sym, ◌∙◌, ap, subst, arith, Result, Ok, Err}
+use Rattle.std.proofs.Common.{◌≡◌, ◌⊎◌, inl, inr, ⊎_elim, ℕ, ◌+◌, ◌≤◌, Bool, true, false, cond, refl, sym, ◌∙◌, ap, subst, arith, Result, Ok, Err}
 use Rattle.std.specs.Prelude.{Some}
 use Rattle.alta_codec.specs.Faults.{Rose}
 use Rattle.alta_disk.specs.Calls.{Costs}
@@ -12,13 +12,12 @@ use Rattle.alta_images.specs.Standing.{StandsFor, StandsForEither}
 use Rattle.alta_images.specs.Switching.{with_entry}
 use Rattle.alta_images.specs.Work.{enters, fits}
 use Rattle.alta_images.specs.Working.{Full, entered}
-use Rattle.alta_images.proofs.Tests.{by_test}
 use Rattle.alta_journal.specs.declared.entry.Entry.{Entry}
 use Rattle.alta_journal.specs.declared.entry.Entry.TheVariants.{Delete}
 use Rattle.alta_meta.specs.declared.document.State.{State}
-use Rattle.alta_store.specs.Agreement.{Agrees, Keeps, Knows}
+use Rattle.alta_store.specs.Agreement.{Agrees, Keeps}
 use Rattle.alta_store.specs.Answers.{IsOutside}
-use Rattle.alta_store.specs.Calls.{BecomesFlushed, Changes, Enters, IsNarrow, MakesRoom, NoRefusal, Obeys, flushed_apart}
+use Rattle.alta_store.specs.Calls.{BecomesFlushed, Changes, IsNarrow, NoRefusal, Obeys, flushed_apart}
 use Rattle.alta_store.specs.declared.fault.StoreFault.{StoreFault}
 use Rattle.alta_store.specs.declared.fault.StoreFault.TheVariants as faults
 use Rattle.alta_store.specs.declared.store.Store.{Store}

@@ -2,13 +2,12 @@
 use Rattle.std.proofs.Common.{◌≡◌, inr, ℕ, ◌+◌, ◌<◌, ◌≤◌, List, [], ◌∷◌, ◌++◌, length, get_or, take, drop, refl, sym, ◌∙◌, ap, ap₂, subst, arith, ◌-◌, replicate}
 use Rattle.std.proofs.Math.Seq.{take-append-add}
 use Rattle.std.proofs.lemmas.List.{get_or-take, get_or-drop, take-take, drop-take, drop-drop, length-take-le, length-drop, take-append-drop, take-replicate}
-use Rattle.std.proofs.lemmas.List.Elements.{All-nil, All-head, All-tail, All-take, All-drop, All-get_or}
+use Rattle.std.proofs.lemmas.List.Elements.{All-head, All-tail, All-take, All-drop, All-get_or}
 use Rattle.alta_disk.specs.Disk.{Holds}
 use Rattle.alta_disk.specs.Parts.{part}
 use Rattle.alta_disk.specs.Writes.{holds_torn}
 use Rattle.alta_disk.proofs.PartLaws.{part_torn, part_written}
-use Rattle.alta_journal.specs.Places.{half_at}
-use Rattle.alta_journal.specs.declared.places.TheConstants.{START_A, HALF_BYTES, HEAD_BYTES}
+use Rattle.alta_journal.specs.declared.places.TheConstants.{START_A, HEAD_BYTES}
 use Rattle.alta_journal.proofs.HalfLaws.{half_long, half_byte}
 use Rattle.alta_images.specs.States.{empty}
 use Rattle.alta_images.specs.Switching.{empty_root, IsFormatted}

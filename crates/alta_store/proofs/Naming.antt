@@ -6,7 +6,7 @@ use Rattle.alta_catalog.proofs.KnowingLaws.{named_some}
 use Rattle.alta_catalog.proofs.KnownLaws.{one_known}
 use Rattle.alta_catalog.proofs.Naming.{number_known}
 use Rattle.alta_images.specs.Entries.{Allows}
-use Rattle.alta_images.specs.Known.{Known, admits, known_of}
+use Rattle.alta_images.specs.Known.{Known, admits}
 use Rattle.alta_images.specs.States.{has_number, number_of, with_deleted, without}
 use Rattle.alta_images.proofs.KnownLaws.{admitted_from, allowed_from}
 use Rattle.alta_journal.specs.declared.entry.Entry.{Entry}

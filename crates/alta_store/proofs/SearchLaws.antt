@@ -1,9 +1,8 @@
 -- What a search of a store finds.
-use Rattle.std.proofs.Common.{◌≡◌, ℕ, ◌+◌, ◌≤◌, List, [], ◌∷◌, ◌++◌, length, map, refl, sym, ◌∙◌, ap, subst, arith}
+use Rattle.std.proofs.Common.{ℕ, ◌+◌, ◌≤◌, List, [], ◌∷◌, ◌++◌, length, map, sym, ◌∙◌, ap, subst, arith}
 use Rattle.std.specs.List.{All, flat_map}
 use Rattle.std.proofs.lemmas.List.Elements.{All-nil, All-cons, All-head, All-tail, All-weaker}
-use Rattle.alta_catalog.specs.Knowing.{AreParts, KnowsBy}
-use Rattle.alta_catalog.specs.Rows.{documents_left}
+use Rattle.alta_catalog.specs.Knowing.{AreParts}
 use Rattle.alta_catalog.proofs.KnowingLaws.{parts_are}
 use Rattle.alta_catalog.proofs.MayLaws.{levels_left, means_by, whole_of}
 use Rattle.alta_content.specs.declared.document.DocRow.{DocRow}

@@ -1,5 +1,5 @@
 -- A store and its disk.
-use Rattle.std.specs.Prelude.{◌≡◌, ℕ, ◌+◌, ◌-◌, ◌≤◌, ◌<◌, true, List, Bool, map}
+use Rattle.std.specs.Prelude.{◌≡◌, ℕ, ◌≤◌, ◌<◌, true, List, Bool, map}
 use Rattle.std.specs.List.{All}
 use Rattle.alta_content.specs.Rows.{end_of}
 use Rattle.alta_content.specs.declared.document.DocRow.{DocRow}

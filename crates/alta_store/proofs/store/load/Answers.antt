@@ -1,4 +1,4 @@
-use Rattle.std.proofs.Common.{◌≡◌, ◌<◌, List, ℕ, ap, refl, subst, ◌∙◌, sym, arith}
+use Rattle.std.proofs.Common.{◌<◌, List, ℕ, ap, refl, subst, ◌∙◌, sym}
 use Rattle.std.specs.List.{All}
 use Rattle.std.proofs.lemmas.List.Elements.{All-weaker}
 use Rattle.alta_catalog.specs.Rows.{MayStart}
@@ -8,8 +8,8 @@ use Rattle.alta_images.specs.Entries.{after_entries, entries_in}
 use Rattle.alta_table.specs.Tables.{Tables}
 use Rattle.std.specs.Prelude.{Err}
 use Rattle.alta_catalog.proofs.MayLaws.{may_start}
-use Rattle.alta_images.specs.Broken.{HasLevels, IsBrokenAt}
-use Rattle.alta_images.specs.Opened.{half_of, journal_of, rows_in}
+use Rattle.alta_images.specs.Broken.{IsBrokenAt}
+use Rattle.alta_images.specs.Opened.{journal_of, rows_in}
 use Rattle.alta_journal.specs.Journal.{IsBroken}
 use Rattle.alta_journal.specs.Placed.{IsReplay}
 use Rattle.alta_journal.specs.Places.{start_of}

@@ -1,4 +1,4 @@
-use Rattle.std.proofs.Common.{◌≡◌, inl, ⊎_elim, false, refl, rules}
+use Rattle.std.proofs.Common.{◌≡◌, ⊎_elim, false, refl, rules}
 use Rattle.std.proofs.lemmas.Bool.{false≢true, cases_lt}
 use Rattle.alta_images.specs.States.{has_name, with_added}
 use Rattle.alta_store.specs.Calls.{NoRefusal, RefusesAdd}

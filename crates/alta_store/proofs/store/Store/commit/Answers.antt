@@ -1,7 +1,6 @@
-use Rattle.std.proofs.Common.{[], ◌∷◌, ◌++◌, ◌≤◌, List, length, refl, subst, sym}
+use Rattle.std.proofs.Common.{[], ◌∷◌, ◌++◌, ◌≤◌, length, refl, subst, sym}
 use Rattle.alta_catalog.specs.Knowing.{Follows}
 use Rattle.alta_images.specs.States.{with_added}
-use Rattle.alta_journal.specs.Places.{left_behind, start_of}
 use Rattle.alta_journal.specs.Record.{body_of}
 use Rattle.alta_journal.specs.declared.entry.Entry.{Entry}
 use Rattle.alta_journal.specs.declared.entry.Entry.TheVariants.{Add}

@@ -1,10 +1,7 @@
-use Rattle.std.proofs.Common.{◌≡◌, ◌+◌, ◌<◌, ◌≤◌, false, length, refl, sym, subst, arith}
-use Rattle.alta_images.specs.Entries.{Allows}
-use Rattle.alta_images.specs.States.{has_name, with_added}
+use Rattle.std.proofs.Common.{sym, arith}
+use Rattle.alta_images.specs.States.{with_added}
 use Rattle.alta_journal.proofs.Spelling.{add_long, body_long}
 use Rattle.alta_journal.specs.declared.entry.Entry.TheVariants.{Add}
-use Rattle.alta_meta.specs.declared.document.State.{State}
-use Rattle.alta_store.specs.Agreement.{Knows}
 use Rattle.alta_store.specs.Calls.{NoRefusal}
 use Rattle.alta_store.proofs.Changing.{changes_failed, changes_then, obeys_entry}
 use Rattle.alta_store.proofs.Naming.{allowed_alike}

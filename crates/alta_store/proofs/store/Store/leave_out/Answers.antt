@@ -1,6 +1,5 @@
-use Rattle.std.proofs.Common.{◌≡◌, ◌+◌, ◌<◌, ◌≤◌, length, refl, sym, ◌∙◌, subst, arith}
+use Rattle.std.proofs.Common.{◌∙◌, arith}
 use Rattle.alta_images.specs.States.{with_deleted}
-use Rattle.alta_journal.proofs.Spelling.{body_long, delete_long}
 use Rattle.alta_journal.specs.declared.entry.Entry.TheVariants.{Delete}
 use Rattle.alta_store.specs.Calls.{NoRefusal}
 use Rattle.alta_store.proofs.Changing.{changes_failed, changes_then, obeys_entry}

@@ -1,4 +1,4 @@
-use Rattle.std.proofs.Common.{◌≡◌, ◌+◌, ◌-◌, ◌<◌, ◌≤◌, length, refl, sym, subst, arith}
+use Rattle.std.proofs.Common.{arith}
 use Rattle.alta_store.proofs.Flushing.{room_idle, room_made}
 use Rattle.alta_store.proofs.store.Store.make_room.Goals as goal
 

@@ -1,4 +1,4 @@
-use Rattle.std.proofs.Common.{◌≡◌, ap, arith, map, List, ℕ, refl, sym, ◌∙◌, subst, Err}
+use Rattle.std.proofs.Common.{ap, arith, map, List, ℕ, refl, sym, ◌∙◌, subst, Err}
 use Rattle.alta_flush.specs.declared.fault.FlushFault.{FlushFault}
 use Rattle.alta_memlevel.specs.Added.{Added, HasContent, Level, live_of}
 use Rattle.alta_store.specs.declared.store.Store.{Store}

@@ -1,4 +1,4 @@
-use Rattle.std.proofs.Common.{[], ◌∷◌, ◌++◌, ◌≤◌, ap, List, length, refl, subst, sym}
+use Rattle.std.proofs.Common.{[], ◌∷◌, ◌++◌, ◌≤◌, ap, length, refl, subst, sym}
 use Rattle.alta_catalog.specs.Knowing.{Follows}
 use Rattle.alta_images.specs.States.{with_deleted}
 use Rattle.alta_journal.specs.Record.{Record, body_of}

@@ -1,9 +1,7 @@
-use Rattle.std.proofs.Common.{◌++◌, IsTrue, List, ap, subst, sym, ◌∙◌, ap₂}
-use Rattle.alta_content.specs.declared.document.DocRow.{DocRow}
+use Rattle.std.proofs.Common.{◌++◌, IsTrue, List, subst, sym, ◌∙◌, ap₂}
 use Rattle.alta_images.specs.Opened.{rows_in}
 use Rattle.alta_images.specs.Ordered.{RowsRise}
-use Rattle.alta_codec.specs.Rising.{IsRising}
-use Rattle.alta_memlevel.specs.Added.{Added, HasContent, Level}
+use Rattle.alta_memlevel.specs.Added.{HasContent, Level}
 use Rattle.alta_table.specs.Tables.{Tables}
 use Rattle.alta_store.proofs.store.Store.sources.Goals as goal
 
