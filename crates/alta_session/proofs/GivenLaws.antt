@@ -1,5 +1,5 @@
 -- Laws of what was given, where it is all replies.
-use Rattle.std.proofs.Common.{◌≡◌, ℕ, ◌+◌, ◌<◌, List, [], ◌∷◌, ◌++◌, length, refl, ap, sym, ◌∙◌, append-nil, length-append, arith}
+use Rattle.std.proofs.Common.{◌≡◌, ℕ, ◌<◌, List, [], ◌∷◌, ◌++◌, length, refl, ap, sym, ◌∙◌, append-nil, length-append, arith}
 use Rattle.alta_console.specs.Replies.{joined}
 use Rattle.alta_console.proofs.ReplyLaws.{joined_append}
 use Rattle.alta_session.specs.Machine.{Machine, step, after, replies}

@@ -1,5 +1,5 @@
 -- Laws of calls of the store that do a task.
-use Rattle.std.proofs.Common.{◌≡◌, ◌⊎◌, ℕ, inl, inr, List, ap, sym, subst, ◌∙◌, Option, Some, Result, Ok, Err}
+use Rattle.std.proofs.Common.{◌≡◌, ◌⊎◌, ℕ, inl, inr, List, ap, sym, subst, ◌∙◌, Option, Some, Ok, Err}
 use Rattle.alta_images.specs.Holding.{Holding, IsHeld}
 use Rattle.alta_images.specs.Work.{Task}
 use Rattle.alta_session.specs.Tasks.{IsWorked, worked_where}

@@ -1,7 +1,6 @@
 -- Laws of lines that ask for the answers of a query.
-use Rattle.std.proofs.Common.{◌≡◌, ◌⊎◌, ◌≤◌, ◌<◌, ◌++◌, ℕ, inl, inr, ⊎_elim, Bool, true, false, cond, List, [], ◌∷◌, length, refl, ap, sym, subst, ◌∙◌, arith, Option, None, Result, Ok, Err, IfOk, IfErr, OnOk, codes, decimal}
+use Rattle.std.proofs.Common.{◌≡◌, ◌⊎◌, ◌≤◌, ◌++◌, ℕ, inl, inr, ⊎_elim, Bool, true, false, cond, List, length, refl, ap, sym, subst, arith, Option, None, Result, Ok, Err, IfOk, IfErr, codes, decimal}
 use Rattle.std.specs.Prelude.{nat_le}
-use Rattle.std.proofs.lemmas.Bool.{cases_lt}
 use Rattle.std.proofs.lemmas.Bool.Decides.{nat_tests}
 use Rattle.alta_disk.specs.Disk.{DiskState, IsLawful, Same}
 use Rattle.alta_disk.proofs.Moments.{leaves_by}
@@ -19,10 +18,9 @@ use Rattle.alta_search.specs.Open.{AreOpen, OpenAnswers, least_free, with_opened
 use Rattle.alta_search.specs.declared.cursors.OpenCursor.{OpenCursor}
 use Rattle.alta_search.specs.declared.cursors.TheConstants.{CURSORS}
 use Rattle.alta_search.proofs.CursorAnswers.{same_length}
-use Rattle.alta_session.specs.Agreement.{AgreesOn}
 use Rattle.alta_session.specs.Answering.{Answers, CanAnswer}
 use Rattle.alta_session.specs.Cursors.{Turn, Turns, opening, opened_by}
-use Rattle.alta_session.specs.Loading.{HasBrokenList, Loads, Queries}
+use Rattle.alta_session.specs.Loading.{HasBrokenList, Queries}
 use Rattle.alta_session.specs.Machine.{IsRefusal, Machine, turned_by}
 use Rattle.alta_session.specs.Searching.{IsNoQuery, answer_lines, counted_by, counting, found_by, found_line, searching}
 use Rattle.alta_session.specs.declared.session.Session.{Session}
@@ -33,7 +31,7 @@ use Rattle.alta_session.proofs.TaskLaws.{worked_none}
 use Rattle.alta_store.specs.Agreement.{Agrees, levels_of}
 use Rattle.alta_store.specs.Answers.{IsOutside}
 use Rattle.alta_store.specs.declared.fault.StoreFault.{StoreFault}
-use Rattle.alta_store.specs.declared.fault.StoreFault.TheVariants.{Disk, Memory, Damaged, Full}
+use Rattle.alta_store.specs.declared.fault.StoreFault.TheVariants.{Damaged, Full}
 use Rattle.alta_store.proofs.Agreements.{images_stand}
 
 ok_both : {T E : Type 0} (r : Result T E) (P Q R : T → Type 0) → ((x : T) → P x → Q x → R x) → IfOk r P → IfOk r Q → IfOk r R

@@ -32,7 +32,7 @@ use Rattle.alta_session.proofs.KeepingLaws.{whole_from_clip, begun_from_clip, la
 use Rattle.alta_session.proofs.MachineLaws.{after_append, replies_append}
 use Rattle.alta_session.proofs.ProgressLaws.{progress_begins, progress_acked, progress_on, progress_full}
 use Rattle.alta_session.proofs.StatusLaws.{ends_not_done, ends_not_long, ends_whole}
-use Rattle.alta_session.proofs.TaskLaws.{lines_on, worked_on}
+use Rattle.alta_session.proofs.TaskLaws.{lines_on}
 use Rattle.alta_store.proofs.Agreements.{images_stand}
 
 -- A run that was in time goes on by a take, and then by gives: it is in time where all was answered before the take.

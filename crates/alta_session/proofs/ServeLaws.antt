@@ -1,5 +1,5 @@
 -- Laws of runs that open what is on the disk.
-use Rattle.std.proofs.Common.{◌≡◌, ℕ, inl, inr, ⊎_elim, List, [], Option, None, refl, ap, sym, subst, ◌∙◌, arith}
+use Rattle.std.proofs.Common.{◌≡◌, ℕ, inl, inr, ⊎_elim, List, [], Option, None, refl, sym, subst, arith}
 use Rattle.alta_console.specs.Transcript.{given_in, lines_in}
 use Rattle.alta_console.specs.declared.event.Event.{Event}
 use Rattle.alta_console.proofs.Laws.{grows_none, consumes_none}

@@ -6,7 +6,6 @@ use Rattle.alta_session.specs.declared.status.Status.TheVariants.{Damaged as Sta
 use Rattle.alta_session.proofs.FedLaws.{fed_line, stops_line, stops_unanswered}
 use Rattle.alta_session.proofs.StatusLaws.{line_ends, line_ends_run, status_damaged, status_full, status_disk}
 use Rattle.alta_store.specs.declared.fault.StoreFault.{StoreFault}
-use Rattle.alta_store.specs.declared.fault.StoreFault.TheVariants.{Damaged, Full}
 use Rattle.alta_session.proofs.serving.answer.Goals as goal
 
 -- the line was not answered

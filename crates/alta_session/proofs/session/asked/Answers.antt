@@ -84,8 +84,7 @@ returns-in_default c =
       closes = c.in_default.not-Close;
       asks_flush = c.in_default.not-Flush;
       asks_stats = c.in_default.not-Stats;
-    } in
-    (
+    } in (
       step_other c.args.bytes.now c.in-Ok.line c.in-Ok.ensures.reading other,
       none_searched c.args.bytes.now c.in-Ok.line c.in-Ok.ensures.reading other,
       none_asked c.args.bytes.now c.in-Ok.line c.in-Ok.ensures.reading other,

@@ -1,4 +1,4 @@
-use Rattle.std.proofs.Common.{refl, ◌≡◌, ◌⊎◌, ◌≤◌, ℕ, true, false, List, ◌++◌, inl, inr, ⊎_elim, ap, sym, subst, ◌∙◌, codes, decimal, Err, rules, arith}
+use Rattle.std.proofs.Common.{refl, ◌≡◌, ◌≤◌, ℕ, true, false, List, ◌++◌, inl, inr, ⊎_elim, ap, sym, subst, ◌∙◌, codes, decimal, Err, rules, arith}
 use Rattle.alta_disk.specs.Disk.{LeavesOnly}
 use Rattle.alta_images.specs.Standing.{StandsFor, StandsForEither}
 use Rattle.alta_images.specs.States.{with_added, has_name}

@@ -1,4 +1,4 @@
-use Rattle.std.proofs.Common.{refl, ◌≡◌, ℕ, List, ap, codes, Err, rules, arith}
+use Rattle.std.proofs.Common.{refl, ◌≡◌, ap, codes, Err, rules, arith}
 use Rattle.std.specs.Prelude.{Some}
 use Rattle.alta_images.specs.Work.{flushes}
 use Rattle.alta_meta.specs.declared.document.State.{State}

@@ -5,11 +5,10 @@ use Rattle.alta_images.specs.Work.{flushes}
 use Rattle.alta_model.specs.Command.{adds, deletes, searches, counts as asks_count, explains, opens, fetches, closes, flushes as asks_flush, asks_stats}
 use Rattle.alta_model.specs.Lines.{Reading, asks}
 use Rattle.alta_search.specs.Open.{AreOpen}
-use Rattle.alta_search.specs.declared.cursors.OpenCursor.{OpenCursor}
 use Rattle.alta_search.specs.declared.cursors.TheConstants.{CURSORS}
 use Rattle.alta_session.specs.Cursors.{opening, fetching, closing}
 use Rattle.alta_session.specs.Loading.{Loads, loads_in, open_loads, text_loads}
-use Rattle.alta_session.specs.Machine.{IsRefusal, LooksIn, SearchesIn, changed_by, adding, deleting, step, stats_of}
+use Rattle.alta_session.specs.Machine.{LooksIn, SearchesIn, changed_by, adding, deleting, step, stats_of}
 use Rattle.alta_session.specs.Searching.{IsNoQuery, searching, counting}
 use Rattle.alta_session.specs.Tasks.{task_of, task_of_add, task_of_delete}
 use Rattle.alta_images.specs.States.{words_in}
