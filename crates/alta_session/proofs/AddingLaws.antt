@@ -85,15 +85,11 @@ refused_for P name title body s named taken full refusal =
     ] refl
 
 -- where nothing refuses it
-pub added_where : (name title body : List ℕ) (s : State) → IsName name → (has_name name s ≡ true → ⊥) → ((has_name name s ≡ false) × (4294967296 ≤ s.next) → ⊥)
-    → adding name title body s ≡ (with_added name title body s, codes "added " ++ decimal s.next ++ codes "\n")
-added_where name title body s named not_taken not_full =
-    elim (has_name name s) as (λ b. has_name name s ≡ b → adding name title body s ≡ (with_added name title body s, codes "added " ++ decimal s.next ++ codes "\n")) [
+pub room_left : (name : List ℕ) (s : State) → (has_name name s ≡ true → ⊥) → ((has_name name s ≡ false) × (4294967296 ≤ s.next) → ⊥) → (has_name name s ≡ false) × (s.next < 4294967296)
+room_left name s not_taken not_full =
+    elim (has_name name s) as (λ b. has_name name s ≡ b → (has_name name s ≡ false) × (s.next < 4294967296)) [
       | true ↦ λ taken. absurd (not_taken taken)
-      | false ↦ λ free. elim (cases_lt s.next 4294967296) [
-        | inl room ↦ adding_added name title body s named free room
-        | inr none ↦ absurd (not_full (free, none))
-      ]
+      | false ↦ λ free. elim (cases_lt s.next 4294967296) [ inl room ↦ (free, room) | inr none ↦ absurd (not_full (free, none)) ]
     ] refl
 
 -- the parts of a line that adds

@@ -1,21 +1,23 @@
 -- Laws of what the calls of a session do.
-use Rattle.std.proofs.Common.{◌≡◌, ◌+◌, ◌≤◌, ℕ, inl, List, refl, ap, sym, subst, ◌∙◌, arith, Result, Ok, Err, IfOk, IfErr, OnOk}
+use Rattle.std.proofs.Common.{◌≡◌, ◌≤◌, ℕ, inl, List, refl, ap, sym, subst, ◌∙◌, arith, Option, None, Result, Ok, Err, IfOk, IfErr, OnOk}
 use Rattle.std.proofs.lemmas.Result.{IfOk-weaker}
 use Rattle.alta_disk.specs.Disk.{DiskState, LeavesOnly, IsLawful}
 use Rattle.alta_disk.proofs.Moments.{leaves_start}
 use Rattle.alta_meta.specs.declared.document.State.{State}
 use Rattle.alta_search.specs.Open.{AreOpen, OpenAnswers}
 use Rattle.alta_search.specs.declared.cursors.OpenCursor.{OpenCursor}
-use Rattle.alta_session.specs.Agreement.{AgreesOn, room_in}
+use Rattle.alta_session.specs.Agreement.{AgreesOn}
 use Rattle.alta_session.specs.Answering.{CanAnswer, IsReply, AnswersFrom, Answers}
 use Rattle.alta_session.specs.Cursors.{Turn, Turns}
-use Rattle.alta_session.specs.Fullness.{bytes_of_change}
 use Rattle.alta_session.specs.Machine.{Machine, changed_by, turned_by, IsRefusal}
+use Rattle.alta_session.specs.Tasks.{IsWorked, worked_where}
 use Rattle.alta_session.specs.declared.session.Session.{Session}
 use Rattle.alta_session.proofs.AgreementLaws.{agrees_changed, knows_state}
-use Rattle.alta_session.proofs.FullnessLaws.{none_added}
+use Rattle.alta_session.proofs.TaskLaws.{worked_none}
 use Rattle.alta_store.specs.Agreement.{Knows}
+use Rattle.alta_images.specs.Holding.{Holding, IsHeld}
 use Rattle.alta_images.specs.Standing.{StandsFor, StandsForEither}
+use Rattle.alta_images.specs.Work.{Task}
 use Rattle.alta_store.specs.declared.fault.StoreFault.{StoreFault}
 use Rattle.alta_store.specs.declared.fault.StoreFault.TheVariants.{Disk, Memory, Damaged, Full}
 use Rattle.alta_store.specs.declared.store.Store.{Store}
@@ -48,22 +50,20 @@ same_fault r e f is other = cc (sym is ∙ other)
 pub stays : (tells : Type 0) (d : DiskState) (session : Session) (m : Machine) → IsLawful tells d → AgreesOn tells d session m → LeavesOnly (StandsForEither m.state m.state) d d
 stays tells d session m lawful agrees = leaves_start tells d (StandsForEither m.state m.state) lawful (λ c here. inl (images_stand tells d m.state lawful agrees.store.settled agrees.stands c here))
 
--- The machine stays as it is, and this is the reply.
-pub record Rests (m : Machine) (stepped : Machine × List ℕ) (text : List ℕ) : Type 0 where
+-- The machine stays as it is, nothing is asked of the store, and this is the reply.
+pub record Rests (m : Machine) (stepped : Machine × List ℕ) (task : Option Task) (text : List ℕ) : Type 0 where
+  pub task_none : task ≡ None
   pub state : stepped.0.state ≡ m.state
   pub cursors : stepped.0.cursors ≡ m.cursors
   pub reply : stepped.1 ≡ text
 
-none_written : (bytes : ℕ) (s t : State) → t ≡ s → bytes_of_change bytes s t ≡ 0
-none_written bytes s t is = ap (λ (x : State). bytes_of_change bytes s x) is ∙ none_added bytes s
-
 -- A call that only looks, whose reply may depend on the machine.
-pub looked_at : {D : Type 0} (tells : Type 0) (state : D → DiskState) (disk : D) (session : Session) (bytes : ℕ) (result : Result (List ℕ) StoreFault) (steps : Machine → Machine × List ℕ) (text : Machine → List ℕ) → IsLawful tells (state disk) → CanAnswer tells (state disk) session
+pub looked_at : {D : Type 0} (tells : Type 0) (state : D → DiskState) (disk : D) (session : Session) (result : Result (List ℕ) StoreFault) (steps : Machine → Machine × List ℕ) (tasks : Machine → Option Task) (text : Machine → List ℕ) → IsLawful tells (state disk) → CanAnswer tells (state disk) session
     → IfErr result (λ e. e ≡ Memory)
-    → ((m : Machine) → tells → AgreesOn tells (state disk) session m → Rests m (steps m) (text m) × IfOk result (λ r. r ≡ text m)) → Answers tells state disk disk session session bytes result steps
-looked_at tells state disk session bytes result steps text lawful can memory rests = record {
+    → ((m : Machine) → tells → AgreesOn tells (state disk) session m → Rests m (steps m) (tasks m) (text m) × IfOk result (λ r. r ≡ text m)) → Answers tells state disk disk session session result steps tasks
+looked_at tells state disk session result steps tasks text lawful can memory rests = record {
   from = λ m tell agrees.
-      let rest : Rests m (steps m) (text m) = (rests m tell agrees).0 in
+      let rest : Rests m (steps m) (tasks m) (text m) = (rests m tell agrees).0 in
       let now : AgreesOn tells (state disk) session (steps m).0 = record {
         store = agrees.store;
         stands = λ told. subst (λ (s : State). StandsFor s (state disk).content) (sym rest.state) (agrees.stands told);
@@ -74,9 +74,9 @@ looked_at tells state disk session bytes result steps text lawful can memory res
         agrees = if_so result (AgreesOn tells (state disk) session (steps m).0) now;
         images = subst (λ (s : State). LeavesOnly (StandsForEither m.state s) (state disk) (state disk)) (sym rest.state) (stays tells (state disk) session m lawful agrees);
         refused = λ refusal. (refl, memory);
-        need = λ need gap is. let wanting : Full need gap ≡ Memory = is_memory result (Full need gap) memory is in absurd cc;
+        works = λ held here. if_so result _ (worked_none (state disk).limit held (tasks m) (state disk).content rest.task_none here);
+        full = λ held need gap here is. let wanting : Full need gap ≡ Memory = is_memory result (Full need gap) memory is in absurd cc;
         undamaged = λ place is. let wanting : Damaged place ≡ Memory = is_memory result (Damaged place) memory is in absurd cc;
-        room = if_so result _ (omega (arith, none_written bytes m.state (steps m).0.state rest.state));
       };
   can = if_so result (CanAnswer tells (state disk) session) can;
   unchanged = if_all result _ (λ r refusal. (refl, refl));
@@ -88,10 +88,10 @@ looked_at tells state disk session bytes result steps text lawful can memory res
   same_limit = refl;
 }
 
-pub looked : {D : Type 0} (tells : Type 0) (state : D → DiskState) (disk : D) (session : Session) (bytes : ℕ) (result : Result (List ℕ) StoreFault) (steps : Machine → Machine × List ℕ) (text : List ℕ) → IsLawful tells (state disk) → CanAnswer tells (state disk) session → IsReply text result
-    → ((m : Machine) → tells → AgreesOn tells (state disk) session m → Rests m (steps m) text) → Answers tells state disk disk session session bytes result steps
-looked tells state disk session bytes result steps text lawful can reply rests =
-    looked_at tells state disk session bytes result steps (λ m. text) lawful can reply.memory (λ m tell agrees. (rests m tell agrees, reply.reply))
+pub looked : {D : Type 0} (tells : Type 0) (state : D → DiskState) (disk : D) (session : Session) (result : Result (List ℕ) StoreFault) (steps : Machine → Machine × List ℕ) (tasks : Machine → Option Task) (text : List ℕ) → IsLawful tells (state disk) → CanAnswer tells (state disk) session → IsReply text result
+    → ((m : Machine) → tells → AgreesOn tells (state disk) session m → Rests m (steps m) (tasks m) text) → Answers tells state disk disk session session result steps tasks
+looked tells state disk session result steps tasks text lawful can reply rests =
+    looked_at tells state disk session result steps tasks (λ m. text) lawful can reply.memory (λ m tell agrees. (rests m tell agrees, reply.reply))
 
 -- where disk and session came out as they were
 pub same_store : (session : Session) (store : Store) → store ≡ session.store → record { store = store; cursors = session.cursors; sound = session.sound } ≡ session
@@ -101,16 +101,18 @@ same_store session store same = ap (λ (x : Store). record { store = x; cursors 
 abbrev pub with_cursors : Session → List OpenCursor → Session
 with_cursors session cursors = record { store = session.store; cursors = cursors; sound = session.sound }
 
-pub answers_same : {D : Type 0} (tells : Type 0) (state : D → DiskState) (disk disk_now : D) (session session_now : Session) (bytes : ℕ) (result : Result (List ℕ) StoreFault) (steps : Machine → Machine × List ℕ) → disk_now ≡ disk → session_now ≡ session
-    → Answers tells state disk disk session session bytes result steps → Answers tells state disk disk_now session session_now bytes result steps
-answers_same {D} tells state disk disk_now session session_now bytes result steps same_disk same_session answers =
-    subst (λ (d : D). Answers tells state disk d session session_now bytes result steps) (sym same_disk) (subst (λ (x : Session). Answers tells state disk disk session x bytes result steps) (sym same_session) answers)
+pub answers_same : {D : Type 0} (tells : Type 0) (state : D → DiskState) (disk disk_now : D) (session session_now : Session) (result : Result (List ℕ) StoreFault) (steps : Machine → Machine × List ℕ) (tasks : Machine → Option Task) → disk_now ≡ disk → session_now ≡ session
+    → Answers tells state disk disk session session result steps tasks → Answers tells state disk disk_now session session_now result steps tasks
+answers_same {D} tells state disk disk_now session session_now result steps tasks same_disk same_session answers =
+    subst (λ (d : D). Answers tells state disk d session session_now result steps tasks) (sym same_disk) (subst (λ (x : Session). Answers tells state disk disk session x result steps tasks) (sym same_session) answers)
 
--- by another name of the step
-pub answers_by : {D : Type 0} (tells : Type 0) (state : D → DiskState) (disk disk_now : D) (session session_now : Session) (bytes : ℕ) (result : Result (List ℕ) StoreFault) (steps by : Machine → Machine × List ℕ) → ((m : Machine) → steps m ≡ by m)
-    → Answers tells state disk disk_now session session_now bytes result steps → Answers tells state disk disk_now session session_now bytes result by
-answers_by tells state disk disk_now session session_now bytes result steps by is answers = record {
-  from = λ m tell agrees. subst (λ (p : Machine × List ℕ). AnswersFrom tells state disk disk_now session session_now bytes result m p) (is m) (answers.from m tell agrees);
+-- by another name of the step and of the task
+pub answers_by : {D : Type 0} (tells : Type 0) (state : D → DiskState) (disk disk_now : D) (session session_now : Session) (result : Result (List ℕ) StoreFault) (steps by : Machine → Machine × List ℕ) (tasks asks : Machine → Option Task)
+    → ((m : Machine) → steps m ≡ by m) → ((m : Machine) → tasks m ≡ asks m) → Answers tells state disk disk_now session session_now result steps tasks → Answers tells state disk disk_now session session_now result by asks
+answers_by tells state disk disk_now session session_now result steps by tasks asks is are answers = record {
+  from = λ m tell agrees.
+      subst (λ (t : Option Task). AnswersFrom tells state disk disk_now session session_now result m (by m) t) (are m)
+      (subst (λ (p : Machine × List ℕ). AnswersFrom tells state disk disk_now session session_now result m p (tasks m)) (is m) (answers.from m tell agrees));
   can = answers.can;
   unchanged = answers.unchanged;
   only = answers.only;
@@ -122,9 +124,10 @@ answers_by tells state disk disk_now session session_now bytes result steps by i
 }
 
 -- after an error nothing is said of the session
-pub answers_failed : {D : Type 0} (tells : Type 0) (state : D → DiskState) (disk disk_now : D) (session session_now later : Session) (bytes : ℕ) (e : StoreFault) (steps : Machine → Machine × List ℕ) → Answers tells state disk disk_now session session_now bytes (Err e) steps → Answers tells state disk disk_now session later bytes (Err e) steps
-answers_failed tells state disk disk_now session session_now later bytes e steps answers = record {
-  from = λ m tell agrees. let one : AnswersFrom tells state disk disk_now session session_now bytes (Err e) m (steps m) = answers.from m tell agrees in record { reply = tt; agrees = tt; images = one.images; refused = one.refused; need = one.need; undamaged = one.undamaged; room = tt };
+pub answers_failed : {D : Type 0} (tells : Type 0) (state : D → DiskState) (disk disk_now : D) (session session_now later : Session) (e : StoreFault) (steps : Machine → Machine × List ℕ) (tasks : Machine → Option Task) → Answers tells state disk disk_now session session_now (Err e) steps tasks → Answers tells state disk disk_now session later (Err e) steps tasks
+answers_failed tells state disk disk_now session session_now later e steps tasks answers = record {
+  from = λ m tell agrees. let one : AnswersFrom tells state disk disk_now session session_now (Err e) m (steps m) (tasks m) = answers.from m tell agrees in
+      record { reply = tt; agrees = tt; images = one.images; refused = one.refused; works = λ held here. tt; full = one.full; undamaged = one.undamaged };
   can = tt;
   unchanged = tt;
   only = answers.only;
@@ -135,33 +138,33 @@ answers_failed tells state disk disk_now session session_now later bytes e steps
   same_limit = answers.same_limit;
 }
 
-pub changed_rests : (m : Machine) (change : State × List ℕ) (text : List ℕ) → change ≡ (m.state, text) → Rests m (changed_by m change) text
-changed_rests m change text is = record { state = ap (λ (p : State × List ℕ). p.0) is; cursors = refl; reply = ap (λ (p : State × List ℕ). p.1) is }
+pub changed_rests : (m : Machine) (change : State × List ℕ) (task : Option Task) (text : List ℕ) → change ≡ (m.state, text) → task ≡ None → Rests m (changed_by m change) task text
+changed_rests m change task text is none = record { task_none = none; state = ap (λ (p : State × List ℕ). p.0) is; cursors = refl; reply = ap (λ (p : State × List ℕ). p.1) is }
 
-pub step_rests : (m : Machine) (stepped : Machine × List ℕ) (text : List ℕ) → stepped ≡ (m, text) → Rests m stepped text
-step_rests m stepped text is = record { state = ap (λ (p : Machine × List ℕ). p.0.state) is; cursors = ap (λ (p : Machine × List ℕ). p.0.cursors) is; reply = ap (λ (p : Machine × List ℕ). p.1) is }
+pub step_rests : (m : Machine) (stepped : Machine × List ℕ) (task : Option Task) (text : List ℕ) → stepped ≡ (m, text) → task ≡ None → Rests m stepped task text
+step_rests m stepped task text is none = record { task_none = none; state = ap (λ (p : Machine × List ℕ). p.0.state) is; cursors = ap (λ (p : Machine × List ℕ). p.0.cursors) is; reply = ap (λ (p : Machine × List ℕ). p.1) is }
 
--- The state was changed on the disk, and this is the reply.
-pub record Changes (tells : Type 0) (disk disk_now : DiskState) (session session_now : Session) (bytes : ℕ) (text : List ℕ) (m : Machine) (change : State × List ℕ) : Type 0 where
+-- The disk was changed by this task, and this is the reply.
+pub record Changes (disk disk_now : DiskState) (text : List ℕ) (m : Machine) (change : State × List ℕ) (task : Option Task) : Type 0 where
   pub reply : change.1 ≡ text
   pub stands : StandsFor change.0 disk_now.content
   pub images : LeavesOnly (StandsForEither m.state change.0) disk disk_now
-  pub room : room_in session_now + bytes_of_change bytes m.state change.0 ≡ room_in session
+  pub works : (held : Holding) → IsHeld held disk.content → IsWorked (worked_where disk.limit held task) disk_now.content
 
-pub changed : {D : Type 0} (tells : Type 0) (state : D → DiskState) (disk disk_now : D) (session session_now : Session) (bytes : ℕ) (result : Result (List ℕ) StoreFault) (change : State → State × List ℕ) (text : List ℕ) → IsReply text result → (IsRefusal text → ⊥)
+pub changed : {D : Type 0} (tells : Type 0) (state : D → DiskState) (disk disk_now : D) (session session_now : Session) (result : Result (List ℕ) StoreFault) (change : State → State × List ℕ) (tasks : Machine → Option Task) (text : List ℕ) → IsReply text result → (IsRefusal text → ⊥)
     → session_now.cursors ≡ session.cursors → CanAnswer tells (state disk_now) session_now → (state disk).faults ≤ (state disk_now).faults → (state disk_now).limit ≡ (state disk).limit
-    → ((m : Machine) → tells → AgreesOn tells (state disk) session m → Changes tells (state disk) (state disk_now) session session_now bytes text m (change m.state))
-    → Answers tells state disk disk_now session session_now bytes result (λ m. changed_by m (change m.state))
-changed tells state disk disk_now session session_now bytes result change text reply no_refusal same_cursors can faults same_limit changes = record {
+    → ((m : Machine) → tells → AgreesOn tells (state disk) session m → Changes (state disk) (state disk_now) text m (change m.state) (tasks m))
+    → Answers tells state disk disk_now session session_now result (λ m. changed_by m (change m.state)) tasks
+changed tells state disk disk_now session session_now result change tasks text reply no_refusal same_cursors can faults same_limit changes = record {
   from = λ m tell agrees.
-      let one : Changes tells (state disk) (state disk_now) session session_now bytes text m (change m.state) = changes m tell agrees in record {
+      let one : Changes (state disk) (state disk_now) text m (change m.state) (tasks m) = changes m tell agrees in record {
         reply = IfOk-weaker result (λ r. r ≡ text) (λ r. r ≡ (change m.state).1) (λ r is. is ∙ sym one.reply) reply.reply;
         agrees = if_so result _ (agrees_changed tells (state disk_now) session_now m (change m.state) (subst (λ (l : List OpenCursor). AreOpen l m.cursors) (sym same_cursors) agrees.cursors) can.agrees (λ told. one.stands));
         images = one.images;
         refused = λ refusal. absurd (no_refusal (subst IsRefusal one.reply refusal));
-        need = λ need gap is. let wanting : Full need gap ≡ Memory = is_memory result (Full need gap) reply.memory is in absurd cc;
+        works = λ held here. if_so result _ (one.works held here);
+        full = λ held need gap here is. let wanting : Full need gap ≡ Memory = is_memory result (Full need gap) reply.memory is in absurd cc;
         undamaged = λ place is. let wanting : Damaged place ≡ Memory = is_memory result (Damaged place) reply.memory is in absurd cc;
-        room = if_so result _ one.room;
       };
   can = if_so result (CanAnswer tells (state disk_now) session_now) can;
   unchanged = IfOk-weaker result (λ r. r ≡ text) (λ r. IsRefusal r → (disk_now ≡ disk) × (session_now ≡ session)) (λ r is refusal. absurd (no_refusal (subst IsRefusal is refusal))) reply.reply;
@@ -176,13 +179,13 @@ changed tells state disk disk_now session session_now bytes result change text r
 -- ---- cursors
 
 -- What was answered is this reply, or memory was wanting; and these cursors are open then.
-pub turned : {D : Type 0} (tells : Type 0) (state : D → DiskState) (disk : D) (session : Session) (cursors : List OpenCursor) (bytes : ℕ) (result : Result (List ℕ) StoreFault)
-    (steps : Machine → Machine × List ℕ) (turn : State → List OpenAnswers → Turn) → IsLawful tells (state disk) → CanAnswer tells (state disk) session
+pub turned : {D : Type 0} (tells : Type 0) (state : D → DiskState) (disk : D) (session : Session) (cursors : List OpenCursor) (result : Result (List ℕ) StoreFault)
+    (steps : Machine → Machine × List ℕ) (tasks : Machine → Option Task) (turn : State → List OpenAnswers → Turn) → IsLawful tells (state disk) → CanAnswer tells (state disk) session
     → IfErr result (λ e. e ≡ Memory) → IfOk result (λ reply. IsRefusal reply → cursors ≡ session.cursors)
     → ((s : State) (all : List OpenAnswers) → Knows session.store s → AreOpen session.cursors all → Turns (turn s all) cursors result)
-    → ((m : Machine) → steps m ≡ turned_by m (turn m.state m.cursors)) → Answers tells state disk disk session (with_cursors session cursors) bytes result steps
-turned tells state disk session cursors bytes result steps turn lawful can memory refused turns is =
-    answers_by tells state disk disk session (with_cursors session cursors) bytes result (λ m. turned_by m (turn m.state m.cursors)) steps (λ m. sym (is m)) (record {
+    → ((m : Machine) → steps m ≡ turned_by m (turn m.state m.cursors)) → ((m : Machine) → tasks m ≡ None) → Answers tells state disk disk session (with_cursors session cursors) result steps tasks
+turned tells state disk session cursors result steps tasks turn lawful can memory refused turns is none =
+    answers_by tells state disk disk session (with_cursors session cursors) result (λ m. turned_by m (turn m.state m.cursors)) steps (λ m. None) tasks (λ m. sym (is m)) (λ m. sym (none m)) (record {
       from = λ m tell agrees.
           let one = turns m.state m.cursors (knows_state tells (state disk) session m agrees tell) agrees.cursors in
           record {
@@ -190,9 +193,9 @@ turned tells state disk session cursors bytes result steps turn lawful can memor
             agrees = ok_weaker result (AreOpen cursors (turn m.state m.cursors).0) _ (λ open_now. record { store = agrees.store; stands = agrees.stands; cursors = open_now }) one.open_now;
             images = stays tells (state disk) session m lawful agrees;
             refused = λ refusal. (refl, memory);
-            need = λ need gap is. let wanting : Full need gap ≡ Memory = is_memory result (Full need gap) memory is in absurd cc;
+            works = λ held here. if_so result _ (worked_none (state disk).limit held None (state disk).content refl here);
+            full = λ held need gap here is. let wanting : Full need gap ≡ Memory = is_memory result (Full need gap) memory is in absurd cc;
             undamaged = λ place is. let wanting : Damaged place ≡ Memory = is_memory result (Damaged place) memory is in absurd cc;
-            room = if_so result _ (omega (arith, none_added bytes m.state));
           };
       can = if_so result (CanAnswer tells (state disk) (with_cursors session cursors)) (record { sound = can.sound; agrees = can.agrees; limit = can.limit });
       unchanged = IfOk-weaker result (λ reply. IsRefusal reply → cursors ≡ session.cursors) _ (λ reply same refusal. (refl, ap (with_cursors session) (same refusal))) refused;

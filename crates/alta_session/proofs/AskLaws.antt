@@ -1,16 +1,15 @@
 -- Laws of what a line asks for.
-use Rattle.std.proofs.Common.{◌≡◌, ℕ, ◌+◌, List, ◌∷◌, ◌++◌, length, refl, ap, sym, subst, ◌∙◌, codes, Bor, length-append, arith}
-use Rattle.alta_journal.specs.Record.{body_of}
-use Rattle.alta_journal.specs.declared.entry.Entry.TheVariants.{Add as AddEntry}
-use Rattle.alta_journal.proofs.Spelling.{body_long, add_long}
-use Rattle.alta_model.specs.Command.{Reads, adds, deletes}
+use Rattle.std.proofs.Common.{◌≡◌, ℕ, List, refl, ap, sym, subst, ◌∙◌, codes, Bor, None}
+use Rattle.alta_model.specs.Command.{adds, deletes}
 use Rattle.alta_model.specs.Lines.{asks, refuses, reading_of}
 use Rattle.alta_model.specs.Seen.{command_of}
 use Rattle.alta_model.specs.declared.line.Line.{Line}
 use Rattle.alta_model.specs.declared.line.Line.TheVariants.{Add, Delete, Search, Count, Explain, OpenCursor, Fetch, Close, Flush, Merge, Step, Stats}
 use Rattle.alta_model.specs.declared.line.LineFault.{LineFault}
 use Rattle.alta_session.specs.Machine.{Machine, step, obeyed, refusal, IsSearch, LooksIn, Looks, SearchesIn, Searches}
+use Rattle.alta_session.specs.Tasks.{task_by, task_of}
 use Rattle.alta_session.proofs.MachineLaws.{step_reads}
+use Rattle.alta_session.proofs.TaskLaws.{task_reads}
 
 -- a command that is not built
 pub record IsOther (l : Line) : Type 0 where
@@ -22,6 +21,7 @@ pub record IsOther (l : Line) : Type 0 where
   pub opens : (text : Bor (List ℕ)) → l ≡ OpenCursor text → ⊥
   pub fetches : (cursor count : ℕ) → l ≡ Fetch cursor count → ⊥
   pub closes : (cursor : ℕ) → l ≡ Close cursor → ⊥
+  pub asks_flush : l ≡ Flush → ⊥
   pub asks_stats : l ≡ Stats → ⊥
 
 other_line : (l : Line) (m : Machine) → IsOther l → obeyed m (command_of l) ≡ (m, codes "! unknown command\n")
@@ -33,7 +33,7 @@ other_line (Explain text) m other = absurd (other.explains text refl)
 other_line (OpenCursor text) m other = absurd (other.opens text refl)
 other_line (Fetch cursor count) m other = absurd (other.fetches cursor count refl)
 other_line (Close cursor) m other = absurd (other.closes cursor refl)
-other_line Flush m other = refl
+other_line Flush m other = absurd (other.asks_flush refl)
 other_line Merge m other = refl
 other_line (Step count) m other = refl
 other_line Stats m other = absurd (other.asks_stats refl)
@@ -41,17 +41,32 @@ other_line Stats m other = absurd (other.asks_stats refl)
 pub step_other : (line : List ℕ) (l : Line) → asks (command_of l) ≡ reading_of line → IsOther l → (m : Machine) → step m line ≡ (m, codes "! unknown command\n")
 step_other line l reading other m = step_reads m line (asks (command_of l)) (sym reading) ∙ other_line l m other
 
+other_task : (l : Line) (m : Machine) → IsOther l → task_by m (command_of l) ≡ None
+other_task (Add name title body) m other = absurd (other.adds name title body refl)
+other_task (Delete name) m other = absurd (other.deletes name refl)
+other_task (Search text) m other = refl
+other_task (Count text) m other = refl
+other_task (Explain text) m other = refl
+other_task (OpenCursor text) m other = refl
+other_task (Fetch cursor count) m other = refl
+other_task (Close cursor) m other = refl
+other_task Flush m other = absurd (other.asks_flush refl)
+other_task Merge m other = refl
+other_task (Step count) m other = refl
+other_task Stats m other = refl
+
+pub none_asked : (line : List ℕ) (l : Line) → asks (command_of l) ≡ reading_of line → IsOther l → (m : Machine) → task_of m line ≡ None
+none_asked line l reading other m = task_reads m line (asks (command_of l)) (sym reading) ∙ other_task l m other
+
+pub refused_asked : (line : List ℕ) (e : LineFault) → refuses e ≡ reading_of line → (m : Machine) → task_of m line ≡ None
+refused_asked line e reading m = task_reads m line (refuses e) (sym reading)
+
 -- a command that is built
 pub step_asks : (line : List ℕ) (l k : Line) → asks (command_of l) ≡ reading_of line → l ≡ k → (m : Machine) → step m line ≡ obeyed m (command_of k)
 step_asks line l k reading is m = step_reads m line (asks (command_of l)) (sym reading) ∙ ap (λ (k : Line). obeyed m (command_of k)) is
 
 pub reading_is : (line : List ℕ) (l k : Line) → asks (command_of l) ≡ reading_of line → l ≡ k → reading_of line ≡ asks (command_of k)
 reading_is line l k reading is = sym reading ∙ ap (λ (k : Line). asks (command_of k)) is
-
--- the record of a line that adds has nine bytes more than the line
-pub record_of_line : (line name title body : List ℕ) → Reads line (adds name title body) → length (body_of (AddEntry name title body)) ≡ length line + 9
-record_of_line line name title body reads =
-    omega (arith, ap length reads.spells, body_long (AddEntry name title body), add_long name title body, length-append (codes "add ") (name ++ 9 ∷ (title ++ 9 ∷ body)), length-append name (9 ∷ (title ++ 9 ∷ body)), length-append title (9 ∷ body))
 
 pub step_refuses : (line : List ℕ) (e fault : LineFault) → refuses e ≡ reading_of line → e ≡ fault → (m : Machine) → step m line ≡ (m, refusal fault)
 step_refuses line e fault reading is m = step_reads m line (refuses e) (sym reading) ∙ ap (λ (f : LineFault). (m, refusal f)) is

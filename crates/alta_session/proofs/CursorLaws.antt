@@ -1,6 +1,6 @@
 -- Laws of the replies on cursors.
-use Rattle.std.proofs.Common.{◌≡◌, ◌≢◌, ◌⊎◌, inl, inr, ℕ, zero, suc, ◌+◌, ◌<◌, ◌≤◌, ◌/◌, ◌%◌, Bool, true, false, cond, not, List, [], ◌∷◌, ◌++◌, length, map, take, drop, lit<, refl, ap, sym, subst, ◌∙◌, arith, Result, Ok, Err, IfOk, OnOk, length-append, append_assoc, codes, decimal}
-use Rattle.std.specs.Prelude.{◌==◌, ◌&&◌, ◌↔◌, IsSome, IsTrue, nat_le, nat_lt, nat_eq, Option, Some, None}
+use Rattle.std.proofs.Common.{◌≡◌, ◌≢◌, ◌⊎◌, inl, inr, ℕ, zero, suc, ◌+◌, ◌<◌, ◌≤◌, ◌/◌, ◌%◌, Bool, true, false, cond, List, [], ◌∷◌, ◌++◌, length, map, take, drop, lit<, refl, ap, sym, subst, ◌∙◌, arith, Result, Ok, Err, IfOk, OnOk, codes, decimal}
+use Rattle.std.specs.Prelude.{◌==◌, ◌&&◌, ◌↔◌, IsSome, IsTrue, nat_le, nat_lt, Option, Some, None}
 use Rattle.std.specs.Fmt.{digits, digits_onto, digit_glyph}
 use Rattle.std.proofs.lemmas.Bool.{false≢true}
 use Rattle.std.proofs.lemmas.Bool.Decides.{nat_tests}
@@ -8,7 +8,7 @@ use Rattle.std.proofs.lemmas.Result.{IfOk-weaker}
 use Rattle.alta_meta.specs.declared.document.Document.{Document}
 use Rattle.alta_model.specs.Deciding.{answers}
 use Rattle.alta_query.specs.Answer.{IsMemory, fault_in}
-use Rattle.alta_query.specs.Faults.{Fault, fault}
+use Rattle.alta_query.specs.Faults.{Fault}
 use Rattle.alta_query.specs.Reading.{query_of}
 use Rattle.alta_query.specs.Shape.{Shape}
 use Rattle.alta_query.specs.declared.fault.Cause.TheVariants.{Memory as WantsMemory}

@@ -1,7 +1,7 @@
 -- Laws of lines that delete, and of the counts.
-use Rattle.std.proofs.Common.{◌≡◌, ℕ, ◌<◌, ◌≤◌, lit<, Bool, true, false, cond, not, ◌||◌, List, [], ◌∷◌, ◌++◌, length, refl, ap, sym, subst, ◌∙◌, arith, codes, decimal, if◌then◌else◌}
+use Rattle.std.proofs.Common.{◌≡◌, ℕ, ◌<◌, lit<, Bool, true, false, cond, ◌||◌, List, [], ◌∷◌, ◌++◌, length, refl, ap, sym, subst, ◌∙◌, codes, decimal, if◌then◌else◌}
 use Rattle.std.specs.Prelude.{Option, Some, None, option_map}
-use Rattle.std.specs.List.{list_any, find, filter}
+use Rattle.std.specs.List.{list_any, find}
 use Rattle.std.specs.Str.{bytes_eq}
 use Rattle.std.proofs.lemmas.Bool.{false≢true}
 use Rattle.alta_codec.specs.Name.{IsName}
@@ -30,20 +30,6 @@ some_found {X = X} b (x ∷ xs) some = elim (b x) as (λ t. (t || list_any b xs)
   | false ↦ λ e. some_found b xs e
 ] some
 
-left_most : {X : Type 0} (b : X → Bool) (xs : List X) → length (filter b xs) ≤ length xs
-left_most b [] = omega arith
-left_most b (x ∷ xs) = elim (b x) as (λ t. length (cond t (x ∷ filter b xs) (filter b xs)) ≤ length (x ∷ xs)) [
-  | true ↦ omega (arith, left_most b xs)
-  | false ↦ omega (arith, left_most b xs)
-]
-
-left_fewer : {X : Type 0} (b : X → Bool) (xs : List X) → list_any b xs ≡ true → length (filter (λ x. not (b x)) xs) < length xs
-left_fewer b [] some = absurd (false≢true some)
-left_fewer b (x ∷ xs) some = elim (b x) as (λ t. (t || list_any b xs) ≡ true → length (cond (not t) (x ∷ filter (λ x. not (b x)) xs) (filter (λ x. not (b x)) xs)) < length (x ∷ xs)) [
-  | true ↦ λ e. omega (arith, left_most (λ x. not (b x)) xs)
-  | false ↦ λ e. omega (arith, left_fewer b xs e)
-] some
-
 -- the number of a name
 pub not_numbered : (name : List ℕ) (s : State) → has_name name s ≡ false → number_of name s ≡ None
 not_numbered name s none = ap (option_map (λ (d : Document). d.number)) (none_found (λ (d : Document). bytes_eq name d.name) s.documents none)
@@ -52,15 +38,6 @@ pub numbered : (name : List ℕ) (s : State) → has_name name s ≡ true → (n
 numbered name s some =
     let found = some_found (λ (d : Document). bytes_eq name d.name) s.documents some in
     (found.0.number, ap (option_map (λ (d : Document). d.number)) found.1)
-
-pub fewer_documents : (name : List ℕ) (s : State) → has_name name s ≡ true → length (with_deleted name s).documents < length s.documents
-fewer_documents name s some = left_fewer (λ (d : Document). bytes_eq name d.name) s.documents some
-
-numbered_named : (name : List ℕ) (s : State) (n : ℕ) → number_of name s ≡ Some n → has_name name s ≡ true
-numbered_named name s n is = elim (has_name name s) as (λ b. has_name name s ≡ b → b ≡ true) [
-  | true ↦ λ e. refl
-  | false ↦ λ e. let none : number_of name s ≡ None = not_numbered name s e in absurd (cc)
-] refl
 
 -- what deleting answers
 pub deleting_bad : (name : List ℕ) (s : State) → (IsName name → ⊥) → deleting name s ≡ (s, codes "! bad name\n")
@@ -77,9 +54,6 @@ deleting_missing name s named none = deleting_named name s named ∙ ap (λ (o :
 
 pub deleting_deleted : (name : List ℕ) (s : State) (n : ℕ) → IsName name → number_of name s ≡ Some n → deleting name s ≡ (with_deleted name s, codes "deleted " ++ decimal n ++ codes "\n")
 deleting_deleted name s n named is = deleting_named name s named ∙ ap (λ (o : Option ℕ). deleted_as o name s) is
-
-pub fewer_where : (name : List ℕ) (s : State) (n : ℕ) → number_of name s ≡ Some n → length (with_deleted name s).documents < length s.documents
-fewer_where name s n is = fewer_documents name s (numbered_named name s n is)
 
 -- At no moment was there another image than those of the states before and after, where the disk stays as it is for a name
 -- that no document has.
@@ -106,8 +80,8 @@ missing_for P name s named missing refusal =
     ] refl
 
 -- where it is not refused, a document has the name
-pub deleted_where : (name : List ℕ) (s : State) → IsName name → (has_name name s ≡ false → ⊥) → (n : ℕ) × (number_of name s ≡ Some n)
-deleted_where name s named some = elim (has_name name s) as (λ b. has_name name s ≡ b → (n : ℕ) × (number_of name s ≡ Some n)) [
+pub deleted_where : (name : List ℕ) (s : State) → (has_name name s ≡ false → ⊥) → (n : ℕ) × (number_of name s ≡ Some n)
+deleted_where name s some = elim (has_name name s) as (λ b. has_name name s ≡ b → (n : ℕ) × (number_of name s ≡ Some n)) [
   | true ↦ λ here. numbered name s here
   | false ↦ λ none. absurd (some none)
 ] refl

@@ -1,5 +1,5 @@
 -- Laws of lines that were answered.
-use Rattle.std.proofs.Common.{◌≡◌, ℕ, ◌+◌, ◌<◌, List, [], ◌∷◌, ◌++◌, Option, length, map, refl, ap, sym, subst, ◌∙◌, append-nil, arith}
+use Rattle.std.proofs.Common.{◌≡◌, ℕ, ◌<◌, List, [], ◌∷◌, ◌++◌, Option, length, map, refl, ap, sym, subst, ◌∙◌, append-nil, Ok, Err}
 use Rattle.alta_console.specs.Giving.{Gives}
 use Rattle.alta_console.specs.Replies.{joined}
 use Rattle.alta_console.specs.declared.event.Event.{Event}
@@ -7,18 +7,22 @@ use Rattle.alta_console.proofs.GivingLaws.{gives_on, gives_none}
 use Rattle.alta_console.proofs.ReplyLaws.{joined_append}
 use Rattle.alta_disk.specs.Disk.{DiskState, LeavesOnly, IsLawful, Each}
 use Rattle.alta_disk.proofs.Moments.{leaves_start, leaves_then, leaves_as}
-use Rattle.alta_session.specs.Agreement.{AgreesOn, room_in}
+use Rattle.alta_images.specs.Holding.{Holding, IsHeld}
+use Rattle.alta_session.specs.Agreement.{AgreesOn}
 use Rattle.alta_session.specs.Fed.{Fed, FedFrom}
-use Rattle.alta_session.specs.Fullness.{record_bytes, IsFullOnly}
+use Rattle.alta_session.specs.Fullness.{IsFullOnly}
 use Rattle.alta_session.specs.Keeping.{clip}
 use Rattle.alta_session.specs.Machine.{Machine, step, after, replies}
 use Rattle.alta_session.specs.Progress.{StandsAfterSome, Progress, StopsWithin, StopsWithinFrom}
+use Rattle.alta_session.specs.Tasks.{IsDone, IsWorked, task_of, worked_lines, worked_where}
 use Rattle.alta_session.specs.declared.session.Session.{Session}
 use Rattle.alta_session.specs.declared.status.Status.{Status}
 use Rattle.alta_session.specs.declared.status.Status.TheVariants.{Full, Damaged}
-use Rattle.alta_session.proofs.FullnessLaws.{records_append, records_same, full_on, full_more, full_clip, over_first}
+use Rattle.alta_session.proofs.FullnessLaws.{full_on, full_more, full_clip, over_first}
+use Rattle.alta_session.proofs.GivenLaws.{given_behind, given_less, none_behind, none_given}
 use Rattle.alta_session.proofs.MachineLaws.{after_append, replies_append, replies_same, after_same, reply_some}
 use Rattle.alta_session.proofs.ProgressLaws.{some_none, some_either, some_on, some_more, some_clip, progress_none, progress_stop, progress_on, progress_more, progress_full, progress_clip}
+use Rattle.alta_session.proofs.TaskLaws.{lines_on, one_worked, worked_as, worked_same}
 use Rattle.alta_images.specs.Standing.{StandsForEither}
 use Rattle.alta_store.proofs.Agreements.{images_stand}
 
@@ -39,18 +43,20 @@ pub fed_none : (tells : Type 0) (told : Option (List Event)) (d : DiskState) (se
 fed_none tells told d session lawful = record {
   given = [];
   gave = gives_none told;
-  each = λ m tell agrees. record { given_is = refl; agrees = agrees; images = leaves_none tells d session m [] lawful agrees; room = omega arith };
+  same_limit = refl;
+  each = λ m tell agrees. record { given_is = refl; agrees = agrees; images = leaves_none tells d session m [] lawful agrees; works = λ held here. record { now = held; is = refl; held = here } };
 }
 
 pub fed_clip : (tells : Type 0) (a b : Option (List Event)) (d e : DiskState) (s0 s1 : Session) (xs ys : List (List ℕ)) → map clip xs ≡ map clip ys → Fed tells a b d e s0 s1 xs → Fed tells a b d e s0 s1 ys
 fed_clip tells a b d e s0 s1 xs ys same fed = record {
   given = fed.given;
   gave = fed.gave;
+  same_limit = fed.same_limit;
   each = λ m tell agrees. let one : FedFrom tells d e s0 s1 xs fed.given m = fed.each m tell agrees in record {
     given_is = one.given_is ∙ ap joined (replies_same m xs ys same);
     agrees = subst (λ (t : Machine). AgreesOn tells e s1 t) (after_same m xs ys same) one.agrees;
     images = leaves_as d e (StandsAfterSome m xs) (StandsAfterSome m ys) one.images (λ z here. some_clip m xs ys z same here);
-    room = omega (arith, one.room, records_same m xs ys same);
+    works = λ held here. worked_as _ _ e.content (worked_same d.limit m held xs ys same) (one.works held here);
   };
 }
 
@@ -58,6 +64,7 @@ pub fed_on : (tells : Type 0) (a b c : Option (List Event)) (d e f : DiskState) 
 fed_on tells a b c d e f s0 s1 s2 xs ys first then_ = record {
   given = first.given ++ then_.given;
   gave = gives_on a b c first.given then_.given first.gave then_.gave;
+  same_limit = then_.same_limit ∙ first.same_limit;
   each = λ m tell agrees.
       let one : FedFrom tells d e s0 s1 xs first.given m = first.each m tell agrees in
       let two : FedFrom tells e f s1 s2 ys then_.given (after m xs) = then_.each (after m xs) tell one.agrees in
@@ -65,9 +72,15 @@ fed_on tells a b c d e f s0 s1 s2 xs ys first then_ = record {
         given_is = ap (λ (l : List ℕ). l ++ then_.given) one.given_is ∙ ap (λ (l : List ℕ). joined (replies m xs) ++ l) two.given_is ∙ sym (joined_append (replies m xs) (replies (after m xs) ys)) ∙ ap joined (sym (replies_append m xs ys));
         agrees = subst (λ (t : Machine). AgreesOn tells f s2 t) (sym (after_append m xs ys)) two.agrees;
         images = leaves_on d e f m xs ys one.images two.images;
-        room = omega (arith, one.room, two.room, records_append m xs ys);
+        works = λ held here.
+            let done : IsWorked (worked_lines d.limit m held xs) e.content = one.works held here in
+            lines_on d.limit e.limit m held done.now xs ys f.content first.same_limit done.is (two.works done.now done.held);
       };
 }
+
+-- the work of lines, and of more behind them
+pub done_on : (limit later : ℕ) (m : Machine) (held now : Holding) (xs ys : List (List ℕ)) (d : DiskState) → later ≡ limit → worked_lines limit m held xs ≡ Ok now → IsDone (worked_lines later (after m xs) now ys) d → IsDone (worked_lines limit m held (xs ++ ys)) d
+done_on limit later m held now xs ys d same first more = (lines_on limit later m held now xs ys d.content same first more.0, more.1)
 
 -- it stopped in later lines
 pub stops_on : (tells : Type 0) (a b c : Option (List Event)) (d e f : DiskState) (s0 s1 : Session) (xs ys : List (List ℕ)) (status : Status) → Fed tells a b d e s0 s1 xs → StopsWithin tells b c e f s1 ys status → StopsWithin tells a c d f s0 (xs ++ ys) status
@@ -76,11 +89,16 @@ stops_on tells a b c d e f s0 s1 xs ys status first stops = record {
   gave = gives_on a b c first.given stops.given first.gave stops.gave;
   each = λ m tell agrees.
       let one : FedFrom tells d e s0 s1 xs first.given m = first.each m tell agrees in
-      let two : StopsWithinFrom e f s1 ys stops.given status (after m xs) = stops.each (after m xs) tell one.agrees in
+      let two : StopsWithinFrom e f ys stops.given status (after m xs) = stops.each (after m xs) tell one.agrees in
       record {
         progress = subst (λ (l : List ℕ). Progress m (xs ++ ys) (l ++ stops.given) f.images) (sym one.given_is) (progress_on m xs ys stops.given f.images two.progress);
         images = leaves_on d e f m xs ys one.images two.images;
-        full = subst (λ (l : List ℕ). IsFullOnly (room_in s0) m (xs ++ ys) (l ++ stops.given) status) (sym one.given_is) (full_on (room_in s0) (room_in s1) m xs ys stops.given status one.room two.full);
+        full = λ held here.
+            let done : IsWorked (worked_lines d.limit m held xs) e.content = one.works held here in
+            subst (λ (l : List ℕ). IsFullOnly d.limit held m (xs ++ ys) (l ++ stops.given) status) (sym one.given_is) (full_on d.limit e.limit m held done.now xs ys stops.given status first.same_limit done.is (two.full done.now done.held));
+        works = λ held here all.
+            let done : IsWorked (worked_lines d.limit m held xs) e.content = one.works held here in
+            done_on d.limit e.limit m held done.now xs ys f first.same_limit done.is (two.works done.now done.held (given_behind m xs ys first.given stops.given one.given_is all));
         undamaged = two.undamaged;
       };
 }
@@ -90,10 +108,14 @@ pub stops_more : (tells : Type 0) (a b : Option (List Event)) (d e : DiskState) 
 stops_more tells a b d e s0 xs ys status stops = record {
   given = stops.given;
   gave = stops.gave;
-  each = λ m tell agrees. let one : StopsWithinFrom d e s0 xs stops.given status m = stops.each m tell agrees in record {
+  each = λ m tell agrees. let one : StopsWithinFrom d e xs stops.given status m = stops.each m tell agrees in record {
     progress = progress_more m xs ys stops.given e.images one.progress;
     images = leaves_as d e (StandsAfterSome m xs) (StandsAfterSome m (xs ++ ys)) one.images (λ z here. some_more m xs ys z here);
-    full = full_more (room_in s0) m xs ys stops.given status one.full;
+    full = λ held here. full_more d.limit m held xs ys stops.given status (one.full held here);
+    works = λ held here all.
+        let none : ys ≡ [] = none_behind m xs ys stops.given e.images one.progress all in
+        let same : xs ++ ys ≡ xs = ap (λ (l : List (List ℕ)). xs ++ l) none ∙ append-nil xs in
+        subst (λ (l : List (List ℕ)). IsDone (worked_lines d.limit m held l) e) (sym same) (one.works held here (all ∙ ap (λ (l : List (List ℕ)). joined (replies m l)) same));
     undamaged = one.undamaged;
   };
 }
@@ -102,10 +124,13 @@ pub stops_clip : (tells : Type 0) (a b : Option (List Event)) (d e : DiskState) 
 stops_clip tells a b d e s0 xs ys status same stops = record {
   given = stops.given;
   gave = stops.gave;
-  each = λ m tell agrees. let one : StopsWithinFrom d e s0 xs stops.given status m = stops.each m tell agrees in record {
+  each = λ m tell agrees. let one : StopsWithinFrom d e xs stops.given status m = stops.each m tell agrees in record {
     progress = progress_clip m xs ys stops.given e.images same one.progress;
     images = leaves_as d e (StandsAfterSome m xs) (StandsAfterSome m ys) one.images (λ z here. some_clip m xs ys z same here);
-    full = full_clip (room_in s0) m xs ys stops.given status same one.full;
+    full = λ held here. full_clip d.limit m held xs ys stops.given status same (one.full held here);
+    works = λ held here all.
+        let done : IsDone (worked_lines d.limit m held xs) e = one.works held here (all ∙ ap joined (sym (replies_same m xs ys same))) in
+        (worked_as _ _ e.content (worked_same d.limit m held xs ys same) done.0, done.1);
     undamaged = one.undamaged;
   };
 }
@@ -119,7 +144,10 @@ stops_none tells told d session lines status lawful not_full whole = record {
   each = λ m tell agrees. record {
     progress = progress_none m lines d.images (images_stand tells d m.state lawful agrees.store.settled agrees.stands);
     images = leaves_none tells d session m lines lawful agrees;
-    full = λ need gap is. absurd (not_full need gap is);
+    full = λ held here need gap is. absurd (not_full need gap is);
+    works = λ held here all.
+        let none : [] ≡ lines = sym (none_given m lines (sym all)) in
+        subst (λ (l : List (List ℕ)). IsDone (worked_lines d.limit m held l) d) none (record { now = held; is = refl; held = here }, agrees.store.settled);
     undamaged = whole;
   };
 }
@@ -133,7 +161,8 @@ stops_full tells a b d e s0 s1 lines status lawful not_full whole fed = record {
   each = λ m tell agrees. let one : FedFrom tells d e s0 s1 lines fed.given m = fed.each m tell agrees in record {
     progress = subst (λ (l : List ℕ). Progress m lines l e.images) (sym one.given_is) (progress_full m lines e.images (images_stand tells e (after m lines).state lawful one.agrees.store.settled one.agrees.stands));
     images = one.images;
-    full = λ need gap is. absurd (not_full need gap is);
+    full = λ held here need gap is. absurd (not_full need gap is);
+    works = λ held here all. (one.works held here, one.agrees.store.settled);
     undamaged = whole;
   };
 }
@@ -141,22 +170,23 @@ stops_full tells a b d e s0 s1 lines status lawful not_full whole fed = record {
 -- a line was answered
 pub fed_line : (tells : Type 0) (a b : Option (List Event)) (d e : DiskState) (s0 s1 : Session) (line reply : List ℕ) → Gives a b reply → ((m : Machine) → tells → AgreesOn tells d s0 m → reply ≡ (step m line).1)
     → ((m : Machine) → tells → AgreesOn tells d s0 m → AgreesOn tells e s1 (step m line).0) → ((m : Machine) → tells → AgreesOn tells d s0 m → LeavesOnly (StandsForEither m.state (step m line).0.state) d e)
-    → ((m : Machine) → tells → AgreesOn tells d s0 m → room_in s1 + record_bytes m line ≡ room_in s0) → Fed tells a b d e s0 s1 (line ∷ [])
-fed_line tells a b d e s0 s1 line reply gave is now leaves room = record {
+    → ((m : Machine) (held : Holding) → tells → AgreesOn tells d s0 m → IsHeld held d.content → IsWorked (worked_where d.limit held (task_of m line)) e.content) → e.limit ≡ d.limit → Fed tells a b d e s0 s1 (line ∷ [])
+fed_line tells a b d e s0 s1 line reply gave is now leaves works same = record {
   given = reply;
   gave = gave;
+  same_limit = same;
   each = λ m tell agrees. record {
     given_is = is m tell agrees ∙ sym (append-nil (step m line).1);
     agrees = now m tell agrees;
     images = leaves_as d e (StandsForEither m.state (step m line).0.state) (StandsAfterSome m (line ∷ [])) (leaves m tell agrees) (λ z here. some_either m line [] z here);
-    room = omega (arith, room m tell agrees);
+    works = λ held here. worked_as _ _ e.content (sym (one_worked d.limit m held line)) (works m held tell agrees here);
   };
 }
 
 -- less than its reply was given
 pub stops_line : (tells : Type 0) (a b : Option (List Event)) (d e : DiskState) (s0 : Session) (line part : List ℕ) (status : Status) → IsLawful tells e → Gives a b part → ((m : Machine) → tells → AgreesOn tells d s0 m → (left : List ℕ) × ((step m line).1 ≡ part ++ left) × (0 < length left))
     → ((m : Machine) → tells → AgreesOn tells d s0 m → LeavesOnly (StandsForEither m.state (step m line).0.state) d e)
-    → ((m : Machine) → tells → AgreesOn tells d s0 m → IsFullOnly (room_in s0) m (line ∷ []) part status)
+    → ((m : Machine) (held : Holding) → tells → AgreesOn tells d s0 m → IsHeld held d.content → IsFullOnly d.limit held m (line ∷ []) part status)
     → ((m : Machine) (place : ℕ) → tells → AgreesOn tells d s0 m → status ≡ Damaged place → ⊥) → StopsWithin tells a b d e s0 (line ∷ []) status
 stops_line tells a b d e s0 line part status lawful gave is leaves full whole = record {
   given = part;
@@ -164,15 +194,16 @@ stops_line tells a b d e s0 line part status lawful gave is leaves full whole = 
   each = λ m tell agrees. let rest = is m tell agrees in record {
     progress = progress_stop m line [] part rest.0 e.images rest.1 rest.2 (leaves_now tells d e (StandsForEither m.state (step m line).0.state) lawful (leaves m tell agrees));
     images = leaves_as d e (StandsForEither m.state (step m line).0.state) (StandsAfterSome m (line ∷ [])) (leaves m tell agrees) (λ z here. some_either m line [] z here);
-    full = full m tell agrees;
+    full = λ held here. full m held tell agrees here;
+    works = λ held here all. absurd (given_less m line part rest.0 rest.1 rest.2 all);
     undamaged = λ place is. whole m place tell agrees is;
   };
 }
 
 -- none of it was given
 pub stops_unanswered : (tells : Type 0) (a : Option (List Event)) (d e : DiskState) (s0 : Session) (line : List ℕ) (status : Status) → IsLawful tells e → ((m : Machine) → tells → AgreesOn tells d s0 m → LeavesOnly (StandsForEither m.state (step m line).0.state) d e)
-    → ((m : Machine) (need gap : ℕ) → tells → AgreesOn tells d s0 m → status ≡ Full need gap → (need ≡ record_bytes m line) × (gap ≡ room_in s0) × (gap < need))
+    → ((m : Machine) (held : Holding) (need gap : ℕ) → tells → AgreesOn tells d s0 m → IsHeld held d.content → status ≡ Full need gap → worked_where d.limit held (task_of m line) ≡ Err (record { need = need; gap = gap }))
     → ((m : Machine) (place : ℕ) → tells → AgreesOn tells d s0 m → status ≡ Damaged place → ⊥) → StopsWithin tells a a d e s0 (line ∷ []) status
 stops_unanswered tells a d e s0 line status lawful leaves full whole =
     stops_line tells a a d e s0 line [] status lawful (gives_none a) (λ m tell agrees. ((step m line).1, refl, reply_some m line)) leaves
-    (λ m tell agrees need gap is. let found = full m need gap tell agrees is in (0, over_first (room_in s0) m line need gap found.0 found.1 found.2, refl)) whole
+    (λ m held tell agrees here need gap is. (0, over_first d.limit m held line need gap (one_worked d.limit m held line ∙ full m held need gap tell agrees here is), refl)) whole

@@ -7,9 +7,11 @@ pub mod DeletingLaws
 pub mod FedLaws
 pub mod FeedLaws
 pub mod FullnessLaws
+pub mod GivenLaws
 pub mod KeepingLaws
 pub mod LoadingLaws
 pub mod MachineLaws
+pub mod ObeyingLaws
 pub mod ProgressLaws
 pub mod QueryingLaws
 pub mod RunLaws
@@ -17,3 +19,4 @@ pub mod SearchLaws
 pub mod ServeLaws
 pub mod StateLaws
 pub mod StatusLaws
+pub mod TaskLaws

@@ -1,6 +1,6 @@
 -- Laws of calls that load lists.
-use Rattle.std.proofs.Common.{◌≡◌, ◌⊎◌, ℕ, ◌+◌, ◌<◌, ◌≤◌, inl, inr, ⊎_elim, List, [], ◌∷◌, ◌++◌, Bool, true, false, cond, zero, suc, length, map, refl, ap, sym, subst, ◌∙◌, arith, Result, Ok, Err, IfOk, IfErr, Option, Some, None}
-use Rattle.std.specs.Prelude.{All, Contains, nat_le}
+use Rattle.std.proofs.Common.{◌≡◌, ◌⊎◌, ℕ, ◌+◌, ◌<◌, ◌≤◌, inl, inr, ⊎_elim, List, [], ◌∷◌, ◌++◌, Bool, true, false, cond, zero, suc, length, refl, ap, sym, subst, arith, Result, Ok, Err, IfOk, IfErr, Option, Some, None}
+use Rattle.std.specs.Prelude.{Contains, nat_le}
 use Rattle.std.proofs.lemmas.Bool.Decides.{nat_tests}
 use Rattle.std.proofs.lemmas.List.Elements.{All-nil}
 use Rattle.std.proofs.lemmas.Result.{IfOk-weaker}
@@ -14,7 +14,7 @@ use Rattle.alta_disk.specs.Disk.{DiskState, IsLawful}
 use Rattle.alta_disk.proofs.Moments.{only_same}
 use Rattle.alta_images.specs.Broken.{IsBrokenAmong}
 use Rattle.alta_loading.specs.Answers.{IfDamaged}
-use Rattle.alta_loading.specs.Loads.{Load, Tells, IsFirstFault, IsWhole, load_at, load_in, load_sizes, loads_from, row_from, stored_by}
+use Rattle.alta_loading.specs.Loads.{Load, Tells, IsFirstFault, IsWhole, load_at, load_in, load_sizes, loads_from, row_from}
 use Rattle.alta_loading.specs.Met.{each_once, loads_met, loads_of_tests, terms_met}
 use Rattle.alta_loading.specs.Terms.{loads_of}
 use Rattle.alta_loading.specs.declared.fault.LoadFault.{LoadFault}

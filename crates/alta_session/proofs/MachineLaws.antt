@@ -80,7 +80,7 @@ reading_take n line l =
       | inr short ↦ ap reading_of (take_all n line short)
     ]
 
-reading_clip : (line : List ℕ) → reading_of (clip line) ≡ reading_of line
+pub reading_clip : (line : List ℕ) → reading_of (clip line) ≡ reading_of line
 unfolding clip
 reading_clip line = reading_take 65536 line (lit< tt)
 

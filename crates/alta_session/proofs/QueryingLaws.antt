@@ -1,11 +1,12 @@
 -- Laws of lines that ask for the answers of a query.
-use Rattle.std.proofs.Common.{◌≡◌, ◌⊎◌, ◌≤◌, ◌<◌, ◌++◌, ℕ, inl, inr, ⊎_elim, Bool, true, false, cond, List, [], ◌∷◌, length, refl, ap, sym, subst, ◌∙◌, arith, Result, Ok, Err, IfOk, IfErr, OnOk, codes, decimal}
+use Rattle.std.proofs.Common.{◌≡◌, ◌⊎◌, ◌≤◌, ◌++◌, ℕ, inl, inr, ⊎_elim, Bool, true, false, cond, List, length, refl, ap, sym, subst, arith, Option, None, Result, Ok, Err, IfOk, IfErr, codes, decimal}
 use Rattle.std.specs.Prelude.{nat_le}
-use Rattle.std.proofs.lemmas.Bool.{cases_lt}
 use Rattle.std.proofs.lemmas.Bool.Decides.{nat_tests}
 use Rattle.alta_disk.specs.Disk.{DiskState, IsLawful, Same}
 use Rattle.alta_disk.proofs.Moments.{leaves_by}
+use Rattle.alta_images.specs.Holding.{IsHeld}
 use Rattle.alta_images.specs.Standing.{StandsFor, StandsForEither}
+use Rattle.alta_images.specs.Work.{Task}
 use Rattle.alta_loading.specs.Loads.{Load, load_sizes}
 use Rattle.alta_meta.specs.declared.document.Document.{Document}
 use Rattle.alta_meta.specs.declared.document.State.{State}
@@ -17,21 +18,20 @@ use Rattle.alta_search.specs.Open.{AreOpen, OpenAnswers, least_free, with_opened
 use Rattle.alta_search.specs.declared.cursors.OpenCursor.{OpenCursor}
 use Rattle.alta_search.specs.declared.cursors.TheConstants.{CURSORS}
 use Rattle.alta_search.proofs.CursorAnswers.{same_length}
-use Rattle.alta_session.specs.Agreement.{AgreesOn}
 use Rattle.alta_session.specs.Answering.{Answers, CanAnswer}
 use Rattle.alta_session.specs.Cursors.{Turn, Turns, opening, opened_by}
-use Rattle.alta_session.specs.Loading.{HasBrokenList, Loads, Queries}
+use Rattle.alta_session.specs.Loading.{HasBrokenList, Queries}
 use Rattle.alta_session.specs.Machine.{IsRefusal, Machine, turned_by}
 use Rattle.alta_session.specs.Searching.{IsNoQuery, answer_lines, counted_by, counting, found_by, found_line, searching}
 use Rattle.alta_session.specs.declared.session.Session.{Session}
 use Rattle.alta_session.proofs.AnsweringLaws.{answers_by, if_so, ok_weaker, with_cursors}
 use Rattle.alta_session.proofs.CursorLaws.{found_other, cursor_other, lines_other, no_refusal}
-use Rattle.alta_session.proofs.FullnessLaws.{none_added}
 use Rattle.alta_session.proofs.LoadingLaws.{AreOf, agrees_read, broken_list}
+use Rattle.alta_session.proofs.TaskLaws.{worked_none}
 use Rattle.alta_store.specs.Agreement.{Agrees, levels_of}
 use Rattle.alta_store.specs.Answers.{IsOutside}
 use Rattle.alta_store.specs.declared.fault.StoreFault.{StoreFault}
-use Rattle.alta_store.specs.declared.fault.StoreFault.TheVariants.{Disk, Memory, Damaged, Full}
+use Rattle.alta_store.specs.declared.fault.StoreFault.TheVariants.{Damaged, Full}
 use Rattle.alta_store.proofs.Agreements.{images_stand}
 
 ok_both : {T E : Type 0} (r : Result T E) (P Q R : T → Type 0) → ((x : T) → P x → Q x → R x) → IfOk r P → IfOk r Q → IfOk r R
@@ -61,16 +61,16 @@ only_so (Err e) (inl outside) = inl outside
 only_so (Err e) (inr damaged) = inr (inr damaged)
 
 -- ---- a call that answers a query, with this turn of the machine
-pub queried : {D : Type 0} (tells : Type 0) (state : D → DiskState) (disk disk_now : D) (session : Session) (cursors : List OpenCursor) (bytes : ℕ) (loads : List Load) (idle : Type 0) (result : Result (List ℕ) StoreFault)
-    (steps : Machine → Machine × List ℕ) (turn : State → List OpenAnswers → Turn) → IsLawful tells (state disk) → CanAnswer tells (state disk) session
+pub queried : {D : Type 0} (tells : Type 0) (state : D → DiskState) (disk disk_now : D) (session : Session) (cursors : List OpenCursor) (loads : List Load) (idle : Type 0) (result : Result (List ℕ) StoreFault)
+    (steps : Machine → Machine × List ℕ) (tasks : Machine → Option Task) (turn : State → List OpenAnswers → Turn) → IsLawful tells (state disk) → CanAnswer tells (state disk) session
     → Queries tells state disk disk_now loads idle result → AreOf (levels_of session.store) loads → IfOk result (λ reply. IsRefusal reply → cursors ≡ session.cursors)
     → ((s : State) (all : List OpenAnswers) → tells → StandsFor s (state disk).content → AreOpen session.cursors all → Turns (turn s all) cursors result)
     → ((s : State) (all : List OpenAnswers) → AreOpen session.cursors all → IsRefusal (turn s all).1 → idle)
-    → ((m : Machine) → steps m ≡ turned_by m (turn m.state m.cursors)) → Answers tells state disk disk_now session (with_cursors session cursors) bytes result steps
-queried tells state disk disk_now session cursors bytes loads idle result steps turn lawful can queries of_them kept turns idles is =
+    → ((m : Machine) → steps m ≡ turned_by m (turn m.state m.cursors)) → ((m : Machine) → tasks m ≡ None) → Answers tells state disk disk_now session (with_cursors session cursors) result steps tasks
+queried tells state disk disk_now session cursors loads idle result steps tasks turn lawful can queries of_them kept turns idles is none =
     let reads = queries.loaded.reads in
     let agrees_now : Agrees tells (state disk_now) session.store = agrees_read tells (load_sizes loads) (state disk) (state disk_now) session.store lawful can.agrees reads in
-    answers_by tells state disk disk_now session (with_cursors session cursors) bytes result (λ m. turned_by m (turn m.state m.cursors)) steps (λ m. sym (is m)) (record {
+    answers_by tells state disk disk_now session (with_cursors session cursors) result (λ m. turned_by m (turn m.state m.cursors)) steps (λ m. None) tasks (λ m. sym (is m)) (λ m. sym (none m)) (record {
       from = λ m tell agrees.
           let one : Turns (turn m.state m.cursors) cursors result = turns m.state m.cursors tell (agrees.stands tell) agrees.cursors in
           let before : (c : List ℕ) → (state disk).images c → StandsForEither m.state m.state c = λ c here. inl (images_stand tells (state disk) m.state lawful agrees.store.settled agrees.stands c here) in
@@ -80,9 +80,9 @@ queried tells state disk disk_now session cursors bytes loads idle result steps 
                 (λ open_now. record { store = agrees_now; stands = λ told. subst (StandsFor m.state) (sym (reads.content told)) (agrees.stands told); cursors = open_now }) one.open_now;
             images = leaves_by tells (state disk) (state disk_now) (StandsForEither m.state m.state) Same lawful reads.images before (λ x z here same. subst (StandsForEither m.state m.state) (sym same) (before x here));
             refused = λ refusal. queries.idles (idles m.state m.cursors agrees.cursors refusal);
-            need = λ need gap failed. absurd (not_full result need gap queries.loaded.only failed);
+            works = λ held here. if_so result _ (worked_none (state disk).limit held None (state disk_now).content refl (subst (IsHeld held) (sym (reads.content tell)) here));
+            full = λ held need gap here failed. absurd (not_full result need gap queries.loaded.only failed);
             undamaged = λ place failed. not_damaged result place (queries.undamaged m.state tell (agrees.stands tell)) failed;
-            room = if_so result _ (omega (arith, none_added bytes m.state));
           };
       can = if_so result (CanAnswer tells (state disk_now) (with_cursors session cursors)) (record { sound = can.sound; agrees = agrees_now; limit = omega (arith, can.limit, reads.costs.limit) });
       unchanged = ok_both result (λ reply. IsRefusal reply → disk_now ≡ disk) (λ reply. IsRefusal reply → cursors ≡ session.cursors) _

@@ -1,5 +1,5 @@
 -- Laws of whole runs.
-use Rattle.std.proofs.Common.{◌≡◌, ◌⊎◌, ℕ, zero, suc, ◌+◌, ◌<◌, ◌≤◌, inl, inr, true, List, [], ◌∷◌, ◌++◌, Option, length, take, map, refl, ap, sym, subst, ◌∙◌, append-nil, length-append, arith}
+use Rattle.std.proofs.Common.{◌≡◌, ◌⊎◌, ℕ, zero, suc, ◌+◌, ◌<◌, ◌≤◌, inl, inr, true, List, [], ◌∷◌, ◌++◌, Option, length, take, map, refl, ap, sym, subst, ◌∙◌, append-nil, length-append, arith, Ok}
 use Rattle.alta_console.specs.Giving.{AllGiven}
 use Rattle.alta_console.specs.Lines.{whole, whole_from, begun, begun_from, last_piece}
 use Rattle.alta_console.specs.Replies.{joined}
@@ -11,24 +11,28 @@ use Rattle.alta_console.proofs.LineLaws.{whole_from_append, begun_from_append}
 use Rattle.alta_console.proofs.ReplyLaws.{joined_append}
 use Rattle.alta_console.proofs.RunLaws.{given_takes_none, given_ends_none, given_takes_at, ended_append, takes_in, takes_later, within_all, open_lines, ended_lines, lines_past, taken_on}
 use Rattle.alta_disk.specs.Disk.{DiskState, LeavesOnly, IsLawful}
-use Rattle.alta_session.specs.Agreement.{AgreesOn, room_in}
+use Rattle.alta_images.specs.Holding.{Holding, IsHeld}
+use Rattle.alta_session.specs.Agreement.{AgreesOn}
 use Rattle.alta_session.specs.Fed.{Fed, FedFrom}
-use Rattle.alta_session.specs.Fullness.{records_bytes, IsFullOnly, IsFullExactly}
+use Rattle.alta_session.specs.Fullness.{IsFullOnly, IsFullExactly}
 use Rattle.alta_session.specs.Going.{Goes, GoingFrom}
 use Rattle.alta_session.specs.Keeping.{clip}
 use Rattle.alta_session.specs.Machine.{Machine, after, replies}
 use Rattle.alta_session.specs.Progress.{StandsAfterSome, Progress, StopsWithin, StopsWithinFrom}
-use Rattle.alta_session.specs.Run.{AnswersInTime, Runs, RunsFrom}
+use Rattle.alta_session.specs.Run.{AnswersAll, AnswersInTime, Runs, RunsFrom}
 use Rattle.alta_session.specs.Status.{StopsLine, EndsLine}
+use Rattle.alta_session.specs.Tasks.{IsDone, IsWorked, worked_lines}
 use Rattle.alta_session.specs.declared.session.Session.{Session}
 use Rattle.alta_session.specs.declared.status.Status.{Status}
 use Rattle.alta_session.specs.declared.status.Status.TheVariants.{Done, Full, TooLong, Damaged}
-use Rattle.alta_session.proofs.FedLaws.{leaves_on, leaves_none, fed_clip, stops_clip, stops_none, stops_full}
-use Rattle.alta_session.proofs.FullnessLaws.{records_append, full_on, full_exactly}
+use Rattle.alta_session.proofs.FedLaws.{done_on, leaves_on, leaves_none, fed_clip, stops_clip, stops_none, stops_full}
+use Rattle.alta_session.proofs.FullnessLaws.{full_on, full_exactly}
+use Rattle.alta_session.proofs.GivenLaws.{given_behind}
 use Rattle.alta_session.proofs.KeepingLaws.{whole_from_clip, begun_from_clip, last_piece_clip}
 use Rattle.alta_session.proofs.MachineLaws.{after_append, replies_append}
 use Rattle.alta_session.proofs.ProgressLaws.{progress_begins, progress_acked, progress_on, progress_full}
 use Rattle.alta_session.proofs.StatusLaws.{ends_not_done, ends_not_long, ends_whole}
+use Rattle.alta_session.proofs.TaskLaws.{lines_on}
 use Rattle.alta_store.proofs.Agreements.{images_stand}
 
 -- A run that was in time goes on by a take, and then by gives: it is in time where all was answered before the take.
@@ -44,10 +48,11 @@ in_time_on m run event gives before now given k t =
     at_event (suc j) t = absurd (given_takes_at gives j given (takes_later event gives j t))
 
 -- what a run from a machine keeps
-runs_from : (limit : ℕ) (d e : DiskState) (session : Session) (run : List Event) (status : Status) (m : Machine) → AnswersInTime m run → Progress m (lines_in limit run) (given_in run) e.images
+runs_from : (limit : ℕ) (d e : DiskState) (run : List Event) (status : Status) (m : Machine) → AnswersInTime m run → Progress m (lines_in limit run) (given_in run) e.images
     → (status ≡ Done → (has_ended run ≡ true) × (given_in run ≡ joined (replies m (lines_in limit run)))) → LeavesOnly (StandsAfterSome m (lines_in limit run)) d e
-    → IsFullExactly (room_in session) m (lines_in limit run) (given_in run) status → ((place : ℕ) → status ≡ Damaged place → ⊥) → RunsFrom limit d e session run status m
-runs_from limit d e session run status m time p done leaves full never = record {
+    → ((held : Holding) → IsHeld held d.content → IsFullExactly d.limit held m (lines_in limit run) (given_in run) status) → ((held : Holding) → IsHeld held d.content → AnswersAll limit m run → IsDone (worked_lines d.limit m held (lines_in limit run)) e)
+    → ((place : ℕ) → status ≡ Damaged place → ⊥) → RunsFrom limit d e run status m
+runs_from limit d e run status m time p done leaves full levels never = record {
   replies = record {
     begin = progress_begins m (lines_in limit run) (given_in run) e.images p;
     all = done;
@@ -62,13 +67,21 @@ runs_from limit d e session run status m time p done leaves full never = record 
     ever = leaves;
   };
   full = full;
+  levels = levels;
   undamaged = never;
 }
 
--- it ended in answering a line, or all that came before fitted too
-ends_on : (room later : ℕ) (m : Machine) (xs ys : List (List ℕ)) (status : Status) → later + records_bytes m xs ≡ room → StopsLine status ⊎ (records_bytes (after m xs) ys ≤ later) → StopsLine status ⊎ (records_bytes m (xs ++ ys) ≤ room)
-ends_on room later m xs ys status fit (inl ends) = inl ends
-ends_on room later m xs ys status fit (inr more) = inr (omega (arith, fit, more, records_append m xs ys))
+-- it ended in answering a line, or the work of all that came before was done too
+ends_on : (limit later : ℕ) (m : Machine) (held now : Holding) (xs ys : List (List ℕ)) (status : Status) (image : List ℕ) → later ≡ limit → worked_lines limit m held xs ≡ Ok now → StopsLine status ⊎ IsWorked (worked_lines later (after m xs) now ys) image
+    → StopsLine status ⊎ ((z : Holding) × (worked_lines limit m held (xs ++ ys) ≡ Ok z))
+ends_on limit later m held now xs ys status image same first (inl ends) = inl ends
+ends_on limit later m held now xs ys status image same first (inr more) = let all : IsWorked (worked_lines limit m held (xs ++ ys)) image = lines_on limit later m held now xs ys image same first more in inr (all.now, all.is)
+
+-- at what is held
+ends_at : (status : Status) (limit : ℕ) (m : Machine) (lines : List (List ℕ)) (before image : List ℕ) (held : Holding) → IsHeld held before → StopsLine status ⊎ ((held : Holding) → IsHeld held before → IsWorked (worked_lines limit m held lines) image)
+    → StopsLine status ⊎ IsWorked (worked_lines limit m held lines) image
+ends_at status limit m lines before image held here (inl ends) = inl ends
+ends_at status limit m lines before image held here (inr works) = inr (works held here)
 
 -- a run that goes on, then a take, and then gives
 given_on : (run gives : List Event) (event : Event) (given : List ℕ) → given_in (event ∷ []) ≡ [] → given_in gives ≡ given → given_in (run ++ event ∷ gives) ≡ given_in run ++ given
@@ -76,24 +89,33 @@ given_on run gives event given none is =
     given_in_append run (event ∷ gives) ∙ ap (λ (l : List ℕ). given_in run ++ l) (given_in_append (event ∷ []) gives ∙ ap (λ (l : List ℕ). l ++ given_in gives) none ∙ is)
 
 after_from : (tells : Type 0) (limit : ℕ) (d e f : DiskState) (s0 s1 : Session) (run gives : List Event) (event : Event) (given : List ℕ) (later : List (List ℕ)) (status : Status) (m : Machine) → GoingFrom tells d e s0 s1 run m
-    → StopsWithinFrom e f s1 later given status (after m (whole (taken_in run))) → AllGiven gives → given_in gives ≡ given → given_in (event ∷ []) ≡ [] → lines_in limit (run ++ event ∷ gives) ≡ whole (taken_in run) ++ later
+    → e.limit ≡ d.limit → StopsWithinFrom e f later given status (after m (whole (taken_in run))) → AllGiven gives → given_in gives ≡ given → given_in (event ∷ []) ≡ [] → lines_in limit (run ++ event ∷ gives) ≡ whole (taken_in run) ++ later
     → (status ≡ Done → (has_ended (run ++ event ∷ gives) ≡ true) × (given ≡ joined (replies (after m (whole (taken_in run))) later)))
-    → StopsLine status ⊎ (records_bytes (after m (whole (taken_in run))) later ≤ room_in s1) → RunsFrom limit d f s0 (run ++ event ∷ gives) status m
-after_from tells limit d e f s0 s1 run gives event given later status m going stops all_given gave none lines done ends =
+    → StopsLine status ⊎ ((held : Holding) → IsHeld held e.content → IsWorked (worked_lines e.limit (after m (whole (taken_in run))) held later) f.content) → RunsFrom limit d f (run ++ event ∷ gives) status m
+after_from tells limit d e f s0 s1 run gives event given later status m going same stops all_given gave none lines done ends =
     let before : List (List ℕ) = whole (taken_in run) in
     let now : List Event = run ++ event ∷ gives in
     let given_is : given_in now ≡ joined (replies m before) ++ given = given_on run gives event given none gave ∙ ap (λ (l : List ℕ). l ++ given) going.given_is in
     let P : List (List ℕ) → Type 0 = λ l. Progress m l (given_in now) f.images in
     let Q : List ℕ → Type 0 = λ l. Progress m (before ++ later) l f.images in
     let R : List (List ℕ) → Type 0 = λ l. LeavesOnly (StandsAfterSome m l) d f in
-    let F : List (List ℕ) → Type 0 = λ l. IsFullExactly (room_in s0) m l (given_in now) status in
-    let G : List ℕ → Type 0 = λ l. IsFullOnly (room_in s0) m (before ++ later) l status in
-    runs_from limit d f s0 now status m (in_time_on m run event gives going.in_time going.given_is all_given)
+    let F : Holding → List (List ℕ) → Type 0 = λ held l. IsFullExactly d.limit held m l (given_in now) status in
+    let G : Holding → List ℕ → Type 0 = λ held l. IsFullOnly d.limit held m (before ++ later) l status in
+    let D : Holding → List (List ℕ) → Type 0 = λ held l. IsDone (worked_lines d.limit m held l) f in
+    runs_from limit d f now status m (in_time_on m run event gives going.in_time going.given_is all_given)
     (subst P (sym lines) (subst Q (sym given_is) (progress_on m before later given f.images stops.progress)))
     (λ is. ((done is).0, given_is ∙ ap (λ (l : List ℕ). joined (replies m before) ++ l) (done is).1 ∙ sym (joined_append (replies m before) (replies (after m before) later)) ∙ ap joined (sym (replies_append m before later) ∙ ap (λ (l : List (List ℕ)). replies m l) (sym lines))))
     (subst R (sym lines) (leaves_on d e f m before later going.images stops.images))
-    (subst F (sym lines) (full_exactly (room_in s0) m (before ++ later) (given_in now) status
-    (subst G (sym given_is) (full_on (room_in s0) (room_in s1) m before later given status going.room stops.full)) (ends_on (room_in s0) (room_in s1) m before later status going.room ends))) stops.undamaged
+    (λ held here.
+    let done : IsWorked (worked_lines d.limit m held before) e.content = going.works held here in
+    subst (F held) (sym lines) (full_exactly d.limit m held (before ++ later) (given_in now) status
+    (subst (G held) (sym given_is) (full_on d.limit e.limit m held done.now before later given status same done.is (stops.full done.now done.held)))
+    (ends_on d.limit e.limit m held done.now before later status f.content same done.is (ends_at status e.limit (after m before) later e.content f.content done.now done.held ends))))
+    (λ held here all.
+    let done : IsWorked (worked_lines d.limit m held before) e.content = going.works held here in
+    subst (D held) (sym lines) (done_on d.limit e.limit m held done.now before later f same done.is
+    (stops.works done.now done.held (given_behind m before later (joined (replies m before)) given refl (sym given_is ∙ all ∙ ap (λ (l : List (List ℕ)). joined (replies m l)) lines)))))
+    stops.undamaged
 
 -- at the start
 pub goes_none : (tells : Type 0) (limit : ℕ) (told : Option (List Event)) (left : Option (List ℕ)) (d : DiskState) (session : Session) → IsLawful tells d → Goes tells limit told told left left d d session session [] 0
@@ -105,7 +127,8 @@ goes_none tells limit told left d session lawful = record {
   within = omega arith;
   kept_is = refl;
   not_ended = refl;
-  each = λ m tell agrees. record { given_is = refl; in_time = λ k t. absurd t; agrees = agrees; images = leaves_none tells d session m [] lawful agrees; room = omega arith };
+  same_limit = refl;
+  each = λ m tell agrees. record { given_is = refl; in_time = λ k t. absurd t; agrees = agrees; images = leaves_none tells d session m [] lawful agrees; works = λ held here. record { now = held; is = refl; held = here } };
 }
 
 same_whole : (kept bytes piece : List ℕ) → clip kept ≡ clip (begun bytes) → map clip (whole_from kept piece) ≡ map clip (whole_from (begun bytes) piece)
@@ -144,6 +167,7 @@ goes_on tells limit a b c d la lb lc ld e f h s0 s1 s2 kept kept_now taken piece
       within = omega (arith, goes.taken_is, ap length taken_now, length-append bytes piece);
       kept_is = kept_is ∙ begun_from_clip kept (begun bytes) piece goes.kept_is ∙ ap clip (sym (ap begun taken_now ∙ begun_from_append [] bytes piece));
       not_ended = ended_append run (Taken piece ∷ gives) goes.not_ended ∙ given_ends_none gives fed_now.gave.2;
+      same_limit = fed_now.same_limit ∙ goes.same_limit;
       each = λ m tell agrees.
           let one : GoingFrom tells e f s0 s1 run m = goes.each m tell agrees in
           let two : FedFrom tells f h s1 s2 later fed_now.given (after m (whole bytes)) = fed_now.each (after m (whole bytes)) tell one.agrees in
@@ -154,7 +178,9 @@ goes_on tells limit a b c d la lb lc ld e f h s0 s1 s2 kept kept_now taken piece
             in_time = in_time_on m run (Taken piece) gives one.in_time one.given_is fed_now.gave.2;
             agrees = subst (λ (t : Machine). AgreesOn tells h s2 t) (sym (after_append m (whole bytes) later) ∙ ap (λ (l : List (List ℕ)). after m l) (sym lines)) two.agrees;
             images = subst (λ (l : List (List ℕ)). LeavesOnly (StandsAfterSome m l) e h) (sym lines) (leaves_on e f h m (whole bytes) later one.images two.images);
-            room = omega (arith, one.room, two.room, records_append m (whole bytes) later, ap (λ (l : List (List ℕ)). records_bytes m l) lines);
+            works = λ held here.
+                let done : IsWorked (worked_lines e.limit m held (whole bytes)) f.content = one.works held here in
+                subst (λ (l : List (List ℕ)). IsWorked (worked_lines e.limit m held l) h.content) (sym lines) (lines_on e.limit f.limit m held done.now (whole bytes) later h.content goes.same_limit done.is (two.works done.now done.held));
           };
     }
 
@@ -179,7 +205,7 @@ runs_stopped tells limit a b c d la lb lc ld e f h s0 s1 kept taken piece status
       too_long = (λ long. absurd (ends_not_long status ends long), λ past. absurd (omega arith));
       last = λ past. absurd (omega arith);
       each = λ m tell agrees. let one : GoingFrom tells e f s0 s1 run m = goes.each m tell agrees in
-          after_from tells limit e f h s0 s1 run gives (Taken piece) stops.given later status m one (stops.each (after m (whole bytes)) tell one.agrees) stops.gave.2 stops.gave.3 refl lines (λ done. absurd (ends_not_done status ends done)) (inl (ends_whole status ends (stops.each (after m (whole bytes)) tell one.agrees).undamaged));
+          after_from tells limit e f h s0 s1 run gives (Taken piece) stops.given later status m one goes.same_limit (stops.each (after m (whole bytes)) tell one.agrees) stops.gave.2 stops.gave.3 refl lines (λ done. absurd (ends_not_done status ends done)) (inl (ends_whole status ends (stops.each (after m (whole bytes)) tell one.agrees).undamaged));
     }
 
 -- a piece passed the limit
@@ -201,7 +227,7 @@ runs_past tells limit a b c la lb lc e f s0 s1 kept taken piece lawful goes took
       too_long = (λ long. omega (arith, goes.taken_is, ap length taken_now, length-append bytes piece), λ over. refl);
       last = λ over. record { before = run; piece = piece; run_is = refl; within = goes.within };
       each = λ m tell agrees. let one : GoingFrom tells e f s0 s1 run m = goes.each m tell agrees in
-          after_from tells limit e f f s0 s1 run [] (Taken piece) stops.given [] TooLong m one (stops.each (after m (whole bytes)) tell one.agrees) tt refl refl lines (λ done. absurd cc) (inr (omega arith));
+          after_from tells limit e f f s0 s1 run [] (Taken piece) stops.given [] TooLong m one goes.same_limit (stops.each (after m (whole bytes)) tell one.agrees) tt refl refl lines (λ done. absurd cc) (inr (λ held here. record { now = held; is = refl; held = here }));
     }
 
 ended_on : (run gives : List Event) → AllGiven gives → taken_in (run ++ Ended ∷ gives) ≡ taken_in run ++ []
@@ -210,7 +236,7 @@ ended_on run gives given = taken_in_append run (Ended ∷ gives) ∙ ap (λ (l :
 -- the input ended, and of a last line some was answered
 ended_with : (tells : Type 0) (limit : ℕ) (a b c d : Option (List Event)) (la lb lc ld : Option (List ℕ)) (e f h : DiskState) (s0 s1 : Session) (kept : List ℕ) (taken : ℕ) (status : Status) (goes : Goes tells limit a b la lb e f s0 s1 kept taken) → Grows b c (Ended ∷ []) → Consumes lb lc []
     → (stops : StopsWithin tells c d f h s1 (last_piece (begun (taken_in goes.run))) status) → ld ≡ lc → ((m : Machine) → tells → AgreesOn tells f s1 m → status ≡ Done → stops.given ≡ joined (replies m (last_piece (begun (taken_in goes.run))))) → (status ≡ TooLong → ⊥)
-    → ((m : Machine) → tells → AgreesOn tells f s1 m → StopsLine status ⊎ (records_bytes m (last_piece (begun (taken_in goes.run))) ≤ room_in s1)) → Runs tells limit a d la ld e h s0 status
+    → ((m : Machine) → tells → AgreesOn tells f s1 m → StopsLine status ⊎ ((held : Holding) → IsHeld held f.content → IsWorked (worked_lines f.limit m held (last_piece (begun (taken_in goes.run)))) h.content)) → Runs tells limit a d la ld e h s0 status
 ended_with tells limit a b c d la lb lc ld e f h s0 s1 kept taken status goes took more stops same all not_long ends =
     let run : List Event = goes.run in
     let bytes : List ℕ = taken_in run in
@@ -229,7 +255,7 @@ ended_with tells limit a b c d la lb lc ld e f h s0 s1 kept taken status goes to
       too_long = (λ long. absurd (not_long long), λ past. absurd (omega arith));
       last = λ past. absurd (omega arith);
       each = λ m tell agrees. let one : GoingFrom tells e f s0 s1 run m = goes.each m tell agrees in
-          after_from tells limit e f h s0 s1 run gives Ended stops.given later status m one (stops.each (after m (whole bytes)) tell one.agrees) stops.gave.2 stops.gave.3 refl lines (λ done. (ended, all (after m (whole bytes)) tell one.agrees done))
+          after_from tells limit e f h s0 s1 run gives Ended stops.given later status m one goes.same_limit (stops.each (after m (whole bytes)) tell one.agrees) stops.gave.2 stops.gave.3 refl lines (λ done. (ended, all (after m (whole bytes)) tell one.agrees done))
           (ends (after m (whole bytes)) tell one.agrees);
     }
 
@@ -249,7 +275,7 @@ runs_done tells limit a b c d la lb lc ld e f h s0 s1 s2 kept taken lawful goes 
     let line : List ℕ = begun (taken_in goes.run) in
     let fed_now : Fed tells c d f h s1 s2 (last_piece line) = fed_clip tells c d f h s1 s2 (last_piece kept) (last_piece line) (last_same kept line goes.kept_is) fed in
     ended_with tells limit a b c d la lb lc ld e f h s0 s1 kept taken Done goes took more (stops_full tells c d f h s1 s2 (last_piece line) Done lawful (λ need gap is. cc) (λ place is. cc) fed_now) same
-    (λ m tell agrees done. (fed_now.each m tell agrees).given_is) (λ long. cc) (λ m tell agrees. inr (omega (arith, (fed_now.each m tell agrees).room)))
+    (λ m tell agrees done. (fed_now.each m tell agrees).given_is) (λ long. cc) (λ m tell agrees. inr (fed_now.each m tell agrees).works)
 
 -- a take failed
 pub runs_failed : (tells : Type 0) (limit : ℕ) (a b c : Option (List Event)) (la lb lc : Option (List ℕ)) (e f : DiskState) (s0 s1 : Session) (kept : List ℕ) (taken : ℕ) (status : Status) → IsLawful tells f → Goes tells limit a b la lb e f s0 s1 kept taken → c ≡ b → lc ≡ lb → (status ≡ Done → ⊥) → (status ≡ TooLong → ⊥) → ((need gap : ℕ) → status ≡ Full need gap → ⊥)
@@ -265,8 +291,11 @@ runs_failed tells limit a b c la lb lc e f s0 s1 kept taken status lawful goes s
       too_long = (λ long. absurd (not_long long), λ past. absurd (omega (arith, goes.within)));
       last = λ past. absurd (omega (arith, goes.within));
       each = λ m tell agrees. let one : GoingFrom tells e f s0 s1 run m = goes.each m tell agrees in
-          runs_from limit e f s0 run status m one.in_time
+          runs_from limit e f run status m one.in_time
           (subst (λ (l : List (List ℕ)). Progress m l (given_in run) f.images) (sym lines) (subst (λ (l : List ℕ). Progress m (whole bytes) l f.images) (sym one.given_is) (progress_full m (whole bytes) f.images (images_stand tells f (after m (whole bytes)).state lawful one.agrees.store.settled one.agrees.stands))))
           (λ done. absurd (not_done done)) (subst (λ (l : List (List ℕ)). LeavesOnly (StandsAfterSome m l) e f) (sym lines) one.images)
-          (full_exactly (room_in s0) m (lines_in limit run) (given_in run) status (λ need gap is. absurd (not_full need gap is)) (inr (omega (arith, one.room, ap (λ (l : List (List ℕ)). records_bytes m l) lines)))) never;
+          (λ held here.
+          let done : IsWorked (worked_lines e.limit m held (lines_in limit run)) f.content = subst (λ (l : List (List ℕ)). IsWorked (worked_lines e.limit m held l) f.content) (sym lines) (one.works held here) in
+          full_exactly e.limit m held (lines_in limit run) (given_in run) status (λ need gap is. absurd (not_full need gap is)) (inr (done.now, done.is)))
+          (λ held here all. (subst (λ (l : List (List ℕ)). IsWorked (worked_lines e.limit m held l) f.content) (sym lines) (one.works held here), one.agrees.store.settled)) never;
     }

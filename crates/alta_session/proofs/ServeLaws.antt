@@ -1,24 +1,25 @@
 -- Laws of runs that open what is on the disk.
-use Rattle.std.proofs.Common.{◌≡◌, ℕ, inl, inr, ⊎_elim, List, [], Option, refl, ap, sym, subst, ◌∙◌, arith}
+use Rattle.std.proofs.Common.{◌≡◌, ℕ, inl, inr, ⊎_elim, List, [], Option, None, refl, sym, subst, arith}
 use Rattle.alta_console.specs.Transcript.{given_in, lines_in}
 use Rattle.alta_console.specs.declared.event.Event.{Event}
 use Rattle.alta_console.proofs.Laws.{grows_none, consumes_none}
 use Rattle.alta_disk.specs.Disk.{DiskState, Same, Passes, LeavesOnly, IsLawful}
 use Rattle.alta_disk.proofs.Moments.{leaves_then, leaves_by}
 use Rattle.alta_meta.specs.declared.document.State.{State}
-use Rattle.alta_session.specs.Agreement.{AgreesOn, room_in}
+use Rattle.alta_images.specs.Holding.{Holding, IsHeld}
+use Rattle.alta_session.specs.Agreement.{AgreesOn}
 use Rattle.alta_session.specs.Fullness.{IsFullExactly}
 use Rattle.alta_session.specs.Machine.{Machine, started_at}
 use Rattle.alta_session.specs.Progress.{StandsAfterSome}
-use Rattle.alta_session.specs.Run.{Runs, Serves, Keeps}
+use Rattle.alta_session.specs.Run.{AnswersAll, Runs, RunsFrom, Serves, Keeps}
+use Rattle.alta_session.specs.Tasks.{IsWorked, worked_lines}
 use Rattle.alta_session.specs.declared.session.Session.{Session}
 use Rattle.alta_session.specs.declared.status.Status.{Status}
 use Rattle.alta_session.specs.declared.status.Status.TheVariants.{Done, Full, TooLong}
 use Rattle.alta_session.proofs.FullnessLaws.{full_exactly}
 use Rattle.alta_session.proofs.ProgressLaws.{some_none}
-use Rattle.alta_store.specs.Agreement.{HasRoom}
-use Rattle.alta_store.proofs.Agreements.{room_held}
-use Rattle.alta_images.specs.Standing.{StandsFor}
+use Rattle.alta_images.specs.Standing.{StandsFor, view_of}
+use Rattle.alta_store.proofs.Agreements.{opened_of}
 
 -- calls that change nothing leave images of the same state
 same_stands : (P : List ℕ → Type 0) (d e : DiskState) → Passes Same d e → ((c : List ℕ) → d.images c → P c) → (c : List ℕ) → e.images c → P c
@@ -28,15 +29,17 @@ opens_only : (tells : Type 0) (d e : DiskState) (P : List ℕ → Type 0) → Is
 opens_only tells d e P lawful passes stand = leaves_by tells d e P Same lawful passes stand (λ x z here same. subst P (sym same) (stand x here))
 
 -- it was not opened
-pub serves_none : (tells : Type 0) (limit : ℕ) (told : Option (List Event)) (left : Option (List ℕ)) (d e : DiskState) (status : Status) → IsLawful tells d → Passes Same d e → (status ≡ Done → ⊥) → (status ≡ TooLong → ⊥) → ((need gap : ℕ) → status ≡ Full need gap → ⊥) → Serves tells limit told told left left d e status
-serves_none tells limit told left d e status lawful passes not_done not_long not_full = record {
+pub serves_none : (tells : Type 0) (limit : ℕ) (told : Option (List Event)) (left : Option (List ℕ)) (d e : DiskState) (status : Status) → IsLawful tells d → Passes Same d e → (tells → e.content ≡ d.content) → (status ≡ Done → ⊥) → (status ≡ TooLong → ⊥) → ((need gap : ℕ) → status ≡ Full need gap → ⊥) → Serves tells limit told told left left d e status
+serves_none tells limit told left d e status lawful passes same not_done not_long not_full = record {
   run = [];
   grew = grows_none told;
   read = consumes_none left;
   too_long = (λ long. absurd (not_long long), λ past. absurd (omega arith));
   last = λ past. absurd (omega arith);
   replies = λ s tell stands. record { begin = ([], refl); all = λ done. absurd (not_done done); in_time = λ k t. absurd t };
-  full = λ s room tell stands left. full_exactly room (started_at s) [] [] status (λ need gap is. absurd (not_full need gap is)) (inr (omega arith));
+  full = λ s held tell stands here. full_exactly d.limit (started_at s) held [] [] status (λ need gap is. absurd (not_full need gap is)) (inr (held, refl));
+  levels = λ s held tell stands here all. record { now = held; is = refl; held = subst (IsHeld held) (sym (same tell)) here };
+  settled = λ s tell stands all some. absurd (omega (arith, some));
   keeps = λ s tell stands. record {
     now = λ c here. record {
       answered = 0;
@@ -53,23 +56,40 @@ older : (tells : Type 0) (d m : DiskState) (c : List ℕ) → IsLawful tells d �
 older tells d m c lawful passes here =
     ⊎_elim (λ old. lawful.only_now c old) (λ from. subst (λ (z : List ℕ). d.images z) (sym from.2) from.1) (passes.between d.clock c (omega arith) here)
 
--- the room of a session is what the journal of its disk has left
-room_is : (tells : Type 0) (d : DiskState) (session : Session) (m : Machine) (room : ℕ) → tells → AgreesOn tells d session m → HasRoom d.content room → room_in session ≡ room
-room_is tells d session m room tell agrees left = room_held session.store d.content room (agrees.store.content tell) left
+-- by the limit and the content of before it was opened
+full_before : (limit : ℕ) (d m e : DiskState) (run : List Event) (status : Status) (start : Machine) (held : Holding) → m.limit ≡ d.limit → m.content ≡ d.content → RunsFrom limit m e run status start → IsHeld held d.content
+    → IsFullExactly d.limit held start (lines_in limit run) (given_in run) status
+full_before limit d m e run status start held same_limit same runs here =
+    subst (λ (n : ℕ). IsFullExactly n held start (lines_in limit run) (given_in run) status) same_limit (runs.full held (subst (IsHeld held) (sym same) here))
+
+levels_before : (limit : ℕ) (d m e : DiskState) (run : List Event) (status : Status) (start : Machine) (held : Holding) → m.limit ≡ d.limit → m.content ≡ d.content → RunsFrom limit m e run status start → IsHeld held d.content → AnswersAll limit start run
+    → IsWorked (worked_lines d.limit start held (lines_in limit run)) e.content
+levels_before limit d m e run status start held same_limit same runs here all =
+    subst (λ (n : ℕ). IsWorked (worked_lines n start held (lines_in limit run)) e.content) same_limit (runs.levels held (subst (IsHeld held) (sym same) here) all).0
+
+-- what an image that stands for a state has
+held_of : (s : State) (image : List ℕ) → StandsFor s image → (held : Holding) × IsHeld held image
+held_of s image stands = (
+  record { view = view_of stands.opened stands.means.levels; list = stands.opened.root.deletions; job = None },
+  record { opened = stands.opened; is = opened_of s image stands; are = stands.means.are; view_is = refl; list_is = refl },
+)
 
 -- it was opened, and then it ran
-pub serves_opened : (tells : Type 0) (limit : ℕ) (told told_now : Option (List Event)) (left left_now : Option (List ℕ)) (d m e : DiskState) (session : Session) (status : Status) → IsLawful tells d → Passes Same d m → ((s : State) → tells → StandsFor s d.content → AgreesOn tells m session (started_at s)) → (tells → m.content ≡ d.content)
+pub serves_opened : (tells : Type 0) (limit : ℕ) (told told_now : Option (List Event)) (left left_now : Option (List ℕ)) (d m e : DiskState) (session : Session) (status : Status) → IsLawful tells d → Passes Same d m → ((s : State) → tells → StandsFor s d.content → AgreesOn tells m session (started_at s)) → (tells → m.content ≡ d.content) → m.limit ≡ d.limit
     → Runs tells limit told told_now left left_now m e session status → Serves tells limit told told_now left left_now d e status
-serves_opened tells limit told told_now left left_now d m e session status lawful passes agrees same runs = record {
+serves_opened tells limit told told_now left left_now d m e session status lawful passes agrees same same_limit runs = record {
   run = runs.run;
   grew = runs.grew;
   read = runs.read;
   too_long = runs.too_long;
   last = runs.last;
   replies = λ s tell stands. (runs.each (started_at s) tell (agrees s tell stands)).replies;
-  full = λ s room tell stands left.
-      let P : ℕ → Type 0 = λ n. IsFullExactly n (started_at s) (lines_in limit runs.run) (given_in runs.run) status in
-      subst P (room_is tells m session (started_at s) room tell (agrees s tell stands) (subst (λ (c : List ℕ). HasRoom c room) (sym (same tell)) left)) (runs.each (started_at s) tell (agrees s tell stands)).full;
+  full = λ s held tell stands here. full_before limit d m e runs.run status (started_at s) held same_limit (same tell) (runs.each (started_at s) tell (agrees s tell stands)) here;
+  levels = λ s held tell stands here all. levels_before limit d m e runs.run status (started_at s) held same_limit (same tell) (runs.each (started_at s) tell (agrees s tell stands)) here all;
+  settled = λ s tell stands all some.
+      let from : StandsFor s m.content = subst (StandsFor s) (sym (same tell)) stands in
+      let held = held_of s m.content from in
+      ((runs.each (started_at s) tell (agrees s tell stands)).levels held.0 held.1 all).1;
   keeps = λ s tell stands.
       let one : Keeps limit (started_at s) runs.run m e = (runs.each (started_at s) tell (agrees s tell (stands.content tell))).keeps in
       let lines : List (List ℕ) = lines_in limit runs.run in

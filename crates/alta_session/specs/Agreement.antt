@@ -1,10 +1,10 @@
 -- What a session means.
-use Rattle.std.specs.Prelude.{◌≡◌, ℕ, true}
+use Rattle.std.specs.Prelude.{◌≡◌, true}
 use Rattle.alta_disk.specs.Disk.{DiskState}
 use Rattle.alta_search.specs.Open.{AreOpen}
 use Rattle.alta_session.specs.Machine.{Machine}
 use Rattle.alta_session.specs.declared.session.Session.{Session}
-use Rattle.alta_store.specs.Agreement.{Agrees, is_sound, room_of}
+use Rattle.alta_store.specs.Agreement.{Agrees, is_sound}
 use Rattle.alta_images.specs.Standing.{StandsFor}
 
 -- Session and disk agree on this machine: the store and its disk agree, the disk stands for the machine's state where it tells, and
@@ -13,10 +13,6 @@ pub record AgreesOn (tells : Type 0) (disk : DiskState) (session : Session) (m :
   pub store : Agrees tells disk session.store
   pub stands : tells → StandsFor m.state disk.content
   pub cursors : AreOpen session.cursors m.cursors
-
--- how many bytes the journal has left for a record
-abbrev pub room_in : Session → ℕ
-room_in session = room_of session.store
 
 -- no call of the session has failed
 abbrev pub IsSound : Session → Type 0

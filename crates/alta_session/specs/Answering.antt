@@ -1,16 +1,19 @@
 -- What the calls of a session do: one word for those that answer by a step of the machine, and one for those that only look.
-use Rattle.std.specs.Prelude.{◌≡◌, ◌⊎◌, ◌+◌, ◌≤◌, ℕ, List, Result, Err, IfOk, IfErr, OnOk}
+use Rattle.std.specs.Prelude.{◌≡◌, ◌⊎◌, ◌≤◌, ℕ, List, Option, Result, Err, IfOk, IfErr, OnOk}
 use Rattle.alta_codec.specs.Faults.{Rose}
 use Rattle.alta_disk.specs.Disk.{DiskState, LeavesOnly}
 use Rattle.alta_journal.specs.declared.places.TheConstants.{HEAD_BYTES}
-use Rattle.alta_session.specs.Agreement.{AgreesOn, IsSound, room_in}
-use Rattle.alta_session.specs.Fullness.{IsFull, bytes_of_change}
+use Rattle.alta_session.specs.Agreement.{AgreesOn, IsSound}
+use Rattle.alta_session.specs.Fullness.{IsFull}
 use Rattle.alta_session.specs.Machine.{Machine, IsRefusal}
 use Rattle.alta_session.specs.Loading.{HasBrokenList}
+use Rattle.alta_session.specs.Tasks.{IsWorked, worked_where}
 use Rattle.alta_session.specs.declared.session.Session.{Session}
 use Rattle.alta_store.specs.Agreement.{Agrees}
 use Rattle.alta_store.specs.Answers.{IsOutside}
+use Rattle.alta_images.specs.Holding.{Holding, IsHeld}
 use Rattle.alta_images.specs.Standing.{StandsForEither}
+use Rattle.alta_images.specs.Work.{Task}
 use Rattle.alta_store.specs.declared.fault.StoreFault.{StoreFault}
 use Rattle.alta_store.specs.declared.fault.StoreFault.TheVariants.{Disk, Memory, Damaged, Full}
 
@@ -27,26 +30,28 @@ pub record IsReply (text : List ℕ) (result : Result (List ℕ) StoreFault) : T
   pub memory : IfErr result (λ e. e ≡ Memory)
 
 -- A call answered by this step from a machine: with its reply, on the machine after it, and at each moment with images of the
--- state before or after it. A record of so many bytes is written where the step adds, and one of 14 where it deletes.
-pub record AnswersFrom {D : Type 0} (tells : Type 0) (state : D → DiskState) (disk disk_now : D) (session session_now : Session) (bytes : ℕ) (result : Result (List ℕ) StoreFault) (m : Machine) (stepped : Machine × List ℕ) : Type 0 where
+-- state before or after it. What is held then is what this task makes of what was held before.
+pub record AnswersFrom {D : Type 0} (tells : Type 0) (state : D → DiskState) (disk disk_now : D) (session session_now : Session) (result : Result (List ℕ) StoreFault) (m : Machine) (stepped : Machine × List ℕ) (task : Option Task) : Type 0 where
   pub reply : IfOk result (λ reply. reply ≡ stepped.1)
   pub agrees : OnOk result (AgreesOn tells (state disk_now) session_now stepped.0)
   pub images : LeavesOnly (StandsForEither m.state stepped.0.state) (state disk) (state disk_now)
   -- a refusal calls nothing, and fails for want of memory alone
   pub refused : IsRefusal stepped.1 → (disk_now ≡ disk) × IfErr result (λ e. e ≡ Memory)
-  pub need : (need gap : ℕ) → result ≡ Err (Full need gap) → (need ≡ bytes_of_change bytes m.state stepped.0.state) × (gap ≡ room_in session)
+  pub works : (held : Holding) → IsHeld held (state disk).content → OnOk result (IsWorked (worked_where (state disk).limit held task) (state disk_now).content)
+  -- it wants a place only where the task does
+  pub full : (held : Holding) (need gap : ℕ) → IsHeld held (state disk).content → result ≡ Err (Full need gap)
+      → worked_where (state disk).limit held task ≡ Err (record { need = need; gap = gap })
   -- and on a disk that stands for a state no damage is found
   pub undamaged : (place : ℕ) → result ≡ Err (Damaged place) → ⊥
-  pub room : OnOk result (room_in session_now + bytes_of_change bytes m.state stepped.0.state ≡ room_in session)
 
--- A call that answers by this step of the machine, on whichever machine session and disk agree.
-pub record Answers {D : Type 0} (tells : Type 0) (state : D → DiskState) (disk disk_now : D) (session session_now : Session) (bytes : ℕ) (result : Result (List ℕ) StoreFault) (steps : Machine → Machine × List ℕ) : Type 0 where
-  pub from : (m : Machine) → tells → AgreesOn tells (state disk) session m → AnswersFrom tells state disk disk_now session session_now bytes result m (steps m)
+-- A call that answers by this step of the machine, and by this task, on whichever machine session and disk agree.
+pub record Answers {D : Type 0} (tells : Type 0) (state : D → DiskState) (disk disk_now : D) (session session_now : Session) (result : Result (List ℕ) StoreFault) (steps : Machine → Machine × List ℕ) (tasks : Machine → Option Task) : Type 0 where
+  pub from : (m : Machine) → tells → AgreesOn tells (state disk) session m → AnswersFrom tells state disk disk_now session session_now result m (steps m) (tasks m)
   pub can : OnOk result (CanAnswer tells (state disk_now) session_now)
   pub unchanged : IfOk result (λ reply. IsRefusal reply → (disk_now ≡ disk) × (session_now ≡ session))
   -- each error comes from its cause
   pub only : IfErr result (λ e. IsOutside e ⊎ (((need gap : ℕ) × (e ≡ Full need gap)) ⊎ ((place : ℕ) × (e ≡ Damaged place))))
-  pub full : (need gap : ℕ) → tells → result ≡ Err (Full need gap) → IsFull (state disk_now).content need gap
+  pub full : (need gap : ℕ) → tells → result ≡ Err (Full need gap) → IsFull (state disk_now) need gap
   pub broken : (place : ℕ) → tells → result ≡ Err (Damaged place) → HasBrokenList (state disk_now).content place
   pub cause : result ≡ Err Disk → Rose (state disk).faults (state disk_now).faults
   pub faults : (state disk).faults ≤ (state disk_now).faults

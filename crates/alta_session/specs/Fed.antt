@@ -1,24 +1,26 @@
 -- Lines that were all answered.
-use Rattle.std.specs.Prelude.{◌≡◌, ℕ, ◌+◌, List, Option}
+use Rattle.std.specs.Prelude.{◌≡◌, ℕ, List, Option}
 use Rattle.alta_console.specs.Giving.{Gives}
 use Rattle.alta_console.specs.Replies.{joined}
 use Rattle.alta_console.specs.declared.event.Event.{Event}
 use Rattle.alta_disk.specs.Disk.{DiskState, LeavesOnly}
-use Rattle.alta_session.specs.Agreement.{AgreesOn, room_in}
-use Rattle.alta_session.specs.Fullness.{records_bytes}
+use Rattle.alta_images.specs.Holding.{Holding, IsHeld}
+use Rattle.alta_session.specs.Agreement.{AgreesOn}
 use Rattle.alta_session.specs.Machine.{Machine, after, replies}
 use Rattle.alta_session.specs.Progress.{StandsAfterSome}
+use Rattle.alta_session.specs.Tasks.{IsWorked, worked_lines}
 use Rattle.alta_session.specs.declared.session.Session.{Session}
 
--- From this machine on the lines were answered, their records fitted, and at no moment was there an image of another state
--- than after some.
+-- From this machine on the lines were answered, what is held then is what their work makes of what was held before, and at no moment was
+-- there an image of another state than after some.
 pub record FedFrom (tells : Type 0) (disk disk_now : DiskState) (session session_now : Session) (lines : List (List ℕ)) (given : List ℕ) (m : Machine) : Type 0 where
   pub given_is : given ≡ joined (replies m lines)
   pub agrees : AgreesOn tells disk_now session_now (after m lines)
   pub images : LeavesOnly (StandsAfterSome m lines) disk disk_now
-  pub room : room_in session_now + records_bytes m lines ≡ room_in session
+  pub works : (held : Holding) → IsHeld held disk.content → IsWorked (worked_lines disk.limit m held lines) disk_now.content
 
 pub record Fed (tells : Type 0) (told told_now : Option (List Event)) (disk disk_now : DiskState) (session session_now : Session) (lines : List (List ℕ)) : Type 0 where
   pub given : List ℕ
   pub gave : Gives told told_now given
+  pub same_limit : disk_now.limit ≡ disk.limit
   pub each : (m : Machine) → tells → AgreesOn tells disk session m → FedFrom tells disk disk_now session session_now lines given m

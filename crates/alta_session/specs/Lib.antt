@@ -12,3 +12,4 @@ pub mod Progress
 pub mod Run
 pub mod Searching
 pub mod Status
+pub mod Tasks

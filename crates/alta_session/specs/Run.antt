@@ -5,16 +5,17 @@ use Rattle.alta_console.specs.Replies.{joined, IsPrefix, IsAcked}
 use Rattle.alta_console.specs.Transcript.{given_in, taken_in, has_ended, lines_in, TakesAt, Grows, Consumes}
 use Rattle.alta_console.specs.declared.event.Event.{Event}
 use Rattle.alta_console.specs.declared.event.Event.TheVariants.{Taken}
-use Rattle.alta_disk.specs.Disk.{DiskState, Each, Same, Stands, Passes, LeavesOnly}
+use Rattle.alta_disk.specs.Disk.{DiskState, Each, Only, Same, Stands, Passes, LeavesOnly}
 use Rattle.alta_meta.specs.declared.document.State.{State}
-use Rattle.alta_session.specs.Agreement.{AgreesOn, room_in}
+use Rattle.alta_session.specs.Agreement.{AgreesOn}
 use Rattle.alta_session.specs.Fullness.{IsFullExactly}
 use Rattle.alta_session.specs.Machine.{Machine, started_at, replies}
 use Rattle.alta_session.specs.Progress.{StandsAfterSome, StandsAfter}
+use Rattle.alta_session.specs.Tasks.{IsDone, IsWorked, worked_lines}
 use Rattle.alta_session.specs.declared.session.Session.{Session}
 use Rattle.alta_session.specs.declared.status.Status.{Status}
 use Rattle.alta_session.specs.declared.status.Status.TheVariants.{Done, TooLong, Damaged}
-use Rattle.alta_store.specs.Agreement.{HasRoom}
+use Rattle.alta_images.specs.Holding.{Holding, IsHeld}
 use Rattle.alta_images.specs.Standing.{StandsFor}
 
 -- At each take, what was given so far is the replies to the whole lines taken so far.
@@ -26,6 +27,10 @@ pub record Replies (limit : ℕ) (start : Machine) (run : List Event) (status : 
   pub begin : IsPrefix (given_in run) (joined (replies start (lines_in limit run)))
   pub all : status ≡ Done → (has_ended run ≡ true) × (given_in run ≡ joined (replies start (lines_in limit run)))
   pub in_time : AnswersInTime start run
+
+-- each line was answered, and its reply given whole
+abbrev pub AnswersAll : ℕ → Machine → List Event → Type 0
+AnswersAll limit start run = given_in run ≡ joined (replies start (lines_in limit run))
 
 -- The image stands for the state after a prefix of the lines that holds each line whose reply was given whole, and at
 -- most one more.
@@ -52,10 +57,13 @@ pub record EndsPast (limit : ℕ) (run : List Event) : Type 0 where
   pub within : length (taken_in before) ≤ limit
 
 -- The run of an open session.
-pub record RunsFrom (limit : ℕ) (disk disk_now : DiskState) (session : Session) (run : List Event) (status : Status) (m : Machine) : Type 0 where
+pub record RunsFrom (limit : ℕ) (disk disk_now : DiskState) (run : List Event) (status : Status) (m : Machine) : Type 0 where
   pub replies : Replies limit m run status
   pub keeps : Keeps limit m run disk disk_now
-  pub full : IsFullExactly (room_in session) m (lines_in limit run) (given_in run) status
+  -- of what the content has at the start
+  pub full : (held : Holding) → IsHeld held disk.content → IsFullExactly disk.limit held m (lines_in limit run) (given_in run) status
+  -- where each line was answered
+  pub levels : (held : Holding) → IsHeld held disk.content → AnswersAll limit m run → IsDone (worked_lines disk.limit m held (lines_in limit run)) disk_now
   pub undamaged : (place : ℕ) → status ≡ Damaged place → ⊥
 
 pub record Runs (tells : Type 0) (limit : ℕ) (told told_now : Option (List Event)) (left left_now : Option (List ℕ)) (disk disk_now : DiskState) (session : Session) (status : Status) : Type 0 where
@@ -64,7 +72,7 @@ pub record Runs (tells : Type 0) (limit : ℕ) (told told_now : Option (List Eve
   pub read : Consumes left left_now (taken_in run)
   pub too_long : (status ≡ TooLong) ↔ (limit < length (taken_in run))
   pub last : limit < length (taken_in run) → EndsPast limit run
-  pub each : (m : Machine) → tells → AgreesOn tells disk session m → RunsFrom limit disk disk_now session run status m
+  pub each : (m : Machine) → tells → AgreesOn tells disk session m → RunsFrom limit disk disk_now run status m
 
 -- no line was taken, and what the disk may hold now it might have held before
 pub record NotOpened (disk disk_now : DiskState) (run : List Event) : Type 0 where
@@ -90,8 +98,14 @@ pub record Serves (tells : Type 0) (limit : ℕ) (told told_now : Option (List E
   pub last : limit < length (taken_in run) → EndsPast limit run
   -- where the content stands for a state
   pub replies : (s : State) → tells → StandsFor s disk.content → Replies limit (started_at s) run status
-  -- and its journal has this room
-  pub full : (s : State) (room : ℕ) → tells → StandsFor s disk.content → HasRoom disk.content room → IsFullExactly room (started_at s) (lines_in limit run) (given_in run) status
+  -- and has this
+  pub full : (s : State) (held : Holding) → tells → StandsFor s disk.content → IsHeld held disk.content
+      → IsFullExactly disk.limit held (started_at s) (lines_in limit run) (given_in run) status
+  -- and each line was answered: the levels, extents, deleted ends and entries at the end are those that the work of the lines gives; and
+  -- where there were lines, nothing is pending
+  pub levels : (s : State) (held : Holding) → tells → StandsFor s disk.content → IsHeld held disk.content → AnswersAll limit (started_at s) run
+      → IsWorked (worked_lines disk.limit (started_at s) held (lines_in limit run)) disk_now.content
+  pub settled : (s : State) → tells → StandsFor s disk.content → AnswersAll limit (started_at s) run → 0 < length (lines_in limit run) → Only disk_now.content disk_now.images
   -- where each image stands for a state
   pub keeps : (s : State) → tells → Stands tells disk (StandsFor s) → Keeps limit (started_at s) run disk disk_now
   -- where the content does, whatever was pending

@@ -46,7 +46,7 @@ fn answer<C: Console, D: Disk>(
     ensures err { IfErr result (StopsWithin D.tells (C.told console.old) (C.told console.new) (D.state disk.old) (D.state disk.new) session.old (line.now ∷ [])) }
     ensures can { OnOk result (CanAnswer D.tells (D.state disk.new) session.new) }
     ensures ends { IfErr result EndsLine }
-    ensures full { (need gap : ℕ) → D.tells → result ≡ Err (Status.Full need gap) → IsFull (D.state disk.new).content need gap }
+    ensures full { (need gap : ℕ) → D.tells → result ≡ Err (Status.Full need gap) → IsFull (D.state disk.new) need gap }
     ensures broken { (place : ℕ) → D.tells → result ≡ Err (Status.Damaged place) → HasBrokenList (D.state disk.new).content place }
     ensures give_fault { result ≡ Err Status.GiveFault → Rose (C.give_faults console.old) (C.give_faults console.new) }
     ensures disk_fault { result ≡ Err Status.DiskFault → Rose (D.state disk.old).faults (D.state disk.new).faults }
@@ -97,7 +97,7 @@ fn end_line<C: Console, D: Disk>(
     ensures none_begun { OnOk result (begun.new.items ≡ []) }
     ensures can { OnOk result (CanAnswer D.tells (D.state disk.new) session.new) }
     ensures ends { IfErr result EndsLine }
-    ensures full { (need gap : ℕ) → D.tells → result ≡ Err (Status.Full need gap) → IsFull (D.state disk.new).content need gap }
+    ensures full { (need gap : ℕ) → D.tells → result ≡ Err (Status.Full need gap) → IsFull (D.state disk.new) need gap }
     ensures broken { (place : ℕ) → D.tells → result ≡ Err (Status.Damaged place) → HasBrokenList (D.state disk.new).content place }
     ensures give_fault { result ≡ Err Status.GiveFault → Rose (C.give_faults console.old) (C.give_faults console.new) }
     ensures disk_fault { result ≡ Err Status.DiskFault → Rose (D.state disk.old).faults (D.state disk.new).faults }
@@ -146,7 +146,7 @@ fn feed_line<C: Console, D: Disk>(
     ensures free { OnOk result (NoNewline begun.new.items) }
     ensures can { OnOk result (CanAnswer D.tells (D.state disk.new) session.new) }
     ensures ends { IfErr result EndsLine }
-    ensures full { (need gap : ℕ) → D.tells → result ≡ Err (Status.Full need gap) → IsFull (D.state disk.new).content need gap }
+    ensures full { (need gap : ℕ) → D.tells → result ≡ Err (Status.Full need gap) → IsFull (D.state disk.new) need gap }
     ensures broken { (place : ℕ) → D.tells → result ≡ Err (Status.Damaged place) → HasBrokenList (D.state disk.new).content place }
     ensures give_fault { result ≡ Err Status.GiveFault → Rose (C.give_faults console.old) (C.give_faults console.new) }
     ensures disk_fault { result ≡ Err Status.DiskFault → Rose (D.state disk.old).faults (D.state disk.new).faults }
@@ -187,7 +187,7 @@ fn feed<C: Console, D: Disk>(
     ensures free { OnOk result (NoNewline begun.new.items) }
     ensures can { OnOk result (CanAnswer D.tells (D.state disk.new) session.new) }
     ensures ends { IfErr result EndsLine }
-    ensures full { (need gap : ℕ) → D.tells → result ≡ Err (Status.Full need gap) → IsFull (D.state disk.new).content need gap }
+    ensures full { (need gap : ℕ) → D.tells → result ≡ Err (Status.Full need gap) → IsFull (D.state disk.new) need gap }
     ensures broken { (place : ℕ) → D.tells → result ≡ Err (Status.Damaged place) → HasBrokenList (D.state disk.new).content place }
     ensures give_fault { result ≡ Err Status.GiveFault → Rose (C.give_faults console.old) (C.give_faults console.new) }
     ensures disk_fault { result ≡ Err Status.DiskFault → Rose (D.state disk.old).faults (D.state disk.new).faults }
@@ -220,7 +220,7 @@ fn finish<C: Console, D: Disk>(
     ensures ok { OnOk result (Fed D.tells (C.told console.old) (C.told console.new) (D.state disk.old) (D.state disk.new) session.old session.new (last_piece begun.now)) }
     ensures err { IfErr result (StopsWithin D.tells (C.told console.old) (C.told console.new) (D.state disk.old) (D.state disk.new) session.old (last_piece begun.now)) }
     ensures ends { IfErr result EndsLine }
-    ensures full { (need gap : ℕ) → D.tells → result ≡ Err (Status.Full need gap) → IsFull (D.state disk.new).content need gap }
+    ensures full { (need gap : ℕ) → D.tells → result ≡ Err (Status.Full need gap) → IsFull (D.state disk.new) need gap }
     ensures broken { (place : ℕ) → D.tells → result ≡ Err (Status.Damaged place) → HasBrokenList (D.state disk.new).content place }
     ensures give_fault { result ≡ Err Status.GiveFault → Rose (C.give_faults console.old) (C.give_faults console.new) }
     ensures disk_fault { result ≡ Err Status.DiskFault → Rose (D.state disk.old).faults (D.state disk.new).faults }
@@ -249,7 +249,7 @@ fn answer_lines<C: Console, D: Disk>(
     requires can { CanAnswer D.tells (D.state disk.old) session.old }
     ensures run { Runs D.tells limit (C.told console.old) (C.told console.new) (C.left console.old) (C.left console.new) (D.state disk.old) (D.state disk.new) session.old result }
     ensures ends { EndsRunning result }
-    ensures full { (need gap : ℕ) → D.tells → result ≡ Status.Full need gap → IsFull (D.state disk.new).content need gap }
+    ensures full { (need gap : ℕ) → D.tells → result ≡ Status.Full need gap → IsFull (D.state disk.new) need gap }
     ensures broken { (place : ℕ) → D.tells → result ≡ Status.Damaged place → HasBrokenList (D.state disk.new).content place }
     ensures read_all { result ≡ Status.Done → IfSome (C.left console.new) (λ bytes. bytes ≡ []) }
     ensures take_fault { result ≡ Status.TakeFault → Rose (C.take_faults console.old) (C.take_faults console.new) }
@@ -296,9 +296,9 @@ fn answer_lines<C: Console, D: Disk>(
 /// taken than the limit, `DiskFault`, `TakeFault` or `GiveFault` where such a call failed, `Memory` where there was no
 /// memory, `NoRoot` where the disk has no index, `Damaged` where the index breaks a rule of the format, at opening with the first
 /// place that shows it (after these two nothing was taken or given, and the disk holds what it held), or later with the first fault of
-/// the lists that a line loads, and never where the disk stands for a state, and `Full` where the record of a line that adds or deletes a document does not fit in what the
-/// journal has left behind the lines before it: with the bytes of that record, which are the line's and nine more where it
-/// adds and 14 where it deletes, and those left.
+/// the lists that a line loads, and never where the disk stands for a state, and `Full` where the flush that a line needs has no place below
+/// the limit of the disk: with the bytes that it needs and the greatest gap, or with 17 and 16 where there are 16 levels. Where every
+/// reply was given, the levels, their extents, the deleted ends and the journal's entries are those that the work of the lines gives.
 pub fn serve<C: Console, D: Disk>(
     alloc: Global,
     console: &mut C,
@@ -322,7 +322,7 @@ pub fn serve<C: Console, D: Disk>(
     // Where the content stands for a state, it is opened, and no damage is found.
     ensures stands { (s : State) → D.tells → StandsFor s (D.state disk.old).content → IsOpened result }
     ensures never { (result ≢ Status.Usage) × (result ≢ Status.Exists) }
-    ensures full { (need gap : ℕ) → D.tells → result ≡ Status.Full need gap → IsFull (D.state disk.new).content need gap }
+    ensures full { (need gap : ℕ) → D.tells → result ≡ Status.Full need gap → IsFull (D.state disk.new) need gap }
     ensures complete { (s : State) → D.tells → StandsFor s (D.state disk.old).content → ¬ (Rose (C.take_faults console.old) (C.take_faults console.new)) → ¬ (Rose (C.give_faults console.old) (C.give_faults console.new)) → ¬ (Rose (D.state disk.old).faults (D.state disk.new).faults) → Completes result }
 
     ensures take_fault { result ≡ Status.TakeFault → Rose (C.take_faults console.old) (C.take_faults console.new) }

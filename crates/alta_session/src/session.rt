@@ -1,23 +1,23 @@
 // A session: a line changes the state, and has a reply.
-ghost use Rattle.std.specs.Prelude.{◌≡◌, ◌⊎◌, ◌+◌, ◌≤◌, ◌++◌, ℕ, length, codes, decimal, Result, Err, IfOk, IfErr, OnErr, IsTrue, ◌↔◌};
+ghost use Rattle.std.specs.Prelude.{◌≡◌, ◌⊎◌, ◌≤◌, ◌++◌, ℕ, codes, decimal, Result, Err, Some, IfOk, IfErr, OnErr, IsTrue, ◌↔◌};
 ghost use Rattle.alta_codec.specs.Faults.{Rose};
 ghost use Rattle.alta_codec.specs.Name.{IsName};
 ghost use Rattle.alta_console.specs.Lines.{NoNewline};
 ghost use Rattle.alta_disk.specs.Disk.{DiskState, Same, Passes};
-ghost use Rattle.alta_journal.specs.Record.{body_of};
-ghost use Rattle.alta_journal.specs.declared.entry.Entry.TheVariants.{Add};
 ghost use Rattle.alta_meta.specs.declared.document.State.{State};
 ghost use Rattle.alta_session.specs.Agreement.{AgreesOn, IsSound};
 ghost use Rattle.alta_session.specs.Answering.{Answers, CanAnswer, IsReply};
 ghost use Rattle.alta_session.specs.Asking.{Asks};
 ghost use Rattle.alta_session.specs.Loading.{Loads, line_loads};
 ghost use Rattle.alta_session.specs.Machine.{Machine, started_at, step, changed_by, adding, deleting, Looks, Searches};
+ghost use Rattle.alta_session.specs.Tasks.{task_of, task_of_add, task_of_delete};
 ghost use Rattle.alta_store.specs.Answers.{IsOutside, AnswersFault};
 ghost use Rattle.alta_root.specs.Slots.{HasNoRoot};
 ghost use Rattle.alta_images.specs.Broken.{IsBrokenAt};
 ghost use Rattle.alta_images.specs.Opened.{Opened, IsOpened};
 ghost use Rattle.alta_images.specs.Standing.{StandsFor};
 ghost use Rattle.alta_images.specs.States.{IsDocument};
+ghost use Rattle.alta_images.specs.Work.{flushes};
 
 use crate::paging::{close, fetch, open};
 use crate::replying::text;
@@ -82,9 +82,10 @@ impl Session {
     ///
     /// # Errors
     ///
-    /// `Disk` where a call of the disk failed. `Memory` where there is no memory. `Full` where the record of the line does
-    /// not fit in the journal: with the bytes of that record, which are the line's and nine more where it adds and 14
-    /// where it deletes, and those left. `Damaged` exactly where a list that the line loads has a fault, with the first in the order of
+    /// `Disk` where a call of the disk failed. `Memory` where there is no memory. `Full` where the flush that the line needs has no
+    /// place: with the bytes that the level or the deletion list needs and the greatest gap below the limit of the disk, or with 17 and
+    /// 16 where there are 16 levels. `flush` needs one where the journal has an entry, and a line that adds or deletes where its record
+    /// does not fit in the journal. `Damaged` exactly where a list that the line loads has a fault, with the first in the order of
     /// loading; never where the disk stands for a state. Then the index is as before the line or as after it, and the session is not
     /// sound. `search`, `count` and `open` load the lists of their query, write nothing, and read no more than these lists have; an
     /// open loads none where as many cursors are open as may be. `explain`, `fetch`, `close` and `stats` call no disk and fail for want
@@ -97,7 +98,7 @@ impl Session {
     ) -> Result<Text, StoreFault>
         requires one_line { NoNewline line.now }
         requires can { CanAnswer D.tells (D.state disk.old) self.old }
-        ensures answers { Answers D.tells D.state disk.old disk.new self.old self.new (length line.now + 9) result (λ m. step m line.now) }
+        ensures answers { Answers D.tells D.state disk.old disk.new self.old self.new result (λ m. step m line.now) (λ m. task_of m line.now) }
         ensures not_sound { OnErr result (¬ (IsSound self.new)) }
         ensures no_disk { Looks line.now → (disk.new ≡ disk.old) × IfErr result (λ e. e ≡ StoreFault.Memory) }
         ensures loads { Searches line.now → Loads D.tells (line_loads self.old line.now) (D.state disk.old) (D.state disk.new) result }
@@ -120,7 +121,7 @@ impl Session {
     ) -> Result<Text, StoreFault>
         requires one_line { NoNewline line.now }
         requires can { CanAnswer D.tells (D.state disk.old) self.old }
-        ensures answers { Answers D.tells D.state disk.old disk.new self.old self.new (length line.now + 9) result (λ m. step m line.now) }
+        ensures answers { Answers D.tells D.state disk.old disk.new self.old self.new result (λ m. step m line.now) (λ m. task_of m line.now) }
         ensures no_disk { Looks line.now → (disk.new ≡ disk.old) × IfErr result (λ e. e ≡ StoreFault.Memory) }
         ensures loads { Searches line.now → Loads D.tells (line_loads self.old line.now) (D.state disk.old) (D.state disk.new) result }
     {
@@ -133,6 +134,7 @@ impl Session {
             Ask::Open(text) => open(alloc, disk, &self.store, &mut self.cursors, text),
             Ask::Fetch { cursor, count } => fetch(alloc, &mut self.cursors, cursor, count),
             Ask::Close(cursor) => close(alloc, &mut self.cursors, cursor),
+            Ask::Flush => self.flush(alloc, disk),
             Ask::Stats => stats(alloc, self.store.counts()),
             Ask::Refused(reply) => text(alloc, reply),
         }
@@ -149,7 +151,7 @@ impl Session {
     ) -> Result<Text, StoreFault>
         requires document { IsName name.now → IsDocument name.now title.now body.now }
         requires can { CanAnswer D.tells (D.state disk.old) self.old }
-        ensures { Answers D.tells D.state disk.old disk.new self.old self.new (length (body_of (Add name.now title.now body.now))) result (λ m. changed_by m (adding name.now title.now body.now m.state)) }
+        ensures { Answers D.tells D.state disk.old disk.new self.old self.new result (λ m. changed_by m (adding name.now title.now body.now m.state)) (λ m. task_of_add name.now title.now body.now m.state) }
     {
         if !name_ok(name.as_bytes()) {
             return text(alloc, "! bad name\n");
@@ -172,7 +174,7 @@ impl Session {
         name: &str,
     ) -> Result<Text, StoreFault>
         requires { CanAnswer D.tells (D.state disk.old) self.old }
-        ensures { (bytes : ℕ) → Answers D.tells D.state disk.old disk.new self.old self.new bytes result (λ m. changed_by m (deleting name.now m.state)) }
+        ensures { Answers D.tells D.state disk.old disk.new self.old self.new result (λ m. changed_by m (deleting name.now m.state)) (λ m. task_of_delete name.now m.state) }
     {
         if !name_ok(name.as_bytes()) {
             return text(alloc, "! bad name\n");
@@ -185,10 +187,21 @@ impl Session {
             },
         }
     }
+
+    // Makes the newest documents a level.
+    fn flush<D: Disk>(&mut self, alloc: Global, disk: &mut D) -> Result<Text, StoreFault>
+        requires { CanAnswer D.tells (D.state disk.old) self.old }
+        ensures { Answers D.tells D.state disk.old disk.new self.old self.new result (λ m. (m, codes "ok\n")) (λ m. Some flushes) }
+    {
+        match self.store.flush(disk) {
+            Ok(()) => text(alloc, "ok\n"),
+            Err(fault) => Err(fault),
+        }
+    }
 }
 
 // What a line asks for: a document to be added or deleted, a query to be answered or explained, a cursor to be opened, read or
-// closed, the counts, or a reply that refuses it.
+// closed, a flush, the counts, or a reply that refuses it.
 enum Ask<'a> {
     Add {
         name: &'a str,
@@ -205,6 +218,7 @@ enum Ask<'a> {
         count: u64,
     },
     Close(u64),
+    Flush,
     Stats,
     Refused(&'static str),
 }
@@ -224,6 +238,7 @@ fn asked(bytes: &[u8]) -> Ask<'_>
             Line::OpenCursor { text } => Ask::Open(text),
             Line::Fetch { cursor, count } => Ask::Fetch { cursor, count },
             Line::Close { cursor } => Ask::Close(cursor),
+            Line::Flush => Ask::Flush,
             Line::Stats => Ask::Stats,
             _ => Ask::Refused("! unknown command\n"),
         },

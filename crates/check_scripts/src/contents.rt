@@ -135,3 +135,27 @@ fn a_fault_keeps_what_was_answered(rt: HostRuntime) -> Result<(), Fail> {
     );
     Ok(())
 }
+
+// Every call of the disk fails behind some. Opening makes five and the add four; where the flush was answered, the count is not.
+#[test]
+fn a_fault_behind_a_flush_keeps_it(rt: HostRuntime) -> Result<(), Fail> {
+    let alloc = rt.alloc();
+    let lines = b"add a\tRed Fox\tthe quick red fox\nflush\ncount fox\n";
+    let four = b"found 1\nfound 1\nfound 1\nfound 1\n";
+    let content = content_with(alloc, &[])?;
+    let mut flushed = false;
+    for calls in 10..24 {
+        let mut fuse = FuseDisk::new(disk_of(alloc, content.to_vec(alloc)?)?, calls);
+        let (status, given) = call(alloc, &mut fuse, "run", lines, &[])?;
+        if given.as_slice() == b"added 1\nok\n".as_slice() {
+            flushed = true;
+            assert_eq!(rt; status, Status::DiskFault, "after {calls} calls");
+            assert_eq!(rt;
+                counts(alloc, &fuse.into_inner())?.as_slice(),
+                four.as_slice()
+            );
+        }
+    }
+    assert!(rt; flushed);
+    Ok(())
+}

@@ -211,6 +211,18 @@ fn scripts_are_answered(rt: HostRuntime) -> Result<(), Fail> {
             "deleted 1\ndocuments 1 words 4 next 3\n! no such document\n2 b\nfound 1\n",
         ),
         (
+            "add a\tRed Fox\tthe quick red fox\nflush\nadd b\tFox\tquick brown dog\n",
+            "added 1\nok\nadded 2\n",
+            "delete a\nstats\n",
+            "deleted 1\ndocuments 1 words 4 next 3\n",
+        ),
+        (
+            "add a\tRed Fox\tthe quick red fox\nflush\nadd b\tFox\tquick brown dog\nflush\ndelete a\nsearch quick\n",
+            "added 1\nok\nadded 2\nok\ndeleted 1\n2 b\nfound 1\n",
+            "search quick\nflush\nflush\nsearch NOT x\n",
+            "2 b\nfound 1\nok\nok\n2 b\nfound 1\n",
+        ),
+        (
             "add a\t\tx\nadd b\t\tx\nadd c\t\tx\ndelete b\ndelete c\nadd b\t\ty\n",
             "added 1\nadded 2\nadded 3\ndeleted 2\ndeleted 3\nadded 4\n",
             "search x OR y\ndelete b\ndelete a\nsearch x OR y\nstats",

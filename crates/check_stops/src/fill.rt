@@ -1,4 +1,4 @@
-// A journal that is filled to its last byte.
+// A journal that is filled to its last byte, and flushed.
 ghost use Rattle.std.specs.Prelude.{◌≡◌, ◌≤◌};
 
 use alta_codec::Text;
@@ -10,12 +10,15 @@ use std::test::Fail;
 
 const LIMIT: u64 = 1 << 40;
 
-// A disk with this content and nothing pending.
-fn disk_of(alloc: Global, content: Vec<u8>) -> Result<MemoryDisk, Fail> {
-    if content.len() as u64 > LIMIT {
+// How many bytes an index takes without levels.
+const HEAD: u64 = 2_105_344;
+
+// A disk with this content and limit, and nothing pending.
+fn disk_of(alloc: Global, content: Vec<u8>, limit: u64) -> Result<MemoryDisk, Fail> {
+    if content.len() as u64 > limit || limit > LIMIT {
         return Err("the content is too long".into());
     }
-    Ok(MemoryDisk::new(alloc, content, LIMIT, Vec::new(alloc)))
+    Ok(MemoryDisk::new(alloc, content, limit, Vec::new(alloc)))
 }
 
 fn console_of(alloc: Global, input: &[u8]) -> Result<MemoryConsole, AllocError> {
@@ -29,7 +32,7 @@ fn console_of(alloc: Global, input: &[u8]) -> Result<MemoryConsole, AllocError> 
 
 // A disk with an index without documents.
 fn made(alloc: Global) -> Result<MemoryDisk, Fail> {
-    let mut disk = disk_of(alloc, Vec::new(alloc))?;
+    let mut disk = disk_of(alloc, Vec::new(alloc), LIMIT)?;
     let mut words = Vec::new(alloc);
     words.push(Text::from_string(String::from_str(alloc, "init")?))?;
     match alta(alloc, &words, &mut console_of(alloc, b"")?, &mut disk) {
@@ -50,9 +53,10 @@ fn put_line(lines: &mut Vec<u8>, name: u8, body: usize) -> Result<(), AllocError
     Ok(())
 }
 
-// Fifteen long records leave 65,415 bytes of the journal. A record takes 16 bytes beside its body here.
+// Fifteen long records leave 65,415 bytes of the journal. A record takes 16 bytes beside its body here. Where one does not fit, a flush
+// comes first, for which a disk that ends behind the journal has no place.
 #[test]
-fn a_run_is_full_where_a_record_does_not_fit(rt: HostRuntime) -> Result<(), Fail> {
+fn a_record_that_does_not_fit_finds_the_journal_flushed(rt: HostRuntime) -> Result<(), Fail> {
     let alloc = rt.alloc();
     let mut long = Vec::new(alloc);
     for name in b'a'..=b'o' {
@@ -63,41 +67,33 @@ fn a_run_is_full_where_a_record_does_not_fit(rt: HostRuntime) -> Result<(), Fail
     assert_eq!(rt; status, Status::Done);
     let content = disk.image(alloc, 0)?;
 
-    let rows: [(u8, usize, Status, &[u8]); 6] = [
-        (b'a', 65_528, Status::Done, b"! name taken\nadded 16\n"),
-        (b'p', 65_383, Status::Done, b"added 16\nadded 17\n"),
-        (
-            b'p',
-            65_384,
-            Status::Full { need: 16, gap: 15 },
-            b"added 16\n",
-        ),
-        (
-            b'p',
-            65_399,
-            Status::Full { need: 16, gap: 0 },
-            b"added 16\n",
-        ),
-        (
-            b'p',
-            65_400,
-            Status::Full {
-                need: 65_416,
-                gap: 65_415,
-            },
-            b"",
-        ),
-        (b'p', 65_529, Status::Done, b"! line too long\nadded 16\n"),
+    // What is given on a disk with places, and how many lines are answered where there is none.
+    let rows: [(u8, usize, &[u8], usize); 6] = [
+        (b'a', 65_528, b"! name taken\nadded 16\n", 2),
+        (b'p', 65_383, b"added 16\nadded 17\n", 2),
+        (b'p', 65_384, b"added 16\nadded 17\n", 1),
+        (b'p', 65_399, b"added 16\nadded 17\n", 1),
+        (b'p', 65_400, b"added 16\nadded 17\n", 0),
+        (b'p', 65_529, b"! line too long\nadded 16\n", 2),
     ];
-    for (name, body, want, given) in rows {
+    for (name, body, want, answered) in rows {
         let mut lines = Vec::new(alloc);
         put_line(&mut lines, name, body)?;
         put_line(&mut lines, b'z', 0)?;
-        let mut disk = disk_of(alloc, content.to_vec(alloc)?)?;
+        let mut disk = disk_of(alloc, content.to_vec(alloc)?, LIMIT)?;
         let mut console = console_of(alloc, &lines)?;
         let status = serve(alloc, &mut console, &mut disk, LIMIT);
-        assert_eq!(rt; status, want, "with a body of {body}");
-        assert_eq!(rt; console.given(), given, "with a body of {body}");
+        assert_eq!(rt; status, Status::Done, "with a body of {body}");
+        assert_eq!(rt; console.given(), want, "with a body of {body}");
+
+        let mut disk = disk_of(alloc, content.to_vec(alloc)?, HEAD)?;
+        let mut console = console_of(alloc, &lines)?;
+        let status = serve(alloc, &mut console, &mut disk, LIMIT);
+        let full = matches!(status, Status::Full { gap: 0, .. });
+        assert_eq!(rt; full, answered < 2, "with a body of {body}");
+        let ended = console.given().split(|byte| *byte == b'\n').count();
+        assert_eq!(rt; ended, answered.saturating_add(1), "with a body of {body}");
+        assert!(rt; want.starts_with(console.given()), "with a body of {body}");
     }
     Ok(())
 }

@@ -1,4 +1,4 @@
-use Rattle.std.proofs.Common.{◌≡◌, [], ◌++◌, ℕ, List, ap, sym, subst, ◌∙◌}
+use Rattle.std.proofs.Common.{◌++◌, ℕ, List, ap, subst, ◌∙◌}
 use Rattle.alta_session.specs.Machine.{IsRefusal}
 use Rattle.alta_session.specs.Searching.{found_line, row_lines}
 use Rattle.alta_session.proofs.CursorLaws.{no_refusal, rows_other}

@@ -1,4 +1,4 @@
-use Rattle.std.proofs.Common.{◌++◌, ℕ, List, length}
+use Rattle.std.proofs.Common.{◌++◌, List, length}
 use Rattle.alta_compile.specs.PlanOf.{plan_of}
 use Rattle.alta_compile.specs.View.{tree}
 use Rattle.alta_meta.specs.declared.document.Document.{Document}

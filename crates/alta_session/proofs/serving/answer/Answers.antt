@@ -1,31 +1,28 @@
-use Rattle.std.proofs.Common.{◌≡◌, ◌+◌, ℕ, List, length, ap, sym, subst, ◌∙◌, Result, Ok, Err, arith}
+use Rattle.std.proofs.Common.{◌≡◌, ℕ, List, ap, sym, subst, ◌∙◌, Result, Ok, Err}
 use Rattle.alta_session.specs.Answering.{Answers}
 use Rattle.alta_session.specs.Machine.{step}
+use Rattle.alta_session.specs.Tasks.{task_of}
 use Rattle.alta_session.specs.declared.status.Status.TheVariants.{Damaged as StatusDamaged, DiskFault, GiveFault, Full as StatusFull}
 use Rattle.alta_session.proofs.FedLaws.{fed_line, stops_line, stops_unanswered}
-use Rattle.alta_session.proofs.FullnessLaws.{record_is}
 use Rattle.alta_session.proofs.StatusLaws.{line_ends, line_ends_run, status_damaged, status_full, status_disk}
 use Rattle.alta_store.specs.declared.fault.StoreFault.{StoreFault}
-use Rattle.alta_store.specs.declared.fault.StoreFault.TheVariants.{Damaged, Full}
 use Rattle.alta_session.proofs.serving.answer.Goals as goal
 
 -- the line was not answered
 pub status_of-requires : goal.status_of-requires
 status_of-requires g c =
-    line_ends_run c.in-Err.fault (subst (λ (r : Result (List ℕ) StoreFault). Answers g.D.Disk.tells g.D.Disk.state c.args.disk.now c.line.new.disk c.args.session.now c.line.new.self (length c.args.line.now + 9) r (λ m. step m c.args.line.now)) c.in-Err.is c.line.ensures.answers).only
+    line_ends_run c.in-Err.fault (subst (λ (r : Result (List ℕ) StoreFault). Answers g.D.Disk.tells g.D.Disk.state c.args.disk.now c.line.new.disk c.args.session.now c.line.new.self r (λ m. step m c.args.line.now) (λ m. task_of m c.args.line.now)) c.in-Err.is c.line.ensures.answers).only
 
 pub returns-in-Err-clause-ends : goal.returns-in-Err-clause-ends
 returns-in-Err-clause-ends g c =
-    line_ends c.status_of.result c.in-Err.fault c.status_of.ensures (subst (λ (r : Result (List ℕ) StoreFault). Answers g.D.Disk.tells g.D.Disk.state c.args.disk.now c.line.new.disk c.args.session.now c.line.new.self (length c.args.line.now + 9) r (λ m. step m c.args.line.now)) c.in-Err.is c.line.ensures.answers).only
+    line_ends c.status_of.result c.in-Err.fault c.status_of.ensures (subst (λ (r : Result (List ℕ) StoreFault). Answers g.D.Disk.tells g.D.Disk.state c.args.disk.now c.line.new.disk c.args.session.now c.line.new.self r (λ m. step m c.args.line.now) (λ m. task_of m c.args.line.now)) c.in-Err.is c.line.ensures.answers).only
 
 pub returns-in-Err-clause-err : goal.returns-in-Err-clause-err
 returns-in-Err-clause-err g c =
     stops_unanswered g.D.Disk.tells (g.C.Console.told c.args.console.now) (g.D.Disk.state c.args.disk.now) (g.D.Disk.state c.line.new.disk) c.args.session.now c.args.line.now c.status_of.result (g.met.D.Disk.lawful c.line.new.disk)
     (λ m tell agrees. (c.line.ensures.answers.from m tell agrees).images)
-    (λ m need gap tell agrees is.
-    let failed : c.line.result ≡ Err (Full need gap) = c.in-Err.is ∙ ap Err (status_full _ c.in-Err.fault need gap c.status_of.ensures is) in
-    let found = (c.line.ensures.answers.from m tell agrees).need need gap failed in
-    (found.0 ∙ sym (record_is m c.args.line.now), found.1, (c.line.ensures.answers.full need gap tell failed).short))
+    (λ m held need gap tell agrees here is.
+    (c.line.ensures.answers.from m tell agrees).full held need gap here (c.in-Err.is ∙ ap Err (status_full _ c.in-Err.fault need gap c.status_of.ensures is)))
     (λ m place tell agrees is. (c.line.ensures.answers.from m tell agrees).undamaged place (c.in-Err.is ∙ ap Err (status_damaged _ c.in-Err.fault place c.status_of.ensures is)))
 
 pub returns-in-Err-clause-full : goal.returns-in-Err-clause-full
@@ -52,15 +49,15 @@ returns-in-Err-clause-same_limit g c = c.line.ensures.answers.same_limit
 -- it was
 pub returns-in-Ok-give_all-clause-ok : goal.returns-in-Ok-give_all-clause-ok
 returns-in-Ok-give_all-clause-ok g c =
-    let answers : Answers g.D.Disk.tells g.D.Disk.state c.args.disk.now c.line.new.disk c.args.session.now c.line.new.self (length c.args.line.now + 9) (Ok c.in-Ok.reply) (λ m. step m c.args.line.now) =
-    subst (λ (r : Result (List ℕ) StoreFault). Answers g.D.Disk.tells g.D.Disk.state c.args.disk.now c.line.new.disk c.args.session.now c.line.new.self (length c.args.line.now + 9) r (λ m. step m c.args.line.now)) c.in-Ok.is c.line.ensures.answers in
+    let answers : Answers g.D.Disk.tells g.D.Disk.state c.args.disk.now c.line.new.disk c.args.session.now c.line.new.self (Ok c.in-Ok.reply) (λ m. step m c.args.line.now) (λ m. task_of m c.args.line.now) =
+    subst (λ (r : Result (List ℕ) StoreFault). Answers g.D.Disk.tells g.D.Disk.state c.args.disk.now c.line.new.disk c.args.session.now c.line.new.self r (λ m. step m c.args.line.now) (λ m. task_of m c.args.line.now)) c.in-Ok.is c.line.ensures.answers in
     fed_line g.D.Disk.tells (g.C.Console.told c.args.console.now) (g.C.Console.told c.give_all.new.console) (g.D.Disk.state c.args.disk.now) (g.D.Disk.state c.line.new.disk) c.args.session.now c.line.new.self c.args.line.now c.as_bytes.result.now
     c.in-Ok-give_all.ensures.ok (λ m tell agrees. c.as_bytes.ensures.value ∙ c.as_str.ensures ∙ (answers.from m tell agrees).reply) (λ m tell agrees. (answers.from m tell agrees).agrees) (λ m tell agrees. (answers.from m tell agrees).images)
-    (λ m tell agrees. omega (arith, (answers.from m tell agrees).room, record_is m c.args.line.now))
+    (λ m held tell agrees here. (answers.from m tell agrees).works held here) c.line.ensures.answers.same_limit
 
 pub returns-in-Ok-give_all-clause-can : goal.returns-in-Ok-give_all-clause-can
 returns-in-Ok-give_all-clause-can g c =
-    (subst (λ (r : Result (List ℕ) StoreFault). Answers g.D.Disk.tells g.D.Disk.state c.args.disk.now c.line.new.disk c.args.session.now c.line.new.self (length c.args.line.now + 9) r (λ m. step m c.args.line.now)) c.in-Ok.is c.line.ensures.answers).can
+    (subst (λ (r : Result (List ℕ) StoreFault). Answers g.D.Disk.tells g.D.Disk.state c.args.disk.now c.line.new.disk c.args.session.now c.line.new.self r (λ m. step m c.args.line.now) (λ m. task_of m c.args.line.now)) c.in-Ok.is c.line.ensures.answers).can
 
 pub returns-in-Ok-give_all-clause-disk_count : goal.returns-in-Ok-give_all-clause-disk_count
 returns-in-Ok-give_all-clause-disk_count g c = c.line.ensures.answers.faults
@@ -71,13 +68,13 @@ returns-in-Ok-give_all-clause-same_limit g c = c.line.ensures.answers.same_limit
 -- some of the reply was given
 pub returns-clause-err : goal.returns-clause-err
 returns-clause-err g c =
-    let answers : Answers g.D.Disk.tells g.D.Disk.state c.args.disk.now c.line.new.disk c.args.session.now c.line.new.self (length c.args.line.now + 9) (Ok c.in-Ok.reply) (λ m. step m c.args.line.now) =
-    subst (λ (r : Result (List ℕ) StoreFault). Answers g.D.Disk.tells g.D.Disk.state c.args.disk.now c.line.new.disk c.args.session.now c.line.new.self (length c.args.line.now + 9) r (λ m. step m c.args.line.now)) c.in-Ok.is c.line.ensures.answers in
+    let answers : Answers g.D.Disk.tells g.D.Disk.state c.args.disk.now c.line.new.disk c.args.session.now c.line.new.self (Ok c.in-Ok.reply) (λ m. step m c.args.line.now) (λ m. task_of m c.args.line.now) =
+    subst (λ (r : Result (List ℕ) StoreFault). Answers g.D.Disk.tells g.D.Disk.state c.args.disk.now c.line.new.disk c.args.session.now c.line.new.self r (λ m. step m c.args.line.now) (λ m. task_of m c.args.line.now)) c.in-Ok.is c.line.ensures.answers in
     let part = c.in-Err-give_all.ensures.err in
     stops_line g.D.Disk.tells (g.C.Console.told c.args.console.now) (g.C.Console.told c.give_all.new.console) (g.D.Disk.state c.args.disk.now) (g.D.Disk.state c.line.new.disk) c.args.session.now c.args.line.now part.0 GiveFault
     (g.met.D.Disk.lawful c.line.new.disk) part.4
     (λ m tell agrees. (part.1, sym (c.as_bytes.ensures.value ∙ c.as_str.ensures ∙ (answers.from m tell agrees).reply) ∙ part.2, part.3))
-    (λ m tell agrees. (answers.from m tell agrees).images) (λ m tell agrees need gap is. absurd cc) (λ m place tell agrees is. absurd cc)
+    (λ m tell agrees. (answers.from m tell agrees).images) (λ m held tell agrees here need gap is. absurd cc) (λ m place tell agrees is. absurd cc)
 
 pub returns-clause-disk_count : goal.returns-clause-disk_count
 returns-clause-disk_count g c = c.line.ensures.answers.faults

@@ -18,7 +18,7 @@ untouched tells d lawful = record { content = λ tell. refl; images = passes_sta
 pub returns-in-Err : goal.returns-in-Err
 returns-in-Err g c = record {
   run = serves_none g.D.Disk.tells c.args.limit (g.C.Console.told c.args.console.now) (g.C.Console.left c.args.console.now) (g.D.Disk.state c.args.disk.now) (g.D.Disk.state c.args.disk.now) _ (g.met.D.Disk.lawful c.args.disk.now)
-      (passes_start g.D.Disk.tells (g.D.Disk.state c.args.disk.now) Same (g.met.D.Disk.lawful c.args.disk.now) (λ z. refl)) (λ is. cc) (λ is. cc) (λ need gap is. cc);
+      (passes_start g.D.Disk.tells (g.D.Disk.state c.args.disk.now) Same (g.met.D.Disk.lawful c.args.disk.now) (λ z. refl)) (λ tell. refl) (λ is. cc) (λ is. cc) (λ need gap is. cc);
   read_all = λ is. absurd cc;
   no_root = λ tell is. absurd cc;
   rooted = λ tell none. inr (inl refl);
@@ -45,7 +45,7 @@ status_of-requires g c = opening_ends c.in-Err-start.fault c.in-Err-start.ensure
 pub returns-in-Err-start : goal.returns-in-Err-start
 returns-in-Err-start g c = record {
   run = serves_none g.D.Disk.tells c.args.limit (g.C.Console.told c.args.console.now) (g.C.Console.left c.args.console.now) (g.D.Disk.state c.args.disk.now) (g.D.Disk.state c.start.new.disk) c.status_of.result (g.met.D.Disk.lawful c.args.disk.now)
-      c.start.ensures.images (status_not _ c.in-Err-start.fault c.status_of.ensures Done tt) (status_not _ c.in-Err-start.fault c.status_of.ensures TooLong tt)
+      c.start.ensures.images c.start.ensures.content (status_not _ c.in-Err-start.fault c.status_of.ensures Done tt) (status_not _ c.in-Err-start.fault c.status_of.ensures TooLong tt)
       (λ need gap is. opening_not_full c.in-Err-start.fault c.status_of.result need gap c.in-Err-start.ensures.only c.status_of.ensures is);
   read_all = λ is. absurd (status_not _ c.in-Err-start.fault c.status_of.ensures Done tt is);
   no_root = λ tell is. c.start.ensures.no_root tell (c.in-Err-start.is ∙ ap Err (status_rooted _ c.in-Err-start.fault c.status_of.ensures is));
@@ -81,7 +81,7 @@ answer_lines-requires-clause-can g c = c.in-Ok-start.ensures.can
 pub returns : goal.returns
 returns g c = record {
   run = serves_opened g.D.Disk.tells c.args.limit (g.C.Console.told c.args.console.now) (g.C.Console.told c.answer_lines.new.console) (g.C.Console.left c.args.console.now) (g.C.Console.left c.answer_lines.new.console) (g.D.Disk.state c.args.disk.now) (g.D.Disk.state c.start.new.disk)
-      (g.D.Disk.state c.answer_lines.new.disk) c.in-Ok-start.session c.answer_lines.result (g.met.D.Disk.lawful c.args.disk.now) c.start.ensures.images (λ s tell stands. c.in-Ok-start.ensures.agrees s (λ t. stands)) c.start.ensures.content c.answer_lines.ensures.run;
+      (g.D.Disk.state c.answer_lines.new.disk) c.in-Ok-start.session c.answer_lines.result (g.met.D.Disk.lawful c.args.disk.now) c.start.ensures.images (λ s tell stands. c.in-Ok-start.ensures.agrees s (λ t. stands)) c.start.ensures.content c.start.ensures.same_limit c.answer_lines.ensures.run;
   read_all = c.answer_lines.ensures.read_all;
   no_root = λ tell is. absurd (running_rooted c.answer_lines.result c.answer_lines.ensures.ends is);
   rooted = λ tell none. absurd (ok_answers c.in-Ok-start.session StoreNoRoot c.start.result c.in-Ok-start.is (c.start.ensures.rooted tell none));

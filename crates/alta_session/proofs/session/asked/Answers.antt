@@ -2,10 +2,10 @@ use Rattle.std.proofs.Common.{List, ℕ, subst}
 use Rattle.alta_model.specs.Command.{Reads}
 use Rattle.alta_model.specs.Seen.{command_of}
 use Rattle.alta_model.specs.declared.line.Line.{Line}
-use Rattle.alta_model.specs.declared.line.Line.TheVariants.{Add, Delete, Search, Count, Explain, OpenCursor, Fetch, Close, Stats}
+use Rattle.alta_model.specs.declared.line.Line.TheVariants.{Add, Delete, Search, Count, Explain, OpenCursor, Fetch, Close, Flush, Stats}
 use Rattle.alta_model.specs.declared.line.LineFault.TheVariants.{TooLong, NotUtf8, Unknown, Bad}
 use Rattle.alta_session.proofs.AddingLaws.{line_is_document}
-use Rattle.alta_session.proofs.AskLaws.{IsOther, none_searched, refused_searched, step_other, step_asks, step_refuses, reading_is, record_of_line}
+use Rattle.alta_session.proofs.AskLaws.{IsOther, none_asked, none_searched, refused_asked, refused_searched, step_other, step_asks, step_refuses, reading_is}
 use Rattle.alta_session.proofs.session.asked.Goals as goal
 
 pub returns-in-Add : goal.returns-in-Add
@@ -14,7 +14,6 @@ returns-in-Add c =
     let P : Line → Type 0 = λ l. Reads line (command_of l) in (
       step_asks line c.in-Ok.line (Add c.in-Add.name c.in-Add.title c.in-Add.body) c.in-Ok.ensures.reading c.in-Add.is,
       λ named. line_is_document line c.in-Add.name.now c.in-Add.title.now c.in-Add.body.now c.requires c.in-Ok.ensures.read.0 (subst P c.in-Add.is c.in-Ok.ensures.read.1) named,
-      record_of_line line c.in-Add.name.now c.in-Add.title.now c.in-Add.body.now (subst P c.in-Add.is c.in-Ok.ensures.read.1),
       reading_is line c.in-Ok.line (Add c.in-Add.name c.in-Add.title c.in-Add.body) c.in-Ok.ensures.reading c.in-Add.is,
     )
 
@@ -60,6 +59,12 @@ returns-in-Close c = (
   reading_is c.args.bytes.now c.in-Ok.line (Close c.in-Close.cursor) c.in-Ok.ensures.reading c.in-Close.is,
 )
 
+pub returns-in-Flush : goal.returns-in-Flush
+returns-in-Flush c = (
+  step_asks c.args.bytes.now c.in-Ok.line Flush c.in-Ok.ensures.reading c.in-Flush.is,
+  reading_is c.args.bytes.now c.in-Ok.line Flush c.in-Ok.ensures.reading c.in-Flush.is,
+)
+
 pub returns-in-Stats : goal.returns-in-Stats
 returns-in-Stats c = (
   step_asks c.args.bytes.now c.in-Ok.line Stats c.in-Ok.ensures.reading c.in-Stats.is,
@@ -77,30 +82,38 @@ returns-in_default c =
       opens = c.in_default.not-OpenCursor;
       fetches = c.in_default.not-Fetch;
       closes = c.in_default.not-Close;
+      asks_flush = c.in_default.not-Flush;
       asks_stats = c.in_default.not-Stats;
-    } in
-    (step_other c.args.bytes.now c.in-Ok.line c.in-Ok.ensures.reading other, none_searched c.args.bytes.now c.in-Ok.line c.in-Ok.ensures.reading other)
+    } in (
+      step_other c.args.bytes.now c.in-Ok.line c.in-Ok.ensures.reading other,
+      none_searched c.args.bytes.now c.in-Ok.line c.in-Ok.ensures.reading other,
+      none_asked c.args.bytes.now c.in-Ok.line c.in-Ok.ensures.reading other,
+    )
 
 pub returns-in-Err-TooLong : goal.returns-in-Err-TooLong
 returns-in-Err-TooLong c = (
   step_refuses c.args.bytes.now c.in-Err-TooLong.field-0 TooLong c.in-Err-TooLong.ensures.reading c.in-Err-TooLong.field-0-is,
   refused_searched c.args.bytes.now c.in-Err-TooLong.field-0 c.in-Err-TooLong.ensures.reading,
+  refused_asked c.args.bytes.now c.in-Err-TooLong.field-0 c.in-Err-TooLong.ensures.reading,
 )
 
 pub returns-in-Err-NotUtf8 : goal.returns-in-Err-NotUtf8
 returns-in-Err-NotUtf8 c = (
   step_refuses c.args.bytes.now c.in-Err-NotUtf8.field-0 NotUtf8 c.in-Err-NotUtf8.ensures.reading c.in-Err-NotUtf8.field-0-is,
   refused_searched c.args.bytes.now c.in-Err-NotUtf8.field-0 c.in-Err-NotUtf8.ensures.reading,
+  refused_asked c.args.bytes.now c.in-Err-NotUtf8.field-0 c.in-Err-NotUtf8.ensures.reading,
 )
 
 pub returns-in-Err-Unknown : goal.returns-in-Err-Unknown
 returns-in-Err-Unknown c = (
   step_refuses c.args.bytes.now c.in-Err-Unknown.field-0 Unknown c.in-Err-Unknown.ensures.reading c.in-Err-Unknown.field-0-is,
   refused_searched c.args.bytes.now c.in-Err-Unknown.field-0 c.in-Err-Unknown.ensures.reading,
+  refused_asked c.args.bytes.now c.in-Err-Unknown.field-0 c.in-Err-Unknown.ensures.reading,
 )
 
 pub returns-in-Err-Bad : goal.returns-in-Err-Bad
 returns-in-Err-Bad c = (
   step_refuses c.args.bytes.now c.in-Err-Bad.field-0 Bad c.in-Err-Bad.ensures.reading c.in-Err-Bad.field-0-is,
   refused_searched c.args.bytes.now c.in-Err-Bad.field-0 c.in-Err-Bad.ensures.reading,
+  refused_asked c.args.bytes.now c.in-Err-Bad.field-0 c.in-Err-Bad.ensures.reading,
 )

@@ -1,4 +1,5 @@
 use Rattle.std.proofs.Common.{◌≡◌, ◌≢◌, ℕ, List, [], ◌∷◌, length, codes, refl, ap, sym, ◌∙◌, rules, arith}
+use Rattle.alta_session.proofs.ObeyingLaws.{narrow_at}
 use Rattle.alta_session.proofs.StatusLaws.{init_opened, init_never}
 use Rattle.alta_session.proofs.top.alta.Goals as goal
 
@@ -63,7 +64,7 @@ returns-then-is_word-2 g c =
       undamaged = λ place run. c.serve.ensures.undamaged place;
       unopened = c.serve.ensures.unopened;
       stands = c.serve.ensures.stands;
-      full = λ need gap run. c.serve.ensures.full need gap;
+      full = λ need gap run tell is. narrow_at _ _ _ need gap (sym c.serve.ensures.same_limit) (c.serve.ensures.full need gap tell is);
       complete = λ s run. c.serve.ensures.complete s;
       take_fault = c.serve.ensures.take_fault;
       give_fault = c.serve.ensures.give_fault;

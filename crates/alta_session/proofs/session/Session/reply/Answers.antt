@@ -1,20 +1,22 @@
-use Rattle.std.proofs.Common.{refl, ◌≡◌, ◌⊎◌, ◌+◌, ◌≤◌, ◌++◌, ℕ, inl, List, Result, IfOk, length, codes, decimal, ◌∙◌, ap, sym, subst}
-use Rattle.std.specs.Prelude.{nat_le}
+use Rattle.std.proofs.Common.{◌≡◌, ◌⊎◌, ◌≤◌, ◌++◌, ℕ, inl, List, length, codes, decimal, ◌∙◌, ap, sym, subst}
+use Rattle.std.specs.Prelude.{nat_le, Some}
 use Rattle.alta_meta.specs.declared.document.State.{State}
-use Rattle.alta_model.specs.Lines.{Reading}
+use Rattle.alta_images.specs.Work.{flushes}
+use Rattle.alta_model.specs.Command.{adds, deletes, searches, counts as asks_count, explains, opens, fetches, closes, flushes as asks_flush, asks_stats}
+use Rattle.alta_model.specs.Lines.{Reading, asks}
 use Rattle.alta_search.specs.Open.{AreOpen}
-use Rattle.alta_search.specs.declared.cursors.OpenCursor.{OpenCursor}
 use Rattle.alta_search.specs.declared.cursors.TheConstants.{CURSORS}
-use Rattle.alta_session.specs.Answering.{Answers}
 use Rattle.alta_session.specs.Cursors.{opening, fetching, closing}
 use Rattle.alta_session.specs.Loading.{Loads, loads_in, open_loads, text_loads}
-use Rattle.alta_session.specs.Machine.{IsRefusal, LooksIn, SearchesIn, changed_by, adding, deleting, step, stats_of}
+use Rattle.alta_session.specs.Machine.{LooksIn, SearchesIn, changed_by, adding, deleting, step, stats_of}
 use Rattle.alta_session.specs.Searching.{IsNoQuery, searching, counting}
+use Rattle.alta_session.specs.Tasks.{task_of, task_of_add, task_of_delete}
 use Rattle.alta_images.specs.States.{words_in}
 use Rattle.alta_session.proofs.AgreementLaws.{knows_state}
 use Rattle.alta_session.proofs.AnsweringLaws.{if_so, looked, answers_by, step_rests, turned}
 use Rattle.alta_session.proofs.AskLaws.{adds_more, deletes_more}
 use Rattle.alta_session.proofs.LoadingLaws.{of_either, of_text}
+use Rattle.alta_session.proofs.TaskLaws.{task_reads}
 use Rattle.alta_session.proofs.QueryingLaws.{count_refuses, kept_all, open_refuses, queried, search_refuses}
 use Rattle.alta_store.specs.Agreement.{levels_of}
 use Rattle.alta_session.proofs.session.Session.reply.Goals as goal
@@ -24,21 +26,31 @@ returns-in-Add-clause-answers g c =
     let name : List ℕ = c.in-Add.name.now in
     let title : List ℕ = c.in-Add.title.now in
     let body : List ℕ = c.in-Add.body.now in
-    answers_by g.D.Disk.tells g.D.Disk.state c.args.disk.now c.add.new.disk c.args.self.now c.add.new.self (length c.args.line.now + 9) c.add.result (λ m. changed_by m (adding name title body m.state)) (λ m. step m c.args.line.now) (λ m. sym (c.in-Add.ensures.0 m))
-    (subst (λ (bytes : ℕ). Answers g.D.Disk.tells g.D.Disk.state c.args.disk.now c.add.new.disk c.args.self.now c.add.new.self bytes c.add.result (λ m. changed_by m (adding name title body m.state))) c.in-Add.ensures.2 c.add.ensures)
+    answers_by g.D.Disk.tells g.D.Disk.state c.args.disk.now c.add.new.disk c.args.self.now c.add.new.self c.add.result (λ m. changed_by m (adding name title body m.state)) (λ m. step m c.args.line.now) (λ m. task_of_add name title body m.state) (λ m. task_of m c.args.line.now)
+    (λ m. sym (c.in-Add.ensures.0 m)) (λ m. sym (task_reads m c.args.line.now (asks (adds name title body)) c.in-Add.ensures.2)) c.add.ensures
 
 pub returns-in-Delete-clause-answers : goal.returns-in-Delete-clause-answers
 returns-in-Delete-clause-answers g c =
-    answers_by g.D.Disk.tells g.D.Disk.state c.args.disk.now c.delete.new.disk c.args.self.now c.delete.new.self (length c.args.line.now + 9) c.delete.result (λ m. changed_by m (deleting c.in-Delete.name.now m.state)) (λ m. step m c.args.line.now) (λ m. sym (c.in-Delete.ensures.0 m)) (c.delete.ensures (length c.args.line.now + 9))
+    let name : List ℕ = c.in-Delete.name.now in
+    answers_by g.D.Disk.tells g.D.Disk.state c.args.disk.now c.delete.new.disk c.args.self.now c.delete.new.self c.delete.result (λ m. changed_by m (deleting name m.state)) (λ m. step m c.args.line.now) (λ m. task_of_delete name m.state) (λ m. task_of m c.args.line.now)
+    (λ m. sym (c.in-Delete.ensures.0 m)) (λ m. sym (task_reads m c.args.line.now (asks (deletes name)) c.in-Delete.ensures.1)) c.delete.ensures
 
--- a line that adds or deletes does not look
+pub returns-in-Flush-clause-answers : goal.returns-in-Flush-clause-answers
+returns-in-Flush-clause-answers g c =
+    answers_by g.D.Disk.tells g.D.Disk.state c.args.disk.now c.flush.new.disk c.args.self.now c.flush.new.self c.flush.result (λ m. (m, codes "ok\n")) (λ m. step m c.args.line.now) (λ m. Some flushes) (λ m. task_of m c.args.line.now)
+    (λ m. sym (c.in-Flush.ensures.0 m)) (λ m. sym (task_reads m c.args.line.now (asks asks_flush) c.in-Flush.ensures.1)) c.flush.ensures
+
+-- a line that adds, deletes or flushes does not look
 pub returns-in-Add-clause-no_disk : goal.returns-in-Add-clause-no_disk
 returns-in-Add-clause-no_disk g c = λ looks.
-    absurd (adds_more c.args.line.now c.in-Add.name.now c.in-Add.title.now c.in-Add.body.now c.in-Add.ensures.3 looks)
+    absurd (adds_more c.args.line.now c.in-Add.name.now c.in-Add.title.now c.in-Add.body.now c.in-Add.ensures.2 looks)
 
 pub returns-in-Delete-clause-no_disk : goal.returns-in-Delete-clause-no_disk
 returns-in-Delete-clause-no_disk g c = λ looks.
     absurd (deletes_more c.args.line.now c.in-Delete.name.now c.in-Delete.ensures.1 looks)
+
+pub returns-in-Flush-clause-no_disk : goal.returns-in-Flush-clause-no_disk
+returns-in-Flush-clause-no_disk g c = λ looks. absurd (subst LooksIn c.in-Flush.ensures.1 looks)
 
 -- a query is answered over the disk
 pub search-requires : goal.search-requires
@@ -52,10 +64,10 @@ open-requires g c = c.requires.can.agrees
 
 pub returns-in-Search-clause-answers : goal.returns-in-Search-clause-answers
 returns-in-Search-clause-answers g c =
-    queried g.D.Disk.tells g.D.Disk.state c.args.disk.now c.search.new.disk c.args.self.now c.args.self.now.cursors (length c.args.line.now + 9) (text_loads c.args.self.now.store c.in-Search.text.now) (IsNoQuery c.in-Search.text.now) c.search.result (λ m. step m c.args.line.now)
+    queried g.D.Disk.tells g.D.Disk.state c.args.disk.now c.search.new.disk c.args.self.now c.args.self.now.cursors (text_loads c.args.self.now.store c.in-Search.text.now) (IsNoQuery c.in-Search.text.now) c.search.result (λ m. step m c.args.line.now) (λ m. task_of m c.args.line.now)
     (λ s all. (all, searching c.in-Search.text.now s.documents)) (g.met.D.Disk.lawful c.args.disk.now) c.requires.can c.search.ensures.queries (of_text c.args.self.now.store c.in-Search.text.now)
     (kept_all c.search.result c.args.self.now.cursors) (λ s all tell stands are. record { reply = c.search.ensures.reply s tell stands; open_now = if_so c.search.result (AreOpen c.args.self.now.cursors all) are })
-    (λ s all are refusal. search_refuses c.in-Search.text.now s.documents refusal) c.in-Search.ensures.0
+    (λ s all are refusal. search_refuses c.in-Search.text.now s.documents refusal) c.in-Search.ensures.0 (λ m. task_reads m c.args.line.now (asks (searches c.in-Search.text.now)) c.in-Search.ensures.1)
 
 pub returns-in-Search-clause-no_disk : goal.returns-in-Search-clause-no_disk
 returns-in-Search-clause-no_disk g c = λ looks. c.search.ensures.queries.idles (subst LooksIn c.in-Search.ensures.1 looks)
@@ -66,10 +78,10 @@ returns-in-Search-clause-loads g c = λ searches.
 
 pub returns-in-Count-clause-answers : goal.returns-in-Count-clause-answers
 returns-in-Count-clause-answers g c =
-    queried g.D.Disk.tells g.D.Disk.state c.args.disk.now c.count.new.disk c.args.self.now c.args.self.now.cursors (length c.args.line.now + 9) (text_loads c.args.self.now.store c.in-Count.text.now) (IsNoQuery c.in-Count.text.now) c.count.result (λ m. step m c.args.line.now)
+    queried g.D.Disk.tells g.D.Disk.state c.args.disk.now c.count.new.disk c.args.self.now c.args.self.now.cursors (text_loads c.args.self.now.store c.in-Count.text.now) (IsNoQuery c.in-Count.text.now) c.count.result (λ m. step m c.args.line.now) (λ m. task_of m c.args.line.now)
     (λ s all. (all, counting c.in-Count.text.now s.documents)) (g.met.D.Disk.lawful c.args.disk.now) c.requires.can c.count.ensures.queries (of_text c.args.self.now.store c.in-Count.text.now)
     (kept_all c.count.result c.args.self.now.cursors) (λ s all tell stands are. record { reply = c.count.ensures.reply s tell stands; open_now = if_so c.count.result (AreOpen c.args.self.now.cursors all) are })
-    (λ s all are refusal. count_refuses c.in-Count.text.now s.documents refusal) c.in-Count.ensures.0
+    (λ s all are refusal. count_refuses c.in-Count.text.now s.documents refusal) c.in-Count.ensures.0 (λ m. task_reads m c.args.line.now (asks (asks_count c.in-Count.text.now)) c.in-Count.ensures.1)
 
 pub returns-in-Count-clause-no_disk : goal.returns-in-Count-clause-no_disk
 returns-in-Count-clause-no_disk g c = λ looks. c.count.ensures.queries.idles (subst LooksIn c.in-Count.ensures.1 looks)
@@ -83,10 +95,10 @@ pub returns-in-Open-clause-answers : goal.returns-in-Open-clause-answers
 returns-in-Open-clause-answers g c =
     let session = c.args.self.now in
     let text = c.in-Open.text.now in
-    queried g.D.Disk.tells g.D.Disk.state c.args.disk.now c.open.new.disk session c.open.new.cursors (length c.args.line.now + 9) (open_loads session.store session.cursors text) (IsNoQuery text ⊎ (CURSORS ≤ length session.cursors)) c.open.result
-    (λ m. step m c.args.line.now) (λ s all. opening text s.documents all) (g.met.D.Disk.lawful c.args.disk.now) c.requires.can c.open.ensures.queries
+    queried g.D.Disk.tells g.D.Disk.state c.args.disk.now c.open.new.disk session c.open.new.cursors (open_loads session.store session.cursors text) (IsNoQuery text ⊎ (CURSORS ≤ length session.cursors)) c.open.result
+    (λ m. step m c.args.line.now) (λ m. task_of m c.args.line.now) (λ s all. opening text s.documents all) (g.met.D.Disk.lawful c.args.disk.now) c.requires.can c.open.ensures.queries
     (of_either (levels_of session.store) (nat_le CURSORS (length session.cursors)) (text_loads session.store text) (of_text session.store text)) c.open.ensures.kept c.open.ensures.turned
-    (λ s all are refusal. open_refuses text s.documents session.cursors all are refusal) c.in-Open.ensures.0
+    (λ s all are refusal. open_refuses text s.documents session.cursors all are refusal) c.in-Open.ensures.0 (λ m. task_reads m c.args.line.now (asks (opens c.in-Open.text.now)) c.in-Open.ensures.1)
 
 pub returns-in-Open-clause-no_disk : goal.returns-in-Open-clause-no_disk
 returns-in-Open-clause-no_disk g c = λ looks. c.open.ensures.queries.idles (inl (subst LooksIn c.in-Open.ensures.1 looks))
@@ -97,20 +109,20 @@ returns-in-Open-clause-loads g c = λ searches.
 
 pub returns-in-Fetch-clause-answers : goal.returns-in-Fetch-clause-answers
 returns-in-Fetch-clause-answers g c =
-    turned g.D.Disk.tells g.D.Disk.state c.args.disk.now c.args.self.now c.fetch.new.cursors (length c.args.line.now + 9) c.fetch.result (λ m. step m c.args.line.now)
+    turned g.D.Disk.tells g.D.Disk.state c.args.disk.now c.args.self.now c.fetch.new.cursors c.fetch.result (λ m. step m c.args.line.now) (λ m. task_of m c.args.line.now)
     (λ s all. fetching c.in-Fetch.cursor c.in-Fetch.count all) (g.met.D.Disk.lawful c.args.disk.now) c.requires.can c.fetch.ensures.memory c.fetch.ensures.refused
-    (λ s all knows h. c.fetch.ensures.turned all h) c.in-Fetch.ensures.0
+    (λ s all knows h. c.fetch.ensures.turned all h) c.in-Fetch.ensures.0 (λ m. task_reads m c.args.line.now (asks (fetches c.in-Fetch.cursor c.in-Fetch.count)) c.in-Fetch.ensures.1)
 
 pub returns-in-Close-clause-answers : goal.returns-in-Close-clause-answers
 returns-in-Close-clause-answers g c =
-    turned g.D.Disk.tells g.D.Disk.state c.args.disk.now c.args.self.now c.close.new.cursors (length c.args.line.now + 9) c.close.result (λ m. step m c.args.line.now)
+    turned g.D.Disk.tells g.D.Disk.state c.args.disk.now c.args.self.now c.close.new.cursors c.close.result (λ m. step m c.args.line.now) (λ m. task_of m c.args.line.now)
     (λ s all. closing c.in-Close.cursor all) (g.met.D.Disk.lawful c.args.disk.now) c.requires.can c.close.ensures.memory c.close.ensures.refused
-    (λ s all knows h. c.close.ensures.turned all h) c.in-Close.ensures.0
+    (λ s all knows h. c.close.ensures.turned all h) c.in-Close.ensures.0 (λ m. task_reads m c.args.line.now (asks (closes c.in-Close.cursor)) c.in-Close.ensures.1)
 
 pub returns-in-Explain-clause-answers : goal.returns-in-Explain-clause-answers
 returns-in-Explain-clause-answers g c =
-    looked g.D.Disk.tells g.D.Disk.state c.args.disk.now c.args.self.now (length c.args.line.now + 9) c.explain.result _ _ (g.met.D.Disk.lawful c.args.disk.now) c.requires.can c.explain.ensures
-    (λ m tell agrees. step_rests m _ _ (c.in-Explain.ensures.0 m))
+    looked g.D.Disk.tells g.D.Disk.state c.args.disk.now c.args.self.now c.explain.result _ _ _ (g.met.D.Disk.lawful c.args.disk.now) c.requires.can c.explain.ensures
+    (λ m tell agrees. step_rests m _ _ _ (c.in-Explain.ensures.0 m) (task_reads m c.args.line.now (asks (explains c.in-Explain.text.now)) c.in-Explain.ensures.1))
 
 -- the counts
 stats_is : (s : State) (counts : ℕ × ℕ × ℕ) → counts ≡ (length s.documents, words_in s, s.next)
@@ -121,21 +133,24 @@ stats_is s counts is =
 
 pub returns-in-Stats-clause-answers : goal.returns-in-Stats-clause-answers
 returns-in-Stats-clause-answers g c =
-    looked g.D.Disk.tells g.D.Disk.state c.args.disk.now c.args.self.now (length c.args.line.now + 9) c.stats.result _ _ (g.met.D.Disk.lawful c.args.disk.now) c.requires.can (record { reply = c.stats.ensures.reply; memory = c.stats.ensures.memory })
-    (λ m tell agrees. step_rests m _ _ (c.in-Stats.ensures.0 m ∙ ap (λ (t : List ℕ). (m, t)) (sym (stats_is m.state c.counts.result (c.counts.ensures m.state (knows_state g.D.Disk.tells (g.D.Disk.state c.args.disk.now) c.args.self.now m agrees tell))))))
+    looked g.D.Disk.tells g.D.Disk.state c.args.disk.now c.args.self.now c.stats.result _ _ _ (g.met.D.Disk.lawful c.args.disk.now) c.requires.can (record { reply = c.stats.ensures.reply; memory = c.stats.ensures.memory })
+    (λ m tell agrees. step_rests m _ _ _ (c.in-Stats.ensures.0 m ∙ ap (λ (t : List ℕ). (m, t)) (sym (stats_is m.state c.counts.result (c.counts.ensures m.state (knows_state g.D.Disk.tells (g.D.Disk.state c.args.disk.now) c.args.self.now m agrees tell))))) (task_reads m c.args.line.now (asks asks_stats) c.in-Stats.ensures.1))
 
 -- a line that is refused
 pub returns-in-Refused-clause-answers : goal.returns-in-Refused-clause-answers
 returns-in-Refused-clause-answers g c =
-    looked g.D.Disk.tells g.D.Disk.state c.args.disk.now c.args.self.now (length c.args.line.now + 9) c.text.result _ _ (g.met.D.Disk.lawful c.args.disk.now) c.requires.can c.text.ensures
-    (λ m tell agrees. step_rests m _ _ (c.in-Refused.ensures.0 m))
+    looked g.D.Disk.tells g.D.Disk.state c.args.disk.now c.args.self.now c.text.result _ _ _ (g.met.D.Disk.lawful c.args.disk.now) c.requires.can c.text.ensures
+    (λ m tell agrees. step_rests m _ _ _ (c.in-Refused.ensures.0 m) (c.in-Refused.ensures.2 m))
 
 -- the other lines load nothing
 pub returns-in-Add-clause-loads : goal.returns-in-Add-clause-loads
-returns-in-Add-clause-loads g c = λ searches. absurd (subst SearchesIn c.in-Add.ensures.3 searches)
+returns-in-Add-clause-loads g c = λ searches. absurd (subst SearchesIn c.in-Add.ensures.2 searches)
 
 pub returns-in-Delete-clause-loads : goal.returns-in-Delete-clause-loads
 returns-in-Delete-clause-loads g c = λ searches. absurd (subst SearchesIn c.in-Delete.ensures.1 searches)
+
+pub returns-in-Flush-clause-loads : goal.returns-in-Flush-clause-loads
+returns-in-Flush-clause-loads g c = λ searches. absurd (subst SearchesIn c.in-Flush.ensures.1 searches)
 
 pub returns-in-Explain-clause-loads : goal.returns-in-Explain-clause-loads
 returns-in-Explain-clause-loads g c = λ searches. absurd (subst SearchesIn c.in-Explain.ensures.1 searches)

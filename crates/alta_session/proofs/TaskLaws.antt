@@ -1,0 +1,167 @@
+-- Laws of what lines ask of the store, and of what their work makes of what is held.
+use Rattle.std.proofs.Common.{◌≡◌, ℕ, ◌<◌, ◌≤◌, Bool, true, false, ◌&&◌, not, if◌then◌else◌, nat_lt, List, [], ◌∷◌, ◌++◌, take, map, refl, ap, sym, subst, ◌∙◌, arith, Option, Some, None, Result, Ok, Err}
+use Rattle.std.specs.Prelude.{option_map}
+use Rattle.std.proofs.lemmas.Grind.{common_steps}
+use Rattle.std.proofs.lemmas.List.{take-map}
+use Rattle.alta_codec.specs.Name.{IsName, is_name}
+use Rattle.alta_codec.proofs.NameLaws.{name_is, name_is_not}
+use Rattle.alta_images.specs.Chain.{◌>>=◌}
+use Rattle.alta_images.specs.Holding.{Holding, IsHeld}
+use Rattle.alta_images.specs.States.{has_name, number_of}
+use Rattle.alta_images.specs.Work.{Task, enters}
+use Rattle.alta_images.specs.Working.{Full}
+use Rattle.alta_journal.specs.declared.entry.Entry.TheVariants.{Add, Delete}
+use Rattle.alta_meta.specs.declared.document.State.{State}
+use Rattle.alta_model.specs.Lines.{Reading, reading_of}
+use Rattle.alta_session.specs.Keeping.{clip}
+use Rattle.alta_session.specs.Machine.{Machine, step, after}
+use Rattle.alta_session.specs.Tasks.{task_of_add, task_of_delete, task_in, task_of, worked_where, worked_line, worked_lines, IsWorked}
+use Rattle.alta_session.proofs.DeletingLaws.{not_numbered}
+use Rattle.alta_session.proofs.MachineLaws.{reading_clip, step_clip}
+
+-- ---- the task of a line that adds
+where_true : (task : Task) (b : Bool) → b ≡ true → (if b then Some task else None) ≡ Some task
+where_true task true is = refl
+where_true task false is = absurd cc
+
+where_false : (task : Task) (b : Bool) → b ≡ false → (if b then Some task else None) ≡ None
+where_false task true is = absurd cc
+where_false task false is = refl
+
+none_first : (a b c : Bool) → a ≡ false → (a && b && c) ≡ false
+none_first false b c is = refl
+none_first true b c is = absurd cc
+
+none_second : (a b c : Bool) → b ≡ true → (a && not b && c) ≡ false
+none_second false b c is = refl
+none_second true true c is = refl
+none_second true false c is = absurd cc
+
+none_third : (a b c : Bool) → c ≡ false → (a && not b && c) ≡ false
+none_third false b c is = refl
+none_third true true c is = refl
+none_third true false c is = is
+
+all_three : (a b c : Bool) → a ≡ true → b ≡ false → c ≡ true → (a && not b && c) ≡ true
+all_three true false c one two three = three
+all_three true true c one two three = absurd cc
+all_three false b c one two three = absurd cc
+
+not_less : (a b : ℕ) → b ≤ a → nat_lt a b ≡ false
+not_less a b l = grind (arith, common_steps)
+
+is_less : (a b : ℕ) → a < b → nat_lt a b ≡ true
+is_less a b l = grind (arith, common_steps)
+
+pub add_bad : (name title body : List ℕ) (s : State) → (IsName name → ⊥) → task_of_add name title body s ≡ None
+unfolding task_of_add
+add_bad name title body s other = where_false (enters (Add name title body)) _ (none_first (is_name name) (not (has_name name s)) (nat_lt s.next 4294967296) (name_is_not name other))
+
+pub add_taken : (name title body : List ℕ) (s : State) → has_name name s ≡ true → task_of_add name title body s ≡ None
+unfolding task_of_add
+add_taken name title body s taken = where_false (enters (Add name title body)) _ (none_second (is_name name) (has_name name s) (nat_lt s.next 4294967296) taken)
+
+pub add_full : (name title body : List ℕ) (s : State) → 4294967296 ≤ s.next → task_of_add name title body s ≡ None
+unfolding task_of_add
+add_full name title body s full = where_false (enters (Add name title body)) _ (none_third (is_name name) (has_name name s) (nat_lt s.next 4294967296) (not_less s.next 4294967296 full))
+
+pub add_enters : (name title body : List ℕ) (s : State) → IsName name → has_name name s ≡ false → s.next < 4294967296 → task_of_add name title body s ≡ Some (enters (Add name title body))
+unfolding task_of_add
+add_enters name title body s named free room =
+    where_true (enters (Add name title body)) _ (all_three (is_name name) (has_name name s) (nat_lt s.next 4294967296) (name_is name named) free (is_less s.next 4294967296 room))
+
+-- ---- the task of a line that deletes
+abbrev of_number : Option ℕ → Option Task
+of_number numbered = option_map (λ (number : ℕ). enters (Delete number)) numbered
+
+pub delete_bad : (name : List ℕ) (s : State) → (IsName name → ⊥) → task_of_delete name s ≡ None
+unfolding task_of_delete
+delete_bad name s other = ap (λ (b : Bool). if b then of_number (number_of name s) else None) (name_is_not name other)
+
+pub delete_missing : (name : List ℕ) (s : State) → IsName name → has_name name s ≡ false → task_of_delete name s ≡ None
+unfolding task_of_delete
+delete_missing name s named none = ap (λ (b : Bool). if b then of_number (number_of name s) else None) (name_is name named) ∙ ap of_number (not_numbered name s none)
+
+pub delete_enters : (name : List ℕ) (s : State) (number : ℕ) → IsName name → number_of name s ≡ Some number → task_of_delete name s ≡ Some (enters (Delete number))
+unfolding task_of_delete
+delete_enters name s number named is = ap (λ (b : Bool). if b then of_number (number_of name s) else None) (name_is name named) ∙ ap of_number is
+
+-- ---- the task of a reading
+pub task_reads : (m : Machine) (line : List ℕ) (reading : Reading) → reading_of line ≡ reading → task_of m line ≡ task_in m reading
+unfolding task_of
+task_reads m line reading is = ap (λ (r : Reading). task_in m r) is
+
+task_clip : (m : Machine) (line : List ℕ) → task_of m (clip line) ≡ task_of m line
+unfolding task_of
+task_clip m line = ap (λ (r : Reading). task_in m r) (reading_clip line)
+
+-- ---- work
+-- what is held stays where nothing is asked
+pub worked_none : (limit : ℕ) (held : Holding) (task : Option Task) (image : List ℕ) → task ≡ None → IsHeld held image → IsWorked (worked_where limit held task) image
+worked_none limit held task image none here = record { now = held; is = ap (λ (t : Option Task). worked_where limit held t) none; held = here }
+
+pub worked_by : (limit : ℕ) (held : Holding) (task other : Option Task) (image : List ℕ) → task ≡ other → IsWorked (worked_where limit held task) image → IsWorked (worked_where limit held other) image
+worked_by limit held task other image is work = subst (λ (t : Option Task). IsWorked (worked_where limit held t) image) is work
+
+-- the work of a line
+pub line_works : (limit : ℕ) (m : Machine) (held : Holding) (line : List ℕ) → worked_line limit m held line ≡ worked_where limit held (task_of m line)
+unfolding worked_line
+line_works limit m held line = refl
+
+line_clip : (limit : ℕ) (m : Machine) (held : Holding) (line : List ℕ) → worked_line limit m held (clip line) ≡ worked_line limit m held line
+line_clip limit m held line = line_works limit m held (clip line) ∙ ap (λ (t : Option Task). worked_where limit held t) (task_clip m line) ∙ sym (line_works limit m held line)
+
+-- steps one behind the other
+chain_same : {A B E : Type 0} (r : Result A E) (f g : A → Result B E) → ((x : A) → f x ≡ g x) → (r >>= f) ≡ (r >>= g)
+chain_same (Ok x) f g same = same x
+chain_same (Err e) f g same = refl
+
+chain_chain : {A B C E : Type 0} (r : Result A E) (f : A → Result B E) (g : B → Result C E) → (r >>= λ x. f x >>= g) ≡ ((r >>= f) >>= g)
+chain_chain (Ok x) f g = refl
+chain_chain (Err e) f g = refl
+
+chain_ok : {A E : Type 0} (r : Result A E) → (r >>= λ x. Ok x) ≡ r
+chain_ok (Ok x) = refl
+chain_ok (Err e) = refl
+
+-- of one line
+pub one_worked : (limit : ℕ) (m : Machine) (held : Holding) (line : List ℕ) → worked_lines limit m held (line ∷ []) ≡ worked_where limit held (task_of m line)
+one_worked limit m held line = chain_ok (worked_line limit m held line) ∙ line_works limit m held line
+
+-- lines, and then more
+worked_append : (limit : ℕ) (m : Machine) (held : Holding) (xs ys : List (List ℕ)) → worked_lines limit m held (xs ++ ys) ≡ (worked_lines limit m held xs >>= λ now. worked_lines limit (after m xs) now ys)
+worked_append limit m held [] ys = refl
+worked_append limit m held (x ∷ xs) ys =
+    chain_same (worked_line limit m held x) (λ now. worked_lines limit (step m x).0 now (xs ++ ys)) (λ now. worked_lines limit (step m x).0 now xs >>= λ z. worked_lines limit (after (step m x).0 xs) z ys)
+    (λ now. worked_append limit (step m x).0 now xs ys)
+    ∙ chain_chain (worked_line limit m held x) (λ now. worked_lines limit (step m x).0 now xs) (λ z. worked_lines limit (after (step m x).0 xs) z ys)
+
+-- where the first are done, and where they find no place
+pub worked_on : (limit : ℕ) (m : Machine) (held now : Holding) (xs ys : List (List ℕ)) → worked_lines limit m held xs ≡ Ok now → worked_lines limit m held (xs ++ ys) ≡ worked_lines limit (after m xs) now ys
+worked_on limit m held now xs ys done = worked_append limit m held xs ys ∙ ap (λ (r : Result Holding Full). r >>= λ z. worked_lines limit (after m xs) z ys) done
+
+pub wanting_on : (limit : ℕ) (m : Machine) (held : Holding) (full : Full) (xs ys : List (List ℕ)) → worked_lines limit m held xs ≡ Err full → worked_lines limit m held (xs ++ ys) ≡ Err full
+wanting_on limit m held full xs ys wanting = worked_append limit m held xs ys ∙ ap (λ (r : Result Holding Full). r >>= λ z. worked_lines limit (after m xs) z ys) wanting
+
+-- lines that are the same up to a clip
+worked_clip : (limit : ℕ) (m : Machine) (held : Holding) (lines : List (List ℕ)) → worked_lines limit m held (map clip lines) ≡ worked_lines limit m held lines
+worked_clip limit m held [] = refl
+worked_clip limit m held (x ∷ xs) =
+    ap (λ (p : Machine × List ℕ). worked_line limit m held (clip x) >>= λ z. worked_lines limit p.0 z (map clip xs)) (step_clip m x)
+    ∙ ap (λ (r : Result Holding Full). r >>= λ z. worked_lines limit (step m x).0 z (map clip xs)) (line_clip limit m held x)
+    ∙ chain_same (worked_line limit m held x) (λ z. worked_lines limit (step m x).0 z (map clip xs)) (λ z. worked_lines limit (step m x).0 z xs) (λ z. worked_clip limit (step m x).0 z xs)
+
+pub worked_same : (limit : ℕ) (m : Machine) (held : Holding) (xs ys : List (List ℕ)) → map clip xs ≡ map clip ys → worked_lines limit m held xs ≡ worked_lines limit m held ys
+worked_same limit m held xs ys same = sym (worked_clip limit m held xs) ∙ ap (λ (l : List (List ℕ)). worked_lines limit m held l) same ∙ worked_clip limit m held ys
+
+pub worked_take : (limit : ℕ) (m : Machine) (held : Holding) (k : ℕ) (xs ys : List (List ℕ)) → map clip xs ≡ map clip ys → worked_lines limit m held (take k xs) ≡ worked_lines limit m held (take k ys)
+worked_take limit m held k xs ys same = worked_same limit m held (take k xs) (take k ys) (sym (take-map clip k xs) ∙ ap (λ (l : List (List ℕ)). take k l) same ∙ take-map clip k ys)
+
+-- what an image has then
+pub worked_as : (work other : Result Holding Full) (image : List ℕ) → work ≡ other → IsWorked work image → IsWorked other image
+worked_as work other image is done = record { now = done.now; is = sym is ∙ done.is; held = done.held }
+
+pub lines_on : (limit later : ℕ) (m : Machine) (held now : Holding) (xs ys : List (List ℕ)) (image : List ℕ) → later ≡ limit → worked_lines limit m held xs ≡ Ok now → IsWorked (worked_lines later (after m xs) now ys) image
+    → IsWorked (worked_lines limit m held (xs ++ ys)) image
+lines_on limit later m held now xs ys image same done more =
+    worked_as _ _ image (ap (λ (n : ℕ). worked_lines n (after m xs) now ys) same ∙ sym (worked_on limit m held now xs ys done)) more

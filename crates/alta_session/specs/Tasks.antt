@@ -1,0 +1,62 @@
+-- What a line asks of the store, and what its work on levels makes of what a store holds.
+use Rattle.std.specs.Prelude.{◌≡◌, ◌&&◌, ℕ, List, [], ◌∷◌, not, if◌then◌else◌, nat_lt, Option, Some, None, option_map, Result, Ok}
+use Rattle.alta_codec.specs.Name.{is_name}
+use Rattle.alta_disk.specs.Disk.{DiskState, Only}
+use Rattle.alta_images.specs.Chain.{◌>>=◌}
+use Rattle.alta_images.specs.Holding.{Holding, IsHeld}
+use Rattle.alta_images.specs.States.{has_name, number_of}
+use Rattle.alta_images.specs.Work.{Task, enters, flushes}
+use Rattle.alta_images.specs.Working.{Full}
+use Rattle.alta_journal.specs.declared.entry.Entry.TheVariants.{Add, Delete}
+use Rattle.alta_meta.specs.declared.document.State.{State}
+use Rattle.alta_model.specs.Command.{Command, adds, deletes, flushes as asks_flush}
+use Rattle.alta_model.specs.Lines.{Reading, asks, refuses, reading_of}
+use Rattle.alta_session.specs.Machine.{Machine, step}
+use Rattle.alta_store.specs.Calls.{worked_apart}
+
+-- the entry of a document, where its name can be one and is not taken, and a number is left
+unfoldable pub task_of_add : List ℕ → List ℕ → List ℕ → State → Option Task
+task_of_add name title body s =
+    if is_name name && not (has_name name s) && nat_lt s.next 4294967296 then Some (enters (Add name title body)) else None
+
+-- the entry that deletes the number of a name, where the name can be one and has a number
+unfoldable pub task_of_delete : List ℕ → State → Option Task
+task_of_delete name s = if is_name name then option_map (λ number. enters (Delete number)) (number_of name s) else None
+
+abbrev pub task_by : Machine → Command → Option Task
+task_by m (adds name title body) = task_of_add name title body m.state
+task_by m (deletes name) = task_of_delete name m.state
+task_by m asks_flush = Some flushes
+task_by m _ = None
+
+abbrev pub task_in : Machine → Reading → Option Task
+task_in m (asks command) = task_by m command
+task_in m (refuses fault) = None
+
+-- what a line asks of the store: an add or a delete that is not refused its entry, a flush a flush, and each other line nothing
+unfoldable pub task_of : Machine → List ℕ → Option Task
+task_of m line = task_in m (reading_of line)
+
+-- without a task what is held stays
+abbrev pub worked_where : ℕ → Holding → Option Task → Result Holding Full
+worked_where limit held None = Ok held
+worked_where limit held (Some task) = worked_apart limit held task
+
+-- what a line makes of what is held
+unfoldable pub worked_line : ℕ → Machine → Holding → List ℕ → Result Holding Full
+worked_line limit m held line = worked_where limit held (task_of m line)
+
+-- what lines make of it, one behind the other
+abbrev pub worked_lines : ℕ → Machine → Holding → List (List ℕ) → Result Holding Full
+worked_lines limit m held [] = Ok held
+worked_lines limit m held (line ∷ lines) = worked_line limit m held line >>= λ now. worked_lines limit (step m line).0 now lines
+
+-- The work was done, and the image has what is held then: its levels, extents, deleted ends and entries.
+pub record IsWorked (work : Result Holding Full) (image : List ℕ) : Type 0 where
+  pub now : Holding
+  pub is : work ≡ Ok now
+  pub held : IsHeld now image
+
+-- it was done, and nothing is pending
+abbrev pub IsDone : Result Holding Full → DiskState → Type 0
+IsDone work disk = IsWorked work disk.content × Only disk.content disk.images
