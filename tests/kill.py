@@ -1,10 +1,10 @@
 #!/usr/bin/env python3
-"""Kills the program at random moments while it adds, and checks that nothing it answered is lost.
+"""Kills the program at random moments while it adds and flushes, and checks that nothing it answered is lost.
 
 usage: tests/kill.py [--program PATH] [--rounds N] [--seconds S] [--seed N]
 
-Each round starts the program on the same file, feeds it lines that add new names, and ends it with SIGKILL at a random
-moment. A new start then has to answer `! name taken` for every name that was answered `added`, and the numbers have to
+Each round starts the program on the same file, feeds it lines that add new names, one that flushes among them, and ends it with
+SIGKILL at a random moment. A new start then has to answer `! name taken` for every name that was answered `added`, and the numbers have to
 go on: of a line that was not answered, the document may be there or not. Ends with status 0 where nothing was lost.
 """
 
@@ -18,6 +18,11 @@ import threading
 import time
 
 LINES = 400
+
+# A file has sixteen levels at most, and a flush makes one.
+FLUSHES = 14
+
+FLUSH = "flush"
 
 
 def start(program, path):
@@ -73,6 +78,7 @@ class Check:
         self.killed = 0
         self.answered = 0
         self.unanswered = 0
+        self.flushing = 0
         self.new_file()
 
     def new_file(self):
@@ -80,18 +86,34 @@ class Check:
         self.path = os.path.join(self.folder, f"{self.files}.alta")
         subprocess.run([self.program, self.path, "init"], check=True)
         self.names = []
+        self.flushes = 0
 
-    def round(self, wait):
-        names = [f"n{self.files}.{len(self.names) + i}" for i in range(LINES)]
-        replies = killed_run(self.program, self.path, [add_line(name) for name in names], wait)
-        for place, reply in enumerate(replies):
-            expected = f"added {len(self.names) + place + 1}"
+    def lines_of(self, names, chance):
+        """A line for each name, and a flush among them where the file may have a level more."""
+        lines = [add_line(name) for name in names]
+        if self.flushes < FLUSHES:
+            self.flushes += 1
+            lines.insert(chance.randrange(LINES), FLUSH)
+        return lines
+
+    def answered_of(self, lines, replies):
+        """How many of the lines that add were answered. Each reply has to be the line's."""
+        done = 0
+        for line, reply in zip(lines, replies):
+            done += line != FLUSH
+            expected = "ok" if line == FLUSH else f"added {len(self.names) + done}"
             if reply != expected:
                 raise SystemExit(f"kill: the reply was {reply!r}, not {expected!r}")
-        done = len(replies)
-        self.answered += done
-        if done < LINES:
+        if len(replies) < len(lines):
             self.killed += 1
+            self.flushing += lines[len(replies)] == FLUSH
+        return done
+
+    def round(self, wait, chance):
+        names = [f"n{self.files}.{len(self.names) + i}" for i in range(LINES)]
+        lines = self.lines_of(names, chance)
+        done = self.answered_of(lines, killed_run(self.program, self.path, lines, wait))
+        self.answered += done
         # Every name that was answered is there, and of the next the document may be there.
         again = whole_run(self.program, self.path, [add_line(name) for name in names[: done + 1]])
         if again[:done] != ["! name taken"] * done:
@@ -127,16 +149,16 @@ def main():
     with tempfile.TemporaryDirectory() as folder:
         check = Check(options.program, folder)
         while rounds < options.rounds and time.monotonic() - begun < options.seconds:
-            check.round(chance.uniform(0.001, 0.08))
+            check.round(chance.uniform(0.001, 0.08), chance)
             rounds += 1
-            if len(check.names) > 8000:
+            if len(check.names) > 8000 or check.flushes == FLUSHES:
                 check.all_there()
                 check.new_file()
         check.all_there()
     if not check.killed:
         raise SystemExit("kill: no run was killed while it added, so nothing was tried")
     print(
-        f"kill: {rounds} rounds, {check.killed} killed while adding, {check.answered} documents answered, none lost; "
+        f"kill: {rounds} rounds, {check.killed} killed, {check.flushing} before a flush was answered, {check.answered} documents answered, none lost; "
         f"{check.unanswered} lines were not answered and their documents were there (seed {seed})"
     )
     if rounds < options.rounds:
