@@ -1,9 +1,9 @@
 // The search for the least solution, over a slice of readers.
-ghost use Rattle.std.specs.Prelude.{◌≡◌, ◌↔◌, ◌⊎◌, ℕ, ◌+◌, ◌<◌, ◌≤◌, List, [], map, length, slice_index, slice_index_or, slice_set, All, sum_by, IsTrue, false};
+ghost use Rattle.std.specs.Prelude.{◌≡◌, ◌≢◌, ◌↔◌, ℕ, ◌+◌, ◌<◌, ◌≤◌, List, [], map, length, slice_index, slice_index_or, slice_set, All, sum_by, IsTrue, false};
 ghost use Rattle.alta_codec.specs.Rising.{IsRising, IsPlace, first_from, pred_of};
 ghost use Rattle.alta_codec.specs.declared.location.TheConstants.{TOP};
 ghost use Rattle.alta_solver.specs.Solution.{low_side, high_side, list_at, Holds, IsSolution, IsAtLeast, IsLeast, IsRaised};
-ghost use Rattle.alta_solver.specs.Inequality.{IsNamed};
+ghost use Rattle.alta_solver.specs.Inequality.{Inequality, IsNamed};
 ghost use Rattle.alta_solver.specs.Repair.{IsRepaired, IsMended};
 
 use crate::bound::Bound;
@@ -201,19 +201,25 @@ fn mend<R: BackReader, L: Ledger>(readers: &mut [R], bound: &Bound, steps: &mut 
     }
 }
 
-/// The index after `at`, from the start again past the last of `n`.
-fn index_after(at: usize, n: usize) -> usize
-    requires { at < n }
-    ensures within { result < n }
-    ensures next { (result ≡ at + 1) ⊎ ((result ≡ 0) × (at + 1 ≡ n)) }
+/// The index behind the last bound from `from` on in which reader `i` is bounded, `from` where there is none.
+fn behind_bounded(bounds: &[Bound], from: usize, i: usize) -> usize
+    requires { from ≤ length bounds.now }
+    ensures after { from ≤ result }
+    ensures within { result ≤ length bounds.now }
+    ensures free { (k : ℕ) (d : Inequality) → result ≤ k → k < length bounds.now → (slice_index_or bounds.now k d).i ≢ i }
 {
-    if at + 1 == n { 0 } else { at + 1 }
+    let mut at = bounds.len();
+    'bounds: while at > from && bounds[at - 1].i() != i {
+        at -= 1;
+    }
+    at
 }
 
 /// Brings the readers to the least solution at or above where they stand. False where there is none.
 ///
-/// It goes round the bounds, each raise being one or two seeks, until as many in a row hold as there are bounds. So a
-/// system that is settled costs one test of each bound.
+/// It tests the bounds from the last to the first, each raise being one or two seeks, and after a raise goes on from the last
+/// bound that the raise can have broken. So a system that is settled costs one test of each bound, and each bound is tested
+/// only where all behind it hold: with those that hold readers to the first one in front, the first one moves last.
 pub(crate) fn settle<R: BackReader, L: Ledger>(
     readers: &mut [R],
     bounds: &[Bound],
@@ -234,15 +240,14 @@ pub(crate) fn settle<R: BackReader, L: Ledger>(
     if place_at(readers, 0) == TOP {
         return false;
     }
-    let mut at = 0;
-    let mut held = 0;
-    'settle: while held < bounds.len() {
-        match mend(readers, &bounds[at], steps) {
-            Outcome::Settled => held += 1,
-            Outcome::Moved => held = 0,
+    let mut at = bounds.len();
+    'settle: while at > 0 {
+        let bound = &bounds[at - 1];
+        match mend(readers, bound, steps) {
+            Outcome::Settled => at -= 1,
+            Outcome::Moved => at = behind_bounded(bounds, at - 1, bound.j()),
             Outcome::Stuck => return false,
         }
-        at = index_after(at, bounds.len());
     }
     true
 }

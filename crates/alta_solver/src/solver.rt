@@ -100,7 +100,8 @@ impl<R: BackReader> Solver<R> {
     /// exactly where there is none; the readers then stand at or above where they stood.
     ///
     /// A raise is one seek, two where it goes past a previous location. A system that is settled costs one test of each
-    /// bound, and after a raise no bound is tested twice before the next raise.
+    /// bound, and after a raise no bound is tested twice before the next raise. Later bounds come first: a bound is tested
+    /// only where all behind it hold, and after a raise none behind the last that the raise can have broken.
     pub fn settle<L: Ledger>(&mut self, steps: &mut Steps<L>) -> bool
         ensures system { self.new.bounds ≡ self.old.bounds }
         ensures lists { map R.list self.new.readers ≡ map R.list self.old.readers }
