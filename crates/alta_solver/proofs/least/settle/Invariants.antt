@@ -1,6 +1,6 @@
 use Rattle.std.proofs.Common.{◌≡◌, ◌+◌, ◌*◌, ◌≤◌, map, length}
 use Rattle.std.specs.Prelude.{All, sum_by}
-use Rattle.alta_solver.proofs.Settling.{IsSettling}
+use Rattle.alta_solver.specs.Settling.{IsSettling}
 use Rattle.alta_solver.proofs.least.settle.Given as goal
 
 abbrev pub invariant-settle : goal.invariant-settle
