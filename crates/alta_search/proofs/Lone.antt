@@ -10,10 +10,8 @@ use Rattle.alta_compound.specs.Unions.{RisesAbove, above_from_rising}
 use Rattle.alta_search.specs.Lists.{test_list, IsCut}
 use Rattle.alta_search.specs.Readers.{IsFresh}
 use Rattle.alta_search.specs.Words.{reader_list, reader_all, reader_place, reader_left}
-use Rattle.alta_search.specs.declared.test_reader.TestReader.TheVariants.{One}
-use Rattle.alta_search.proofs.Counts.{below_or_from, all_left}
-use Rattle.alta_words.specs.Leaf.{leaf_list, leaf_place}
-use Rattle.alta_words.specs.declared.leaf.Leaf.{Leaf}
+use Rattle.alta_search.specs.declared.test_reader.TestReader.{TestReader}
+use Rattle.alta_search.proofs.Counts.{below_or_from}
 
 with_none : (low : ℕ) (xs : List ℕ) → RisesAbove low xs → union xs [] ≡ xs
 unfolding union put
@@ -31,17 +29,17 @@ lone_list : (l : List ℕ) → IsRising l → test_list ((l ∷ []) ∷ []) ≡ 
 unfolding union_of
 lone_list l r = ap (λ xs. union xs []) (append-nil l) ∙ with_none 0 l (above_from_rising l r)
 
--- a leaf at the start of that list is a reader of the test
-pub lone_fresh : (l : List ℕ) (leaf : Leaf) → IsRising l → leaf_list leaf ≡ l → leaf_place leaf ≡ first_from l 0
-    → IsFresh reader_list reader_all reader_place reader_left ((l ∷ []) ∷ []) (One leaf)
-lone_fresh l leaf r reads unmoved =
-    let whole : test_list ((l ∷ []) ∷ []) ≡ l = lone_list l r in
+-- a reader at the start of that list is a reader of the test
+pub lone_fresh : (l : List ℕ) (r : TestReader) → IsRising l → reader_list r ≡ l → reader_all r ≡ l → reader_place r ≡ first_from l 0
+    → reader_left r ≡ length l → IsFresh reader_list reader_all reader_place reader_left ((l ∷ []) ∷ []) r
+lone_fresh l r rising reads holds unmoved rest =
+    let whole : test_list ((l ∷ []) ∷ []) ≡ l = lone_list l rising in
     let same : concat (l ∷ []) ≡ l = append-nil l in
     record {
       reads = reads ∙ sym whole;
       counts = λ place. omega (
         arith,
-        ap (λ xs. count_from xs place) (reads ∙ sym same),
+        ap (λ xs. count_from xs place) (holds ∙ sym same),
         below_or_from (concat (l ∷ [])) place,
         sum_by-cons (λ (levels : List (List ℕ)). count_by (λ x. nat_lt x place) (concat levels)) (l ∷ []) [],
         sum_by-cons (λ (levels : List (List ℕ)). length (concat levels)) (l ∷ []) [],
@@ -49,7 +47,7 @@ lone_fresh l leaf r reads unmoved =
       unmoved = unmoved ∙ ap (λ xs. first_from xs 0) (sym whole);
       rest = omega (
         arith,
-        all_left l (leaf_list leaf) (leaf_place leaf) reads unmoved,
+        rest,
         ap length same,
         sum_by-cons (λ (levels : List (List ℕ)). length (concat levels)) (l ∷ []) [],
       );

@@ -6,7 +6,7 @@ use Rattle.alta_codec.specs.Rising.{IsRising, first_from, count_from}
 use Rattle.alta_compound.specs.Union.{union_of}
 use Rattle.alta_search.specs.Lists.{level_list, term_lists, count_lists, count_below}
 use Rattle.alta_search.specs.Readers.{Each, IsAtStart}
-use Rattle.alta_search.specs.Words.{IsSoundChain, chain_list, chain_place, chain_left}
+use Rattle.alta_search.specs.Words.{IsSoundTerm, term_list, term_place, term_left}
 use Rattle.alta_search.specs.declared.lists.TermLists.{TermLists}
 use Rattle.alta_search.proofs.Parts.{each_more, each_all, at_item}
 use Rattle.alta_search.proofs.Unions.{IsTermReader, more_of, most_of, sum_by-map, terms_sound, terms_unmoved, terms_lists, terms_left, terms_counts}
@@ -20,7 +20,7 @@ sizes : (xs : List TermLists) → count_lists (map term_lists xs) ≡ sum_by siz
 sizes xs = sum_by-map (λ (levels : List (List ℕ)). length levels) term_lists xs
 
 pub loop-term-init : goal.loop-term-init
-loop-term-init g c = (subst (λ rs. Each (IsTermReader term_lists IsSoundChain chain_list chain_list chain_place chain_left) [] rs) (sym c.in_ok-readers.ensures.items) tt, omega arith)
+loop-term-init g c = (subst (λ rs. Each (IsTermReader term_lists IsSoundTerm term_list term_list term_place term_left) [] rs) (sym c.in_ok-readers.ensures.items) tt, omega arith)
 
 pub chain-requires : goal.chain-requires
 chain-requires g c =
@@ -52,8 +52,8 @@ returns-in_err-push-clause-most g c =
 pub loop-term-preserved : goal.loop-term-preserved
 loop-term-preserved g c =
     let e = c.in_ok-reader.ensures in
-    let start = subst (λ ls. IsAtStart chain_list chain_list chain_place chain_left (concat (map level_list ls)) c.in_ok-reader.reader) c.deref.ensures.value e.start in (
-      each_more (IsTermReader term_lists IsSoundChain chain_list chain_list chain_place chain_left) c.args.terms.now c.loop-term.term-index
+    let start = subst (λ ls. IsAtStart term_list term_list term_place term_left (concat (map level_list ls)) c.in_ok-reader.reader) c.deref.ensures.value e.start in (
+      each_more (IsTermReader term_lists IsSoundTerm term_list term_list term_place term_left) c.args.terms.now c.loop-term.term-index
           c.loop-term.readers.items c.push.new.self.items c.term-item.result c.in_ok-reader.reader
           c.loop-term-test.true c.term-item.is c.in_ok-push.ensures.items c.loop-term.invariant.0 (e.sound, start),
       omega (
@@ -67,24 +67,24 @@ loop-term-preserved g c =
 
 pub new-requires-clause-sound : goal.new-requires-clause-sound
 new-requires-clause-sound g c =
-    terms_sound term_lists IsSoundChain chain_list chain_list chain_place chain_left c.args.terms.now c.loop-term.readers.items
-    (each_all (IsTermReader term_lists IsSoundChain chain_list chain_list chain_place chain_left) c.args.terms.now c.loop-term.term-index c.loop-term.readers.items c.loop-term-test.false c.loop-term.invariant.0)
+    terms_sound term_lists IsSoundTerm term_list term_list term_place term_left c.args.terms.now c.loop-term.readers.items
+    (each_all (IsTermReader term_lists IsSoundTerm term_list term_list term_place term_left) c.args.terms.now c.loop-term.term-index c.loop-term.readers.items c.loop-term-test.false c.loop-term.invariant.0)
 
 pub new-requires-clause-unmoved : goal.new-requires-clause-unmoved
 new-requires-clause-unmoved g c =
-    terms_unmoved term_lists IsSoundChain chain_list chain_list chain_place chain_left c.args.terms.now c.loop-term.readers.items
-    (each_all (IsTermReader term_lists IsSoundChain chain_list chain_list chain_place chain_left) c.args.terms.now c.loop-term.term-index c.loop-term.readers.items c.loop-term-test.false c.loop-term.invariant.0)
+    terms_unmoved term_lists IsSoundTerm term_list term_list term_place term_left c.args.terms.now c.loop-term.readers.items
+    (each_all (IsTermReader term_lists IsSoundTerm term_list term_list term_place term_left) c.args.terms.now c.loop-term.term-index c.loop-term.readers.items c.loop-term-test.false c.loop-term.invariant.0)
 
 pub returns-clause-fresh : goal.returns-clause-fresh
 returns-clause-fresh g c =
     let xs = c.args.terms.now in let rs = c.loop-term.readers.items in let e = c.new.ensures in
-    let each = each_all (IsTermReader term_lists IsSoundChain chain_list chain_list chain_place chain_left) xs c.loop-term.term-index rs c.loop-term-test.false c.loop-term.invariant.0 in
-    let same = terms_lists term_lists IsSoundChain chain_list chain_list chain_place chain_left xs rs each in
+    let each = each_all (IsTermReader term_lists IsSoundTerm term_list term_list term_place term_left) xs c.loop-term.term-index rs c.loop-term-test.false c.loop-term.invariant.0 in
+    let same = terms_lists term_lists IsSoundTerm term_list term_list term_place term_left xs rs each in
     record {
       reads = e.list ∙ ap union_of same;
-      counts = λ place. ap (λ l. count_from l place + count_below place (map term_lists xs)) e.all ∙ terms_counts term_lists IsSoundChain chain_list chain_list chain_place chain_left xs rs place each;
+      counts = λ place. ap (λ l. count_from l place + count_below place (map term_lists xs)) e.all ∙ terms_counts term_lists IsSoundTerm term_list term_list term_place term_left xs rs place each;
       unmoved = e.unmoved ∙ ap (λ ls. first_from (union_of ls) 0) same;
-      rest = e.left ∙ terms_left term_lists IsSoundChain chain_list chain_list chain_place chain_left xs rs each;
+      rest = e.left ∙ terms_left term_lists IsSoundTerm term_list term_list term_place term_left xs rs each;
     }
 
 pub returns-clause-exact : goal.returns-clause-exact
