@@ -1,7 +1,7 @@
 #!/usr/bin/env python3
 """Measures searches over coded lists beside plain C that merges the same lists and beside SQLite's FTS5, in the same run and in turns.
 
-usage: bench/walk.py [--program PATH] [--documents N] [--least SECONDS] [--turns N] [--only LETTERS] [--write FOLDER]
+usage: bench/walk.py [--program PATH] [--before PATH] [--documents N] [--least SECONDS] [--turns N] [--only LETTERS] [--write FOLDER]
 
 Makes DOCUMENTS documents (60,000) of 64 words each from a fixed seed: `half` stands in every second one, `other` in a half that chance
 gives, `every` in all, `rare` in one of a thousand, `pa` and `pb` in about a half each, side by side in a tenth, one of the 200 words
@@ -20,7 +20,8 @@ that of the other. Prints for each query the milliseconds of processor time of o
     C         the merge in C, which writes the ends of the documents it finds, and counts them
     FTS5      SQLite's `count(*)`, and with names the sum of the lengths of their names
 
-With `--write` it writes the lists of 130 documents into a folder, as for the program's stored run.
+With `--before` it also times the count of another build of the program in the same turns, and prints it, and how many times FTS5's
+time and this program's that is, behind the rest. With `--write` it writes the lists of 130 documents into a folder, as for the program's stored run.
 """
 
 import argparse
@@ -180,6 +181,7 @@ def main():
     top = os.path.dirname(os.path.dirname(os.path.abspath(__file__)))
     parser = argparse.ArgumentParser(description=__doc__, formatter_class=argparse.RawDescriptionHelpFormatter)
     parser.add_argument("--program", default=os.path.join(top, "crates/bench_walk/out/bench_walk"))
+    parser.add_argument("--before")
     parser.add_argument("--documents", type=int, default=60_000)
     parser.add_argument("--least", type=float, default=0.1)
     parser.add_argument("--turns", type=int, default=5)
@@ -195,13 +197,15 @@ def main():
         texts = documents(options.documents, PREFIXES)
         terms = write_all(folder, texts)
         base = index(texts)
-        print("query        found     count  of C  of FTS5  checked  of FTS5   search  of FTS5      C     FTS5  FTS5 with names")
+        head = "query        found     count  of C  of FTS5  checked  of FTS5   search  of FTS5      C     FTS5  FTS5 with names"
+        print(head + ("   before  of FTS5  of this" if options.before else ""))
         for title, query, form, words, theirs in QUERIES:
             if title[0] not in options.only:
                 continue
             names = ["W" + word for word in words] or [term for term in terms if term.startswith("Wpre")]
             (found,), (_, letters) = (base.execute(ask, (theirs,)).fetchone() for ask in [COUNT, NAMES])
-            ours = lambda mode, checks: lambda rounds: [options.program, mode, checks, rounds, folder, query]
+            build = lambda program, mode, checks: lambda rounds: [program, mode, checks, rounds, folder, query]
+            ours = lambda mode, checks: build(options.program, mode, checks)
             merge = lambda rounds: [loop, form, rounds, folder, str(options.documents), str(CELLS)] + names
             timed = [
                 Command(ours("count", "once"), [found, 0], options.least),
@@ -211,14 +215,17 @@ def main():
                 Question(base, COUNT, theirs, options.least),
                 Question(base, NAMES, theirs, options.least),
             ]
+            if options.before:
+                timed.append(Command(build(options.before, "count", "once"), [found, 0], options.least))
             for _ in range(options.turns):
                 for one in timed:
                     one.turn()
-            count, checked, search, plain, fts, named = (one.milliseconds() for one in timed)
+            count, checked, search, plain, fts, named, *before = (one.milliseconds() for one in timed)
             print(
                 f"{title:10}  {found:6}  {count:8.3f}  {count / plain:4.1f}  {count / fts:7.2f}"
                 f"  {checked:7.3f}  {checked / fts:7.2f}  {search:7.3f}  {search / named:7.2f}"
-                f"  {plain:5.3f}  {fts:7.3f}  {named:15.3f}",
+                f"  {plain:5.3f}  {fts:7.3f}  {named:15.3f}"
+                + "".join(f"  {old:7.3f}  {old / fts:7.2f}  {old / count:7.2f}" for old in before),
                 flush=True,
             )
 

@@ -53,6 +53,12 @@ set_at_least old new x j p within e h le i l =
     omega (arith, at, w, ap (λ k. get_or x k 0) same))
     (λ other. omega (arith, at, get_or-set_other old j i p 0 other, h i (omega arith))) (same_or_not i j)
 
+set_others : (old new : List ℕ) (j p : ℕ) → new ≡ set old j p → (k : ℕ) → k ≢ j → get_or new k 0 ≡ get_or old k 0
+set_others old new j p e k n = ap (λ xs. get_or xs k 0) e ∙ get_or-set_other old j k p 0 n
+
+set_there : (old new : List ℕ) (j p : ℕ) → j < length old → new ≡ set old j p → get_or new j 0 ≡ p
+set_there old new j p within e = ap (λ xs. get_or xs j 0) e ∙ get_or-set_same old j p 0 within
+
 high-le_top : (form : Form) (xs : List ℕ) (q : ℕ) → IsRising xs → IsPlace xs q → high_side form xs q ≤ TOP
 high-le_top LocLoc xs q r p = place-le_top xs q r p
 high-le_top PrevLoc xs q r p = place-le_top xs q r p
@@ -73,6 +79,8 @@ not_raised xs form need old j r above =
       forward = at_least_itself old;
       sized = refl;
       least = λ t. absurd cc;
+      others = λ k n. refl;
+      reaches = λ t. absurd cc;
       none = λ _ q p h. omega (arith, high-le_top form xs q r p, h, above);
     }
 
@@ -86,6 +94,8 @@ raised_loc xs form need old j new is top within short e =
       sized = ap length e ∙ length-set old j (first_from xs need);
       least = λ _ x h p reaches. set_at_least old new x j (first_from xs need) within e h
           (first_from-le_place xs need (get_or x j 0) p (omega (arith, high_at_loc form xs (get_or x j 0) is, reaches)));
+      others = set_others old new j (first_from xs need) e;
+      reaches = λ _. omega (arith, set_there old new j (first_from xs need) within e, high_at_loc form xs (get_or new j 0) is, first_from-above xs need top);
       none = λ f. absurd cc;
     }
 
@@ -96,6 +106,13 @@ behind xs need x positive h =
     let (m, lt) = pred_of-element xs x (omega arith) in
     let le : first_from xs need ≤ pred_of xs x = first_from-least xs need (pred_of xs x) m h in
     (omega (arith, lt, le), le)
+
+-- the first element from a number, and behind it the first from the next
+reached : (xs : List ℕ) (need : ℕ) → need ≤ TOP → first_from xs need < TOP → need ≤ pred_of xs (first_from xs (first_from xs need + 1))
+reached xs need top lt =
+    let f = first_from xs need in
+    ⊎_elim (λ m. omega (arith, first_from-above xs need top, pred_of-greatest xs (first_from xs (f + 1)) f m (omega (arith, first_from-above xs (f + 1) (omega (arith, lt))))))
+    (λ t. absurd (omega (arith, t))) (first_from-place xs need)
 
 -- a location is raised behind the first from the number
 pub raised_prev : (xs : List ℕ) (form : Form) (need : ℕ) (old : List ℕ) (j : ℕ) (new : List ℕ) (found : Bool) → IsRising xs
@@ -130,6 +147,18 @@ raised_prev xs form need old j new found r is top within here short which raised
           set_at_least old new x j (first_from xs (first_from xs need + 1)) within (raised t) h
           (first_from-le_place xs (first_from xs need + 1) (get_or x j 0) p
           (omega (arith, (behind xs need (get_or x j 0) (omega arith) (omega (arith, high_at_prev form xs (get_or x j 0) is, reaches))).0)));
+      others = elim found as (λ b. (IsTrue b → new ≡ set old j (first_from xs (first_from xs need + 1)))
+          → (b ≡ false → new ≡ set old j TOP) → (k : ℕ) → k ≢ j → get_or new k 0 ≡ get_or old k 0) [
+            | true ↦ λ e n. set_others old new j (first_from xs (first_from xs need + 1)) (e refl)
+            | false ↦ λ e n. set_others old new j TOP (n refl)
+          ] raised none;
+      reaches = λ t. omega (
+        arith,
+        set_there old new j (first_from xs (first_from xs need + 1)) within (raised t),
+        high_at_prev form xs (get_or new j 0) is,
+        ap (λ p. pred_of xs p) (set_there old new j (first_from xs (first_from xs need + 1)) within (raised t)),
+        reached xs need top (which.0 t),
+      );
       none = λ f q p h.
           let b = behind xs need q (omega arith) (omega (arith, high_at_prev form xs q is, h)) in
           let t : true ≡ false = sym (which.1 (omega (arith, b.1, pred_of-below_top xs q r))) ∙ f in

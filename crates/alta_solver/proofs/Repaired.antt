@@ -1,5 +1,5 @@
 -- Raising the one side of a broken bound repairs it, or shows that nothing can.
-use Rattle.std.proofs.Common.{ℕ, ◌+◌, ◌<◌, ◌≤◌, true, false, List, length, refl, arith}
+use Rattle.std.proofs.Common.{ℕ, ◌+◌, ◌<◌, ◌≤◌, true, false, List, length, refl, ap, arith}
 use Rattle.std.specs.Prelude.{slice_index}
 use Rattle.alta_codec.proofs.Places.{pred_of-mono}
 use Rattle.alta_solver.specs.Inequality.{Inequality}
@@ -23,7 +23,8 @@ high_side-mono LocPrev xs x y h = pred_of-mono xs x y h
 high_side-mono PrevPrev xs x y h = pred_of-mono xs x y h
 
 module _ (lists : List (List ℕ)) (b : Inequality) (old new : List ℕ) (need : ℕ) (within : b.i < length old)
-    (short : need + b.plus ≤ low_side b.form (list_at lists b.i) (slice_index old b.i) + b.minus) where
+    (short : need + b.plus ≤ low_side b.form (list_at lists b.i) (slice_index old b.i) + b.minus)
+    (enough : low_side b.form (list_at lists b.i) (slice_index old b.i) + b.minus ≤ need + b.plus) where
   -- where the bound holds from here on, the other side is at least `need`
   reaches : (x : List ℕ) → IsAtLeast old x → Holds lists x b → need ≤ high_side b.form (list_at lists b.j) (slice_index x b.j)
   reaches x h holds =
@@ -35,6 +36,8 @@ module _ (lists : List (List ℕ)) (b : Inequality) (old new : List ℕ) (need :
         forward = r.forward;
         sized = r.sized;
         keeps = λ x h p holds. r.least refl x h p (reaches x h holds);
+        others = r.others;
+        moved = λ _ apart. omega (arith, enough, r.reaches refl, ap (λ v. low_side b.form (list_at lists b.i) v) (r.others b.i apart));
         settled = λ e. absurd cc;
         stuck = λ e. absurd cc;
       }
@@ -45,6 +48,8 @@ module _ (lists : List (List ℕ)) (b : Inequality) (old new : List ℕ) (need :
         forward = r.forward;
         sized = r.sized;
         keeps = λ x h p holds. absurd (r.none refl (slice_index x b.j) p (reaches x h holds));
+        others = r.others;
+        moved = λ e. absurd cc;
         settled = λ e. absurd cc;
         stuck = λ e x h p holds. r.none refl (slice_index x b.j) p (reaches x h holds);
       }

@@ -1,6 +1,7 @@
 -- One bound: a side of variable i, plus `minus`, is at most a side of variable j, plus `plus`.
-use Rattle.std.specs.Prelude.{ℕ, ◌<◌, List, All}
+use Rattle.std.specs.Prelude.{◌≡◌, ℕ, ◌+◌, ◌*◌, ◌<◌, ◌≤◌, List, length, slice_index_or, All}
 use Rattle.alta_solver.specs.declared.form.Form.{Form}
+use Rattle.alta_solver.specs.declared.form.Form.TheVariants.{LocLoc, PrevLoc}
 
 -- the constant of the bound is `plus` less `minus`
 pub record Inequality : Type 0 where
@@ -13,3 +14,17 @@ pub record Inequality : Type 0 where
 -- each bound names two of n variables
 abbrev pub IsNamed : ℕ → List Inequality → Type 0
 IsNamed n bounds = All (λ b. (b.i < n) × (b.j < n)) bounds
+
+-- the place of variable i is at most that of variable 0
+abbrev pub upper : ℕ → Inequality
+upper i = record { form = LocLoc; i = i; j = 0; plus = 0; minus = 0 }
+
+-- the element before the place of variable 0 is below the place of variable i
+abbrev pub lower : ℕ → Inequality
+lower i = record { form = PrevLoc; i = 0; j = i; plus = 0; minus = 1 }
+
+-- the first bounds are in pairs the two of variable 1, the two of variable 2, and so on
+pub record IsPaired (pairs : ℕ) (bounds : List Inequality) : Type 0 where
+  pub sized : 2 * pairs ≤ length bounds
+  pub uppers : (m : ℕ) (d : Inequality) → m < pairs → slice_index_or bounds (2 * m) d ≡ upper (m + 1)
+  pub lowers : (m : ℕ) (d : Inequality) → m < pairs → slice_index_or bounds (2 * m + 1) d ≡ lower (m + 1)

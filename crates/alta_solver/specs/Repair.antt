@@ -3,17 +3,19 @@ use Rattle.std.specs.Prelude.{◌≡◌, ◌≢◌, ℕ, ◌<◌, List, length, 
 use Rattle.alta_codec.specs.declared.location.TheConstants.{TOP}
 use Rattle.alta_codec.specs.Rising.{IsPlace}
 use Rattle.alta_solver.specs.declared.least.Outcome.{Outcome}
-use Rattle.alta_solver.specs.declared.least.Outcome.TheVariants.{Settled, Stuck}
+use Rattle.alta_solver.specs.declared.least.Outcome.TheVariants.{Settled, Moved, Stuck}
 use Rattle.alta_solver.specs.Inequality.{Inequality}
 use Rattle.alta_solver.specs.Solution.{list_at, Holds, IsAtLeast}
 
--- No place went back, and none passed places where the bound holds. Settled: the bound holds and nothing moved.
--- Stuck: it holds at no places from here on.
+-- No place went back, none passed places where the bound holds, and none but that of j moved. Settled: the bound holds and
+-- nothing moved. Moved: it holds now, where it is between two readers. Stuck: it holds at no places from here on.
 pub record IsRepaired (lists : List (List ℕ)) (bound : Inequality) (old new : List ℕ) (outcome : Outcome) : Type 0 where
   pub forward : IsAtLeast old new
   pub sized : length new ≡ length old
   pub keeps : (x : List ℕ) → IsAtLeast old x → IsPlace (list_at lists bound.j) (slice_index x bound.j) → Holds lists x bound
       → IsAtLeast new x
+  pub others : (k : ℕ) → k ≢ bound.j → slice_index new k ≡ slice_index old k
+  pub moved : outcome ≡ Moved → bound.i ≢ bound.j → Holds lists new bound
   pub settled : outcome ≡ Settled → (new ≡ old) × Holds lists new bound
   pub stuck : outcome ≡ Stuck → (x : List ℕ) → IsAtLeast old x → IsPlace (list_at lists bound.j) (slice_index x bound.j)
       → Holds lists x bound → ⊥
@@ -25,6 +27,8 @@ pub record IsMended (lists : List (List ℕ)) (bound : Inequality) (old new : Li
   pub sized : length new ≡ length old
   pub keeps : (x : List ℕ) → IsAtLeast old x → IsPlace (list_at lists bound.j) (slice_index x bound.j) → Holds lists x bound
       → IsAtLeast new x
+  pub others : (k : ℕ) → k ≢ bound.j → slice_index new k ≡ slice_index old k
+  pub moved : outcome ≡ Moved → bound.i ≢ bound.j → Holds lists new bound
   pub settled : outcome ≡ Settled → (new ≡ old) × Holds lists new bound
   pub led : outcome ≢ Stuck → slice_index new 0 < TOP
   pub stuck : outcome ≡ Stuck → (x : List ℕ) → slice_index x 0 < TOP → IsAtLeast old x

@@ -1,5 +1,5 @@
 -- What it is for a place in each list to satisfy bounds, and to be the least that does.
-use Rattle.std.specs.Prelude.{◌≡◌, ℕ, ◌+◌, ◌<◌, ◌≤◌, List, [], length, slice_index, slice_index_or, All, Bool, false, IsTrue}
+use Rattle.std.specs.Prelude.{◌≡◌, ◌≢◌, ℕ, ◌+◌, ◌<◌, ◌≤◌, List, [], length, slice_index, slice_index_or, All, Bool, false, IsTrue}
 use Rattle.alta_codec.specs.declared.location.TheConstants.{TOP}
 use Rattle.alta_codec.specs.Rising.{IsPlace, pred_of}
 use Rattle.alta_solver.specs.Inequality.{Inequality}
@@ -47,11 +47,13 @@ pub record IsLeast (lists : List (List ℕ)) (bounds : List Inequality) (start x
   pub above : IsAtLeast start x
   pub least : (y : List ℕ) → IsSolution lists bounds y → IsAtLeast start y → IsAtLeast x y
 
--- Of a bound's right side that is to be at least `need`: the place of j went to the least one that does,
--- and the others stay; or, at `false`, no place of the list does. No place went back.
+-- Of a bound's right side that is to be at least `need`: the place of j went to the least one that does;
+-- or, at `false`, no place of the list does. No place went back, and the others stay.
 pub record IsRaised (list : List ℕ) (form : Form) (need : ℕ) (old : List ℕ) (j : ℕ) (new : List ℕ) (found : Bool) : Type 0 where
   pub forward : IsAtLeast old new
   pub sized : length new ≡ length old
   pub least : IsTrue found → (x : List ℕ) → IsAtLeast old x → IsPlace list (slice_index x j)
       → need ≤ high_side form list (slice_index x j) → IsAtLeast new x
+  pub others : (k : ℕ) → k ≢ j → slice_index new k ≡ slice_index old k
+  pub reaches : IsTrue found → need ≤ high_side form list (slice_index new j)
   pub none : found ≡ false → (q : ℕ) → IsPlace list q → need ≤ high_side form list q → ⊥

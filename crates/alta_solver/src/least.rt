@@ -1,10 +1,11 @@
 // The search for the least solution, over a slice of readers.
-ghost use Rattle.std.specs.Prelude.{◌≡◌, ◌↔◌, ◌⊎◌, ℕ, ◌+◌, ◌<◌, ◌≤◌, List, [], map, length, slice_index, slice_index_or, slice_set, All, sum_by, IsTrue, false};
+ghost use Rattle.std.specs.Prelude.{◌≡◌, ◌≢◌, ◌↔◌, ℕ, ◌+◌, ◌<◌, ◌≤◌, ◌*◌, ◌⊎◌, List, [], map, length, slice_index, slice_index_or, slice_set, All, sum_by, IsTrue, IfSome, false};
 ghost use Rattle.alta_codec.specs.Rising.{IsRising, IsPlace, first_from, pred_of};
 ghost use Rattle.alta_codec.specs.declared.location.TheConstants.{TOP};
 ghost use Rattle.alta_solver.specs.Solution.{low_side, high_side, list_at, Holds, IsSolution, IsAtLeast, IsLeast, IsRaised};
-ghost use Rattle.alta_solver.specs.Inequality.{IsNamed};
+ghost use Rattle.alta_solver.specs.Inequality.{Inequality, upper, lower, IsNamed, IsPaired};
 ghost use Rattle.alta_solver.specs.Repair.{IsRepaired, IsMended};
+ghost use Rattle.alta_solver.specs.Settling.{IsTried};
 
 use crate::bound::Bound;
 use crate::form::Form;
@@ -25,6 +26,7 @@ enum Outcome {
 }
 
 /// The side that is to be at most the other.
+#[inline(always)]
 fn low_at<R: BackReader>(readers: &[R], i: usize, form: Form) -> Loc
     requires sound { All R.sound readers.now }
     requires within { i < length readers.now }
@@ -38,6 +40,7 @@ fn low_at<R: BackReader>(readers: &[R], i: usize, form: Form) -> Loc
 }
 
 /// The side that bounds the other.
+#[inline(always)]
 fn high_at<R: BackReader>(readers: &[R], j: usize, form: Form) -> Loc
     requires sound { All R.sound readers.now }
     requires within { j < length readers.now }
@@ -100,6 +103,7 @@ fn raise_past<R: BackReader, L: Ledger>(
 }
 
 /// Brings reader `j` to the least place whose side is at least `need`. False where there is none.
+#[inline(always)]
 fn raise_side<R: BackReader, L: Ledger>(
     readers: &mut [R],
     form: Form,
@@ -131,6 +135,7 @@ fn raise_side<R: BackReader, L: Ledger>(
 }
 
 /// Mends one bound that does not hold by one reader's moves.
+#[inline(always)]
 fn repair<R: BackReader, L: Ledger>(
     readers: &mut [R],
     form: Form,
@@ -166,29 +171,32 @@ fn repair<R: BackReader, L: Ledger>(
 }
 
 /// Mends one bound that does not hold, and says that there is no solution where reader 0 has passed its last location.
-fn mend<R: BackReader, L: Ledger>(readers: &mut [R], bound: &Bound, steps: &mut Steps<L>) -> Outcome
+#[inline(always)]
+fn mend<R: BackReader, L: Ledger>(
+    readers: &mut [R],
+    form: Form,
+    i: usize,
+    j: usize,
+    plus: u64,
+    minus: u64,
+    steps: &mut Steps<L>,
+) -> Outcome
     requires sound { All R.sound readers.old }
     requires some { 0 < length readers.old }
-    requires i_within { bound.now.i < length readers.old }
-    requires j_within { bound.now.j < length readers.old }
+    requires i_within { i < length readers.old }
+    requires j_within { j < length readers.old }
+    requires plus_within { plus ≤ 1000000 }
+    requires minus_within { minus ≤ 1000000 }
     requires led { slice_index (map R.location readers.old) 0 < TOP }
     ensures sound { All R.sound readers.new }
     ensures lists { map R.list readers.new ≡ map R.list readers.old }
     ensures alls { map R.all readers.new ≡ map R.all readers.old }
-    ensures mended { IsMended (map R.list readers.old) bound.now (map R.location readers.old) (map R.location readers.new) result }
+    ensures mended { IsMended (map R.list readers.old) (record { form = form; i = i; j = j; plus = plus; minus = minus }) (map R.location readers.old) (map R.location readers.new) result }
     ensures falls { result ≡ Outcome.Moved → sum_by R.left readers.new < sum_by R.left readers.old }
     ensures keeps { sum_by R.left readers.new ≤ sum_by R.left readers.old }
     ensures steps { steps.new + sum_by R.left readers.new ≤ steps.old + sum_by R.left readers.old }
 {
-    match repair(
-        readers,
-        bound.form(),
-        bound.i(),
-        bound.j(),
-        bound.plus(),
-        bound.minus(),
-        steps,
-    ) {
+    match repair(readers, form, i, j, plus, minus, steps) {
         Outcome::Settled => Outcome::Settled,
         Outcome::Moved => {
             if place_at(readers, 0) < TOP {
@@ -201,27 +209,151 @@ fn mend<R: BackReader, L: Ledger>(readers: &mut [R], bound: &Bound, steps: &mut 
     }
 }
 
-/// The index after `at`, from the start again past the last of `n`.
-fn index_after(at: usize, n: usize) -> usize
-    requires { at < n }
-    ensures within { result < n }
-    ensures next { (result ≡ at + 1) ⊎ ((result ≡ 0) × (at + 1 ≡ n)) }
+/// The index behind the last bound from `from` on in which reader `i` is bounded, `from` where there is none.
+fn behind_bounded(bounds: &[Bound], from: usize, i: usize) -> usize
+    requires { from ≤ length bounds.now }
+    ensures after { from ≤ result }
+    ensures within { result ≤ length bounds.now }
+    ensures free { (k : ℕ) (d : Inequality) → result ≤ k → k < length bounds.now → (slice_index_or bounds.now k d).i ≢ i }
 {
-    if at + 1 == n { 0 } else { at + 1 }
+    let mut at = bounds.len();
+    'bounds: while at > from && bounds[at - 1].i() != i {
+        at -= 1;
+    }
+    at
+}
+
+/// Tests the bound at `at`, whose parts are given, and mends it where it does not hold. It answers an index from which on the
+/// bounds hold, if those behind this one did; none where there is no solution.
+#[inline(always)]
+fn try_at<R: BackReader, L: Ledger>(
+    readers: &mut [R],
+    bounds: &[Bound],
+    at: usize,
+    form: Form,
+    i: usize,
+    j: usize,
+    plus: u64,
+    minus: u64,
+    steps: &mut Steps<L>,
+) -> Option<usize>
+    requires sound { All R.sound readers.old }
+    requires some { 0 < length readers.old }
+    requires led { slice_index (map R.location readers.old) 0 < TOP }
+    requires named { IsNamed (length readers.old) bounds.now }
+    requires within { at < length bounds.now }
+    requires bound { (d : Inequality) → slice_index_or bounds.now at d ≡ record { form = form; i = i; j = j; plus = plus; minus = minus } }
+    requires plus_within { plus ≤ 1000000 }
+    requires minus_within { minus ≤ 1000000 }
+    ensures sound { All R.sound readers.new }
+    ensures lists { map R.list readers.new ≡ map R.list readers.old }
+    ensures alls { map R.all readers.new ≡ map R.all readers.old }
+    ensures tried { IsTried (map R.list readers.old) bounds.now (map R.location readers.old) (map R.location readers.new) (at + 1) result }
+    ensures falls { IfSome result (λ next. (next < at + 1) ⊎ (sum_by R.left readers.new < sum_by R.left readers.old)) }
+    ensures keeps { sum_by R.left readers.new ≤ sum_by R.left readers.old }
+    ensures steps { steps.new + sum_by R.left readers.new ≤ steps.old + sum_by R.left readers.old }
+{
+    match mend(readers, form, i, j, plus, minus, steps) {
+        Outcome::Settled => Some(at),
+        Outcome::Moved => Some(behind_bounded(bounds, at, j)),
+        Outcome::Stuck => None,
+    }
+}
+
+/// Tests the two bounds that hold reader `m + 1` to the first one. It answers as for one bound.
+fn try_pair<R: BackReader, L: Ledger>(
+    readers: &mut [R],
+    bounds: &[Bound],
+    m: usize,
+    steps: &mut Steps<L>,
+) -> Option<usize>
+    requires sound { All R.sound readers.old }
+    requires some { 0 < length readers.old }
+    requires led { slice_index (map R.location readers.old) 0 < TOP }
+    requires named { IsNamed (length readers.old) bounds.now }
+    requires within { 2 * m + 1 < length bounds.now }
+    requires upper { (d : Inequality) → slice_index_or bounds.now (2 * m) d ≡ upper (m + 1) }
+    requires lower { (d : Inequality) → slice_index_or bounds.now (2 * m + 1) d ≡ lower (m + 1) }
+    ensures sound { All R.sound readers.new }
+    ensures lists { map R.list readers.new ≡ map R.list readers.old }
+    ensures alls { map R.all readers.new ≡ map R.all readers.old }
+    ensures tried { IsTried (map R.list readers.old) bounds.now (map R.location readers.old) (map R.location readers.new) (2 * m + 2) result }
+    ensures falls { IfSome result (λ next. (next < 2 * m + 2) ⊎ (sum_by R.left readers.new < sum_by R.left readers.old)) }
+    ensures keeps { sum_by R.left readers.new ≤ sum_by R.left readers.old }
+    ensures steps { steps.new + sum_by R.left readers.new ≤ steps.old + sum_by R.left readers.old }
+{
+    let next = try_at(
+        readers,
+        bounds,
+        2 * m + 1,
+        Form::PrevLoc,
+        0,
+        m + 1,
+        0,
+        1,
+        steps,
+    )?;
+    if next != 2 * m + 1 {
+        return Some(next);
+    }
+    try_at(readers, bounds, 2 * m, Form::LocLoc, m + 1, 0, 0, 0, steps)
+}
+
+/// Tests the bound in front of `at`, and with the second of a pair the first too. It answers as for one bound.
+fn try_before<R: BackReader, L: Ledger>(
+    readers: &mut [R],
+    bounds: &[Bound],
+    pairs: usize,
+    at: usize,
+    steps: &mut Steps<L>,
+) -> Option<usize>
+    requires sound { All R.sound readers.old }
+    requires some { 0 < length readers.old }
+    requires led { slice_index (map R.location readers.old) 0 < TOP }
+    requires named { IsNamed (length readers.old) bounds.now }
+    requires paired { IsPaired pairs bounds.now }
+    requires some_left { 0 < at }
+    requires within { at ≤ length bounds.now }
+    ensures sound { All R.sound readers.new }
+    ensures lists { map R.list readers.new ≡ map R.list readers.old }
+    ensures alls { map R.all readers.new ≡ map R.all readers.old }
+    ensures tried { IsTried (map R.list readers.old) bounds.now (map R.location readers.old) (map R.location readers.new) (at) result }
+    ensures falls { IfSome result (λ next. (next < at) ⊎ (sum_by R.left readers.new < sum_by R.left readers.old)) }
+    ensures keeps { sum_by R.left readers.new ≤ sum_by R.left readers.old }
+    ensures steps { steps.new + sum_by R.left readers.new ≤ steps.old + sum_by R.left readers.old }
+{
+    if at % 2 == 0 && at / 2 <= pairs {
+        return try_pair(readers, bounds, at / 2 - 1, steps);
+    }
+    let bound = &bounds[at - 1];
+    try_at(
+        readers,
+        bounds,
+        at - 1,
+        bound.form(),
+        bound.i(),
+        bound.j(),
+        bound.plus(),
+        bound.minus(),
+        steps,
+    )
 }
 
 /// Brings the readers to the least solution at or above where they stand. False where there is none.
 ///
-/// It goes round the bounds, each raise being one or two seeks, until as many in a row hold as there are bounds. So a
-/// system that is settled costs one test of each bound.
+/// It tests the bounds from the last to the first, each raise being one or two seeks, and after a raise goes on from the last
+/// bound that the raise can have broken. So a system that is settled costs one test of each bound, and each bound is tested
+/// only where all behind it hold: with those that hold readers to the first one in front, the first one moves last.
 pub(crate) fn settle<R: BackReader, L: Ledger>(
     readers: &mut [R],
     bounds: &[Bound],
+    pairs: usize,
     steps: &mut Steps<L>,
 ) -> bool
     requires sound { All R.sound readers.old }
     requires some { 0 < length readers.old }
     requires named { IsNamed (length readers.old) bounds.now }
+    requires paired { IsPaired pairs bounds.now }
     ensures sound { All R.sound readers.new }
     ensures lists { map R.list readers.new ≡ map R.list readers.old }
     ensures alls { map R.all readers.new ≡ map R.all readers.old }
@@ -234,15 +366,12 @@ pub(crate) fn settle<R: BackReader, L: Ledger>(
     if place_at(readers, 0) == TOP {
         return false;
     }
-    let mut at = 0;
-    let mut held = 0;
-    'settle: while held < bounds.len() {
-        match mend(readers, &bounds[at], steps) {
-            Outcome::Settled => held += 1,
-            Outcome::Moved => held = 0,
-            Outcome::Stuck => return false,
+    let mut at = bounds.len();
+    'settle: while at > 0 {
+        match try_before(readers, bounds, pairs, at, steps) {
+            Some(next) => at = next,
+            None => return false,
         }
-        at = index_after(at, bounds.len());
     }
     true
 }

@@ -1,10 +1,11 @@
 // Readers under a system of bounds.
-ghost use Rattle.std.specs.Prelude.{◌≡◌, ◌↔◌, ℕ, ◌+◌, ◌<◌, ◌≤◌, List, map, length, slice_index, slice_set, All, sum_by, IsTrue, IsOk, IfOk, IfErr, false};
+ghost use Rattle.std.specs.Prelude.{◌≡◌, ◌↔◌, ℕ, ◌+◌, ◌*◌, ◌<◌, ◌≤◌, List, map, length, slice_index, slice_index_or, slice_set, All, sum_by, IsTrue, IsOk, IfOk, IfErr, false};
 ghost use Rattle.alta_codec.specs.Rising.{IsRising, first_from};
 ghost use Rattle.alta_solver.specs.Solution.{list_at, IsSolution, IsAtLeast, IsLeast};
-ghost use Rattle.alta_solver.specs.Inequality.{IsNamed};
+ghost use Rattle.alta_solver.specs.Inequality.{Inequality, upper, lower, IsNamed, IsPaired};
 
 use crate::bound::Bound;
+use crate::form::Form;
 use crate::least;
 use crate::system::System;
 use alta_codec::{Loc, Steps, TOP};
@@ -19,23 +20,67 @@ fn is_named(bounds: &[Bound], n: usize) -> bool
     bounds.iter().all(|b| b.i() < n && b.j() < n)
 }
 
+/// Whether the bound says that reader `i` stands at most where the first does.
+fn is_upper(bound: &Bound, i: usize) -> bool
+    ensures { IsTrue result → bound.now ≡ upper i }
+{
+    bound.form() == Form::LocLoc
+        && bound.i() == i
+        && bound.j() == 0
+        && bound.plus() == 0
+        && bound.minus() == 0
+}
+
+/// Whether the bound says that reader `i` stands behind the element before the first one's place.
+fn is_lower(bound: &Bound, i: usize) -> bool
+    ensures { IsTrue result → bound.now ≡ lower i }
+{
+    bound.form() == Form::PrevLoc
+        && bound.i() == 0
+        && bound.j() == i
+        && bound.plus() == 0
+        && bound.minus() == 1
+}
+
+/// Whether these two bounds hold reader `m + 1` to the first.
+fn is_pair(bounds: &[Bound], m: usize) -> bool
+    requires { 2 * m + 1 < length bounds.now }
+    ensures upper { IsTrue result → (d : Inequality) → slice_index_or bounds.now (2 * m) d ≡ upper (m + 1) }
+    ensures lower { IsTrue result → (d : Inequality) → slice_index_or bounds.now (2 * m + 1) d ≡ lower (m + 1) }
+{
+    is_upper(&bounds[2 * m], m + 1) && is_lower(&bounds[2 * m + 1], m + 1)
+}
+
+/// How many readers behind the first have the two bounds that hold them to it in front of all, in their order.
+fn leading_pairs(bounds: &[Bound]) -> usize
+    ensures { IsPaired result bounds.now }
+{
+    let mut pairs = 0;
+    'pairs: while pairs < bounds.len() / 2 && is_pair(bounds, pairs) {
+        pairs += 1;
+    }
+    pairs
+}
+
 /// Readers, and bounds between their places. Contracts see it as the two lists. No call takes memory.
 #[derive(Drop)]
 pub struct Solver<R: BackReader> {
     readers: Vec<R>,
     bounds: Vec<Bound>,
+    /// How many pairs of bounds that hold a reader to the first stand in front.
+    pairs: usize,
 }
 
 impl<R: BackReader> Model for Solver<R> {
     ghost use Rattle.std.specs.Prelude.{ℕ, ◌<◌, List, length, All};
-    ghost use Rattle.alta_solver.specs.Inequality.{IsNamed};
+    ghost use Rattle.alta_solver.specs.Inequality.{IsNamed, IsPaired};
     ghost use Rattle.alta_solver.specs.Setting.{Setting};
 
     ghost Value = { Setting R };
 
     ghost view = { λ s. record { readers = s.readers.items; bounds = s.bounds.items } };
 
-    ghost invariant = { λ s. All R.sound s.readers.items × (0 < length s.readers.items) × IsNamed (length s.readers.items) s.bounds.items };
+    ghost invariant = { λ s. All R.sound s.readers.items × (0 < length s.readers.items) × IsNamed (length s.readers.items) s.bounds.items × IsPaired s.pairs s.bounds.items };
 }
 
 impl<R: BackReader> Solver<R> {
@@ -49,9 +94,11 @@ impl<R: BackReader> Solver<R> {
         if readers.is_empty() || !is_named(system.bounds(), readers.len()) {
             return Err((readers, system));
         }
+        let pairs = leading_pairs(system.bounds());
         Ok(Solver {
             readers,
             bounds: system.into_bounds(),
+            pairs,
         })
     }
 
@@ -100,7 +147,8 @@ impl<R: BackReader> Solver<R> {
     /// exactly where there is none; the readers then stand at or above where they stood.
     ///
     /// A raise is one seek, two where it goes past a previous location. A system that is settled costs one test of each
-    /// bound, and after a raise no bound is tested twice before the next raise.
+    /// bound, and after a raise no bound is tested twice before the next raise. Later bounds come first: a bound is tested
+    /// only where all behind it hold, and after a raise none behind the last that the raise can have broken.
     pub fn settle<L: Ledger>(&mut self, steps: &mut Steps<L>) -> bool
         ensures system { self.new.bounds ≡ self.old.bounds }
         ensures lists { map R.list self.new.readers ≡ map R.list self.old.readers }
@@ -111,6 +159,6 @@ impl<R: BackReader> Solver<R> {
         ensures keeps { sum_by R.left self.new.readers ≤ sum_by R.left self.old.readers }
         ensures steps { steps.new + sum_by R.left self.new.readers ≤ steps.old + sum_by R.left self.old.readers }
     {
-        least::settle(&mut self.readers, &self.bounds, steps)
+        least::settle(&mut self.readers, &self.bounds, self.pairs, steps)
     }
 }

@@ -13,7 +13,9 @@ returns-then-raise_side-clause-repaired g c =
     let within : b.i < length xs = rw length-map c.requires.i_within in
     let short : (c.low_at.result + b.minus - b.plus) + b.plus ≤ low_side b.form (list_at ls b.i) (slice_index xs b.i) + b.minus =
     omega (arith, c.low_at.ensures.value) in
-    repaired_moved ls b xs _ (c.low_at.result + b.minus - b.plus) within short c.if-raise_side.ensures.raised
+    let enough : low_side b.form (list_at ls b.i) (slice_index xs b.i) + b.minus ≤ (c.low_at.result + b.minus - b.plus) + b.plus =
+    omega (arith, c.low_at.ensures.value) in
+    repaired_moved ls b xs _ (c.low_at.result + b.minus - b.plus) within short enough c.if-raise_side.ensures.raised
 
 pub returns-else-raise_side-clause-repaired : goal.returns-else-raise_side-clause-repaired
 returns-else-raise_side-clause-repaired g c =
@@ -22,4 +24,6 @@ returns-else-raise_side-clause-repaired g c =
     let within : b.i < length xs = rw length-map c.requires.i_within in
     let short : (c.low_at.result + b.minus - b.plus) + b.plus ≤ low_side b.form (list_at ls b.i) (slice_index xs b.i) + b.minus =
     omega (arith, c.low_at.ensures.value) in
-    repaired_stuck ls b xs _ (c.low_at.result + b.minus - b.plus) within short c.if-raise_side.ensures.raised
+    let enough : low_side b.form (list_at ls b.i) (slice_index xs b.i) + b.minus ≤ (c.low_at.result + b.minus - b.plus) + b.plus =
+    omega (arith, c.low_at.ensures.value) in
+    repaired_stuck ls b xs _ (c.low_at.result + b.minus - b.plus) within short enough c.if-raise_side.ensures.raised

@@ -1,6 +1,6 @@
-use Rattle.std.proofs.Common.{◌≡◌, ◌+◌, ◌-◌, ◌*◌, ◌<◌, ◌≤◌, map, length}
+use Rattle.std.proofs.Common.{◌≡◌, ◌+◌, ◌*◌, ◌≤◌, map, length}
 use Rattle.std.specs.Prelude.{All, sum_by}
-use Rattle.alta_solver.proofs.Settling.{IsSettling}
+use Rattle.alta_solver.specs.Settling.{IsSettling}
 use Rattle.alta_solver.proofs.least.settle.Given as goal
 
 abbrev pub invariant-settle : goal.invariant-settle
@@ -9,14 +9,12 @@ invariant-settle g l =
       sound : All g.R.Reader.sound l.readers;
       lists : map g.R.Reader.list l.readers ≡ map g.R.Reader.list l.initial.readers;
       alls : map g.R.Reader.all l.readers ≡ map g.R.Reader.all l.initial.readers;
-      settling : IsSettling (map g.R.Reader.list l.initial.readers) l.bounds (map g.R.Reader.location l.initial.readers) (map g.R.Reader.location l.readers) l.at l.held;
+      settling : IsSettling (map g.R.Reader.list l.initial.readers) l.bounds (map g.R.Reader.location l.initial.readers) (map g.R.Reader.location l.readers) l.at;
       inside : l.at ≤ length l.bounds;
-      within : 0 < length l.bounds → l.at < length l.bounds;
-      count : l.held ≤ length l.bounds;
       kept : sum_by g.R.Reader.left l.readers ≤ sum_by g.R.Reader.left l.initial.readers;
       steps : l.steps + sum_by g.R.Reader.left l.readers ≤ l.initial.steps + sum_by g.R.Reader.left l.initial.readers;
     }
 
 -- each move makes the sum of what is left fall, and between two moves the number of bounds still to be tested falls
 abbrev pub decreases-settle : goal.decreases-settle
-decreases-settle g l = (length l.bounds + 1) * sum_by g.R.Reader.left l.readers + (length l.bounds - l.held)
+decreases-settle g l = (length l.bounds + 1) * sum_by g.R.Reader.left l.readers + l.at
