@@ -494,19 +494,24 @@ class RealProgram(Case):
             Index(self.folder.name, program=PROGRAM)
 
     def test_full(self):
-        # The records of the documents and the first gate fill the half to its last byte but the gap.
+        # An index has sixteen levels at most, and each flush makes one.
         with self.index() as index:
-            sizes = [len(buncocedar.add_line(f"n{i}", "", "x" * 50_000)[0]) + 8 for i in range(30)]
-            outcomes = []
+            for i in range(16):
+                index.add(f"n{i}", "", "x")
+                index.flush()
+            index.add("n16", "", "x")
             with self.assertRaises(buncocedar.Full) as raised:
-                for name, outcome in index.add_all((f"n{i}", "", "x" * 50_000) for i in range(30)):
-                    outcomes.append(outcome)
-        count = len(outcomes)
-        self.assertEqual(outcomes, list(range(1, count + 1)))
-        self.assertEqual(raised.exception.need, sizes[count])
-        self.assertEqual(sum(sizes[:count]) + 1 + raised.exception.gap, 1_048_576)
+                index.flush()
+        self.assertEqual((raised.exception.need, raised.exception.gap), (17, 16))
         with self.index() as index:
-            self.assertEqual(index.stats().documents, count)
+            self.assertEqual(index.stats().documents, 17)
+
+    def test_more_than_a_journal(self):
+        with self.index() as index:
+            outcomes = [outcome for name, outcome in index.add_all((f"n{i}", "", "x" * 50_000) for i in range(50))]
+            self.assertEqual(outcomes, list(range(1, 51)))
+        with self.index() as index:
+            self.assertEqual(index.stats().documents, 50)
 
     def known(self, call):
         """What a call answers that the program may not know yet."""

@@ -684,8 +684,15 @@ class RealProgram(Case):
             self.assertLessEqual({name for name, text in texts.items() if word in text.split()}, names, word)
             self.assertLessEqual(names, {name for name, text in texts.items() if word in text}, word)
 
+    def sixteen_levels(self):
+        """Makes an index with as many levels as there may be."""
+        lines = "".join(f"add p{i}\t\tx\nflush\n" for i in range(16))
+        subprocess.run([PROGRAM, self.path, "init"], check=True)
+        subprocess.run([PROGRAM, self.path, "run"], input=lines.encode(), stdout=subprocess.DEVNULL, check=True)
+
     def test_more_than_fits(self):
         path = self.mailbox(200, 1000)
+        self.sixteen_levels()
         said = self.run_script("mail.py", self.path, path, expect=3)
         added = int(re.search(r"200 documents: (\d+) added\n", said)[1])
         self.assertIn("alta: full", said)
@@ -694,6 +701,11 @@ class RealProgram(Case):
         said = self.run_script("mail.py", self.path, path, expect=3)
         self.assertIn(f"200 documents: 0 added, {added} unchanged\n", said)
         self.assertEqual(len(self.found("letter")), added)
+
+    def test_more_than_a_journal(self):
+        path = self.mailbox(200, 1000)
+        self.assertIn("200 documents: 200 added\n", self.run_script("mail.py", self.path, path))
+        self.assertEqual(len(self.found("letter")), 200)
 
 
 def main():

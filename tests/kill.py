@@ -93,7 +93,8 @@ class Check:
         lines = [add_line(name) for name in names]
         if self.flushes < FLUSHES:
             self.flushes += 1
-            lines.insert(chance.randrange(LINES), FLUSH)
+            # Mostly early, since few lines may be answered before the kill.
+            lines.insert(int(LINES ** chance.random()), FLUSH)
         return lines
 
     def answered_of(self, lines, replies):
