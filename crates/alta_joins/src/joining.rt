@@ -29,11 +29,7 @@ pub fn join_levels(
 
 /// Begins the join of contents, each before the next, without the documents whose end is dead: of two levels it is the job of a
 /// store. It takes a few allocations, whatever the number of terms.
-pub fn begin_job(
-    alloc: Global,
-    contents: Vec<Content>,
-    dead: &[Loc],
-) -> Result<Job, AllocError>
+pub fn begin_job(alloc: Global, contents: Vec<Content>, dead: &[Loc]) -> Result<Job, AllocError>
     requires { MayJoin contents.items }
     ensures whole { IfOk result (λ job. job.whole ≡ joined_in contents.items dead.now) }
     ensures merging { (older newer : Content) → contents.items ≡ older ∷ newer ∷ [] → IfOk result (λ job. IsMerging job (begun_job older newer dead.now)) }
