@@ -5,8 +5,8 @@ use Rattle.std.specs.declared.alloc.AllocError.{AllocError}
 use Rattle.std.proofs.lemmas.Bool.{leb-true, le-leb, false≢true}
 use Rattle.std.proofs.lemmas.List.{drop-drop}
 use Rattle.alta_content.specs.declared.content.Content.{Content}
-use Rattle.alta_content.specs.Joining.{joined as content_joined, terms_in as content_terms}
-use Rattle.alta_images.specs.Joining.{terms_in}
+use Rattle.alta_content.specs.Joining.{joined as content_joined, joined_in as content_join, terms_in as content_terms}
+use Rattle.alta_images.specs.Joining.{joined_in, terms_in}
 use Rattle.alta_images.specs.Work.{Job}
 use Rattle.alta_joins.specs.Jobs.{IsMerging, begun_job, moved_by}
 use Rattle.alta_joins.proofs.RowSteps.{drop-all}
@@ -22,6 +22,16 @@ merging_begun merging older newer dead whole left = record {
   whole = whole ∙ sym (joined-same (older ∷ newer ∷ []) dead);
   left = left ∙ sym (terms-same (older ∷ newer ∷ []));
 }
+
+-- a join of two contents that begins
+pub begun_over : (contents : List Content) (older newer : Content) (dead : List ℕ) (r : Result Merging AllocError) → contents ≡ older ∷ newer ∷ [] → IfOk r (λ m. m.whole ≡ content_join contents dead)
+    → IfOk r (λ m. m.left ≡ content_terms contents) → IfOk r (λ m. IsMerging m (begun_job older newer dead))
+begun_over contents older newer dead (Ok m) e whole left = merging_begun m older newer dead (whole ∙ ap (λ (cs : List Content). content_join cs dead) e) (left ∙ ap content_terms e)
+begun_over contents older newer dead (Err x) e whole left = tt
+
+pub whole_over : (contents : List Content) (dead : List ℕ) (r : Result Merging AllocError) → IfOk r (λ m. m.whole ≡ content_join contents dead) → IfOk r (λ m. m.whole ≡ joined_in contents dead)
+whole_over contents dead (Ok m) whole = whole ∙ sym (joined-same contents dead)
+whole_over contents dead (Err x) whole = tt
 
 module _ (old : Merging) (job : Job) (is : IsMerging old job) where
   pub merging_moved : (new : Merging) (n : ℕ) → new.whole ≡ old.whole → new.left ≡ drop n old.left → IsMerging new (moved_by job n)

@@ -1,6 +1,7 @@
 // Joins of contents, at once and in slices.
 ghost use Rattle.std.specs.Prelude.{◌≡◌, ◌+◌, ◌<◌, ◌∷◌, ℕ, [], length, nat_le, IfOk, OnOk, OnErr, IsTrue};
 ghost use Rattle.alta_content.specs.Parts.{MayJoin};
+ghost use Rattle.alta_content.specs.declared.content.Content.{Content};
 ghost use Rattle.alta_images.specs.Joining.{joined_in, terms_in};
 ghost use Rattle.alta_images.specs.Work as work;
 ghost use Rattle.alta_images.specs.Work.{whole_of};
@@ -21,23 +22,19 @@ pub fn join_levels(
     requires { MayJoin contents.items }
     ensures { IfOk result (λ content. content ≡ joined_in contents.items dead.now) }
 {
-    let mut job = Job::over(alloc, contents, dead)?;
+    let mut job = begin_job(alloc, contents, dead)?;
     run_job(&mut job)?;
     Ok(job.finish())
 }
 
-/// Begins the join of two contents, the first before the second, without the documents whose end is dead. It takes a few
-/// allocations, whatever the number of terms.
-pub fn begin_job(
-    alloc: Global,
-    older: Content,
-    newer: Content,
-    dead: &[Loc],
-) -> Result<Job, AllocError>
-    requires { MayJoin (older ∷ newer ∷ []) }
-    ensures { IfOk result (λ job. IsMerging job (begun_job older newer dead.now)) }
+/// Begins the join of contents, each before the next, without the documents whose end is dead: of two levels it is the job of a
+/// store. It takes a few allocations, whatever the number of terms.
+pub fn begin_job(alloc: Global, contents: Vec<Content>, dead: &[Loc]) -> Result<Job, AllocError>
+    requires { MayJoin contents.items }
+    ensures whole { IfOk result (λ job. job.whole ≡ joined_in contents.items dead.now) }
+    ensures merging { (older newer : Content) → contents.items ≡ older ∷ newer ∷ [] → IfOk result (λ job. IsMerging job (begun_job older newer dead.now)) }
 {
-    Job::new(alloc, older, newer, dead)
+    Job::over(alloc, contents, dead)
 }
 
 /// Moves a join on by `n` terms, or by all that are left, and answers whether none is left then. Where memory is wanting, it has

@@ -9,7 +9,6 @@ use alta_joins::{
     read_levels_are_opened, step_job,
 };
 use alta_level::build;
-use alta_merge::may_join;
 use alta_opening::open_levels;
 use alta_root::read_roots;
 use std::alloc::{AllocError, Global};
@@ -108,25 +107,15 @@ fn joined(alloc: Global, dead: &[u64]) -> Result<Vec<u8>, JoinFault> {
 fn stepped(alloc: Global, dead: &[u64]) -> Result<(Vec<u8>, u64), JoinFault> {
     joins_are_levels();
     let image = image_of(alloc, &[])?;
-    let mut contents = read(alloc, image, Vec::new(alloc))?;
-    let newer = contents.pop();
-    let older = contents.pop();
-    match (older, newer) {
-        (Some(older), Some(newer)) => {
-            if !may_join(&older, &newer) {
-                return Err(JoinFault::Damaged(2));
-            }
-            let mut job = begin_job(alloc, older, newer, dead)?;
-            for steps in 1..100u64 {
-                if step_job(&mut job, 1)? {
-                    let content = finish_job(job);
-                    return Ok((segment(alloc, &content)?, steps));
-                }
-            }
-            Err(JoinFault::Damaged(3))
+    let contents = read(alloc, image, Vec::new(alloc))?;
+    let mut job = begin_job(alloc, contents, dead)?;
+    for steps in 1..100u64 {
+        if step_job(&mut job, 1)? {
+            let content = finish_job(job);
+            return Ok((segment(alloc, &content)?, steps));
         }
-        _ => Err(JoinFault::Damaged(4)),
     }
+    Err(JoinFault::Damaged(2))
 }
 
 #[test]
