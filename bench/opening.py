@@ -1,0 +1,88 @@
+#!/usr/bin/env python3
+"""Measures how large an index is beside its text, and how long opening it takes, beside SQLite's full-text index.
+
+usage: bench/opening.py [--program PATH] [--count N] [--word WORD] [--turns N] --lines FILE
+
+FILE has `add` lines, as `examples/packages.py - /var/lib/dpkg/status` writes them. The first N go into a new index of the
+program, with `flush` behind them, and into a new FTS5 table on disk that keeps no texts and is optimized. Sizes are those of
+the files, the program's without its slots and journal, so that gaps between levels count. A time is the processor time of one
+process: that which opens the index and counts the word, less that of a process that opens nothing. The least of all turns
+counts; both take turns in one run.
+"""
+
+import argparse
+import os
+import resource
+import sqlite3
+import subprocess
+import sys
+import tempfile
+
+LEVELS_START = 2_105_344
+
+# Connects, and asks FTS5 for one count: prints the processor seconds of both, and the count.
+FIRST_QUERY = """
+import sqlite3, sys, time
+begun = time.process_time()
+(found,) = sqlite3.connect(sys.argv[1]).execute("select count(*) from mail where mail match ?", sys.argv[2:]).fetchone()
+print(time.process_time() - begun, found)
+"""
+
+
+def seconds(words, data):
+    """The processor seconds of a process with this input, and what it printed."""
+    before = resource.getrusage(resource.RUSAGE_CHILDREN)
+    given = subprocess.run(words, input=data, stdout=subprocess.PIPE, stderr=subprocess.DEVNULL).stdout
+    after = resource.getrusage(resource.RUSAGE_CHILDREN)
+    return after.ru_utime + after.ru_stime - before.ru_utime - before.ru_stime, given.decode().strip()
+
+
+def first_query(table, word):
+    spent, found = subprocess.run([sys.executable, "-c", FIRST_QUERY, table, word], stdout=subprocess.PIPE, check=True).stdout.split()
+    return float(spent), f"found {int(found)}"
+
+
+def fill_table(path, documents):
+    base = sqlite3.connect(path)
+    base.execute("create virtual table mail using fts5(title, body, content='', tokenize = 'unicode61 remove_diacritics 0')")
+    base.executemany("insert into mail(title, body) values (?, ?)", documents)
+    base.execute("insert into mail(mail) values ('optimize')")
+    base.commit()
+    base.execute("vacuum")
+    base.close()
+
+
+def main():
+    top = os.path.dirname(os.path.dirname(os.path.abspath(__file__)))
+    parser = argparse.ArgumentParser(description=__doc__, formatter_class=argparse.RawDescriptionHelpFormatter)
+    parser.add_argument("--program", default=os.path.join(top, "crates", "alta_cli", "out", "alta_cli"))
+    parser.add_argument("--lines", required=True)
+    parser.add_argument("--count", type=int, default=60000)
+    parser.add_argument("--word", default="library")
+    parser.add_argument("--turns", type=int, default=9)
+    options = parser.parse_args()
+    with open(options.lines, "rb") as file:
+        lines = file.readlines()[: options.count]
+    documents = [line[4:].rstrip(b"\n").decode().split("\t", 2)[1:] for line in lines]
+    text = sum(len(part.encode()) for document in documents for part in document)
+    print(f"{len(documents)} documents, {text} bytes of text")
+    with tempfile.TemporaryDirectory() as folder:
+        path, table = os.path.join(folder, "x.alta"), os.path.join(folder, "x.db")
+        subprocess.run([options.program, path, "init"], check=True)
+        subprocess.run([options.program, path, "run"], input=b"".join(lines) + b"flush\n", stdout=subprocess.DEVNULL, check=True)
+        fill_table(table, documents)
+        for name, size in ("index", os.path.getsize(path) - LEVELS_START), ("FTS5", os.path.getsize(table)):
+            print(f"{name}: {size} bytes, {size / text:.3f} of the text")
+        opened, asked, started = [], [], []
+        for _ in range(options.turns):
+            opened.append(seconds([options.program, path, "run"], f"count {options.word}\n".encode()))
+            started.append(seconds([options.program], b""))
+            asked.append(first_query(table, options.word))
+        least = min(opened)[0] - min(started)[0]
+        print(f"index: opened, and one count: {least * 1e3:.1f} ms ({opened[0][1]})")
+        print(f"FTS5: opened, and one count: {min(asked)[0] * 1e3:.1f} ms ({asked[0][1]})")
+    return 0
+
+
+if __name__ == "__main__":
+    sys.exit(main())
