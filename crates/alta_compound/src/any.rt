@@ -58,7 +58,9 @@ pub struct AnyReader<R: BackReader> {
     before: Loc,
 }
 
-/// Goes on to the first place of the union at or above `to`. It answers that place, and the element before it.
+/// Goes on to the first place of the union at or above `to`. It answers that place, and the element before it. It is a call of its own,
+/// so that a reader that may be a union or one list moves the one list without what a union's move saves on the stack.
+#[inline(never)]
 fn go<R: BackReader, L: Ledger>(
     readers: &mut [R],
     at: Loc,

@@ -1,3 +1,4 @@
 pub mod Above
 pub mod Encoding
 pub mod Reading
+pub mod Short

@@ -13,6 +13,7 @@ use Rattle.alta_codec.proofs.Numerals.{read_ok, AreBytes, number_read, reads_num
 use Rattle.alta_postings.proofs.Above.{RisesAbove, rising_from_above, above_from_rising}
 use Rattle.alta_postings.specs.declared.fault.StreamCause.TheVariants.{Zero, Top}
 use Rattle.alta_postings.specs.declared.fault.StreamFault.{StreamFault}
+use Rattle.alta_postings.specs.Short.{IsReadTo}
 use Rattle.alta_postings.specs.Deltas.{Spells, stream_bytes, cause_of, fault_at, number_fault, number_list, fault_from, list_from, first_fault, locations_of, BeginsBlock, IsStep, IsBlockRead}
 
 fault_skip : (k at before : ℕ) (bs : List ℕ) → fault_from at k before bs ≡ fault_from (at + k) 0 before (drop k bs)
@@ -295,18 +296,6 @@ block_at bs xs i place before s b =
       none = ap (λ x. fault_from place 0 before x) d ∙ c.none;
       list = ap (λ x. list_from place 0 before x) d ∙ c.list;
     }
-
--- what was read of a block so far
-pub record IsReadTo (s : List ℕ) (at before first last count next : ℕ) : Type 0 where
-  pub fault : fault_from at 0 before (drop at s) ≡ fault_from next 0 last (drop next s)
-  pub list : list_from next 0 last (drop next s) ≡ drop count (list_from at 0 before (drop at s))
-  pub counted : count ≤ length (list_from at 0 before (drop at s))
-  pub some : 0 < count
-  pub first_is : first ≡ get_or (list_from at 0 before (drop at s)) 0 0
-  pub last_is : last ≡ get_or (list_from at 0 before (drop at s)) (count - 1) 0
-  pub low : last < TOP
-  pub long : at + count ≤ next
-  pub within : next ≤ length s
 
 pub read_one : (s : List ℕ) (at before y e : ℕ) → IsStep s at before y e → IsReadTo s at before y y 1 e
 read_one s at before y e x =

@@ -4,6 +4,7 @@ ghost use Rattle.alta_codec.specs.declared.location.TheConstants.{TOP};
 ghost use Rattle.alta_postings.specs.Deltas.{fault_from, list_from, IsBlockRead};
 
 use crate::fault::StreamFault;
+use crate::runs::{read_runs, scan_runs};
 use crate::step::{next_location, read_location};
 use alta_codec::TOP;
 use arrayvec::ArrayVec;
@@ -33,9 +34,7 @@ pub fn scan_block(bytes: &[u8], at: usize, before: u64) -> Result<BlockSpan, Str
         Ok(step) => step,
         Err(fault) => return Err(fault),
     };
-    let mut last = first;
-    let mut next = second;
-    let mut count: usize = 1;
+    let (mut next, mut last, mut count) = scan_runs(bytes, second, first);
     'numbers: while next < bytes.len() && count < 64 {
         match read_location(bytes, next, last) {
             Ok((location, after)) => {
@@ -62,8 +61,7 @@ pub fn read_block(bytes: &[u8], place: usize, before: u64, out: &mut ArrayVec<u6
     ensures { out.new.items ≡ take 64 (list_from place 0 before (drop place bytes.now)) }
 {
     out.clear();
-    let mut at = place;
-    let mut last = before;
+    let (mut at, mut last) = read_runs(bytes, place, before, out);
     'numbers: while at < bytes.len() && out.len() < 64 {
         let (location, next) = next_location(bytes, at, last);
         out.push(location);

@@ -5,6 +5,7 @@ mod block;
 mod coding;
 mod fault;
 mod places;
+mod runs;
 mod step;
 mod stream;
 #[cfg(test)]

@@ -1,50 +1,46 @@
 // One location of a stream.
-ghost use Rattle.std.specs.Prelude.{◌≡◌, ◌<◌, ◌≤◌, length, drop, Some, None, IfOk, IfErr};
+ghost use Rattle.std.specs.Prelude.{◌≡◌, ◌+◌, ◌<◌, ◌≤◌, length, drop, slice_index, Some, None, IfSome, IfOk, IfErr};
 ghost use Rattle.alta_codec.specs.declared.location.TheConstants.{TOP};
-ghost use Rattle.alta_codec.specs.Numbers.{number_from};
 ghost use Rattle.alta_postings.specs.Deltas.{fault_from, IsStep};
+ghost use Rattle.alta_postings.specs.Short.{IsShort};
 
 use crate::fault::{StreamCause, StreamFault, cause};
-use alta_codec::{CodeFault, TOP, get_number};
+use alta_codec::{TOP, get_number};
 
-// A number of more than two bytes, apart from the short way.
+// What the second byte of a number counts, if it has one.
+#[inline(always)]
+fn second_of(first: u64, second: u64) -> u64
+    ensures one { first < 128 → result ≡ 0 }
+    ensures two { 128 ≤ first → result ≡ second }
+{
+    if first < 128 { 0 } else { second }
+}
+
+// The number of one or of two bytes at a place, and the place after it; none where it is longer. No branch depends on which of the
+// two it is, since in most lists both come in turn. A second byte of 0 is not refused here.
+#[inline(always)]
+fn short_number(bytes: &[u8], at: usize) -> Option<(u64, usize)>
+    requires { at + 1 < length bytes.now }
+    ensures { IfSome result (λ r. IsShort bytes.now at r.0 r.1) }
+{
+    let first = u64::from(bytes[at]);
+    let second = u64::from(bytes[at + 1]);
+    if first.min(second) >= 128 {
+        return None;
+    }
+    let high = second_of(first, second);
+    Some((first % 128 + 128 * high, at + 1 + (first / 128) as usize))
+}
+
+// The location that is spelled at a place, or the fault that its number shows, for a number of any length.
 #[inline(never)]
-fn long_number(bytes: &[u8], at: usize) -> Result<(u64, usize), CodeFault>
-    requires { at ≤ length bytes.now }
-    ensures { result ≡ number_from 9 at (drop at bytes.now) }
-{
-    get_number(bytes, at)
-}
-
-// The number that is spelled at a place, with a short way for one and for two bytes.
-#[inline(always)]
-fn number_at(bytes: &[u8], at: usize) -> Result<(u64, usize), CodeFault>
-    requires { at < length bytes.now }
-    ensures { result ≡ number_from 9 at (drop at bytes.now) }
-{
-    let first = bytes[at];
-    if first < 128 {
-        return Ok((u64::from(first), at + 1));
-    }
-    if at + 1 < bytes.len() {
-        let second = bytes[at + 1];
-        if 0 < second && second < 128 {
-            return Ok((u64::from(first - 128) + 128 * u64::from(second), at + 2));
-        }
-    }
-    long_number(bytes, at)
-}
-
-/// The location that is spelled at a place, behind the location `before`, and the place after it; or the fault that
-/// this number shows.
-#[inline(always)]
-pub fn read_location(bytes: &[u8], at: usize, before: u64) -> Result<(u64, usize), StreamFault>
+fn slow_location(bytes: &[u8], at: usize, before: u64) -> Result<(u64, usize), StreamFault>
     requires within { at < length bytes.now }
     requires low { before < TOP }
     ensures read { IfOk result (λ step. IsStep bytes.now at before step.0 step.1) }
     ensures fault { IfErr result (λ fault. fault_from at 0 before (drop at bytes.now) ≡ Some fault) }
 {
-    match number_at(bytes, at) {
+    match get_number(bytes, at) {
         Ok((difference, next)) => {
             if difference == 0 {
                 return Err(StreamFault {
@@ -67,6 +63,40 @@ pub fn read_location(bytes: &[u8], at: usize, before: u64) -> Result<(u64, usize
     }
 }
 
+/// The location that is spelled at a place, behind the location `before`, and the place after it; or the fault that
+/// this number shows.
+#[inline(always)]
+pub fn read_location(bytes: &[u8], at: usize, before: u64) -> Result<(u64, usize), StreamFault>
+    requires within { at < length bytes.now }
+    requires low { before < TOP }
+    ensures read { IfOk result (λ step. IsStep bytes.now at before step.0 step.1) }
+    ensures fault { IfErr result (λ fault. fault_from at 0 before (drop at bytes.now) ≡ Some fault) }
+{
+    if at + 1 < bytes.len() {
+        if let Some((difference, next)) = short_number(bytes, at) {
+            let longer = (next - at - 1) as u64;
+            if difference > 127 * longer && difference < TOP - before {
+                return Ok((before + difference, next));
+            }
+        }
+    }
+    slow_location(bytes, at, before)
+}
+
+// The location that is spelled at a place of a stream, for a number of any length.
+#[inline(never)]
+fn slow_next(bytes: &[u8], at: usize, before: u64) -> (u64, usize)
+    requires within { at < length bytes.now }
+    requires low { before < TOP }
+    requires spelled { fault_from at 0 before (drop at bytes.now) ≡ None }
+    ensures { IsStep bytes.now at before result.0 result.1 }
+{
+    match get_number(bytes, at) {
+        Ok((difference, next)) => (before + difference, next),
+        Err(_fault) => (before, at),
+    }
+}
+
 /// The location that is spelled at a place of a stream, behind the location `before`, and the place after it. Bytes that
 /// spell a list have no difference of 0 and none that leads to `TOP`, so neither is tested.
 #[inline(always)]
@@ -76,8 +106,10 @@ pub fn next_location(bytes: &[u8], at: usize, before: u64) -> (u64, usize)
     requires spelled { fault_from at 0 before (drop at bytes.now) ≡ None }
     ensures { IsStep bytes.now at before result.0 result.1 }
 {
-    match number_at(bytes, at) {
-        Ok((difference, next)) => (before + difference, next),
-        Err(_fault) => (before, at),
+    if at + 1 < bytes.len() {
+        if let Some((difference, next)) = short_number(bytes, at) {
+            return (before + difference, next);
+        }
     }
+    slow_next(bytes, at, before)
 }

@@ -118,6 +118,23 @@ module _ (list block : List ℕ) (row index before : ℕ) (h : HoldsBlock list b
   pub below_here : (to : ℕ) → index < length block → get_or list (64 * row + index) TOP < to → (k : ℕ) → k < 64 * row + index → get_or list k 0 < to
   below_here to l low k lt = omega (arith, before_at list (64 * row + index) k h.rising lt (omega (arith, block_inside index l)))
 
+  -- the first location at or above a place, in the block behind the index
+  pub seek_near : (s : List ℕ) (m to : ℕ) → s ≡ block → to ≤ TOP → index < length block → get_or list (64 * row + index) TOP < to → m < length s
+      → ((k : ℕ) → index + 1 ≤ k → k < m → get_or s k 0 < to) → to ≤ get_or s m 0
+      → HoldsBlock list block row m before × (get_or list (64 * row + m) TOP ≡ first_from list to)
+  seek_near s m to e top some low l passed found =
+      let size : length s ≡ length block = ap length e in
+      let inner : m < length block = omega arith in
+      let here : get_or block index 0 < to = omega (arith, low, place_is some) in
+      let before_m : (k : ℕ) → k < m → get_or block k 0 < to = λ k lt. ⊎_elim
+      (λ a. omega (arith, elem k (omega arith), below_here to some low (64 * row + k) (omega arith)))
+      (λ ge. ⊎_elim
+      (λ same. let is : index ≡ k = omega arith in omega (arith, here, ap (λ i. get_or block i 0) is))
+      (λ gt. omega (arith, passed k gt lt, ap (λ xs. get_or xs k 0) e))
+      (cases_lt k (index + 1)))
+      (cases_lt k index) in
+      (holds_at m inner, seek_in m to top inner (λ k lt. below_here to some low k (omega arith)) before_m (omega (arith, found, ap (λ xs. get_or xs m 0) e)))
+
   -- where the last of the block is below a place, and the block is the last
   pub seek_end : (n to : ℕ) → n ≡ length block → to ≤ TOP → length list ≤ 64 * row + 64 → 0 < length block → get_or block (length block - 1) 0 < to
       → get_or list (64 * row + n) TOP ≡ first_from list to

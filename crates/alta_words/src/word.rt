@@ -8,7 +8,7 @@ ghost use Rattle.alta_summary.specs.Table.{field_at};
 ghost use Rattle.alta_words.specs.Held.{IsSoundWord, word_list, word_place};
 ghost use Rattle.alta_words.specs.Word.{IsPosting, HoldsBlock};
 
-use crate::gallop::index_from;
+use crate::gallop::{index_from, near_from};
 use alta_codec::{Loc, Steps, TOP};
 use alta_postings::Stream;
 use alta_reader::{BackReader, Reader};
@@ -164,8 +164,36 @@ impl<'a> WordReader<'a> {
         self.load(self.row + 1, steps);
     }
 
-    /// Goes on to the first location at or above `to`. It adds one step.
+    /// Goes on to the first location at or above `to`, which mostly is one of the next four of the block. It adds one step.
+    #[inline(always)]
     fn go_seek<L: Ledger>(&mut self, to: Loc, steps: &mut Steps<L>)
+        requires posting { IsPosting self.old.stream.bytes.now self.old.summary.bytes.now self.old.summary.count }
+        requires holds { HoldsBlock (locations_of self.old.stream.bytes.now) self.old.block.items self.old.row self.old.index self.old.before }
+        requires end { self.old.end ≡ pred_of (locations_of self.old.stream.bytes.now) TOP }
+        requires above { slice_index_or (locations_of self.old.stream.bytes.now) (64 * self.old.row + self.old.index) TOP < to }
+        requires top { to ≤ TOP }
+        ensures stream { self.new.stream ≡ self.old.stream }
+        ensures summary { self.new.summary ≡ self.old.summary }
+        ensures end { self.new.end ≡ self.old.end }
+        ensures holds { HoldsBlock (locations_of self.old.stream.bytes.now) self.new.block.items self.new.row self.new.index self.new.before }
+        ensures place { slice_index_or (locations_of self.old.stream.bytes.now) (64 * self.new.row + self.new.index) TOP ≡ first_from (locations_of self.old.stream.bytes.now) to }
+        ensures steps { steps.new ≡ steps.old + 1 }
+    {
+        let next = self.index + 1;
+        if next + 4 <= self.block.len() {
+            let near = near_from(self.block.as_slice(), next, to);
+            if near < next + 4 {
+                steps.tick();
+                self.index = near;
+                return;
+            }
+        }
+        self.go_far(to, steps);
+    }
+
+    /// Goes on to the first location at or above `to`, however far. It adds one step.
+    #[inline(never)]
+    fn go_far<L: Ledger>(&mut self, to: Loc, steps: &mut Steps<L>)
         requires posting { IsPosting self.old.stream.bytes.now self.old.summary.bytes.now self.old.summary.count }
         requires holds { HoldsBlock (locations_of self.old.stream.bytes.now) self.old.block.items self.old.row self.old.index self.old.before }
         requires end { self.old.end ≡ pred_of (locations_of self.old.stream.bytes.now) TOP }
@@ -239,6 +267,7 @@ impl<'a> Reader for WordReader<'a> {
     /// Goes to the least location at or above `to`, or to `TOP` past the last. It adds exactly one step. Outside the block
     /// that it holds, it finds the row that reaches `to` in the summary: the next one, or by halving groups and then rows. It
     /// reads that block alone.
+    #[inline(always)]
     fn seek<L: Ledger>(&mut self, to: Loc, steps: &mut Steps<L>)
         requires sound { ⟦<WordReader<'a> as Reader>⟧.sound self.old }
         requires above { ⟦<WordReader<'a> as Reader>⟧.location self.old < to }

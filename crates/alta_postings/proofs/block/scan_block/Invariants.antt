@@ -1,5 +1,5 @@
 use Rattle.std.proofs.Common.{◌-◌, ◌≤◌, length}
-use Rattle.alta_postings.proofs.Reading.{IsReadTo}
+use Rattle.alta_postings.specs.Short.{IsReadTo}
 use Rattle.alta_postings.proofs.block.scan_block.Given as goal
 
 abbrev pub invariant-numbers : goal.invariant-numbers

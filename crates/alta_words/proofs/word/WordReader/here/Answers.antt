@@ -1,4 +1,4 @@
-use Rattle.std.proofs.Common.{ℕ, List, ◌+◌, ◌*◌, get_or, ap, sym, ◌∙◌, arith}
+use Rattle.std.proofs.Common.{ℕ, List, get_or, ap, sym, ◌∙◌, arith}
 use Rattle.alta_words.specs.Held.{word_list}
 use Rattle.alta_words.proofs.Blocks.{place_is}
 use Rattle.alta_words.proofs.word.WordReader.here.Goals as goal

@@ -1,0 +1,95 @@
+-- Numbers of one or of two bytes.
+use Rattle.std.proofs.Common.{◌≡◌, ⊎_elim, inr, ℕ, ◌+◌, ◌-◌, ◌*◌, ◌/◌, ◌%◌, ◌<◌, ◌≤◌, min, List, [], ◌∷◌, ◌++◌, length, take, drop, get_or, refl, sym, subst, ap, ◌∙◌, arith}
+use Rattle.std.specs.Prelude.{Err, Some, None}
+use Rattle.std.proofs.lemmas.Bool.{cases_lt}
+use Rattle.alta_codec.specs.declared.location.TheConstants.{TOP}
+use Rattle.alta_codec.specs.declared.number.CodeFault.{CodeFault}
+use Rattle.alta_codec.specs.declared.number.CodeFault.TheVariants as code
+use Rattle.alta_codec.specs.Numbers.{with_low, number_from}
+use Rattle.alta_codec.proofs.Numerals.{read_ok, AreBytes, number_last, number_long, number_more}
+use Rattle.alta_postings.specs.Deltas.{cause_of, fault_at, fault_from, list_from, IsStep}
+use Rattle.alta_postings.specs.Short.{IsShort, IsReadTo}
+use Rattle.alta_postings.proofs.Reading.{read_more, number_two, shows_code, sound_at, step_at}
+
+pub short_is : (s : List ℕ) (at first second high : ℕ) → first ≡ get_or s at 0 → second ≡ get_or s (at + 1) 0 → first < 256 → min first second < 128
+    → (first < 128 → high ≡ 0) → (128 ≤ first → high ≡ second) → IsShort s at (first % 128 + 128 * high) (at + 1 + first / 128)
+short_is s at first second high a b byte short low up = record {
+  one = λ l. (omega (arith, low (omega arith)), omega arith);
+  two = λ g. (omega arith, omega (arith, up (omega arith)), omega arith);
+}
+
+pub short_number : (s : List ℕ) (at n e : ℕ) → at + 1 < length s → IsShort s at n e → (128 ≤ get_or s at 0 → 0 < get_or s (at + 1) 0) → number_from 9 at (drop at s) ≡ read_ok n e
+short_number s at n e l h some =
+    ⊎_elim
+    (λ low.
+    let (x, y) = h.one low in
+    sym (number_last s at 9 (omega arith) (omega arith) low (inr (omega arith))) ∙ ap (λ i. read_ok i (at + 1)) (sym x) ∙ ap (λ i. read_ok n i) (sym y))
+    (λ high.
+    let (last, x, y) = h.two high in
+    sym (number_two s at (get_or s at 0 - 128) (get_or s (at + 1) 0) l refl refl high (some high) last) ∙ ap (λ i. read_ok i (at + 2)) (sym x) ∙ ap (λ i. read_ok n i) (sym y))
+    (cases_lt (get_or s at 0) 128)
+
+-- a number of two bytes that is above all of one byte is not spelled too long
+pub long_enough : (s : List ℕ) (at n e : ℕ) → get_or s at 0 < 256 → IsShort s at n e → 127 * (e - at - 1) < n → 128 ≤ get_or s at 0 → 0 < get_or s (at + 1) 0
+long_enough s at n e byte h more high = let (last, x, y) = h.two high in omega arith
+
+pub short_step : (s : List ℕ) (at before n e : ℕ) → AreBytes s → at + 1 < length s → IsShort s at n e → 127 * (e - at - 1) < n → before + n < TOP → IsStep s at before (before + n) e
+short_step s at before n e bytes l h more low =
+    step_at s at before n e bytes (omega arith) (short_number s at n e l h (long_enough s at n e (bytes at (omega arith)) h more)) (omega arith) low
+
+too_long : (s : List ℕ) (at : ℕ) → at + 1 < length s → 128 ≤ get_or s at 0 → get_or s (at + 1) 0 ≡ 0 → number_from 9 at (drop at s) ≡ Err (code.Long (at + 1))
+too_long s at l high zero =
+    number_more s at 9 (omega arith) (omega arith) high ∙ ap (with_low (get_or s at 0 - 128)) (sym (number_long s (at + 1) 8 l zero (omega arith)))
+
+no_code : (s : List ℕ) (at before : ℕ) (f : CodeFault) → at < length s → number_from 9 at (drop at s) ≡ Err f → fault_from at 0 before (drop at s) ≡ None → 1 ≤ 0
+no_code s at before f l h none = let w : Some (fault_at at (cause_of f)) ≡ None = sym (shows_code s at before f l h) ∙ none in absurd cc
+
+-- where there is no fault, the number is in its shortest spelling
+pub short_sound : (s : List ℕ) (at before n e : ℕ) → at + 1 < length s → IsShort s at n e → fault_from at 0 before (drop at s) ≡ None → number_from 9 at (drop at s) ≡ read_ok n e
+short_sound s at before n e l h none = short_number s at n e l h
+    (λ high. ⊎_elim
+    (λ low. absurd (omega (arith, no_code s at before (code.Long (at + 1)) (omega arith) (too_long s at l high (omega arith)) none)))
+    (λ some. some)
+    (cases_lt (get_or s (at + 1) 0) 1))
+
+-- a number of one byte
+one_number : (s : List ℕ) (at : ℕ) → at < length s → get_or s at 0 < 128 → number_from 9 at (drop at s) ≡ read_ok (get_or s at 0) (at + 1)
+one_number s at l low = sym (number_last s at 9 l (omega arith) low (inr (omega arith)))
+
+pub one_step : (s : List ℕ) (at before : ℕ) → AreBytes s → at < length s → 0 < get_or s at 0 → get_or s at 0 < 128 → before + get_or s at 0 < TOP → IsStep s at before (before + get_or s at 0) (at + 1)
+one_step s at before bytes l some low top = step_at s at before (get_or s at 0) (at + 1) bytes l (one_number s at l low) some top
+
+pub one_low : (s : List ℕ) (at before : ℕ) → AreBytes s → at < length s → get_or s at 0 < 128 → fault_from at 0 before (drop at s) ≡ None → before + get_or s at 0 < TOP
+one_low s at before bytes l low none = (sound_at s at before (get_or s at 0) (at + 1) bytes l (one_number s at l low) none).low
+
+-- the next number of a run of numbers of one byte each
+pub next_of_run : (s : List ℕ) (at i last y : ℕ) → AreBytes s → at + i < length s → 0 < get_or s (at + i) 0 → get_or s (at + i) 0 < 128 → y ≡ last + get_or s (at + i) 0 → y < TOP → IsStep s (at + i) last y (at + (i + 1))
+next_of_run s at i last y bytes l some low e top =
+    let k : at + i + 1 ≡ at + (i + 1) = omega arith in
+    let here = one_step s (at + i) last bytes l some low (omega arith) in
+    subst (λ (n : ℕ). IsStep s (at + i) last y n) k (subst (λ (n : ℕ). IsStep s (at + i) last n (at + i + 1)) (sym e) here)
+
+pub low_in_run : (s : List ℕ) (at i last y : ℕ) → AreBytes s → at + i < length s → get_or s (at + i) 0 < 128 → fault_from (at + i) 0 last (drop (at + i) s) ≡ None → y ≡ last + get_or s (at + i) 0 → y < TOP
+low_in_run s at i last y bytes l low none e = omega (arith, one_low s (at + i) last bytes l low none)
+
+pub run_begins : (s : List ℕ) (start before first last n at : ℕ) → IsReadTo s start before first last n at → IsReadTo s start before first last (n + 0) (at + 0)
+run_begins s start before first last n at r =
+    let a : at ≡ at + 0 = omega arith in
+    let b : n ≡ n + 0 = omega arith in
+    subst (λ (k : ℕ). IsReadTo s start before first last k (at + 0)) b (subst (λ (k : ℕ). IsReadTo s start before first last n k) a r)
+
+pub run_goes_on : (s : List ℕ) (start before first last n at i y : ℕ) → IsReadTo s start before first last (n + i) (at + i) → IsStep s (at + i) last y (at + (i + 1)) → IsReadTo s start before first y (n + (i + 1)) (at + (i + 1))
+run_goes_on s start before first last n at i y r x =
+    let e : n + i + 1 ≡ n + (i + 1) = omega arith in
+    subst (λ (k : ℕ). IsReadTo s start before first y k (at + (i + 1))) e (read_more s start before first last (n + i) (at + i) y (at + (i + 1)) r x)
+
+-- what a place and nothing behind it read is what the place reads
+pub none_begins : (s : List ℕ) (at last : ℕ) → fault_from at 0 last (drop at s) ≡ None → fault_from (at + 0) 0 last (drop (at + 0) s) ≡ None
+none_begins s at last h = let e : at ≡ at + 0 = omega arith in subst (λ (k : ℕ). fault_from k 0 last (drop k s) ≡ None) e h
+
+pub list_begins : (s out : List ℕ) (at last : ℕ) → out ++ take (64 - length out) (list_from (at + 0) 0 last (drop (at + 0) s)) ≡ out ++ take (64 - length out) (list_from at 0 last (drop at s))
+list_begins s out at last = let e : at + 0 ≡ at = omega arith in ap (λ (k : ℕ). out ++ take (64 - length out) (list_from k 0 last (drop k s))) e
+
+pub take_begins : (out l whole : List ℕ) → length out ≡ 0 → whole ≡ l → out ++ take (64 - length out) l ≡ take 64 whole
+take_begins [] l whole z e = ap (λ (x : List ℕ). take 64 x) (sym e)
+take_begins (x ∷ xs) l whole z e = absurd (omega arith)

@@ -1,0 +1,109 @@
+// Runs of eight numbers of one byte each, in the first part of a block.
+ghost use Rattle.std.specs.Prelude.{◌≡◌, ℕ, ◌+◌, ◌-◌, ◌*◌, ◌<◌, ◌≤◌, ◌++◌, length, take, drop, None, IsTrue};
+ghost use Rattle.alta_codec.specs.declared.location.TheConstants.{TOP};
+ghost use Rattle.alta_postings.specs.Deltas.{fault_from, list_from};
+ghost use Rattle.alta_postings.specs.Short.{AreGaps, IsReadTo};
+
+use alta_codec::TOP;
+use arrayvec::ArrayVec;
+
+// What eight numbers of one byte count at most.
+const RUN: u64 = 8 * 127;
+
+// Whether each of the eight bytes at a place is a number of its own, and none is 0.
+#[inline(always)]
+fn are_gaps(bytes: &[u8], at: usize) -> bool
+    requires { at + 8 ≤ length bytes.now }
+    ensures { IsTrue result → AreGaps bytes.now at }
+{
+    for i in 0..8 {
+        let byte = bytes[at + i];
+        if byte == 0 || byte >= 128 {
+            return false;
+        }
+    }
+    true
+}
+
+// The location behind eight numbers of one byte each.
+#[inline(always)]
+fn add_run(bytes: &[u8], at: usize, before: u64) -> u64
+    requires within { at + 8 ≤ length bytes.now }
+    requires gaps { AreGaps bytes.now at }
+    requires low { before + 1016 < TOP }
+    ensures { (s y f n : ℕ) → IsReadTo bytes.now s y f before n at → IsReadTo bytes.now s y f result (n + 8) (at + 8) }
+{
+    let mut last = before;
+    for i in 0..8 {
+        last += u64::from(bytes[at + i]);
+    }
+    last
+}
+
+// Goes over runs behind the first number of a block, as long as they last: the place behind them, the last location, and how
+// many locations there were with the first.
+#[inline(always)]
+pub(crate) fn scan_runs(bytes: &[u8], place: usize, first: u64) -> (usize, u64, usize)
+    requires { place ≤ length bytes.now }
+    ensures read { (s y f : ℕ) → IsReadTo bytes.now s y f first 1 place → IsReadTo bytes.now s y f result.1 result.2 result.0 }
+    ensures few { result.2 ≤ 64 }
+{
+    let mut at = place;
+    let mut last = first;
+    let mut count: usize = 1;
+    'runs: while bytes.len() - at >= 8 && count <= 56 && last < TOP - RUN && are_gaps(bytes, at) {
+        last = add_run(bytes, at, last);
+        at += 8;
+        count += 8;
+    }
+    (at, last, count)
+}
+
+// Appends the locations of eight numbers of one byte each, and answers the last.
+#[inline(always)]
+fn push_run(bytes: &[u8], at: usize, before: u64, out: &mut ArrayVec<u64, 64>) -> u64
+    requires within { at + 8 ≤ length bytes.now }
+    requires gaps { AreGaps bytes.now at }
+    requires low { before < TOP }
+    requires spelled { fault_from at 0 before (drop at bytes.now) ≡ None }
+    requires room { length out.old.items + 8 ≤ 64 }
+    ensures read { out.new.items ++ take (64 - length out.new.items) (list_from (at + 8) 0 result (drop (at + 8) bytes.now))
+        ≡ out.old.items ++ take (64 - length out.old.items) (list_from at 0 before (drop at bytes.now)) }
+    ensures none { fault_from (at + 8) 0 result (drop (at + 8) bytes.now) ≡ None }
+    ensures low { result < TOP }
+    ensures fits { length out.new.items ≡ length out.old.items + 8 }
+{
+    let mut last = before;
+    for i in 0..8 {
+        last += u64::from(bytes[at + i]);
+        out.push(last);
+    }
+    last
+}
+
+// Appends the locations of runs at a place, as long as they last: the place behind them, and the last location.
+#[inline(always)]
+pub(crate) fn read_runs(
+    bytes: &[u8],
+    place: usize,
+    before: u64,
+    out: &mut ArrayVec<u64, 64>,
+) -> (usize, u64)
+    requires within { place ≤ length bytes.now }
+    requires low { before < TOP }
+    requires spelled { fault_from place 0 before (drop place bytes.now) ≡ None }
+    requires empty { length out.old.items ≡ 0 }
+    ensures read { out.new.items ++ take (64 - length out.new.items) (list_from result.0 0 result.1 (drop result.0 bytes.now)) ≡ take 64 (list_from place 0 before (drop place bytes.now)) }
+    ensures none { fault_from result.0 0 result.1 (drop result.0 bytes.now) ≡ None }
+    ensures low { result.1 < TOP }
+    ensures within { result.0 ≤ length bytes.now }
+    ensures fits { length out.new.items ≤ 64 }
+{
+    let mut at = place;
+    let mut last = before;
+    'runs: while bytes.len() - at >= 8 && out.len() <= 56 && are_gaps(bytes, at) {
+        last = push_run(bytes, at, last, out);
+        at += 8;
+    }
+    (at, last)
+}
