@@ -10,7 +10,7 @@ use Rattle.alta_query.specs.declared.query.Query.{Query}
 use Rattle.alta_query.specs.declared.test.Test.{Test}
 use Rattle.alta_solver.specs.Inequality.{Inequality, IsNamed}
 use Rattle.alta_compile.specs.Drafted.{placed, IsAdded, IsDraftOf, is_atom, AddsMember}
-use Rattle.alta_compile.specs.Joined.{shifted, joined}
+use Rattle.alta_compile.specs.Joined.{shifted, joint_pattern}
 use Rattle.alta_compile.specs.PlanOf.{held, between, found_of, atoms_in, all_plan, plan_of, plans_of, others_of}
 use Rattle.alta_compile.specs.Tree.{FoundTree, Tree, found, all_of, Trees, no_more, also, trees_of}
 use Rattle.alta_compile.specs.View.{tree}
@@ -51,18 +51,18 @@ placed-shifteds n k (b ∷ bs) =
 
 -- what the draft holds and what is left make the whole
 pub record IsGathered (d : Draft) (rest : List Pattern) (whole : Pattern) : Type 0 where
-  pub tests : d.tests.items ++ (joined rest).tests ≡ whole.tests
-  pub bounds : d.bounds.items ++ map (placed (length d.tests.items)) (joined rest).bounds ≡ map between whole.bounds
+  pub tests : d.tests.items ++ (joint_pattern rest).tests ≡ whole.tests
+  pub bounds : d.bounds.items ++ map (placed (length d.tests.items)) (joint_pattern rest).bounds ≡ map between whole.bounds
 
-pub gathered_start : (d : Draft) (rest : List Pattern) → d.tests.items ≡ [] → d.bounds.items ≡ [] → IsGathered d rest (joined rest)
+pub gathered_start : (d : Draft) (rest : List Pattern) → d.tests.items ≡ [] → d.bounds.items ≡ [] → IsGathered d rest (joint_pattern rest)
 gathered_start d rest e f = record {
-  tests = ap (λ ts. ts ++ (joined rest).tests) e;
-  bounds = ap (λ bs. bs ++ map (placed (length d.tests.items)) (joined rest).bounds) f ∙ ap (λ (ts : List Test). map (placed (length ts)) (joined rest).bounds) e ∙ placed-zeros (joined rest).bounds;
+  tests = ap (λ ts. ts ++ (joint_pattern rest).tests) e;
+  bounds = ap (λ bs. bs ++ map (placed (length d.tests.items)) (joint_pattern rest).bounds) f ∙ ap (λ (ts : List Test). map (placed (length ts)) (joint_pattern rest).bounds) e ∙ placed-zeros (joint_pattern rest).bounds;
 }
 
 gathered_more : (old new : Draft) (p : Pattern) (rest : List Pattern) (whole : Pattern) → IsAdded old new p → IsGathered old (p ∷ rest) whole → IsGathered new rest whole
 gathered_more old new p rest whole a g =
-    let r = joined rest in let n = length old.tests.items in let k = length p.tests in
+    let r = joint_pattern rest in let n = length old.tests.items in let k = length p.tests in
     let size : length new.tests.items ≡ n + k = ap length a.tests ∙ length-join old.tests.items p.tests in
     record {
       tests = ap (λ ts. ts ++ r.tests) a.tests ∙ append_assoc old.tests.items p.tests r.tests ∙ g.tests;
@@ -221,18 +221,18 @@ all-others [] no_more e l = absurd (omega arith)
 all-others [] (also t ts) e l = refl
 all-others (p ∷ ps) ts e l = absurd (omega (arith, e))
 
-some-atoms : (ps : List Pattern) (ts : Trees) → 0 < length ps → 0 < size ts → all_plan ps ts ≡ all_of (also (found (found_of (joined ps))) ts)
+some-atoms : (ps : List Pattern) (ts : Trees) → 0 < length ps → 0 < size ts → all_plan ps ts ≡ all_of (also (found (found_of (joint_pattern ps))) ts)
 some-atoms [] ts e l = absurd (omega (arith, e))
 some-atoms (p ∷ ps) no_more e l = absurd (omega arith)
 some-atoms (p ∷ ps) (also t ts) e l = refl
 
-no-others : (ps : List Pattern) (ts : Trees) → size ts ≡ 0 → all_plan ps ts ≡ found (found_of (joined ps))
+no-others : (ps : List Pattern) (ts : Trees) → size ts ≡ 0 → all_plan ps ts ≡ found (found_of (joint_pattern ps))
 no-others [] no_more e = refl
 no-others (p ∷ ps) no_more e = refl
 no-others ps (also t ts) e = absurd (omega (arith, e))
 
 module _ (qs : List Shape) (ts : List Tree) (others : trees_of ts ≡ others_of (shapes_of qs)) where
-  pub atoms_alone : (r : Tree) (f : FoundTree) → length ts ≡ 0 → f ≡ found_of (joined (atoms_in (shapes_of qs))) → r ≡ found f → r ≡ plan_of (all (shapes_of qs))
+  pub atoms_alone : (r : Tree) (f : FoundTree) → length ts ≡ 0 → f ≡ found_of (joint_pattern (atoms_in (shapes_of qs))) → r ≡ found f → r ≡ plan_of (all (shapes_of qs))
   atoms_alone r f e h g =
       g ∙ ap found h
       ∙ sym (no-others (atoms_in (shapes_of qs)) (others_of (shapes_of qs)) (sym (ap size others) ∙ size-trees ts ∙ e))
@@ -243,10 +243,10 @@ module _ (qs : List Shape) (ts : List Tree) (others : trees_of ts ≡ others_of 
       g ∙ ap all_of others
       ∙ sym (all-others (atoms_in (shapes_of qs)) (others_of (shapes_of qs)) (omega (arith, all-or-some qs, s, e)) (omega (arith, s, l)))
 
-  pub atoms_and_others : (r : Tree) (f : FoundTree) → 0 < length ts → (length ts ≡ length qs → ⊥) → f ≡ found_of (joined (atoms_in (shapes_of qs)))
+  pub atoms_and_others : (r : Tree) (f : FoundTree) → 0 < length ts → (length ts ≡ length qs → ⊥) → f ≡ found_of (joint_pattern (atoms_in (shapes_of qs)))
       → r ≡ all_of (trees_of (found f ∷ ts)) → r ≡ plan_of (all (shapes_of qs))
   atoms_and_others r f l n h g =
       let s : size (others_of (shapes_of qs)) ≡ length ts = sym (ap size others) ∙ size-trees ts in
       g ∙ ap (λ t. all_of (also t (trees_of ts))) (ap found h)
-      ∙ ap (λ os. all_of (also (found (found_of (joined (atoms_in (shapes_of qs))))) os)) others
+      ∙ ap (λ os. all_of (also (found (found_of (joint_pattern (atoms_in (shapes_of qs))))) os)) others
       ∙ sym (some-atoms (atoms_in (shapes_of qs)) (others_of (shapes_of qs)) (omega (arith, all-or-some qs, s, n)) (omega (arith, s, l)))

@@ -5,7 +5,7 @@ use Rattle.std.proofs.lemmas.List.Elements.{All-nil, All-cons, All-head, All-tai
 use Rattle.alta_query.specs.Patterns.{Bound, Pattern, AreMet, IsKept, Satisfies, neighbours, before_end, title_end, titled, phrase_pattern, lone_pattern, pattern_of}
 use Rattle.alta_query.specs.Shape.{Atom, lone, near, Lone, words, prefix, name}
 use Rattle.alta_query.specs.declared.test.Test.{Test}
-use Rattle.alta_compile.specs.Joined.{shifted, joined, SatisfiesEach}
+use Rattle.alta_compile.specs.Joined.{shifted, joint_pattern, SatisfiesEach}
 
 abbrev Cells : Type 0
 Cells = List (List (List ℕ))
@@ -94,18 +94,18 @@ meets_satisfies cs p = (
   λ (ps, m, k). (ps, record { met = m; kept = all_kept ps p.bounds k }),
 )
 
-pub joined_satisfies : (qs : List Pattern) (cs : Cells) → EachNamed qs → Satisfies cs (joined qs) ↔ SatisfiesEach cs qs
+pub joined_satisfies : (qs : List Pattern) (cs : Cells) → EachNamed qs → Satisfies cs (joint_pattern qs) ↔ SatisfiesEach cs qs
 joined_satisfies [] cs n = (λ h. tt, λ h. ([], record { met = tt; kept = All-nil (IsKept []) }))
 joined_satisfies (q ∷ qs) cs (n, r) =
-    let rest = joined_satisfies qs cs r in let whole = meets_satisfies cs (joined (q ∷ qs)) in
-    let first = meets_satisfies cs q in let others = meets_satisfies cs (joined qs) in (
+    let rest = joined_satisfies qs cs r in let whole = meets_satisfies cs (joint_pattern (q ∷ qs)) in
+    let first = meets_satisfies cs q in let others = meets_satisfies cs (joint_pattern qs) in (
       λ h.
           let (ps, a, l) = whole.0 h in
-          let (us, vs, e, k, b, c) = met_split q.tests (joined qs).tests cs ps a in
-          let (f, g) = kept_split (us ++ vs) q.bounds (map (shifted (length q.tests)) (joined qs).bounds)
-          (subst (λ x. AreKept x (q.bounds ++ map (shifted (length q.tests)) (joined qs).bounds)) e l) in (
+          let (us, vs, e, k, b, c) = met_split q.tests (joint_pattern qs).tests cs ps a in
+          let (f, g) = kept_split (us ++ vs) q.bounds (map (shifted (length q.tests)) (joint_pattern qs).bounds)
+          (subst (λ x. AreKept x (q.bounds ++ map (shifted (length q.tests)) (joint_pattern qs).bounds)) e l) in (
             first.1 (us, b, (kept_left us vs (length q.tests) q.bounds (sym k) n).0 f),
-            rest.0 (others.1 (vs, c, (kept_right us vs (length q.tests) (joined qs).bounds (sym k)).0 g)),
+            rest.0 (others.1 (vs, c, (kept_right us vs (length q.tests) (joint_pattern qs).bounds (sym k)).0 g)),
           ),
       λ (s, h).
           let (us, b, f) = first.0 s in
@@ -113,9 +113,9 @@ joined_satisfies (q ∷ qs) cs (n, r) =
           let k : length q.tests ≡ length us = sym (met_length q.tests cs us b) in
           whole.1 (
             us ++ vs,
-            met_join q.tests (joined qs).tests cs us vs b c,
-            kept_join (us ++ vs) q.bounds (map (shifted (length q.tests)) (joined qs).bounds)
-                ((kept_left us vs (length q.tests) q.bounds k n).1 f) ((kept_right us vs (length q.tests) (joined qs).bounds k).1 g),
+            met_join q.tests (joint_pattern qs).tests cs us vs b c,
+            kept_join (us ++ vs) q.bounds (map (shifted (length q.tests)) (joint_pattern qs).bounds)
+                ((kept_left us vs (length q.tests) q.bounds k n).1 f) ((kept_right us vs (length q.tests) (joint_pattern qs).bounds k).1 g),
           ),
     )
 
@@ -136,13 +136,13 @@ length_join : {X : Type 0} (xs ys : List X) → length (xs ++ ys) ≡ length xs 
 length_join [] ys = omega arith
 length_join (x ∷ xs) ys = omega (arith, length_join xs ys)
 
-pub joined_named : (qs : List Pattern) → EachNamed qs → AreNamed (length (joined qs).tests) (joined qs).bounds
+pub joined_named : (qs : List Pattern) → EachNamed qs → AreNamed (length (joint_pattern qs).tests) (joint_pattern qs).bounds
 joined_named [] n = tt
 joined_named (q ∷ qs) (n, r) =
-    let size = length_join q.tests (joined qs).tests in
-    named_join (length (q.tests ++ (joined qs).tests)) q.bounds (map (shifted (length q.tests)) (joined qs).bounds)
-    (named_more (length q.tests) (length (q.tests ++ (joined qs).tests)) q.bounds (omega (arith, size)) n)
-    (named_shifted (length (joined qs).tests) (length q.tests) (length (q.tests ++ (joined qs).tests)) (joined qs).bounds (joined_named qs r) (omega (arith, size)))
+    let size = length_join q.tests (joint_pattern qs).tests in
+    named_join (length (q.tests ++ (joint_pattern qs).tests)) q.bounds (map (shifted (length q.tests)) (joint_pattern qs).bounds)
+    (named_more (length q.tests) (length (q.tests ++ (joint_pattern qs).tests)) q.bounds (omega (arith, size)) n)
+    (named_shifted (length (joint_pattern qs).tests) (length q.tests) (length (q.tests ++ (joint_pattern qs).tests)) (joint_pattern qs).bounds (joined_named qs r) (omega (arith, size)))
 
 neighbours_named : (i m : ℕ) (ts : List Test) → i + length ts ≤ m → AreNamed m (neighbours i ts)
 neighbours_named i m [] h = tt

@@ -6,7 +6,7 @@ use Rattle.alta_query.specs.Patterns.{Pattern, Satisfies, pattern_of}
 use Rattle.alta_query.specs.Shape.{Atom, Shape, Shapes, atom, all, any, negated, none, more}
 use Rattle.alta_query.specs.Matches.{Matches, AllMatch, AnyMatches}
 use Rattle.alta_compile.specs.Space.{Placed, IsSpace, end_of, ends_of}
-use Rattle.alta_compile.specs.Joined.{joined, SatisfiesEach}
+use Rattle.alta_compile.specs.Joined.{joint_pattern, SatisfiesEach}
 use Rattle.alta_compile.specs.Tree.{Tree, found, all_of, any_of, without, Trees, no_more, also, plan_list, plan_lists}
 use Rattle.alta_compile.specs.PlanOf.{found_of, atoms_in, all_plan, plan_of, plans_of, others_of}
 use Rattle.alta_compile.proofs.Joins.{EachNamed, joined_satisfies, joined_named, pattern_named}
@@ -39,9 +39,9 @@ module _ (space : List Placed) (s : IsSpace space) (d : Placed) (m : Has space d
   atom_law a = found_satisfies space s d m (pattern_of a) (pattern_named a)
 
   -- a list of atoms as one Found
-  pub atoms_law : (ps : List Pattern) → EachNamed ps → In (found (found_of (joined ps))) ↔ SatisfiesEach d.cells ps
+  pub atoms_law : (ps : List Pattern) → EachNamed ps → In (found (found_of (joint_pattern ps))) ↔ SatisfiesEach d.cells ps
   atoms_law ps n =
-      let one = found_satisfies space s d m (joined ps) (joined_named ps n) in let each = joined_satisfies ps d.cells n in
+      let one = found_satisfies space s d m (joint_pattern ps) (joined_named ps n) in let each = joined_satisfies ps d.cells n in
       (λ h. each.0 (one.0 h), λ h. one.1 (each.1 h))
 
   -- all parts of one at least
@@ -72,7 +72,7 @@ module _ (space : List Placed) (s : IsSpace space) (d : Placed) (m : Has space d
   and_law ps n no_more = let one = atoms_law ps n in (λ h. (one.0 h, tt), λ (h, k). one.1 h)
   and_law [] n (also t ts) = let parts = all_law t ts in (λ h. (tt, parts.0 h), λ (h, k). parts.1 k)
   and_law (p ∷ ps) n (also t ts) =
-      let one = atoms_law (p ∷ ps) n in let parts = all_law (found (found_of (joined (p ∷ ps)))) (also t ts) in
+      let one = atoms_law (p ∷ ps) n in let parts = all_law (found (found_of (joint_pattern (p ∷ ps)))) (also t ts) in
       (λ h. let (a, b) = parts.0 h in (one.0 a, b), λ (h, k). parts.1 (one.1 h, k))
 
   mutual

@@ -1,22 +1,23 @@
 -- The laws of a plan's nodes in std's words.
 use Rattle.std.proofs.Common.{◌≡◌, ap, ◌⊎◌, ⊎_elim, inl, inr, ℕ, zero, suc, List, [], ◌∷◌, refl, sym, subst, arith}
 use Rattle.std.specs.Prelude.{Contains, All, Any, ◌↔◌}
+use Rattle.std.specs.List.{filter}
 use Rattle.std.proofs.lemmas.List.Elements.{All-cons, All-head, All-tail}
 use Rattle.alta_codec.proofs.Places.{not-Contains-nil}
 use Rattle.alta_compound.specs.Union.{union_of}
 use Rattle.alta_compound.specs.Unions.{union-has, union-keeps}
-use Rattle.alta_docread.specs.Kept.{common, each_has, kept}
+use Rattle.alta_docread.specs.Kept.{common, each_has}
 use Rattle.alta_docread.specs.KeptLaws.{common-has, common-keeps}
 
 -- what all of one list have is that list
-kept-each : (l : List ℕ) → kept (each_has []) l ≡ l
-unfolding kept each_has
-kept-each [] = refl
-kept-each (x ∷ xs) = ap (λ ys. x ∷ ys) (kept-each xs)
+filter-each : (l : List ℕ) → filter (each_has []) l ≡ l
+unfolding each_has
+filter-each [] = refl
+filter-each (x ∷ xs) = ap (λ ys. x ∷ ys) (filter-each xs)
 
 pub common-one : (l : List ℕ) → common (l ∷ []) ≡ l
 unfolding common
-common-one l = kept-each l
+common-one l = filter-each l
 
 pub common-all : (l : List ℕ) (ls : List (List ℕ)) (z : ℕ) → Contains (common (l ∷ ls)) z ↔ All (λ m. Contains m z) (l ∷ ls)
 common-all l ls z = (common-has (l ∷ ls) z, common-keeps (l ∷ ls) z (omega arith))

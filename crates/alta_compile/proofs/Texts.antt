@@ -18,7 +18,7 @@ use Rattle.alta_solver.specs.Inequality.{Inequality}
 use Rattle.alta_solver.specs.declared.form.Form.{Form}
 use Rattle.alta_solver.specs.declared.form.Form.TheVariants.{LocLoc, PrevLoc, LocPrev, PrevPrev}
 use Rattle.alta_compile.specs.Explained.{low_letter, high_letter, constant, bound_line, bound_lines, test_text, tests_text, count, deeper, explained, explained_each}
-use Rattle.alta_compile.specs.Joined.{joined}
+use Rattle.alta_compile.specs.Joined.{joint_pattern}
 use Rattle.alta_compile.specs.PlanOf.{plan_of, plans_of, others_of, atoms_in, all_plan}
 use Rattle.alta_compile.specs.Tree.{Tree, found, all_of, any_of, without, Trees, no_more, also}
 
@@ -38,9 +38,9 @@ abbrev pub AreTextPatterns : List Pattern → Type 0
 AreTextPatterns [] = Unit {0}
 AreTextPatterns (p ∷ ps) = All HasTextTerm p.tests × AreTextPatterns ps
 
-joined_tests : (ps : List Pattern) → AreTextPatterns ps → All HasTextTerm (joined ps).tests
+joined_tests : (ps : List Pattern) → AreTextPatterns ps → All HasTextTerm (joint_pattern ps).tests
 joined_tests [] h = All-nil _
-joined_tests (p ∷ ps) h = All-append HasTextTerm p.tests (joined ps).tests h.0 (joined_tests ps h.1)
+joined_tests (p ∷ ps) h = All-append HasTextTerm p.tests (joint_pattern ps).tests h.0 (joined_tests ps h.1)
 
 atoms_text : (qs : Shapes) → HaveTextTerms qs → AreTextPatterns (atoms_in qs)
 atoms_text none h = tt

@@ -7,11 +7,11 @@ abbrev pub shifted : ℕ → Bound → Bound
 shifted n b = record { first = n + b.first; behind = b.behind; second = n + b.second; ahead = b.ahead }
 
 -- the tests of all patterns, one behind the other, and the bounds of each between the places of its own tests
-abbrev pub joined : List Pattern → Pattern
-joined [] = record { tests = []; bounds = [] }
-joined (p ∷ ps) = record {
-  tests = p.tests ++ (joined ps).tests;
-  bounds = p.bounds ++ map (shifted (length p.tests)) (joined ps).bounds;
+abbrev pub joint_pattern : List Pattern → Pattern
+joint_pattern [] = record { tests = []; bounds = [] }
+joint_pattern (p ∷ ps) = record {
+  tests = p.tests ++ (joint_pattern ps).tests;
+  bounds = p.bounds ++ map (shifted (length p.tests)) (joint_pattern ps).bounds;
 }
 
 -- the cells satisfy each of the patterns

@@ -4,7 +4,7 @@ use Rattle.alta_query.specs.Patterns.{Bound, Pattern, pattern_of}
 use Rattle.alta_query.specs.Shape.{Shape, Shapes, atom, all, any, negated, none, more}
 use Rattle.alta_solver.specs.Inequality.{Inequality}
 use Rattle.alta_solver.specs.declared.form.Form.TheVariants.{LocLoc, PrevLoc}
-use Rattle.alta_compile.specs.Joined.{joined}
+use Rattle.alta_compile.specs.Joined.{joint_pattern}
 use Rattle.alta_compile.specs.Tree.{FoundTree, Tree, found, all_of, any_of, without, Trees, no_more, also}
 
 -- the place of variable i is at most that of variable 0, the end of the document
@@ -38,9 +38,9 @@ atoms_in (more (negated r) qs) = atoms_in qs
 
 -- all atoms of an and make one Found; it is the plan where there is no other member, else the first part
 abbrev pub all_plan : List Pattern → Trees → Tree
-all_plan ps no_more = found (found_of (joined ps))
+all_plan ps no_more = found (found_of (joint_pattern ps))
 all_plan [] (also t ts) = all_of (also t ts)
-all_plan (p ∷ ps) (also t ts) = all_of (also (found (found_of (joined (p ∷ ps)))) (also t ts))
+all_plan (p ∷ ps) (also t ts) = all_of (also (found (found_of (joint_pattern (p ∷ ps)))) (also t ts))
 
 abbrev mutual
   pub plan_of : Shape → Tree

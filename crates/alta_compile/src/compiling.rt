@@ -5,7 +5,7 @@ ghost use Rattle.alta_query.specs.Patterns.{pattern_of};
 ghost use Rattle.alta_query.specs.Shape.{all, shapes_of};
 ghost use Rattle.alta_query.specs.View.{shape, atom_view};
 ghost use Rattle.alta_compile.specs.Drafted.{AddsMember, IsDraftOf, is_atom};
-ghost use Rattle.alta_compile.specs.Joined.{joined};
+ghost use Rattle.alta_compile.specs.Joined.{joint_pattern};
 ghost use Rattle.alta_compile.specs.PlanOf.{plan_of, plans_of, others_of, atoms_in, found_of};
 ghost use Rattle.alta_compile.specs.Space.{Placed, IsSpace, end_of};
 ghost use Rattle.alta_compile.specs.Tree as spec;
@@ -97,7 +97,7 @@ fn found(plan: FoundPlan) -> Plan
 
 /// The plan of the members that are atoms, as one.
 fn plan_atoms(alloc: Global, members: &[Query]) -> Result<FoundPlan, AllocError>
-    ensures { IfOk result (λ f. f ≡ found_of (joined (atoms_in (shapes_of (map shape members.now))))) }
+    ensures { IfOk result (λ f. f ≡ found_of (joint_pattern (atoms_in (shapes_of (map shape members.now))))) }
 {
     let draft = gather(alloc, members)?;
     draft.close(alloc)
@@ -105,7 +105,7 @@ fn plan_atoms(alloc: Global, members: &[Query]) -> Result<FoundPlan, AllocError>
 
 /// What the members that are atoms ask for together.
 fn gather(alloc: Global, members: &[Query]) -> Result<Draft, AllocError>
-    ensures { IfOk result (λ d. IsDraftOf d (joined (atoms_in (shapes_of (map shape members.now))))) }
+    ensures { IfOk result (λ d. IsDraftOf d (joint_pattern (atoms_in (shapes_of (map shape members.now))))) }
 {
     let mut draft = Draft::new(alloc);
     for member in members {

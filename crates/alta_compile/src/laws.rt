@@ -9,7 +9,7 @@ ghost use Rattle.alta_query.specs.Patterns.{Satisfies, pattern_of};
 ghost use Rattle.alta_query.specs.Shape.{Atom, Shape};
 ghost use Rattle.alta_query.specs.Texts.{HasTextTerms};
 ghost use Rattle.alta_compile.specs.Explained.{explained};
-ghost use Rattle.alta_compile.specs.Joined.{joined, SatisfiesEach};
+ghost use Rattle.alta_compile.specs.Joined.{joint_pattern, SatisfiesEach};
 ghost use Rattle.alta_compile.specs.PlanOf.{found_of, plan_of};
 ghost use Rattle.alta_compile.specs.Space.{Placed, IsSpace, end_of, ends_of};
 ghost use Rattle.alta_compile.specs.Tree.{Tree, found, without, plan_list};
@@ -25,7 +25,7 @@ pub fn one_atom()
 /// A list of atoms: the bounds of all of them together find exactly the documents that satisfy each.
 pub fn atoms_as_one()
     ensures { (space : List Placed) (d : Placed) (atoms : List Atom) → IsSpace space → Contains space d
-        → Contains (plan_list space (found (found_of (joined (map pattern_of atoms))))) (end_of d) ↔ SatisfiesEach d.cells (map pattern_of atoms) }
+        → Contains (plan_list space (found (found_of (joint_pattern (map pattern_of atoms))))) (end_of d) ↔ SatisfiesEach d.cells (map pattern_of atoms) }
 {}
 
 /// An AllOf has what all its parts have.

@@ -11,7 +11,7 @@ use Rattle.alta_codec.specs.declared.location.TheConstants.{TOP}
 use Rattle.alta_codec.proofs.Places.{first_from-is, first_from-above, first_from-least}
 use Rattle.alta_codec.specs.Rising.{first_from}
 use Rattle.alta_docread.specs.Moves.{IsKept}
-use Rattle.alta_docread.specs.Tree.{Tree, trees_of, tree_list, lists_of, tree_place, places_of, tree_all, all_in, tree_left, left_in, tree_depth, depth_in, IsAhead, AreAhead, IsSound, AreSound, IsBrought, IsMoved}
+use Rattle.alta_docread.specs.Tree.{Tree, trees_of, tree_list, lists_of, tree_place, places_of, tree_all, all_in, tree_left, left_in, tree_depth, depth_in, IsAhead, AreAhead, IsSoundTree, AreSoundTrees, IsBrought, IsMoved}
 use Rattle.alta_docread.specs.TreeLaws.{tree_stands, tree_top}
 
 -- what holds of each list holds of what is read at each tree, and the other way round
@@ -24,13 +24,13 @@ at_each f P [] h = All-nil (λ n. P (f n))
 at_each f P (n ∷ ns) h = All-cons (λ n. P (f n)) n ns (All-head (λ a. P a) (f n) (map f ns) h) (at_each f P ns (All-tail (λ a. P a) (f n) (map f ns) h))
 
 module _ {N : Type 0} (tree : N → Tree) where
-  pub sound_each : (ns : List N) → AreSound (trees_of (map tree ns)) → All (λ n. IsSound (tree n)) ns
-  sound_each [] h = All-nil (λ n. IsSound (tree n))
-  sound_each (n ∷ ns) (h, r) = All-cons (λ n. IsSound (tree n)) n ns h (sound_each ns r)
+  pub sound_each : (ns : List N) → AreSoundTrees (trees_of (map tree ns)) → All (λ n. IsSoundTree (tree n)) ns
+  sound_each [] h = All-nil (λ n. IsSoundTree (tree n))
+  sound_each (n ∷ ns) (h, r) = All-cons (λ n. IsSoundTree (tree n)) n ns h (sound_each ns r)
 
-  pub each_sound : (ns : List N) → All (λ n. IsSound (tree n)) ns → AreSound (trees_of (map tree ns))
+  pub each_sound : (ns : List N) → All (λ n. IsSoundTree (tree n)) ns → AreSoundTrees (trees_of (map tree ns))
   each_sound [] h = tt
-  each_sound (n ∷ ns) h = (All-head (λ n. IsSound (tree n)) n ns h, each_sound ns (All-tail (λ n. IsSound (tree n)) n ns h))
+  each_sound (n ∷ ns) h = (All-head (λ n. IsSoundTree (tree n)) n ns h, each_sound ns (All-tail (λ n. IsSoundTree (tree n)) n ns h))
 
   pub ahead_each : (at : ℕ) (ns : List N) → AreAhead at (trees_of (map tree ns)) → All (λ n. IsAhead at (tree_list (tree n)) (tree_place (tree n))) ns
   ahead_each at [] h = All-nil (λ n. IsAhead at (tree_list (tree n)) (tree_place (tree n)))
@@ -71,7 +71,7 @@ module _ {N : Type 0} (tree : N → Tree) where
   depth_at (n ∷ ns) zero d l = omega arith
   depth_at (n ∷ ns) (suc k) d l = omega (arith, depth_at ns k d (omega arith))
 
-  pub kept_start : (ns : List N) (steps : ℕ) → All (λ n. IsSound (tree n)) ns → IsKept tree ns ns steps steps
+  pub kept_start : (ns : List N) (steps : ℕ) → All (λ n. IsSoundTree (tree n)) ns → IsKept tree ns ns steps steps
   kept_start ns steps s = record { sound = s; lists = refl; alls = refl; depth = refl; left = omega arith; steps = omega arith }
 
   pub kept_on : (os ms ns : List N) (before mid after : ℕ) → IsKept tree os ms before mid → IsKept tree ms ns mid after → IsKept tree os ns before after
@@ -89,11 +89,11 @@ module _ {N : Type 0} (tree : N → Tree) where
       → sum_by (λ n. tree_left (tree n)) (set ns i r) + tree_left (tree d) ≡ sum_by (λ n. tree_left (tree n)) ns + tree_left (tree r)
   left_set ns i r d w e = omega (arith, sum_by-set (λ n. tree_left (tree n)) ns i r d w, ap (λ n. tree_left (tree n)) e)
 
-  pub kept_set : (ns : List N) (i : ℕ) (r d : N) (to before after : ℕ) → i < length ns → d ≡ get_or ns i d → All (λ n. IsSound (tree n)) ns
+  pub kept_set : (ns : List N) (i : ℕ) (r d : N) (to before after : ℕ) → i < length ns → d ≡ get_or ns i d → All (λ n. IsSoundTree (tree n)) ns
       → IsMoved (tree d) (tree r) to before after → IsKept tree ns (set ns i r) before after
   kept_set ns i r d to before after w e s m =
       record {
-        sound = All-set (λ n. IsSound (tree n)) ns i r m.sound s;
+        sound = All-set (λ n. IsSoundTree (tree n)) ns i r m.sound s;
         lists = map-set_same (λ n. tree_list (tree n)) ns i r d (m.list ∙ ap (λ n. tree_list (tree n)) e);
         alls = map-set_same (λ n. tree_all (tree n)) ns i r d (m.all ∙ ap (λ n. tree_all (tree n)) e);
         depth = depth_set ns i r d w (m.depth ∙ ap (λ n. tree_depth (tree n)) e);
@@ -120,7 +120,7 @@ brought_upto old new to z b m low h =
     ⊎_elim (λ lt. omega (arith, b.goes lt, first_from-least (tree_list old) to z m h)) (λ ge. omega (arith, b.stays ge, low)) (cases_lt (tree_place old) to)
 
 -- one that had passed none before stands at the first
-pub brought_ahead : (old new : Tree) (to : ℕ) → IsSound old → 0 < to → IsAhead to (tree_list old) (tree_place old) → IsBrought old new to
+pub brought_ahead : (old new : Tree) (to : ℕ) → IsSoundTree old → 0 < to → IsAhead to (tree_list old) (tree_place old) → IsBrought old new to
     → tree_place new ≡ first_from (tree_list old) to
 brought_ahead old new to s some ahead b =
     ⊎_elim (λ lt. b.goes lt)
@@ -128,7 +128,7 @@ brought_ahead old new to s some ahead b =
     (cases_lt (tree_place old) to)
 
 -- a tree that stands at or above `to` has moved there
-pub moved_still : (t : Tree) (to steps : ℕ) → IsSound t → to ≤ tree_place t → IsMoved t t to steps steps
+pub moved_still : (t : Tree) (to steps : ℕ) → IsSoundTree t → to ≤ tree_place t → IsMoved t t to steps steps
 moved_still t to steps s le =
     record {
       sound = s;
@@ -142,7 +142,7 @@ moved_still t to steps s le =
       steps = omega arith;
     }
 
-pub moved_begun : (old new : Tree) (to before after : ℕ) → IsMoved old new to before after → 0 < to → to ≤ TOP → IsSound new × (0 < tree_place new)
+pub moved_begun : (old new : Tree) (to before after : ℕ) → IsMoved old new to before after → 0 < to → to ≤ TOP → IsSoundTree new × (0 < tree_place new)
 moved_begun old new to before after m some top = (m.sound, omega (arith, brought_on old new to top m.place, some))
 
 -- what is the same in two lists of trees is the same at each index

@@ -11,7 +11,7 @@ use Rattle.alta_codec.proofs.Places.{first_from-is}
 use Rattle.alta_docread.specs.Kept.{common}
 use Rattle.alta_docread.specs.KeptLaws.{common-has, common-keeps}
 use Rattle.alta_docread.specs.Moves.{IsKept, IsPassed, IsJoined}
-use Rattle.alta_docread.specs.Tree.{Tree, trees_of, all_of, tree_list, lists_of, tree_place, places_of, greatest_of, tree_left, IsSound, IsAgreed, IsMoved}
+use Rattle.alta_docread.specs.Tree.{Tree, trees_of, all_of, tree_list, lists_of, tree_place, places_of, greatest_of, tree_left, IsSoundTree, IsAgreed, IsMoved}
 use Rattle.alta_docread.specs.TreeLaws.{tree_stands, tree_top}
 use Rattle.alta_docread.proofs.Each.{of_each, at_each, each_sound, lists_each, places_each, all_each, left_each, kept_start, kept_on, kept_set, kept_length, left_set, brought_on, brought_later, brought_upto}
 
@@ -48,7 +48,7 @@ module _ {N : Type 0} (tree : N → Tree) where
     pub falls : (i ≡ 0) ⊎ (All (λ n. 0 < tree_place (tree n)) os → All (λ n. tree_place (tree n) < goal) os
         → sum_by (λ n. tree_left (tree n)) ns < sum_by (λ n. tree_left (tree n)) os)
 
-  pub passing_start : (ns : List N) (goal steps : ℕ) → goal ≤ TOP → All (λ n. IsSound (tree n)) ns → IsPassing ns ns goal TOP goal 0 steps steps
+  pub passing_start : (ns : List N) (goal steps : ℕ) → goal ≤ TOP → All (λ n. IsSoundTree (tree n)) ns → IsPassing ns ns goal TOP goal 0 steps steps
   passing_start ns goal steps top s =
       record {
         kept = kept_start tree ns steps s;
@@ -122,7 +122,7 @@ module _ {N : Type 0} (tree : N → Tree) where
         × (All (λ n. 0 < tree_place (tree n)) os → All (λ n. tree_place (tree n) < to) os
         → sum_by (λ n. tree_left (tree n)) ns < sum_by (λ n. tree_left (tree n)) os))
 
-  pub agreeing_start : (ns : List N) (to steps : ℕ) → to ≤ TOP → All (λ n. IsSound (tree n)) ns → IsAgreeing ns ns to to steps steps
+  pub agreeing_start : (ns : List N) (to steps : ℕ) → to ≤ TOP → All (λ n. IsSoundTree (tree n)) ns → IsAgreeing ns ns to to steps steps
   agreeing_start ns to steps top s =
       record {
         kept = kept_start tree ns steps s;
@@ -177,7 +177,7 @@ module _ {N : Type 0} (tree : N → Tree) where
           falls = on_falls;
         }
 
-  all_here : (ns : List N) (at : ℕ) → 0 < at → at < TOP → All (λ n. IsSound (tree n)) ns → All (λ n. tree_place (tree n) ≡ at) ns
+  all_here : (ns : List N) (at : ℕ) → 0 < at → at < TOP → All (λ n. IsSoundTree (tree n)) ns → All (λ n. tree_place (tree n) ≡ at) ns
       → All (λ l. Contains l at) (map (λ n. tree_list (tree n)) ns)
   all_here ns at begun lt s same =
       of_each (λ n. tree_list (tree n)) (λ l. Contains l at) ns
@@ -185,7 +185,7 @@ module _ {N : Type 0} (tree : N → Tree) where
       ⊎_elim (λ m. subst (λ v. Contains (tree_list t) v) e m) (λ top. absurd (omega (arith, top, e, lt))) (tree_stands t (s k d l) (omega (arith, e, begun))))
 
   -- trees that stand at one place have moved there as their intersection
-  module _ (os ns : List N) (to at before after : ℕ) (some : 0 < to) (top : to ≤ TOP) (s : IsSound (all_of (trees_of (map tree os))))
+  module _ (os ns : List N) (to at before after : ℕ) (some : 0 < to) (top : to ≤ TOP) (s : IsSoundTree (all_of (trees_of (map tree os))))
       (m : IsJoined tree os ns to at before after) where
     -- where the intersection stood
     abbrev stood : ℕ

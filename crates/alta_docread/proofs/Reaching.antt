@@ -12,7 +12,7 @@ use Rattle.alta_compound.specs.Union.{union_of, least_of}
 use Rattle.alta_compound.specs.OverReaders.{in_step_after, least_of-le, has_place}
 use Rattle.alta_compound.proofs.Moving.{same_map}
 use Rattle.alta_docread.specs.Moves.{IsKept, IsReached}
-use Rattle.alta_docread.specs.Tree.{Tree, trees_of, any_of, tree_list, lists_of, tree_place, places_of, tree_left, IsAhead, AreAhead, IsStanding, IsSound, IsBrought, IsMoved}
+use Rattle.alta_docread.specs.Tree.{Tree, trees_of, any_of, tree_list, lists_of, tree_place, places_of, tree_left, IsAhead, AreAhead, IsStanding, IsSoundTree, IsBrought, IsMoved}
 use Rattle.alta_docread.proofs.Each.{of_each, sound_each, each_sound, ahead_each, each_ahead, lists_each, places_each, all_each, left_each, kept_start, kept_on, kept_set, kept_length, left_set, brought_ahead, same_at}
 
 least_of-push : (xs : List ℕ) (x : ℕ) → least_of (xs ++ x ∷ []) ≡ min (least_of xs) x
@@ -35,7 +35,7 @@ module _ {N : Type 0} (tree : N → Tree) where
     pub falls : 0 < least_of (map (λ n. tree_place (tree n)) os)
         → All (λ n. to ≤ tree_place (tree n)) (take i os) ⊎ (sum_by (λ n. tree_left (tree n)) ns < sum_by (λ n. tree_left (tree n)) os)
 
-  pub reaching_start : (ns : List N) (to steps : ℕ) → All (λ n. IsSound (tree n)) ns → IsReaching ns ns to TOP 0 steps steps
+  pub reaching_start : (ns : List N) (to steps : ℕ) → All (λ n. IsSoundTree (tree n)) ns → IsReaching ns ns to TOP 0 steps steps
   reaching_start ns to steps s =
       record {
         kept = kept_start tree ns steps s;
@@ -97,7 +97,7 @@ module _ {N : Type 0} (tree : N → Tree) where
     pub goes : at < to → least_of (map (λ n. tree_place (tree n)) ns) ≡ first_from (union_of (map (λ n. tree_list (tree n)) os)) to
     pub stays : to ≤ at → least_of (map (λ n. tree_place (tree n)) ns) ≡ at
 
-  risen_below : (os ns : List N) (to at least before after : ℕ) → 0 < to → to ≤ TOP → at < to → All (λ n. IsSound (tree n)) os
+  risen_below : (os ns : List N) (to at least before after : ℕ) → 0 < to → to ≤ TOP → at < to → All (λ n. IsSoundTree (tree n)) os
       → All (λ n. IsAhead at (tree_list (tree n)) (tree_place (tree n))) os → IsReached tree os ns to least before after → IsRisen os ns to at
   risen_below os ns to at least before after some top lt s a m =
       let place = λ (n : N). tree_place (tree n) in let list = λ (n : N). tree_list (tree n) in
@@ -137,7 +137,7 @@ module _ {N : Type 0} (tree : N → Tree) where
       }
 
   -- trees that were each brought to a place have moved there as their union
-  pub moved_any : (os ns : List N) (to least before after : ℕ) → 0 < to → to ≤ TOP → IsSound (any_of (trees_of (map tree os))) → IsReached tree os ns to least before after
+  pub moved_any : (os ns : List N) (to least before after : ℕ) → 0 < to → to ≤ TOP → IsSoundTree (any_of (trees_of (map tree os))) → IsReached tree os ns to least before after
       → IsMoved (any_of (trees_of (map tree os))) (any_of (trees_of (map tree ns))) to before after
   moved_any os ns to least before after some top s m =
       let place = λ (n : N). tree_place (tree n) in let list = λ (n : N). tree_list (tree n) in

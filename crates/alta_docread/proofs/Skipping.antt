@@ -9,13 +9,13 @@ use Rattle.alta_codec.proofs.Places.{first_from-is, first_from-above, first_from
 use Rattle.alta_docread.specs.Kept.{less}
 use Rattle.alta_docread.specs.KeptLaws.{less-has}
 use Rattle.alta_docread.specs.Moves.{IsAsked, IsSkipped}
-use Rattle.alta_docread.specs.Tree.{Reading, Tree, without, tree_list, tree_place, tree_all, tree_left, tree_depth, IsAhead, IsApart, IsSound, IsMoved}
+use Rattle.alta_docread.specs.Tree.{Reading, Tree, without, tree_list, tree_place, tree_all, tree_left, tree_depth, IsAhead, IsApart, IsSoundTree, IsMoved}
 use Rattle.alta_docread.specs.TreeLaws.{tree_rises}
 use Rattle.alta_docread.proofs.Each.{brought_ahead}
 
 -- The ends have gone on to some end at or above `to`, and each below it from `to` on is in the tree's list.
 pub record IsSkipping (r s : Reading) (old new : Tree) (to before after : ℕ) : Type 0 where
-  pub sound : IsSound new
+  pub sound : IsSoundTree new
   pub ends : s.list ≡ r.list
   pub list : tree_list new ≡ tree_list old
   pub ends_all : s.all ≡ r.all
@@ -31,10 +31,10 @@ pub record IsSkipping (r s : Reading) (old new : Tree) (to before after : ℕ) :
   pub steps : after + (s.left + tree_left new) ≤ before + (r.left + tree_left old)
 
 -- an element of the tree's list is below TOP
-pub below_top : (t : Tree) (z : ℕ) → IsSound t → Contains (tree_list t) z → z < TOP
+pub below_top : (t : Tree) (z : ℕ) → IsSoundTree t → Contains (tree_list t) z → z < TOP
 below_top t z s (k, l, e) = omega (arith, (tree_rises t s).below k l, get_or_default (tree_list t) k z 0 l, e)
 
-pub asked_top : (t : Tree) (end steps : ℕ) → end ≡ TOP → IsSound t → IsAhead end (tree_list t) (tree_place t) → IsAsked t t end false steps steps
+pub asked_top : (t : Tree) (end steps : ℕ) → end ≡ TOP → IsSoundTree t → IsAhead end (tree_list t) (tree_place t) → IsAsked t t end false steps steps
 asked_top t end steps e s a =
     record {
       sound = s;
@@ -47,7 +47,7 @@ asked_top t end steps e s a =
       steps = omega arith;
     }
 
-pub asked_moved : (old new : Tree) (end : ℕ) (answer : Bool) (before after : ℕ) → IsSound old → 0 < end → end < TOP → IsAhead end (tree_list old) (tree_place old)
+pub asked_moved : (old new : Tree) (end : ℕ) (answer : Bool) (before after : ℕ) → IsSoundTree old → 0 < end → end < TOP → IsAhead end (tree_list old) (tree_place old)
     → (IsTrue answer ↔ (tree_place new ≡ end)) → IsMoved old new end before after → IsAsked old new end answer before after
 asked_moved old new end answer before after s some lt low w m =
     let list = tree_list old in let place = brought_ahead old new end s some low m.place in
@@ -67,7 +67,7 @@ asked_moved old new end answer before after s some lt low w m =
     }
 
 module _ (r s : Reading) (old : Tree) (to before after : ℕ) where
-  pub skipping_start : IsSound old → IsAhead to (tree_list old) (tree_place old) → to ≤ TOP
+  pub skipping_start : IsSoundTree old → IsAhead to (tree_list old) (tree_place old) → to ≤ TOP
       → s.list ≡ r.list → s.all ≡ r.all → IsRising s.list → s.place ≡ first_from r.list to
       → s.left ≤ r.left → (r.place < to → s.left < r.left) → after + s.left ≤ before + r.left
       → IsSkipping r s old old to before after
@@ -152,7 +152,7 @@ place_first : (list : List ℕ) (at : ℕ) → IsPlace list at → at ≤ TOP �
 place_first list at p top = first_from-is list at at p top (omega arith) (λ z m h. h)
 
 -- ends that went on have moved as their difference
-pub moved_without : (r s : Reading) (old new : Tree) (at to next before after : ℕ) → at < to → IsSound (without at r old) → IsSkipped r s old new to next before after
+pub moved_without : (r s : Reading) (old new : Tree) (at to next before after : ℕ) → at < to → IsSoundTree (without at r old) → IsSkipped r s old new to next before after
     → IsMoved (without at r old) (without next s new) to before after
 moved_without r s old new at to next before after above sound m =
     let lists : less s.list (tree_list new) ≡ less r.list (tree_list old) = ap (λ l. less l (tree_list new)) m.ends ∙ ap (λ l. less r.list l) m.list in

@@ -13,7 +13,7 @@ use Rattle.alta_solver.proofs.Raised.{first_from-le_place}
 use Rattle.alta_docread.specs.Kept.{less, common}
 use Rattle.alta_docread.specs.KeptLaws.{common-has}
 use Rattle.alta_docread.specs.Solutions.{IsWalking}
-use Rattle.alta_docread.specs.Tree.{Tree, Trees, found, all_of, any_of, without, none, more, tree_list, lists_of, tree_place, greatest_of, places_of, IsAhead, AreAhead, IsStanding, IsSound, AreSound, IsUnmoved, AreUnmoved}
+use Rattle.alta_docread.specs.Tree.{Tree, Trees, found, all_of, any_of, without, none, more, tree_list, lists_of, tree_place, greatest_of, places_of, IsAhead, AreAhead, IsStanding, IsSoundTree, AreSoundTrees, IsUnmoved, AreUnmoved}
 
 -- no solution lies below the first places
 walking_first : (lists : List (List ℕ)) (bounds : List Inequality) (places : List ℕ) (at : ℕ) → at ≡ 0 → places ≡ map (λ l. first_from l 0) lists
@@ -42,7 +42,7 @@ pub ahead_nowhere : (at : ℕ) (list : List ℕ) (place : ℕ) → IsNowhere pla
 ahead_nowhere at list place n z m h = ⊎_elim (λ e. omega (arith, e)) (λ t. absurd (t.1 z m)) n
 
 mutual
-  pub unmoved_sound : (t : Tree) → IsUnmoved t → IsSound t × IsNowhere (tree_place t) (tree_list t)
+  pub unmoved_sound : (t : Tree) → IsUnmoved t → IsSoundTree t × IsNowhere (tree_place t) (tree_list t)
   unmoved_sound (found w) (z, e, some, r, held) = (
     record {
       walking = walking_first w.lists w.bounds w.places w.at z e;
@@ -95,7 +95,7 @@ mutual
     inl z,
   )
 
-  unmoved_each : (ts : Trees) → AreUnmoved ts → AreSound ts
+  unmoved_each : (ts : Trees) → AreUnmoved ts → AreSoundTrees ts
   unmoved_each none u = tt
   unmoved_each (more t ts) (u, us) = ((unmoved_sound t u).0, unmoved_each ts us)
 

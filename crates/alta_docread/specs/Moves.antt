@@ -4,11 +4,11 @@ use Rattle.alta_codec.specs.declared.location.TheConstants.{TOP}
 use Rattle.alta_codec.specs.Rising.{IsRising, first_from}
 use Rattle.alta_compound.specs.Union.{least_of}
 use Rattle.alta_docread.specs.Kept.{less}
-use Rattle.alta_docread.specs.Tree.{Reading, Tree, trees_of, tree_list, tree_place, tree_all, tree_left, tree_depth, depth_in, IsAhead, IsSound, IsBrought}
+use Rattle.alta_docread.specs.Tree.{Reading, Tree, trees_of, tree_list, tree_place, tree_all, tree_left, tree_depth, depth_in, IsAhead, IsSoundTree, IsBrought}
 
 -- each tree is sound and reads what it read; what is left of all fell at least by the steps
 pub record IsKept {N : Type 0} (tree : N → Tree) (os ns : List N) (before after : ℕ) : Type 0 where
-  pub sound : All (λ n. IsSound (tree n)) ns
+  pub sound : All (λ n. IsSoundTree (tree n)) ns
   pub lists : map (λ n. tree_list (tree n)) ns ≡ map (λ n. tree_list (tree n)) os
   pub alls : map (λ n. tree_all (tree n)) ns ≡ map (λ n. tree_all (tree n)) os
   pub depth : depth_in (trees_of (map tree ns)) ≡ depth_in (trees_of (map tree os))
@@ -53,7 +53,7 @@ pub record IsJoined {N : Type 0} (tree : N → Tree) (os ns : List N) (to at bef
 
 -- the tree answered whether its list has the end
 pub record IsAsked (old new : Tree) (end : ℕ) (answer : Bool) (before after : ℕ) : Type 0 where
-  pub sound : IsSound new
+  pub sound : IsSoundTree new
   pub list : tree_list new ≡ tree_list old
   pub all : tree_all new ≡ tree_all old
   pub depth : tree_depth new ≡ tree_depth old
@@ -64,7 +64,7 @@ pub record IsAsked (old new : Tree) (end : ℕ) (answer : Bool) (before after : 
 
 -- the ends went on to the first at or above `to` that the tree's list does not have
 pub record IsSkipped (r s : Reading) (old new : Tree) (to at before after : ℕ) : Type 0 where
-  pub sound : IsSound new
+  pub sound : IsSoundTree new
   pub ends : s.list ≡ r.list
   pub list : tree_list new ≡ tree_list old
   pub ends_all : s.all ≡ r.all

@@ -1,6 +1,7 @@
 -- Laws of the first places of all solutions.
 use Rattle.std.proofs.Common.{◌≡◌, ⊎_elim, inl, inr, ℕ, zero, suc, ◌+◌, ◌<◌, ◌≤◌, Bool, true, ◌&&◌, nat_eq, List, [], ◌∷◌, ◌++◌, length, refl, sym, subst, ap, ◌∙◌, arith}
 use Rattle.std.specs.Prelude.{Contains, All, slice_index, ◌↔◌}
+use Rattle.std.specs.List.{list_any}
 use Rattle.std.proofs.lemmas.List.{get_or_default}
 use Rattle.std.proofs.lemmas.List.Elements.{All-nil, All-cons, All-head, All-tail, Contains-append_cases, Contains-append_left, Contains-append_right}
 use Rattle.std.proofs.lemmas.Bool.{cases_lt}
@@ -10,22 +11,20 @@ use Rattle.alta_codec.proofs.Places.{Contains-head, Contains-tail, Contains-case
 use Rattle.alta_solver.specs.Inequality.{Inequality}
 use Rattle.alta_solver.specs.declared.form.Form.TheVariants.{LocLoc, PrevLoc}
 use Rattle.alta_solver.specs.Solution.{low_side, high_side, list_at, Holds, IsSolution}
-use Rattle.alta_docread.specs.KeptLaws.{true_or_false, kept-has, kept-keeps, kept-rises}
-use Rattle.alta_docread.specs.Solutions.{some, some_row, keeps_all, leads, found_list, Leads, IsHeld, Walk, walk_list, IsSoundWalk}
+use Rattle.alta_docread.specs.KeptLaws.{true_or_false, filter-has, filter-keeps, filter-rises}
+use Rattle.alta_docread.specs.Solutions.{some_row, keeps_all, leads, found_list, Leads, IsHeld, Walk, walk_list, IsSoundWalk}
 
-some-has : (p : ℕ → Bool) (xs : List ℕ) → some p xs ≡ true → (x : ℕ) × Contains xs x × (p x ≡ true)
-unfolding some
-some-has p [] h = absurd cc
-some-has p (x ∷ xs) h =
+any-has : (p : ℕ → Bool) (xs : List ℕ) → list_any p xs ≡ true → (x : ℕ) × Contains xs x × (p x ≡ true)
+any-has p [] h = absurd cc
+any-has p (x ∷ xs) h =
     ⊎_elim (λ yes. (x, Contains-head x xs, yes))
-    (λ no. let rest : some p xs ≡ true = grind (arith, h, no) in let (z, m, e) = some-has p xs rest in (z, Contains-tail x xs z m, e))
+    (λ no. let rest : list_any p xs ≡ true = grind (arith, h, no) in let (z, m, e) = any-has p xs rest in (z, Contains-tail x xs z m, e))
     (true_or_false (p x))
 
-has-some : (p : ℕ → Bool) (xs : List ℕ) (x : ℕ) → Contains xs x → p x ≡ true → some p xs ≡ true
-unfolding some
-has-some p [] x m h = absurd (not-Contains-nil x m)
-has-some p (y ∷ ys) x m h =
-    ⊎_elim (λ e. let here : p y ≡ true = ap p e ∙ h in grind (arith, here)) (λ n. grind (arith, has-some p ys x n h)) (Contains-cases y ys x m)
+has-any : (p : ℕ → Bool) (xs : List ℕ) (x : ℕ) → Contains xs x → p x ≡ true → list_any p xs ≡ true
+has-any p [] x m h = absurd (not-Contains-nil x m)
+has-any p (y ∷ ys) x m h =
+    ⊎_elim (λ e. let here : p y ≡ true = ap p e ∙ h in grind (arith, here)) (λ n. grind (arith, has-any p ys x n h)) (Contains-cases y ys x m)
 
 -- a place of each list
 abbrev IsRow : List (List ℕ) → List ℕ → Type 0
@@ -48,7 +47,7 @@ some_row-has : (ls : List (List ℕ)) (p : List ℕ → Bool) → some_row ls p 
 unfolding some_row
 some_row-has [] p h = ([], tt, h)
 some_row-has (l ∷ ls) p h =
-    let (x, m, e) = some-has (λ x. some_row ls (λ row. p (x ∷ row))) (l ++ TOP ∷ []) h in
+    let (x, m, e) = any-has (λ x. some_row ls (λ row. p (x ∷ row))) (l ++ TOP ∷ []) h in
     let (row, r, f) = some_row-has ls (λ row. p (x ∷ row)) e in
     (x ∷ row, (place-in l x m, r), f)
 
@@ -58,7 +57,7 @@ has-some_row [] p [] r h = h
 has-some_row [] p (x ∷ xs) r h = absurd r
 has-some_row (l ∷ ls) p [] r h = absurd r
 has-some_row (l ∷ ls) p (x ∷ xs) (m, r) h =
-    has-some (λ x. some_row ls (λ row. p (x ∷ row))) (l ++ TOP ∷ []) x (in-place l x m) (has-some_row ls (λ row. p (x ∷ row)) xs r h)
+    has-any (λ x. some_row ls (λ row. p (x ∷ row))) (l ++ TOP ∷ []) x (in-place l x m) (has-some_row ls (λ row. p (x ∷ row)) xs r h)
 
 row-sized : (ls : List (List ℕ)) (x : List ℕ) → IsRow ls x → length x ≡ length ls
 row-sized [] [] r = refl
@@ -95,7 +94,7 @@ holds-keeps lists x (b ∷ bs) h =
 pub found-leads : (lists : List (List ℕ)) (bounds : List Inequality) (e : ℕ) → Contains (found_list lists bounds) e → Leads lists bounds e
 unfolding found_list
 found-leads lists bounds e m =
-    let k = kept-has (leads lists bounds) (list_at lists 0) e m in
+    let k = filter-has (leads lists bounds) (list_at lists 0) e m in
     let below : e < TOP = grind (arith, k.1) in
     let some : some_row lists (λ x. nat_eq (slice_index x 0) e && keeps_all lists x bounds) ≡ true = grind (arith, k.1) in
     let (x, row, h) = some_row-has lists (λ x. nat_eq (slice_index x 0) e && keeps_all lists x bounds) some in
@@ -121,7 +120,7 @@ leads-found lists bounds x some s =
     let row : some_row lists (λ y. nat_eq (slice_index y 0) e && keeps_all lists y bounds) ≡ true =
     has-some_row lists (λ y. nat_eq (slice_index y 0) e && keeps_all lists y bounds) x (row-from lists x s.sized s.places) (grind (arith, here, all)) in
     let below : e < TOP = s.led in
-    kept-keeps (leads lists bounds) (list_at lists 0) e
+    filter-keeps (leads lists bounds) (list_at lists 0) e
     (⊎_elim (λ m. m) (λ t. absurd (omega (arith, t, s.led))) (s.places 0 some)) (grind (arith, below, row))
 
 pub found-is : (lists : List (List ℕ)) (bounds : List Inequality) → 0 < length lists → (e : ℕ) → Contains (found_list lists bounds) e ↔ Leads lists bounds e
@@ -132,7 +131,7 @@ found-is lists bounds some e = (
 
 pub found-rises : (lists : List (List ℕ)) (bounds : List Inequality) → IsRising (list_at lists 0) → IsRising (found_list lists bounds)
 unfolding found_list
-found-rises lists bounds r = kept-rises (leads lists bounds) (list_at lists 0) r
+found-rises lists bounds r = filter-rises (leads lists bounds) (list_at lists 0) r
 
 -- a walk that has begun stands at a first place of a solution, or at TOP
 pub walk_place : (w : Walk) → IsSoundWalk w → 0 < w.at → IsPlace (walk_list w) w.at

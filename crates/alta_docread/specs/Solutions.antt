@@ -1,29 +1,21 @@
 -- The list of the places of the first variable over all solutions.
-use Rattle.std.specs.Prelude.{◌≡◌, ◌⊎◌, ℕ, ◌+◌, ◌<◌, ◌≤◌, Bool, true, ◌||◌, ◌&&◌, nat_eq, nat_le, nat_lt, false, List, [], ◌∷◌, ◌++◌, length, slice_index, Any}
-use Rattle.std.specs.List.{concat}
+use Rattle.std.specs.Prelude.{◌≡◌, ◌⊎◌, ℕ, ◌+◌, ◌<◌, ◌≤◌, Bool, ◌&&◌, nat_eq, nat_le, nat_lt, List, [], ◌∷◌, ◌++◌, length, slice_index, Any}
+use Rattle.std.specs.List.{concat, filter, list_all, list_any}
 use Rattle.alta_codec.specs.declared.location.TheConstants.{TOP}
 use Rattle.alta_codec.specs.Rising.{IsRising, first_from, count_from}
 use Rattle.alta_solver.specs.Inequality.{Inequality}
 use Rattle.alta_solver.specs.declared.form.Form.TheVariants.{LocLoc, PrevLoc}
 use Rattle.alta_solver.specs.Solution.{low_side, high_side, list_at, IsSolution, IsAtLeast}
-use Rattle.alta_docread.specs.Kept.{kept}
-
--- whether some element passes the test
-unfoldable pub some : (ℕ → Bool) → List ℕ → Bool
-some p [] = false
-some p (x ∷ xs) = p x || some p xs
 
 -- whether the test passes some row of one place of each list, or TOP
 unfoldable pub some_row : List (List ℕ) → (List ℕ → Bool) → Bool
 some_row [] p = p []
-some_row (l ∷ ls) p = some (λ x. some_row ls (λ row. p (x ∷ row))) (l ++ TOP ∷ [])
+some_row (l ∷ ls) p = list_any (λ x. some_row ls (λ row. p (x ∷ row))) (l ++ TOP ∷ [])
 
 -- whether each bound holds
 unfoldable pub keeps_all : List (List ℕ) → List ℕ → List Inequality → Bool
-keeps_all lists x [] = true
-keeps_all lists x (b ∷ bs) =
-    nat_le (low_side b.form (list_at lists b.i) (slice_index x b.i) + b.minus) (high_side b.form (list_at lists b.j) (slice_index x b.j) + b.plus)
-    && keeps_all lists x bs
+keeps_all lists x bounds =
+    list_all (λ b. nat_le (low_side b.form (list_at lists b.i) (slice_index x b.i) + b.minus) (high_side b.form (list_at lists b.j) (slice_index x b.j) + b.plus)) bounds
 
 -- whether a solution has this first place
 abbrev pub leads : List (List ℕ) → List Inequality → ℕ → Bool
@@ -31,7 +23,7 @@ leads lists bounds e = nat_lt e TOP && some_row lists (λ x. nat_eq (slice_index
 
 -- the first places of all solutions
 unfoldable pub found_list : List (List ℕ) → List Inequality → List ℕ
-found_list lists bounds = kept (leads lists bounds) (list_at lists 0)
+found_list lists bounds = filter (leads lists bounds) (list_at lists 0)
 
 -- a solution with this first place
 abbrev pub Leads : List (List ℕ) → List Inequality → ℕ → Type 0

@@ -148,15 +148,15 @@ pub record IsApart (r : Reading) (t : Tree) (at : ℕ) : Type 0 where
 
 abbrev mutual
   -- what each tree keeps from its making on
-  pub IsSound : Tree → Type 0
-  IsSound (found w) = IsSoundWalk w
-  IsSound (all_of ts) = AreSound ts × IsAgreed ts (greatest_of (places_of ts))
-  IsSound (any_of ts) = AreSound ts × IsUnited ts (least_of (places_of ts))
-  IsSound (without at r t) = IsSound t × IsApart r t at
+  pub IsSoundTree : Tree → Type 0
+  IsSoundTree (found w) = IsSoundWalk w
+  IsSoundTree (all_of ts) = AreSoundTrees ts × IsAgreed ts (greatest_of (places_of ts))
+  IsSoundTree (any_of ts) = AreSoundTrees ts × IsUnited ts (least_of (places_of ts))
+  IsSoundTree (without at r t) = IsSoundTree t × IsApart r t at
 
-  pub AreSound : Trees → Type 0
-  AreSound none = Unit {0}
-  AreSound (more t ts) = IsSound t × AreSound ts
+  pub AreSoundTrees : Trees → Type 0
+  AreSoundTrees none = Unit {0}
+  AreSoundTrees (more t ts) = IsSoundTree t × AreSoundTrees ts
 
 -- the tree went on to the first place of its list at or above `to`, or stayed where it stood there already
 pub record IsBrought (old new : Tree) (to : ℕ) : Type 0 where
@@ -165,7 +165,7 @@ pub record IsBrought (old new : Tree) (to : ℕ) : Type 0 where
 
 -- the tree reads what it read and was brought to `to`, with the counter of steps before and after
 pub record IsMoved (old new : Tree) (to before after : ℕ) : Type 0 where
-  pub sound : IsSound new
+  pub sound : IsSoundTree new
   pub list : tree_list new ≡ tree_list old
   pub all : tree_all new ≡ tree_all old
   pub depth : tree_depth new ≡ tree_depth old

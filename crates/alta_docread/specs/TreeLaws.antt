@@ -8,7 +8,7 @@ use Rattle.alta_compound.specs.Union.{union_of, union}
 use Rattle.alta_compound.specs.Unions.{union-rises, above_from_rising, rising_from_above}
 use Rattle.alta_docread.specs.KeptLaws.{less-rises, common-rises}
 use Rattle.alta_docread.specs.SolutionLaws.{walk_rises, walk_place, walk_within}
-use Rattle.alta_docread.specs.Tree.{Tree, Trees, found, all_of, any_of, without, none, more, tree_list, lists_of, tree_place, reader_places, tree_all, tree_left, IsOneFound, IsSound, AreSound}
+use Rattle.alta_docread.specs.Tree.{Tree, Trees, found, all_of, any_of, without, none, more, tree_list, lists_of, tree_place, reader_places, tree_all, tree_left, IsOneFound, IsSoundTree, AreSoundTrees}
 
 pub union-all-rises : (ls : List (List ℕ)) → All (λ l. IsRising l) ls → IsRising (union_of ls)
 unfolding union_of
@@ -19,37 +19,37 @@ union-all-rises (l ∷ ls) r =
     (above_from_rising (union_of ls) (union-all-rises ls (All-tail (λ l. IsRising l) l ls r))))
 
 mutual
-  pub tree_rises : (t : Tree) → IsSound t → IsRising (tree_list t)
+  pub tree_rises : (t : Tree) → IsSoundTree t → IsRising (tree_list t)
   tree_rises (found w) s = walk_rises w s
   tree_rises (all_of ts) s = common-rises (lists_of ts) (trees_rise ts s.0)
   tree_rises (any_of ts) s = union-all-rises (lists_of ts) (trees_rise ts s.0)
   tree_rises (without at r t) s = less-rises r.list (tree_list t) s.1.rising
 
-  trees_rise : (ts : Trees) → AreSound ts → All (λ l. IsRising l) (lists_of ts)
+  trees_rise : (ts : Trees) → AreSoundTrees ts → All (λ l. IsRising l) (lists_of ts)
   trees_rise none s = All-nil (λ l. IsRising l)
   trees_rise (more t ts) s = All-cons (λ l. IsRising l) (tree_list t) (lists_of ts) (tree_rises t s.0) (trees_rise ts s.1)
 
-pub tree_stands : (t : Tree) → IsSound t → 0 < tree_place t → IsPlace (tree_list t) (tree_place t)
+pub tree_stands : (t : Tree) → IsSoundTree t → 0 < tree_place t → IsPlace (tree_list t) (tree_place t)
 tree_stands (found w) s begun = walk_place w s begun
 tree_stands (all_of ts) s begun = s.1.standing.stands begun
 tree_stands (any_of ts) s begun = s.1.standing.stands begun
 tree_stands (without at r t) s begun = s.1.standing.stands begun
 
-pub tree_top : (t : Tree) → IsSound t → tree_place t ≤ TOP
+pub tree_top : (t : Tree) → IsSoundTree t → tree_place t ≤ TOP
 tree_top (found w) s = s.top
 tree_top (all_of ts) s = s.1.standing.top
 tree_top (any_of ts) s = s.1.standing.top
 tree_top (without at r t) s = s.1.standing.top
 
 -- one Found has passed no element of its leaves from its place on
-pub tree_unpassed : (t : Tree) → IsSound t → IsOneFound t → 0 < tree_place t → tree_place t < TOP → count_from (tree_all t) (tree_place t) ≤ tree_left t
+pub tree_unpassed : (t : Tree) → IsSoundTree t → IsOneFound t → 0 < tree_place t → tree_place t < TOP → count_from (tree_all t) (tree_place t) ≤ tree_left t
 tree_unpassed (found w) s one begun below = s.unpassed begun below
 tree_unpassed (all_of ts) s one begun below = absurd one
 tree_unpassed (any_of ts) s one begun below = absurd one
 tree_unpassed (without at r t) s one begun below = absurd one
 
 -- the readers of one Found stand at its place or before it
-pub tree_within : (t : Tree) → IsSound t → IsOneFound t → 0 < tree_place t → tree_place t < TOP → All (λ x. x ≤ tree_place t) (reader_places t)
+pub tree_within : (t : Tree) → IsSoundTree t → IsOneFound t → 0 < tree_place t → tree_place t < TOP → All (λ x. x ≤ tree_place t) (reader_places t)
 tree_within (found w) s one begun below = walk_within w s begun below
 tree_within (all_of ts) s one begun below = absurd one
 tree_within (any_of ts) s one begun below = absurd one

@@ -1,6 +1,6 @@
 // A difference of ends as a reader.
 ghost use Rattle.std.specs.Prelude.{◌<◌};
-ghost use Rattle.alta_docread.specs.Tree.{tree_list, tree_all, tree_left, IsSound, IsMoved, IsUnmoved};
+ghost use Rattle.alta_docread.specs.Tree.{tree_list, tree_all, tree_left, IsSoundTree, IsMoved, IsUnmoved};
 ghost use Rattle.alta_docread.specs.TreeLaws.{tree_rises, tree_stands};
 ghost use Rattle.alta_docread.specs.View.{apart_of};
 
@@ -22,7 +22,7 @@ impl<R: BackReader> Without<R> {
 }
 
 impl<R: BackReader> Reader for Without<R> {
-    ghost sound = { λ s. IsSound (apart_of R.list R.all R.location R.left s) × (0 < s.at) };
+    ghost sound = { λ s. IsSoundTree (apart_of R.list R.all R.location R.left s) × (0 < s.at) };
 
     ghost list = { λ s. tree_list (apart_of R.list R.all R.location R.left s) };
 

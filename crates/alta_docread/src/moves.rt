@@ -3,7 +3,7 @@ ghost use Rattle.std.specs.Prelude.{◌≡◌, ◌<◌, ◌≤◌, length, All};
 ghost use Rattle.alta_codec.specs.declared.location.TheConstants.{TOP};
 ghost use Rattle.alta_docread.specs.FoundView.{walk_of};
 ghost use Rattle.alta_docread.specs.Moves.{IsReached, IsPassed, IsJoined, IsAsked, IsSkipped};
-ghost use Rattle.alta_docread.specs.Tree.{tree_place, tree_list, found, all_of, any_of, IsAhead, IsSound, IsMoved};
+ghost use Rattle.alta_docread.specs.Tree.{tree_place, tree_list, found, all_of, any_of, IsAhead, IsSoundTree, IsMoved};
 ghost use Rattle.alta_docread.specs.View.{reading_of, tree_of, trees_in, apart_of};
 
 use crate::ends::Ends;
@@ -21,7 +21,7 @@ pub(crate) fn seek<R: BackReader, L: Ledger>(
     to: Loc,
     steps: &mut Steps<L>,
 ) -> Loc
-    requires sound { IsSound (tree_of R.list R.all R.location R.left node.old) }
+    requires sound { IsSoundTree (tree_of R.list R.all R.location R.left node.old) }
     requires some { 0 < to }
     requires top { to ≤ TOP }
     ensures place { result ≡ tree_place (tree_of R.list R.all R.location R.left node.new) }
@@ -41,7 +41,7 @@ fn seek_found<R: BackReader, L: Ledger>(
     to: Loc,
     steps: &mut Steps<L>,
 ) -> Loc
-    requires sound { IsSound (found (walk_of R.list R.all R.location R.left reader.old.value)) }
+    requires sound { IsSoundTree (found (walk_of R.list R.all R.location R.left reader.old.value)) }
     requires some { 0 < to }
     requires top { to ≤ TOP }
     ensures place { result ≡ reader.new.value.at }
@@ -61,7 +61,7 @@ fn seek_any<R: BackReader, L: Ledger>(
     to: Loc,
     steps: &mut Steps<L>,
 ) -> Loc
-    requires sound { IsSound (any_of (trees_in R.list R.all R.location R.left nodes.old.items)) }
+    requires sound { IsSoundTree (any_of (trees_in R.list R.all R.location R.left nodes.old.items)) }
     requires some { 0 < to }
     requires top { to ≤ TOP }
     ensures place { result ≡ tree_place (any_of (trees_in R.list R.all R.location R.left nodes.new.items)) }
@@ -77,7 +77,7 @@ fn seek_each<R: BackReader, L: Ledger>(
     to: Loc,
     steps: &mut Steps<L>,
 ) -> Loc
-    requires sound { All (λ n. IsSound (tree_of R.list R.all R.location R.left n)) nodes.old.items }
+    requires sound { All (λ n. IsSoundTree (tree_of R.list R.all R.location R.left n)) nodes.old.items }
     requires some { 0 < to }
     requires top { to ≤ TOP }
     ensures { IsReached (tree_of R.list R.all R.location R.left) nodes.old.items nodes.new.items to result steps.old steps.new }
@@ -96,7 +96,7 @@ fn seek_all<R: BackReader, L: Ledger>(
     to: Loc,
     steps: &mut Steps<L>,
 ) -> Loc
-    requires sound { IsSound (all_of (trees_in R.list R.all R.location R.left nodes.old.items)) }
+    requires sound { IsSoundTree (all_of (trees_in R.list R.all R.location R.left nodes.old.items)) }
     requires some { 0 < to }
     requires top { to ≤ TOP }
     ensures place { result ≡ tree_place (all_of (trees_in R.list R.all R.location R.left nodes.new.items)) }
@@ -109,7 +109,7 @@ fn seek_all<R: BackReader, L: Ledger>(
 /// after a pass.
 #[cycle(moves)]
 fn agree<R: BackReader, L: Ledger>(nodes: &mut Vec<Node<R>>, to: Loc, steps: &mut Steps<L>) -> Loc
-    requires sound { All (λ n. IsSound (tree_of R.list R.all R.location R.left n)) nodes.old.items }
+    requires sound { All (λ n. IsSoundTree (tree_of R.list R.all R.location R.left n)) nodes.old.items }
     requires nodes { 0 < length nodes.old.items }
     requires some { 0 < to }
     requires top { to ≤ TOP }
@@ -133,7 +133,7 @@ fn pass<R: BackReader, L: Ledger>(
     goal: Loc,
     steps: &mut Steps<L>,
 ) -> (Loc, Loc)
-    requires sound { All (λ n. IsSound (tree_of R.list R.all R.location R.left n)) nodes.old.items }
+    requires sound { All (λ n. IsSoundTree (tree_of R.list R.all R.location R.left n)) nodes.old.items }
     requires nodes { 0 < length nodes.old.items }
     requires some { 0 < goal }
     requires top { goal ≤ TOP }
@@ -155,7 +155,7 @@ fn seek_without<R: BackReader, L: Ledger>(
     to: Loc,
     steps: &mut Steps<L>,
 ) -> Loc
-    requires sound { IsSound (apart_of R.list R.all R.location R.left reader.old.value) }
+    requires sound { IsSoundTree (apart_of R.list R.all R.location R.left reader.old.value) }
     requires some { 0 < to }
     requires top { to ≤ TOP }
     ensures place { result ≡ reader.new.value.at }
@@ -175,7 +175,7 @@ pub(crate) fn go_without<R: BackReader, L: Ledger>(
     to: Loc,
     steps: &mut Steps<L>,
 )
-    requires sound { IsSound (apart_of R.list R.all R.location R.left reader.old) }
+    requires sound { IsSoundTree (apart_of R.list R.all R.location R.left reader.old) }
     requires above { reader.old.at < to }
     requires top { to ≤ TOP }
     ensures { IsMoved (apart_of R.list R.all R.location R.left reader.old) (apart_of R.list R.all R.location R.left reader.new) to steps.old steps.new }
@@ -191,7 +191,7 @@ fn skip<R: BackReader, L: Ledger>(
     to: Loc,
     steps: &mut Steps<L>,
 ) -> Loc
-    requires sound { IsSound (tree_of R.list R.all R.location R.left child.old) }
+    requires sound { IsSoundTree (tree_of R.list R.all R.location R.left child.old) }
     requires ends { IsAhead to (reading_of R.list R.all R.location R.left ends.old).list (reading_of R.list R.all R.location R.left ends.old).place }
     requires ahead { IsAhead to (tree_list (tree_of R.list R.all R.location R.left child.old)) (tree_place (tree_of R.list R.all R.location R.left child.old)) }
     requires some { 0 < to }
@@ -208,7 +208,7 @@ fn skip<R: BackReader, L: Ledger>(
 /// Whether the tree's list has the end. It moves the tree there, where the end is below `TOP`.
 #[cycle(moves)]
 fn has<R: BackReader, L: Ledger>(child: &mut Node<R>, end: Loc, steps: &mut Steps<L>) -> bool
-    requires sound { IsSound (tree_of R.list R.all R.location R.left child.old) }
+    requires sound { IsSoundTree (tree_of R.list R.all R.location R.left child.old) }
     requires ahead { IsAhead end (tree_list (tree_of R.list R.all R.location R.left child.old)) (tree_place (tree_of R.list R.all R.location R.left child.old)) }
     requires some { 0 < end }
     requires top { end ≤ TOP }

@@ -2,7 +2,7 @@
 ghost use Rattle.std.specs.Prelude.{◌≡◌, ℕ, ◌+◌, ◌<◌, ◌≤◌, All};
 ghost use Rattle.alta_codec.specs.Rising.{IsPlace, first_from, count_from};
 ghost use Rattle.alta_codec.specs.declared.location.TheConstants.{TOP};
-ghost use Rattle.alta_docread.specs.Tree.{tree_place, reader_places, tree_list, tree_all, tree_left, IsOneFound, IsSound, IsUnmoved};
+ghost use Rattle.alta_docread.specs.Tree.{tree_place, reader_places, tree_list, tree_all, tree_left, IsOneFound, IsSoundTree, IsUnmoved};
 ghost use Rattle.alta_docread.specs.TreeLaws.{tree_rises, tree_stands};
 ghost use Rattle.alta_docread.specs.View.{tree_of, tree_in};
 
@@ -33,14 +33,31 @@ impl<R: BackReader> DocReader<R> {
         ensures left { ⟦<DocReader<R> as Reader>⟧.left result ≤ tree_left (tree_of R.list R.all R.location R.left node) }
         ensures steps { steps.new + ⟦<DocReader<R> as Reader>⟧.left result ≤ steps.old + tree_left (tree_of R.list R.all R.location R.left node) }
     {
+        DocReader::starting_at(node, 1, steps)
+    }
+
+    /// The same, which stands at the first end at or above a place, or at `TOP` where there is none. It goes there at once,
+    /// and to no end before.
+    pub fn starting_at<L: Ledger>(node: Node<R>, place: Loc, steps: &mut Steps<L>) -> DocReader<R>
+        requires unmoved { IsUnmoved (tree_of R.list R.all R.location R.left node) }
+        requires some { 0 < place }
+        requires top { place ≤ TOP }
+        ensures sound { ⟦<DocReader<R> as Reader>⟧.sound result }
+        ensures list { ⟦<DocReader<R> as Reader>⟧.list result ≡ tree_list (tree_of R.list R.all R.location R.left node) }
+        ensures all { ⟦<DocReader<R> as Reader>⟧.all result ≡ tree_all (tree_of R.list R.all R.location R.left node) }
+        ensures location { ⟦<DocReader<R> as Reader>⟧.location result ≡ first_from (tree_list (tree_of R.list R.all R.location R.left node)) place }
+        ensures one_found { IsOneFound (tree_of R.list R.all R.location R.left node) → IsOneFound (tree_in R.list R.all R.location R.left result) }
+        ensures left { ⟦<DocReader<R> as Reader>⟧.left result ≤ tree_left (tree_of R.list R.all R.location R.left node) }
+        ensures steps { steps.new + ⟦<DocReader<R> as Reader>⟧.left result ≤ steps.old + tree_left (tree_of R.list R.all R.location R.left node) }
+    {
         let mut node = node;
-        let at = seek(&mut node, 1, steps);
+        let at = seek(&mut node, place, steps);
         DocReader { node, at }
     }
 }
 
 impl<R: BackReader> Reader for DocReader<R> {
-    ghost sound = { λ s. IsSound (tree_in R.list R.all R.location R.left s) × (0 < tree_place (tree_in R.list R.all R.location R.left s)) × (s.at ≡ tree_place (tree_in R.list R.all R.location R.left s)) };
+    ghost sound = { λ s. IsSoundTree (tree_in R.list R.all R.location R.left s) × (0 < tree_place (tree_in R.list R.all R.location R.left s)) × (s.at ≡ tree_place (tree_in R.list R.all R.location R.left s)) };
 
     ghost list = { λ s. tree_list (tree_in R.list R.all R.location R.left s) };
 

@@ -1,7 +1,7 @@
 -- The ends of the documents that have each word of a conjunction and none of its negated words.
 use Rattle.std.specs.Prelude.{ℕ, ◌+◌, ◌<◌, ◌≤◌, Bool, true, ◌&&◌, not, nat_le, List, [], ◌∷◌, All, Contains}
+use Rattle.std.specs.List.{filter}
 use Rattle.alta_codec.specs.Rising.{first_from, pred_of}
-use Rattle.alta_docread.specs.Kept.{kept}
 
 -- the list has an element above `low` and at most at `high`
 abbrev pub HasWithin : ℕ → ℕ → List ℕ → Type 0
@@ -31,4 +31,4 @@ is_answer ends words negated end = each_within (pred_of ends end) end words && n
 
 -- the ends of the documents that have each word and none of the negated words, in order
 unfoldable pub ends_having : List ℕ → List (List ℕ) → List (List ℕ) → List ℕ
-ends_having ends words negated = kept (is_answer ends words negated) ends
+ends_having ends words negated = filter (is_answer ends words negated) ends

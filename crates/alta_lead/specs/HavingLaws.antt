@@ -6,7 +6,7 @@ use Rattle.alta_codec.specs.declared.location.TheConstants.{TOP}
 use Rattle.alta_codec.specs.Rising.{IsRising, first_from, pred_of}
 use Rattle.alta_codec.proofs.ByIndex.{element}
 use Rattle.alta_codec.proofs.Places.{first_from-above, first_from-least, first_from-place, pred_of-below}
-use Rattle.alta_docread.specs.KeptLaws.{true_or_false, kept-has, kept-keeps, kept-rises}
+use Rattle.alta_docread.specs.KeptLaws.{true_or_false, filter-has, filter-keeps, filter-rises}
 use Rattle.alta_lead.specs.Having.{HasWithin, IsAnswer, has_within, each_within, none_within, is_answer, ends_having}
 
 -- an element lies from 1 to below TOP
@@ -16,7 +16,7 @@ element_within xs z r m =
 
 pub having-rises : (ends : List ℕ) (words negated : List (List ℕ)) → IsRising ends → IsRising (ends_having ends words negated)
 unfolding ends_having
-having-rises ends words negated r = kept-rises (is_answer ends words negated) ends r
+having-rises ends words negated r = filter-rises (is_answer ends words negated) ends r
 
 le_true : (x y : ℕ) → nat_le x y ≡ true → x ≤ y
 le_true x y h = grind (arith, h)
@@ -92,7 +92,7 @@ pub having-answers : (ends : List ℕ) (words negated : List (List ℕ)) (e : �
     → Contains (ends_having ends words negated) e ↔ IsAnswer ends words negated e
 unfolding ends_having
 having-answers ends words negated e r = (
-  λ m. let k = kept-has (is_answer ends words negated) ends e m in
+  λ m. let k = filter-has (is_answer ends words negated) ends e m in
       let low = pred_of ends e in let b = element_within ends e r k.0 in let l : low < e = pred_of-below ends e b.0 in
       record {
         is_end = k.0;
@@ -100,6 +100,6 @@ having-answers ends words negated e r = (
         none = none-All low e negated (both_right (each_within low e words) (none_within low e negated) k.1);
       },
   λ a. let low = pred_of ends e in let b = element_within ends e r a.is_end in let l : low < e = pred_of-below ends e b.0 in
-      kept-keeps (is_answer ends words negated) ends e a.is_end
+      filter-keeps (is_answer ends words negated) ends e a.is_end
       (both (each_within low e words) (none_within low e negated) (All-each low e words a.each) (All-none low e negated l b.1 a.none)),
 )

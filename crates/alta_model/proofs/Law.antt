@@ -9,7 +9,8 @@ use Rattle.std.specs.Fmt.{decimal}
 use Rattle.std.proofs.lemmas.Bool.{false≢true}
 use Rattle.std.proofs.lemmas.Bool.Decides.{nat_tests}
 use Rattle.std.proofs.lemmas.Slice.Eq.{bytes_eq-Decides}
-use Rattle.alta_model.specs.Command.{Command, Reads, IsFine, IsCount, spelled, is_tab, has_tab, adds, deletes, searches, counts, explains, opens, fetches, closes, flushes, merges, steps, asks_stats}
+use Rattle.alta_codec.specs.Bytes.{has_byte}
+use Rattle.alta_model.specs.Command.{Command, Reads, IsFine, IsCount, spelled, is_tab, adds, deletes, searches, counts, explains, opens, fetches, closes, flushes, merges, steps, asks_stats}
 use Rattle.alta_model.specs.Faults.{is_space}
 use Rattle.alta_model.specs.Reading.{parted, command_in, in_parts, alone, with_rest, document_of, text_of, number_of, fetch_of, count_of, with_name, with_body, with_cursor, with_count}
 use Rattle.alta_model.proofs.Counts.{some_inj, none_is_not, count_reads, count_spelled, count_digits, both}
@@ -93,7 +94,7 @@ space_parts text word rest h =
     let parts = parted_parts is_space text (word, rest) h in
     subst (λ k. word ++ k ∷ rest ≡ text) (space_is parts.at parts.stops) parts.joined
 
-tab_parts : (text name rest : List ℕ) → parted is_tab text ≡ Some (name, rest) → (has_tab name ≡ false) × (name ++ 9 ∷ rest ≡ text)
+tab_parts : (text name rest : List ℕ) → parted is_tab text ≡ Some (name, rest) → (has_byte 9 name ≡ false) × (name ++ 9 ∷ rest ≡ text)
 tab_parts text name rest h =
     let parts = parted_parts is_tab text (name, rest) h in
     (parts.before, subst (λ k. name ++ k ∷ rest ≡ text) (tab_is parts.at parts.stops) parts.joined)
@@ -166,7 +167,7 @@ number_read word rest c h =
     (λ h. choice _ _ _ c _ h (λ e s. is_word word (codes "step") rest c e (count_read (codes "step") rest (λ n. steps n) (count_of rest) c refl s (λ n k. refl) (λ n k. k)))
     (λ h. absurd (none_is_not c h))))
 
-body_parts : (name rest : List ℕ) (o : Option (List ℕ × List ℕ)) (c : Command) → has_tab name ≡ false → parted is_tab rest ≡ o → with_body name o ≡ Some c
+body_parts : (name rest : List ℕ) (o : Option (List ℕ × List ℕ)) (c : Command) → has_byte 9 name ≡ false → parted is_tab rest ≡ o → with_body name o ≡ Some c
     → Reads (codes "add" ++ 32 ∷ (name ++ 9 ∷ rest)) c
 body_parts name rest None c lacks e h = absurd (none_is_not c h)
 body_parts name rest (Some (title, body)) c lacks e h =

@@ -18,3 +18,5 @@ pub mod Names
 pub mod Counted
 pub mod Texts
 pub mod Members
+pub mod TextTokens
+pub mod TextWords

@@ -47,12 +47,12 @@ shapes_text : (qs : List Shape) → All HasTextTerms qs → HaveTextTerms (shape
 shapes_text [] h = tt
 shapes_text (q ∷ qs) h = (h 0 q (omega arith), shapes_text qs (All-tail HasTextTerms q qs h))
 
-all_of_text : (qs : List Shape) → All HasTextTerms qs → HasTextTerms (all_of qs)
+pub all_of_text : (qs : List Shape) → All HasTextTerms qs → HasTextTerms (all_of qs)
 all_of_text [] h = tt
 all_of_text (q ∷ []) h = h 0 q (omega arith)
 all_of_text (q ∷ r ∷ qs) h = shapes_text (q ∷ r ∷ qs) h
 
-any_of_text : (qs : List Shape) → All HasTextTerms qs → HasTextTerms (any_of qs)
+pub any_of_text : (qs : List Shape) → All HasTextTerms qs → HasTextTerms (any_of qs)
 any_of_text [] h = tt
 any_of_text (q ∷ []) h = h 0 q (omega arith)
 any_of_text (q ∷ r ∷ qs) h = shapes_text (q ∷ r ∷ qs) h

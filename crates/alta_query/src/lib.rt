@@ -15,5 +15,7 @@ mod word;
 pub use fault::{Cause, QueryFault};
 pub use printing::{print, reads_back};
 pub use query::{Atom, Queries, Query, Side};
-pub use reading::{a_query_has_members, a_query_is_read_one_way, one_or_other, parse};
+pub use reading::{
+    a_query_asks_for_text, a_query_has_members, a_query_is_read_one_way, one_or_other, parse,
+};
 pub use test::{Test, Tests};

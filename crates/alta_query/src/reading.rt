@@ -95,3 +95,8 @@ pub fn a_query_is_read_one_way()
 pub fn a_query_has_members()
     ensures { (q : Shape) → IsWellFormed q → HasMembers q }
 {}
+
+/// A law, and nothing to run: each term of a well-formed query is UTF-8.
+pub fn a_query_asks_for_text()
+    ensures { (q : Shape) → IsWellFormed q → HasTextTerms q }
+{}

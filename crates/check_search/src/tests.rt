@@ -27,7 +27,7 @@ fn document(alloc: Global, name: &str, title: &str, body: &str) -> Result<Docume
 
 /// The names of the documents that the query matches and that are not deleted.
 fn matched(alloc: Global, query: &Query, gone: u8) -> Result<String, Fail> {
-    let first = document(alloc, "a", "Red Fox", "the quick red fox")?;
+    let first = document(alloc, "a", "Red Fox", "quiet quick red fox")?;
     let second = document(alloc, "b", "Fox", "quick brown dog")?;
     let mut names = String::new(alloc);
     if gone != 1 && matches(query, &first) {
@@ -147,6 +147,10 @@ fn asked(k: u8) -> (&'static str, u8, &'static str) {
         13 => ("quick", 1, "b"),
         14 => ("quick", 2, "a"),
         15 => ("red OR brown", 1, "b"),
+        // Two terms, one through both levels: a union of chains.
+        16 => ("qui* NEAR/1 red", 0, "a"),
+        17 => ("qui* NEAR/2 fox", 0, "ab"),
+        18 => ("qui* NOT qui*", 0, ""),
         _ => ("zebra", 0, ""),
     }
 }
@@ -186,7 +190,7 @@ fn uncounted_first(alloc: Global, query: &Query) -> Result<String, AllocError> {
 #[test]
 fn answers_are_the_matches(rt: HostRuntime) -> Result<(), Fail> {
     let alloc = rt.alloc();
-    for k in 0..17 {
+    for k in 0..20 {
         let (text, gone, names) = asked(k);
         let Ok(query) = parse(alloc, text) else {
             return Err(Fail::new("no query"));

@@ -1,4 +1,4 @@
-// The two documents `Red Fox` with the body `the quick red fox`, at the locations 1 to 9, and `Fox` with the body `quick
+// The two documents `Red Fox` with the body `quiet quick red fox`, at the locations 1 to 9, and `Fox` with the body `quick
 // brown dog`, at 10 to 16, as snapshots for a plan. The first stands in a level, with its lists coded, and the second in
 // memory, with its lists plain.
 ghost use Rattle.std.specs.Prelude.{◌≡◌, ◌++◌, ◌<◌, [], ◌∷◌, map, length, All, IsTrue, IfOk, OnOk};
@@ -41,8 +41,8 @@ fn row(k: u8) -> Row
         6 => (b"Wdog", &[], &[15]),
         7 => (b"Wfox", &[3, 8], &[11]),
         8 => (b"Wquick", &[6], &[13]),
-        9 => (b"Wred", &[2, 7], &[]),
-        10 => (b"Wthe", &[5], &[]),
+        9 => (b"Wquiet", &[5], &[]),
+        10 => (b"Wred", &[2, 7], &[]),
         11 => (b"XFox", &[3], &[11]),
         _ => (b"XRed", &[2], &[]),
     }

@@ -1,7 +1,7 @@
 use Rattle.std.proofs.Common.{map, sym}
 use Rattle.alta_query.specs.Shape.{shapes_of}
 use Rattle.alta_query.specs.View.{shape}
-use Rattle.alta_compile.specs.Joined.{joined}
+use Rattle.alta_compile.specs.Joined.{joint_pattern}
 use Rattle.alta_compile.specs.PlanOf.{atoms_in}
 use Rattle.alta_compile.proofs.Gathered.{gathered_start, gathered_step, gathered_end}
 use Rattle.alta_compile.proofs.compiling.gather.Goals as goal
@@ -12,10 +12,10 @@ loop-member-init c = gathered_start c.new-draft.result (atoms_in (shapes_of (map
 pub loop-member-preserved : goal.loop-member-preserved
 loop-member-preserved c =
     gathered_step c.args.members.now c.loop-member.member-index c.member-item.result c.loop-member.draft c.add_member.new.draft
-    (joined (atoms_in (shapes_of (map shape c.args.members.now)))) c.loop-member-test.true (sym c.member-item.is) c.in_ok-add_member.ensures
+    (joint_pattern (atoms_in (shapes_of (map shape c.args.members.now)))) c.loop-member-test.true (sym c.member-item.is) c.in_ok-add_member.ensures
     c.loop-member.invariant
 
 pub returns : goal.returns
 returns c =
-    gathered_end c.args.members.now c.loop-member.member-index c.loop-member.draft (joined (atoms_in (shapes_of (map shape c.args.members.now))))
+    gathered_end c.args.members.now c.loop-member.member-index c.loop-member.draft (joint_pattern (atoms_in (shapes_of (map shape c.args.members.now))))
     c.loop-member-test.false c.loop-member.invariant

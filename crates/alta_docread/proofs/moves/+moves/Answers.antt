@@ -4,7 +4,7 @@ use Rattle.alta_codec.specs.Rising.{first_from}
 use Rattle.alta_compound.specs.OverReaders.{place-positive}
 use Rattle.alta_compound.specs.Union.{least_of}
 use Rattle.alta_docread.specs.Moves.{IsAsked, IsSkipped}
-use Rattle.alta_docread.specs.Tree.{Tree, trees_of, tree_place, places_of, greatest_of, tree_depth, IsSound}
+use Rattle.alta_docread.specs.Tree.{Tree, trees_of, tree_place, places_of, greatest_of, tree_depth, IsSoundTree}
 use Rattle.alta_docread.specs.View.{reading_of, tree_of}
 use Rattle.alta_docread.specs.declared.node.Node.{Node}
 use Rattle.alta_docread.proofs.Each.{sound_each, places_each, depth_at, kept_length}
@@ -41,7 +41,7 @@ seek_each-seek-requires g t c κs within =
         (
           within.1,
           (
-            subst (λ n. IsSound (tree n)) (sym value) (inv.reaching.kept.sound i d lt),
+            subst (λ n. IsSoundTree (tree n)) (sym value) (inv.reaching.kept.sound i d lt),
             (c.requires.some, c.requires.top),
           ),
         ),
@@ -131,7 +131,7 @@ pass-seek-last-requires g t c κs within =
         (
           within.1,
           (
-            subst (λ n. IsSound (tree n)) (sym value) (inv.passing.kept.sound i d lt),
+            subst (λ n. IsSoundTree (tree n)) (sym value) (inv.passing.kept.sound i d lt),
             (omega (arith, c.requires.some, inv.passing.from), inv.passing.top),
           ),
         ),
