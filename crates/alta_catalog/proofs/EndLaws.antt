@@ -234,3 +234,7 @@ one_fewer low (c ∷ ds) next rise d has =
     subst (λ (xs : List Document). length xs + 1 ≡ length (c ∷ ds)) (sym (filter_keep others c ds (ap not (apart_test c.number d.number (λ e. absurd (omega (arith, e, less)))))))
     (omega (arith, one_fewer (c.number + 1) ds next rise.1 d behind)))
     (here_or_there c ds d has)
+
+-- what was among ends is so still
+pub still_among : (old later : List ℕ) (e : ℕ) → ((x : ℕ) → Contains later x ↔ (Contains old x ⊎ (x ≡ e))) → (x : ℕ) → is_among old x ≡ true → is_among later x ≡ true
+still_among old later e members x is = among_more old later e members x ∙ ap (λ (b : Bool). b || nat_eq e x) is

@@ -2,15 +2,14 @@
 use Rattle.std.proofs.Common.{◌≡◌, ⊎_elim, ℕ, ◌<◌, ◌≤◌, Bool, true, false, not, nat_lt, List, [], ◌∷◌, ◌++◌, map, refl, sym, ◌∙◌, ap, subst, arith, Ok}
 use Rattle.std.specs.Prelude.{◌&&◌, ◌||◌, Contains}
 use Rattle.std.specs.List.{All, filter, list_all}
-use Rattle.std.proofs.lemmas.Bool.{le-ltb, lt-ltb}
-use Rattle.std.proofs.lemmas.List.{append-nil, map-append}
-use Rattle.std.proofs.lemmas.List.Elements.{All-append, All-contains, All-filter, All-head, All-map, All-nil, All-cons, filter-append}
+use Rattle.std.proofs.lemmas.List.{map-append}
+use Rattle.std.proofs.lemmas.List.Elements.{All-append, All-contains, All-filter, All-head, All-map, All-nil, All-cons}
 use Rattle.alta_codec.specs.Rising.{IsRising}
 use Rattle.alta_codec.specs.declared.extent.Extent.{Extent}
 use Rattle.alta_content.specs.Rows.{end_of, ends_among, live_rows}
 use Rattle.alta_content.specs.declared.document.DocRow.{DocRow}
 use Rattle.alta_content.proofs.Outside.{filter_alike, filter_all}
-use Rattle.alta_content.proofs.Rises.{Contains-cases, Contains-head, Contains-tail, RisesAbove, above_from_rising, filter-has, filter-keeps, filter-rises}
+use Rattle.alta_content.proofs.Rises.{Contains-head, Contains-tail, above_from_rising, filter-has, filter-keeps, filter-rises}
 use Rattle.alta_images.specs.Entries.{AllowsAll}
 use Rattle.alta_images.specs.Levels.{Level}
 use Rattle.alta_images.specs.Opened.{IsOpened, Opened, are_in_order, comes_behind, is_below, journal_of, levels_from, rows_in, with_level}
@@ -33,37 +32,19 @@ use Rattle.alta_meta.specs.declared.document.Document.{Document}
 use Rattle.alta_meta.specs.declared.document.State.{State}
 use Rattle.alta_root.specs.declared.root.Root.{Root}
 use Rattle.alta_table.specs.Tables.{Tables}
-use Rattle.alta_catalog.specs.Flushing.{ends_below}
 use Rattle.alta_catalog.specs.Knowing.{Follows, Knows, KnowsBy, gone_of, levels_of, newest_of}
+use Rattle.alta_catalog.specs.Replacing.{ends_in}
 use Rattle.alta_catalog.specs.Rows.{MayBe, documents_left}
 use Rattle.alta_catalog.specs.declared.catalog.Catalog.{Catalog}
 use Rattle.alta_catalog.proofs.EndLaws.{among, here_or_there, is_among, member, no_member, not_among, space_all}
 use Rattle.alta_catalog.proofs.KnowingLaws.{row_among, rows_of_all}
 use Rattle.alta_catalog.proofs.KnownLaws.{start_known}
-use Rattle.alta_catalog.proofs.RisingLaws.{all_pass, none_pass}
+use Rattle.alta_catalog.proofs.RisingLaws.{one_from}
 use Rattle.alta_catalog.proofs.SharingLaws.{space_ends, space_precedes}
 use Rattle.alta_catalog.proofs.SpaceLaws.{left_alive, left_append, left_dead}
 use Rattle.alta_catalog.proofs.StartLaws.{all_rows, ends_there, row_of}
 
 -- ---- rising lists
-
-above_all : (low : ℕ) (ys : List ℕ) (z : ℕ) → RisesAbove low ys → Contains ys z → low < z
-above_all low [] z rise has = absurd (no_member z has)
-above_all low (y ∷ ys) z rise has = ⊎_elim (λ e. omega (arith, rise.0, e)) (λ more. omega (arith, rise.0, above_all y ys z rise.2 more)) (Contains-cases y ys z has)
-
-one_from : (low : ℕ) (xs ys : List ℕ) → RisesAbove low xs → RisesAbove low ys → ((z : ℕ) → Contains xs z → Contains ys z) → ((z : ℕ) → Contains ys z → Contains xs z) → xs ≡ ys
-one_from low [] [] r s h k = refl
-one_from low [] (y ∷ ys) r s h k = absurd (no_member y (k y (Contains-head y ys)))
-one_from low (x ∷ xs) [] r s h k = absurd (no_member x (h x (Contains-head x xs)))
-one_from low (x ∷ xs) (y ∷ ys) r s h k =
-    let below : y ≤ x = ⊎_elim (λ e. omega (arith, e)) (λ more. omega (arith, above_all y ys x s.2 more)) (Contains-cases y ys x (h x (Contains-head x xs))) in
-    let above : x ≤ y = ⊎_elim (λ e. omega (arith, e)) (λ more. omega (arith, above_all x xs y r.2 more)) (Contains-cases x xs y (k y (Contains-head y ys))) in
-    let same : x ≡ y = omega (arith, below, above) in
-    let onward : (z : ℕ) → Contains xs z → Contains ys z =
-    λ z has. ⊎_elim (λ e. absurd (omega (arith, e, below, above, above_all x xs z r.2 has))) (λ more. more) (Contains-cases y ys z (h z (Contains-tail x xs z has))) in
-    let back : (z : ℕ) → Contains ys z → Contains xs z =
-    λ z has. ⊎_elim (λ e. absurd (omega (arith, e, below, above, above_all y ys z s.2 has))) (λ more. more) (Contains-cases x xs z (k z (Contains-tail y ys z has))) in
-    ap (λ v. v ∷ xs) same ∙ ap (λ (l : List ℕ). y ∷ l) (one_from y xs ys (subst (λ v. RisesAbove v xs) same r.2) s.2 onward back)
 
 -- ends of rows that rise are those that are left of all ends
 ends_are : (ends : List ℕ) (rows : List DocRow) → IsRising ends → IsRising (map end_of rows) → ((end : ℕ) → Contains ends end → Contains (map end_of rows) end) → ends ≡ map end_of (filter (ends_among ends) rows)
@@ -276,22 +257,11 @@ module _ (c : Catalog) (s : State) (o : Opened) (image : List ℕ) (levels : Lis
   pub gone_is : gone_of c ≡ gone view
   gone_is = gone_rows ∙ ap (λ (rs : List DocRow). gone_among view (rs ++ map row_of news)) (sym rows)
 
-  abbrev location : ℕ
-  location = o.root.next_location
-
-  pub deleted_is : ends_below location (gone_of c) ≡ gone_among view (level_rows levels)
-  deleted_is =
-      ap (ends_below location) (gone_rows ∙ ap (map end_of) (filter-append (is_gone view) (rows_in o.levels) (map row_of news)) ∙ map-append end_of (filter (is_gone view) (rows_in o.levels)) (filter (is_gone view) (map row_of news)))
-      ∙ filter-append (λ end. nat_lt end location) (gone_among view (rows_in o.levels)) (gone_among view (map row_of news))
-      ∙ ap (λ (es : List ℕ). es ++ ends_below location (gone_among view (map row_of news)))
-      (all_pass (λ end. nat_lt end location) (gone_among view (rows_in o.levels))
-      (All-map (λ end. nat_lt end location ≡ true) end_of (filter (is_gone view) (rows_in o.levels))
-      (All-filter (is_gone view) (λ (row : DocRow). nat_lt (end_of row) location ≡ true) (rows_in o.levels)
-      (all_weaker (Below o.root) (λ (row : DocRow). nat_lt (end_of row) location ≡ true) (rows_in o.levels) (λ row both. lt-ltb (end_of row) location both.1) below))))
-      ∙ ap (λ (es : List ℕ). gone_among view (rows_in o.levels) ++ es)
-      (none_pass (λ end. nat_lt end location) (gone_among view (map row_of news))
-      (All-map (λ end. nat_lt end location ≡ false) end_of (filter (is_gone view) (map row_of news))
-      (All-filter (is_gone view) (λ (row : DocRow). nat_lt (end_of row) location ≡ false) (map row_of news)
-      (All-map (λ (row : DocRow). nat_lt (end_of row) location ≡ false) row_of news
-      (all_weaker (λ (a : Added). location ≤ end_of a.row) (λ (a : Added). nat_lt (end_of a.row) location ≡ false) news (λ a lies. le-ltb (end_of a.row) location lies) news_far)))))
-      ∙ append-nil (gone_among view (rows_in o.levels)) ∙ ap (gone_among view) (sym rows)
+  -- and so are they among any of the rows
+  pub among_is : (some : List DocRow) → All (Contains (level_rows levels ++ map row_of news)) some → ends_in (gone_of c) some ≡ gone_among view some
+  among_is some among =
+      ap (map end_of)
+      (filter_alike (ends_among c.gone) (is_gone view) some
+      (all_weaker (Contains all) (λ (row : DocRow). ends_among c.gone row ≡ is_gone view row) some
+      (λ row has. All-contains (λ (r : DocRow). ends_among c.gone r ≡ is_gone view r) all row tests has)
+      (subst (λ (rs : List DocRow). All (Contains (rs ++ map row_of news)) some) rows among)))

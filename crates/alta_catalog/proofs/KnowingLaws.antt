@@ -8,6 +8,7 @@ use Rattle.std.specs.BTreeMap.{BTreeMap, get_by_text}
 use Rattle.std.proofs.lemmas.Bool.{false≢true}
 use Rattle.std.proofs.lemmas.List.{map-append}
 use Rattle.std.proofs.lemmas.List.Elements.{All-push, All-map, All-contains, Contains-append_left, Contains-get_or}
+use Rattle.std.proofs.lemmas.List.Folds.{flat_map-map}
 use Rattle.std.proofs.lemmas.List.Sums.{sum_by_push}
 use Rattle.alta_codec.specs.Name.{IsName}
 use Rattle.alta_codec.specs.Rising.{IsRising}
@@ -19,7 +20,7 @@ use Rattle.alta_memlevel.specs.Documents.{IsBefore, IsMade, document_in}
 use Rattle.alta_meta.specs.Cells.{cells_of}
 use Rattle.alta_meta.specs.declared.document.Document.{Document}
 use Rattle.alta_meta.specs.declared.document.State.{State}
-use Rattle.alta_catalog.specs.Knowing.{AreFound, AreNumbered, AreParts, Knows, KnowsBy, Notes}
+use Rattle.alta_catalog.specs.Knowing.{AreFound, AreNumbered, AreParts, Knows, KnowsBy, Notes, documents_of}
 use Rattle.alta_catalog.specs.Rows.{AreRowsOf, documents_left}
 use Rattle.alta_catalog.specs.Finding.{AreOther, FollowOn}
 use Rattle.alta_images.specs.Opened.{rows_in}
@@ -40,15 +41,25 @@ use Rattle.alta_catalog.proofs.NotingLaws.{deleted_is, is_named, is_numbered, no
 use Rattle.alta_catalog.proofs.WordCounts.{few_words, words_long}
 
 -- the rows that are shared stay those of the levels
-shared_on : (c new : Catalog) → joined (map rows_of c.rows.items) ≡ rows_in c.levels.items → new.levels ≡ c.levels → new.rows ≡ c.rows → joined (map rows_of new.rows.items) ≡ rows_in new.levels.items
+shared_on : (c new : Catalog) → map rows_of c.rows.items ≡ map documents_of c.levels.items → new.levels ≡ c.levels → new.rows ≡ c.rows → map rows_of new.rows.items ≡ map documents_of new.levels.items
 shared_on c new are levels rows =
-    ap (λ (v : Vec (Rc LevelRows Global) Global). joined (map rows_of v.items)) rows ∙ are ∙ sym (ap (λ (v : Vec Tables Global). rows_in v.items) levels)
+    ap (λ (v : Vec (Rc LevelRows Global) Global). map rows_of v.items) rows ∙ are ∙ sym (ap (λ (v : Vec Tables Global). map documents_of v.items) levels)
+
+-- they are all rows of the levels
+shared_all : (c : Catalog) → map rows_of c.rows.items ≡ map documents_of c.levels.items → joined (map rows_of c.rows.items) ≡ rows_in c.levels.items
+shared_all c are = ap joined are ∙ flat_map-map (λ (rows : List DocRow). rows) documents_of c.levels.items
 
 -- the rows of the levels and of the level in memory are those of the documents
 pub rows_of_all : (c : Catalog) (s : State) (f : Knows c s) → map row_of (f.olds ++ f.added) ≡ rows_in c.levels.items ++ c.memory.content.documents
 rows_of_all c s f =
     map-append row_of f.olds f.added ∙ ap (λ (rs : List DocRow). rs ++ map row_of f.added) f.rows.rows_are
     ∙ ap (λ (rs : List DocRow). rows_in c.levels.items ++ rs) (sym f.content.documents)
+
+-- runs of rows that are shared, and more behind them, are all rows
+pub shared_behind : (c : Catalog) (s : State) → Knows c s → (runs more all : List (Rc LevelRows Global)) → joined (map rows_of all) ≡ joined (map rows_of runs) ++ joined (map rows_of more)
+    → map rows_of runs ≡ map rows_of c.rows.items → joined (map rows_of more) ≡ c.memory.content.documents → joined (map rows_of all) ≡ rows_in c.levels.items ++ c.memory.content.documents
+shared_behind c s f runs more all are shared newest =
+    are ∙ ap (λ (rs : List DocRow). rs ++ joined (map rows_of more)) (ap joined shared ∙ shared_all c f.shared) ∙ ap (λ (rs : List DocRow). rows_in c.levels.items ++ rs) newest
 
 -- and rise, and so do their ends
 pub all_rise : (c : Catalog) (s : State) (f : Knows c s) → IsRising (map end_of (rows_in c.levels.items ++ c.memory.content.documents))

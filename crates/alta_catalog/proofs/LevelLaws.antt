@@ -1,52 +1,80 @@
--- What a catalog knows once its newest documents are a level.
-use Rattle.std.proofs.Common.{◌≡◌, ⊎_elim, ℕ, ◌<◌, ◌≤◌, not, IsTrue, Global, List, [], ◌∷◌, ◌++◌, length, map, sym, ◌∙◌, ap, subst, arith}
-use Rattle.std.specs.Prelude.{Contains, Option, String, Vec}
-use Rattle.std.specs.List.{All, sum_by}
+-- What a catalog knows once other levels stand in place of its own.
+use Rattle.std.proofs.Common.{◌≡◌, ⊎_elim, ℕ, ◌≤◌, Bool, true, false, not, IsTrue, Global, List, [], ◌∷◌, ◌++◌, drop, length, get_or, map, refl, sym, ◌∙◌, ap, ap₂, subst, arith}
+use Rattle.std.specs.Prelude.{Contains, Option, Some, None, String, Vec}
+use Rattle.std.specs.List.{All, filter, sum_by}
 use Rattle.std.specs.BTreeMap.{BTreeMap}
+use Rattle.std.proofs.lemmas.Bool.{false≢true}
 use Rattle.std.proofs.lemmas.Grind.{flat_map-append}
-use Rattle.std.proofs.lemmas.List.{map-append}
-use Rattle.std.proofs.lemmas.List.Elements.{All-append, All-contains, All-filter, Contains-append_left, filter-append}
+use Rattle.std.proofs.lemmas.List.{append-nil, drop-map, map-append}
+use Rattle.std.proofs.lemmas.List.Elements.{All-filter, All-head, All-tail, Contains-get_or}
 use Rattle.alta_codec.specs.Rising.{IsRising}
-use Rattle.alta_content.specs.Rows.{IsPlaced, end_of, ends_among, live_rows}
+use Rattle.alta_content.specs.Rows.{IsPlaced, RowsRise as RangesRise, end_of, ends_among, live_rows}
 use Rattle.alta_content.specs.declared.document.DocRow.{DocRow}
+use Rattle.alta_content.proofs.Outside.{filter_alike}
+use Rattle.alta_content.proofs.Rises.{filter-rises}
 use Rattle.alta_images.specs.Known.{named, named_of}
 use Rattle.alta_images.specs.Opened.{live_in, rows_in}
 use Rattle.alta_images.specs.Ordered.{RowsRise}
 use Rattle.alta_images.specs.States.{word_count}
 use Rattle.alta_images.proofs.KeptStates.{map_filter}
-use Rattle.alta_images.proofs.KnownLaws.{all_both, all_weaker}
-use Rattle.alta_images.proofs.WrittenLaws.{all_right}
-use Rattle.alta_memlevel.specs.Added.{Added, HasContent, IsDocument, Level, live_of}
+use Rattle.alta_images.proofs.KnownLaws.{all_weaker}
+use Rattle.alta_images.proofs.Tests.{by_test, filter_drop, filter_keep}
+use Rattle.alta_memlevel.specs.Added.{Added, HasContent, IsDocument, IsSpace, Level}
 use Rattle.alta_memlevel.specs.Documents.{IsBefore, document_in}
 use Rattle.alta_meta.specs.declared.document.Document.{Document}
 use Rattle.alta_meta.specs.declared.document.State.{State}
-use Rattle.alta_rows.specs.All.{joined, rows_in as rows_of}
+use Rattle.alta_rows.specs.All.{rows_in as rows_of}
 use Rattle.alta_rows.specs.declared.level.LevelRows.{LevelRows}
 use Rattle.std.specs.declared.rc.Rc.{Rc}
 use Rattle.alta_table.specs.Tables.{Tables}
 use Rattle.alta_catalog.specs.Counting.{row_words}
-use Rattle.alta_catalog.specs.Flushing.{IsEmptied, MayStand, ends_below, level_in}
-use Rattle.alta_catalog.specs.Knowing.{IsEndIn, Knows, KnowsBy, Notes}
+use Rattle.alta_catalog.specs.Knowing.{IsEndIn, Knows, KnowsBy, Notes, documents_of}
+use Rattle.alta_catalog.specs.Replacing.{IsEmptied, IsPrepared, MayReplace, ends_in, level_in, rows_between, tables_between}
 use Rattle.alta_catalog.specs.Rows.{AreRowsOf, documents_left}
 use Rattle.alta_catalog.specs.declared.catalog.Catalog.{Catalog}
-use Rattle.alta_catalog.proofs.EndLaws.{here_or_there, space_all, there}
-use Rattle.alta_catalog.proofs.KnowingLaws.{document_among, row_among, rows_of_all}
-use Rattle.alta_catalog.proofs.PartLaws.{below_member, left_behind, left_front, notes_same}
+use Rattle.alta_catalog.specs.declared.replacing.PreparedLevels.{PreparedLevels}
+use Rattle.alta_catalog.proofs.ComingLaws.{ranges_rise}
+use Rattle.alta_catalog.proofs.EndLaws.{among, here_or_there, is_among, no_member, not_among, space_all, there}
+use Rattle.alta_catalog.proofs.KnowingLaws.{document_among, rows_of_all}
+use Rattle.alta_catalog.proofs.PartLaws.{notes_same}
 use Rattle.alta_catalog.proofs.SettledLaws.{AreSettled, settled_knows, settled_part, settled_space, space_settled}
-use Rattle.alta_catalog.proofs.SpaceLaws.{left_append}
+use Rattle.alta_catalog.proofs.SharingLaws.{space_ends}
 use Rattle.alta_catalog.proofs.StartLaws.{IsCounted, all_rows, live_long, live_named, live_words, row_of}
 
-levels_more : (levels more : List Tables) → rows_in (levels ++ more) ≡ rows_in levels ++ rows_in more
-levels_more levels more = flat_map-append (λ (t : Tables). t.documents) levels more
+-- ---- levels in place of others
 
--- A catalog that goes on over a level more, with these deleted ends, and without newest documents.
-pub record IsPut (before : Catalog) (level : Option Tables) (deleted : List ℕ) (new : Catalog) : Type 0 where
-  pub levels : new.levels.items ≡ before.levels.items ++ level_in level
-  pub shared : joined (map rows_of new.rows.items) ≡ rows_in new.levels.items
+rows_more : (xs ys : List Tables) → rows_in (xs ++ ys) ≡ rows_in xs ++ rows_in ys
+rows_more xs ys = flat_map-append (λ (t : Tables). t.documents) xs ys
+
+-- the rows of levels between two others
+pub between : (oldest : Option Tables) (n : ℕ) (levels : List Tables) (newest : Option Tables)
+    → rows_in (tables_between oldest n levels newest) ≡ rows_between (rows_in (level_in oldest)) n levels (rows_in (level_in newest))
+between oldest n levels newest =
+    rows_more (level_in oldest) (drop n levels ++ level_in newest) ∙ ap (λ (rs : List DocRow). rows_in (level_in oldest) ++ rs) (rows_more (drop n levels) (level_in newest))
+
+-- the shared rows of a level, where there is one
+beside : (level : Option Tables) (run : Rc LevelRows Global) (runs : List (Rc LevelRows Global)) → rows_of run ≡ rows_in (level_in level) → runs ≡ map (λ (there : Tables). run) (level_in level)
+    → map rows_of runs ≡ map documents_of (level_in level)
+beside None run runs same are = ap (map rows_of) are
+beside (Some level) run runs same are = ap (map rows_of) are ∙ ap (λ (rs : List DocRow). rs ∷ []) (same ∙ append-nil level.documents)
+
+shared_between : (oldest : Option Tables) (n : ℕ) (levels : List Tables) (newest : Option Tables) (first last rows : List (Rc LevelRows Global)) → map rows_of first ≡ map documents_of (level_in oldest)
+    → map rows_of rows ≡ map documents_of levels → map rows_of last ≡ map documents_of (level_in newest) → map rows_of (first ++ (drop n rows ++ last)) ≡ map documents_of (tables_between oldest n levels newest)
+shared_between oldest n levels newest first last rows front middle back =
+    map-append rows_of first (drop n rows ++ last)
+    ∙ ap₂ (λ (xs ys : List (List DocRow)). xs ++ ys) front
+    (map-append rows_of (drop n rows) last
+    ∙ ap₂ (λ (xs ys : List (List DocRow)). xs ++ ys) (sym (drop-map rows_of n rows) ∙ ap (drop n) middle ∙ drop-map documents_of n levels) back
+    ∙ sym (map-append documents_of (drop n levels) (level_in newest)))
+    ∙ sym (map-append documents_of (level_in oldest) (drop n levels ++ level_in newest))
+
+-- A catalog that goes on over levels from an index on between two others, and without newest documents.
+pub record IsPut (before : Catalog) (oldest : Option Tables) (n : ℕ) (newest : Option Tables) (new : Catalog) : Type 0 where
+  pub levels : new.levels.items ≡ tables_between oldest n before.levels.items newest
+  pub shared : map rows_of new.rows.items ≡ map documents_of new.levels.items
   pub sound : IsTrue new.memory.sound
   pub content : HasContent [] new.memory.content
-  pub gone : new.gone ≡ deleted
-  pub rising : IsRising deleted
+  pub gone : new.gone ≡ ends_in before.gone (rows_in (tables_between oldest n before.levels.items newest))
   pub first : new.first ≡ before.next
   pub next : new.next ≡ before.next
   pub location : new.location ≡ before.location
@@ -54,128 +82,215 @@ pub record IsPut (before : Catalog) (level : Option Tables) (deleted : List ℕ)
   pub words : new.words ≡ before.words
   pub names : new.names ≡ before.names
 
-pub put_is : (b now new : Catalog) (s : State) (level : Option Tables) (deleted : List ℕ) → IsEmptied b now → Knows b s → IsRising deleted → new.levels.items ≡ now.levels.items ++ level_in level
-    → joined (map rows_of new.rows.items) ≡ joined (map rows_of now.rows.items) ++ rows_in (level_in level) → new.memory ≡ now.memory → new.gone ≡ deleted → new.first ≡ now.next → new.next ≡ now.next → new.location ≡ now.location
-    → new.count ≡ now.count → new.words ≡ now.words → new.names ≡ now.names → IsPut b level deleted new
-put_is b now new s level deleted emptied f rising levels rows memory gone first next location count words names =
-    let more : new.levels.items ≡ b.levels.items ++ level_in level = levels ∙ ap (λ (ls : Vec Tables Global). ls.items ++ level_in level) emptied.levels in
+-- what stays of a catalog whose levels are others
+pub record Stays (now new : Catalog) : Type 0 where
+  pub memory : new.memory ≡ now.memory
+  pub first : new.first ≡ now.next
+  pub next : new.next ≡ now.next
+  pub location : new.location ≡ now.location
+  pub count : new.count ≡ now.count
+  pub words : new.words ≡ now.words
+  pub names : new.names ≡ now.names
+
+-- what was put in place
+pub record PutsIn (now : Catalog) (prepared : PreparedLevels) (oldest newest : Option Tables) (new : Catalog) : Type 0 where
+  pub first : List (Rc LevelRows Global)
+  pub last : List (Rc LevelRows Global)
+  pub first_are : first ≡ map (λ (there : Tables). prepared.oldest) (level_in oldest)
+  pub last_are : last ≡ map (λ (there : Tables). prepared.newest) (level_in newest)
+  pub rows : new.rows.items ≡ first ++ (drop prepared.stay_from now.rows.items ++ last)
+  pub levels : new.levels.items ≡ tables_between oldest prepared.stay_from now.levels.items newest
+  pub gone : new.gone ≡ prepared.deleted
+
+pub put_is : (b now new : Catalog) (s : State) (prepared : PreparedLevels) (oldest : Option Tables) (n : ℕ) (newest : Option Tables) → IsEmptied b now → Knows b s
+    → IsPrepared now (rows_in (level_in oldest)) n (rows_in (level_in newest)) prepared → PutsIn now prepared oldest newest new → Stays now new → IsPut b oldest n newest new
+put_is b now new s prepared oldest n newest emptied f is puts stays =
+    let levels : new.levels.items ≡ tables_between oldest n b.levels.items newest =
+    puts.levels ∙ ap (λ (k : ℕ). tables_between oldest k now.levels.items newest) is.stay_from ∙ ap (λ (ls : Vec Tables Global). tables_between oldest n ls.items newest) emptied.levels in
     record {
-      levels = more;
+      levels = levels;
       shared =
-          rows ∙ ap (λ (rs : Vec (Rc LevelRows Global) Global). joined (map rows_of rs.items) ++ rows_in (level_in level)) emptied.rows ∙ ap (λ (rs : List DocRow). rs ++ rows_in (level_in level)) f.shared
-          ∙ sym (levels_more b.levels.items (level_in level)) ∙ ap rows_in (sym more);
-      sound = subst (λ (m : Level). IsTrue m.sound) (sym memory) emptied.sound;
-      content = subst (λ (m : Level). HasContent [] m.content) (sym memory) emptied.empty;
-      gone = gone;
-      rising = rising;
-      first = first ∙ emptied.next;
-      next = next ∙ emptied.next;
-      location = location ∙ emptied.location;
-      count = count ∙ emptied.count;
-      words = words ∙ emptied.words;
-      names = names ∙ emptied.names;
+          ap (map rows_of) (puts.rows ∙ ap (λ (k : ℕ). puts.first ++ (drop k now.rows.items ++ puts.last)) is.stay_from ∙ ap (λ (rs : Vec (Rc LevelRows Global) Global). puts.first ++ (drop n rs.items ++ puts.last)) emptied.rows)
+          ∙ shared_between oldest n b.levels.items newest puts.first puts.last b.rows.items (beside oldest prepared.oldest puts.first is.oldest_is puts.first_are) f.shared
+          (beside newest prepared.newest puts.last is.newest_is puts.last_are)
+          ∙ ap (map documents_of) (sym levels);
+      sound = subst (λ (m : Level). IsTrue m.sound) (sym stays.memory) emptied.sound;
+      content = subst (λ (m : Level). HasContent [] m.content) (sym stays.memory) emptied.empty;
+      gone =
+          puts.gone ∙ is.deleted
+          ∙ ap₂ (λ (es : List ℕ) (ls : Vec Tables Global). ends_in es (rows_between (rows_in (level_in oldest)) n ls.items (rows_in (level_in newest)))) emptied.gone emptied.levels
+          ∙ ap (ends_in b.gone) (sym (between oldest n b.levels.items newest));
+      first = stays.first ∙ emptied.next;
+      next = stays.next ∙ emptied.next;
+      location = stays.location ∙ emptied.location;
+      count = stays.count ∙ emptied.count;
+      words = stays.words ∙ emptied.words;
+      names = stays.names ∙ emptied.names;
     }
 
--- a row that ends below the location is one of those in front
-row_in_front : (location : ℕ) (xs ys : List DocRow) → All (λ (row : DocRow). location ≤ end_of row) ys → (row : DocRow) → Contains (xs ++ ys) row → end_of row < location → Contains xs row
-row_in_front location [] ys far row has less = absurd (omega (arith, less, All-contains (λ (r : DocRow). location ≤ end_of r) ys row far has))
-row_in_front location (x ∷ xs) ys far row has less =
-    ⊎_elim (λ (same : x ≡ row). (0, omega arith, same))
-    (λ more. there x xs row (row_in_front location xs ys far row more less))
-    (here_or_there x (xs ++ ys) row has)
+-- ---- what is left
 
-module _ (b : Catalog) (s : State) (f : Knows b s) (location : ℕ) (level : Option Tables) (deleted : List ℕ) (may : MayStand b location level deleted) where
+-- a test keeps what it kept, where another leaves out only what it does not keep
+filter_within : {X : Type 0} (p q : X → Bool) (xs : List X) → All (λ x. q x ≡ false → p x ≡ false) xs → filter p (filter q xs) ≡ filter p xs
+filter_within p q [] all = refl
+filter_within {X} p q (x ∷ xs) all =
+    let rest = filter_within p q xs (All-tail (λ x. q x ≡ false → p x ≡ false) x xs all) in
+    by_test (q x)
+    (λ keeps. ap (filter p) (filter_keep q x xs keeps)
+    ∙ by_test (p x)
+    (λ holds. filter_keep p x (filter q xs) holds ∙ ap (λ (ys : List X). x ∷ ys) rest ∙ sym (filter_keep p x xs holds))
+    (λ fails. filter_drop p x (filter q xs) fails ∙ rest ∙ sym (filter_drop p x xs fails)))
+    (λ drops. ap (filter p) (filter_drop q x xs drops) ∙ rest ∙ sym (filter_drop p x xs (All-head (λ x. q x ≡ false → p x ≡ false) x xs all drops)))
+
+-- the row of an end
+row_at : (rows : List DocRow) (end : ℕ) → Contains (map end_of rows) end → (row : DocRow) × Contains rows row × (end_of row ≡ end)
+row_at [] end has = absurd (no_member end has)
+row_at (r ∷ rows) end has =
+    ⊎_elim (λ (same : end_of r ≡ end). (r, (0, omega arith, refl), same))
+    (λ more. let (row, inside, is) = row_at rows end more in (row, there r rows row inside, is))
+    (here_or_there (end_of r) (map end_of rows) end has)
+
+end_among : (rows : List DocRow) (row : DocRow) → Contains rows row → Contains (map end_of rows) (end_of row)
+end_among [] row has = absurd (no_member row has)
+end_among (r ∷ rows) row has =
+    ⊎_elim (λ (same : r ≡ row). (0, omega arith, ap end_of same))
+    (λ more. there (end_of r) (map end_of rows) (end_of row) (end_among rows row more))
+    (here_or_there r rows row has)
+
+-- what passes a test
+kept_one : (p : DocRow → Bool) (rows : List DocRow) (row : DocRow) → Contains rows row → p row ≡ true → Contains (filter p rows) row
+kept_one p [] row has holds = absurd (no_member row has)
+kept_one p (r ∷ rows) row has holds =
+    by_test (p r)
+    (λ keeps. subst (λ (rs : List DocRow). Contains rs row) (sym (filter_keep p r rows keeps))
+    (⊎_elim (λ (same : r ≡ row). (0, omega arith, same)) (λ more. there r (filter p rows) row (kept_one p rows row more holds)) (here_or_there r rows row has)))
+    (λ drops. subst (λ (rs : List DocRow). Contains rs row) (sym (filter_drop p r rows drops))
+    (⊎_elim (λ (same : r ≡ row). absurd (false≢true (sym drops ∙ ap p same ∙ holds))) (λ more. kept_one p rows row more holds) (here_or_there r rows row has)))
+
+one_kept : (p : DocRow → Bool) (rows : List DocRow) (row : DocRow) → Contains (filter p rows) row → Contains rows row × (p row ≡ true)
+one_kept p [] row has = absurd (no_member row has)
+one_kept p (r ∷ rows) row has =
+    by_test (p r)
+    (λ keeps. ⊎_elim
+    (λ (same : r ≡ row). ((0, omega arith, same), ap p (sym same) ∙ keeps))
+    (λ more. let rest = one_kept p rows row more in (there r rows row rest.0, rest.1))
+    (here_or_there r (filter p rows) row (subst (λ (rs : List DocRow). Contains rs row) (filter_keep p r rows keeps) has)))
+    (λ drops. let rest = one_kept p rows row (subst (λ (rs : List DocRow). Contains rs row) (filter_drop p r rows drops) has) in (there r rows row rest.0, rest.1))
+
+-- all of it is among all
+pub kept_among : (p : DocRow → Bool) (rows : List DocRow) → All (Contains rows) (filter p rows)
+kept_among p rows = λ k d inside. (one_kept p rows (get_or (filter p rows) k d) (Contains-get_or (filter p rows) k d inside)).0
+
+-- the ends of rows that are gone tell of each row what all tell
+ends_tell : (gone : List ℕ) (rows : List DocRow) → All (λ (row : DocRow). ends_among (ends_in gone rows) row ≡ ends_among gone row) rows
+ends_tell gone rows = λ k d inside.
+    let row = get_or rows k d in
+    let has : Contains rows row = Contains-get_or rows k d inside in
+    by_test (ends_among gone row)
+    (λ is. among (ends_in gone rows) (end_of row) (end_among (filter (ends_among gone) rows) row (kept_one (ends_among gone) rows row has is)) ∙ sym is)
+    (λ alive.
+    not_among (ends_in gone rows) (end_of row) (λ there.
+    let (other, inside_there, same) = row_at (filter (ends_among gone) rows) (end_of row) there in
+    absurd (false≢true (sym alive ∙ ap (is_among gone) (sym same) ∙ (one_kept (ends_among gone) rows other inside_there).1)))
+    ∙ sym alive)
+
+-- some rows of levels and of newest documents, in order
+pub kept_settled : (c : Catalog) (s : State) → Knows c s → (kept : DocRow → Bool) → AreSettled c.next c.location (filter kept (rows_in c.levels.items ++ c.memory.content.documents))
+kept_settled c s f kept =
+    settled_part c.next c.location kept [] (rows_in c.levels.items ++ c.memory.content.documents)
+    (subst (AreSettled c.next c.location) (rows_of_all c s f) (space_settled c.next c.location (f.olds ++ f.added) f.space f.filled f.behind))
+
+pub kept_rise : (c : Catalog) (s : State) (kept : DocRow → Bool) → Knows c s → RangesRise (filter kept (rows_in c.levels.items ++ c.memory.content.documents))
+kept_rise c s kept f =
+    let are = kept_settled c s f kept in
+    ranges_rise (filter kept (rows_in c.levels.items ++ c.memory.content.documents)) are.rise are.placed
+
+module _ (b : Catalog) (s : State) (f : Knows b s) (oldest : Option Tables) (n : ℕ) (newest : Option Tables) (may : MayReplace b oldest n newest) where
   abbrev all : List Added
   all = f.olds ++ f.added
 
-  abbrev old_rows : List DocRow
-  old_rows = rows_in b.levels.items
-
-  abbrev newest_rows : List DocRow
-  newest_rows = b.memory.content.documents
+  abbrev every : List DocRow
+  every = rows_in b.levels.items ++ b.memory.content.documents
 
   abbrev rows_then : List DocRow
-  rows_then = old_rows ++ rows_in (level_in level)
+  rows_then = rows_in (tables_between oldest n b.levels.items newest)
 
   abbrev ends : List ℕ
-  ends = ends_below location b.gone
-
-  then_is : rows_then ≡ old_rows ++ live_rows b.gone newest_rows
-  then_is = ap (λ (rs : List DocRow). old_rows ++ rs) may.rows
-
-  before : AreSettled b.next b.location (old_rows ++ newest_rows)
-  before = subst (AreSettled b.next b.location) (rows_of_all b s f) (space_settled b.next b.location all f.space f.filled f.behind)
+  ends = ends_in b.gone rows_then
 
   settled : AreSettled b.next b.location rows_then
-  settled = subst (AreSettled b.next b.location) (sym then_is) (settled_part b.next b.location (λ (row : DocRow). not (ends_among b.gone row)) old_rows newest_rows before)
+  settled = subst (AreSettled b.next b.location) (sym may.rows) (kept_settled b s f may.kept)
 
-  far : All (λ (row : DocRow). location ≤ end_of row) newest_rows
-  far =
-      all_weaker (λ (row : DocRow). (location ≤ row.first) × (3 ≤ row.cells)) (λ (row : DocRow). location ≤ end_of row) newest_rows (λ row both. omega (arith, both.0, both.1))
-      (all_both (λ (row : DocRow). location ≤ row.first) (λ (row : DocRow). 3 ≤ row.cells) newest_rows may.behind (all_right (λ (row : DocRow). 3 ≤ row.cells) old_rows newest_rows before.filled))
+  -- what is not kept is gone
+  not_kept : All (λ (row : DocRow). may.kept row ≡ false → not (ends_among b.gone row) ≡ false) every
+  not_kept = all_weaker (λ (row : DocRow). may.kept row ≡ false → ends_among b.gone row ≡ true) (λ (row : DocRow). may.kept row ≡ false → not (ends_among b.gone row) ≡ false) every (λ row is drops. ap not (is drops)) may.gone
 
-  -- the live rows stay the same
-  live_then : live_rows deleted rows_then ≡ live_rows b.gone (old_rows ++ newest_rows)
+  -- of the rows then the same are live
+  tell : All (λ (row : DocRow). not (ends_among ends row) ≡ not (ends_among b.gone row)) rows_then
+  tell =
+      all_weaker (λ (row : DocRow). ends_among ends row ≡ ends_among b.gone row) (λ (row : DocRow). not (ends_among ends row) ≡ not (ends_among b.gone row)) rows_then (λ row e. ap not e) (ends_tell b.gone rows_then)
+
+  live_then : live_rows ends rows_then ≡ live_rows b.gone every
   live_then =
-      ap (λ (es : List ℕ). live_rows es rows_then) may.deleted_are ∙ ap (live_rows ends) then_is
-      ∙ filter-append (λ (row : DocRow). not (ends_among ends row)) old_rows (live_rows b.gone newest_rows)
-      ∙ ap (λ (rs : List DocRow). rs ++ live_rows ends (live_rows b.gone newest_rows)) (left_front end_of location b.gone old_rows may.below)
-      ∙ ap (λ (rs : List DocRow). live_rows b.gone old_rows ++ rs)
-      (left_behind end_of location b.gone (live_rows b.gone newest_rows) (All-filter (λ (row : DocRow). not (ends_among b.gone row)) (λ (row : DocRow). location ≤ end_of row) newest_rows far))
-      ∙ sym (filter-append (λ (row : DocRow). not (ends_among b.gone row)) old_rows newest_rows)
+      filter_alike (λ (row : DocRow). not (ends_among ends row)) (λ (row : DocRow). not (ends_among b.gone row)) rows_then tell
+      ∙ ap (live_rows b.gone) may.rows ∙ filter_within (λ (row : DocRow). not (ends_among b.gone row)) may.kept every not_kept
 
   counted : All IsCounted all
   counted = all_weaker IsDocument IsCounted all (λ a is. sym is.counted) (space_all all f.space)
 
-  rows_put : (new : Catalog) → IsPut b level deleted new → rows_in new.levels.items ≡ rows_then
-  rows_put new put = ap rows_in put.levels ∙ levels_more b.levels.items (level_in level)
-
   module _ (olds : List Added) (of : AreRowsOf rows_then olds) where
-    named_then : map named_of (documents_left b.gone all) ≡ map named_of (documents_left deleted olds)
+    named_then : map named_of (documents_left b.gone all) ≡ map named_of (documents_left ends olds)
     named_then =
         sym (live_named b.gone all) ∙ ap (live_in b.gone) (rows_of_all b s f)
         ∙ ap (λ (rs : List DocRow). map (λ (row : DocRow). named row.name row.number) rs) (sym live_then)
-        ∙ ap (live_in deleted) (sym of.rows_are) ∙ live_named deleted olds
+        ∙ ap (live_in ends) (sym of.rows_are) ∙ live_named ends olds
 
-    long_then : length s.documents ≡ length (documents_left deleted olds)
+    long_then : length s.documents ≡ length (documents_left ends olds)
     long_then =
         ap (λ (ds : List Document). length ds) (sym f.notes.documents) ∙ sym (live_long b.gone all) ∙ ap (λ (rs : List DocRow). length (live_rows b.gone rs)) (rows_of_all b s f)
-        ∙ ap (λ (rs : List DocRow). length rs) (sym live_then) ∙ ap (λ (rs : List DocRow). length (live_rows deleted rs)) (sym of.rows_are) ∙ live_long deleted olds
+        ∙ ap (λ (rs : List DocRow). length rs) (sym live_then) ∙ ap (λ (rs : List DocRow). length (live_rows ends rs)) (sym of.rows_are) ∙ live_long ends olds
 
-    words_then : sum_by word_count s.documents ≡ sum_by word_count (documents_left deleted olds)
+    words_then : sum_by word_count s.documents ≡ sum_by word_count (documents_left ends olds)
     words_then =
         ap (λ (ds : List Document). sum_by word_count ds) (sym f.notes.documents) ∙ sym (live_words b.gone all counted) ∙ ap (λ (rs : List DocRow). sum_by row_words (live_rows b.gone rs)) (rows_of_all b s f)
-        ∙ ap (λ (rs : List DocRow). sum_by row_words rs) (sym live_then) ∙ ap (λ (rs : List DocRow). sum_by row_words (live_rows deleted rs)) (sym of.rows_are) ∙ live_words deleted olds of.counted
+        ∙ ap (λ (rs : List DocRow). sum_by row_words rs) (sym live_then) ∙ ap (λ (rs : List DocRow). sum_by row_words (live_rows ends rs)) (sym of.rows_are) ∙ live_words ends olds of.counted
 
     abbrev then_state : State
-    then_state = record { next = s.next; documents = documents_left deleted olds }
+    then_state = record { next = s.next; documents = documents_left ends olds }
 
-    ends_then : (end : ℕ) → Contains deleted end → IsEndIn olds end
+    ends_then : (end : ℕ) → Contains ends end → IsEndIn olds end
     ends_then end has =
-        let both = below_member location b.gone end (subst (λ (es : List ℕ). Contains es end) may.deleted_are has) in
-        let (a, member, is) = f.ends end both.0 in
-        let row : Contains (old_rows ++ newest_rows) a.row = subst (λ (rs : List DocRow). Contains rs a.row) (rows_of_all b s f) (row_among all a member) in
-        let old : Contains old_rows a.row = row_in_front location old_rows newest_rows far a.row row (omega (arith, is, both.1)) in
-        let (d, inside, same) = document_among olds a.row (subst (λ (rs : List DocRow). Contains rs a.row) (sym of.rows_are) (Contains-append_left old_rows (rows_in (level_in level)) a.row old)) in
-        (d, inside, ap end_of same ∙ is)
+        let (row, inside, is) = row_at (filter (ends_among b.gone) rows_then) end has in
+        let in_rows : Contains rows_then row = (one_kept (ends_among b.gone) rows_then row inside).0 in
+        let (d, member, same) = document_among olds row (subst (λ (rs : List DocRow). Contains rs row) (sym of.rows_are) in_rows) in
+        (d, member, ap end_of same ∙ is)
 
-    knows_then : (new : Catalog) → IsPut b level deleted new → AreRowsOf (rows_in new.levels.items) olds → KnowsBy new olds (record { next = s.next; documents = documents_left deleted olds })
+    abbrev space_then : IsSpace olds
+    space_then = settled_space olds (subst RowsRise (sym of.rows_are) settled.rise) (subst (All IsPlaced) (sym of.rows_are) settled.placed) of.counted
+
+    -- the ends rise as the rows do
+    rising_then : IsRising ends
+    rising_then =
+        subst IsRising (sym (map_filter end_of (is_among b.gone) rows_then))
+        (filter-rises (is_among b.gone) (map end_of rows_then) (subst (λ (rs : List DocRow). IsRising (map end_of rs)) of.rows_are (space_ends olds space_then)))
+
+    knows_then : (new : Catalog) → IsPut b oldest n newest new → AreRowsOf (rows_in new.levels.items) olds → KnowsBy new olds then_state
     knows_then new put rows = settled_knows new olds then_state (record {
       rows = rows;
       sound = put.sound;
       content = put.content;
       shared = put.shared;
-      space = settled_space olds (subst RowsRise (sym of.rows_are) settled.rise) (subst (All IsPlaced) (sym of.rows_are) settled.placed) of.counted;
+      space = space_then;
       filled = all_rows (λ (row : DocRow). 3 ≤ row.cells) olds (subst (All (λ (row : DocRow). 3 ≤ row.cells)) (sym of.rows_are) settled.filled);
       behind = all_weaker (λ (a : Added). IsBefore b.next b.location a.row) (λ (a : Added). IsBefore new.next new.location a.row) olds
           (λ a before. (omega (arith, before.0, put.next), omega (arith, before.1, put.location)))
           (all_rows (IsBefore b.next b.location) olds (subst (All (IsBefore b.next b.location)) (sym of.rows_are) settled.before));
-      rising = subst IsRising (sym put.gone) put.rising;
+      rising = subst IsRising (sym put.gone) rising_then;
       ends = λ end has. ends_then end (subst (λ (es : List ℕ). Contains es end) put.gone has);
       notes = subst (λ (n : ℕ). Notes n new.names (documents_left new.gone olds) then_state) (sym put.next)
           (subst (λ (known : BTreeMap (String Global) ℕ). Notes b.next known (documents_left new.gone olds) then_state) (sym put.names)
           (subst (λ (es : List ℕ). Notes b.next b.names (documents_left es olds) then_state) (sym put.gone)
-          (notes_same b.next b.names (documents_left b.gone all) s f.notes (documents_left deleted olds) named_then)));
+          (notes_same b.next b.names (documents_left b.gone all) s f.notes (documents_left ends olds) named_then)));
       first = put.first ∙ sym put.next;
       from = (omega (arith, put.next, f.next, f.from.0), omega (arith, put.location, f.from.1));
       fits = (omega (arith, put.next, f.fits.0), omega (arith, put.next, put.location, f.fits.1));
@@ -183,38 +298,36 @@ module _ (b : Catalog) (s : State) (f : Knows b s) (location : ℕ) (level : Opt
       words = put.words ∙ f.words ∙ words_then;
     })
 
-  pub put_knows : (new : Catalog) → IsPut b level deleted new → (olds : List Added) → AreRowsOf (rows_in new.levels.items) olds → KnowsBy new olds (record { next = s.next; documents = documents_left deleted olds })
-  put_knows new put olds of = knows_then olds (subst (λ (rs : List DocRow). AreRowsOf rs olds) (rows_put new put) of) new put of
+  rows_put : (new : Catalog) → IsPut b oldest n newest new → rows_in new.levels.items ≡ rows_then
+  rows_put new put = ap rows_in put.levels
 
-  -- with the live ones of the newest documents, the documents that are left stay the same
-  abbrev live : List Added
-  live = live_of b.gone f.added
+  pub put_knows : (new : Catalog) → IsPut b oldest n newest new → (olds : List Added) → AreRowsOf (rows_in new.levels.items) olds
+      → KnowsBy new olds (record { next = s.next; documents = documents_left new.gone olds })
+  put_knows new put olds of =
+      subst (λ (es : List ℕ). KnowsBy new olds (record { next = s.next; documents = documents_left es olds })) (sym put.gone)
+      (knows_then olds (subst (λ (rs : List DocRow). AreRowsOf rs olds) (rows_put new put) of) new put of)
 
-  live_rows_are : AreRowsOf rows_then (f.olds ++ live)
-  live_rows_are = record {
-    rows_are =
-        map-append row_of f.olds live ∙ ap (λ (rs : List DocRow). rs ++ map row_of live) f.rows.rows_are
-        ∙ ap (λ (rs : List DocRow). old_rows ++ rs)
-        (map_filter row_of (λ (row : DocRow). not (ends_among b.gone row)) f.added ∙ ap (live_rows b.gone) (sym f.content.documents) ∙ sym may.rows);
-    counted = All-append IsCounted f.olds live f.rows.counted (All-filter (λ (a : Added). not (ends_among b.gone a.row)) IsCounted f.added (all_right IsCounted f.olds f.added counted));
+  -- with the cells that they had, the documents that are left stay the same
+  abbrev kept : List Added
+  kept = filter (λ (a : Added). may.kept a.row) all
+
+  kept_are : AreRowsOf rows_then kept
+  kept_are = record {
+    rows_are = map_filter row_of may.kept all ∙ ap (filter may.kept) (rows_of_all b s f) ∙ sym may.rows;
+    counted = All-filter (λ (a : Added). may.kept a.row) IsCounted all counted;
   }
 
-  old_below : All (λ (a : Added). end_of a.row < location) f.olds
-  old_below = all_rows (λ (row : DocRow). end_of row < location) f.olds (subst (All (λ (row : DocRow). end_of row < location)) (sym f.rows.rows_are) may.below)
-
-  live_far : All (λ (a : Added). location ≤ end_of a.row) live
-  live_far =
-      All-filter (λ (a : Added). not (ends_among b.gone a.row)) (λ (a : Added). location ≤ end_of a.row) f.added
-      (all_rows (λ (row : DocRow). location ≤ end_of row) f.added (subst (All (λ (row : DocRow). location ≤ end_of row)) f.content.documents far))
-
-  left_same : documents_left deleted (f.olds ++ live) ≡ s.documents
+  left_same : documents_left ends kept ≡ s.documents
   left_same =
-      ap (λ (es : List ℕ). documents_left es (f.olds ++ live)) may.deleted_are ∙ left_append ends f.olds live
-      ∙ ap (λ (ds : List Added). map document_in ds ++ documents_left ends live) (left_front (λ (a : Added). end_of a.row) location b.gone f.olds old_below)
-      ∙ ap (λ (ds : List Added). documents_left b.gone f.olds ++ map document_in ds) (left_behind (λ (a : Added). end_of a.row) location b.gone live live_far)
-      ∙ sym (left_append b.gone f.olds f.added) ∙ f.notes.documents
+      ap (map document_in)
+      (filter_alike (λ (a : Added). not (ends_among ends a.row)) (λ (a : Added). not (ends_among b.gone a.row)) kept
+      (all_rows (λ (row : DocRow). not (ends_among ends row) ≡ not (ends_among b.gone row)) kept (subst (All (λ (row : DocRow). not (ends_among ends row) ≡ not (ends_among b.gone row))) (sym kept_are.rows_are) tell))
+      ∙ filter_within (λ (a : Added). not (ends_among b.gone a.row)) (λ (a : Added). may.kept a.row) all
+      (all_rows (λ (row : DocRow). may.kept row ≡ false → not (ends_among b.gone row) ≡ false) all
+      (subst (All (λ (row : DocRow). may.kept row ≡ false → not (ends_among b.gone row) ≡ false)) (sym (rows_of_all b s f)) not_kept)))
+      ∙ f.notes.documents
 
-  pub put_same : (new : Catalog) → IsPut b level deleted new → Knows new s
+  pub put_same : (new : Catalog) → IsPut b oldest n newest new → Knows new s
   put_same new put =
       subst (λ (ds : List Document). Knows new (record { next = s.next; documents = ds })) left_same
-      (put_knows new put (f.olds ++ live) (subst (λ (rs : List DocRow). AreRowsOf rs (f.olds ++ live)) (sym (rows_put new put)) live_rows_are)).0
+      (knows_then kept kept_are new put (subst (λ (rs : List DocRow). AreRowsOf rs kept) (sym (rows_put new put)) kept_are)).0

@@ -1,3 +1,4 @@
+pub mod ComingLaws
 pub mod DocumentLaws
 pub mod EndLaws
 pub mod EntryLaws

@@ -1,5 +1,5 @@
--- The names of one row.
-use Rattle.std.proofs.Common.{◌≡◌, ◌<◌, ◌≤◌, ℕ, Bool, arith, cond, get_or, length, Global, List, [], ◌∷◌, ◌++◌, sym, ◌∙◌, ap, subst}
+-- The names of one row, and rows that come behind or in place of those of one level.
+use Rattle.std.proofs.Common.{◌≡◌, ◌<◌, ◌≤◌, ℕ, Bool, arith, cond, drop, get_or, length, Global, List, [], ◌∷◌, ◌++◌, sym, ◌∙◌, ap, subst}
 use Rattle.std.specs.Prelude.{Some, None, String}
 use Rattle.std.specs.BTreeMap.{BTreeMap, IsEmpty, get_by_text, is_at}
 use Rattle.std.specs.Cmp.Lexicographic.{slice_cmp}
@@ -7,7 +7,12 @@ use Rattle.std.specs.Map.{lookup, update}
 use Rattle.std.specs.Ordering.{nat_cmp}
 use Rattle.std.specs.Str.{bytes_eq}
 use Rattle.std.specs.String.{string_bytes}
+use Rattle.std.proofs.Math.Seq.{drop-length}
+use Rattle.std.proofs.lemmas.List.{append-nil}
+use Rattle.std.proofs.lemmas.List.Elements.{All-cons, All-nil}
+use Rattle.alta_content.specs.Rows.{AreDocuments, IsPlaced, RowsRise, end_of}
 use Rattle.alta_content.specs.declared.document.DocRow.{DocRow}
+use Rattle.alta_content.proofs.Contents.{rows_rise}
 use Rattle.alta_images.specs.Opened.{live_in, rows_in}
 use Rattle.alta_images.proofs.NameLaws.{bytes_eq-swap}
 use Rattle.alta_table.specs.Tables.{Tables}
@@ -26,7 +31,28 @@ one_name old new row name empty is noted level rows levels are =
     (λ q. noted q ∙ ap (λ (b : Bool). cond b (Some row.number) (get_by_text old q)) (ap (λ (n : List ℕ). bytes_eq n q) is ∙ bytes_eq-swap row.name q)
     ∙ ap (cond (bytes_eq q row.name) (Some row.number)) (none_known old empty q)))
 
-pub only_row : (rows : List DocRow) (row : DocRow) → 1 ≤ length rows → length rows < 2 → row ≡ get_or rows 0 row → rows ≡ row ∷ []
-only_row [] row some few is = absurd (omega (arith, some))
-only_row (r ∷ []) row some few is = ap (λ (x : DocRow). x ∷ []) (sym is)
-only_row (r ∷ other ∷ rows) row some few is = absurd (omega (arith, few))
+pub only_one : {X : Type 0} (xs : List X) (x : X) → 1 ≤ length xs → length xs < 2 → x ≡ get_or xs 0 x → xs ≡ x ∷ []
+only_one [] x some few is = absurd (omega (arith, some))
+only_one {X} (y ∷ []) x some few is = ap (λ (z : X). z ∷ []) (sym is)
+only_one (y ∷ other ∷ xs) x some few is = absurd (omega (arith, few))
+
+-- ---- rows that come
+
+pub placed_one : (rows : List DocRow) (row : DocRow) → rows ≡ row ∷ [] → AreDocuments rows → IsPlaced row
+placed_one rows row alone are = let rise : RowsRise (row ∷ []) = subst RowsRise alone (rows_rise rows are) in rise.0
+
+-- a row behind the one of a level
+pub one_behind : (levels : List Tables) (level : Tables) (first : DocRow) (rows : List DocRow) (row : DocRow) → levels ≡ level ∷ [] → level.documents ≡ first ∷ [] → rows ≡ row ∷ []
+    → AreDocuments level.documents → AreDocuments rows → end_of first < row.first → RowsRise (rows_in levels ++ rows)
+one_behind levels level first rows row one only alone stand are less =
+    let front : RowsRise (first ∷ []) = subst RowsRise only (rows_rise level.documents stand) in
+    let back : RowsRise (row ∷ []) = subst RowsRise alone (rows_rise rows are) in
+    let is : rows_in levels ++ rows ≡ first ∷ row ∷ [] =
+    ap (λ (ls : List Tables). rows_in ls ++ rows) one ∙ ap (λ (rs : List DocRow). (rs ++ []) ++ rows) only ∙ ap (λ (rs : List DocRow). first ∷ rs) alone in
+    subst RowsRise (sym is) (front.0, All-cons (λ (r : DocRow). end_of first < r.first) row [] less (All-nil (λ (r : DocRow). end_of first < r.first)), back)
+
+-- rows in place of those of all levels
+pub all_replaced : (levels : List Tables) (n : ℕ) (rows : List DocRow) → n ≡ length levels → AreDocuments rows → RowsRise (rows ++ (rows_in (drop n levels) ++ []))
+all_replaced levels n rows is are =
+    let none : drop n levels ≡ [] = ap (λ (k : ℕ). drop k levels) is ∙ drop-length levels in
+    subst RowsRise (sym (ap (λ (ls : List Tables). rows ++ (rows_in ls ++ [])) none ∙ append-nil rows)) (rows_rise rows are)

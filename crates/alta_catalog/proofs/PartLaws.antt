@@ -1,66 +1,13 @@
--- Ends below a location, and documents that are known by their rows.
-use Rattle.std.proofs.Common.{◌≡◌, ⊎_elim, ℕ, ◌+◌, ◌<◌, ◌≤◌, Bool, true, false, not, nat_lt, Global, List, [], ◌∷◌, map, refl, sym, ◌∙◌, ap, subst, arith}
-use Rattle.std.specs.Prelude.{◌||◌, ◌==◌, Contains, Some, String}
-use Rattle.std.specs.List.{All, filter, list_any}
+-- Documents that are known by their rows.
+use Rattle.std.proofs.Common.{◌≡◌, ℕ, ◌+◌, Bool, Global, List, [], ◌∷◌, map, refl, sym, ◌∙◌, ap, subst, arith}
+use Rattle.std.specs.Prelude.{◌||◌, Some, String}
+use Rattle.std.specs.List.{list_any}
 use Rattle.std.specs.BTreeMap.{BTreeMap, get_by_text}
 use Rattle.std.specs.Str.{bytes_eq}
-use Rattle.std.proofs.lemmas.Bool.{ltb-true, ltb-false}
-use Rattle.alta_content.proofs.Outside.{filter_alike, filter_all}
-use Rattle.alta_images.proofs.KnownLaws.{all_weaker}
-use Rattle.alta_images.proofs.Tests.{apart_test, by_test, filter_drop, filter_keep}
 use Rattle.alta_images.specs.Known.{Named, named_of}
 use Rattle.alta_meta.specs.declared.document.Document.{Document}
 use Rattle.alta_meta.specs.declared.document.State.{State}
-use Rattle.alta_catalog.specs.Flushing.{ends_below}
 use Rattle.alta_catalog.specs.Knowing.{AreFound, Notes, RiseWithin}
-use Rattle.alta_catalog.proofs.EndLaws.{is_among, here_or_there, no_member, there}
-
--- ---- the ends below a location
-
--- in front of the location they tell what all tell
-below_same : (location end : ℕ) (ends : List ℕ) → end < location → is_among (ends_below location ends) end ≡ is_among ends end
-below_same location end [] less = refl
-below_same location end (e ∷ ends) less =
-    by_test (nat_lt e location)
-    (λ keeps. ap (λ (es : List ℕ). is_among es end) (filter_keep (λ x. nat_lt x location) e ends keeps) ∙ ap (λ (b : Bool). (e == end) || b) (below_same location end ends less))
-    (λ drops. ap (λ (es : List ℕ). is_among es end) (filter_drop (λ x. nat_lt x location) e ends drops) ∙ below_same location end ends less
-    ∙ sym (ap (λ (b : Bool). b || is_among ends end) (apart_test e end (λ same. absurd (omega (arith, same, less, ltb-false e location drops))))))
-
--- and behind it nothing
-below_none : (location end : ℕ) (ends : List ℕ) → location ≤ end → is_among (ends_below location ends) end ≡ false
-below_none location end [] far = refl
-below_none location end (e ∷ ends) far =
-    by_test (nat_lt e location)
-    (λ keeps. ap (λ (es : List ℕ). is_among es end) (filter_keep (λ x. nat_lt x location) e ends keeps)
-    ∙ ap (λ (b : Bool). b || is_among (ends_below location ends) end) (apart_test e end (λ same. absurd (omega (arith, same, far, ltb-true e location keeps))))
-    ∙ below_none location end ends far)
-    (λ drops. ap (λ (es : List ℕ). is_among es end) (filter_drop (λ x. nat_lt x location) e ends drops) ∙ below_none location end ends far)
-
--- a member is one of all, and below
-pub below_member : (location : ℕ) (ends : List ℕ) (end : ℕ) → Contains (ends_below location ends) end → Contains ends end × (end < location)
-below_member location [] end has = absurd (no_member end has)
-below_member location (e ∷ ends) end has =
-    by_test (nat_lt e location)
-    (λ keeps. ⊎_elim
-    (λ (same : e ≡ end). ((0, omega arith, same), omega (arith, same, ltb-true e location keeps)))
-    (λ more. let rest = below_member location ends end more in (there e ends end rest.0, rest.1))
-    (here_or_there e (ends_below location ends) end (subst (λ (es : List ℕ). Contains es end) (filter_keep (λ x. nat_lt x location) e ends keeps) has)))
-    (λ drops. let rest = below_member location ends end (subst (λ (es : List ℕ). Contains es end) (filter_drop (λ x. nat_lt x location) e ends drops) has) in (there e ends end rest.0, rest.1))
-
--- of elements in front of the location as many are left
-pub left_front : {X : Type 0} (f : X → ℕ) (location : ℕ) (ends : List ℕ) (xs : List X) → All (λ x. f x < location) xs
-    → filter (λ x. not (is_among (ends_below location ends) (f x))) xs ≡ filter (λ x. not (is_among ends (f x))) xs
-left_front f location ends xs front =
-    filter_alike (λ x. not (is_among (ends_below location ends) (f x))) (λ x. not (is_among ends (f x))) xs
-    (all_weaker (λ x. f x < location) (λ x. not (is_among (ends_below location ends) (f x)) ≡ not (is_among ends (f x))) xs (λ x less. ap not (below_same location (f x) ends less)) front)
-
--- and of those behind it all
-pub left_behind : {X : Type 0} (f : X → ℕ) (location : ℕ) (ends : List ℕ) (xs : List X) → All (λ x. location ≤ f x) xs
-    → filter (λ x. not (is_among (ends_below location ends) (f x))) xs ≡ xs
-left_behind f location ends xs behind =
-    filter_alike (λ x. not (is_among (ends_below location ends) (f x))) (λ x. true) xs
-    (all_weaker (λ x. location ≤ f x) (λ x. not (is_among (ends_below location ends) (f x)) ≡ true) xs (λ x far. ap not (below_none location (f x) ends far)) behind)
-    ∙ filter_all xs
 
 -- ---- documents with the same names and numbers
 

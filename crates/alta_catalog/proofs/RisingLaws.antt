@@ -1,20 +1,22 @@
 -- Rising ends, put one behind the other.
-use Rattle.std.proofs.Common.{◌≡◌, ℕ, ◌+◌, ◌<◌, Bool, true, false, List, [], ◌∷◌, ◌++◌, length, get_or, take, refl, sym, ◌∙◌, ap, arith}
-use Rattle.std.specs.Prelude.{nat_lt}
+use Rattle.std.proofs.Common.{◌≡◌, ⊎_elim, ℕ, ◌+◌, ◌<◌, ◌≤◌, Bool, true, false, List, [], ◌∷◌, ◌++◌, length, get_or, take, refl, sym, ◌∙◌, ap, subst, arith}
+use Rattle.std.specs.Prelude.{Contains, nat_lt}
 use Rattle.std.specs.List.{All, filter}
 use Rattle.std.proofs.lemmas.Bool.{lt-ltb}
 use Rattle.std.proofs.lemmas.Bool.Decides.{nat_tests}
 use Rattle.std.proofs.lemmas.List.{get_or-take, get_or_default, length-take-le, take_more}
 use Rattle.std.proofs.lemmas.List.Elements.{All-head, All-tail}
 use Rattle.alta_codec.specs.Rising.{IsRising}
+use Rattle.alta_content.proofs.Rises.{Contains-cases, Contains-head, Contains-tail, RisesAbove}
 use Rattle.alta_deletions.specs.Ends.{with_end}
 use Rattle.alta_images.proofs.Tests.{filter_drop, filter_keep}
+use Rattle.alta_catalog.proofs.EndLaws.{no_member}
 
-pub all_pass : (p : ℕ → Bool) (xs : List ℕ) → All (λ x. p x ≡ true) xs → filter p xs ≡ xs
+all_pass : (p : ℕ → Bool) (xs : List ℕ) → All (λ x. p x ≡ true) xs → filter p xs ≡ xs
 all_pass p [] all = refl
 all_pass p (x ∷ xs) all = filter_keep p x xs (All-head (λ y. p y ≡ true) x xs all) ∙ ap (λ (ys : List ℕ). x ∷ ys) (all_pass p xs (All-tail (λ y. p y ≡ true) x xs all))
 
-pub none_pass : (p : ℕ → Bool) (xs : List ℕ) → All (λ x. p x ≡ false) xs → filter p xs ≡ []
+none_pass : (p : ℕ → Bool) (xs : List ℕ) → All (λ x. p x ≡ false) xs → filter p xs ≡ []
 none_pass p [] all = refl
 none_pass p (x ∷ xs) all = filter_drop p x xs (All-head (λ y. p y ≡ false) x xs all) ∙ none_pass p xs (All-tail (λ y. p y ≡ false) x xs all)
 
@@ -37,3 +39,23 @@ end_next ends i end rising inside is =
     ∙ ap (λ (behind : List ℕ). take i ends ++ end ∷ behind) (none_pass (λ x. nat_lt end x) (take i ends) (λ k d within. not_above (get_or (take i ends) k d) end (low k d within)))
     ∙ ap (λ (e : ℕ). take i ends ++ e ∷ []) is
     ∙ sym (take_more ends i 0 inside)
+
+-- ---- rising lists with the same members
+
+above_all : (low : ℕ) (ys : List ℕ) (z : ℕ) → RisesAbove low ys → Contains ys z → low < z
+above_all low [] z rise has = absurd (no_member z has)
+above_all low (y ∷ ys) z rise has = ⊎_elim (λ e. omega (arith, rise.0, e)) (λ more. omega (arith, rise.0, above_all y ys z rise.2 more)) (Contains-cases y ys z has)
+
+pub one_from : (low : ℕ) (xs ys : List ℕ) → RisesAbove low xs → RisesAbove low ys → ((z : ℕ) → Contains xs z → Contains ys z) → ((z : ℕ) → Contains ys z → Contains xs z) → xs ≡ ys
+one_from low [] [] r s h k = refl
+one_from low [] (y ∷ ys) r s h k = absurd (no_member y (k y (Contains-head y ys)))
+one_from low (x ∷ xs) [] r s h k = absurd (no_member x (h x (Contains-head x xs)))
+one_from low (x ∷ xs) (y ∷ ys) r s h k =
+    let below : y ≤ x = ⊎_elim (λ e. omega (arith, e)) (λ more. omega (arith, above_all y ys x s.2 more)) (Contains-cases y ys x (h x (Contains-head x xs))) in
+    let above : x ≤ y = ⊎_elim (λ e. omega (arith, e)) (λ more. omega (arith, above_all x xs y r.2 more)) (Contains-cases x xs y (k y (Contains-head y ys))) in
+    let same : x ≡ y = omega (arith, below, above) in
+    let onward : (z : ℕ) → Contains xs z → Contains ys z =
+    λ z has. ⊎_elim (λ e. absurd (omega (arith, e, below, above, above_all x xs z r.2 has))) (λ more. more) (Contains-cases y ys z (h z (Contains-tail x xs z has))) in
+    let back : (z : ℕ) → Contains ys z → Contains xs z =
+    λ z has. ⊎_elim (λ e. absurd (omega (arith, e, below, above, above_all y ys z s.2 has))) (λ more. more) (Contains-cases x xs z (k z (Contains-tail y ys z has))) in
+    ap (λ v. v ∷ xs) same ∙ ap (λ (l : List ℕ). y ∷ l) (one_from y xs ys (subst (λ v. RisesAbove v xs) same r.2) s.2 onward back)

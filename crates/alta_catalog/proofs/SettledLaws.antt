@@ -16,8 +16,8 @@ use Rattle.alta_images.proofs.WrittenLaws.{all_left, all_right}
 use Rattle.alta_memlevel.specs.Added.{Added, HasContent, IsDocument, IsSpace}
 use Rattle.alta_memlevel.specs.Documents.{IsBefore, IsMade}
 use Rattle.alta_meta.specs.declared.document.State.{State}
-use Rattle.alta_rows.specs.All.{joined, rows_in as rows_of}
-use Rattle.alta_catalog.specs.Knowing.{IsEndIn, KnowsBy, Notes}
+use Rattle.alta_rows.specs.All.{rows_in as rows_of}
+use Rattle.alta_catalog.specs.Knowing.{IsEndIn, KnowsBy, Notes, documents_of}
 use Rattle.alta_catalog.specs.Rows.{AreRowsOf, documents_left}
 use Rattle.alta_catalog.specs.declared.catalog.Catalog.{Catalog}
 use Rattle.alta_catalog.proofs.EndLaws.{space_all}
@@ -31,7 +31,7 @@ pub record IsSettled (c : Catalog) (olds : List Added) (s : State) : Type 0 wher
   pub rows : AreRowsOf (rows_in c.levels.items) olds
   pub sound : IsTrue c.memory.sound
   pub content : HasContent [] c.memory.content
-  pub shared : joined (map rows_of c.rows.items) ≡ rows_in c.levels.items
+  pub shared : map rows_of c.rows.items ≡ map documents_of c.levels.items
   pub space : IsSpace olds
   pub filled : All (λ (a : Added). 3 ≤ a.row.cells) olds
   pub behind : All (λ (a : Added). IsBefore c.next c.location a.row) olds

@@ -14,9 +14,9 @@ use Rattle.alta_meta.specs.declared.document.State.{State}
 use Rattle.alta_root.specs.Root.{IsSound}
 use Rattle.alta_root.specs.declared.root.Root.{Root}
 use Rattle.alta_catalog.specs.Counting.{cells_in, row_words}
-use Rattle.alta_catalog.specs.Knowing.{KnowsBy}
+use Rattle.alta_catalog.specs.Knowing.{KnowsBy, documents_of}
 use Rattle.alta_catalog.specs.Names.{AreNames}
-use Rattle.alta_rows.specs.All.{joined, rows_in as rows_of}
+use Rattle.alta_rows.specs.All.{rows_in as rows_of}
 use Rattle.alta_catalog.specs.Rows.{MayStart, documents_left}
 use Rattle.alta_catalog.specs.declared.catalog.Catalog.{Catalog}
 use Rattle.alta_catalog.proofs.SettledLaws.{IsSettled, settled_knows}
@@ -33,7 +33,7 @@ module _ (c : Catalog) (root : Root) (size : ℕ) (sound : IsSound size root) (g
     (rising : IsRising gone) (ends : have_ends c.levels.items gone ≡ true) (ordered : AreOrdered (live_in gone (rows_in c.levels.items))) (names : AreNames c.names (live_in gone (rows_in c.levels.items)))
     (next_is : c.next ≡ root.next_number) (location_is : c.location ≡ root.next_location) (first_is : c.first ≡ root.next_number)
     (count_is : c.count ≡ length (live_rows c.gone (rows_in c.levels.items))) (words_are : c.words ≡ sum_by row_words (live_rows c.gone (rows_in c.levels.items)))
-    (shared : joined (map rows_of c.rows.items) ≡ rows_in c.levels.items)
+    (shared : map rows_of c.rows.items ≡ map documents_of c.levels.items)
     (usable : IsTrue c.memory.sound) (content : HasContent [] c.memory.content)
     (s : State) (may : MayStart s root gone c.levels.items) where
   abbrev olds : List Added

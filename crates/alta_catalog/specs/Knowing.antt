@@ -5,6 +5,7 @@ use Rattle.std.specs.List.{All, sum_by}
 use Rattle.std.specs.BTreeMap.{BTreeMap, get_by_text}
 use Rattle.alta_codec.specs.Rising.{IsRising}
 use Rattle.alta_content.specs.Rows.{end_of}
+use Rattle.alta_content.specs.declared.document.DocRow.{DocRow}
 use Rattle.alta_memlevel.specs.Added.{Added, HasContent, IsSpace, Level}
 use Rattle.alta_memlevel.specs.Documents.{AreMade, HasDocuments, IsBefore}
 use Rattle.alta_meta.specs.declared.document.Document.{Document}
@@ -16,7 +17,7 @@ use Rattle.alta_journal.specs.declared.entry.Entry.{Entry}
 use Rattle.alta_root.specs.declared.root.Root.{Root}
 use Rattle.alta_catalog.specs.Rows.{AreRowsOf, documents_left}
 use Rattle.alta_catalog.specs.declared.catalog.Catalog.{Catalog}
-use Rattle.alta_rows.specs.All.{joined, rows_in as rows_of}
+use Rattle.alta_rows.specs.All.{rows_in as rows_of}
 use Rattle.alta_table.specs.Tables.{Tables}
 
 -- ---- names and numbers
@@ -50,6 +51,10 @@ AreNumbered number (a ∷ added) = (a.row.number ≡ number) × AreNumbered (num
 abbrev pub IsEndIn : List Added → ℕ → Type 0
 IsEndIn documents end = (a : Added) × Contains documents a × (end_of a.row ≡ end)
 
+-- the rows of a level
+abbrev pub documents_of : Tables → List DocRow
+documents_of level = level.documents
+
 -- The catalog stands at this state. There are documents of the levels' rows, and those that were added behind them, in memory; those of
 -- both whose end is not gone are the state's. It knows their names, how many they are, and how many words they have.
 pub record Knows (c : Catalog) (s : State) : Type 0 where
@@ -58,7 +63,7 @@ pub record Knows (c : Catalog) (s : State) : Type 0 where
   pub rows : AreRowsOf (rows_in c.levels.items) olds
   pub sound : IsTrue c.memory.sound
   pub content : HasContent added c.memory.content
-  pub shared : joined (map rows_of c.rows.items) ≡ rows_in c.levels.items
+  pub shared : map rows_of c.rows.items ≡ map documents_of c.levels.items
   pub made : AreMade added
   pub space : IsSpace (olds ++ added)
   pub filled : All (λ (a : Added). 3 ≤ a.row.cells) (olds ++ added)

@@ -1,6 +1,6 @@
 pub mod Counting
 pub mod Finding
-pub mod Flushing
 pub mod Knowing
 pub mod Names
+pub mod Replacing
 pub mod Rows

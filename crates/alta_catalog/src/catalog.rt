@@ -4,7 +4,8 @@ ghost use Rattle.std.specs.List.{sum_by};
 ghost use Rattle.std.specs.Prelude.{◌≡◌, ◌↔◌, ◌++◌, ◌∷◌, [], ◌+◌, ◌-◌, ◌*◌, ◌<◌, ◌≤◌, ℕ, List, true, false, length, IsTrue, IfOk, IfSome, IfNone, OnOk};
 ghost use Rattle.alta_codec.specs.Name.{IsName};
 ghost use Rattle.alta_codec.specs.Rising.{IsRising};
-ghost use Rattle.alta_content.specs.Rows.{AreDocuments};
+ghost use Rattle.alta_content.specs.declared.document.DocRow.{DocRow};
+ghost use Rattle.alta_content.specs.Rows.{AreDocuments, ends_among, RowsRise as RangesRise};
 ghost use Rattle.alta_images.specs.Opened.{have_ends, live_in, rows_in};
 ghost use Rattle.alta_images.specs.Ordered.{AreBelow, AreOrdered, RowsRise};
 ghost use Rattle.alta_images.specs.States.{has_name, has_number, number_of, with_added, with_deleted, without, words_in};
@@ -13,16 +14,17 @@ ghost use Rattle.alta_journal.specs.declared.entry.Entry.TheVariants.{Add as Add
 ghost use Rattle.alta_memlevel.specs.Added.{Added, HasContent};
 ghost use Rattle.alta_meta.specs.declared.document.State.{State};
 ghost use Rattle.alta_root.specs.Root.{IsSound};
-ghost use Rattle.alta_catalog.specs.Flushing.{IsEmptied, MayStand, ends_below, level_in};
 ghost use Rattle.alta_catalog.specs.Knowing.{AreParts, Follows, Knows, KnowsBy, gone_of, levels_of, location_of, memory_of, newest_of, next_of};
 ghost use Rattle.alta_catalog.specs.Names.{AreNames, AreNamesOf};
+ghost use Rattle.alta_catalog.specs.Replacing.{HasRoom, IsEmptied, IsPrepared, MayReplace, deleted_of, level_in, rows_between, stay_from_of, tables_between};
 ghost use Rattle.alta_catalog.specs.Rows.{AreRowsOf, MayStart, documents_left};
 ghost use Rattle.alta_root.specs.declared.root.Root.{Root};
 
 use crate::finding::{end_of, find};
 use crate::lists::Names;
 use crate::names::{forget, note, rows_in};
-use crate::sharing::{push_level, rows_of, share_runs, with_runs};
+use crate::replacing::{PreparedLevels, ends_to_come, put_between, rows_beside};
+use crate::sharing::{level_rows, rows_of, share_runs, with_runs};
 use crate::starting::{ends_of, tally_levels};
 use alta_codec::{DocNumber, Loc, Text};
 use alta_content::DocRow;
@@ -225,6 +227,7 @@ impl Catalog {
         ensures deleted { IfOk result (λ there. there ≡ true → (s : State) → (knows : Knows self.old s) → (has_number number s ≡ true) × KnowsBy self.new knows.olds (without number s)) }
         ensures missing { IfOk result (λ there. there ≡ false → (s : State) → Knows self.old s → has_number number s ≡ false) }
         ensures unchanged { IfOk result (λ there. there ≡ false → self.new ≡ self.old) }
+        ensures still { IfOk result (λ there. (row : DocRow) → ends_among (gone_of self.old) row ≡ true → ends_among (gone_of self.new) row ≡ true) }
         ensures levels { levels_of self.new ≡ levels_of self.old }
         ensures follows { (root : Root) → (entries : List Entry) → Follows self.old root entries → IfOk result (λ there. there ≡ true → Follows self.new root (entries ++ DeleteEntry number ∷ [])) }
     {
@@ -250,6 +253,7 @@ impl Catalog {
     pub fn remove(&mut self, number: u64) -> Result<(), AllocError>
         requires { (s : State) × Knows self.old s × (has_number number s ≡ true) }
         ensures removed { OnOk result ((s : State) → (knows : Knows self.old s) → KnowsBy self.new knows.olds (without number s)) }
+        ensures still { OnOk result ((row : DocRow) → ends_among (gone_of self.old) row ≡ true → ends_among (gone_of self.new) row ≡ true) }
         ensures levels { levels_of self.new ≡ levels_of self.old }
         ensures follows { (root : Root) → (entries : List Entry) → Follows self.old root entries → OnOk result (Follows self.new root (entries ++ DeleteEntry number ∷ [])) }
     {
@@ -270,22 +274,7 @@ impl Catalog {
         (self.next, self.location)
     }
 
-    /// The ends of documents that are gone and lie below a location. They are the first ones of all. Fails for want of memory alone.
-    pub fn gone_below(&self, alloc: Global, location: Loc) -> Result<Vec<Loc>, AllocError>
-        ensures value { IfOk result (λ ends. ends.items ≡ ends_below location (gone_of self.now)) }
-        ensures rising { IfOk result (λ ends. IsRising ends.items) }
-    {
-        let gone = self.gone.ends();
-        let mut ends = Vec::new(alloc);
-        for end in gone {
-            if *end < location {
-                ends.push(*end)?;
-            }
-        }
-        Ok(ends)
-    }
-
-    /// Takes the newest documents out. Until [`put_level`](Catalog::put_level) the catalog knows the documents of levels alone.
+    /// Takes the newest documents out. Until [`put_levels`](Catalog::put_levels) the catalog knows the documents of levels alone.
     pub fn take_newest(&mut self) -> MemLevel
         ensures memory { result ≡ memory_of self.old }
         ensures emptied { IsEmptied self.old self.new }
@@ -293,26 +282,65 @@ impl Catalog {
         mem::replace(&mut self.memory, MemLevel::new(self.alloc))
     }
 
-    /// Goes on over one level more, which has the live ones of the newest documents that were taken out, or over the same levels where
-    /// none was live. These ends of the levels' documents are deleted then. The rows of that level are copied, to be shared; no other row
-    /// is looked at.
+    /// Takes the memory for other levels: those of these rows, one in place of the levels before the index and one behind all. The rows
+    /// are copied, to be shared, and the ends that are gone are looked up among all rows to come.
     ///
     /// # Errors
     ///
-    /// `AllocError` where memory is wanting: the catalog may no longer be used.
-    pub fn put_level(&mut self, level: Option<Table>, deleted: &[Loc]) -> Result<(), AllocError>
-        requires rising { IsRising deleted.now }
-        ensures knows { (before : Catalog) → (s : State) → (location : ℕ) → (olds : List Added) → IsEmptied before self.old → Knows before s → MayStand before location level deleted.now
-            → OnOk result (AreRowsOf (rows_in (levels_of self.new)) olds → KnowsBy self.new olds (record { next = s.next; documents = documents_left deleted.now olds })) }
-        ensures same { (before : Catalog) → (s : State) → (location : ℕ) → IsEmptied before self.old → Knows before s → MayStand before location level deleted.now → OnOk result (Knows self.new s) }
-        ensures levels { OnOk result (levels_of self.new ≡ levels_of self.old ++ level_in level) }
-        ensures gone { OnOk result (gone_of self.new ≡ deleted.now) }
-        ensures follows { (root : Root) → root.next_number ≡ next_of self.old → root.next_location ≡ location_of self.old → HasContent [] (memory_of self.old).content → OnOk result (Follows self.new root []) }
+    /// `AllocError` where memory is wanting.
+    pub fn prepare(
+        &self,
+        oldest: &[DocRow],
+        stay_from: usize,
+        newest: &[DocRow],
+    ) -> Result<PreparedLevels, AllocError>
+        requires index { stay_from ≤ length (levels_of self.now) }
+        requires rows { RangesRise (rows_between oldest.now stay_from (levels_of self.now) newest.now) }
+        ensures { IfOk result (IsPrepared self.now oldest.now stay_from newest.now) }
     {
-        let gone = ends_of(self.alloc, deleted)?;
-        push_level(self.alloc, &mut self.rows, &mut self.levels, level)?;
-        self.gone = gone;
+        let stay = &self.levels[stay_from..];
+        let ends = ends_to_come(self.alloc, self.gone.ends(), oldest, stay, newest)?;
+        Ok(PreparedLevels {
+            stay_from,
+            oldest: level_rows(self.alloc, oldest)?,
+            newest: level_rows(self.alloc, newest)?,
+            rows: Vec::with_capacity(self.alloc, self.rows.len() + 2)?,
+            levels: Vec::with_capacity(self.alloc, self.levels.len() + 2)?,
+            deleted: ends_of(self.alloc, &ends)?,
+        })
+    }
+
+    /// Goes on over other levels, where the newest documents were taken out: over those that stay, between two new ones, of which each
+    /// may be absent. It takes no memory and cannot fail.
+    pub fn put_levels(
+        &mut self,
+        prepared: PreparedLevels,
+        oldest: Option<Table>,
+        newest: Option<Table>,
+    )
+        requires room { HasRoom self.old prepared }
+        ensures knows { (before : Catalog) → (s : State) → (n : ℕ) → (olds : List Added) → IsEmptied before self.old → Knows before s
+            → IsPrepared self.old (rows_in (level_in oldest)) n (rows_in (level_in newest)) prepared → MayReplace before oldest n newest
+            → AreRowsOf (rows_in (levels_of self.new)) olds → KnowsBy self.new olds (record { next = s.next; documents = documents_left (deleted_of prepared) olds }) }
+        ensures same { (before : Catalog) → (s : State) → (n : ℕ) → IsEmptied before self.old → Knows before s
+            → IsPrepared self.old (rows_in (level_in oldest)) n (rows_in (level_in newest)) prepared → MayReplace before oldest n newest → Knows self.new s }
+        ensures levels { levels_of self.new ≡ tables_between oldest (stay_from_of prepared) (levels_of self.old) newest }
+        ensures gone { gone_of self.new ≡ deleted_of prepared }
+        ensures follows { (root : Root) → root.next_number ≡ next_of self.old → root.next_location ≡ location_of self.old → HasContent [] (memory_of self.old).content → Follows self.new root [] }
+    {
+        let PreparedLevels {
+            stay_from,
+            oldest: first,
+            newest: last,
+            rows,
+            levels,
+            deleted,
+        } = prepared;
+        let first = rows_beside(&oldest, first);
+        let last = rows_beside(&newest, last);
+        put_between(&mut self.rows, rows, stay_from, first, last);
+        put_between(&mut self.levels, levels, stay_from, oldest, newest);
+        self.gone = deleted;
         self.first = self.next;
-        Ok(())
     }
 }

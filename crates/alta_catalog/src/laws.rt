@@ -1,7 +1,7 @@
 // What follows from the definitions alone. The functions are empty: their contracts are the laws.
-ghost use Rattle.std.specs.Prelude.{◌≡◌, ◌<◌, ◌≤◌, ℕ, List, [], Err};
-ghost use Rattle.std.specs.List.{All};
-ghost use Rattle.alta_content.specs.Rows.{end_of};
+ghost use Rattle.std.specs.Prelude.{◌≡◌, ◌++◌, ◌<◌, ◌≤◌, ℕ, Bool, Contains, List, [], Err, map};
+ghost use Rattle.std.specs.List.{All, filter};
+ghost use Rattle.alta_content.specs.Rows.{RowsRise, end_of};
 ghost use Rattle.alta_content.specs.declared.document.DocRow.{DocRow};
 ghost use Rattle.alta_images.specs.Entries.{IsRefusedAt, after_entry};
 ghost use Rattle.alta_images.specs.Known.{known_of, replayed};
@@ -9,14 +9,15 @@ ghost use Rattle.alta_images.specs.Levels.{Level};
 ghost use Rattle.alta_images.specs.Opened.{IsNamed, IsOpened, Opened, known_at, rows_in};
 ghost use Rattle.alta_images.specs.Standing.{Means, StandsFor, view_of};
 ghost use Rattle.alta_images.specs.Switching.{with_entry};
-ghost use Rattle.alta_images.specs.Work.{gone, gone_among, rows_in as level_rows};
+ghost use Rattle.alta_images.specs.Work.{gone, gone_among, newest, rows_in as level_rows};
 ghost use Rattle.alta_journal.specs.declared.entry.Entry.{Entry};
 ghost use Rattle.alta_journal.specs.declared.placed.Placed.{Placed};
+ghost use Rattle.alta_memlevel.specs.Added.{Added};
 ghost use Rattle.alta_meta.specs.declared.document.State.{State};
 ghost use Rattle.alta_root.specs.declared.root.Root.{Root};
 ghost use Rattle.alta_table.specs.Tables.{Tables};
-ghost use Rattle.alta_catalog.specs.Flushing.{ends_below};
 ghost use Rattle.alta_catalog.specs.Knowing.{Follows, Knows, KnowsBy, gone_of, levels_of, memory_of};
+ghost use Rattle.alta_catalog.specs.Replacing.{ends_in};
 ghost use Rattle.alta_catalog.specs.Rows.{MayBe, MayStart};
 ghost use Rattle.alta_catalog.specs.declared.catalog.Catalog.{Catalog};
 
@@ -57,13 +58,19 @@ pub fn a_catalog_knows_one()
 {}
 
 /// What a catalog that follows an opened image has gone are the ends that are gone from its view, by the deletion list, or by an entry that
-/// leaves a document out; those of the levels' documents are the ones below the root's next location. The levels' documents end below
-/// it, and the newest begin at or behind it.
+/// leaves a document out; and so they are among any of its rows. The levels' documents end below the root's next location, and the newest
+/// begin at or behind it.
 pub fn what_is_gone()
     ensures gone { (c : Catalog) → (s : State) → (o : Opened) → (image : List ℕ) → (levels : List Level) → IsOpened o image → (may : MayBe s o) → KnowsBy c may.starts.olds s → Follows c o.root o.entries
         → levels_of c ≡ o.levels → level_rows levels ≡ rows_in o.levels → gone_of c ≡ gone (view_of o levels) }
-    ensures deleted { (c : Catalog) → (s : State) → (o : Opened) → (image : List ℕ) → (levels : List Level) → IsOpened o image → (may : MayBe s o) → KnowsBy c may.starts.olds s → Follows c o.root o.entries
-        → levels_of c ≡ o.levels → level_rows levels ≡ rows_in o.levels → ends_below o.root.next_location (gone_of c) ≡ gone_among (view_of o levels) (level_rows levels) }
+    ensures among { (c : Catalog) → (s : State) → (o : Opened) → (image : List ℕ) → (levels : List Level) → IsOpened o image → (may : MayBe s o) → KnowsBy c may.starts.olds s → Follows c o.root o.entries
+        → levels_of c ≡ o.levels → level_rows levels ≡ rows_in o.levels → (rows : List DocRow) → All (Contains (level_rows levels ++ map (λ (a : Added). a.row) (newest (view_of o levels)))) rows
+        → ends_in (gone_of c) rows ≡ gone_among (view_of o levels) rows }
     ensures below { (o : Opened) → (image : List ℕ) → IsOpened o image → All (λ (row : DocRow). end_of row < o.root.next_location) (rows_in o.levels) }
     ensures behind { (c : Catalog) → (root : Root) → (entries : List Entry) → Follows c root entries → All (λ (row : DocRow). root.next_location ≤ row.first) (memory_of c).content.documents }
+{}
+
+/// Some of the rows of levels and of newest documents, in order, rise without meeting.
+pub fn some_rows_rise()
+    ensures { (c : Catalog) → (s : State) → (kept : DocRow → Bool) → Knows c s → RowsRise (filter kept (rows_in (levels_of c) ++ (memory_of c).content.documents)) }
 {}

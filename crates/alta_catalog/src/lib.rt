@@ -8,6 +8,7 @@ mod finding;
 mod laws;
 mod lists;
 mod names;
+mod replacing;
 mod replaying;
 mod sharing;
 mod starting;
@@ -17,8 +18,9 @@ mod tests;
 pub use catalog::Catalog;
 pub use fault::CatalogFault;
 pub use laws::{
-    a_catalog_knows_one, a_root_may_start, a_state_may_be, an_entry_goes_on, something_may_be,
-    what_is_gone, what_may_be_is_known,
+    a_catalog_knows_one, a_root_may_start, a_state_may_be, an_entry_goes_on, some_rows_rise,
+    something_may_be, what_is_gone, what_may_be_is_known,
 };
 pub use lists::{NameRow, Names};
+pub use replacing::PreparedLevels;
 pub use replaying::apply_entries;

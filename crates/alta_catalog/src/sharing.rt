@@ -1,9 +1,8 @@
 // The rows of levels, to be shared with searches.
-ghost use Rattle.std.specs.Prelude.{◌≡◌, ◌++◌, ◌∷◌, [], map, IfOk, OnOk};
+ghost use Rattle.std.specs.Prelude.{◌≡◌, ◌++◌, map, IfOk};
 ghost use Rattle.alta_codec.specs.Rising.{IsRising};
-ghost use Rattle.alta_content.specs.Rows.{AreDocuments, end_of};
-ghost use Rattle.alta_images.specs.Opened.{rows_in as rows_of_levels};
-ghost use Rattle.alta_catalog.specs.Flushing.{level_in};
+ghost use Rattle.alta_content.specs.Rows.{RowsRise, end_of};
+ghost use Rattle.alta_catalog.specs.Knowing.{documents_of};
 ghost use Rattle.alta_rows.specs.All.{joined, rows_in};
 
 use alta_content::DocRow;
@@ -14,7 +13,7 @@ use std::rc::Rc;
 
 /// The rows of levels, each with a name in memory of its own.
 pub(crate) fn rows_of(alloc: Global, levels: &[Table]) -> Result<Vec<Rc<LevelRows>>, AllocError>
-    ensures { IfOk result (λ rows. joined (map rows_in rows.items) ≡ rows_of_levels levels.now) }
+    ensures { IfOk result (λ rows. map rows_in rows.items ≡ map documents_of levels.now) }
 {
     let mut rows = Vec::with_capacity(alloc, levels.len())?;
     for level in levels {
@@ -23,26 +22,9 @@ pub(crate) fn rows_of(alloc: Global, levels: &[Table]) -> Result<Vec<Rc<LevelRow
     Ok(rows)
 }
 
-/// One level more, where there is one, and its rows.
-pub(crate) fn push_level(
-    alloc: Global,
-    rows: &mut Vec<Rc<LevelRows>>,
-    levels: &mut Vec<Table>,
-    level: Option<Table>,
-) -> Result<(), AllocError>
-    ensures rows { OnOk result (joined (map rows_in rows.new.items) ≡ joined (map rows_in rows.old.items) ++ rows_of_levels (level_in level)) }
-    ensures levels { OnOk result (levels.new.items ≡ levels.old.items ++ level_in level) }
-{
-    if let Some(level) = level {
-        rows.push(level_rows(alloc, level.documents())?)?;
-        levels.push(level)?;
-    }
-    Ok(())
-}
-
-// The rows of a level, copied.
-fn level_rows(alloc: Global, rows: &[DocRow]) -> Result<Rc<LevelRows>, AllocError>
-    requires { AreDocuments rows.now }
+/// The rows of a level, copied.
+pub(crate) fn level_rows(alloc: Global, rows: &[DocRow]) -> Result<Rc<LevelRows>, AllocError>
+    requires { RowsRise rows.now }
     ensures { IfOk result (λ level. rows_in level ≡ rows.now) }
 {
     let copies = copy_rows(alloc, rows)?;

@@ -1,10 +1,11 @@
 // A level of one document, and documents that come and go behind it.
-ghost use Rattle.std.specs.Prelude.{◌≡◌, ◌<◌, ℕ, IfOk, IfSome, OnOk};
+ghost use Rattle.std.specs.Prelude.{◌≡◌, ◌<◌, ℕ, [], length, IfOk, IfSome, OnOk};
 ghost use Rattle.alta_content.specs.Rows.{AreDocuments};
 ghost use Rattle.alta_journal.specs.declared.entry.Entry.TheVariants.{Delete};
 ghost use Rattle.alta_meta.specs.declared.document.State.{State};
 ghost use Rattle.alta_root.specs.Root.{IsSound};
-ghost use Rattle.alta_catalog.specs.Knowing.{Knows};
+ghost use Rattle.alta_catalog.specs.Knowing.{Knows, levels_of};
+ghost use Rattle.alta_catalog.specs.Replacing.{IsPrepared};
 
 use crate::names::note;
 use crate::*;
@@ -179,6 +180,48 @@ fn documents_come_and_go(rt: HostRuntime) -> Result<(), Fail> {
     Ok(())
 }
 
+// Prepares the level with one document to come behind that of the catalog, where it stands behind it.
+fn prepare_behind(catalog: &Catalog, table: &Table) -> Result<Option<PreparedLevels>, AllocError>
+    requires { AreDocuments table.now.documents }
+    ensures { IfOk result (λ found. IfSome found (IsPrepared catalog.now [] 0 table.now.documents)) }
+{
+    let [level] = catalog.levels() else {
+        return Ok(None);
+    };
+    let [first] = level.documents() else {
+        return Ok(None);
+    };
+    let [row] = table.documents() else {
+        return Ok(None);
+    };
+    if first.first.saturating_add(first.cells) > row.first {
+        return Ok(None);
+    }
+    Ok(Some(catalog.prepare(&[], 0, table.documents())?))
+}
+
+// Prepares the level to come in place of all levels.
+fn prepare_instead(catalog: &Catalog, table: &Table) -> Result<PreparedLevels, AllocError>
+    requires { AreDocuments table.now.documents }
+    ensures { IfOk result (IsPrepared catalog.now table.now.documents (length (levels_of catalog.now)) []) }
+{
+    catalog.prepare(table.documents(), catalog.levels().len(), &[])
+}
+
+// Whether a catalog of one level has two newest documents then, of which the first is deleted, and so is that of the level.
+fn has_changed(alloc: Global, catalog: &mut Catalog) -> Result<bool, MetaFault>
+    requires { (s : State) × Knows catalog.old s }
+    ensures { OnOk result ((s : State) × Knows catalog.new s) }
+{
+    let steps: [Step; 4] = [
+        (0, "b", true, (2, 12, 4)),
+        (1, "", true, (1, 6, 4)),
+        (0, "a", true, (2, 12, 5)),
+        (3, "", true, (1, 6, 5)),
+    ];
+    Ok(differing(alloc, catalog, &steps)?.is_none())
+}
+
 #[test]
 fn newest_documents_become_a_level(rt: HostRuntime) -> Result<(), Fail> {
     let alloc = rt.alloc();
@@ -186,24 +229,42 @@ fn newest_documents_become_a_level(rt: HostRuntime) -> Result<(), Fail> {
     let Some(mut catalog) = catalog_of(alloc, &root(), table)? else {
         return Err(Fail::from("the level has no single document"));
     };
-    let steps: [Step; 4] = [
-        (0, "b", true, (2, 12, 4)),
-        (1, "", true, (1, 6, 4)),
-        (0, "a", true, (2, 12, 5)),
-        (3, "", true, (1, 6, 5)),
-    ];
-    let found = differing(alloc, &mut catalog, &steps).or(Err("no memory"))?;
-    assert_eq!(rt; found, None);
+    let changed = has_changed(alloc, &mut catalog).or(Err("no memory"))?;
+    assert!(rt; changed);
     assert_eq!(rt; catalog.bounds(), (5, 37));
-    let deleted = catalog.gone_below(alloc, 19)?;
     assert_eq!(rt; catalog.take_newest().len(), 2);
     let table = later_level(alloc).or(Err("the later level is damaged"))?;
-    catalog.put_level(Some(table), &deleted)?;
+    let Some(prepared) = prepare_behind(&catalog, &table)? else {
+        return Err(Fail::from("the level does not stand behind"));
+    };
+    assert_eq!(rt; prepared.deleted(), [9].as_slice());
+    catalog.put_levels(prepared, None, Some(table));
     assert_eq!(rt; catalog.number_of("a"), Some(4));
     assert_eq!(rt; catalog.counts(), (1, 6, 5));
     assert_eq!(rt; catalog.gone(), [9].as_slice());
     assert_eq!(rt; catalog.levels().len(), 2);
     assert_eq!(rt; catalog.newest().0.len(), 0);
+    Ok(())
+}
+
+#[test]
+fn a_level_comes_in_place_of_all(rt: HostRuntime) -> Result<(), Fail> {
+    let alloc = rt.alloc();
+    let table = level(alloc, LEVEL, 126).or(Err("the level is damaged"))?;
+    let Some(mut catalog) = catalog_of(alloc, &root(), table)? else {
+        return Err(Fail::from("the level has no single document"));
+    };
+    let changed = has_changed(alloc, &mut catalog).or(Err("no memory"))?;
+    assert!(rt; changed);
+    assert_eq!(rt; catalog.take_newest().len(), 2);
+    let table = later_level(alloc).or(Err("the later level is damaged"))?;
+    let prepared = prepare_instead(&catalog, &table)?;
+    assert_eq!(rt; prepared.deleted().len(), 0);
+    catalog.put_levels(prepared, Some(table), None);
+    assert_eq!(rt; catalog.number_of("a"), Some(4));
+    assert_eq!(rt; catalog.counts(), (1, 6, 5));
+    assert_eq!(rt; catalog.gone().len(), 0);
+    assert_eq!(rt; catalog.levels().len(), 1);
     Ok(())
 }
 
@@ -241,6 +302,7 @@ fn laws() {
     something_may_be();
     an_entry_goes_on();
     what_is_gone();
+    some_rows_rise();
     what_may_be_is_known();
     a_catalog_knows_one();
 }

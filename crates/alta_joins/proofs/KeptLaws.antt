@@ -13,7 +13,7 @@ use Rattle.alta_content.specs.declared.content.TermList.{TermList}
 use Rattle.alta_content.specs.declared.document.DocRow.{DocRow}
 use Rattle.alta_content.proofs.Documents.{states_kept}
 use Rattle.alta_content.proofs.Folds.{join_of_join}
-use Rattle.alta_content.proofs.Kept.{join_may_join}
+use Rattle.alta_content.proofs.Kept.{join_is_part, join_may_join}
 use Rattle.alta_images.specs.Entries.{AllowsAll, after_entry}
 use Rattle.alta_images.specs.Holding.{Holding, IsHeld, IsSpaced, IsWell}
 use Rattle.alta_images.specs.Joining.{content_of, joined_in}
@@ -72,6 +72,10 @@ joins_keep contents may = λ dead deleted all.
     ∙ sym (map_rows join.lists (live_rows deleted join.documents))
     ∙ ap (map document_with) (states_kept contents dead deleted may all)
     ∙ map_contents deleted contents
+
+-- a join is a level's content, or empty
+pub join_part : (contents : List Content) (dead : List ℕ) → MayJoin contents → IsPart (joined_in contents dead)
+join_part contents dead may = subst IsPart (sym (joined-same contents dead)) (join_is_part contents dead may)
 
 -- ---- joins of joins
 

@@ -2,8 +2,10 @@ pub mod DataLaws
 pub mod DiskReads
 pub mod FaultLaws
 pub mod JobLaws
+pub mod JoiningLaws
 pub mod KeptLaws
 pub mod LevelRuns
+pub mod OldestLaws
 pub mod OpenedLaws
 pub mod RowSteps
 pub mod SameWords

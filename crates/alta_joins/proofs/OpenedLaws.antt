@@ -132,6 +132,9 @@ opened_laid o image are opened =
 pub opened_stand : (o : Opened) (image : List ℕ) → AreBytes image → IsOpened o image → All (StandsOn image) o.levels
 opened_stand o image are opened = (opened_laid o image are opened).stand
 
+pub opened_extents : (o : Opened) (image : List ℕ) → AreBytes image → IsOpened o image → map extent_of o.levels ≡ o.root.levels.items
+opened_extents o image are opened = (opened_laid o image are opened).extents_are
+
 -- ---- with their contents
 
 with_extents : (levels : List Tables) (contents : List Content) → AreContentsOf levels contents → map (λ (l : Level). l.extent) (levels_with levels contents) ≡ map extent_of levels

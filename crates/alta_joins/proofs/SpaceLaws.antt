@@ -18,17 +18,17 @@ use Rattle.alta_table.specs.Tables.{Tables}
 -- ---- rows that keep the rules, and rise
 
 -- a row keeps its rules, whatever stands before it
-record IsRow (row : DocRow) : Type 0 where
-  numbered : 1 ≤ row.number
-  number_below : row.number < TOP
-  starts : 1 ≤ row.first
-  first_below : row.first < TOP
-  some_cells : 3 ≤ row.cells
-  few_cells : row.cells ≤ 262146
-  end_below : end_of row < TOP
-  named : IsName row.name
+pub record IsRow (row : DocRow) : Type 0 where
+  pub numbered : 1 ≤ row.number
+  pub number_below : row.number < TOP
+  pub starts : 1 ≤ row.first
+  pub first_below : row.first < TOP
+  pub some_cells : 3 ≤ row.cells
+  pub few_cells : row.cells ≤ 262146
+  pub end_below : end_of row < TOP
+  pub named : IsName row.name
 
-each_row : (before : Before) (rows : List DocRow) → AreDocumentsBehind before rows → All IsRow rows
+pub each_row : (before : Before) (rows : List DocRow) → AreDocumentsBehind before rows → All IsRow rows
 unfolding AreDocumentsBehind
 each_row before [] are = All-nil IsRow
 each_row before (row ∷ rows) (follows, are) =
@@ -68,12 +68,12 @@ rows_stand before (row ∷ rows) all rise behind =
       rows_stand (behind_row before row) rows (All-tail IsRow row rows all) rise.1 rise.0,
     )
 
-rows_documents : (rows : List DocRow) → All IsRow rows → RowsRise rows → AreDocuments rows
+pub rows_documents : (rows : List DocRow) → All IsRow rows → RowsRise rows → AreDocuments rows
 rows_documents rows all rise = rows_stand start rows all rise (All-weaker IsRow (IsBehind start) (λ row own. (omega (arith, own.numbered), omega (arith, own.starts))) rows all)
 
 -- ---- contents
 
-part_rows : (c : Content) → IsPart c → All IsRow c.documents
+pub part_rows : (c : Content) → IsPart c → All IsRow c.documents
 part_rows c (inl is) = each_row start c.documents is.documents_stand
 part_rows c (inr empty) = subst (All IsRow) (sym empty.documents) (All-nil IsRow)
 

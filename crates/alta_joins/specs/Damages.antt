@@ -23,3 +23,9 @@ pub record Tells {X : Type 0} (view : X → List Content) (image : List ℕ) (le
   pub only : (contents : List Content) → AreSegmentsOn image levels contents → IsFound view result contents
   pub first : IfDamaged result (IsFirstDamage image levels)
   pub damaged : (place : ℕ) → IsFirstDamage image levels place → IsDamaged result place
+
+-- Unless the disk failed or memory ran out, the call answered damage exactly where one of these levels is damaged: the first.
+pub record FindsDamage {X : Type 0} (image : List ℕ) (levels : List Tables) (result : Result X JoinFault) : Type 0 where
+  pub undamaged : (contents : List Content) → AreSegmentsOn image levels contents → IfDamaged result (λ place. ⊥)
+  pub first : IfDamaged result (IsFirstDamage image levels)
+  pub damaged : (place : ℕ) → IsFirstDamage image levels place → IsDamaged result place

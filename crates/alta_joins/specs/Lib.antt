@@ -2,3 +2,4 @@ pub mod Answers
 pub mod Contents
 pub mod Damages
 pub mod Jobs
+pub mod Newest

@@ -1,5 +1,5 @@
 // Laws of levels that are read, and of their joins. The functions have nothing to run: their contracts are the laws.
-ghost use Rattle.std.specs.Prelude.{◌≡◌, ℕ, ◌<◌, ◌≤◌, List, [], ◌∷◌, ◌++◌, All, length, map};
+ghost use Rattle.std.specs.Prelude.{◌≡◌, ℕ, ◌+◌, ◌<◌, ◌≤◌, List, [], ◌∷◌, ◌++◌, All, Some, length, map, take};
 ghost use Rattle.alta_codec.specs.Bytes.{AreBytes};
 ghost use Rattle.alta_content.specs.Joining.{joined_in as content_join, terms_in as content_terms};
 ghost use Rattle.alta_content.specs.Lists.{IsContent};
@@ -9,17 +9,20 @@ ghost use Rattle.alta_content.specs.declared.content.Content.{Content};
 ghost use Rattle.alta_content.specs.declared.content.TermList.{TermList};
 ghost use Rattle.alta_content.specs.declared.document.DocRow.{DocRow};
 ghost use Rattle.alta_images.specs.Broken.{HasLevels};
-ghost use Rattle.alta_images.specs.Holding.{Holding, IsHeld, IsSpaced, IsWell};
+ghost use Rattle.alta_images.specs.Holding.{Holding, IsHeld, IsJobOf, IsSpaced, IsWell};
 ghost use Rattle.alta_images.specs.Joining.{content_of, joined_in, terms_in};
 ghost use Rattle.alta_images.specs.Levels.{Level, document_of};
-ghost use Rattle.alta_images.specs.Opened.{Opened, IsOpened, rows_in};
+ghost use Rattle.alta_images.specs.Opened.{Opened, IsOpened, bytes_at, rows_in};
 ghost use Rattle.alta_images.specs.Ordered.{AreBelow, RowsRise};
-ghost use Rattle.alta_images.specs.Standing.{AreLevels};
-ghost use Rattle.alta_images.specs.Work.{newest};
-ghost use Rattle.alta_images.specs.Working.{AreJoins, JoinsKeep, all_contents, oldest_contents, rows_of};
-ghost use Rattle.alta_joins.specs.Contents.{AreContentsOf, AreSegmentsOn, StandsOn, levels_with};
+ghost use Rattle.alta_images.specs.Standing.{AreLevels, tables_by};
+ghost use Rattle.alta_images.specs.Views.{View};
+ghost use Rattle.alta_images.specs.Work.{gone as gone_from, newest};
+ghost use Rattle.alta_images.specs.Working.{AreJoins, IsJoin, JoinsKeep, all_contents, oldest_contents, rows_of};
+ghost use Rattle.alta_joins.specs.Contents.{AreContentsOf, AreSegmentsOn, StandsOn, extent_of, levels_with};
+ghost use Rattle.alta_joins.specs.Jobs.{AreJoinedOn, DeadAreGone, IsJoining, IsMerging, moved_by};
 ghost use Rattle.alta_memlevel.specs.Added.{Added, HasContent, IsSpace, live_of};
 ghost use Rattle.alta_memlevel.specs.Documents.{AreAdded, IsBefore, content_of as memory_content, document_of as memory_document};
+ghost use Rattle.alta_merge.specs.Merging.{Merging};
 ghost use Rattle.alta_root.specs.declared.root.Root.{Root};
 ghost use Rattle.alta_root.specs.declared.slot.Slot.{Slot};
 ghost use Rattle.alta_table.specs.Tables.{Tables};
@@ -82,4 +85,29 @@ pub fn what_is_held_may_join()
     ensures oldest { (held : Holding) → (image : List ℕ) → IsHeld held image → MayJoin (oldest_contents held.view) }
     ensures all { (held : Holding) → (image : List ℕ) → IsHeld held image → MayJoin (all_contents held.view) }
     ensures joins { (held : Holding) → (image : List ℕ) → IsHeld held image → IsWell held → AreJoins held }
+{}
+
+/// What a join of the two oldest levels comes to is a level's content or empty, and has the rows of both that were not dead. It is
+/// a job of what is held, and comes to a join of the two oldest contents; and it goes on while the two oldest levels stay, where
+/// more is gone, and behind a step that leaves a term.
+pub fn joins_go_on()
+    ensures part { (levels : List Tables) → (gone : List ℕ) → (merging : Merging) → IsJoining levels gone merging → IsPart merging.whole }
+    ensures rows { (levels : List Tables) → (gone : List ℕ) → (merging : Merging) → (joining : IsJoining levels gone merging)
+        → merging.whole.documents ≡ live_rows joining.job.dead (joining.older.documents ++ joining.newer.documents) }
+    ensures held { (held : Holding) → (image : List ℕ) → (levels : List Tables) → (gone : List ℕ) → (merging : Merging) → AreBytes image → IsHeld held image
+        → levels ≡ map tables_by held.view.levels → gone ≡ gone_from held.view → (joining : IsJoining levels gone merging) → AreJoinedOn image joining
+        → IsJobOf (Some joining.job) held.view }
+    ensures join { (view : View) → (levels : List Tables) → (gone : List ℕ) → (merging : Merging) → (joining : IsJoining levels gone merging)
+        → oldest_contents view ≡ joining.job.older ∷ joining.job.newer ∷ [] → gone ≡ gone_from view → IsJoin view (oldest_contents view) merging.whole }
+    // the same two levels are the oldest of others, and all that is gone stays gone
+    ensures more { (levels others : List Tables) → (gone ends : List ℕ) → (merging : Merging) → (joining : IsJoining levels gone merging) → take 2 others ≡ take 2 levels
+        → DeadAreGone gone ends (joining.older.documents ++ joining.newer.documents)
+        → (on : IsJoining others ends merging) × (on.job ≡ joining.job) × ((image : List ℕ) → AreJoinedOn image joining → AreJoinedOn image on) }
+    // the bytes of both levels stay
+    ensures stays { (old new : List ℕ) → (levels : List Tables) → (gone : List ℕ) → (merging : Merging) → (joining : IsJoining levels gone merging)
+        → bytes_at (extent_of joining.older) new ≡ bytes_at (extent_of joining.older) old → bytes_at (extent_of joining.newer) new ≡ bytes_at (extent_of joining.newer) old
+        → AreJoinedOn old joining → AreJoinedOn new joining }
+    ensures moved { (levels : List Tables) → (gone : List ℕ) → (merging later : Merging) → (n : ℕ) → (joining : IsJoining levels gone merging) → IsMerging later (moved_by joining.job n)
+        → joining.job.merged + n < length (terms_in (joining.job.older ∷ joining.job.newer ∷ []))
+        → (on : IsJoining levels gone later) × (on.job ≡ moved_by joining.job n) × ((image : List ℕ) → AreJoinedOn image joining → AreJoinedOn image on) }
 {}

@@ -6,13 +6,15 @@ mod joining;
 mod laws;
 mod level;
 mod levels;
+mod oldest;
 
 pub use alta_merge::Job;
 pub use fault::JoinFault;
 pub use joining::{begin_job, finish_job, join_levels, run_job, step_job};
 pub use laws::{
-    joins_are_levels, joins_keep_documents, read_contents_may_join, read_levels_are_opened,
-    what_is_held_may_join, words_agree,
+    joins_are_levels, joins_go_on, joins_keep_documents, read_contents_may_join,
+    read_levels_are_opened, what_is_held_may_join, words_agree,
 };
 pub use level::read_level;
 pub use levels::read_levels;
+pub use oldest::{begin_oldest, merge_levels};

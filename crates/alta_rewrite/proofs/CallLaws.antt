@@ -1,12 +1,17 @@
 -- What a call of a rewrite says of what is held.
 use Rattle.std.proofs.Common.{◌≡◌, ⊎_elim, inl, inr, ℕ, ◌+◌, ◌-◌, ◌*◌, ◌≤◌, ◌<◌, ◌^◌, List, length, map, refl, sym, ap, subst, ◌∙◌, arith, Result, Ok, Err}
 use Rattle.std.specs.Prelude.{Option}
+use Rattle.std.specs.List.{All}
+use Rattle.std.proofs.lemmas.List.Elements.{All-tail}
 use Rattle.std.proofs.lemmas.Simd.{map-map}
 use Rattle.alta_codec.specs.Bytes.{AreBytes}
 use Rattle.alta_codec.specs.Rising.{IsRising}
 use Rattle.alta_codec.specs.declared.extent.Extent.{Extent}
 use Rattle.alta_disk.proofs.Moments.{leaves_as, leaves_start}
 use Rattle.alta_disk.specs.Disk.{DiskState, IsLawful, LeavesOnly, Only, Passes}
+use Rattle.alta_disk.specs.Parts.{Touches}
+use Rattle.alta_images.proofs.SwitchLaws.{slot_spares}
+use Rattle.alta_images.proofs.Untouched.{IsSame, extents_same}
 use Rattle.alta_images.proofs.WrittenLaws.{held_stands}
 use Rattle.alta_images.specs.Chain.{◌>>=◌}
 use Rattle.alta_images.specs.Holding.{Holding}
@@ -17,15 +22,20 @@ use Rattle.alta_images.specs.Views.{View, state_of}
 use Rattle.alta_images.specs.Work.{Job, coming}
 use Rattle.alta_images.specs.Working.{Full, switched}
 use Rattle.alta_meta.specs.declared.document.State.{State}
+use Rattle.alta_root.proofs.Frames.{counts_sound}
 use Rattle.alta_root.proofs.SlotLaws.{one_counts}
 use Rattle.alta_root.specs.Places.{other}
+use Rattle.alta_root.specs.Root.{extents_of}
 use Rattle.alta_root.specs.Slots.{Counts}
+use Rattle.alta_root.specs.Switches.{slot_range}
 use Rattle.alta_root.specs.declared.places.TheConstants.{DOCUMENT_CELLS, LAST_NEXT}
 use Rattle.alta_root.specs.declared.root.Root.{Root}
 use Rattle.alta_root.specs.declared.root.Roots.{Roots}
 use Rattle.alta_root.specs.declared.slot.Slot.{Slot}
-use Rattle.alta_switch.specs.Brings.{Brings, Names}
-use Rattle.alta_switch.specs.declared.piece.Piece.{Piece}
+use Rattle.alta_rewrite.specs.Brings.{Brings, Names}
+use Rattle.alta_rewrite.specs.Puts.{MayPut, Puts, ranges_before}
+use Rattle.alta_rewrite.proofs.RunLaws.{spared}
+use Rattle.alta_rewrite.specs.declared.piece.Piece.{Piece}
 use Rattle.alta_table.specs.Tables.{Tables}
 use Rattle.alta_rewrite.specs.Drafts.{Drafts, IsDraft, pairs_in, pieces_of, rewrite_places, table_to_come}
 use Rattle.alta_rewrite.specs.Rewrites.{IsComing, IsGiven, MayRewrite, MayRewriteOpened, levels_to_come, tables_between}
@@ -198,3 +208,15 @@ pub tables_opened : (levels : NextLevels) (o : Opened) (limit : ℕ) (root : Roo
 tables_opened levels o limit root ends next location draft is =
     ap (λ (t : Option Tables). tables_between t levels.stay_from o.levels (table_to_come draft.places.newest levels.newest.now)) (sym is.oldest_level)
     ∙ ap (λ (t : Option Tables). tables_between draft.oldest_level levels.stay_from o.levels t) (sym is.newest_level)
+
+-- ---- what stays as it was
+
+-- the levels of the root that counted have the bytes that they had
+pub levels_spared : (slot : Slot) (counting : Root) (root : Root) (pieces : List Piece) (limit : ℕ) (old middle new : List ℕ) → MayPut (other slot) root pieces limit old → Counts slot counting old → Puts (other slot) pieces old middle
+    → Touches (slot_range (other slot)) middle new → All (IsSame old new) counting.levels.items
+levels_spared slot counting root pieces limit old middle new may counts puts touches =
+    let before = extents_same (ranges_before (other slot) pieces) old middle (extents_of counting) puts.touches (spared (other slot) root pieces limit old may slot counting counts).extents in
+    let then = extents_same (slot_range (other slot)) middle new (extents_of counting) touches (slot_spares (other slot) slot counting (length old) (counts_sound slot counting old counts)).extents in
+    let first = All-tail (IsSame old middle) counting.deletions counting.levels.items before in
+    let second = All-tail (IsSame middle new) counting.deletions counting.levels.items then in
+    λ k d within. second k d within ∙ first k d within

@@ -1,15 +1,21 @@
 -- A new level may be opened.
-use Rattle.std.proofs.Common.{◌≡◌, ℕ, ◌+◌, ◌≤◌, ◌<◌, ◌^◌, List, length, ap, subst, ◌∙◌, arith}
-use Rattle.std.specs.Prelude.{IfSome, Option, Some, None}
+use Rattle.std.proofs.Common.{◌≡◌, ℕ, ◌+◌, ◌≤◌, ◌<◌, ◌^◌, Bool, cond, List, [], ◌∷◌, length, map, refl, sym, ap, subst, ◌∙◌, arith}
+use Rattle.std.specs.Prelude.{◌==◌, IfSome, Option, Some, None}
+use Rattle.std.proofs.lemmas.List.{append-nil}
 use Rattle.alta_codec.specs.declared.extent.Extent.{Extent}
 use Rattle.alta_content.specs.Lists.{IsContent}
 use Rattle.alta_content.specs.Parts.{IsPart}
 use Rattle.alta_content.specs.declared.content.Content.{Content}
+use Rattle.alta_content.specs.declared.document.DocRow.{DocRow}
 use Rattle.alta_images.proofs.FullLaws.{placed_first}
-use Rattle.alta_images.specs.Work.{coming}
+use Rattle.alta_images.proofs.Tests.{by_test, equal_from}
+use Rattle.alta_images.specs.Opened.{rows_in}
+use Rattle.alta_images.specs.Work.{Coming, anew, coming}
+use Rattle.alta_level.proofs.Spelled.{segment_tables}
 use Rattle.alta_level.specs.Segments.{segment_bytes}
-use Rattle.alta_rewrite.specs.Drafts.{segment_of}
+use Rattle.alta_rewrite.specs.Drafts.{segment_of, table_to_come}
 use Rattle.alta_rewrite.specs.Places.{as_list}
+use Rattle.alta_rewrite.specs.Rewrites.{extent_of, tables_in}
 use Rattle.alta_rewrite.specs.declared.levels.NextLevels.{NextLevels}
 use Rattle.alta_rewrite.specs.declared.places.Places.{Places}
 use Rattle.alta_rewrite.proofs.PlaceLaws.{IsPlaceFor}
@@ -46,3 +52,32 @@ few_placed levels places stay taken more limit oldest newest first last oldest_i
       one_level levels.oldest.now taken limit places.oldest (subst (λ n. IsPlaceFor taken n limit places.oldest) first oldest_is),
       one_level levels.newest.now more limit places.newest (subst (λ n. IsPlaceFor more n limit places.newest) last newest_is),
     )
+
+-- ---- what a level that is placed leaves
+
+none_of : (rows : List DocRow) → length rows ≡ 0 → rows ≡ []
+none_of [] e = refl
+none_of (row ∷ rows) e = absurd (omega (arith, e))
+
+abbrev by_rows : Content → Bool → List Coming
+by_rows content b = cond b [] (anew content ∷ [])
+
+no_rows : (content : Content) → length (coming content) ≡ 0 → length content.documents ≡ 0
+no_rows content e =
+    by_test (length content.documents == 0) (λ none. equal_from (length content.documents) 0 none)
+    (λ some. absurd (omega (arith, sym (ap (λ (b : Bool). length (by_rows content b)) some) ∙ e)))
+
+module _ (content : Content) (taken : List Extent) (limit : ℕ) where
+  -- its tables have the content's rows
+  pub rows_placed : (found : Option Extent) → IsPlaceFor taken (length (segment_of content)) limit found → rows_in (tables_in (table_to_come found content)) ≡ content.documents
+  rows_placed None is = sym (none_of content.documents (no_rows content (sym (one_level content taken limit None is))))
+  rows_placed (Some x) is = append-nil content.documents
+
+  -- and stand in its place
+  pub extents_placed : limit < 2 ^ 64 → IsPart content → (found : Option Extent) → IsPlaceFor taken (length (segment_of content)) limit found → map extent_of (tables_in (table_to_come found content)) ≡ as_list found
+  extents_placed short part None is = refl
+  extents_placed short part (Some x) is =
+      let may = may_open content (segment_of content) (length (segment_of content)) taken limit (Some x) short part refl refl is in
+      let bytes : x.bytes ≡ length (segment_bytes content) = may.bytes ∙ ap length may.segment_is in
+      let tables = segment_tables (segment_bytes content) x.place content (omega (arith, bytes, may.below)) (record { stands = may.stands; spelled = refl }) in
+      ap (λ (n : ℕ). let e : Extent = record { place = x.place; bytes = n } in e ∷ []) (tables.keeps.filled ∙ sym bytes)

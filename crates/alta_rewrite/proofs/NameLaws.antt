@@ -36,11 +36,11 @@ use Rattle.alta_root.specs.Root.{extents_of, no_extent}
 use Rattle.alta_root.specs.declared.places.TheConstants.{DOCUMENT_CELLS, LAST_NEXT}
 use Rattle.alta_root.specs.declared.root.Root.{Root}
 use Rattle.alta_root.specs.declared.slot.Slot.{Slot}
-use Rattle.alta_switch.proofs.ComeLaws.{comes_brings, will_stand}
-use Rattle.alta_switch.specs.Brings.{Brings, Names}
-use Rattle.alta_switch.specs.Comes.{Comes, LevelComes, ListComes, WillStand}
-use Rattle.alta_switch.specs.Puts.{MayPut, Puts}
-use Rattle.alta_switch.specs.declared.piece.Piece.{Piece}
+use Rattle.alta_rewrite.proofs.ComeLaws.{comes_brings, will_stand}
+use Rattle.alta_rewrite.specs.Brings.{Brings, Names}
+use Rattle.alta_rewrite.specs.Comes.{Comes, LevelComes, ListComes, WillStand}
+use Rattle.alta_rewrite.specs.Puts.{MayPut, Puts}
+use Rattle.alta_rewrite.specs.declared.piece.Piece.{Piece}
 use Rattle.alta_table.specs.Tables.{Tables, tables_of}
 use Rattle.alta_rewrite.specs.Drafts.{IsDraft, list_of, list_to_come, pairs_in, pieces_of, root_to_come, segment_of, table_to_come}
 use Rattle.alta_rewrite.specs.Places.{as_list}

@@ -31,7 +31,7 @@ use Rattle.alta_meta.specs.declared.document.State.{State}
 use Rattle.alta_root.proofs.Frames.{counts_sound}
 use Rattle.alta_root.specs.Root.{extents_of}
 use Rattle.alta_root.specs.declared.root.Root.{Root}
-use Rattle.alta_switch.proofs.ComeLaws.{EndsIn, root_ends}
+use Rattle.alta_rewrite.proofs.ComeLaws.{EndsIn, root_ends}
 use Rattle.alta_table.proofs.FrontLaws.{whole_has_parts}
 use Rattle.alta_table.proofs.TableLaws.{tables_are}
 use Rattle.alta_table.specs.Tables.{Tables}

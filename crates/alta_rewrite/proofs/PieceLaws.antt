@@ -13,9 +13,9 @@ use Rattle.alta_root.specs.Gaps.{IsFirstGap, taken_by}
 use Rattle.alta_root.specs.Root.{IsSound, extents_of}
 use Rattle.alta_root.specs.declared.places.TheConstants.{HEAD_BYTES}
 use Rattle.alta_root.specs.declared.root.Root.{Root}
-use Rattle.alta_switch.proofs.ComeLaws.{first_laid}
-use Rattle.alta_switch.specs.Puts.{extents_in, AreLaid, Fills, IsLaid}
-use Rattle.alta_switch.specs.declared.piece.Piece.{Piece}
+use Rattle.alta_rewrite.proofs.ComeLaws.{first_laid}
+use Rattle.alta_rewrite.specs.Puts.{extents_in, AreLaid, Fills, IsLaid}
+use Rattle.alta_rewrite.specs.declared.piece.Piece.{Piece}
 use Rattle.alta_rewrite.specs.Drafts.{pairs_in, piece_of}
 use Rattle.alta_rewrite.specs.Places.{as_list}
 use Rattle.alta_rewrite.specs.declared.places.Places.{Places}

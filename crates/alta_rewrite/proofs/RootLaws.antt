@@ -30,10 +30,10 @@ use Rattle.alta_root.specs.Slots.{Counts}
 use Rattle.alta_root.specs.declared.places.TheConstants.{DOCUMENT_CELLS, LAST_NEXT, LEVEL_BYTES}
 use Rattle.alta_root.specs.declared.root.Root.{Root}
 use Rattle.alta_root.specs.declared.slot.Slot.{Slot}
-use Rattle.alta_switch.proofs.MadeLaws.{may_be_put}
-use Rattle.alta_switch.specs.Comes.{IsMade, IsPlaced}
-use Rattle.alta_switch.specs.Puts.{extents_in, MayPut}
-use Rattle.alta_switch.specs.declared.piece.Piece.{Piece}
+use Rattle.alta_rewrite.proofs.MadeLaws.{may_be_put}
+use Rattle.alta_rewrite.specs.Comes.{IsMade, IsPlaced}
+use Rattle.alta_rewrite.specs.Puts.{extents_in, MayPut}
+use Rattle.alta_rewrite.specs.declared.piece.Piece.{Piece}
 use Rattle.alta_table.proofs.TableLaws.{length-tables_bytes}
 use Rattle.alta_table.specs.Tables.{tables_bytes}
 use Rattle.alta_rewrite.specs.Drafts.{extents_to_come, list_of, list_to_come, root_to_come, segment_of}

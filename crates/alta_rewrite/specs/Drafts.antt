@@ -9,7 +9,7 @@ use Rattle.alta_level.specs.Segments.{rows_of, segment_bytes}
 use Rattle.alta_postings.specs.Deltas.{stream_bytes}
 use Rattle.alta_root.specs.Root.{next_sequence, no_extent}
 use Rattle.alta_root.specs.declared.root.Root.{Root}
-use Rattle.alta_switch.specs.declared.piece.Piece.{Piece}
+use Rattle.alta_rewrite.specs.declared.piece.Piece.{Piece}
 use Rattle.alta_table.specs.Tables.{Tables}
 use Rattle.alta_rewrite.specs.Places.{as_list, places_for}
 use Rattle.alta_rewrite.specs.declared.draft.Draft.{Draft}

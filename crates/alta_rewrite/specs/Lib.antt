@@ -1,3 +1,6 @@
+pub mod Brings
+pub mod Comes
 pub mod Drafts
 pub mod Places
+pub mod Puts
 pub mod Rewrites

@@ -9,6 +9,7 @@ ghost use Rattle.alta_level.specs.Segments.{segment_bytes};
 ghost use Rattle.alta_rewrite.specs.Drafts.{Drafts, extents_to_come, list_of, list_to_come, pairs_in, pieces_of, root_to_come, segment_of, table_to_come};
 ghost use Rattle.alta_rewrite.specs.Places.{as_list};
 
+use crate::piece::Piece;
 use crate::places::{Places, find_places};
 use crate::{Ends, NextLevels, RewriteFault};
 use alta_codec::{Bytes, DocNumber, Extent, Loc};
@@ -16,7 +17,6 @@ use alta_content::Content;
 use alta_level::{LevelFault, Table, build, head};
 use alta_postings::encode;
 use alta_root::Root;
-use alta_switch::Piece;
 use arrayvec::ArrayVec;
 use std::alloc::{AllocError, Global};
 

@@ -16,7 +16,9 @@ mod ends;
 mod fault;
 mod laws;
 mod levels;
+mod piece;
 mod places;
+mod putting;
 mod rewriting;
 #[cfg(test)]
 mod tests;

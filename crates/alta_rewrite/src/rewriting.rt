@@ -1,13 +1,14 @@
 // A switch of the root to other levels.
-ghost use Rattle.std.specs.Prelude.{◌≡◌, ◌≤◌, ◌+◌, ◌-◌, ◌*◌, List, ℕ, length, Option, Err, Ok, IfOk, OnOk};
+ghost use Rattle.std.specs.Prelude.{◌≡◌, ◌≤◌, ◌+◌, ◌-◌, ◌*◌, ◌++◌, ⊤, All, List, [], ℕ, drop, length, map, Option, None, Err, Ok, IfOk, OnOk};
 ghost use Rattle.alta_codec.specs.Faults.{Rose};
 ghost use Rattle.alta_codec.specs.Rising.{IsRising};
+ghost use Rattle.alta_codec.specs.declared.extent.Extent.{Extent};
 ghost use Rattle.alta_content.specs.Parts.{IsPart};
 ghost use Rattle.alta_disk.specs.Calls.{Costs};
-ghost use Rattle.alta_disk.specs.Disk.{DiskState, LeavesOnly, Only};
+ghost use Rattle.alta_disk.specs.Disk.{DiskState, LeavesOnly, Only, Passes};
 ghost use Rattle.alta_images.specs.Holding.{Holding};
 ghost use Rattle.alta_images.specs.Levels.{Level};
-ghost use Rattle.alta_images.specs.Opened.{Opened};
+ghost use Rattle.alta_images.specs.Opened.{Opened, bytes_at, rows_in};
 ghost use Rattle.alta_images.specs.Standing.{StandsFor};
 ghost use Rattle.alta_images.specs.Views.{state_of};
 ghost use Rattle.alta_images.specs.Work.{Job, coming};
@@ -16,16 +17,16 @@ ghost use Rattle.alta_root.specs.Places.{other};
 ghost use Rattle.alta_root.specs.Slots.{Counts};
 ghost use Rattle.alta_root.specs.declared.places.TheConstants.{DOCUMENT_CELLS, HEAD_BYTES, LAST_NEXT};
 ghost use Rattle.alta_rewrite.specs.Drafts.{rewrite_places};
-ghost use Rattle.alta_rewrite.specs.Rewrites.{IsRewritten, IsRewrittenOpened, MayBecome, MayRewrite, MayRewriteOpened, levels_to_come};
+ghost use Rattle.alta_rewrite.specs.Rewrites.{IsRewritten, IsRewrittenOpened, MayBecome, MayRewrite, MayRewriteOpened, extent_of, levels_to_come, tables_in};
 ghost use Rattle.alta_rewrite.specs.declared.fault.RewriteFault.TheVariants.{Disk as DiskFault, Full, Memory};
 
 use crate::draft::{make_draft, pieces_in};
+use crate::putting::put_root;
 use crate::{Ends, NextLevels, RewriteFault};
 use alta_codec::{DocNumber, Loc};
 use alta_disk::Disk;
 use alta_level::Table;
 use alta_root::{Root, Slot};
-use alta_switch::put_root;
 use std::alloc::Global;
 
 /// What counts behind a rewrite.
@@ -94,9 +95,19 @@ pub fn rewrite<D: Disk>(
 
     // What counts then; and where nothing was written.
     ensures counts { IfOk result (λ done. (done.slot ≡ other slot) × (done.root.next_number ≡ next) × (done.root.next_location ≡ location)) }
+    // The answered tables have the rows of the levels that came anew, and the extents of the root are theirs and those that stay.
+    ensures rows { IfOk result (λ done. (rows_in (tables_in done.oldest) ≡ levels.entry.oldest.now.documents) × (rows_in (tables_in done.newest) ≡ levels.entry.newest.now.documents)) }
+    ensures extents { IfOk result (λ done. done.root.levels.items ≡ map extent_of (tables_in done.oldest)
+        ++ (drop levels.entry.stay_from root.now.levels.items ++ map extent_of (tables_in done.newest))) }
     ensures memory { result ≡ Err Memory → disk.new ≡ disk.old }
     ensures unwritten { (need gap : ℕ) → result ≡ Err (Full need gap) → disk.new ≡ disk.old }
 
+    // A new level is there only where it has documents; the bytes of the levels of before stay.
+    ensures none { levels.entry.oldest.now.documents ≡ [] → IfOk result (λ done. done.oldest ≡ None) }
+    ensures spared { D.tells → OnOk result (All (λ (e : Extent). bytes_at e (D.state disk.new).content ≡ bytes_at e (D.state disk.old).content) root.now.levels.items) }
+
+    // Each image at any moment comes from one of before.
+    ensures images { Passes (λ old new. ⊤) (D.state disk.old) (D.state disk.new) }
     ensures durable { OnOk result (Only (D.state disk.new).content (D.state disk.new).images) }
     ensures cause { result ≡ Err DiskFault → Rose (D.state disk.old).faults (D.state disk.new).faults }
     ensures costs { Costs 1 (D.state disk.old) (D.state disk.new) }

@@ -10,12 +10,12 @@ use Rattle.alta_session.specs.Agreement.{AgreesOn}
 use Rattle.alta_session.specs.Answering.{CanAnswer, IsReply, AnswersFrom, Answers}
 use Rattle.alta_session.specs.Cursors.{Turn, Turns}
 use Rattle.alta_session.specs.Machine.{Machine, changed_by, turned_by, IsRefusal}
-use Rattle.alta_session.specs.Tasks.{IsWorked, worked_where}
+use Rattle.alta_session.specs.Tasks.{IsBy, IsWorked, worked_where}
 use Rattle.alta_session.specs.declared.session.Session.{Session}
 use Rattle.alta_session.proofs.AgreementLaws.{agrees_changed, knows_state}
 use Rattle.alta_session.proofs.TaskLaws.{worked_none}
 use Rattle.alta_store.specs.Agreement.{Knows}
-use Rattle.alta_images.specs.Holding.{Holding, IsHeld}
+use Rattle.alta_images.specs.Holding.{Holding}
 use Rattle.alta_images.specs.Standing.{StandsFor, StandsForEither}
 use Rattle.alta_images.specs.Work.{Task}
 use Rattle.alta_store.specs.declared.fault.StoreFault.{StoreFault}
@@ -74,7 +74,7 @@ looked_at tells state disk session result steps tasks text lawful can memory res
         agrees = if_so result (AgreesOn tells (state disk) session (steps m).0) now;
         images = subst (λ (s : State). LeavesOnly (StandsForEither m.state s) (state disk) (state disk)) (sym rest.state) (stays tells (state disk) session m lawful agrees);
         refused = λ refusal. (refl, memory);
-        works = λ held here. if_so result _ (worked_none (state disk).limit held (tasks m) (state disk).content rest.task_none here);
+        works = λ held here. if_so result _ (worked_none (state disk).limit held (tasks m) (IsBy session (state disk).content) rest.task_none here);
         full = λ held need gap here is. let wanting : Full need gap ≡ Memory = is_memory result (Full need gap) memory is in absurd cc;
         undamaged = λ place is. let wanting : Damaged place ≡ Memory = is_memory result (Damaged place) memory is in absurd cc;
       };
@@ -145,19 +145,19 @@ pub step_rests : (m : Machine) (stepped : Machine × List ℕ) (task : Option Ta
 step_rests m stepped task text is none = record { task_none = none; state = ap (λ (p : Machine × List ℕ). p.0.state) is; cursors = ap (λ (p : Machine × List ℕ). p.0.cursors) is; reply = ap (λ (p : Machine × List ℕ). p.1) is }
 
 -- The disk was changed by this task, and this is the reply.
-pub record Changes (disk disk_now : DiskState) (text : List ℕ) (m : Machine) (change : State × List ℕ) (task : Option Task) : Type 0 where
+pub record Changes (disk disk_now : DiskState) (session session_now : Session) (text : List ℕ) (m : Machine) (change : State × List ℕ) (task : Option Task) : Type 0 where
   pub reply : change.1 ≡ text
   pub stands : StandsFor change.0 disk_now.content
   pub images : LeavesOnly (StandsForEither m.state change.0) disk disk_now
-  pub works : (held : Holding) → IsHeld held disk.content → IsWorked (worked_where disk.limit held task) disk_now.content
+  pub works : (held : Holding) → IsBy session disk.content held → IsWorked (worked_where disk.limit held task) (IsBy session_now disk_now.content)
 
 pub changed : {D : Type 0} (tells : Type 0) (state : D → DiskState) (disk disk_now : D) (session session_now : Session) (result : Result (List ℕ) StoreFault) (change : State → State × List ℕ) (tasks : Machine → Option Task) (text : List ℕ) → IsReply text result → (IsRefusal text → ⊥)
     → session_now.cursors ≡ session.cursors → CanAnswer tells (state disk_now) session_now → (state disk).faults ≤ (state disk_now).faults → (state disk_now).limit ≡ (state disk).limit
-    → ((m : Machine) → tells → AgreesOn tells (state disk) session m → Changes (state disk) (state disk_now) text m (change m.state) (tasks m))
+    → ((m : Machine) → tells → AgreesOn tells (state disk) session m → Changes (state disk) (state disk_now) session session_now text m (change m.state) (tasks m))
     → Answers tells state disk disk_now session session_now result (λ m. changed_by m (change m.state)) tasks
 changed tells state disk disk_now session session_now result change tasks text reply no_refusal same_cursors can faults same_limit changes = record {
   from = λ m tell agrees.
-      let one : Changes (state disk) (state disk_now) text m (change m.state) (tasks m) = changes m tell agrees in record {
+      let one : Changes (state disk) (state disk_now) session session_now text m (change m.state) (tasks m) = changes m tell agrees in record {
         reply = IfOk-weaker result (λ r. r ≡ text) (λ r. r ≡ (change m.state).1) (λ r is. is ∙ sym one.reply) reply.reply;
         agrees = if_so result _ (agrees_changed tells (state disk_now) session_now m (change m.state) (subst (λ (l : List OpenCursor). AreOpen l m.cursors) (sym same_cursors) agrees.cursors) can.agrees (λ told. one.stands));
         images = one.images;
@@ -193,7 +193,7 @@ turned tells state disk session cursors result steps tasks turn lawful can memor
             agrees = ok_weaker result (AreOpen cursors (turn m.state m.cursors).0) _ (λ open_now. record { store = agrees.store; stands = agrees.stands; cursors = open_now }) one.open_now;
             images = stays tells (state disk) session m lawful agrees;
             refused = λ refusal. (refl, memory);
-            works = λ held here. if_so result _ (worked_none (state disk).limit held None (state disk).content refl here);
+            works = λ held here. if_so result _ (worked_none (state disk).limit held None (IsBy session (state disk).content) refl here);
             full = λ held need gap here is. let wanting : Full need gap ≡ Memory = is_memory result (Full need gap) memory is in absurd cc;
             undamaged = λ place is. let wanting : Damaged place ≡ Memory = is_memory result (Damaged place) memory is in absurd cc;
           };

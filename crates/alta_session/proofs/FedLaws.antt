@@ -7,14 +7,14 @@ use Rattle.alta_console.proofs.GivingLaws.{gives_on, gives_none}
 use Rattle.alta_console.proofs.ReplyLaws.{joined_append}
 use Rattle.alta_disk.specs.Disk.{DiskState, LeavesOnly, IsLawful, Each}
 use Rattle.alta_disk.proofs.Moments.{leaves_start, leaves_then, leaves_as}
-use Rattle.alta_images.specs.Holding.{Holding, IsHeld}
+use Rattle.alta_images.specs.Holding.{Holding}
 use Rattle.alta_session.specs.Agreement.{AgreesOn}
 use Rattle.alta_session.specs.Fed.{Fed, FedFrom}
 use Rattle.alta_session.specs.Fullness.{IsFullOnly}
 use Rattle.alta_session.specs.Keeping.{clip}
 use Rattle.alta_session.specs.Machine.{Machine, step, after, replies}
 use Rattle.alta_session.specs.Progress.{StandsAfterSome, Progress, StopsWithin, StopsWithinFrom}
-use Rattle.alta_session.specs.Tasks.{IsDone, IsWorked, task_of, worked_lines, worked_where}
+use Rattle.alta_session.specs.Tasks.{IsBy, IsDone, IsOn, IsWorked, task_of, worked_lines, worked_where}
 use Rattle.alta_session.specs.declared.session.Session.{Session}
 use Rattle.alta_session.specs.declared.status.Status.{Status}
 use Rattle.alta_session.specs.declared.status.Status.TheVariants.{Full, Damaged}
@@ -22,7 +22,7 @@ use Rattle.alta_session.proofs.FullnessLaws.{full_on, full_more, full_clip, over
 use Rattle.alta_session.proofs.GivenLaws.{given_behind, given_less, none_behind, none_given}
 use Rattle.alta_session.proofs.MachineLaws.{after_append, replies_append, replies_same, after_same, reply_some}
 use Rattle.alta_session.proofs.ProgressLaws.{some_none, some_either, some_on, some_more, some_clip, progress_none, progress_stop, progress_on, progress_more, progress_full, progress_clip}
-use Rattle.alta_session.proofs.TaskLaws.{lines_on, one_worked, worked_as, worked_same}
+use Rattle.alta_session.proofs.TaskLaws.{lines_on, one_worked, worked_as, worked_on_image, worked_same}
 use Rattle.alta_images.specs.Standing.{StandsForEither}
 use Rattle.alta_store.proofs.Agreements.{images_stand}
 
@@ -56,7 +56,7 @@ fed_clip tells a b d e s0 s1 xs ys same fed = record {
     given_is = one.given_is ∙ ap joined (replies_same m xs ys same);
     agrees = subst (λ (t : Machine). AgreesOn tells e s1 t) (after_same m xs ys same) one.agrees;
     images = leaves_as d e (StandsAfterSome m xs) (StandsAfterSome m ys) one.images (λ z here. some_clip m xs ys z same here);
-    works = λ held here. worked_as _ _ e.content (worked_same d.limit m held xs ys same) (one.works held here);
+    works = λ held here. worked_as _ _ (IsBy s1 e.content) (worked_same d.limit m held xs ys same) (one.works held here);
   };
 }
 
@@ -73,14 +73,14 @@ fed_on tells a b c d e f s0 s1 s2 xs ys first then_ = record {
         agrees = subst (λ (t : Machine). AgreesOn tells f s2 t) (sym (after_append m xs ys)) two.agrees;
         images = leaves_on d e f m xs ys one.images two.images;
         works = λ held here.
-            let done : IsWorked (worked_lines d.limit m held xs) e.content = one.works held here in
-            lines_on d.limit e.limit m held done.now xs ys f.content first.same_limit done.is (two.works done.now done.held);
+            let done : IsWorked (worked_lines d.limit m held xs) (IsBy s1 e.content) = one.works held here in
+            lines_on d.limit e.limit m held done.now xs ys (IsBy s2 f.content) first.same_limit done.is (two.works done.now done.held);
       };
 }
 
 -- the work of lines, and of more behind them
 pub done_on : (limit later : ℕ) (m : Machine) (held now : Holding) (xs ys : List (List ℕ)) (d : DiskState) → later ≡ limit → worked_lines limit m held xs ≡ Ok now → IsDone (worked_lines later (after m xs) now ys) d → IsDone (worked_lines limit m held (xs ++ ys)) d
-done_on limit later m held now xs ys d same first more = (lines_on limit later m held now xs ys d.content same first more.0, more.1)
+done_on limit later m held now xs ys d same first more = (lines_on limit later m held now xs ys (IsOn d.content) same first more.0, more.1)
 
 -- it stopped in later lines
 pub stops_on : (tells : Type 0) (a b c : Option (List Event)) (d e f : DiskState) (s0 s1 : Session) (xs ys : List (List ℕ)) (status : Status) → Fed tells a b d e s0 s1 xs → StopsWithin tells b c e f s1 ys status → StopsWithin tells a c d f s0 (xs ++ ys) status
@@ -89,15 +89,15 @@ stops_on tells a b c d e f s0 s1 xs ys status first stops = record {
   gave = gives_on a b c first.given stops.given first.gave stops.gave;
   each = λ m tell agrees.
       let one : FedFrom tells d e s0 s1 xs first.given m = first.each m tell agrees in
-      let two : StopsWithinFrom e f ys stops.given status (after m xs) = stops.each (after m xs) tell one.agrees in
+      let two : StopsWithinFrom e f s1 ys stops.given status (after m xs) = stops.each (after m xs) tell one.agrees in
       record {
         progress = subst (λ (l : List ℕ). Progress m (xs ++ ys) (l ++ stops.given) f.images) (sym one.given_is) (progress_on m xs ys stops.given f.images two.progress);
         images = leaves_on d e f m xs ys one.images two.images;
         full = λ held here.
-            let done : IsWorked (worked_lines d.limit m held xs) e.content = one.works held here in
+            let done : IsWorked (worked_lines d.limit m held xs) (IsBy s1 e.content) = one.works held here in
             subst (λ (l : List ℕ). IsFullOnly d.limit held m (xs ++ ys) (l ++ stops.given) status) (sym one.given_is) (full_on d.limit e.limit m held done.now xs ys stops.given status first.same_limit done.is (two.full done.now done.held));
         works = λ held here all.
-            let done : IsWorked (worked_lines d.limit m held xs) e.content = one.works held here in
+            let done : IsWorked (worked_lines d.limit m held xs) (IsBy s1 e.content) = one.works held here in
             done_on d.limit e.limit m held done.now xs ys f first.same_limit done.is (two.works done.now done.held (given_behind m xs ys first.given stops.given one.given_is all));
         undamaged = two.undamaged;
       };
@@ -108,7 +108,7 @@ pub stops_more : (tells : Type 0) (a b : Option (List Event)) (d e : DiskState) 
 stops_more tells a b d e s0 xs ys status stops = record {
   given = stops.given;
   gave = stops.gave;
-  each = λ m tell agrees. let one : StopsWithinFrom d e xs stops.given status m = stops.each m tell agrees in record {
+  each = λ m tell agrees. let one : StopsWithinFrom d e s0 xs stops.given status m = stops.each m tell agrees in record {
     progress = progress_more m xs ys stops.given e.images one.progress;
     images = leaves_as d e (StandsAfterSome m xs) (StandsAfterSome m (xs ++ ys)) one.images (λ z here. some_more m xs ys z here);
     full = λ held here. full_more d.limit m held xs ys stops.given status (one.full held here);
@@ -124,13 +124,13 @@ pub stops_clip : (tells : Type 0) (a b : Option (List Event)) (d e : DiskState) 
 stops_clip tells a b d e s0 xs ys status same stops = record {
   given = stops.given;
   gave = stops.gave;
-  each = λ m tell agrees. let one : StopsWithinFrom d e xs stops.given status m = stops.each m tell agrees in record {
+  each = λ m tell agrees. let one : StopsWithinFrom d e s0 xs stops.given status m = stops.each m tell agrees in record {
     progress = progress_clip m xs ys stops.given e.images same one.progress;
     images = leaves_as d e (StandsAfterSome m xs) (StandsAfterSome m ys) one.images (λ z here. some_clip m xs ys z same here);
     full = λ held here. full_clip d.limit m held xs ys stops.given status same (one.full held here);
     works = λ held here all.
         let done : IsDone (worked_lines d.limit m held xs) e = one.works held here (all ∙ ap joined (sym (replies_same m xs ys same))) in
-        (worked_as _ _ e.content (worked_same d.limit m held xs ys same) done.0, done.1);
+        (worked_as _ _ (IsOn e.content) (worked_same d.limit m held xs ys same) done.0, done.1);
     undamaged = one.undamaged;
   };
 }
@@ -147,7 +147,7 @@ stops_none tells told d session lines status lawful not_full whole = record {
     full = λ held here need gap is. absurd (not_full need gap is);
     works = λ held here all.
         let none : [] ≡ lines = sym (none_given m lines (sym all)) in
-        subst (λ (l : List (List ℕ)). IsDone (worked_lines d.limit m held l) d) none (record { now = held; is = refl; held = here }, agrees.store.settled);
+        subst (λ (l : List (List ℕ)). IsDone (worked_lines d.limit m held l) d) none (record { now = held; is = refl; held = here.is }, agrees.store.settled);
     undamaged = whole;
   };
 }
@@ -162,7 +162,7 @@ stops_full tells a b d e s0 s1 lines status lawful not_full whole fed = record {
     progress = subst (λ (l : List ℕ). Progress m lines l e.images) (sym one.given_is) (progress_full m lines e.images (images_stand tells e (after m lines).state lawful one.agrees.store.settled one.agrees.stands));
     images = one.images;
     full = λ held here need gap is. absurd (not_full need gap is);
-    works = λ held here all. (one.works held here, one.agrees.store.settled);
+    works = λ held here all. (worked_on_image (worked_lines d.limit m held lines) s1 e.content (one.works held here), one.agrees.store.settled);
     undamaged = whole;
   };
 }
@@ -170,7 +170,7 @@ stops_full tells a b d e s0 s1 lines status lawful not_full whole fed = record {
 -- a line was answered
 pub fed_line : (tells : Type 0) (a b : Option (List Event)) (d e : DiskState) (s0 s1 : Session) (line reply : List ℕ) → Gives a b reply → ((m : Machine) → tells → AgreesOn tells d s0 m → reply ≡ (step m line).1)
     → ((m : Machine) → tells → AgreesOn tells d s0 m → AgreesOn tells e s1 (step m line).0) → ((m : Machine) → tells → AgreesOn tells d s0 m → LeavesOnly (StandsForEither m.state (step m line).0.state) d e)
-    → ((m : Machine) (held : Holding) → tells → AgreesOn tells d s0 m → IsHeld held d.content → IsWorked (worked_where d.limit held (task_of m line)) e.content) → e.limit ≡ d.limit → Fed tells a b d e s0 s1 (line ∷ [])
+    → ((m : Machine) (held : Holding) → tells → AgreesOn tells d s0 m → IsBy s0 d.content held → IsWorked (worked_where d.limit held (task_of m line)) (IsBy s1 e.content)) → e.limit ≡ d.limit → Fed tells a b d e s0 s1 (line ∷ [])
 fed_line tells a b d e s0 s1 line reply gave is now leaves works same = record {
   given = reply;
   gave = gave;
@@ -179,14 +179,14 @@ fed_line tells a b d e s0 s1 line reply gave is now leaves works same = record {
     given_is = is m tell agrees ∙ sym (append-nil (step m line).1);
     agrees = now m tell agrees;
     images = leaves_as d e (StandsForEither m.state (step m line).0.state) (StandsAfterSome m (line ∷ [])) (leaves m tell agrees) (λ z here. some_either m line [] z here);
-    works = λ held here. worked_as _ _ e.content (sym (one_worked d.limit m held line)) (works m held tell agrees here);
+    works = λ held here. worked_as _ _ (IsBy s1 e.content) (sym (one_worked d.limit m held line)) (works m held tell agrees here);
   };
 }
 
 -- less than its reply was given
 pub stops_line : (tells : Type 0) (a b : Option (List Event)) (d e : DiskState) (s0 : Session) (line part : List ℕ) (status : Status) → IsLawful tells e → Gives a b part → ((m : Machine) → tells → AgreesOn tells d s0 m → (left : List ℕ) × ((step m line).1 ≡ part ++ left) × (0 < length left))
     → ((m : Machine) → tells → AgreesOn tells d s0 m → LeavesOnly (StandsForEither m.state (step m line).0.state) d e)
-    → ((m : Machine) (held : Holding) → tells → AgreesOn tells d s0 m → IsHeld held d.content → IsFullOnly d.limit held m (line ∷ []) part status)
+    → ((m : Machine) (held : Holding) → tells → AgreesOn tells d s0 m → IsBy s0 d.content held → IsFullOnly d.limit held m (line ∷ []) part status)
     → ((m : Machine) (place : ℕ) → tells → AgreesOn tells d s0 m → status ≡ Damaged place → ⊥) → StopsWithin tells a b d e s0 (line ∷ []) status
 stops_line tells a b d e s0 line part status lawful gave is leaves full whole = record {
   given = part;
@@ -202,7 +202,7 @@ stops_line tells a b d e s0 line part status lawful gave is leaves full whole = 
 
 -- none of it was given
 pub stops_unanswered : (tells : Type 0) (a : Option (List Event)) (d e : DiskState) (s0 : Session) (line : List ℕ) (status : Status) → IsLawful tells e → ((m : Machine) → tells → AgreesOn tells d s0 m → LeavesOnly (StandsForEither m.state (step m line).0.state) d e)
-    → ((m : Machine) (held : Holding) (need gap : ℕ) → tells → AgreesOn tells d s0 m → IsHeld held d.content → status ≡ Full need gap → worked_where d.limit held (task_of m line) ≡ Err (record { need = need; gap = gap }))
+    → ((m : Machine) (held : Holding) (need gap : ℕ) → tells → AgreesOn tells d s0 m → IsBy s0 d.content held → status ≡ Full need gap → worked_where d.limit held (task_of m line) ≡ Err (record { need = need; gap = gap }))
     → ((m : Machine) (place : ℕ) → tells → AgreesOn tells d s0 m → status ≡ Damaged place → ⊥) → StopsWithin tells a a d e s0 (line ∷ []) status
 stops_unanswered tells a d e s0 line status lawful leaves full whole =
     stops_line tells a a d e s0 line [] status lawful (gives_none a) (λ m tell agrees. ((step m line).1, refl, reply_some m line)) leaves

@@ -32,7 +32,7 @@ work_on_next limit later m held now xs ys k same done =
     let sum : length xs + k + 1 ≡ length xs + (k + 1) = omega arith in
     ap (λ (n : ℕ). worked_lines limit m held (take n (xs ++ ys))) sum ∙ work_on limit later m held now xs ys (k + 1) same done
 
-over_on : (limit later : ℕ) (m : Machine) (held now : Holding) (xs ys : List (List ℕ)) (k need gap : ℕ) → later ≡ limit → worked_lines limit m held xs ≡ Ok now → Overflows later now (after m xs) ys k need gap
+pub over_on : (limit later : ℕ) (m : Machine) (held now : Holding) (xs ys : List (List ℕ)) (k need gap : ℕ) → later ≡ limit → worked_lines limit m held xs ≡ Ok now → Overflows later now (after m xs) ys k need gap
     → Overflows limit held m (xs ++ ys) (length xs + k) need gap
 over_on limit later m held now xs ys k need gap same done over = record {
   within = omega (arith, over.within, length-append xs ys);
@@ -57,7 +57,7 @@ full_on limit later m held now xs ys given status same done only = λ need gap i
 work_more : (limit : ℕ) (m : Machine) (held : Holding) (xs ys : List (List ℕ)) (k : ℕ) → k ≤ length xs → worked_lines limit m held (take k (xs ++ ys)) ≡ worked_lines limit m held (take k xs)
 work_more limit m held xs ys k within = ap (λ (l : List (List ℕ)). worked_lines limit m held l) (take-append-le k xs ys within)
 
-over_more : (limit : ℕ) (m : Machine) (held : Holding) (xs ys : List (List ℕ)) (k need gap : ℕ) → Overflows limit held m xs k need gap → Overflows limit held m (xs ++ ys) k need gap
+pub over_more : (limit : ℕ) (m : Machine) (held : Holding) (xs ys : List (List ℕ)) (k need gap : ℕ) → Overflows limit held m xs k need gap → Overflows limit held m (xs ++ ys) k need gap
 over_more limit m held xs ys k need gap over = record {
   within = omega (arith, over.within, length-append xs ys);
   now = over.now;

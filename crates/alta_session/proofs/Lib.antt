@@ -4,6 +4,7 @@ pub mod AnsweringLaws
 pub mod AskLaws
 pub mod CursorLaws
 pub mod DeletingLaws
+pub mod DemoLaws
 pub mod FedLaws
 pub mod FeedLaws
 pub mod FullnessLaws
@@ -15,6 +16,7 @@ pub mod ObeyingLaws
 pub mod ProgressLaws
 pub mod QueryingLaws
 pub mod RunLaws
+pub mod ScriptLaws
 pub mod SearchLaws
 pub mod ServeLaws
 pub mod StateLaws

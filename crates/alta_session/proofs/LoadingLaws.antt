@@ -5,7 +5,7 @@ use Rattle.std.proofs.lemmas.Bool.Decides.{nat_tests}
 use Rattle.std.proofs.lemmas.List.Elements.{All-nil}
 use Rattle.std.proofs.lemmas.Result.{IfOk-weaker}
 use Rattle.std.specs.Str.{bytes_eq}
-use Rattle.alta_catalog.specs.Knowing.{memory_of}
+use Rattle.alta_catalog.specs.Knowing.{gone_of, memory_of}
 use Rattle.alta_codec.specs.Faults.{Rose}
 use Rattle.alta_compile.specs.PlanOf.{plan_of}
 use Rattle.alta_content.specs.declared.content.Content.{Content}
@@ -37,7 +37,7 @@ use Rattle.alta_session.specs.Loading.{HasBrokenList, Loads, Queries, loads_of_q
 use Rattle.alta_session.specs.Machine.{IsRefusal}
 use Rattle.alta_session.specs.Searching.{IsNoQuery}
 use Rattle.alta_session.proofs.StatusLaws.{ok_answers, err_answers}
-use Rattle.alta_store.specs.Agreement.{Agrees, Holds, levels_of}
+use Rattle.alta_store.specs.Agreement.{Agrees, GoesOnOver, Holds, levels_of}
 use Rattle.alta_store.specs.Answers.{IsOutside}
 use Rattle.alta_store.specs.declared.fault.StoreFault.{StoreFault}
 use Rattle.alta_store.specs.declared.fault.StoreFault.TheVariants.{Disk, Memory, Damaged}
@@ -239,6 +239,7 @@ agrees_read tells bytes d e store lawful agrees reads = record {
   settled = only_same tells d lawful agrees.settled e reads.images reads.content;
   content = λ tell. subst (Holds store) (sym (reads.content tell)) (agrees.content tell);
   intact = agrees.intact;
+  joins = λ tell. subst (λ (image : List ℕ). GoesOnOver image (levels_of store) (gone_of store.catalog) store.job agrees.intact.joining) (sym (reads.content tell)) (agrees.joins tell);
 }
 
 -- ---- calls that answer a text

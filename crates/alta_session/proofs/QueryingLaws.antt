@@ -4,7 +4,6 @@ use Rattle.std.specs.Prelude.{nat_le}
 use Rattle.std.proofs.lemmas.Bool.Decides.{nat_tests}
 use Rattle.alta_disk.specs.Disk.{DiskState, IsLawful, Same}
 use Rattle.alta_disk.proofs.Moments.{leaves_by}
-use Rattle.alta_images.specs.Holding.{IsHeld}
 use Rattle.alta_images.specs.Standing.{StandsFor, StandsForEither}
 use Rattle.alta_images.specs.Work.{Task}
 use Rattle.alta_loading.specs.Loads.{Load, load_sizes}
@@ -23,6 +22,7 @@ use Rattle.alta_session.specs.Cursors.{Turn, Turns, opening, opened_by}
 use Rattle.alta_session.specs.Loading.{HasBrokenList, Queries}
 use Rattle.alta_session.specs.Machine.{IsRefusal, Machine, turned_by}
 use Rattle.alta_session.specs.Searching.{IsNoQuery, answer_lines, counted_by, counting, found_by, found_line, searching}
+use Rattle.alta_session.specs.Tasks.{IsBy}
 use Rattle.alta_session.specs.declared.session.Session.{Session}
 use Rattle.alta_session.proofs.AnsweringLaws.{answers_by, if_so, ok_weaker, with_cursors}
 use Rattle.alta_session.proofs.CursorLaws.{found_other, cursor_other, lines_other, no_refusal}
@@ -80,7 +80,7 @@ queried tells state disk disk_now session cursors loads idle result steps tasks 
                 (λ open_now. record { store = agrees_now; stands = λ told. subst (StandsFor m.state) (sym (reads.content told)) (agrees.stands told); cursors = open_now }) one.open_now;
             images = leaves_by tells (state disk) (state disk_now) (StandsForEither m.state m.state) Same lawful reads.images before (λ x z here same. subst (StandsForEither m.state m.state) (sym same) (before x here));
             refused = λ refusal. queries.idles (idles m.state m.cursors agrees.cursors refusal);
-            works = λ held here. if_so result _ (worked_none (state disk).limit held None (state disk_now).content refl (subst (IsHeld held) (sym (reads.content tell)) here));
+            works = λ held here. if_so result _ (worked_none (state disk).limit held None (IsBy session (state disk_now).content) refl (subst (λ (image : List ℕ). IsBy session image held) (sym (reads.content tell)) here));
             full = λ held need gap here failed. absurd (not_full result need gap queries.loaded.only failed);
             undamaged = λ place failed. not_damaged result place (queries.undamaged m.state tell (agrees.stands tell)) failed;
           };

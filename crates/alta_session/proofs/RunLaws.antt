@@ -11,7 +11,7 @@ use Rattle.alta_console.proofs.LineLaws.{whole_from_append, begun_from_append}
 use Rattle.alta_console.proofs.ReplyLaws.{joined_append}
 use Rattle.alta_console.proofs.RunLaws.{given_takes_none, given_ends_none, given_takes_at, ended_append, takes_in, takes_later, within_all, open_lines, ended_lines, lines_past, taken_on}
 use Rattle.alta_disk.specs.Disk.{DiskState, LeavesOnly, IsLawful}
-use Rattle.alta_images.specs.Holding.{Holding, IsHeld}
+use Rattle.alta_images.specs.Holding.{Holding}
 use Rattle.alta_session.specs.Agreement.{AgreesOn}
 use Rattle.alta_session.specs.Fed.{Fed, FedFrom}
 use Rattle.alta_session.specs.Fullness.{IsFullOnly, IsFullExactly}
@@ -21,7 +21,7 @@ use Rattle.alta_session.specs.Machine.{Machine, after, replies}
 use Rattle.alta_session.specs.Progress.{StandsAfterSome, Progress, StopsWithin, StopsWithinFrom}
 use Rattle.alta_session.specs.Run.{AnswersAll, AnswersInTime, Runs, RunsFrom}
 use Rattle.alta_session.specs.Status.{StopsLine, EndsLine}
-use Rattle.alta_session.specs.Tasks.{IsDone, IsWorked, worked_lines}
+use Rattle.alta_session.specs.Tasks.{IsBy, IsDone, IsOn, IsWorked, worked_lines}
 use Rattle.alta_session.specs.declared.session.Session.{Session}
 use Rattle.alta_session.specs.declared.status.Status.{Status}
 use Rattle.alta_session.specs.declared.status.Status.TheVariants.{Done, Full, TooLong, Damaged}
@@ -32,7 +32,7 @@ use Rattle.alta_session.proofs.KeepingLaws.{whole_from_clip, begun_from_clip, la
 use Rattle.alta_session.proofs.MachineLaws.{after_append, replies_append}
 use Rattle.alta_session.proofs.ProgressLaws.{progress_begins, progress_acked, progress_on, progress_full}
 use Rattle.alta_session.proofs.StatusLaws.{ends_not_done, ends_not_long, ends_whole}
-use Rattle.alta_session.proofs.TaskLaws.{lines_on}
+use Rattle.alta_session.proofs.TaskLaws.{lines_on, worked_on_image}
 use Rattle.alta_store.proofs.Agreements.{images_stand}
 
 -- A run that was in time goes on by a take, and then by gives: it is in time where all was answered before the take.
@@ -48,11 +48,11 @@ in_time_on m run event gives before now given k t =
     at_event (suc j) t = absurd (given_takes_at gives j given (takes_later event gives j t))
 
 -- what a run from a machine keeps
-runs_from : (limit : ℕ) (d e : DiskState) (run : List Event) (status : Status) (m : Machine) → AnswersInTime m run → Progress m (lines_in limit run) (given_in run) e.images
+runs_from : (limit : ℕ) (d e : DiskState) (session : Session) (run : List Event) (status : Status) (m : Machine) → AnswersInTime m run → Progress m (lines_in limit run) (given_in run) e.images
     → (status ≡ Done → (has_ended run ≡ true) × (given_in run ≡ joined (replies m (lines_in limit run)))) → LeavesOnly (StandsAfterSome m (lines_in limit run)) d e
-    → ((held : Holding) → IsHeld held d.content → IsFullExactly d.limit held m (lines_in limit run) (given_in run) status) → ((held : Holding) → IsHeld held d.content → AnswersAll limit m run → IsDone (worked_lines d.limit m held (lines_in limit run)) e)
-    → ((place : ℕ) → status ≡ Damaged place → ⊥) → RunsFrom limit d e run status m
-runs_from limit d e run status m time p done leaves full levels never = record {
+    → ((held : Holding) → IsBy session d.content held → IsFullExactly d.limit held m (lines_in limit run) (given_in run) status) → ((held : Holding) → IsBy session d.content held → AnswersAll limit m run → IsDone (worked_lines d.limit m held (lines_in limit run)) e)
+    → ((place : ℕ) → status ≡ Damaged place → ⊥) → RunsFrom limit d e session run status m
+runs_from limit d e session run status m time p done leaves full levels never = record {
   replies = record {
     begin = progress_begins m (lines_in limit run) (given_in run) e.images p;
     all = done;
@@ -72,16 +72,16 @@ runs_from limit d e run status m time p done leaves full levels never = record {
 }
 
 -- it ended in answering a line, or the work of all that came before was done too
-ends_on : (limit later : ℕ) (m : Machine) (held now : Holding) (xs ys : List (List ℕ)) (status : Status) (image : List ℕ) → later ≡ limit → worked_lines limit m held xs ≡ Ok now → StopsLine status ⊎ IsWorked (worked_lines later (after m xs) now ys) image
+ends_on : (limit later : ℕ) (m : Machine) (held now : Holding) (xs ys : List (List ℕ)) (status : Status) (Here : Holding → Type 0) → later ≡ limit → worked_lines limit m held xs ≡ Ok now → StopsLine status ⊎ IsWorked (worked_lines later (after m xs) now ys) Here
     → StopsLine status ⊎ ((z : Holding) × (worked_lines limit m held (xs ++ ys) ≡ Ok z))
-ends_on limit later m held now xs ys status image same first (inl ends) = inl ends
-ends_on limit later m held now xs ys status image same first (inr more) = let all : IsWorked (worked_lines limit m held (xs ++ ys)) image = lines_on limit later m held now xs ys image same first more in inr (all.now, all.is)
+ends_on limit later m held now xs ys status Here same first (inl ends) = inl ends
+ends_on limit later m held now xs ys status Here same first (inr more) = let all : IsWorked (worked_lines limit m held (xs ++ ys)) Here = lines_on limit later m held now xs ys Here same first more in inr (all.now, all.is)
 
 -- at what is held
-ends_at : (status : Status) (limit : ℕ) (m : Machine) (lines : List (List ℕ)) (before image : List ℕ) (held : Holding) → IsHeld held before → StopsLine status ⊎ ((held : Holding) → IsHeld held before → IsWorked (worked_lines limit m held lines) image)
-    → StopsLine status ⊎ IsWorked (worked_lines limit m held lines) image
-ends_at status limit m lines before image held here (inl ends) = inl ends
-ends_at status limit m lines before image held here (inr works) = inr (works held here)
+ends_at : (status : Status) (limit : ℕ) (m : Machine) (lines : List (List ℕ)) (Before Here : Holding → Type 0) (held : Holding) → Before held → StopsLine status ⊎ ((held : Holding) → Before held → IsWorked (worked_lines limit m held lines) Here)
+    → StopsLine status ⊎ IsWorked (worked_lines limit m held lines) Here
+ends_at status limit m lines Before Here held here (inl ends) = inl ends
+ends_at status limit m lines Before Here held here (inr works) = inr (works held here)
 
 -- a run that goes on, then a take, and then gives
 given_on : (run gives : List Event) (event : Event) (given : List ℕ) → given_in (event ∷ []) ≡ [] → given_in gives ≡ given → given_in (run ++ event ∷ gives) ≡ given_in run ++ given
@@ -89,9 +89,9 @@ given_on run gives event given none is =
     given_in_append run (event ∷ gives) ∙ ap (λ (l : List ℕ). given_in run ++ l) (given_in_append (event ∷ []) gives ∙ ap (λ (l : List ℕ). l ++ given_in gives) none ∙ is)
 
 after_from : (tells : Type 0) (limit : ℕ) (d e f : DiskState) (s0 s1 : Session) (run gives : List Event) (event : Event) (given : List ℕ) (later : List (List ℕ)) (status : Status) (m : Machine) → GoingFrom tells d e s0 s1 run m
-    → e.limit ≡ d.limit → StopsWithinFrom e f later given status (after m (whole (taken_in run))) → AllGiven gives → given_in gives ≡ given → given_in (event ∷ []) ≡ [] → lines_in limit (run ++ event ∷ gives) ≡ whole (taken_in run) ++ later
+    → e.limit ≡ d.limit → StopsWithinFrom e f s1 later given status (after m (whole (taken_in run))) → AllGiven gives → given_in gives ≡ given → given_in (event ∷ []) ≡ [] → lines_in limit (run ++ event ∷ gives) ≡ whole (taken_in run) ++ later
     → (status ≡ Done → (has_ended (run ++ event ∷ gives) ≡ true) × (given ≡ joined (replies (after m (whole (taken_in run))) later)))
-    → StopsLine status ⊎ ((held : Holding) → IsHeld held e.content → IsWorked (worked_lines e.limit (after m (whole (taken_in run))) held later) f.content) → RunsFrom limit d f (run ++ event ∷ gives) status m
+    → StopsLine status ⊎ ((held : Holding) → IsBy s1 e.content held → IsWorked (worked_lines e.limit (after m (whole (taken_in run))) held later) (IsOn f.content)) → RunsFrom limit d f s0 (run ++ event ∷ gives) status m
 after_from tells limit d e f s0 s1 run gives event given later status m going same stops all_given gave none lines done ends =
     let before : List (List ℕ) = whole (taken_in run) in
     let now : List Event = run ++ event ∷ gives in
@@ -102,17 +102,17 @@ after_from tells limit d e f s0 s1 run gives event given later status m going sa
     let F : Holding → List (List ℕ) → Type 0 = λ held l. IsFullExactly d.limit held m l (given_in now) status in
     let G : Holding → List ℕ → Type 0 = λ held l. IsFullOnly d.limit held m (before ++ later) l status in
     let D : Holding → List (List ℕ) → Type 0 = λ held l. IsDone (worked_lines d.limit m held l) f in
-    runs_from limit d f now status m (in_time_on m run event gives going.in_time going.given_is all_given)
+    runs_from limit d f s0 now status m (in_time_on m run event gives going.in_time going.given_is all_given)
     (subst P (sym lines) (subst Q (sym given_is) (progress_on m before later given f.images stops.progress)))
     (λ is. ((done is).0, given_is ∙ ap (λ (l : List ℕ). joined (replies m before) ++ l) (done is).1 ∙ sym (joined_append (replies m before) (replies (after m before) later)) ∙ ap joined (sym (replies_append m before later) ∙ ap (λ (l : List (List ℕ)). replies m l) (sym lines))))
     (subst R (sym lines) (leaves_on d e f m before later going.images stops.images))
     (λ held here.
-    let done : IsWorked (worked_lines d.limit m held before) e.content = going.works held here in
+    let done : IsWorked (worked_lines d.limit m held before) (IsBy s1 e.content) = going.works held here in
     subst (F held) (sym lines) (full_exactly d.limit m held (before ++ later) (given_in now) status
     (subst (G held) (sym given_is) (full_on d.limit e.limit m held done.now before later given status same done.is (stops.full done.now done.held)))
-    (ends_on d.limit e.limit m held done.now before later status f.content same done.is (ends_at status e.limit (after m before) later e.content f.content done.now done.held ends))))
+    (ends_on d.limit e.limit m held done.now before later status (IsOn f.content) same done.is (ends_at status e.limit (after m before) later (IsBy s1 e.content) (IsOn f.content) done.now done.held ends))))
     (λ held here all.
-    let done : IsWorked (worked_lines d.limit m held before) e.content = going.works held here in
+    let done : IsWorked (worked_lines d.limit m held before) (IsBy s1 e.content) = going.works held here in
     subst (D held) (sym lines) (done_on d.limit e.limit m held done.now before later f same done.is
     (stops.works done.now done.held (given_behind m before later (joined (replies m before)) given refl (sym given_is ∙ all ∙ ap (λ (l : List (List ℕ)). joined (replies m l)) lines)))))
     stops.undamaged
@@ -179,8 +179,8 @@ goes_on tells limit a b c d la lb lc ld e f h s0 s1 s2 kept kept_now taken piece
             agrees = subst (λ (t : Machine). AgreesOn tells h s2 t) (sym (after_append m (whole bytes) later) ∙ ap (λ (l : List (List ℕ)). after m l) (sym lines)) two.agrees;
             images = subst (λ (l : List (List ℕ)). LeavesOnly (StandsAfterSome m l) e h) (sym lines) (leaves_on e f h m (whole bytes) later one.images two.images);
             works = λ held here.
-                let done : IsWorked (worked_lines e.limit m held (whole bytes)) f.content = one.works held here in
-                subst (λ (l : List (List ℕ)). IsWorked (worked_lines e.limit m held l) h.content) (sym lines) (lines_on e.limit f.limit m held done.now (whole bytes) later h.content goes.same_limit done.is (two.works done.now done.held));
+                let done : IsWorked (worked_lines e.limit m held (whole bytes)) (IsBy s1 f.content) = one.works held here in
+                subst (λ (l : List (List ℕ)). IsWorked (worked_lines e.limit m held l) (IsBy s2 h.content)) (sym lines) (lines_on e.limit f.limit m held done.now (whole bytes) later (IsBy s2 h.content) goes.same_limit done.is (two.works done.now done.held));
           };
     }
 
@@ -227,7 +227,7 @@ runs_past tells limit a b c la lb lc e f s0 s1 kept taken piece lawful goes took
       too_long = (λ long. omega (arith, goes.taken_is, ap length taken_now, length-append bytes piece), λ over. refl);
       last = λ over. record { before = run; piece = piece; run_is = refl; within = goes.within };
       each = λ m tell agrees. let one : GoingFrom tells e f s0 s1 run m = goes.each m tell agrees in
-          after_from tells limit e f f s0 s1 run [] (Taken piece) stops.given [] TooLong m one goes.same_limit (stops.each (after m (whole bytes)) tell one.agrees) tt refl refl lines (λ done. absurd cc) (inr (λ held here. record { now = held; is = refl; held = here }));
+          after_from tells limit e f f s0 s1 run [] (Taken piece) stops.given [] TooLong m one goes.same_limit (stops.each (after m (whole bytes)) tell one.agrees) tt refl refl lines (λ done. absurd cc) (inr (λ held here. record { now = held; is = refl; held = here.is }));
     }
 
 ended_on : (run gives : List Event) → AllGiven gives → taken_in (run ++ Ended ∷ gives) ≡ taken_in run ++ []
@@ -236,7 +236,7 @@ ended_on run gives given = taken_in_append run (Ended ∷ gives) ∙ ap (λ (l :
 -- the input ended, and of a last line some was answered
 ended_with : (tells : Type 0) (limit : ℕ) (a b c d : Option (List Event)) (la lb lc ld : Option (List ℕ)) (e f h : DiskState) (s0 s1 : Session) (kept : List ℕ) (taken : ℕ) (status : Status) (goes : Goes tells limit a b la lb e f s0 s1 kept taken) → Grows b c (Ended ∷ []) → Consumes lb lc []
     → (stops : StopsWithin tells c d f h s1 (last_piece (begun (taken_in goes.run))) status) → ld ≡ lc → ((m : Machine) → tells → AgreesOn tells f s1 m → status ≡ Done → stops.given ≡ joined (replies m (last_piece (begun (taken_in goes.run))))) → (status ≡ TooLong → ⊥)
-    → ((m : Machine) → tells → AgreesOn tells f s1 m → StopsLine status ⊎ ((held : Holding) → IsHeld held f.content → IsWorked (worked_lines f.limit m held (last_piece (begun (taken_in goes.run)))) h.content)) → Runs tells limit a d la ld e h s0 status
+    → ((m : Machine) → tells → AgreesOn tells f s1 m → StopsLine status ⊎ ((held : Holding) → IsBy s1 f.content held → IsWorked (worked_lines f.limit m held (last_piece (begun (taken_in goes.run)))) (IsOn h.content))) → Runs tells limit a d la ld e h s0 status
 ended_with tells limit a b c d la lb lc ld e f h s0 s1 kept taken status goes took more stops same all not_long ends =
     let run : List Event = goes.run in
     let bytes : List ℕ = taken_in run in
@@ -275,7 +275,8 @@ runs_done tells limit a b c d la lb lc ld e f h s0 s1 s2 kept taken lawful goes 
     let line : List ℕ = begun (taken_in goes.run) in
     let fed_now : Fed tells c d f h s1 s2 (last_piece line) = fed_clip tells c d f h s1 s2 (last_piece kept) (last_piece line) (last_same kept line goes.kept_is) fed in
     ended_with tells limit a b c d la lb lc ld e f h s0 s1 kept taken Done goes took more (stops_full tells c d f h s1 s2 (last_piece line) Done lawful (λ need gap is. cc) (λ place is. cc) fed_now) same
-    (λ m tell agrees done. (fed_now.each m tell agrees).given_is) (λ long. cc) (λ m tell agrees. inr (fed_now.each m tell agrees).works)
+    (λ m tell agrees done. (fed_now.each m tell agrees).given_is) (λ long. cc)
+    (λ m tell agrees. inr (λ held here. worked_on_image (worked_lines f.limit m held (last_piece line)) s2 h.content ((fed_now.each m tell agrees).works held here)))
 
 -- a take failed
 pub runs_failed : (tells : Type 0) (limit : ℕ) (a b c : Option (List Event)) (la lb lc : Option (List ℕ)) (e f : DiskState) (s0 s1 : Session) (kept : List ℕ) (taken : ℕ) (status : Status) → IsLawful tells f → Goes tells limit a b la lb e f s0 s1 kept taken → c ≡ b → lc ≡ lb → (status ≡ Done → ⊥) → (status ≡ TooLong → ⊥) → ((need gap : ℕ) → status ≡ Full need gap → ⊥)
@@ -291,11 +292,11 @@ runs_failed tells limit a b c la lb lc e f s0 s1 kept taken status lawful goes s
       too_long = (λ long. absurd (not_long long), λ past. absurd (omega (arith, goes.within)));
       last = λ past. absurd (omega (arith, goes.within));
       each = λ m tell agrees. let one : GoingFrom tells e f s0 s1 run m = goes.each m tell agrees in
-          runs_from limit e f run status m one.in_time
+          runs_from limit e f s0 run status m one.in_time
           (subst (λ (l : List (List ℕ)). Progress m l (given_in run) f.images) (sym lines) (subst (λ (l : List ℕ). Progress m (whole bytes) l f.images) (sym one.given_is) (progress_full m (whole bytes) f.images (images_stand tells f (after m (whole bytes)).state lawful one.agrees.store.settled one.agrees.stands))))
           (λ done. absurd (not_done done)) (subst (λ (l : List (List ℕ)). LeavesOnly (StandsAfterSome m l) e f) (sym lines) one.images)
           (λ held here.
-          let done : IsWorked (worked_lines e.limit m held (lines_in limit run)) f.content = subst (λ (l : List (List ℕ)). IsWorked (worked_lines e.limit m held l) f.content) (sym lines) (one.works held here) in
+          let done : IsWorked (worked_lines e.limit m held (lines_in limit run)) (IsBy s1 f.content) = subst (λ (l : List (List ℕ)). IsWorked (worked_lines e.limit m held l) (IsBy s1 f.content)) (sym lines) (one.works held here) in
           full_exactly e.limit m held (lines_in limit run) (given_in run) status (λ need gap is. absurd (not_full need gap is)) (inr (done.now, done.is)))
-          (λ held here all. (subst (λ (l : List (List ℕ)). IsWorked (worked_lines e.limit m held l) f.content) (sym lines) (one.works held here), one.agrees.store.settled)) never;
+          (λ held here all. (worked_on_image (worked_lines e.limit m held (lines_in limit run)) s1 f.content (subst (λ (l : List (List ℕ)). IsWorked (worked_lines e.limit m held l) (IsBy s1 f.content)) (sym lines) (one.works held here)), one.agrees.store.settled)) never;
     }

@@ -6,20 +6,24 @@ use Rattle.alta_console.proofs.Laws.{grows_none, consumes_none}
 use Rattle.alta_disk.specs.Disk.{DiskState, Same, Passes, LeavesOnly, IsLawful}
 use Rattle.alta_disk.proofs.Moments.{leaves_then, leaves_by}
 use Rattle.alta_meta.specs.declared.document.State.{State}
-use Rattle.alta_images.specs.Holding.{Holding, IsHeld}
+use Rattle.alta_images.specs.Holding.{Holding, IsHeld, IsJobOf}
 use Rattle.alta_session.specs.Agreement.{AgreesOn}
 use Rattle.alta_session.specs.Fullness.{IsFullExactly}
 use Rattle.alta_session.specs.Machine.{Machine, started_at}
 use Rattle.alta_session.specs.Progress.{StandsAfterSome}
 use Rattle.alta_session.specs.Run.{AnswersAll, Runs, RunsFrom, Serves, Keeps}
-use Rattle.alta_session.specs.Tasks.{IsWorked, worked_lines}
+use Rattle.alta_session.specs.Tasks.{IsBy, IsFirst, IsOn, IsWorked, worked_lines}
 use Rattle.alta_session.specs.declared.session.Session.{Session}
 use Rattle.alta_session.specs.declared.status.Status.{Status}
 use Rattle.alta_session.specs.declared.status.Status.TheVariants.{Done, Full, TooLong}
 use Rattle.alta_session.proofs.FullnessLaws.{full_exactly}
 use Rattle.alta_session.proofs.ProgressLaws.{some_none}
 use Rattle.alta_images.specs.Standing.{StandsFor, view_of}
+use Rattle.alta_images.specs.Work.{Job}
+use Rattle.alta_merge.specs.Merging.{Merging}
+use Rattle.alta_store.specs.Agreement.{IsJobIn}
 use Rattle.alta_store.proofs.Agreements.{opened_of}
+use Rattle.alta_store.proofs.Holdings.{content_bytes, well_held}
 
 -- calls that change nothing leave images of the same state
 same_stands : (P : List ℕ → Type 0) (d e : DiskState) → Passes Same d e → ((c : List ℕ) → d.images c → P c) → (c : List ℕ) → e.images c → P c
@@ -38,7 +42,7 @@ serves_none tells limit told left d e status lawful passes same not_done not_lon
   last = λ past. absurd (omega arith);
   replies = λ s tell stands. record { begin = ([], refl); all = λ done. absurd (not_done done); in_time = λ k t. absurd t };
   full = λ s held tell stands here. full_exactly d.limit (started_at s) held [] [] status (λ need gap is. absurd (not_full need gap is)) (inr (held, refl));
-  levels = λ s held tell stands here all. record { now = held; is = refl; held = subst (IsHeld held) (sym (same tell)) here };
+  levels = λ s held tell stands here all. record { now = held; is = refl; held = subst (IsHeld held) (sym (same tell)) here.is };
   settled = λ s tell stands all some. absurd (omega (arith, some));
   keeps = λ s tell stands. record {
     now = λ c here. record {
@@ -56,40 +60,49 @@ older : (tells : Type 0) (d m : DiskState) (c : List ℕ) → IsLawful tells d �
 older tells d m c lawful passes here =
     ⊎_elim (λ old. lawful.only_now c old) (λ from. subst (λ (z : List ℕ). d.images z) (sym from.2) from.1) (passes.between d.clock c (omega arith) here)
 
--- by the limit and the content of before it was opened
-full_before : (limit : ℕ) (d m e : DiskState) (run : List Event) (status : Status) (start : Machine) (held : Holding) → m.limit ≡ d.limit → m.content ≡ d.content → RunsFrom limit m e run status start → IsHeld held d.content
-    → IsFullExactly d.limit held start (lines_in limit run) (given_in run) status
-full_before limit d m e run status start held same_limit same runs here =
-    subst (λ (n : ℕ). IsFullExactly n held start (lines_in limit run) (given_in run) status) same_limit (runs.full held (subst (IsHeld held) (sym same) here))
+-- what an image has, as a session has it behind its opening
+pub opened_by : (tells : Type 0) (d m : DiskState) (session : Session) (held : Holding) → IsLawful tells m → tells → session.store.job ≡ None → m.content ≡ d.content → IsFirst d.content held → IsBy session m.content held
+opened_by tells d m session held lawful told none same here =
+    let is : IsHeld held m.content = subst (IsHeld held) (sym same) here.is in
+    record {
+      is = is;
+      job = subst (λ (job : Option Merging). IsJobIn job held.job) (sym none) (subst (λ (job : Option Job). IsJobIn None job) (sym here.none) tt);
+      well = well_held held m.content (content_bytes tells m lawful told) is (subst (λ (job : Option Job). IsJobOf job held.view) (sym here.none) tt);
+    }
 
-levels_before : (limit : ℕ) (d m e : DiskState) (run : List Event) (status : Status) (start : Machine) (held : Holding) → m.limit ≡ d.limit → m.content ≡ d.content → RunsFrom limit m e run status start → IsHeld held d.content → AnswersAll limit start run
-    → IsWorked (worked_lines d.limit start held (lines_in limit run)) e.content
-levels_before limit d m e run status start held same_limit same runs here all =
-    subst (λ (n : ℕ). IsWorked (worked_lines n start held (lines_in limit run)) e.content) same_limit (runs.levels held (subst (IsHeld held) (sym same) here) all).0
+-- by the limit of before it was opened
+full_before : (limit : ℕ) (d m e : DiskState) (session : Session) (run : List Event) (status : Status) (start : Machine) (held : Holding) → m.limit ≡ d.limit → RunsFrom limit m e session run status start → IsBy session m.content held
+    → IsFullExactly d.limit held start (lines_in limit run) (given_in run) status
+full_before limit d m e session run status start held same_limit runs here =
+    subst (λ (n : ℕ). IsFullExactly n held start (lines_in limit run) (given_in run) status) same_limit (runs.full held here)
+
+levels_before : (limit : ℕ) (d m e : DiskState) (session : Session) (run : List Event) (status : Status) (start : Machine) (held : Holding) → m.limit ≡ d.limit → RunsFrom limit m e session run status start → IsBy session m.content held → AnswersAll limit start run
+    → IsWorked (worked_lines d.limit start held (lines_in limit run)) (IsOn e.content)
+levels_before limit d m e session run status start held same_limit runs here all =
+    subst (λ (n : ℕ). IsWorked (worked_lines n start held (lines_in limit run)) (IsOn e.content)) same_limit (runs.levels held here all).0
 
 -- what an image that stands for a state has
-held_of : (s : State) (image : List ℕ) → StandsFor s image → (held : Holding) × IsHeld held image
+held_of : (s : State) (image : List ℕ) → StandsFor s image → (held : Holding) × IsFirst image held
 held_of s image stands = (
   record { view = view_of stands.opened stands.means.levels; list = stands.opened.root.deletions; job = None },
-  record { opened = stands.opened; is = opened_of s image stands; are = stands.means.are; view_is = refl; list_is = refl },
+  record { is = record { opened = stands.opened; is = opened_of s image stands; are = stands.means.are; view_is = refl; list_is = refl }; none = refl },
 )
 
 -- it was opened, and then it ran
-pub serves_opened : (tells : Type 0) (limit : ℕ) (told told_now : Option (List Event)) (left left_now : Option (List ℕ)) (d m e : DiskState) (session : Session) (status : Status) → IsLawful tells d → Passes Same d m → ((s : State) → tells → StandsFor s d.content → AgreesOn tells m session (started_at s)) → (tells → m.content ≡ d.content) → m.limit ≡ d.limit
+pub serves_opened : (tells : Type 0) (limit : ℕ) (told told_now : Option (List Event)) (left left_now : Option (List ℕ)) (d m e : DiskState) (session : Session) (status : Status) → IsLawful tells d → IsLawful tells m → session.store.job ≡ None → Passes Same d m → ((s : State) → tells → StandsFor s d.content → AgreesOn tells m session (started_at s)) → (tells → m.content ≡ d.content) → m.limit ≡ d.limit
     → Runs tells limit told told_now left left_now m e session status → Serves tells limit told told_now left left_now d e status
-serves_opened tells limit told told_now left left_now d m e session status lawful passes agrees same same_limit runs = record {
+serves_opened tells limit told told_now left left_now d m e session status lawful lawful_now none passes agrees same same_limit runs = record {
   run = runs.run;
   grew = runs.grew;
   read = runs.read;
   too_long = runs.too_long;
   last = runs.last;
   replies = λ s tell stands. (runs.each (started_at s) tell (agrees s tell stands)).replies;
-  full = λ s held tell stands here. full_before limit d m e runs.run status (started_at s) held same_limit (same tell) (runs.each (started_at s) tell (agrees s tell stands)) here;
-  levels = λ s held tell stands here all. levels_before limit d m e runs.run status (started_at s) held same_limit (same tell) (runs.each (started_at s) tell (agrees s tell stands)) here all;
+  full = λ s held tell stands here. full_before limit d m e session runs.run status (started_at s) held same_limit (runs.each (started_at s) tell (agrees s tell stands)) (opened_by tells d m session held lawful_now tell none (same tell) here);
+  levels = λ s held tell stands here all. levels_before limit d m e session runs.run status (started_at s) held same_limit (runs.each (started_at s) tell (agrees s tell stands)) (opened_by tells d m session held lawful_now tell none (same tell) here) all;
   settled = λ s tell stands all some.
-      let from : StandsFor s m.content = subst (StandsFor s) (sym (same tell)) stands in
-      let held = held_of s m.content from in
-      ((runs.each (started_at s) tell (agrees s tell stands)).levels held.0 held.1 all).1;
+      let held = held_of s d.content stands in
+      ((runs.each (started_at s) tell (agrees s tell stands)).levels held.0 (opened_by tells d m session held.0 lawful_now tell none (same tell) held.1) all).1;
   keeps = λ s tell stands.
       let one : Keeps limit (started_at s) runs.run m e = (runs.each (started_at s) tell (agrees s tell (stands.content tell))).keeps in
       let lines : List (List ℕ) = lines_in limit runs.run in

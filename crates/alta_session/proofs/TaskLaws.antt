@@ -6,7 +6,7 @@ use Rattle.std.proofs.lemmas.List.{take-map}
 use Rattle.alta_codec.specs.Name.{IsName, is_name}
 use Rattle.alta_codec.proofs.NameLaws.{name_is, name_is_not}
 use Rattle.alta_images.specs.Chain.{◌>>=◌}
-use Rattle.alta_images.specs.Holding.{Holding, IsHeld}
+use Rattle.alta_images.specs.Holding.{Holding}
 use Rattle.alta_images.specs.States.{has_name, number_of}
 use Rattle.alta_images.specs.Work.{Task, enters}
 use Rattle.alta_images.specs.Working.{Full}
@@ -15,7 +15,8 @@ use Rattle.alta_meta.specs.declared.document.State.{State}
 use Rattle.alta_model.specs.Lines.{Reading, reading_of}
 use Rattle.alta_session.specs.Keeping.{clip}
 use Rattle.alta_session.specs.Machine.{Machine, step, after}
-use Rattle.alta_session.specs.Tasks.{task_of_add, task_of_delete, task_in, task_of, worked_where, worked_line, worked_lines, IsWorked}
+use Rattle.alta_session.specs.Tasks.{task_of_add, task_of_delete, task_in, task_of, worked_where, worked_line, worked_lines, IsBy, IsOn, IsWorked}
+use Rattle.alta_session.specs.declared.session.Session.{Session}
 use Rattle.alta_session.proofs.DeletingLaws.{not_numbered}
 use Rattle.alta_session.proofs.MachineLaws.{reading_clip, step_clip}
 
@@ -97,11 +98,11 @@ task_clip m line = ap (λ (r : Reading). task_in m r) (reading_clip line)
 
 -- ---- work
 -- what is held stays where nothing is asked
-pub worked_none : (limit : ℕ) (held : Holding) (task : Option Task) (image : List ℕ) → task ≡ None → IsHeld held image → IsWorked (worked_where limit held task) image
-worked_none limit held task image none here = record { now = held; is = ap (λ (t : Option Task). worked_where limit held t) none; held = here }
+pub worked_none : (limit : ℕ) (held : Holding) (task : Option Task) (Here : Holding → Type 0) → task ≡ None → Here held → IsWorked (worked_where limit held task) Here
+worked_none limit held task Here none here = record { now = held; is = ap (λ (t : Option Task). worked_where limit held t) none; held = here }
 
-pub worked_by : (limit : ℕ) (held : Holding) (task other : Option Task) (image : List ℕ) → task ≡ other → IsWorked (worked_where limit held task) image → IsWorked (worked_where limit held other) image
-worked_by limit held task other image is work = subst (λ (t : Option Task). IsWorked (worked_where limit held t) image) is work
+pub worked_by : (limit : ℕ) (held : Holding) (task other : Option Task) (Here : Holding → Type 0) → task ≡ other → IsWorked (worked_where limit held task) Here → IsWorked (worked_where limit held other) Here
+worked_by limit held task other Here is work = subst (λ (t : Option Task). IsWorked (worked_where limit held t) Here) is work
 
 -- the work of a line
 pub line_works : (limit : ℕ) (m : Machine) (held : Holding) (line : List ℕ) → worked_line limit m held line ≡ worked_where limit held (task_of m line)
@@ -158,10 +159,14 @@ pub worked_take : (limit : ℕ) (m : Machine) (held : Holding) (k : ℕ) (xs ys 
 worked_take limit m held k xs ys same = worked_same limit m held (take k xs) (take k ys) (sym (take-map clip k xs) ∙ ap (λ (l : List (List ℕ)). take k l) same ∙ take-map clip k ys)
 
 -- what an image has then
-pub worked_as : (work other : Result Holding Full) (image : List ℕ) → work ≡ other → IsWorked work image → IsWorked other image
-worked_as work other image is done = record { now = done.now; is = sym is ∙ done.is; held = done.held }
+pub worked_as : (work other : Result Holding Full) (Here : Holding → Type 0) → work ≡ other → IsWorked work Here → IsWorked other Here
+worked_as work other Here is done = record { now = done.now; is = sym is ∙ done.is; held = done.held }
 
-pub lines_on : (limit later : ℕ) (m : Machine) (held now : Holding) (xs ys : List (List ℕ)) (image : List ℕ) → later ≡ limit → worked_lines limit m held xs ≡ Ok now → IsWorked (worked_lines later (after m xs) now ys) image
-    → IsWorked (worked_lines limit m held (xs ++ ys)) image
-lines_on limit later m held now xs ys image same done more =
-    worked_as _ _ image (ap (λ (n : ℕ). worked_lines n (after m xs) now ys) same ∙ sym (worked_on limit m held now xs ys done)) more
+pub lines_on : (limit later : ℕ) (m : Machine) (held now : Holding) (xs ys : List (List ℕ)) (Here : Holding → Type 0) → later ≡ limit → worked_lines limit m held xs ≡ Ok now → IsWorked (worked_lines later (after m xs) now ys) Here
+    → IsWorked (worked_lines limit m held (xs ++ ys)) Here
+lines_on limit later m held now xs ys Here same done more =
+    worked_as _ _ Here (ap (λ (n : ℕ). worked_lines n (after m xs) now ys) same ∙ sym (worked_on limit m held now xs ys done)) more
+
+-- what a session holds then the image has
+pub worked_on_image : (work : Result Holding Full) (session : Session) (image : List ℕ) → IsWorked work (IsBy session image) → IsWorked work (IsOn image)
+worked_on_image work session image done = record { now = done.now; is = done.is; held = done.held.is }

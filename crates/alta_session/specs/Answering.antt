@@ -7,11 +7,11 @@ use Rattle.alta_session.specs.Agreement.{AgreesOn, IsSound}
 use Rattle.alta_session.specs.Fullness.{IsFull}
 use Rattle.alta_session.specs.Machine.{Machine, IsRefusal}
 use Rattle.alta_session.specs.Loading.{HasBrokenList}
-use Rattle.alta_session.specs.Tasks.{IsWorked, worked_where}
+use Rattle.alta_session.specs.Tasks.{IsBy, IsWorked, worked_where}
 use Rattle.alta_session.specs.declared.session.Session.{Session}
 use Rattle.alta_store.specs.Agreement.{Agrees}
 use Rattle.alta_store.specs.Answers.{IsOutside}
-use Rattle.alta_images.specs.Holding.{Holding, IsHeld}
+use Rattle.alta_images.specs.Holding.{Holding}
 use Rattle.alta_images.specs.Standing.{StandsForEither}
 use Rattle.alta_images.specs.Work.{Task}
 use Rattle.alta_store.specs.declared.fault.StoreFault.{StoreFault}
@@ -37,9 +37,9 @@ pub record AnswersFrom {D : Type 0} (tells : Type 0) (state : D → DiskState) (
   pub images : LeavesOnly (StandsForEither m.state stepped.0.state) (state disk) (state disk_now)
   -- a refusal calls nothing, and fails for want of memory alone
   pub refused : IsRefusal stepped.1 → (disk_now ≡ disk) × IfErr result (λ e. e ≡ Memory)
-  pub works : (held : Holding) → IsHeld held (state disk).content → OnOk result (IsWorked (worked_where (state disk).limit held task) (state disk_now).content)
+  pub works : (held : Holding) → IsBy session (state disk).content held → OnOk result (IsWorked (worked_where (state disk).limit held task) (IsBy session_now (state disk_now).content))
   -- it wants a place only where the task does
-  pub full : (held : Holding) (need gap : ℕ) → IsHeld held (state disk).content → result ≡ Err (Full need gap)
+  pub full : (held : Holding) (need gap : ℕ) → IsBy session (state disk).content held → result ≡ Err (Full need gap)
       → worked_where (state disk).limit held task ≡ Err (record { need = need; gap = gap })
   -- and on a disk that stands for a state no damage is found
   pub undamaged : (place : ℕ) → result ≡ Err (Damaged place) → ⊥

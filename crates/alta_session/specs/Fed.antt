@@ -4,11 +4,11 @@ use Rattle.alta_console.specs.Giving.{Gives}
 use Rattle.alta_console.specs.Replies.{joined}
 use Rattle.alta_console.specs.declared.event.Event.{Event}
 use Rattle.alta_disk.specs.Disk.{DiskState, LeavesOnly}
-use Rattle.alta_images.specs.Holding.{Holding, IsHeld}
+use Rattle.alta_images.specs.Holding.{Holding}
 use Rattle.alta_session.specs.Agreement.{AgreesOn}
 use Rattle.alta_session.specs.Machine.{Machine, after, replies}
 use Rattle.alta_session.specs.Progress.{StandsAfterSome}
-use Rattle.alta_session.specs.Tasks.{IsWorked, worked_lines}
+use Rattle.alta_session.specs.Tasks.{IsBy, IsWorked, worked_lines}
 use Rattle.alta_session.specs.declared.session.Session.{Session}
 
 -- From this machine on the lines were answered, what is held then is what their work makes of what was held before, and at no moment was
@@ -17,7 +17,7 @@ pub record FedFrom (tells : Type 0) (disk disk_now : DiskState) (session session
   pub given_is : given ≡ joined (replies m lines)
   pub agrees : AgreesOn tells disk_now session_now (after m lines)
   pub images : LeavesOnly (StandsAfterSome m lines) disk disk_now
-  pub works : (held : Holding) → IsHeld held disk.content → IsWorked (worked_lines disk.limit m held lines) disk_now.content
+  pub works : (held : Holding) → IsBy session disk.content held → IsWorked (worked_lines disk.limit m held lines) (IsBy session_now disk_now.content)
 
 pub record Fed (tells : Type 0) (told told_now : Option (List Event)) (disk disk_now : DiskState) (session session_now : Session) (lines : List (List ℕ)) : Type 0 where
   pub given : List ℕ

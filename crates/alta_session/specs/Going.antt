@@ -5,13 +5,13 @@ use Rattle.alta_console.specs.Replies.{joined}
 use Rattle.alta_console.specs.Transcript.{given_in, taken_in, has_ended, Grows, Consumes}
 use Rattle.alta_console.specs.declared.event.Event.{Event}
 use Rattle.alta_disk.specs.Disk.{DiskState, LeavesOnly}
-use Rattle.alta_images.specs.Holding.{Holding, IsHeld}
+use Rattle.alta_images.specs.Holding.{Holding}
 use Rattle.alta_session.specs.Agreement.{AgreesOn}
 use Rattle.alta_session.specs.Keeping.{clip}
 use Rattle.alta_session.specs.Machine.{Machine, after, replies}
 use Rattle.alta_session.specs.Progress.{StandsAfterSome}
 use Rattle.alta_session.specs.Run.{AnswersInTime}
-use Rattle.alta_session.specs.Tasks.{IsWorked, worked_lines}
+use Rattle.alta_session.specs.Tasks.{IsBy, IsWorked, worked_lines}
 use Rattle.alta_session.specs.declared.session.Session.{Session}
 
 -- From this machine on every whole line taken so far was answered.
@@ -20,7 +20,7 @@ pub record GoingFrom (tells : Type 0) (disk disk_now : DiskState) (session sessi
   pub in_time : AnswersInTime m run
   pub agrees : AgreesOn tells disk_now session_now (after m (whole (taken_in run)))
   pub images : LeavesOnly (StandsAfterSome m (whole (taken_in run))) disk disk_now
-  pub works : (held : Holding) → IsHeld held disk.content → IsWorked (worked_lines disk.limit m held (whole (taken_in run))) disk_now.content
+  pub works : (held : Holding) → IsBy session disk.content held → IsWorked (worked_lines disk.limit m held (whole (taken_in run))) (IsBy session_now disk_now.content)
 
 -- A run that took this many bytes, and may take more. `kept` is kept of the line that has begun.
 pub record Goes (tells : Type 0) (limit : ℕ) (told told_now : Option (List Event)) (left left_now : Option (List ℕ)) (disk disk_now : DiskState) (session session_now : Session) (kept : List ℕ) (taken : ℕ) : Type 0 where

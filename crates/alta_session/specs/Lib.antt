@@ -2,6 +2,7 @@ pub mod Agreement
 pub mod Answering
 pub mod Asking
 pub mod Cursors
+pub mod Demo
 pub mod Fed
 pub mod Fullness
 pub mod Going

@@ -70,8 +70,8 @@ obeyed m (opens text) = turned_by m (opening text m.state.documents m.cursors)
 obeyed m (fetches cursor count) = turned_by m (fetching cursor count m.cursors)
 obeyed m (closes cursor) = turned_by m (closing cursor m.cursors)
 obeyed m flushes = (m, codes "ok\n")
-obeyed m merges = (m, refusal Unknown)
-obeyed m (steps count) = (m, refusal Unknown)
+obeyed m merges = (m, codes "ok\n")
+obeyed m (steps count) = (m, codes "ok\n")
 obeyed m asks_stats = (m, stats_of m.state)
 
 abbrev pub answered : Machine → Reading → Machine × List ℕ

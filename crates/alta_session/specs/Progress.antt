@@ -7,11 +7,11 @@ use Rattle.alta_disk.specs.Disk.{DiskState, LeavesOnly}
 use Rattle.alta_session.specs.Agreement.{AgreesOn}
 use Rattle.alta_session.specs.Fullness.{IsFullOnly}
 use Rattle.alta_session.specs.Machine.{Machine, after, replies}
-use Rattle.alta_session.specs.Tasks.{IsDone, worked_lines}
+use Rattle.alta_session.specs.Tasks.{IsBy, IsDone, worked_lines}
 use Rattle.alta_session.specs.declared.session.Session.{Session}
 use Rattle.alta_session.specs.declared.status.Status.{Status}
 use Rattle.alta_session.specs.declared.status.Status.TheVariants.{Damaged}
-use Rattle.alta_images.specs.Holding.{Holding, IsHeld}
+use Rattle.alta_images.specs.Holding.{Holding}
 use Rattle.alta_images.specs.Standing.{StandsFor}
 
 -- the image stands for the state after some of the lines, in order from the first
@@ -39,14 +39,14 @@ pub record Progress (start : Machine) (lines : List (List ℕ)) (given : List �
   pub stand : (image : List ℕ) → images image → StandsAfter answered start lines image
 
 -- Of lines some were answered, and it ended with this status. Where each reply was given, the work of all is done.
-pub record StopsWithinFrom (disk disk_now : DiskState) (lines : List (List ℕ)) (given : List ℕ) (status : Status) (m : Machine) : Type 0 where
+pub record StopsWithinFrom (disk disk_now : DiskState) (session : Session) (lines : List (List ℕ)) (given : List ℕ) (status : Status) (m : Machine) : Type 0 where
   pub progress : Progress m lines given disk_now.images
   pub images : LeavesOnly (StandsAfterSome m lines) disk disk_now
-  pub full : (held : Holding) → IsHeld held disk.content → IsFullOnly disk.limit held m lines given status
-  pub works : (held : Holding) → IsHeld held disk.content → given ≡ joined (replies m lines) → IsDone (worked_lines disk.limit m held lines) disk_now
+  pub full : (held : Holding) → IsBy session disk.content held → IsFullOnly disk.limit held m lines given status
+  pub works : (held : Holding) → IsBy session disk.content held → given ≡ joined (replies m lines) → IsDone (worked_lines disk.limit m held lines) disk_now
   pub undamaged : (place : ℕ) → status ≡ Damaged place → ⊥
 
 pub record StopsWithin (tells : Type 0) (told told_now : Option (List Event)) (disk disk_now : DiskState) (session : Session) (lines : List (List ℕ)) (status : Status) : Type 0 where
   pub given : List ℕ
   pub gave : Gives told told_now given
-  pub each : (m : Machine) → tells → AgreesOn tells disk session m → StopsWithinFrom disk disk_now lines given status m
+  pub each : (m : Machine) → tells → AgreesOn tells disk session m → StopsWithinFrom disk disk_now session lines given status m

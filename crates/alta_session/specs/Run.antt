@@ -11,11 +11,11 @@ use Rattle.alta_session.specs.Agreement.{AgreesOn}
 use Rattle.alta_session.specs.Fullness.{IsFullExactly}
 use Rattle.alta_session.specs.Machine.{Machine, started_at, replies}
 use Rattle.alta_session.specs.Progress.{StandsAfterSome, StandsAfter}
-use Rattle.alta_session.specs.Tasks.{IsDone, IsWorked, worked_lines}
+use Rattle.alta_session.specs.Tasks.{IsBy, IsDone, IsFirst, IsOn, IsWorked, worked_lines}
 use Rattle.alta_session.specs.declared.session.Session.{Session}
 use Rattle.alta_session.specs.declared.status.Status.{Status}
 use Rattle.alta_session.specs.declared.status.Status.TheVariants.{Done, TooLong, Damaged}
-use Rattle.alta_images.specs.Holding.{Holding, IsHeld}
+use Rattle.alta_images.specs.Holding.{Holding}
 use Rattle.alta_images.specs.Standing.{StandsFor}
 
 -- At each take, what was given so far is the replies to the whole lines taken so far.
@@ -57,13 +57,13 @@ pub record EndsPast (limit : ℕ) (run : List Event) : Type 0 where
   pub within : length (taken_in before) ≤ limit
 
 -- The run of an open session.
-pub record RunsFrom (limit : ℕ) (disk disk_now : DiskState) (run : List Event) (status : Status) (m : Machine) : Type 0 where
+pub record RunsFrom (limit : ℕ) (disk disk_now : DiskState) (session : Session) (run : List Event) (status : Status) (m : Machine) : Type 0 where
   pub replies : Replies limit m run status
   pub keeps : Keeps limit m run disk disk_now
   -- of what the content has at the start
-  pub full : (held : Holding) → IsHeld held disk.content → IsFullExactly disk.limit held m (lines_in limit run) (given_in run) status
+  pub full : (held : Holding) → IsBy session disk.content held → IsFullExactly disk.limit held m (lines_in limit run) (given_in run) status
   -- where each line was answered
-  pub levels : (held : Holding) → IsHeld held disk.content → AnswersAll limit m run → IsDone (worked_lines disk.limit m held (lines_in limit run)) disk_now
+  pub levels : (held : Holding) → IsBy session disk.content held → AnswersAll limit m run → IsDone (worked_lines disk.limit m held (lines_in limit run)) disk_now
   pub undamaged : (place : ℕ) → status ≡ Damaged place → ⊥
 
 pub record Runs (tells : Type 0) (limit : ℕ) (told told_now : Option (List Event)) (left left_now : Option (List ℕ)) (disk disk_now : DiskState) (session : Session) (status : Status) : Type 0 where
@@ -72,7 +72,7 @@ pub record Runs (tells : Type 0) (limit : ℕ) (told told_now : Option (List Eve
   pub read : Consumes left left_now (taken_in run)
   pub too_long : (status ≡ TooLong) ↔ (limit < length (taken_in run))
   pub last : limit < length (taken_in run) → EndsPast limit run
-  pub each : (m : Machine) → tells → AgreesOn tells disk session m → RunsFrom limit disk disk_now run status m
+  pub each : (m : Machine) → tells → AgreesOn tells disk session m → RunsFrom limit disk disk_now session run status m
 
 -- no line was taken, and what the disk may hold now it might have held before
 pub record NotOpened (disk disk_now : DiskState) (run : List Event) : Type 0 where
@@ -99,12 +99,12 @@ pub record Serves (tells : Type 0) (limit : ℕ) (told told_now : Option (List E
   -- where the content stands for a state
   pub replies : (s : State) → tells → StandsFor s disk.content → Replies limit (started_at s) run status
   -- and has this
-  pub full : (s : State) (held : Holding) → tells → StandsFor s disk.content → IsHeld held disk.content
+  pub full : (s : State) (held : Holding) → tells → StandsFor s disk.content → IsFirst disk.content held
       → IsFullExactly disk.limit held (started_at s) (lines_in limit run) (given_in run) status
   -- and each line was answered: the levels, extents, deleted ends and entries at the end are those that the work of the lines gives; and
   -- where there were lines, nothing is pending
-  pub levels : (s : State) (held : Holding) → tells → StandsFor s disk.content → IsHeld held disk.content → AnswersAll limit (started_at s) run
-      → IsWorked (worked_lines disk.limit (started_at s) held (lines_in limit run)) disk_now.content
+  pub levels : (s : State) (held : Holding) → tells → StandsFor s disk.content → IsFirst disk.content held → AnswersAll limit (started_at s) run
+      → IsWorked (worked_lines disk.limit (started_at s) held (lines_in limit run)) (IsOn disk_now.content)
   pub settled : (s : State) → tells → StandsFor s disk.content → AnswersAll limit (started_at s) run → 0 < length (lines_in limit run) → Only disk_now.content disk_now.images
   -- where each image stands for a state
   pub keeps : (s : State) → tells → Stands tells disk (StandsFor s) → Keeps limit (started_at s) run disk disk_now

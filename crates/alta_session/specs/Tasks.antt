@@ -5,14 +5,15 @@ use Rattle.alta_disk.specs.Disk.{DiskState, Only}
 use Rattle.alta_images.specs.Chain.{◌>>=◌}
 use Rattle.alta_images.specs.Holding.{Holding, IsHeld}
 use Rattle.alta_images.specs.States.{has_name, number_of}
-use Rattle.alta_images.specs.Work.{Task, enters, flushes}
-use Rattle.alta_images.specs.Working.{Full}
+use Rattle.alta_images.specs.Work.{Task, enters, flushes, merges, steps}
+use Rattle.alta_images.specs.Working.{Full, worked}
 use Rattle.alta_journal.specs.declared.entry.Entry.TheVariants.{Add, Delete}
 use Rattle.alta_meta.specs.declared.document.State.{State}
-use Rattle.alta_model.specs.Command.{Command, adds, deletes, flushes as asks_flush}
+use Rattle.alta_model.specs.Command.{Command, adds, deletes, flushes as asks_flush, merges as asks_merge, steps as asks_step}
 use Rattle.alta_model.specs.Lines.{Reading, asks, refuses, reading_of}
 use Rattle.alta_session.specs.Machine.{Machine, step}
-use Rattle.alta_store.specs.Calls.{worked_apart}
+use Rattle.alta_session.specs.declared.session.Session.{Session}
+use Rattle.alta_store.specs.Agreement.{Has}
 
 -- the entry of a document, where its name can be one and is not taken, and a number is left
 unfoldable pub task_of_add : List ℕ → List ℕ → List ℕ → State → Option Task
@@ -27,20 +28,22 @@ abbrev pub task_by : Machine → Command → Option Task
 task_by m (adds name title body) = task_of_add name title body m.state
 task_by m (deletes name) = task_of_delete name m.state
 task_by m asks_flush = Some flushes
+task_by m asks_merge = Some merges
+task_by m (asks_step n) = Some (steps n)
 task_by m _ = None
 
 abbrev pub task_in : Machine → Reading → Option Task
 task_in m (asks command) = task_by m command
 task_in m (refuses fault) = None
 
--- what a line asks of the store: an add or a delete that is not refused its entry, a flush a flush, and each other line nothing
+-- what a line asks of the store: an add or a delete that is not refused its entry, a flush, a merge or a step itself, and each other line nothing
 unfoldable pub task_of : Machine → List ℕ → Option Task
 task_of m line = task_in m (reading_of line)
 
 -- without a task what is held stays
 abbrev pub worked_where : ℕ → Holding → Option Task → Result Holding Full
 worked_where limit held None = Ok held
-worked_where limit held (Some task) = worked_apart limit held task
+worked_where limit held (Some task) = worked limit held task
 
 -- what a line makes of what is held
 unfoldable pub worked_line : ℕ → Machine → Holding → List ℕ → Result Holding Full
@@ -51,12 +54,25 @@ abbrev pub worked_lines : ℕ → Machine → Holding → List (List ℕ) → Re
 worked_lines limit m held [] = Ok held
 worked_lines limit m held (line ∷ lines) = worked_line limit m held line >>= λ now. worked_lines limit (step m line).0 now lines
 
--- The work was done, and the image has what is held then: its levels, extents, deleted ends and entries.
-pub record IsWorked (work : Result Holding Full) (image : List ℕ) : Type 0 where
+-- The work was done, and this holds of what is held then.
+pub record IsWorked (work : Result Holding Full) (Here : Holding → Type 0) : Type 0 where
   pub now : Holding
   pub is : work ≡ Ok now
-  pub held : IsHeld now image
+  pub held : Here now
+
+-- the image has what is held: its levels, extents, deleted ends and entries
+abbrev pub IsOn : List ℕ → Holding → Type 0
+IsOn image held = IsHeld held image
+
+-- and the join that goes on in the session's store is the job
+abbrev pub IsBy : Session → List ℕ → Holding → Type 0
+IsBy session image held = Has session.store held image
+
+-- and no join goes on, as where an image was opened
+pub record IsFirst (image : List ℕ) (held : Holding) : Type 0 where
+  pub is : IsHeld held image
+  pub none : held.job ≡ None
 
 -- it was done, and nothing is pending
 abbrev pub IsDone : Result Holding Full → DiskState → Type 0
-IsDone work disk = IsWorked work disk.content × Only disk.content disk.images
+IsDone work disk = IsWorked work (IsOn disk.content) × Only disk.content disk.images

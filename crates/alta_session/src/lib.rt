@@ -1,6 +1,7 @@
 //! Command lines and their replies, over any console and any disk.
 #![tactic(auto)]
 
+mod demo;
 mod giving;
 mod laws;
 mod paging;

@@ -33,7 +33,7 @@ const KEPT: usize = LINE_LIMIT + 1;
 const PIECE: usize = 65_536;
 
 // Answers a line, and gives the reply whole. After an error the run ends with that status.
-fn answer<C: Console, D: Disk>(
+pub(crate) fn answer<C: Console, D: Disk>(
     alloc: Global,
     session: &mut Session,
     console: &mut C,
@@ -296,8 +296,8 @@ fn answer_lines<C: Console, D: Disk>(
 /// taken than the limit, `DiskFault`, `TakeFault` or `GiveFault` where such a call failed, `Memory` where there was no
 /// memory, `NoRoot` where the disk has no index, `Damaged` where the index breaks a rule of the format, at opening with the first
 /// place that shows it (after these two nothing was taken or given, and the disk holds what it held), or later with the first fault of
-/// the lists that a line loads, and never where the disk stands for a state, and `Full` where the flush that a line needs has no place below
-/// the limit of the disk: with the bytes that it needs and the greatest gap, or with 17 and 16 where there are 16 levels. Where every
+/// the lists that a line loads or joins, and never where the disk stands for a state, and `Full` where what a line writes to levels has no place
+/// below the limit of the disk: with the bytes that it needs and the greatest gap. Where every
 /// reply was given, the levels, their extents, the deleted ends and the journal's entries are those that the work of the lines gives.
 pub fn serve<C: Console, D: Disk>(
     alloc: Global,

@@ -1,5 +1,5 @@
 // A session: a line changes the state, and has a reply.
-ghost use Rattle.std.specs.Prelude.{◌≡◌, ◌⊎◌, ◌≤◌, ◌++◌, ℕ, codes, decimal, Result, Err, Some, IfOk, IfErr, OnErr, IsTrue, ◌↔◌};
+ghost use Rattle.std.specs.Prelude.{◌≡◌, ◌⊎◌, ◌≤◌, ◌++◌, ℕ, codes, decimal, Result, Err, None, Some, IfOk, IfErr, OnErr, IsTrue, ◌↔◌};
 ghost use Rattle.alta_codec.specs.Faults.{Rose};
 ghost use Rattle.alta_codec.specs.Name.{IsName};
 ghost use Rattle.alta_console.specs.Lines.{NoNewline};
@@ -17,7 +17,7 @@ ghost use Rattle.alta_images.specs.Broken.{IsBrokenAt};
 ghost use Rattle.alta_images.specs.Opened.{Opened, IsOpened};
 ghost use Rattle.alta_images.specs.Standing.{StandsFor};
 ghost use Rattle.alta_images.specs.States.{IsDocument};
-ghost use Rattle.alta_images.specs.Work.{flushes};
+ghost use Rattle.alta_images.specs.Work.{flushes, merges, steps};
 
 use crate::paging::{close, fetch, open};
 use crate::replying::text;
@@ -47,6 +47,7 @@ impl Session {
     pub fn start<D: Disk>(alloc: Global, disk: &mut D) -> Result<Session, StoreFault>
         ensures agrees { (s : State) → (D.tells → StandsFor s (D.state disk.old).content) → IfOk result (λ session. AgreesOn D.tells (D.state disk.new) session (started_at s)) }
         ensures can { IfOk result (λ session. CanAnswer D.tells (D.state disk.new) session) }
+        ensures job { IfOk result (λ session. session.store.job ≡ None) }
 
         ensures opened { (o : Opened) → D.tells → IsOpened o (D.state disk.old).content → IfErr result IsOutside }
         ensures no_root { D.tells → result ≡ Err StoreFault.NoRoot → HasNoRoot (D.state disk.old).content }
@@ -82,14 +83,14 @@ impl Session {
     ///
     /// # Errors
     ///
-    /// `Disk` where a call of the disk failed. `Memory` where there is no memory. `Full` where the flush that the line needs has no
-    /// place: with the bytes that the level or the deletion list needs and the greatest gap below the limit of the disk, or with 17 and
-    /// 16 where there are 16 levels. `flush` needs one where the journal has an entry, and a line that adds or deletes where its record
-    /// does not fit in the journal. `Damaged` exactly where a list that the line loads has a fault, with the first in the order of
-    /// loading; never where the disk stands for a state. Then the index is as before the line or as after it, and the session is not
-    /// sound. `search`, `count` and `open` load the lists of their query, write nothing, and read no more than these lists have; an
-    /// open loads none where as many cursors are open as may be. `explain`, `fetch`, `close` and `stats` call no disk and fail for want
-    /// of memory alone, and so does each line that is refused.
+    /// `Disk` where a call of the disk failed. `Memory` where there is no memory. `Full` where a level or the deletion list that the
+    /// line writes has no place: with the bytes that it needs and the greatest gap below the limit of the disk. `flush` writes where the
+    /// journal has an entry, `merge` where there is something to merge, `step` where its join ends, and a line that adds or deletes
+    /// flushes where its record does not fit in the journal. `Damaged` where a list has a fault that the line loads, or that it reads to
+    /// join levels, with the first in the order of reading; never where the disk stands for a state. Then the index is as before the
+    /// line or as after it, and the session is not sound. `search`, `count` and `open` load the lists of their query, write nothing, and
+    /// read no more than these lists have; an open loads none where as many cursors are open as may be. `explain`, `fetch`, `close` and
+    /// `stats` call no disk and fail for want of memory alone, and so does each line that is refused.
     pub fn line<D: Disk>(
         &mut self,
         alloc: Global,
@@ -135,6 +136,8 @@ impl Session {
             Ask::Fetch { cursor, count } => fetch(alloc, &mut self.cursors, cursor, count),
             Ask::Close(cursor) => close(alloc, &mut self.cursors, cursor),
             Ask::Flush => self.flush(alloc, disk),
+            Ask::Merge => self.merge(alloc, disk),
+            Ask::Step(count) => self.step(alloc, disk, count),
             Ask::Stats => stats(alloc, self.store.counts()),
             Ask::Refused(reply) => text(alloc, reply),
         }
@@ -198,10 +201,32 @@ impl Session {
             Err(fault) => Err(fault),
         }
     }
+
+    // Joins all levels and the newest documents to one.
+    fn merge<D: Disk>(&mut self, alloc: Global, disk: &mut D) -> Result<Text, StoreFault>
+        requires { CanAnswer D.tells (D.state disk.old) self.old }
+        ensures { Answers D.tells D.state disk.old disk.new self.old self.new result (λ m. (m, codes "ok\n")) (λ m. Some merges) }
+    {
+        match self.store.merge(disk) {
+            Ok(()) => text(alloc, "ok\n"),
+            Err(fault) => Err(fault),
+        }
+    }
+
+    // Moves the join of the two oldest levels on by `n` terms.
+    fn step<D: Disk>(&mut self, alloc: Global, disk: &mut D, n: u64) -> Result<Text, StoreFault>
+        requires { CanAnswer D.tells (D.state disk.old) self.old }
+        ensures { Answers D.tells D.state disk.old disk.new self.old self.new result (λ m. (m, codes "ok\n")) (λ m. Some (steps n)) }
+    {
+        match self.store.step(disk, n) {
+            Ok(()) => text(alloc, "ok\n"),
+            Err(fault) => Err(fault),
+        }
+    }
 }
 
 // What a line asks for: a document to be added or deleted, a query to be answered or explained, a cursor to be opened, read or
-// closed, a flush, the counts, or a reply that refuses it.
+// closed, a flush, a merge, a step of so many terms, the counts, or a reply that refuses it.
 enum Ask<'a> {
     Add {
         name: &'a str,
@@ -219,6 +244,8 @@ enum Ask<'a> {
     },
     Close(u64),
     Flush,
+    Merge,
+    Step(u64),
     Stats,
     Refused(&'static str),
 }
@@ -239,8 +266,9 @@ fn asked(bytes: &[u8]) -> Ask<'_>
             Line::Fetch { cursor, count } => Ask::Fetch { cursor, count },
             Line::Close { cursor } => Ask::Close(cursor),
             Line::Flush => Ask::Flush,
+            Line::Merge => Ask::Merge,
+            Line::Step { count } => Ask::Step(count),
             Line::Stats => Ask::Stats,
-            _ => Ask::Refused("! unknown command\n"),
         },
         Err(LineFault::TooLong) => Ask::Refused("! line too long\n"),
         Err(LineFault::NotUtf8) => Ask::Refused("! not UTF-8\n"),

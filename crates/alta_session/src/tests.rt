@@ -78,8 +78,8 @@ fn lines_are_answered_in_order(rt: HostRuntime) -> Result<(), Fail> {
         (b"search \xff\n", b"! not UTF-8\n"),
         (b"find fox\n\n", b"! unknown command\n! unknown command\n"),
         (b"flush now\n", b"! bad line\n"),
-        (b"step 1\n", b"! unknown command\n"),
-        (b"flush\nmerge\n", b"ok\n! unknown command\n"),
+        (b"step 1\n", b"ok\n"),
+        (b"flush\nmerge\n", b"ok\nok\n"),
         (b"\nadd a\t\t", b"! unknown command\nadded 1\n"),
     ];
     for (input, want) in rows {
@@ -266,6 +266,122 @@ fn words_and_contents_have_their_status(rt: HostRuntime) -> Result<(), Fail> {
         gap: 2_105_343,
     };
     assert_eq!(rt; call(alloc, &mut small, "init", b"", &[], &[])?.0, want);
+    Ok(())
+}
+
+// Calls the program with `demo` and a size: the status, and what was given.
+fn demo<D: Disk>(
+    alloc: Global,
+    disk: &mut D,
+    size: &str,
+    fail: &[u64],
+) -> Result<(Status, Vec<u8>), Fail> {
+    let mut words = words(alloc, "demo")?;
+    words.push(Text::from_string(String::from_str(alloc, size)?))?;
+    let mut console = MemoryConsole::new(
+        alloc,
+        b"stats\n".to_vec(alloc)?,
+        Vec::new(alloc),
+        fail.to_vec(alloc)?,
+    );
+    let status = alta(alloc, &words, &mut console, disk);
+    Ok((status, console.given().to_vec(alloc)?))
+}
+
+// A disk with no content.
+fn blank(alloc: Global, limit: u64) -> MemoryDisk {
+    MemoryDisk::new(alloc, Vec::new(alloc), limit, Vec::new(alloc))
+}
+
+const REPORT: &[u8] =
+    b"documents 160 words 800 next 201\nfound 80\nfound 2\nfound 20\nfound 2\nfound 2\nfound 0\n";
+
+#[test]
+fn a_demo_gives_its_report(rt: HostRuntime) -> Result<(), Fail> {
+    let alloc = rt.alloc();
+    let mut disk = blank(alloc, LIMIT);
+    let (status, given) = demo(alloc, &mut disk, "200", &[])?;
+    assert_eq!(rt; status, Status::Done);
+    assert_eq!(rt; given.as_slice(), REPORT);
+
+    // The index is there, and is not made again.
+    let (status, given) = demo(alloc, &mut disk, "200", &[])?;
+    assert_eq!(rt; status, Status::Exists);
+    assert_eq!(rt; given.as_slice(), b"".as_slice());
+    let (status, given) = call(alloc, &mut disk, "run", b"stats\ndelete d199\n", &[], &[])?;
+    assert_eq!(rt; status, Status::Done);
+    assert_eq!(rt;
+        given.as_slice(),
+        b"documents 160 words 800 next 201\ndeleted 199\n".as_slice()
+    );
+    Ok(())
+}
+
+#[test]
+fn a_demo_has_a_size(rt: HostRuntime) -> Result<(), Fail> {
+    let alloc = rt.alloc();
+    for size in [
+        "",
+        "0",
+        "007",
+        "+5",
+        "-5",
+        "5 ",
+        "5x",
+        "100001",
+        "1000000",
+        "9999999999999999999999",
+    ] {
+        let mut disk = blank(alloc, LIMIT);
+        let (status, given) = demo(alloc, &mut disk, size, &[])?;
+        assert_eq!(rt; status, Status::Usage);
+        assert_eq!(rt; given.as_slice(), b"".as_slice());
+    }
+    let mut disk = blank(alloc, LIMIT);
+    assert_eq!(rt;
+        call(alloc, &mut disk, "demo", b"", &[], &[])?.0,
+        Status::Usage
+    );
+    let (status, given) = demo(alloc, &mut disk, "1", &[])?;
+    assert_eq!(rt; status, Status::Done);
+    assert_eq!(rt;
+        given.as_slice(),
+        b"documents 1 words 5 next 2\nfound 0\nfound 0\nfound 0\nfound 0\nfound 0\nfound 0\n".as_slice()
+    );
+    Ok(())
+}
+
+#[test]
+fn a_demo_that_ends_has_its_status(rt: HostRuntime) -> Result<(), Fail> {
+    let alloc = rt.alloc();
+    let rows: [(&[u64], &[u8]); 2] = [
+        (&[1], b""),
+        (&[3], b"documents 160 words 800 next 201\nfound 80\n"),
+    ];
+    for (fail, out) in rows {
+        let mut disk = blank(alloc, LIMIT);
+        let (status, given) = demo(alloc, &mut disk, "200", fail)?;
+        assert_eq!(rt; status, Status::GiveFault);
+        assert_eq!(rt; given.as_slice(), out);
+    }
+    for calls in [0, 3, 60, 300] {
+        let mut disk = FuseDisk::new(blank(alloc, LIMIT), calls);
+        let (status, given) = demo(alloc, &mut disk, "200", &[])?;
+        assert_eq!(rt; status, Status::DiskFault);
+        assert_eq!(rt; given.as_slice(), b"".as_slice());
+    }
+
+    // No room for an index, and none for a level.
+    let (status, given) = demo(alloc, &mut blank(alloc, 2_105_343), "200", &[])?;
+    let want = Status::Full {
+        need: 2_105_344,
+        gap: 2_105_343,
+    };
+    assert_eq!(rt; status, want);
+    assert_eq!(rt; given.as_slice(), b"".as_slice());
+    let (status, given) = demo(alloc, &mut blank(alloc, 2_105_344), "100", &[])?;
+    assert!(rt; matches!(status, Status::Full { gap: 0, .. }));
+    assert_eq!(rt; given.as_slice(), b"".as_slice());
     Ok(())
 }
 

@@ -3,6 +3,8 @@ ghost use Rattle.std.specs.Prelude.{◌≡◌, ◌≢◌, ◌⊎◌, ◌↔◌, 
 ghost use Rattle.alta_codec.specs.Faults.{Rose};
 ghost use Rattle.alta_disk.specs.Disk.{DiskState, Stands};
 ghost use Rattle.alta_meta.specs.declared.document.State.{State};
+ghost use Rattle.alta_make.specs.Script.{script, report};
+ghost use Rattle.alta_session.specs.Demo.{AsksDemo, Demonstrates};
 ghost use Rattle.alta_session.specs.Run.{KeepsDisk, Serves};
 ghost use Rattle.alta_session.specs.Loading.{HasBrokenList};
 ghost use Rattle.alta_session.specs.Status.{IsOpened, IsUnmade, Completes, Yields, EndsInit};
@@ -12,6 +14,7 @@ ghost use Rattle.alta_images.specs.Standing.{StandsFor};
 ghost use Rattle.alta_images.specs.States.{empty};
 ghost use Rattle.alta_store.specs.Calls.{IsNarrow};
 
+use crate::demo::{demo, demo_size};
 use crate::{Status, serve};
 use alta_codec::Text;
 use alta_console::Console;
@@ -26,20 +29,25 @@ const INPUT_LIMIT: u64 = 1 << 40;
 const INDEX_SIZE: u64 = 2_105_344;
 
 /// Does what the words of the command line ask: `init` makes an index without documents, `run` opens the index and
-/// answers the command lines of the console, as [`serve`] with an input limit of 2 to the 40th. For every other list
-/// of words it answers `Usage` and calls nothing.
+/// answers the command lines of the console, as [`serve`] with an input limit of 2 to the 40th. `demo` and a number N from
+/// 1 to 100,000 make an index, answer the lines of a generated run over N documents on it, and then those of a report,
+/// whose replies alone are given. For every other list of words it answers `Usage` and calls nothing.
 ///
 /// `init` ends with `Done` where the index was made, `Exists` where there is one already, `Full` where the disk is too
 /// small for one, and `DiskFault` where a call of the disk failed. After `Exists` and `Full` the disk holds what it held.
 /// It takes and gives nothing.
+///
+/// `demo` takes nothing. It ends as `init` where no index is made, and then as a run: with `Done` where all replies to the
+/// report were given, `Memory`, `DiskFault` or `GiveFault`, or `Full` where the work of a line finds no place.
 pub fn alta<C: Console, D: Disk>(
     alloc: Global,
     words: &[Text],
     console: &mut C,
     disk: &mut D,
 ) -> Status
-    ensures usage { result ≡ Status.Usage → (words.now ≢ codes "init" ∷ []) × (words.now ≢ codes "run" ∷ []) }
-    ensures no_call { words.now ≢ codes "init" ∷ [] → words.now ≢ codes "run" ∷ [] → (result ≡ Status.Usage) × (console.new ≡ console.old) × (disk.new ≡ disk.old) }
+    ensures usage { result ≡ Status.Usage → (words.now ≢ codes "init" ∷ []) × (words.now ≢ codes "run" ∷ []) × ((n : ℕ) → AsksDemo words.now n → ⊥) }
+    ensures no_call { words.now ≢ codes "init" ∷ [] → words.now ≢ codes "run" ∷ [] → ((n : ℕ) → AsksDemo words.now n → ⊥)
+        → (result ≡ Status.Usage) × (console.new ≡ console.old) × (disk.new ≡ disk.old) }
 
     ensures init { words.now ≡ codes "init" ∷ [] → EndsInit result × (console.new ≡ console.old) }
     ensures made { words.now ≡ codes "init" ∷ [] → result ≡ Status.Done → Stands D.tells (D.state disk.new) (StandsFor empty) }
@@ -56,13 +64,16 @@ pub fn alta<C: Console, D: Disk>(
     ensures rooted { words.now ≡ codes "run" ∷ [] → D.tells → HasNoRoot (D.state disk.old).content → (result ≡ Status.NoRoot) ⊎ Yields result }
     ensures undamaged { (place : ℕ) → words.now ≡ codes "run" ∷ [] → D.tells → IsBrokenAt (D.state disk.old).content place
         → (console.new ≡ console.old) × KeepsDisk D.tells (D.state disk.old) (D.state disk.new) × ((result ≡ Status.Damaged place) ⊎ Yields result) }
-    ensures unopened { result ≡ Status.NoRoot → (console.new ≡ console.old) × KeepsDisk D.tells (D.state disk.old) (D.state disk.new) }
-    ensures damaged { (place : ℕ) → result ≡ Status.Damaged place
+    ensures unopened { words.now ≡ codes "run" ∷ [] → result ≡ Status.NoRoot → (console.new ≡ console.old) × KeepsDisk D.tells (D.state disk.old) (D.state disk.new) }
+    ensures damaged { (place : ℕ) → words.now ≡ codes "run" ∷ [] → result ≡ Status.Damaged place
         → ((console.new ≡ console.old) × KeepsDisk D.tells (D.state disk.old) (D.state disk.new) × (D.tells → IsBrokenAt (D.state disk.old).content place))
         ⊎ (D.tells → HasBrokenList (D.state disk.new).content place) }
     ensures stands { (s : State) → D.tells → StandsFor s (D.state disk.old).content → IsOpened result }
     ensures full { (need gap : ℕ) → words.now ≡ codes "run" ∷ [] → D.tells → result ≡ Status.Full need gap → IsNarrow (D.state disk.old).limit (D.state disk.new).content need gap }
     ensures complete { (s : State) → words.now ≡ codes "run" ∷ [] → D.tells → StandsFor s (D.state disk.old).content → ¬ (Rose (C.take_faults console.old) (C.take_faults console.new)) → ¬ (Rose (C.give_faults console.old) (C.give_faults console.new)) → ¬ (Rose (D.state disk.old).faults (D.state disk.new).faults) → Completes result }
+
+    ensures demo { (n : ℕ) → AsksDemo words.now n → Demonstrates D.tells (script n) report (C.told console.old) (C.told console.new) (D.state disk.old) (D.state disk.new) result × (C.left console.new ≡ C.left console.old) }
+    ensures shown { (n : ℕ) → AsksDemo words.now n → D.tells → HasNoRoot (D.state disk.old).content → 2105344 ≤ (D.state disk.old).limit → ¬ (Rose (C.give_faults console.old) (C.give_faults console.new)) → ¬ (Rose (D.state disk.old).faults (D.state disk.new).faults) → Completes result }
 
     ensures take_fault { result ≡ Status.TakeFault → Rose (C.take_faults console.old) (C.take_faults console.new) }
     ensures give_fault { result ≡ Status.GiveFault → Rose (C.give_faults console.old) (C.give_faults console.new) }
@@ -74,7 +85,10 @@ pub fn alta<C: Console, D: Disk>(
     if is_word(words, "run") {
         return serve(alloc, console, disk, INPUT_LIMIT);
     }
-    Status::Usage
+    match demo_size(words) {
+        Some(n) => demo(alloc, n, console, disk),
+        None => Status::Usage,
+    }
 }
 
 // Whether there is one word, and it is this one.
@@ -88,7 +102,7 @@ fn is_word(words: &[Text], word: &str) -> bool
 }
 
 // Makes an index without documents.
-fn init<D: Disk>(disk: &mut D) -> Status
+pub(crate) fn init<D: Disk>(disk: &mut D) -> Status
     ensures ends { EndsInit result }
     ensures made { result ≡ Status.Done → Stands D.tells (D.state disk.new) (StandsFor empty) }
     ensures exists { D.tells → result ≡ Status.Exists → ¬ (HasNoRoot (D.state disk.old).content) }
@@ -97,6 +111,8 @@ fn init<D: Disk>(disk: &mut D) -> Status
     ensures kept { IsUnmade result → KeepsDisk D.tells (D.state disk.old) (D.state disk.new) }
     ensures small { (D.state disk.old).limit < 2105344 → (result ≡ Status.Exists) ⊎ ((result ≡ Status.Full 2105344 (D.state disk.old).limit) ⊎ (result ≡ Status.DiskFault)) }
     ensures disk_fault { result ≡ Status.DiskFault → Rose (D.state disk.old).faults (D.state disk.new).faults }
+    ensures disk_count { (D.state disk.old).faults ≤ (D.state disk.new).faults }
+    ensures same_limit { (D.state disk.new).limit ≡ (D.state disk.old).limit }
 {
     match has_index(disk) {
         Ok(true) => return Status::Exists,

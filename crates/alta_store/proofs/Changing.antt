@@ -1,33 +1,75 @@
 -- Calls that change a store, one behind the other.
-use Rattle.std.proofs.Common.{◌≡◌, ◌⊎◌, inl, inr, ⊎_elim, ℕ, ◌+◌, ◌≤◌, Bool, true, false, cond, refl, sym, ◌∙◌, ap, subst, arith, Result, Ok, Err}
-use Rattle.std.specs.Prelude.{Some}
+use Rattle.std.proofs.Common.{◌≡◌, ◌⊎◌, inl, inr, ⊎_elim, ℕ, ◌+◌, ◌≤◌, Bool, true, false, cond, List, [], refl, sym, ◌∙◌, ap, subst, arith, Result, Ok, Err}
+use Rattle.std.specs.Prelude.{Some, IfErr, IfOk}
+use Rattle.std.specs.List.{sum_by}
 use Rattle.alta_codec.specs.Faults.{Rose}
 use Rattle.alta_disk.specs.Calls.{Costs}
 use Rattle.alta_disk.specs.Disk.{DiskState, IsLawful, LeavesOnly}
 use Rattle.alta_disk.proofs.Moments.{leaves_as, leaves_start, leaves_then}
+use Rattle.alta_images.specs.Broken.{IsBrokenAmong}
 use Rattle.alta_images.specs.Chain.{◌>>=◌}
-use Rattle.alta_images.specs.Holding.{Holding, IsHeld}
+use Rattle.alta_images.specs.Holding.{Holding}
 use Rattle.alta_images.specs.Opened.{Opened, IsOpened}
 use Rattle.alta_images.specs.Standing.{StandsFor, StandsForEither}
 use Rattle.alta_images.specs.Switching.{with_entry}
 use Rattle.alta_images.specs.Work.{enters, fits}
-use Rattle.alta_images.specs.Working.{Full, entered}
+use Rattle.alta_images.specs.Working.{Full, entered, flushed}
+use Rattle.alta_joins.specs.Contents.{data_size}
+use Rattle.alta_joins.specs.Damages.{IsFirstDamage}
 use Rattle.alta_journal.specs.declared.entry.Entry.{Entry}
 use Rattle.alta_journal.specs.declared.entry.Entry.TheVariants.{Delete}
 use Rattle.alta_meta.specs.declared.document.State.{State}
-use Rattle.alta_store.specs.Agreement.{Agrees, Keeps}
+use Rattle.alta_store.specs.Agreement.{Agrees, Has, Keeps}
 use Rattle.alta_store.specs.Answers.{IsOutside}
-use Rattle.alta_store.specs.Calls.{BecomesFlushed, Changes, IsNarrow, NoRefusal, Obeys, flushed_apart}
+use Rattle.alta_store.specs.Calls.{BecomesFlushed, Changes, Finds, IsCause, IsNarrow, NoRefusal, Obeys, joined_by}
 use Rattle.alta_store.specs.declared.fault.StoreFault.{StoreFault}
 use Rattle.alta_store.specs.declared.fault.StoreFault.TheVariants as faults
 use Rattle.alta_store.specs.declared.store.Store.{Store}
 use Rattle.alta_store.proofs.Agreements.{images_stand}
+use Rattle.alta_table.specs.Tables.{Tables}
 
-abbrev Work : Type 0
+abbrev pub Work : Type 0
 Work = ℕ → Holding → Result Holding Full
 
-abbrev Turns : Type 1
+abbrev pub Turns : Type 1
 Turns = ℕ → Opened → Opened → Type 0
+
+-- ---- damage
+
+-- where no level is read, none is found damaged
+pub finds_none : {T : Type 0} (refuses : StoreFault → Type 0) (image : List ℕ) (levels : List Tables) (result : Result T StoreFault) → levels ≡ []
+    → ((place : ℕ) → result ≡ Err (faults.Damaged place) → ⊥) → Finds refuses image levels result
+finds_none refuses image levels result none never = record {
+  first = λ place e. absurd (never place e);
+  broken = λ place e. absurd (never place e);
+  damaged = λ place damage. absurd (subst (λ (ls : List Tables). IsFirstDamage image ls place) none damage);
+}
+
+-- what is answered outside of damage, whatever is read
+pub finds_outside : {T : Type 0} (refuses : StoreFault → Type 0) (image : List ℕ) (levels : List Tables) (fault : StoreFault) → IsOutside fault
+    → ((place : ℕ) → ◌≡◌ {A = Result T StoreFault} (Err fault) (Err (faults.Damaged place)) → ⊥) → Finds {T = T} refuses image levels (Err fault)
+finds_outside refuses image levels fault outside never = record {
+  first = λ place e. absurd (never place e);
+  broken = λ place e. absurd (never place e);
+  damaged = λ place damage. (tt, inr (inl outside));
+}
+
+-- an outside cause is no damage
+pub not_damaged : {T : Type 0} (fault : StoreFault) → IsOutside fault → (place : ℕ) → ◌≡◌ {A = Result T StoreFault} (Err fault) (Err (faults.Damaged place)) → ⊥
+not_damaged {T} fault outside place e =
+    ⊎_elim (λ (memory : fault ≡ faults.Memory). absurd (not_memory memory)) (λ (disk : fault ≡ faults.Disk). absurd (not_disk disk)) outside
+  where
+    not_memory : fault ≡ faults.Memory → ⊥
+    not_memory is = absurd cc
+
+    not_disk : fault ≡ faults.Disk → ⊥
+    not_disk is = absurd cc
+
+cause_as : (refuses refuses' : StoreFault → Type 0) → ((e : StoreFault) → refuses e → refuses' e) → (e : StoreFault) → IsCause refuses e → IsCause refuses' e
+cause_as refuses refuses' may e cause = ⊎_elim (λ outside. inl outside) (λ rest. ⊎_elim (λ refused. inr (inl (may e refused))) (λ other. inr (inr other)) rest) cause
+
+damaged_as : (refuses refuses' : StoreFault → Type 0) → ((e : StoreFault) → refuses e → refuses' e) → (place : ℕ) (e : StoreFault) → (e ≡ faults.Damaged place) ⊎ (IsOutside e ⊎ refuses e) → (e ≡ faults.Damaged place) ⊎ (IsOutside e ⊎ refuses' e)
+damaged_as refuses refuses' may place e why = ⊎_elim (λ is. inl is) (λ rest. ⊎_elim (λ outside. inr (inl outside)) (λ refused. inr (inr (may e refused))) rest) why
 
 -- ---- nothing was called
 
@@ -39,9 +81,9 @@ pub costs_appended : (a b : DiskState) → a.faults ≤ b.faults → b.taken ≡
 costs_appended a b faults taken limit = record { faults = faults; taken_up = omega (arith, taken); taken = omega (arith, taken); limit = limit }
 
 -- memory was wanting before a call
-pub changes_none : {T : Type 0} (tells : Type 0) (work : Work) (turns : Turns) (step : State → State) (refuses : StoreFault → Type 0) (bytes : ℕ) (a : DiskState) (store later : Store) (fault : StoreFault)
-    → IsLawful tells a → Agrees tells a store → fault ≡ faults.Memory → Changes {T = T} tells work turns step refuses bytes a a store later (Err fault)
-changes_none {T} tells work turns step refuses bytes a store later fault lawful agrees is = record {
+pub changes_none : {T : Type 0} (tells : Type 0) (work : Work) (turns : Turns) (step : State → State) (refuses : StoreFault → Type 0) (bytes : ℕ) (joins : List Tables) (a : DiskState) (store later : Store) (fault : StoreFault)
+    → IsLawful tells a → Agrees tells a store → fault ≡ faults.Memory → Changes {T = T} tells work turns step refuses bytes joins a a store later (Err fault)
+changes_none {T} tells work turns step refuses bytes joins a store later fault lawful agrees is = record {
   agrees = tt;
   knows = λ s knows. tt;
   works = λ held told has. tt;
@@ -50,9 +92,13 @@ changes_none {T} tells work turns step refuses bytes a store later fault lawful 
   stands = λ s told stands. tt;
   becomes = λ o told opened. tt;
   narrow = λ need gap told e. absurd (no_full need gap e);
+  damage = λ told. finds_outside refuses a.content joins fault (inl is) (not_damaged fault (inl is));
+  undamaged = λ s told stands place e. not_damaged fault (inl is) place e;
+  unread = λ told none place e. not_damaged fault (inl is) place e;
+  still = λ told place e. absurd (not_damaged fault (inl is) place e);
   only = inl (inl is);
   cause = λ e. absurd (no_disk e);
-  costs = costs_none bytes a;
+  costs = costs_none (bytes + sum_by data_size joins) a;
 }
   where
     no_full : (need gap : ℕ) → ◌≡◌ {A = Result T StoreFault} (Err fault) (Err (faults.Full need gap)) → ⊥
@@ -62,10 +108,10 @@ changes_none {T} tells work turns step refuses bytes a store later fault lawful 
     no_disk e = absurd cc
 
 -- nothing was to be done
-pub changes_idle : (tells : Type 0) (work : Work) (turns : Turns) (bytes : ℕ) (a : DiskState) (store : Store) (u : Unit {0})
-    → IsLawful tells a → Agrees tells a store → ((held : Holding) → tells → IsHeld held a.content → work a.limit held ≡ Ok held)
-    → ((o : Opened) → tells → IsOpened o a.content → turns a.limit o o × Keeps store o) → Changes tells work turns (λ s. s) NoRefusal bytes a a store store (Ok u)
-changes_idle tells work turns bytes a store u lawful agrees same still = record {
+pub changes_idle : (tells : Type 0) (work : Work) (turns : Turns) (bytes : ℕ) (joins : List Tables) (a : DiskState) (store : Store) (u : Unit {0})
+    → IsLawful tells a → Agrees tells a store → (tells → joins ≡ []) → ((held : Holding) → tells → Has store held a.content → work a.limit held ≡ Ok held)
+    → ((o : Opened) → tells → IsOpened o a.content → turns a.limit o o × Keeps store o) → Changes tells work turns (λ s. s) NoRefusal bytes joins a a store store (Ok u)
+changes_idle tells work turns bytes joins a store u lawful agrees none same still = record {
   agrees = agrees;
   knows = λ s knows. knows;
   works = λ held told has. (held, same held told has, has);
@@ -74,9 +120,13 @@ changes_idle tells work turns bytes a store u lawful agrees same still = record 
   stands = λ s told stands. stands;
   becomes = λ o told opened. (o, (still o told opened).0, opened, (still o told opened).1);
   narrow = λ need gap told e. absurd (not_ok (faults.Full need gap) e);
+  damage = λ told. finds_none NoRefusal a.content joins (Ok u) (none told) (λ place e. not_ok (faults.Damaged place) e);
+  undamaged = λ s told stands place e. not_ok (faults.Damaged place) e;
+  unread = λ told none place e. not_ok (faults.Damaged place) e;
+  still = λ told place e. absurd (not_ok (faults.Damaged place) e);
   only = tt;
   cause = λ e. absurd (not_ok faults.Disk e);
-  costs = costs_none bytes a;
+  costs = costs_none (bytes + sum_by data_size joins) a;
 }
   where
     not_ok : (fault : StoreFault) → ◌≡◌ {A = Result (Unit {0}) StoreFault} (Ok u) (Err fault) → ⊥
@@ -84,10 +134,10 @@ changes_idle tells work turns bytes a store u lawful agrees same still = record 
 
 -- ---- the same in other words
 
-pub changes_as : {T : Type 0} (tells : Type 0) (work work' : Work) (turns turns' : Turns) (step : State → State) (refuses refuses' : StoreFault → Type 0) (bytes : ℕ) (a b : DiskState) (store later : Store) (result : Result T StoreFault)
-    → ((held : Holding) → tells → IsHeld held a.content → work a.limit held ≡ work' a.limit held) → ((o p : Opened) → tells → IsOpened o a.content → turns a.limit o p → turns' a.limit o p) → ((e : StoreFault) → refuses e → refuses' e)
-    → Changes tells work turns step refuses bytes a b store later result → Changes tells work' turns' step refuses' bytes a b store later result
-changes_as {T} tells work work' turns turns' step refuses refuses' bytes a b store later (Ok x) same leads may c = record {
+pub changes_as : {T : Type 0} (tells : Type 0) (work work' : Work) (turns turns' : Turns) (step : State → State) (refuses refuses' : StoreFault → Type 0) (bytes : ℕ) (joins : List Tables) (a b : DiskState) (store later : Store) (result : Result T StoreFault)
+    → ((held : Holding) → tells → Has store held a.content → work a.limit held ≡ work' a.limit held) → ((o p : Opened) → tells → IsOpened o a.content → turns a.limit o p → turns' a.limit o p) → ((e : StoreFault) → refuses e → refuses' e)
+    → Changes tells work turns step refuses bytes joins a b store later result → Changes tells work' turns' step refuses' bytes joins a b store later result
+changes_as {T} tells work work' turns turns' step refuses refuses' bytes joins a b store later (Ok x) same leads may c = record {
   agrees = c.agrees;
   knows = c.knows;
   works = λ held told has. let w = c.works held told has in (w.0, sym (same held told has) ∙ w.1, w.2);
@@ -96,11 +146,15 @@ changes_as {T} tells work work' turns turns' step refuses refuses' bytes a b sto
   stands = c.stands;
   becomes = λ o told opened. let w = c.becomes o told opened in (w.0, leads o w.0 told opened w.1, w.2, w.3);
   narrow = c.narrow;
+  damage = λ told. let d = c.damage told in record { first = d.first; broken = d.broken; damaged = λ place damage. absurd (d.damaged place damage).0 };
+  undamaged = c.undamaged;
+  unread = c.unread;
+  still = c.still;
   only = tt;
   cause = c.cause;
   costs = c.costs;
 }
-changes_as {T} tells work work' turns turns' step refuses refuses' bytes a b store later (Err fault) same leads may c = record {
+changes_as {T} tells work work' turns turns' step refuses refuses' bytes joins a b store later (Err fault) same leads may c = record {
   agrees = tt;
   knows = λ s knows. tt;
   works = λ held told has. tt;
@@ -109,15 +163,19 @@ changes_as {T} tells work work' turns turns' step refuses refuses' bytes a b sto
   stands = λ s told stands. tt;
   becomes = λ o told opened. tt;
   narrow = c.narrow;
-  only = ⊎_elim (λ outside. inl outside) (λ rest. ⊎_elim (λ refused. inr (inl (may fault refused))) (λ full. inr (inr full)) rest) c.only;
+  damage = λ told. let d = c.damage told in record { first = d.first; broken = d.broken; damaged = λ place damage. (tt, damaged_as refuses refuses' may place fault (d.damaged place damage).1) };
+  undamaged = c.undamaged;
+  unread = c.unread;
+  still = c.still;
+  only = cause_as refuses refuses' may fault c.only;
   cause = c.cause;
   costs = c.costs;
 }
 
 -- what a call that was done answers makes no difference
-pub changes_ok : {T X : Type 0} (tells : Type 0) (work : Work) (turns : Turns) (step : State → State) (refuses : StoreFault → Type 0) (bytes : ℕ) (a b : DiskState) (store later : Store) (x : T) (y : X)
-    → Changes tells work turns step refuses bytes a b store later (Ok x) → Changes tells work turns step refuses bytes a b store later (Ok y)
-changes_ok {T} {X} tells work turns step refuses bytes a b store later x y c = record {
+pub changes_ok : {T X : Type 0} (tells : Type 0) (work : Work) (turns : Turns) (step : State → State) (refuses : StoreFault → Type 0) (bytes : ℕ) (joins : List Tables) (a b : DiskState) (store later : Store) (x : T) (y : X)
+    → Changes tells work turns step refuses bytes joins a b store later (Ok x) → Changes tells work turns step refuses bytes joins a b store later (Ok y)
+changes_ok {T} {X} tells work turns step refuses bytes joins a b store later x y c = record {
   agrees = c.agrees;
   knows = c.knows;
   works = c.works;
@@ -126,6 +184,14 @@ changes_ok {T} {X} tells work turns step refuses bytes a b store later x y c = r
   stands = c.stands;
   becomes = c.becomes;
   narrow = λ need gap told e. absurd (not_ok (faults.Full need gap) e);
+  damage = λ told. record {
+    first = λ place e. absurd (not_ok (faults.Damaged place) e);
+    broken = λ place e. absurd (not_ok (faults.Damaged place) e);
+    damaged = λ place damage. absurd ((c.damage told).damaged place damage).0;
+  };
+  undamaged = λ s told stands place e. not_ok (faults.Damaged place) e;
+  unread = λ told none place e. not_ok (faults.Damaged place) e;
+  still = λ told place e. absurd (not_ok (faults.Damaged place) e);
   only = tt;
   cause = λ e. absurd (not_ok faults.Disk e);
   costs = c.costs;
@@ -138,9 +204,9 @@ pub some_is : {X : Type 0} (x y : X) → Some x ≡ Some y → x ≡ y
 some_is x y e = cc
 
 -- the fault of a call that failed, handed on
-pub changes_fault : {T X : Type 0} (tells : Type 0) (work : Work) (turns : Turns) (step : State → State) (refuses refuses' : StoreFault → Type 0) (bytes : ℕ) (a b : DiskState) (store later last : Store) (fault other : StoreFault)
-    → other ≡ fault → ((e : StoreFault) → refuses e → refuses' e) → Changes {T = T} tells work turns step refuses bytes a b store later (Err fault) → Changes {T = X} tells work turns step refuses' bytes a b store last (Err other)
-changes_fault {T} {X} tells work turns step refuses refuses' bytes a b store later last fault other is may c = record {
+pub changes_fault : {T X : Type 0} (tells : Type 0) (work : Work) (turns : Turns) (step : State → State) (refuses refuses' : StoreFault → Type 0) (bytes : ℕ) (joins : List Tables) (a b : DiskState) (store later last : Store) (fault other : StoreFault)
+    → other ≡ fault → ((e : StoreFault) → refuses e → refuses' e) → Changes {T = T} tells work turns step refuses bytes joins a b store later (Err fault) → Changes {T = X} tells work turns step refuses' bytes joins a b store last (Err other)
+changes_fault {T} {X} tells work turns step refuses refuses' bytes joins a b store later last fault other is may c = record {
   agrees = tt;
   knows = λ s knows. tt;
   works = λ held told has. tt;
@@ -149,8 +215,19 @@ changes_fault {T} {X} tells work turns step refuses refuses' bytes a b store lat
   stands = λ s told stands. tt;
   becomes = λ o told opened. tt;
   narrow = λ need gap told e. c.narrow need gap told (carried (faults.Full need gap) e);
-  only = subst (λ (f : StoreFault). IsOutside f ⊎ (refuses' f ⊎ ((need : ℕ) × (gap : ℕ) × (f ≡ faults.Full need gap)))) (sym is)
-      (⊎_elim (λ outside. inl outside) (λ rest. ⊎_elim (λ refused. inr (inl (may fault refused))) (λ full. inr (inr full)) rest) c.only);
+  damage = λ told.
+      let d = c.damage told in record {
+        first = λ place e. d.first place (carried (faults.Damaged place) e);
+        broken = λ place e. d.broken place (carried (faults.Damaged place) e);
+        damaged = λ place damage. (
+          tt,
+          subst (λ (f : StoreFault). (f ≡ faults.Damaged place) ⊎ (IsOutside f ⊎ refuses' f)) (sym is) (damaged_as refuses refuses' may place fault (d.damaged place damage).1),
+        );
+      };
+  undamaged = λ s told stands place e. c.undamaged s told stands place (carried (faults.Damaged place) e);
+  unread = λ told none place e. c.unread told none place (carried (faults.Damaged place) e);
+  still = λ told place e. c.still told place (carried (faults.Damaged place) e);
+  only = subst (IsCause refuses') (sym is) (cause_as refuses refuses' may fault c.only);
   cause = λ e. c.cause (carried faults.Disk e);
   costs = c.costs;
 }
@@ -171,7 +248,11 @@ costs_then m n a b c one two = record {
   limit = two.limit ∙ one.limit;
 }
 
-rose_later : (m n k : ℕ) → m ≤ n → Rose n k → Rose m k
+-- more may be read
+pub costs_more : (m n : ℕ) (a b : DiskState) → m ≤ n → Costs m a b → Costs n a b
+costs_more m n a b le costs = record { faults = costs.faults; taken_up = costs.taken_up; taken = omega (arith, costs.taken, le); limit = costs.limit }
+
+pub rose_later : (m n k : ℕ) → m ≤ n → Rose n k → Rose m k
 rose_later m n k le rose = grind (arith, le, rose)
 
 chain_ok : (work then : Work) (limit : ℕ) (held middle : Holding) → work limit held ≡ Ok middle → (work limit held >>= then limit) ≡ then limit middle
@@ -181,10 +262,10 @@ chain_err : (work then : Work) (limit : ℕ) (held : Holding) (full : Full) → 
 chain_err work then limit held full is = ap (λ (r : Result Holding Full). r >>= then limit) is
 
 -- the first failed
-pub changes_failed : {T : Type 0} (tells : Type 0) (work then : Work) (turns next : Turns) (step : State → State) (refuses : StoreFault → Type 0) (m n : ℕ) (a b : DiskState) (store middle : Store) (fault : StoreFault)
-    → Changes {T = Unit {0}} tells work turns (λ s. s) NoRefusal m a b store middle (Err fault)
-    → Changes {T = T} tells (λ limit held. work limit held >>= then limit) (λ limit o p. (q : Opened) × turns limit o q × next limit q p) step refuses (m + n) a b store middle (Err fault)
-changes_failed {T} tells work then turns next step refuses m n a b store middle fault c = record {
+pub changes_failed : {T : Type 0} (tells : Type 0) (work then : Work) (turns next : Turns) (step : State → State) (refuses : StoreFault → Type 0) (m n : ℕ) (joins : List Tables) (a b : DiskState) (store middle : Store) (fault : StoreFault)
+    → Changes {T = Unit {0}} tells work turns (λ s. s) NoRefusal m joins a b store middle (Err fault)
+    → Changes {T = T} tells (λ limit held. work limit held >>= then limit) (λ limit o p. (q : Opened) × turns limit o q × next limit q p) step refuses (m + n) joins a b store middle (Err fault)
+changes_failed {T} tells work then turns next step refuses m n joins a b store middle fault c = record {
   agrees = tt;
   knows = λ s knows. tt;
   works = λ held told has. tt;
@@ -193,9 +274,18 @@ changes_failed {T} tells work then turns next step refuses m n a b store middle 
   stands = λ s told stands. tt;
   becomes = λ o told opened. tt;
   narrow = λ need gap told e. c.narrow need gap told (carried (faults.Full need gap) e);
-  only = ⊎_elim (λ outside. inl outside) (λ rest. ⊎_elim (λ refused. absurd refused) (λ full. inr (inr full)) rest) c.only;
+  damage = λ told.
+      let d = c.damage told in record {
+        first = λ place e. d.first place (carried (faults.Damaged place) e);
+        broken = λ place e. d.broken place (carried (faults.Damaged place) e);
+        damaged = λ place damage. (tt, damaged_as NoRefusal refuses (λ e none. absurd none) place fault (d.damaged place damage).1);
+      };
+  undamaged = λ s told stands place e. c.undamaged s told stands place (carried (faults.Damaged place) e);
+  unread = λ told none place e. c.unread told none place (carried (faults.Damaged place) e);
+  still = λ told place e. c.still told place (carried (faults.Damaged place) e);
+  only = cause_as NoRefusal refuses (λ e none. absurd none) fault c.only;
   cause = λ e. c.cause (carried faults.Disk e);
-  costs = record { faults = c.costs.faults; taken_up = c.costs.taken_up; taken = omega (arith, c.costs.taken); limit = c.costs.limit };
+  costs = costs_more (m + sum_by data_size joins) (m + n + sum_by data_size joins) a b (omega arith) c.costs;
 }
   where
     carried : (other : StoreFault) → ◌≡◌ {A = Result T StoreFault} (Err fault) (Err other) → ◌≡◌ {A = Result (Unit {0}) StoreFault} (Err fault) (Err other)
@@ -204,9 +294,9 @@ changes_failed {T} tells work then turns next step refuses m n a b store middle 
         same : (f g : StoreFault) → ◌≡◌ {A = Result T StoreFault} (Err f) (Err g) → f ≡ g
         same f g e = cc
 
--- both were done, or the second failed
-module _ (tells : Type 0) (work then : Work) (turns next : Turns) (step : State → State) (refuses : StoreFault → Type 0) (m n : ℕ) (a b c : DiskState) (store middle later : Store) (u : Unit {0})
-    (one : Changes tells work turns (λ s. s) NoRefusal m a b store middle (Ok u)) where
+-- both were done, or the second failed, which reads no level
+module _ (tells : Type 0) (work then : Work) (turns next : Turns) (step : State → State) (refuses : StoreFault → Type 0) (m n : ℕ) (joins : List Tables) (a b c : DiskState) (store middle later : Store) (u : Unit {0})
+    (one : Changes tells work turns (λ s. s) NoRefusal m joins a b store middle (Ok u)) where
   narrow_then : (need gap : ℕ) → IsNarrow b.limit c.content need gap → IsNarrow a.limit c.content need gap
   narrow_then need gap narrow = subst (λ (limit : ℕ). IsNarrow limit c.content need gap) one.costs.limit narrow
 
@@ -216,13 +306,25 @@ module _ (tells : Type 0) (work then : Work) (turns next : Turns) (step : State 
   abbrev through : Turns
   through = λ limit o p. (q : Opened) × turns limit o q × next limit q p
 
-  images_then : {T : Type 0} (result : Result T StoreFault) → Changes tells then next step refuses n b c middle later result → (s : State) → (tells → StandsFor s a.content) → LeavesOnly (StandsForEither s (step s)) a c
+  images_then : {T : Type 0} (result : Result T StoreFault) → Changes tells then next step refuses n [] b c middle later result → (s : State) → (tells → StandsFor s a.content) → LeavesOnly (StandsForEither s (step s)) a c
   images_then result two s stands =
       leaves_then a b c (StandsForEither s (step s))
       (leaves_as a b (StandsForEither s s) (StandsForEither s (step s)) (one.images s stands) (λ image either. ⊎_elim (λ here. inl here) (λ here. inl here) either))
       (two.images s (λ told. one.stands s told (stands told)))
 
-  pub changes_then : {T : Type 0} (result : Result T StoreFault) → Changes tells then next step refuses n b c middle later result → Changes tells both through step refuses (m + n) a c store later result
+  finds_then : {T : Type 0} (result : Result T StoreFault) → Changes tells then next step refuses n [] b c middle later result → tells → Finds refuses a.content joins result
+  finds_then result two told = record {
+    first = λ place e. absurd (two.unread told refl place e);
+    broken = λ place e. absurd (two.unread told refl place e);
+    damaged = λ place damage. absurd ((one.damage told).damaged place damage).0;
+  }
+
+  costs_both : {T : Type 0} (result : Result T StoreFault) → Changes tells then next step refuses n [] b c middle later result → Costs (m + n + sum_by data_size joins) a c
+  costs_both result two =
+      costs_more (m + sum_by data_size joins + (n + sum_by data_size [])) (m + n + sum_by data_size joins) a c (omega arith)
+      (costs_then (m + sum_by data_size joins) (n + sum_by data_size []) a b c one.costs two.costs)
+
+  pub changes_then : {T : Type 0} (result : Result T StoreFault) → Changes tells then next step refuses n [] b c middle later result → Changes tells both through step refuses (m + n) joins a c store later result
   changes_then (Ok x) two = record {
     agrees = two.agrees;
     knows = λ s knows. two.knows s (one.knows s knows);
@@ -238,9 +340,13 @@ module _ (tells : Type 0) (work then : Work) (turns next : Turns) (step : State 
         let v = two.becomes w.0 told w.2 in
         (v.0, (w.0, w.1, subst (λ (limit : ℕ). next limit w.0 v.0) one.costs.limit v.1), v.2, v.3);
     narrow = λ need gap told e. narrow_then need gap (two.narrow need gap told e);
+    damage = finds_then (Ok x) two;
+    undamaged = λ s told stands place e. two.unread told refl place e;
+    unread = λ told none place e. two.unread told refl place e;
+    still = λ told place e. absurd (two.unread told refl place e);
     only = tt;
     cause = λ e. rose_later a.faults b.faults c.faults one.costs.faults (two.cause e);
-    costs = costs_then m n a b c one.costs two.costs;
+    costs = costs_both (Ok x) two;
   }
   changes_then (Err fault) two = record {
     agrees = tt;
@@ -251,27 +357,31 @@ module _ (tells : Type 0) (work then : Work) (turns next : Turns) (step : State 
     stands = λ s told stands. tt;
     becomes = λ o told opened. tt;
     narrow = λ need gap told e. narrow_then need gap (two.narrow need gap told e);
+    damage = finds_then (Err fault) two;
+    undamaged = λ s told stands place e. two.unread told refl place e;
+    unread = λ told none place e. two.unread told refl place e;
+    still = λ told place e. absurd (two.unread told refl place e);
     only = two.only;
     cause = λ e. rose_later a.faults b.faults c.faults one.costs.faults (two.cause e);
-    costs = costs_then m n a b c one.costs two.costs;
+    costs = costs_both (Err fault) two;
   }
 
 -- ---- an entry, behind a flush where it does not fit
 
-enter_work : (entry : Entry) (limit : ℕ) (held : Holding) → (cond (fits held.view.entries entry) (Ok held) (flushed_apart limit held) >>= λ then. Ok (entered then entry))
-    ≡ cond (fits held.view.entries entry) (Ok (entered held entry)) (flushed_apart limit held >>= λ then. Ok (entered then entry))
+enter_work : (entry : Entry) (limit : ℕ) (held : Holding) → (cond (fits held.view.entries entry) (Ok held) (flushed limit held) >>= λ then. Ok (entered then entry))
+    ≡ cond (fits held.view.entries entry) (Ok (entered held entry)) (flushed limit held >>= λ then. Ok (entered then entry))
 enter_work entry limit held = by_case (fits held.view.entries entry)
   where
-    by_case : (b : Bool) → (cond b (Ok held) (flushed_apart limit held) >>= λ then. Ok (entered then entry)) ≡ cond b (Ok (entered held entry)) (flushed_apart limit held >>= λ then. Ok (entered then entry))
+    by_case : (b : Bool) → (cond b (Ok held) (flushed limit held) >>= λ then. Ok (entered then entry)) ≡ cond b (Ok (entered held entry)) (flushed limit held >>= λ then. Ok (entered then entry))
     by_case true = refl
     by_case false = refl
 
 pub obeys_entry : {T : Type 0} (tells : Type 0) (entry : Entry) (step : State → State) (a b : DiskState) (store later : Store) (result : Result T StoreFault)
-    → Changes tells (λ limit held. cond (fits held.view.entries entry) (Ok held) (flushed_apart limit held) >>= λ then. Ok (entered then entry))
-    (λ limit o p. (q : Opened) × (((fits o.entries entry ≡ true) × (q ≡ o)) ⊎ ((fits o.entries entry ≡ false) × BecomesFlushed limit o q)) × (p ≡ with_entry q entry)) step NoRefusal (1 + 0) a b store later result
+    → Changes tells (λ limit held. cond (fits held.view.entries entry) (Ok held) (flushed limit held) >>= λ then. Ok (entered then entry))
+    (λ limit o p. (q : Opened) × (((fits o.entries entry ≡ true) × (q ≡ o)) ⊎ ((fits o.entries entry ≡ false) × BecomesFlushed limit o q)) × (p ≡ with_entry q entry)) step NoRefusal (1 + 0) (joined_by store (enters entry)) a b store later result
     → Obeys tells (enters entry) step NoRefusal a b store later result
 obeys_entry tells entry step a b store later result c =
-    changes_as tells _ _ _ _ step NoRefusal NoRefusal 1 a b store later result (λ held told has. enter_work entry a.limit held)
+    changes_as tells _ _ _ _ step NoRefusal NoRefusal 1 (joined_by store (enters entry)) a b store later result (λ held told has. enter_work entry a.limit held)
     (λ o p told opened turned.
     ⊎_elim (λ fitted. inl (fitted.0, turned.2 ∙ ap (λ (q : Opened). with_entry q entry) fitted.1)) (λ flushed. inr (flushed.0, turned.0, flushed.1, turned.2)) turned.1)
     (λ e refused. refused) c

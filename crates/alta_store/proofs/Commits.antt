@@ -1,12 +1,14 @@
 -- One entry more, on a store and its disk.
-use Rattle.std.proofs.Common.{◌≡◌, ℕ, ◌+◌, ◌<◌, ◌≤◌, true, false, Vec, Global, List, [], ◌∷◌, ◌++◌, length, inl, inr, ⊎_elim, refl, sym, ◌∙◌, ap, subst, arith}
-use Rattle.std.specs.Prelude.{Result, Ok, Err}
+use Rattle.std.proofs.Common.{◌≡◌, ℕ, ◌+◌, ◌<◌, ◌≤◌, Bool, true, false, cond, Vec, Global, List, [], ◌∷◌, ◌++◌, length, get_or, map, take, inl, inr, ⊎_elim, refl, sym, ◌∙◌, ap, subst, arith}
+use Rattle.std.specs.Prelude.{Option, Result, Ok, Err}
 use Rattle.std.specs.List.{All}
-use Rattle.alta_catalog.specs.Knowing.{Follows, KnowsBy}
+use Rattle.std.proofs.lemmas.List.Elements.{All-tail}
+use Rattle.alta_catalog.specs.Knowing.{Follows, KnowsBy, gone_of}
 use Rattle.alta_catalog.specs.declared.catalog.Catalog.{Catalog}
 use Rattle.alta_catalog.proofs.MayLaws.{may_be}
 use Rattle.alta_codec.specs.Faults.{Rose}
-use Rattle.alta_content.specs.Rows.{end_of}
+use Rattle.alta_codec.specs.declared.extent.Extent.{Extent}
+use Rattle.alta_content.specs.Rows.{AreDocuments, end_of, ends_among}
 use Rattle.alta_content.specs.declared.document.DocRow.{DocRow}
 use Rattle.alta_disk.specs.Calls.{Costs}
 use Rattle.alta_disk.specs.Disk.{DiskState, IsLawful, Only, Passes, Stands, LeavesOnly}
@@ -17,11 +19,18 @@ use Rattle.alta_images.specs.Opened.{Opened, IsOpened, journal_of, rows_in}
 use Rattle.alta_images.specs.Standing.{StandsFor, StandsForEither}
 use Rattle.alta_images.specs.States.{IsDocument, has_name, has_number, with_added, with_deleted, without}
 use Rattle.alta_images.specs.Switching.{MayAppend, with_entry}
-use Rattle.alta_images.specs.Working.{entered}
+use Rattle.alta_images.specs.Chain.{◌>>=◌}
+use Rattle.alta_images.specs.Views.{View}
+use Rattle.alta_images.specs.Work.{enters, fits}
+use Rattle.alta_images.specs.Working.{entered, flushed}
 use Rattle.alta_images.proofs.AppendLaws.{opened_appended, stands_appended, stands_appending}
 use Rattle.alta_images.proofs.Entering.{after_more}
 use Rattle.alta_images.proofs.HeldLaws.{held_appended}
 use Rattle.alta_images.proofs.NameLaws.{All-has_byte}
+use Rattle.alta_images.proofs.SwitchLaws.{extents_clear}
+use Rattle.alta_images.proofs.Untouched.{IsSame, extents_same}
+use Rattle.alta_images.proofs.WellLaws.{work_well}
+use Rattle.alta_joins.proofs.KeptLaws.{held_is_spaced}
 use Rattle.alta_journal.specs.declared.appending.JournalFault.{JournalFault}
 use Rattle.alta_journal.specs.declared.appending.JournalFault.TheVariants.{Disk as JournalDisk, Full as JournalFull}
 use Rattle.alta_journal.specs.Entry.{KeepsRules}
@@ -32,18 +41,23 @@ use Rattle.alta_journal.specs.declared.entry.Entry.{Entry}
 use Rattle.alta_journal.specs.declared.entry.Entry.TheVariants.{Add, Delete}
 use Rattle.alta_journal.specs.declared.half.Half.{Half}
 use Rattle.alta_journal.specs.declared.places.TheConstants.{HALF_BYTES, HEAD_BYTES}
-use Rattle.alta_journal.proofs.Frames.{ends_closed}
+use Rattle.alta_journal.proofs.Frames.{appends_touch, ends_closed}
 use Rattle.alta_journal.proofs.Spelling.{add_long, body_long, delete_long}
+use Rattle.alta_merge.specs.Merging.{Merging}
 use Rattle.alta_meta.specs.declared.document.State.{State}
+use Rattle.alta_opening.specs.Extents.{extent_of}
+use Rattle.alta_root.specs.Root.{extents_of}
 use Rattle.alta_root.specs.declared.root.Root.{Root}
-use Rattle.alta_root.specs.declared.slot.Slot.{Slot}
-use Rattle.alta_root.specs.declared.slot.Slot.TheVariants.{A, B}
-use Rattle.alta_store.specs.Agreement.{Agrees, Keeps, Knows, levels_of}
-use Rattle.alta_store.specs.Calls.{Enters}
+use Rattle.alta_root.proofs.Frames.{counts_sound}
+use Rattle.alta_store.specs.Agreement.{Agrees, GoesOnOver, Has, IsJobIn, Keeps, Knows, MayGoOn, levels_of, room_of}
+use Rattle.alta_store.specs.Calls.{Enters, NoRefusal}
 use Rattle.alta_store.specs.declared.store.Store.{Store}
 use Rattle.alta_store.specs.declared.fault.StoreFault.{StoreFault}
-use Rattle.alta_store.specs.declared.fault.StoreFault.TheVariants.{Disk as StoreDisk, Full as StoreFull}
+use Rattle.alta_store.specs.declared.fault.StoreFault.TheVariants.{Damaged as StoreDamaged, Disk as StoreDisk, Full as StoreFull}
 use Rattle.alta_store.proofs.Agreements.{kept, knows_of, opened_of}
+use Rattle.alta_store.proofs.Changing.{finds_none, finds_outside, not_damaged}
+use Rattle.alta_store.proofs.GoingOn.{goes_on_over, goes_on_there}
+use Rattle.alta_store.proofs.Room.{fits_room, journal_fits, le_true}
 use Rattle.alta_store.proofs.Speaking.{may_append}
 use Rattle.alta_table.specs.Tables.{Tables}
 
@@ -66,11 +80,6 @@ keeps_rules_of a b c name title body same_name same_title same_body d =
 pub delete_bytes : (number : ℕ) → length (body_of (Delete number)) ≡ 14
 delete_bytes number = omega (arith, body_long (Delete number), delete_long number)
 
--- the halves end in the head
-pub journal_fits : (slot : Slot) → journal_of slot + HALF_BYTES ≤ HEAD_BYTES
-journal_fits A = omega arith
-journal_fits B = omega arith
-
 -- a record that fits is not found too long
 pub never_full : (fault : JournalFault) (need left : ℕ) → fault ≡ JournalFull need left → fault ≡ JournalDisk → ⊥
 never_full fault need left full disk = absurd cc
@@ -91,12 +100,17 @@ module _ (tells : Type 0) (a : DiskState) (lawful : IsLawful tells a) (store : S
 
   -- one entry more, which each state that the store knows allows
   module _ (entry : Entry) (allowed : (s : State) → Knows store s → Allows s entry)
-      (fits : length (body_of entry) ≤ left_behind (start_of store.tail.half) store.tail.place) where
+      (short : length (body_of entry) ≤ left_behind (start_of store.tail.half) store.tail.place) where
+    fits_held : (told : tells) (held : Holding) → IsHeld held a.content → fits held.view.entries entry ≡ true
+    fits_held told held has =
+        ap (λ (view : View). fits view.entries entry) has.view_is
+        ∙ fits_room store has.opened a.content (kept store a.content (agrees.content told) has.opened has.is) has.is entry ∙ le_true (length (body_of entry)) (room_of store) short
+
     may : (told : tells) (o : Opened) (is : IsOpened o a.content) → MayAppend entry o is.named.known
     may told o is =
         let keeps = kept store a.content (agrees.content told) o is in
         let s = may_be o in
-        may_append o a.content is s.0 s.1 entry (allowed s.0 (keeps.knows s.0 s.1).0) (omega (arith, fits, ap start_of keeps.half, keeps.place, store.tail.starts, store.tail.ends))
+        may_append o a.content is s.0 s.1 entry (allowed s.0 (keeps.knows s.0 s.1).0) (omega (arith, short, ap start_of keeps.half, keeps.place, store.tail.starts, store.tail.ends))
 
     module _ (b : DiskState) (run : Passes (Appends (start_of store.tail.half) store.tail.place entry) a b) where
       here : (told : tells) (o : Opened) → IsOpened o a.content → (z : List ℕ) → Appends (start_of store.tail.half) store.tail.place entry a.content z → Appends (journal_of o.slot) o.tail entry a.content z
@@ -127,6 +141,10 @@ module _ (tells : Type 0) (a : DiskState) (lawful : IsLawful tells a) (store : S
         stands = λ s told stands. tt;
         becomes = λ o told opened. tt;
         narrow = λ need gap told failed. absurd (not_full need gap failed);
+        damage = λ told. finds_outside NoRefusal a.content [] fault (inr is) (not_damaged fault (inr is));
+        undamaged = λ s told stands place failed. not_damaged fault (inr is) place failed;
+        unread = λ told none place failed. not_damaged fault (inr is) place failed;
+        still = λ told place failed. absurd (not_damaged fault (inr is) place failed);
         only = inl (inr is);
         cause = λ failed. rose;
         costs = costs;
@@ -164,7 +182,8 @@ module _ (tells : Type 0) (a : DiskState) (lawful : IsLawful tells a) (store : S
             held_appended held entry a.content b.content is (may told is.opened is.is) (here told is.opened is.is b.content (step told)) (done told is.opened is.is)
 
         module _ (later : Store) (slot_is : later.slot ≡ store.slot) (root_is : later.root ≡ store.root) (listed_is : later.listed ≡ store.listed) (place_is : later.tail.place ≡ store.tail.place + length (record_of entry))
-            (half_is : later.tail.half ≡ store.tail.half) (levels_are : levels_of later ≡ levels_of store)
+            (half_is : later.tail.half ≡ store.tail.half) (job_is : later.job ≡ store.job) (levels_are : levels_of later ≡ levels_of store)
+            (still : (row : DocRow) → ends_among (gone_of store.catalog) row ≡ true → ends_among (gone_of later.catalog) row ≡ true)
             (follows : (root : Root) (entries : List Entry) → Follows store.catalog root entries → Follows later.catalog root (entries ++ entry ∷ []))
             (knows : (s : State) → (k : Knows store s) → KnowsBy later.catalog k.olds (after_entry s entry)) where
           keeps_more : (told : tells) (o : Opened) → IsOpened o a.content → Keeps later (with_entry o entry)
@@ -186,6 +205,27 @@ module _ (tells : Type 0) (a : DiskState) (lawful : IsLawful tells a) (store : S
                     subst (KnowsBy later.catalog may.starts.olds) (sym (may.state_is ∙ after_more may.start o.entries entry)) (now.0, now.1 ∙ was.1);
               }
 
+          -- the levels have the bytes that they had
+          same_levels : (told : tells) → All (IsSame a.content b.content) (map extent_of (levels_of store))
+          same_levels told =
+              let holds = agrees.content told in
+              let o = holds.opened in
+              let range : List (ℕ × ℕ) = (o.tail, 1 + length (body_of entry)) ∷ [] in
+              let touches = appends_touch (journal_of o.slot) o.tail entry a.content b.content (here told o holds.is b.content (step told)) in
+              let clear = extents_clear o.tail (1 + length (body_of entry)) (length a.content) o.root (omega (arith, journal_fits o.slot, (may told o holds.is).fits)) (counts_sound o.slot o.root a.content holds.is.counts) in
+              subst (λ (levels : List Tables). All (IsSame a.content b.content) (map extent_of levels)) (sym holds.keeps.levels)
+              (subst (All (IsSame a.content b.content)) (sym holds.keeps.extents)
+              (All-tail (IsSame a.content b.content) o.root.deletions o.root.levels.items (extents_same range a.content b.content (extents_of o.root) touches clear)))
+
+          -- the join goes on
+          going : (on : MayGoOn (levels_of later) (gone_of later.catalog) later.job)
+              × ((image : List ℕ) → GoesOnOver image (levels_of store) (gone_of store.catalog) store.job agrees.intact.joining → GoesOnOver image (levels_of later) (gone_of later.catalog) later.job on)
+          going =
+              subst (λ (job : Option Merging). (on : MayGoOn (levels_of later) (gone_of later.catalog) job)
+              × ((image : List ℕ) → GoesOnOver image (levels_of store) (gone_of store.catalog) store.job agrees.intact.joining → GoesOnOver image (levels_of later) (gone_of later.catalog) job on))
+              (sym job_is)
+              (goes_on_over (levels_of store) (levels_of later) (gone_of store.catalog) (gone_of later.catalog) store.job (ap (take 2) levels_are) (λ k d within. still (get_or (rows_in (levels_of store)) k d)) agrees.intact.joining)
+
           -- store and disk agree
           agrees_after : Agrees tells b later
           agrees_after = record {
@@ -198,9 +238,22 @@ module _ (tells : Type 0) (a : DiskState) (lawful : IsLawful tells a) (store : S
               knows = (knows agrees.intact.state agrees.intact.knows).0;
               entries = agrees.intact.entries ++ entry ∷ [];
               follows = subst (λ (root : Root). Follows later.catalog root (agrees.intact.entries ++ entry ∷ [])) (sym root_is) (follows store.root agrees.intact.entries agrees.intact.follows);
-              below = subst (λ (levels : List Tables). All (λ (row : DocRow). end_of row < later.root.next_location) (rows_in levels)) (sym levels_are)
-                  (subst (λ (root : Root). All (λ (row : DocRow). end_of row < root.next_location) (rows_in (levels_of store))) (sym root_is) agrees.intact.below);
+              below = subst (λ (levels : List Tables). All (λ (row : DocRow). (row.number < later.root.next_number) × (end_of row < later.root.next_location)) (rows_in levels)) (sym levels_are)
+                  (subst (λ (root : Root). All (λ (row : DocRow). (row.number < root.next_number) × (end_of row < root.next_location)) (rows_in (levels_of store))) (sym root_is) agrees.intact.below);
+              documents = subst (λ (levels : List Tables). AreDocuments (rows_in levels)) (sym levels_are) agrees.intact.documents;
+              extents = ap (map extent_of) levels_are ∙ agrees.intact.extents ∙ ap (λ (root : Root). root.levels.items) (sym root_is);
+              joining = going.0;
             };
+            joins = λ told. going.1 b.content (goes_on_there a.content b.content (levels_of store) (gone_of store.catalog) store.job agrees.intact.joining (same_levels told) (agrees.joins told));
+          }
+
+          -- what is held has the entry
+          has_more : (told : tells) (held : Holding) → Has store held a.content → Has later (entered held entry) b.content
+          has_more told held has = record {
+            is = held_more told held has.is;
+            job = subst (λ (job : Option Merging). IsJobIn job held.job) (sym job_is) has.job;
+            well = work_well a.limit held (entered held entry) (enters entry) (held_is_spaced held a.content has.is) has.well
+                (ap (λ (x : Bool). cond x (Ok (entered held entry)) (flushed a.limit held >>= λ then. Ok (entered then entry))) (fits_held told held has.is));
           }
 
           -- the entry was entered
@@ -209,7 +262,7 @@ module _ (tells : Type 0) (a : DiskState) (lawful : IsLawful tells a) (store : S
             enters_ok x costs = record {
               agrees = agrees_after;
               knows = λ s k. subst (Knows later) (turns s k) (knows s k).0;
-              works = λ held told has. (entered held e, refl, subst (λ (n : Entry). IsHeld (entered held n) b.content) same (held_more told held has));
+              works = λ held told has. (entered held e, refl, subst (λ (n : Entry). Has later (entered held n) b.content) same (has_more told held has));
               full = λ held need gap told has failed. absurd (ok_fails x (StoreFull need gap) failed);
               images = λ s stands. either s (turn s) stands (λ told. turns s (knows_of tells a store agrees s told (stands told)));
               stands = λ s told stands. stands_after s (turn s) told stands (turns s (knows_of tells a store agrees s told stands));
@@ -220,6 +273,10 @@ module _ (tells : Type 0) (a : DiskState) (lawful : IsLawful tells a) (store : S
                 subst (λ (n : Entry). Keeps later (with_entry o n)) same (keeps_more told o is),
               );
               narrow = λ need gap told failed. absurd (ok_fails x (StoreFull need gap) failed);
+              damage = λ told. finds_none NoRefusal a.content [] (Ok x) refl (λ place failed. ok_fails x (StoreDamaged place) failed);
+              undamaged = λ s told stands place failed. ok_fails x (StoreDamaged place) failed;
+              unread = λ told none place failed. ok_fails x (StoreDamaged place) failed;
+              still = λ told place failed. absurd (ok_fails x (StoreDamaged place) failed);
               only = tt;
               cause = λ failed. absurd (ok_fails x StoreDisk failed);
               costs = costs;

@@ -42,7 +42,7 @@ use Rattle.alta_store.specs.Answers.{IsOutside, AnswersFault, of_catalog, of_lev
 use Rattle.alta_store.specs.declared.fault.StoreFault.{StoreFault}
 use Rattle.alta_store.specs.declared.fault.StoreFault.TheVariants.{NoRoot, Damaged}
 use Rattle.alta_store.specs.declared.store.Store.{Store}
-use Rattle.alta_store.proofs.Commits.{journal_fits}
+use Rattle.alta_store.proofs.Room.{journal_fits}
 use Rattle.alta_store.proofs.Speaking.{start_known}
 use Rattle.alta_table.specs.Tables.{Tables}
 

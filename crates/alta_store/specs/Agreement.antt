@@ -1,16 +1,20 @@
 -- A store and its disk.
-use Rattle.std.specs.Prelude.{◌≡◌, ℕ, ◌≤◌, ◌<◌, true, List, Bool, map}
+use Rattle.std.specs.Prelude.{◌≡◌, ℕ, ◌≤◌, ◌<◌, true, List, Bool, map, Option, Some, None}
 use Rattle.std.specs.List.{All}
-use Rattle.alta_content.specs.Rows.{end_of}
+use Rattle.alta_content.specs.Rows.{AreDocuments, end_of}
 use Rattle.alta_content.specs.declared.document.DocRow.{DocRow}
 use Rattle.alta_disk.specs.Disk.{DiskState, Only}
+use Rattle.alta_images.specs.Holding.{Holding, IsHeld, IsWell}
 use Rattle.alta_images.specs.Opened.{Opened, IsOpened, half_of, rows_in}
+use Rattle.alta_images.specs.Work.{Job}
+use Rattle.alta_joins.specs.Jobs.{AreJoinedOn, IsJoining, IsMerging}
 use Rattle.alta_journal.specs.Places.{left_behind, start_of}
 use Rattle.alta_journal.specs.declared.entry.Entry.{Entry}
 use Rattle.alta_journal.specs.declared.places.TheConstants.{HEAD_BYTES}
+use Rattle.alta_merge.specs.Merging.{Merging}
 use Rattle.alta_meta.specs.declared.document.State.{State}
 use Rattle.alta_opening.specs.Extents.{extent_of}
-use Rattle.alta_catalog.specs.Knowing.{Follows, Knows as CatalogKnows, KnowsBy, levels_of as levels_in}
+use Rattle.alta_catalog.specs.Knowing.{Follows, Knows as CatalogKnows, KnowsBy, gone_of, levels_of as levels_in}
 use Rattle.alta_catalog.specs.Rows.{MayBe}
 use Rattle.alta_table.specs.Tables.{Tables}
 use Rattle.alta_store.specs.declared.store.Store.{Store}
@@ -42,20 +46,49 @@ pub record Holds (store : Store) (image : List ℕ) : Type 0 where
   pub is : IsOpened opened image
   pub keeps : Keeps store opened
 
+-- A join may go on over the two oldest of these levels.
+abbrev pub MayGoOn : List Tables → List ℕ → Option Merging → Type 0
+MayGoOn levels gone None = Unit {0}
+MayGoOn levels gone (Some merging) = IsJoining levels gone merging
+
+-- It joins the contents that these levels have on an image.
+abbrev pub GoesOnOver : (image : List ℕ) (levels : List Tables) (gone : List ℕ) (job : Option Merging) → MayGoOn levels gone job → Type 0
+GoesOnOver image levels gone None joining = Unit {0}
+GoesOnOver image levels gone (Some merging) joining = AreJoinedOn image joining
+
 -- Also where the disk does not tell what it holds: the store's catalog stands at some state, and follows the root by some entries, behind
--- the documents of its levels.
+-- the documents of its levels, which fill the extents of the root. A join that goes on is one over the two oldest.
 pub record IsIntact (store : Store) : Type 0 where
   pub state : State
   pub knows : Knows store state
   pub entries : List Entry
   pub follows : Follows store.catalog store.root entries
-  pub below : All (λ (row : DocRow). end_of row < store.root.next_location) (rows_in (levels_of store))
+  pub below : All (λ (row : DocRow). (row.number < store.root.next_number) × (end_of row < store.root.next_location)) (rows_in (levels_of store))
+  pub documents : AreDocuments (rows_in (levels_of store))
+  pub extents : map extent_of (levels_of store) ≡ store.root.levels.items
+  pub joining : MayGoOn (levels_of store) (gone_of store.catalog) store.job
 
--- Store and disk agree: nothing is pending, and the store goes on with what the content is opened as.
+-- Store and disk agree: nothing is pending, the store goes on with what the content is opened as, and joins what is there.
 pub record Agrees (tells : Type 0) (disk : DiskState) (store : Store) : Type 0 where
   pub settled : Only disk.content disk.images
   pub content : tells → Holds store disk.content
   pub intact : IsIntact store
+  pub joins : tells → GoesOnOver disk.content (levels_of store) (gone_of store.catalog) store.job intact.joining
+
+-- ---- what is held
+
+-- the join that goes on is that of the job
+abbrev pub IsJobIn : Option Merging → Option Job → Type 0
+IsJobIn None None = Unit {0}
+IsJobIn None (Some job) = ⊥
+IsJobIn (Some merging) None = ⊥
+IsJobIn (Some merging) (Some job) = IsMerging merging job
+
+-- The store has what is held of an image, which is well formed: the job is the join that goes on.
+pub record Has (store : Store) (held : Holding) (image : List ℕ) : Type 0 where
+  pub is : IsHeld held image
+  pub job : IsJobIn store.job held.job
+  pub well : IsWell held
 
 -- how many bytes are left in the journal behind the gate of the next record
 abbrev pub room_of : Store → ℕ

@@ -4,10 +4,12 @@ use Rattle.alta_journal.specs.declared.replaying.OpenFault.{OpenFault}
 use Rattle.alta_journal.specs.declared.replaying.OpenFault.TheVariants.{Disk as JournalDisk, Memory as JournalMemory, Damaged as JournalDamaged}
 use Rattle.alta_catalog.specs.declared.fault.CatalogFault.{CatalogFault}
 use Rattle.alta_catalog.specs.declared.fault.CatalogFault.TheVariants.{Memory as CatalogMemory, Damaged as CatalogDamaged}
-use Rattle.alta_flush.specs.declared.fault.FlushFault.{FlushFault}
-use Rattle.alta_flush.specs.declared.fault.FlushFault.TheVariants.{Disk as FlushDisk, Memory as FlushMemory, Full as FlushFull}
+use Rattle.alta_joins.specs.declared.fault.JoinFault.{JoinFault}
+use Rattle.alta_joins.specs.declared.fault.JoinFault.TheVariants.{Disk as JoinDisk, Memory as JoinMemory, Damaged as JoinDamaged}
 use Rattle.alta_opening.specs.declared.fault.OpeningFault.{OpeningFault}
 use Rattle.alta_opening.specs.declared.fault.OpeningFault.TheVariants.{Disk as LevelsDisk, Memory as LevelsMemory, Damaged as LevelsDamaged}
+use Rattle.alta_rewrite.specs.declared.fault.RewriteFault.{RewriteFault}
+use Rattle.alta_rewrite.specs.declared.fault.RewriteFault.TheVariants.{Disk as RewriteDisk, Memory as RewriteMemory, Full as RewriteFull}
 use Rattle.alta_root.specs.declared.fault.RootFault.{RootFault}
 use Rattle.alta_root.specs.declared.fault.RootFault.TheVariants.{Disk as RootDisk, NoRoot as NoRootThere, Damaged as RootDamaged}
 use Rattle.alta_store.specs.declared.fault.StoreFault.{StoreFault}
@@ -44,8 +46,14 @@ abbrev pub of_catalog : CatalogFault → StoreFault
 of_catalog CatalogMemory = Memory
 of_catalog (CatalogDamaged place) = Damaged place
 
--- the fault of a flush
-abbrev pub of_flush : FlushFault → StoreFault
-of_flush FlushDisk = Disk
-of_flush FlushMemory = Memory
-of_flush (FlushFull need gap) = Full need gap
+-- the fault of levels that were not read
+abbrev pub of_join : JoinFault → StoreFault
+of_join JoinDisk = Disk
+of_join JoinMemory = Memory
+of_join (JoinDamaged place) = Damaged place
+
+-- the fault of a root that was not switched
+abbrev pub of_rewrite : RewriteFault → StoreFault
+of_rewrite RewriteDisk = Disk
+of_rewrite RewriteMemory = Memory
+of_rewrite (RewriteFull need gap) = Full need gap

@@ -1,58 +1,119 @@
 -- What a call that changes a store does, in one word.
-use Rattle.std.specs.Prelude.{◌≡◌, ◌⊎◌, ◌<◌, ◌==◌, ◌&&◌, nat_le, ℕ, Bool, cond, true, false, List, [], length, Result, Ok, Err, OnOk, IfErr}
+use Rattle.std.specs.Prelude.{◌≡◌, ◌⊎◌, ◌<◌, ◌+◌, ◌==◌, ◌&&◌, nat_le, ℕ, Bool, cond, true, false, List, [], ◌∷◌, length, map, take, Option, Some, None, Result, Ok, Err, OnOk, IfOk, IfErr}
+use Rattle.std.specs.List.{sum_by}
+use Rattle.alta_catalog.specs.Knowing.{gone_of, memory_of}
 use Rattle.alta_codec.specs.Faults.{Rose}
 use Rattle.alta_codec.specs.declared.extent.Extent.{Extent}
+use Rattle.alta_content.specs.Rows.{live_rows}
 use Rattle.alta_content.specs.declared.content.Content.{Content}
 use Rattle.alta_disk.specs.Calls.{Costs}
 use Rattle.alta_disk.specs.Disk.{DiskState, LeavesOnly}
-use Rattle.alta_flush.specs.Flushes.{IsComing, IsGiven, bare_view}
-use Rattle.alta_flush.specs.declared.ends.Ends.{Ends}
+use Rattle.alta_images.specs.Broken.{IsBrokenAmong}
 use Rattle.alta_images.specs.Chain.{◌>>=◌}
-use Rattle.alta_images.specs.Holding.{Holding, IsHeld}
+use Rattle.alta_images.specs.Holding.{Holding}
+use Rattle.alta_images.specs.Joining.{joined_in}
+use Rattle.alta_images.specs.Levels.{Level}
 use Rattle.alta_images.specs.Opened.{Opened, IsOpened}
-use Rattle.alta_images.specs.Standing.{StandsFor, StandsForEither}
+use Rattle.alta_images.specs.Standing.{StandsFor, StandsForEither, view_of}
 use Rattle.alta_images.specs.Switching.{with_entry}
 use Rattle.alta_images.specs.Views.{View}
-use Rattle.alta_images.specs.Work.{Task, enters, fits, flushes, merges, steps, newest_content}
-use Rattle.alta_images.specs.Working.{Full, entered, flushed, worked}
+use Rattle.alta_images.specs.Work.{Task, enters, fits, flushes, gone, merges, newest_content, steps}
+use Rattle.alta_images.specs.Working.{Full, IsJoin, all_contents, entered, flushed, worked}
+use Rattle.alta_joins.specs.Contents.{data_size}
+use Rattle.alta_joins.specs.Damages.{IsFirstDamage}
+use Rattle.alta_journal.specs.Places.{start_of}
+use Rattle.alta_journal.specs.Record.{body_of}
 use Rattle.alta_journal.specs.declared.entry.Entry.{Entry}
+use Rattle.alta_merge.specs.Merging.{Merging}
 use Rattle.alta_meta.specs.declared.document.State.{State}
+use Rattle.alta_rewrite.specs.Rewrites.{HaveRows, IsComing, IsGiven, Replaces, no_content}
+use Rattle.alta_rewrite.specs.declared.ends.Ends.{Ends}
+use Rattle.alta_rewrite.specs.declared.levels.NextLevels.{NextLevels}
 use Rattle.alta_root.specs.Gaps.{IsLongestGap, taken_by}
-use Rattle.alta_store.specs.Agreement.{Agrees, Keeps, Knows}
+use Rattle.alta_store.specs.Agreement.{Agrees, Has, Keeps, Knows, levels_of, room_of}
 use Rattle.alta_store.specs.Answers.{IsOutside}
 use Rattle.alta_store.specs.declared.fault.StoreFault.{StoreFault}
 use Rattle.alta_store.specs.declared.fault.StoreFault.TheVariants as faults
 use Rattle.alta_store.specs.declared.store.Store.{Store}
+use Rattle.alta_table.specs.Tables.{Tables}
 
--- ---- work on levels, while 16 levels are not joined
+-- ---- which levels a task reads and joins
+
+-- levels that are read, unless they were read as a join began
+abbrev pub unless_read : Option Merging → List Tables → List Tables
+unless_read None levels = levels
+unless_read (Some merging) levels = []
+
+-- a newest document is live
+abbrev pub has_live : Store → Bool
+has_live store = nat_le 1 (length (live_rows (gone_of store.catalog) (memory_of store.catalog).content.documents))
+
+-- those of a flush: the two oldest, where there are 16 and one comes behind them
+abbrev pub flush_joins : Store → List Tables
+flush_joins store = cond (length (levels_of store) == 16 && has_live store) (unless_read store.job (take 2 (levels_of store))) []
+
+-- There is nothing to merge: at most one level, no deletion list, and no entry in the journal.
+abbrev pub is_one : Store → Bool
+is_one store = nat_le (length (levels_of store)) 1 && length store.listed.items == 0 && store.tail.place == start_of store.tail.half
+
+-- those of a merge: all, where there is something to merge
+abbrev pub merge_joins : Store → List Tables
+merge_joins store = cond (is_one store) [] (levels_of store)
+
+-- those of a step: the two oldest, where there are two
+abbrev pub step_joins : Store → List Tables
+step_joins store = cond (nat_le 2 (length (levels_of store))) (unless_read store.job (take 2 (levels_of store))) []
+
+abbrev pub joined_by : Store → Task → List Tables
+joined_by store (enters entry) = cond (nat_le (length (body_of entry)) (room_of store)) [] (flush_joins store)
+joined_by store flushes = flush_joins store
+joined_by store merges = merge_joins store
+joined_by store (steps n) = step_joins store
+
+-- ---- what a task makes of what is opened, whatever the streams of its levels are
+
+-- The root is switched to levels of this kind.
+pub record IsRewrite (limit : ℕ) (kind : View → NextLevels → Type 0) (o p : Opened) : Type 0 where
+  pub there : List Level
+  pub have : HaveRows o there
+  pub levels : NextLevels
+  pub kind_is : kind (view_of o there) levels
+  pub ends : Ends
+  pub next : ℕ
+  pub location : ℕ
+  pub given : IsGiven (view_of o there) levels ends next location
+  pub coming : IsComing limit o p levels ends next location
+
+-- all levels stay, and the newest documents come behind them
+abbrev pub AddsNewest : View → NextLevels → Type 0
+AddsNewest view levels = Replaces levels 0 no_content (newest_content view)
+
+-- a join of the two oldest comes in place of them, and the newest documents behind all
+abbrev pub JoinsOldest : View → NextLevels → Type 0
+JoinsOldest view levels = (c : Content) × IsJoin view (map (λ (l : Level). l.content) (take 2 view.levels)) c × Replaces levels 2 c (newest_content view)
+
+-- the join of all levels and the newest documents comes in place of all
+abbrev pub JoinsAll : View → NextLevels → Type 0
+JoinsAll view levels = Replaces levels (length view.levels) (joined_in (all_contents view) (gone view)) no_content
 
 -- there are 16 levels, and one to write
 abbrev pub is_many : View → Bool
 is_many view = length view.levels == 16 && nat_le 1 (length (newest_content view).documents)
 
--- A level more than 16 has no place.
-abbrev pub many : Full
-many = record { need = 17; gap = 16 }
+abbrev pub Flushes : View → NextLevels → Type 0
+Flushes view levels = ((is_many view ≡ false) × AddsNewest view levels) ⊎ ((is_many view ≡ true) × JoinsOldest view levels)
 
--- a flush, which joins no levels yet
-abbrev pub flushed_apart : ℕ → Holding → Result Holding Full
-flushed_apart limit held = cond (length held.view.entries == 0) (Ok held) (cond (is_many held.view) (Err many) (flushed limit held))
-
--- what a task makes of what is held, if no levels are joined
-abbrev pub worked_apart : ℕ → Holding → Task → Result Holding Full
-worked_apart limit held (enters entry) =
-    cond (fits held.view.entries entry) (Ok (entered held entry)) (flushed_apart limit held >>= λ then. Ok (entered then entry))
-worked_apart limit held flushes = flushed_apart limit held
-worked_apart limit held merges = worked limit held merges
-worked_apart limit held (steps n) = worked limit held (steps n)
-
--- ---- the same of what is opened, whatever the streams of its levels are
-
--- Behind a flush an image is opened as before, where the journal has no entry, or else as what the flush makes of it.
+-- Behind a flush an image is opened as before, where the journal has no entry, or else with the newest documents in a level.
 abbrev pub BecomesFlushed : ℕ → Opened → Opened → Type 0
-BecomesFlushed limit o p =
-    ((o.entries ≡ []) × (p ≡ o))
-    ⊎ ((content : Content) × (ends : Ends) × (next : ℕ) × (location : ℕ) × IsGiven (bare_view o) content ends next location × IsComing limit o p ends next location)
+BecomesFlushed limit o p = ((o.entries ≡ []) × (p ≡ o)) ⊎ IsRewrite limit Flushes o p
+
+-- Behind a merge it is opened as before, where there is nothing to merge, or else with one level at most.
+abbrev pub BecomesMerged : ℕ → Opened → Opened → Type 0
+BecomesMerged limit o p = (((nat_le (length o.levels) 1 && length o.deleted == 0 && length o.entries == 0) ≡ true) × (p ≡ o)) ⊎ IsRewrite limit JoinsAll o p
+
+-- Behind a step it is opened as before, or with the two oldest levels joined.
+abbrev pub BecomesStepped : ℕ → Opened → Opened → Type 0
+BecomesStepped limit o p = (p ≡ o) ⊎ IsRewrite limit JoinsOldest o p
 
 -- with an entry more, behind a flush where it does not fit
 abbrev pub BecomesEntered : ℕ → Entry → Opened → Opened → Type 0
@@ -63,8 +124,8 @@ BecomesEntered limit entry o p =
 abbrev pub Becomes : ℕ → Task → Opened → Opened → Type 0
 Becomes limit (enters entry) o p = BecomesEntered limit entry o p
 Becomes limit flushes o p = BecomesFlushed limit o p
-Becomes limit merges o p = ⊥
-Becomes limit (steps n) o p = ⊥
+Becomes limit merges o p = BecomesMerged limit o p
+Becomes limit (steps n) o p = BecomesStepped limit o p
 
 -- no fault refuses
 abbrev pub NoRefusal : StoreFault → Type 0
@@ -72,24 +133,37 @@ NoRefusal fault = ⊥
 
 -- ---- where no place is left
 
--- The image is opened, and a place is wanting: the gap is the greatest beside the extents of the root and others, and the need is above
--- it; or a level more than 16 is needed.
+-- The image is opened, and a place is wanting: the gap is the greatest beside the extents of the root and others, and the need is above it.
 pub record IsNarrow (limit : ℕ) (image : List ℕ) (need gap : ℕ) : Type 0 where
   pub opened : Opened
   pub is : IsOpened opened image
   pub extra : List Extent
-  pub wanting : (IsLongestGap (taken_by opened.root extra) limit gap × (gap < need)) ⊎ ((need ≡ 17) × (gap ≡ 16))
+  pub longest : IsLongestGap (taken_by opened.root extra) limit gap
+  pub short : gap < need
+
+-- ---- what a call may answer
+
+-- why a call that changes the store was not done: an outside cause, a refusal, want of a place, or damage
+abbrev pub IsCause : (StoreFault → Type 0) → StoreFault → Type 0
+IsCause refuses e = IsOutside e ⊎ (refuses e ⊎ (((need : ℕ) × (gap : ℕ) × (e ≡ faults.Full need gap)) ⊎ ((place : ℕ) × (e ≡ faults.Damaged place))))
+
+-- Damage is answered exactly where one of these levels is damaged, with the first; that yields to an outside cause and to a refusal.
+pub record Finds {T : Type 0} (refuses : StoreFault → Type 0) (image : List ℕ) (levels : List Tables) (result : Result T StoreFault) : Type 0 where
+  pub first : (place : ℕ) → result ≡ Err (faults.Damaged place) → IsFirstDamage image levels place
+  pub broken : (place : ℕ) → result ≡ Err (faults.Damaged place) → IsBrokenAmong levels image place
+  pub damaged : (place : ℕ) → IsFirstDamage image levels place → IfOk result (λ x. ⊥) × IfErr result (λ e. (e ≡ faults.Damaged place) ⊎ (IsOutside e ⊎ refuses e))
 
 -- ---- a call that changes the store
 
--- By this work, which turns what is opened so, and makes this of a state. It refuses by these faults, and reads at most so many bytes.
-pub record Changes {T : Type 0} (tells : Type 0) (work : ℕ → Holding → Result Holding Full) (turns : ℕ → Opened → Opened → Type 0) (step : State → State) (refuses : StoreFault → Type 0) (bytes : ℕ) (before after : DiskState) (store later : Store) (result : Result T StoreFault) : Type 0 where
+-- By this work, which turns what is opened so, and makes this of a state. It refuses by these faults; it reads the lists of these levels,
+-- and at most so many bytes beside them.
+pub record Changes {T : Type 0} (tells : Type 0) (work : ℕ → Holding → Result Holding Full) (turns : ℕ → Opened → Opened → Type 0) (step : State → State) (refuses : StoreFault → Type 0) (bytes : ℕ) (joins : List Tables) (before after : DiskState) (store later : Store) (result : Result T StoreFault) : Type 0 where
   -- once it is done, store and disk agree, and the store knows the state after
   pub agrees : OnOk result (Agrees tells after later)
   pub knows : (s : State) → Knows store s → OnOk result (Knows later (step s))
   -- what is held then is what the work makes of it; and a place that is wanting is one that the work wants
-  pub works : (held : Holding) → tells → IsHeld held before.content → OnOk result ((then : Holding) × (work before.limit held ≡ Ok then) × IsHeld then after.content)
-  pub full : (held : Holding) (need gap : ℕ) → tells → IsHeld held before.content → result ≡ Err (faults.Full need gap) → work before.limit held ≡ Err (record { need = need; gap = gap })
+  pub works : (held : Holding) → tells → Has store held before.content → OnOk result ((then : Holding) × (work before.limit held ≡ Ok then) × Has later then after.content)
+  pub full : (held : Holding) (need gap : ℕ) → tells → Has store held before.content → result ≡ Err (faults.Full need gap) → work before.limit held ≡ Err (record { need = need; gap = gap })
   -- at each moment an image stands for the state of before or the one after, and for the latter once it is done
   pub images : (s : State) → (tells → StandsFor s before.content) → LeavesOnly (StandsForEither s (step s)) before after
   pub stands : (s : State) → tells → StandsFor s before.content → OnOk result (StandsFor (step s) after.content)
@@ -97,26 +171,30 @@ pub record Changes {T : Type 0} (tells : Type 0) (work : ℕ → Holding → Res
   pub becomes : (o : Opened) → tells → IsOpened o before.content → OnOk result ((p : Opened) × turns before.limit o p × IsOpened p after.content × Keeps later p)
   -- each error comes from its cause
   pub narrow : (need gap : ℕ) → tells → result ≡ Err (faults.Full need gap) → IsNarrow before.limit after.content need gap
-  pub only : IfErr result (λ e. IsOutside e ⊎ (refuses e ⊎ ((need : ℕ) × (gap : ℕ) × (e ≡ faults.Full need gap))))
+  pub damage : tells → Finds refuses before.content joins result
+  pub undamaged : (s : State) → tells → StandsFor s before.content → (place : ℕ) → result ≡ Err (faults.Damaged place) → ⊥
+  pub unread : tells → joins ≡ [] → (place : ℕ) → result ≡ Err (faults.Damaged place) → ⊥
+  pub still : tells → (place : ℕ) → result ≡ Err (faults.Damaged place) → after.content ≡ before.content
+  pub only : IfErr result (IsCause refuses)
   pub cause : result ≡ Err faults.Disk → Rose before.faults after.faults
-  pub costs : Costs bytes before after
+  pub costs : Costs (bytes + sum_by data_size joins) before after
 
 -- a call that does a task
 abbrev pub Obeys : {T : Type 0} → Type 0 → Task → (State → State) → (StoreFault → Type 0) → DiskState → DiskState → Store → Store → Result T StoreFault → Type 0
 Obeys tells task step refuses before after store later result =
-    Changes tells (λ limit held. worked_apart limit held task) (λ limit o p. Becomes limit task o p) step refuses 1 before after store later result
+    Changes tells (λ limit held. worked limit held task) (λ limit o p. Becomes limit task o p) step refuses 1 (joined_by store task) before after store later result
 
 -- a call that makes room for an entry, by a flush where its record does not fit
 abbrev pub MakesRoom : {T : Type 0} → Type 0 → Entry → DiskState → DiskState → Store → Store → Result T StoreFault → Type 0
 MakesRoom tells entry before after store later result =
-    Changes tells (λ limit held. cond (fits held.view.entries entry) (Ok held) (flushed_apart limit held))
+    Changes tells (λ limit held. cond (fits held.view.entries entry) (Ok held) (flushed limit held))
     (λ limit o p. ((fits o.entries entry ≡ true) × (p ≡ o)) ⊎ ((fits o.entries entry ≡ false) × BecomesFlushed limit o p))
-    (λ s. s) NoRefusal 1 before after store later result
+    (λ s. s) NoRefusal 1 (joined_by store (enters entry)) before after store later result
 
 -- a call that appends an entry
 abbrev pub Enters : {T : Type 0} → Type 0 → Entry → (State → State) → DiskState → DiskState → Store → Store → Result T StoreFault → Type 0
 Enters tells entry step before after store later result =
-    Changes tells (λ limit held. Ok (entered held entry)) (λ limit o p. p ≡ with_entry o entry) step NoRefusal 0 before after store later result
+    Changes tells (λ limit held. Ok (entered held entry)) (λ limit o p. p ≡ with_entry o entry) step NoRefusal 0 [] before after store later result
 
 -- the name is taken, or no number is left
 abbrev pub RefusesAdd : StoreFault → Type 0

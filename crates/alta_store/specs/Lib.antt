@@ -2,4 +2,5 @@ pub mod Agreement
 pub mod Answers
 pub mod Calls
 pub mod Clearing
+pub mod Putting
 pub mod Searched

@@ -1,11 +1,12 @@
 // Why a call of the store was not done.
 ghost use Rattle.std.specs.Prelude.{◌≡◌};
-ghost use Rattle.alta_store.specs.Answers.{of_catalog, of_flush, of_levels, of_opening, of_root};
+ghost use Rattle.alta_store.specs.Answers.{of_catalog, of_join, of_levels, of_opening, of_rewrite, of_root};
 
 use alta_catalog::CatalogFault;
-use alta_flush::FlushFault;
+use alta_joins::JoinFault;
 use alta_journal::OpenFault;
 use alta_opening::OpeningFault;
+use alta_rewrite::RewriteFault;
 use alta_root::RootFault;
 use thiserror::Error;
 
@@ -81,13 +82,24 @@ pub(crate) fn root_fault(fault: RootFault) -> StoreFault
     }
 }
 
-// The fault of a flush.
-pub(crate) fn flush_fault(fault: FlushFault) -> StoreFault
-    ensures { result ≡ of_flush fault }
+// The fault of levels that were not read.
+pub(crate) fn join_fault(fault: JoinFault) -> StoreFault
+    ensures { result ≡ of_join fault }
 {
     match fault {
-        FlushFault::Disk => StoreFault::Disk,
-        FlushFault::Memory => StoreFault::Memory,
-        FlushFault::Full { need, gap } => StoreFault::Full { need, gap },
+        JoinFault::Disk => StoreFault::Disk,
+        JoinFault::Memory => StoreFault::Memory,
+        JoinFault::Damaged(place) => StoreFault::Damaged(place),
+    }
+}
+
+// The fault of a root that was not switched.
+pub(crate) fn rewrite_fault(fault: RewriteFault) -> StoreFault
+    ensures { result ≡ of_rewrite fault }
+{
+    match fault {
+        RewriteFault::Disk => StoreFault::Disk,
+        RewriteFault::Memory => StoreFault::Memory,
+        RewriteFault::Full { need, gap } => StoreFault::Full { need, gap },
     }
 }

@@ -1,11 +1,12 @@
 // The store.
-ghost use Rattle.std.specs.Prelude.{◌≡◌, ◌⊎◌, ◌↔◌, ◌++◌, ◌+◌, ◌-◌, ◌<◌, ◌≤◌, ℕ, List, true, false, length, Result, Ok, Err, Some, IfOk, IfErr, OnOk, OnErr, IsErr, IsTrue, HoldsAt, MatchOption, All};
-ghost use Rattle.alta_catalog.specs.Knowing.{Follows, KnowsBy, levels_of as levels_in};
+ghost use Rattle.std.specs.Prelude.{◌≡◌, ◌==◌, ◌⊎◌, ◌↔◌, ◌++◌, ◌+◌, ◌-◌, ◌<◌, ◌≤◌, ℕ, List, true, false, length, take, Result, Ok, Err, Some, None, IfOk, IfErr, OnOk, OnErr, IsErr, IsTrue, HoldsAt, MatchOption, All};
+ghost use Rattle.alta_catalog.specs.Knowing.{Follows, KnowsBy, gone_of, levels_of as levels_in, memory_of};
 ghost use Rattle.alta_catalog.specs.Names.{AreNames, AreNamesOf};
 ghost use Rattle.alta_catalog.specs.Rows.{MayStart};
 ghost use Rattle.alta_catalog.specs.declared.fault.CatalogFault.TheVariants.{Memory as NoMemory, Damaged as DamagedEntry};
 ghost use Rattle.alta_codec.specs.Faults.{Rose};
 ghost use Rattle.alta_codec.specs.Rising.{IsRising};
+ghost use Rattle.alta_content.specs.Parts.{IsPart};
 ghost use Rattle.alta_content.specs.Rows.{AreDocuments};
 ghost use Rattle.alta_disk.specs.Disk.{DiskState, Same, Only, Passes};
 ghost use Rattle.alta_images.specs.Broken.{IsBrokenAt};
@@ -13,36 +14,47 @@ ghost use Rattle.alta_images.specs.Entries.{AllowsAll, IsRefusedAt, after_entrie
 ghost use Rattle.alta_images.specs.Opened.{Opened, IsOpened, half_of, have_ends, journal_of, known_at, live_in, rows_in};
 ghost use Rattle.alta_images.specs.Ordered.{AreBelow, IsOrdered};
 ghost use Rattle.alta_images.specs.States.{has_name, has_number, number_of, words_in, with_added, with_deleted, without, IsDocument};
-ghost use Rattle.alta_images.specs.Work.{enters, flushes};
+ghost use Rattle.alta_images.specs.Work.{enters, flushes, merges, steps};
+ghost use Rattle.alta_joins.specs.Contents.{StandsOn};
+ghost use Rattle.alta_joins.specs.Jobs.{AreJoinedOn, IsBegun, IsJoining};
 ghost use Rattle.alta_journal.specs.Entry.{IsSound as IsEntry};
 ghost use Rattle.alta_journal.specs.Places.{left_behind, start_of};
 ghost use Rattle.alta_journal.specs.Record.{body_of};
 ghost use Rattle.alta_journal.specs.declared.entry.Entry.{Entry};
 ghost use Rattle.alta_journal.specs.declared.entry.Entry.TheVariants.{Add, Delete};
 ghost use Rattle.alta_journal.specs.declared.places.TheConstants.{HALF_BYTES, HEAD_BYTES};
+ghost use Rattle.alta_memlevel.specs.Added.{Added, HasContent, live_of};
+ghost use Rattle.alta_memlevel.specs.Documents.{AreMade, content_of};
+ghost use Rattle.alta_merge.specs.Merging.{Merging};
 ghost use Rattle.alta_meta.specs.declared.document.State.{State};
 ghost use Rattle.alta_opening.specs.Costs.{named_bytes};
+ghost use Rattle.alta_rewrite.specs.Rewrites.{no_content};
 ghost use Rattle.alta_root.specs.Root.{IsSound};
 ghost use Rattle.alta_root.specs.Slots.{Counts, HasNoRoot};
 ghost use Rattle.alta_root.specs.declared.root.Root.{Root};
 ghost use Rattle.alta_root.specs.declared.slot.Slot.{Slot};
 ghost use Rattle.alta_store.specs.Agreement.{Agrees, HasNoEntry, Holds, IsIntact, Keeps, is_sound, room_of};
 ghost use Rattle.alta_store.specs.Answers.{IsOutside, AnswersFault};
-ghost use Rattle.alta_store.specs.Calls.{Enters, MakesRoom, NoRefusal, Obeys, RefusesAdd};
+ghost use Rattle.alta_store.specs.Calls.{Enters, MakesRoom, NoRefusal, Obeys, RefusesAdd, is_one, unless_read};
+ghost use Rattle.alta_store.specs.Putting.{IsDrained, MayPut, Puts, ReadsLevels};
 ghost use Rattle.alta_store.specs.Searched.{IsSearched};
-ghost use Rattle.alta_store.specs.declared.fault.StoreFault.TheVariants.{Disk as DiskFault, NoRoot, Damaged, Taken, Missing, Numbers};
+ghost use Rattle.alta_store.specs.declared.fault.StoreFault.TheVariants.{Disk as DiskFault, Memory as MemoryFault, NoRoot, Damaged, Taken, Missing, Numbers};
 
 use crate::StoreFault;
-use crate::fault::{catalog_fault, flush_fault, levels_fault, opening_fault, root_fault};
+use crate::fault::{
+    catalog_fault, join_fault, levels_fault, opening_fault, rewrite_fault, root_fault,
+};
 use alta_catalog::{Catalog, CatalogFault, Names, apply_entries, what_is_gone};
 use alta_codec::{Loc, Text};
+use alta_content::{Content, DocRows, TermLists};
 use alta_disk::Disk;
-use alta_flush::{Ends, flush};
+use alta_joins::{Job, begin_oldest, finish_job, merge_levels, run_job, step_job};
 use alta_journal::{
     Entry, HALF_BYTES, Half, JournalFault, Placed, Ready, Tail, append, ready, replay,
 };
-use alta_memlevel::MemLevel;
+use alta_memlevel::{MemLevel, drained_documents_are_kept};
 use alta_opening::{OpenLevels, open_levels};
+use alta_rewrite::{Ends, NextLevels, rewrite};
 use alta_root::{Root, Slot, read_roots};
 use alta_rows::AllRows;
 use alta_table::Table;
@@ -54,7 +66,10 @@ const ADD_BYTES: u64 = 15;
 
 const DELETE_BYTES: u64 = 14;
 
-/// What is known of the documents of an index, the root that counts, and where its journal goes on.
+// How many levels a root has at most.
+const LEVELS: usize = 16;
+
+/// What is known of the documents of an index, the root that counts, where its journal goes on, and a join of its two oldest levels.
 #[derive(Drop)]
 pub struct Store {
     alloc: Global,
@@ -64,6 +79,8 @@ pub struct Store {
     listed: Vec<Loc>,
     tail: Tail,
     catalog: Catalog,
+    // A join of the two oldest levels that goes on.
+    job: Option<Job>,
     sound: bool,
 }
 
@@ -80,7 +97,7 @@ pub struct Sources<'a> {
 impl Store {
     ghost use Rattle.alta_store.specs.Agreement.{Agrees, Knows, is_sound, levels_of, room_of};
 
-    /// Whether the store may be used: false after an error of the disk, of memory, or for want of room.
+    /// Whether the store may be used: false after an error of the disk, of memory, for want of room, or of a damaged level.
     pub fn sound(&self) -> bool
         ensures { result ≡ is_sound self.now }
     {
@@ -134,7 +151,7 @@ impl Store {
     /// Opens the index of a disk: one sync, then both slots; then what the root that counts names, in the order of [`open_levels`]: its
     /// deletion list, its levels, the one against the other; then the journal's records of the half that the root uses, by themselves,
     /// then their entries against the documents before them. No stream or summary is read. The store then goes on with what the content
-    /// is opened as, and nothing is pending.
+    /// is opened as, nothing is pending, and no join of levels goes on.
     ///
     /// # Errors
     ///
@@ -144,6 +161,7 @@ impl Store {
     pub fn open<D: Disk>(alloc: Global, disk: &mut D) -> Result<Store, StoreFault>
         ensures agrees { IfOk result (λ store. Agrees D.tells (D.state disk.new) store) }
         ensures sound { IfOk result (λ store. is_sound store ≡ true) }
+        ensures job { IfOk result (λ store. store.job ≡ None) }
         ensures limit { OnOk result (HEAD_BYTES ≤ (D.state disk.new).limit) }
 
         ensures opened { (o : Opened) → D.tells → IsOpened o (D.state disk.old).content → IfErr result IsOutside }
@@ -177,8 +195,8 @@ impl Store {
     /// # Errors
     ///
     /// `Taken` exactly where a live document has the name, else `Numbers` exactly where no number is left; then nothing was
-    /// called and nothing has changed. `Full` where a flush comes first and has no place, `Disk` where a call of the disk
-    /// failed, and `Memory`: then the store may no longer be used.
+    /// called and nothing has changed. `Full` and `Damaged` where a flush comes first, as [`flush`](Store::flush) answers them, `Disk` where
+    /// a call of the disk failed, and `Memory`: then the store may no longer be used.
     pub fn add<D: Disk>(
         &mut self,
         disk: &mut D,
@@ -275,8 +293,9 @@ impl Store {
     ///
     /// # Errors
     ///
-    /// `Missing` exactly where no live document has the name; then nothing was called and nothing has changed. `Full` where a flush
-    /// comes first and has no place, `Disk` where a call of the disk failed, and `Memory`: then the store may no longer be used.
+    /// `Missing` exactly where no live document has the name; then nothing was called and nothing has changed. `Full` and `Damaged` where a
+    /// flush comes first, as [`flush`](Store::flush) answers them, `Disk` where a call of the disk failed, and `Memory`: then the store may
+    /// no longer be used.
     pub fn delete<D: Disk>(&mut self, disk: &mut D, name: &str) -> Result<u64, StoreFault>
         requires sound { is_sound self.old ≡ true }
         requires agrees { Agrees D.tells (D.state disk.old) self.old }
@@ -343,14 +362,15 @@ impl Store {
     }
 
     /// Makes the live newest documents a level, behind the others, at the first gap that holds it, writes the deletion list where it has
-    /// changed, and switches the root; the journal is empty then. With an empty journal nothing is done, and no disk is called. While it
-    /// runs, and when it has answered, each image that a stop may leave stands for the state of before.
+    /// changed, and switches the root; the journal is empty then. Where there are 16 levels and one to write, the two oldest are joined in
+    /// the same switch: by the join that goes on, which ends so, or by one of its own. With an empty journal nothing is done, and no disk
+    /// is called. While it runs, and when it has answered, each image that a stop may leave stands for the state of before.
     ///
     /// # Errors
     ///
-    /// `Full` where no gap below the disk's limit holds the level or the list, with the bytes that are needed and the greatest gap; or
-    /// where there are 16 levels and one to write, with 17 and 16. `Disk` where a call of the disk failed, and `Memory`. Then the store
-    /// may no longer be used.
+    /// `Full` where no gap below the disk's limit holds a level or the list, with the bytes that are needed and the greatest gap. `Damaged`
+    /// exactly where one of two levels that are read has a fault, with the first. `Disk` where a call of the disk failed, and `Memory`. Then
+    /// the store may no longer be used.
     pub fn flush<D: Disk>(&mut self, disk: &mut D) -> Result<(), StoreFault>
         requires sound { is_sound self.old ≡ true }
         requires agrees { Agrees D.tells (D.state disk.old) self.old }
@@ -361,13 +381,84 @@ impl Store {
         ensures sound { OnOk result (is_sound self.new ≡ true) }
         ensures unsound { OnErr result (is_sound self.new ≡ false) }
     {
-        if self.tail.place == self.tail.half.start() {
+        if self.has_no_entry() {
             return Ok(());
         }
         match self.put_newest(disk) {
             Ok(()) => Ok(()),
             Err(fault) => Err(self.failed(fault)),
         }
+    }
+
+    /// Joins all levels and the newest documents to one level, without the documents that are gone, and switches the root to it; the journal
+    /// is empty then, and no end is deleted. A join that goes on is given up. Each level is read once, and one segment is written. With at
+    /// most one level, no deletion list and an empty journal nothing is done, and no disk is called. While it runs, and when it has
+    /// answered, each image that a stop may leave stands for the state of before.
+    ///
+    /// # Errors
+    ///
+    /// `Full` where no gap below the disk's limit holds the level, with the bytes that are needed and the greatest gap. `Damaged` exactly
+    /// where a level has a fault, with the first of the oldest one that has any. `Disk` where a call of the disk failed, and `Memory`. Then
+    /// the store may no longer be used.
+    pub fn merge<D: Disk>(&mut self, disk: &mut D) -> Result<(), StoreFault>
+        requires sound { is_sound self.old ≡ true }
+        requires agrees { Agrees D.tells (D.state disk.old) self.old }
+        requires limit { HEAD_BYTES ≤ (D.state disk.old).limit }
+
+        ensures obeys { Obeys D.tells merges (λ s. s) NoRefusal (D.state disk.old) (D.state disk.new) self.old self.new result }
+        ensures idle { is_one self.old ≡ true → (result ≡ Ok tt) × (disk.new ≡ disk.old) × (self.new ≡ self.old) }
+        ensures sound { OnOk result (is_sound self.new ≡ true) }
+        ensures unsound { OnErr result (is_sound self.new ≡ false) }
+    {
+        if self.is_one() {
+            return Ok(());
+        }
+        match self.put_merged(disk) {
+            Ok(()) => Ok(()),
+            Err(fault) => Err(self.failed(fault)),
+        }
+    }
+
+    /// Moves the join of the two oldest levels on by `n` terms, or by all that are left; where none goes on, one begins, which reads both
+    /// levels and leaves out the documents that are gone now. Where no term is left, the root is switched to their join in place of both, and
+    /// to the newest documents behind all levels, as a [`flush`](Store::flush) does. With fewer than two levels nothing is done, and no disk
+    /// is called. While it runs, and when it has answered, each image that a stop may leave stands for the state of before. A join that
+    /// goes on is not on the disk.
+    ///
+    /// # Errors
+    ///
+    /// As [`flush`](Store::flush).
+    pub fn step<D: Disk>(&mut self, disk: &mut D, n: u64) -> Result<(), StoreFault>
+        requires sound { is_sound self.old ≡ true }
+        requires agrees { Agrees D.tells (D.state disk.old) self.old }
+        requires limit { HEAD_BYTES ≤ (D.state disk.old).limit }
+
+        ensures obeys { Obeys D.tells (steps n) (λ s. s) NoRefusal (D.state disk.old) (D.state disk.new) self.old self.new result }
+        ensures idle { length (levels_of self.old) < 2 → (result ≡ Ok tt) × (disk.new ≡ disk.old) × (self.new ≡ self.old) }
+        ensures sound { OnOk result (is_sound self.new ≡ true) }
+        ensures unsound { OnErr result (is_sound self.new ≡ false) }
+    {
+        if self.root.levels.len() < 2 {
+            return Ok(());
+        }
+        match self.move_join(disk, n) {
+            Ok(()) => Ok(()),
+            Err(fault) => Err(self.failed(fault)),
+        }
+    }
+
+    // Whether the journal has no entry.
+    fn has_no_entry(&self) -> bool
+        ensures { result ≡ (self.now.tail.place == start_of self.now.tail.half) }
+    {
+        self.tail.place == self.tail.half.start()
+    }
+
+    // Whether there is nothing to merge.
+    fn is_one(&self) -> bool
+        ensures { result ≡ is_one self.now }
+    {
+        self.catalog.levels().len() <= 1 && self.listed.is_empty() && self.has_no_entry()
     }
 
     // Makes room in the journal for a record of so many bytes behind its gate: by a flush, where it does not fit.
@@ -386,6 +477,8 @@ impl Store {
         self.put_newest(disk)
     }
 
+    // ---- the three tasks
+
     // A flush of a journal that has an entry.
     fn put_newest<D: Disk>(&mut self, disk: &mut D) -> Result<(), StoreFault>
         requires agrees { Agrees D.tells (D.state disk.old) self.old }
@@ -396,38 +489,206 @@ impl Store {
         ensures none { OnOk result (HasNoEntry self.new) }
         ensures sound { OnOk result (is_sound self.new ≡ is_sound self.old) }
     {
+        let newest = match self.drain() {
+            Ok(newest) => newest,
+            Err(fault) => return Err(fault),
+        };
+        if self.root.levels.len() < LEVELS || newest.documents.len() == 0 {
+            let nothing = no_content(self.alloc);
+            let levels = NextLevels {
+                oldest: &nothing,
+                stay_from: 0,
+                newest: &newest,
+            };
+            return self.put(disk, levels);
+        }
+        let oldest = match self.join_oldest(disk) {
+            Ok(oldest) => oldest,
+            Err(fault) => return Err(fault),
+        };
+        let levels = NextLevels {
+            oldest: &oldest,
+            stay_from: 2,
+            newest: &newest,
+        };
+        self.put(disk, levels)
+    }
+
+    // A merge where there is something to merge.
+    fn put_merged<D: Disk>(&mut self, disk: &mut D) -> Result<(), StoreFault>
+        requires agrees { Agrees D.tells (D.state disk.old) self.old }
+        requires some { is_one self.old ≡ false }
+        requires limit { HEAD_BYTES ≤ (D.state disk.old).limit }
+
+        ensures obeys { Obeys D.tells merges (λ s. s) NoRefusal (D.state disk.old) (D.state disk.new) self.old self.new result }
+        ensures sound { OnOk result (is_sound self.new ≡ is_sound self.old) }
+    {
+        self.job = None;
+        let newest = match self.drain() {
+            Ok(newest) => newest,
+            Err(fault) => return Err(fault),
+        };
+        let levels = self.catalog.levels();
+        let stay_from = levels.len();
+        let gone = self.catalog.gone();
+        let oldest = match merge_levels(self.alloc, disk, levels, newest, gone) {
+            Ok(oldest) => oldest,
+            Err(fault) => return Err(join_fault(fault)),
+        };
+        let nothing = no_content(self.alloc);
+        let levels = NextLevels {
+            oldest: &oldest,
+            stay_from,
+            newest: &nothing,
+        };
+        self.put(disk, levels)
+    }
+
+    // A step over two levels at least.
+    fn move_join<D: Disk>(&mut self, disk: &mut D, n: u64) -> Result<(), StoreFault>
+        requires agrees { Agrees D.tells (D.state disk.old) self.old }
+        requires two { 2 ≤ length (levels_of self.old) }
+        requires few { length (levels_of self.old) ≤ 16 }
+        requires limit { HEAD_BYTES ≤ (D.state disk.old).limit }
+
+        ensures obeys { Obeys D.tells (steps n) (λ s. s) NoRefusal (D.state disk.old) (D.state disk.new) self.old self.new result }
+        ensures sound { OnOk result (is_sound self.new ≡ is_sound self.old) }
+    {
+        let mut job = match self.take_join(disk) {
+            Ok(job) => job,
+            Err(fault) => return Err(fault),
+        };
+        match step_job(&mut job, n) {
+            Ok(true) => {}
+            Ok(false) => {
+                self.job = Some(job);
+                return Ok(());
+            }
+            Err(_) => return Err(StoreFault::Memory),
+        }
+        let oldest = finish_job(job);
+        let newest = match self.drain() {
+            Ok(newest) => newest,
+            Err(fault) => return Err(fault),
+        };
+        let levels = NextLevels {
+            oldest: &oldest,
+            stay_from: 2,
+            newest: &newest,
+        };
+        self.put(disk, levels)
+    }
+
+    // ---- their parts
+
+    // Takes the live ones of the newest documents out.
+    fn drain(&mut self) -> Result<Content, StoreFault>
+        requires sound { IsTrue (memory_of self.old.catalog).sound }
+        requires added { (added : List Added) × HasContent added (memory_of self.old.catalog).content × AreMade added }
+        ensures drained { IsDrained self.old self.new }
+        ensures job { self.new.job ≡ self.old.job }
+        ensures content { (added : List Added) → HasContent added (memory_of self.old.catalog).content → AreMade added
+            → IfOk result (λ newest. newest ≡ content_of (live_of (gone_of self.old.catalog) added)) }
+        ensures part { IfOk result IsPart }
+        ensures memory { IfErr result (λ e. e ≡ MemoryFault) }
+    {
+        drained_documents_are_kept();
+        let mut newest = self.catalog.take_newest();
+        match newest.drain_content(self.catalog.gone()) {
+            Ok(content) => Ok(content),
+            Err(_) => Err(StoreFault::Memory),
+        }
+    }
+
+    // The join of the two oldest levels that goes on, taken out, or one that begins.
+    fn take_join<D: Disk>(&mut self, disk: &mut D) -> Result<Job, StoreFault>
+        requires two { 2 ≤ length (levels_of self.old) }
+        requires documents { AreDocuments (rows_in (levels_of self.old)) }
+        requires stands { D.tells → All (StandsOn (D.state disk.old).content) (levels_of self.old) }
+        ensures goes_on { (merging : Merging) → self.old.job ≡ Some merging → result ≡ Ok merging }
+        ensures begins { self.old.job ≡ None → IfOk result (λ job. (joining : IsJoining (levels_of self.old) (gone_of self.old.catalog) job) × IsBegun joining
+            × (D.tells → AreJoinedOn (D.state disk.old).content joining)) }
+        ensures reads { ReadsLevels D.tells (unless_read self.old.job (take 2 (levels_of self.old))) (D.state disk.old) (D.state disk.new) result }
+        ensures taken { self.new ≡ record self.old { job = None } }
+    {
+        let goes_on = self.job.take();
+        if let Some(job) = goes_on {
+            return Ok(job);
+        }
+        match begin_oldest(self.alloc, disk, self.catalog.levels(), self.catalog.gone()) {
+            Ok(job) => Ok(job),
+            Err(fault) => Err(join_fault(fault)),
+        }
+    }
+
+    // What the join of the two oldest levels comes to.
+    fn join_oldest<D: Disk>(&mut self, disk: &mut D) -> Result<Content, StoreFault>
+        requires two { 2 ≤ length (levels_of self.old) }
+        requires documents { AreDocuments (rows_in (levels_of self.old)) }
+        requires stands { D.tells → All (StandsOn (D.state disk.old).content) (levels_of self.old) }
+        ensures goes_on { (merging : Merging) → self.old.job ≡ Some merging → IfOk result (λ content. content ≡ merging.whole) }
+        ensures begins { self.old.job ≡ None → IfOk result (λ content. (merging : Merging) × (joining : IsJoining (levels_of self.old) (gone_of self.old.catalog) merging) × IsBegun joining
+            × (D.tells → AreJoinedOn (D.state disk.old).content joining) × (content ≡ merging.whole)) }
+        ensures reads { ReadsLevels D.tells (unless_read self.old.job (take 2 (levels_of self.old))) (D.state disk.old) (D.state disk.new) result }
+        ensures taken { self.new ≡ record self.old { job = None } }
+    {
+        let mut job = match self.take_join(disk) {
+            Ok(job) => job,
+            Err(fault) => return Err(fault),
+        };
+        match run_job(&mut job) {
+            Ok(()) => Ok(finish_job(job)),
+            Err(_) => Err(StoreFault::Memory),
+        }
+    }
+
+    // Switches the root to other levels. The newest documents were taken out, and the live ones stand in these levels. All memory is
+    // taken before the first write.
+    fn put<D: Disk>(&mut self, disk: &mut D, levels: NextLevels<'_>) -> Result<(), StoreFault>
+        requires may { (before : Store) × MayPut D.tells (D.state disk.old) before self.old levels }
+        requires limit { HEAD_BYTES ≤ (D.state disk.old).limit }
+
+        ensures puts { (before : Store) → MayPut D.tells (D.state disk.old) before self.old levels.entry → Puts D.tells levels.entry (D.state disk.old) (D.state disk.new) before self.new result }
+        ensures none { OnOk result (HasNoEntry self.new) }
+        ensures job { OnOk result (self.new.job ≡ self.old.job) }
+        ensures sound { OnOk result (is_sound self.new ≡ is_sound self.old) }
+    {
         what_is_gone();
-        let Ok(deleted) = self.catalog.gone_below(self.alloc, self.root.next_location) else {
+        let oldest = levels.oldest.documents.as_slice();
+        let newest = levels.newest.documents.as_slice();
+        let Ok(prepared) = self.catalog.prepare(oldest, levels.stay_from, newest) else {
+            return Err(StoreFault::Memory);
+        };
+        let Ok(deleted) = Vec::from_slice(self.alloc, prepared.deleted()) else {
             return Err(StoreFault::Memory);
         };
         let (next, location) = self.catalog.bounds();
-        let mut newest = self.catalog.take_newest();
         let ends = Ends {
             listed: &self.listed,
             deleted: &deleted,
-            gone: self.catalog.gone(),
         };
-        let done = match flush(
-            self.alloc,
-            disk,
-            self.slot,
-            &self.root,
-            ends,
-            &mut newest,
-            next,
-            location,
+        let done = match rewrite(
+            self.alloc, disk, self.slot, &self.root, levels, ends, next, location,
         ) {
             Ok(done) => done,
-            Err(fault) => return Err(flush_fault(fault)),
+            Err(fault) => return Err(rewrite_fault(fault)),
         };
-        let Ok(()) = self.catalog.put_level(done.level, &deleted) else {
-            return Err(StoreFault::Memory);
-        };
+        self.catalog.put_levels(prepared, done.oldest, done.newest);
         self.tail = tail_of(done.slot);
         self.slot = done.slot;
         self.root = done.root;
         self.listed = deleted;
         Ok(())
+    }
+}
+
+// A content without documents.
+fn no_content(alloc: Global) -> Content
+    ensures { result ≡ no_content }
+{
+    Content {
+        documents: DocRows::new(alloc),
+        lists: TermLists::new(alloc),
     }
 }
 
@@ -492,6 +753,7 @@ fn load<D: Disk>(alloc: Global, disk: &mut D) -> Result<Store, StoreFault>
     ensures loaded { IfOk result (λ store. D.tells → Holds store (D.state disk.old).content) }
     ensures intact { IfOk result IsIntact }
     ensures sound { IfOk result (λ store. is_sound store ≡ true) }
+    ensures job { IfOk result (λ store. store.job ≡ None) }
     ensures limit { OnOk result (HEAD_BYTES ≤ (D.state disk.old).limit) }
     ensures no_root { D.tells → result ≡ Err NoRoot → HasNoRoot (D.state disk.old).content }
     ensures damaged { D.tells → (place : ℕ) → result ≡ Err (Damaged place) → IsBrokenAt (D.state disk.old).content place }
@@ -529,6 +791,7 @@ fn load<D: Disk>(alloc: Global, disk: &mut D) -> Result<Store, StoreFault>
             listed,
             tail,
             catalog,
+            job: None,
             sound: true,
         }),
         Err(fault) => Err(catalog_fault(fault)),

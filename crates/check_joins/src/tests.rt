@@ -1,16 +1,21 @@
 // Levels of a disk, read and joined.
-ghost use Rattle.std.specs.Prelude.{IfOk};
+ghost use Rattle.std.specs.Prelude.{◌≤◌, All, IfOk};
 ghost use Rattle.alta_content.specs.Parts.{IsPart, MayJoin};
+ghost use Rattle.alta_content.specs.Rows.{AreDocuments};
+ghost use Rattle.alta_disk.specs.Memory.{memory_state};
+ghost use Rattle.alta_images.specs.Opened.{rows_in};
+ghost use Rattle.alta_images.specs.Ordered.{AreBelow};
+ghost use Rattle.alta_joins.specs.Contents.{StandsOn};
 
-use alta_content::Content;
+use alta_content::{Content, DocRows, TermLists};
 use alta_disk::MemoryDisk;
 use alta_joins::{
-    JoinFault, begin_job, finish_job, join_levels, joins_are_levels, read_levels,
-    read_levels_are_opened, step_job,
+    Job, JoinFault, begin_oldest, finish_job, join_levels, joins_are_levels, joins_go_on,
+    merge_levels, read_levels, read_levels_are_opened, step_job,
 };
 use alta_level::build;
-use alta_opening::open_levels;
-use alta_root::read_roots;
+use alta_opening::{OpenLevels, open_levels};
+use alta_root::{Root, read_roots};
 use std::alloc::{AllocError, Global};
 use std::test::Fail;
 
@@ -62,9 +67,20 @@ fn image_of(alloc: Global, changes: &[(usize, u8)]) -> Result<Vec<u8>, AllocErro
     Ok(image)
 }
 
-// The contents of both levels of a disk whose calls with these numbers, from 1, fail.
-fn read(alloc: Global, image: Vec<u8>, fail: Vec<u64>) -> Result<Vec<Content>, JoinFault>
-    ensures { IfOk result (λ contents. MayJoin contents.items) }
+// A disk, the root that counts and the tables of its levels.
+#[derive(Drop)]
+struct Opening {
+    disk: MemoryDisk,
+    root: Root,
+    found: OpenLevels,
+}
+
+// A disk whose calls with these numbers, from 1, fail.
+fn opened(alloc: Global, image: Vec<u8>, fail: Vec<u64>) -> Result<Opening, JoinFault>
+    ensures stand { IfOk result (λ o. All (StandsOn (memory_state o.disk).content) o.found.levels.items) }
+    ensures documents { IfOk result (λ o. AreDocuments (rows_in o.found.levels.items)) }
+    ensures below { IfOk result (λ o. AreBelow o.root (rows_in o.found.levels.items)) }
+    ensures positive { IfOk result (λ o. (1 ≤ o.root.next_number) × (1 ≤ o.root.next_location)) }
 {
     read_levels_are_opened();
     let limit = image.len() as u64;
@@ -72,10 +88,22 @@ fn read(alloc: Global, image: Vec<u8>, fail: Vec<u64>) -> Result<Vec<Content>, J
     let Ok(roots) = read_roots(&mut disk) else {
         return Err(JoinFault::Damaged(0));
     };
-    let Ok(found) = open_levels(alloc, &mut disk, &roots.root) else {
-        return Err(JoinFault::Damaged(1));
-    };
-    read_levels(alloc, &mut disk, &found.levels)
+    match open_levels(alloc, &mut disk, &roots.root) {
+        Ok(found) => Ok(Opening {
+            disk,
+            root: roots.root,
+            found,
+        }),
+        Err(_fault) => Err(JoinFault::Damaged(1)),
+    }
+}
+
+// The contents of both levels.
+fn read(alloc: Global, image: Vec<u8>, fail: Vec<u64>) -> Result<Vec<Content>, JoinFault>
+    ensures { IfOk result (λ contents. MayJoin contents.items) }
+{
+    let mut opening = opened(alloc, image, fail)?;
+    read_levels(alloc, &mut opening.disk, &opening.found.levels)
 }
 
 fn count(alloc: Global, changes: &[(usize, u8)], fail: Vec<u64>) -> Result<usize, JoinFault> {
@@ -103,19 +131,47 @@ fn joined(alloc: Global, dead: &[u64]) -> Result<Vec<u8>, JoinFault> {
     Ok(segment(alloc, &content)?)
 }
 
+// The join of both levels as it begins, without what is dead.
+fn begun(alloc: Global, dead: &[u64]) -> Result<Job, JoinFault>
+    ensures { IfOk result (λ job. IsPart job.whole) }
+{
+    joins_go_on();
+    let image = image_of(alloc, &[])?;
+    let mut opening = opened(alloc, image, Vec::new(alloc))?;
+    if opening.found.levels.len() < 2 {
+        return Err(JoinFault::Damaged(2));
+    }
+    Ok(begin_oldest(alloc, &mut opening.disk, &opening.found.levels, dead)?)
+}
+
 // The same in steps of one term, and in how many.
 fn stepped(alloc: Global, dead: &[u64]) -> Result<(Vec<u8>, u64), JoinFault> {
-    joins_are_levels();
-    let image = image_of(alloc, &[])?;
-    let contents = read(alloc, image, Vec::new(alloc))?;
-    let mut job = begin_job(alloc, contents, dead)?;
+    let mut job = begun(alloc, dead)?;
     for steps in 1..100u64 {
         if step_job(&mut job, 1)? {
             let content = finish_job(job);
             return Ok((segment(alloc, &content)?, steps));
         }
     }
-    Err(JoinFault::Damaged(2))
+    Err(JoinFault::Damaged(3))
+}
+
+// The segment of all levels merged, with no documents behind them.
+fn merged(alloc: Global, dead: &[u64]) -> Result<Vec<u8>, JoinFault> {
+    let image = image_of(alloc, &[])?;
+    let mut opening = opened(alloc, image, Vec::new(alloc))?;
+    let newest = Content {
+        documents: DocRows::from_vec(Vec::new(alloc)),
+        lists: TermLists::from_vec(Vec::new(alloc)),
+    };
+    let content = merge_levels(
+        alloc,
+        &mut opening.disk,
+        &opening.found.levels,
+        newest,
+        dead,
+    )?;
+    Ok(segment(alloc, &content)?)
 }
 
 #[test]
@@ -159,7 +215,7 @@ fn each_read_may_fail(rt: HostRuntime) -> Result<(), Fail> {
 }
 
 #[test]
-fn levels_are_joined_at_once_and_in_steps(rt: HostRuntime) -> Result<(), Fail> {
+fn levels_are_joined_at_once_and_in_steps_and_merged(rt: HostRuntime) -> Result<(), Fail> {
     let alloc = rt.alloc();
     let rows: [(&[u64], &[u8], u64); 4] = [
         (&[], BOTH, 11),
@@ -169,6 +225,7 @@ fn levels_are_joined_at_once_and_in_steps(rt: HostRuntime) -> Result<(), Fail> {
     ];
     for (dead, want, steps) in rows {
         assert_eq!(rt; joined(alloc, dead)?.as_slice(), want);
+        assert_eq!(rt; merged(alloc, dead)?.as_slice(), want);
         let (segment, taken) = stepped(alloc, dead)?;
         assert_eq!(rt; segment.as_slice(), want);
         assert_eq!(rt; taken, steps);

@@ -38,12 +38,16 @@ fn call<D: Disk>(
     Ok((status, console.given().to_vec(alloc)?))
 }
 
-// A disk with this content and nothing pending.
-fn disk_of(alloc: Global, content: Vec<u8>) -> Result<MemoryDisk, Fail> {
-    if content.len() as u64 > LIMIT {
+// A disk with this content and limit, and nothing pending.
+fn disk_within(alloc: Global, content: Vec<u8>, limit: u64) -> Result<MemoryDisk, Fail> {
+    if content.len() as u64 > limit || limit > LIMIT {
         return Err("the content is too long".into());
     }
-    Ok(MemoryDisk::new(alloc, content, LIMIT, Vec::new(alloc)))
+    Ok(MemoryDisk::new(alloc, content, limit, Vec::new(alloc)))
+}
+
+fn disk_of(alloc: Global, content: Vec<u8>) -> Result<MemoryDisk, Fail> {
+    disk_within(alloc, content, LIMIT)
 }
 
 // The content of a disk with an index without documents, with these bytes in place of its own.
@@ -157,5 +161,266 @@ fn a_fault_behind_a_flush_keeps_it(rt: HostRuntime) -> Result<(), Fail> {
         }
     }
     assert!(rt; flushed);
+    Ok(())
+}
+
+// Opening makes five calls, and a line with nothing to do none.
+#[test]
+fn nothing_to_do_calls_no_disk(rt: HostRuntime) -> Result<(), Fail> {
+    let alloc = rt.alloc();
+    let mut fuse = FuseDisk::new(disk_of(alloc, content_with(alloc, &[])?)?, 5);
+    let lines = b"merge\nstep 1\nflush\nstats\n";
+    let (status, given) = call(alloc, &mut fuse, "run", lines, &[])?;
+    assert_eq!(rt; status, Status::Done);
+    assert_eq!(rt;
+        given.as_slice(),
+        b"ok\nok\nok\ndocuments 0 words 0 next 1\n".as_slice()
+    );
+    Ok(())
+}
+
+// The levels of both documents have 126 and 117 bytes, and end at 2,105,587. Their join has 164, and a third level 85.
+#[test]
+fn levels_want_a_place(rt: HostRuntime) -> Result<(), Fail> {
+    let alloc = rt.alloc();
+    let content = content_with(alloc, &[])?;
+    let levels = "add a\tRed Fox\tthe quick red fox\nflush\nadd b\tFox\tquick brown dog\nflush\n";
+    // What comes behind the two levels, the limit of the disk, the status, and how many lines are answered.
+    let rows: [(&str, u64, Status, usize); 11] = [
+        ("", 2_105_344, Status::Full { need: 126, gap: 0 }, 1),
+        (
+            "",
+            2_105_586,
+            Status::Full {
+                need: 117,
+                gap: 116,
+            },
+            3,
+        ),
+        ("", 2_105_587, Status::Done, 4),
+        (
+            "merge\n",
+            2_105_750,
+            Status::Full {
+                need: 164,
+                gap: 163,
+            },
+            4,
+        ),
+        ("merge\n", 2_105_751, Status::Done, 5),
+        (
+            "step 13\n",
+            2_105_750,
+            Status::Full {
+                need: 164,
+                gap: 163,
+            },
+            4,
+        ),
+        ("step 12\n", 2_105_587, Status::Done, 5),
+        (
+            "add c\t\tred dog\nstep 13\n",
+            2_105_835,
+            Status::Full { need: 85, gap: 84 },
+            5,
+        ),
+        ("add c\t\tred dog\nstep 13\n", 2_105_836, Status::Done, 6),
+        (
+            "delete a\nflush\n",
+            2_105_587,
+            Status::Full { need: 1, gap: 0 },
+            5,
+        ),
+        // The join stands where the first level stood, which one before it has left.
+        (
+            "merge\ndelete b\nmerge\nadd b\t\tred\nmerge\n",
+            2_105_751,
+            Status::Done,
+            9,
+        ),
+    ];
+    for (lines, limit, want, answered) in rows {
+        let input = format!(in alloc; "{levels}{lines}")?;
+        let mut disk = disk_within(alloc, content.to_vec(alloc)?, limit)?;
+        let (status, given) = call(alloc, &mut disk, "run", input.as_bytes(), &[])?;
+        assert_eq!(rt; status, want, "{lines} within {limit}");
+        let pieces = given.as_slice().split(|byte| *byte == b'\n').count();
+        assert_eq!(rt;
+            pieces,
+            answered.saturating_add(1),
+            "{lines} within {limit}"
+        );
+    }
+    Ok(())
+}
+
+// The content of a disk after these lines on a new index.
+fn left_by(alloc: Global, lines: &[u8]) -> Result<Vec<u8>, Fail> {
+    let mut disk = disk_of(alloc, content_with(alloc, &[])?)?;
+    match call(alloc, &mut disk, "run", lines, &[])?.0 {
+        Status::Done => Ok(disk.image(alloc, 0)?),
+        _ => Err("the run did not end with status 0".into()),
+    }
+}
+
+// The status of a run over a content with these bytes in place of its own, and what was given.
+fn answer_with(
+    alloc: Global,
+    content: &[u8],
+    at: usize,
+    bytes: &[u8],
+    lines: &[u8],
+) -> Result<(Status, Vec<u8>), Fail> {
+    let mut changed = content.to_vec(alloc)?;
+    for (i, byte) in bytes.iter().enumerate() {
+        if let Some(place) = changed.get_mut(at.wrapping_add(i)) {
+            *place = *byte;
+        }
+    }
+    call(alloc, &mut disk_of(alloc, changed)?, "run", lines, &[])
+}
+
+// The level of one document stands at 2,105,344: its row at 32, its terms from 37 on, and its lists from 114 on. The slot that
+// counts is the second.
+#[test]
+fn damages_have_their_places(rt: HostRuntime) -> Result<(), Fail> {
+    let alloc = rt.alloc();
+    let level = left_by(alloc, b"add a\tRed Fox\tthe quick red fox\nflush\n")?;
+    // Where bytes are written, which, the lines that are run, and the place of the damage, or what is given.
+    let rows: [(usize, &[u8], &[u8], Result<&[u8], u64>); 18] = [
+        (4_097, b"\x03", b"count fox", Err(4_097)),
+        (4_098, b"\x07", b"count fox", Err(4_098)),
+        (4_099, b"\x11", b"count fox", Err(4_099)),
+        (4_100, b"\x01", b"count fox", Err(4_100)),
+        (4_151, b"\x1f", b"count fox", Err(4_136)),
+        (2_105_376, b"\0", b"count fox", Err(2_105_376)),
+        (2_105_377, b"\0", b"count fox", Err(2_105_377)),
+        (2_105_378, b"\x02", b"count fox", Err(2_105_378)),
+        (2_105_380, b"\x20", b"count fox", Err(2_105_380)),
+        (2_105_381, b"\x01", b"count fox", Err(2_105_381)),
+        (2_105_384, b"\0", b"count fox", Err(2_105_384)),
+        (2_105_458, b"\x08", b"count fox", Err(2_105_458)),
+        (2_105_463, b"\0", b"count fox", Err(2_105_463)),
+        (
+            1_056_768,
+            b"\xa5\0\0\0\x01\x04",
+            b"count fox",
+            Err(1_056_773),
+        ),
+        // The first slot counts, whose half has the document.
+        (4_096, b"\0", b"count fox", Ok(b"found 1\n")),
+        (
+            2_105_458,
+            b"\x08",
+            b"stats",
+            Ok(b"documents 1 words 6 next 2\n"),
+        ),
+        (
+            2_105_463,
+            b"\0",
+            b"stats",
+            Ok(b"documents 1 words 6 next 2\n"),
+        ),
+        (2_105_463, b"\0", b"count name:b", Ok(b"found 0\n")),
+    ];
+    for (at, bytes, lines, want) in rows {
+        let (status, given) = answer_with(alloc, &level, at, bytes, lines)?;
+        let found = match status {
+            Status::Done => Ok(given.as_slice()),
+            Status::Damaged { place } => Err(place),
+            _ => Err(0),
+        };
+        assert_eq!(rt; found, want, "at {at}");
+        assert_eq!(rt; given.is_empty(), want.is_err(), "at {at}");
+    }
+    // To how many bytes the content is cut.
+    let cuts: [(usize, Status); 3] = [
+        (2_105_469, Status::Damaged { place: 4_136 }),
+        (2_105_343, Status::Damaged { place: 2_105_343 }),
+        (8_191, Status::NoRoot),
+    ];
+    for (length, want) in cuts {
+        let mut cut = level.to_vec(alloc)?;
+        cut.truncate(length);
+        let (status, _) = call(alloc, &mut disk_of(alloc, cut)?, "run", b"count fox", &[])?;
+        assert_eq!(rt; status, want, "cut to {length}");
+    }
+    Ok(())
+}
+
+// A level and a deletion list of one byte behind it, and three levels, of which a line joins some: the lists of the first begin at
+// 2,105,458, those of the second at 2,105,578, and those of the third at 2,105,666.
+#[test]
+fn damages_of_what_is_joined_have_their_places(rt: HostRuntime) -> Result<(), Fail> {
+    let alloc = rt.alloc();
+    let listed = left_by(
+        alloc,
+        b"add a\tRed Fox\tthe quick red fox\nflush\ndelete a\nflush\n",
+    )?;
+    assert_eq!(rt; listed.get(2_105_470).copied(), Some(9));
+    let (status, given) = answer_with(alloc, &listed, 2_105_470, b"\x08", b"stats")?;
+    assert_eq!(rt; status, Status::Damaged { place: 2_105_470 });
+    assert!(rt; given.is_empty());
+
+    let levels = left_by(
+        alloc,
+        b"add a\tRed Fox\tthe quick red fox\nflush\nadd b\tFox\tquick brown dog\nflush\nadd c\t\tred dog\nflush\n",
+    )?;
+    let rows: [(usize, u8, &[u8], &[u8], Status); 7] = [
+        (
+            2_105_458,
+            8,
+            b"merge",
+            b"",
+            Status::Damaged { place: 2_105_458 },
+        ),
+        (
+            2_105_463,
+            0,
+            b"delete a\nmerge",
+            b"deleted 1\n",
+            Status::Damaged { place: 2_105_463 },
+        ),
+        (
+            2_105_463,
+            0,
+            b"step 1",
+            b"",
+            Status::Damaged { place: 2_105_463 },
+        ),
+        (
+            2_105_578,
+            17,
+            b"step 1",
+            b"",
+            Status::Damaged { place: 2_105_578 },
+        ),
+        (
+            2_105_666,
+            22,
+            b"step 1\nstep 12\nmerge",
+            b"ok\nok\n",
+            Status::Damaged { place: 2_105_666 },
+        ),
+        (
+            2_105_666,
+            22,
+            b"merge",
+            b"",
+            Status::Damaged { place: 2_105_666 },
+        ),
+        (
+            0,
+            0xa5,
+            b"merge\nstats",
+            b"ok\ndocuments 3 words 12 next 4\n",
+            Status::Done,
+        ),
+    ];
+    for (at, byte, lines, want, ended) in rows {
+        let (status, given) = answer_with(alloc, &levels, at, &[byte], lines)?;
+        assert_eq!(rt; status, ended, "at {at}");
+        assert_eq!(rt; given.as_slice(), want, "at {at}");
+    }
     Ok(())
 }

@@ -13,11 +13,11 @@ const LIMIT: u64 = 1 << 40;
 // Two documents, at places 1 to 9 and 10 to 16 of the space of all words.
 const BOTH: &str = "add a\tRed Fox\tthe quick red fox\nadd b\tFox\tquick brown dog\n";
 
-// Calls the program with one word: the status, and what was given.
+// Calls the program with these words, a blank between them: the status, and what was given.
 fn call(
     alloc: Global,
     disk: &mut MemoryDisk,
-    word: &str,
+    words: &str,
     input: &str,
 ) -> Result<(Status, Vec<u8>), Fail> {
     let mut console = MemoryConsole::new(
@@ -26,9 +26,11 @@ fn call(
         Vec::new(alloc),
         Vec::new(alloc),
     );
-    let mut words = Vec::new(alloc);
-    words.push(Text::from_string(String::from_str(alloc, word)?))?;
-    let status = alta(alloc, &words, &mut console, disk);
+    let mut texts = Vec::new(alloc);
+    for word in words.split(' ') {
+        texts.push(Text::from_string(String::from_str(alloc, word)?))?;
+    }
+    let status = alta(alloc, &texts, &mut console, disk);
     Ok((status, console.given().to_vec(alloc)?))
 }
 
@@ -223,6 +225,18 @@ fn scripts_are_answered(rt: HostRuntime) -> Result<(), Fail> {
             "2 b\nfound 1\nok\nok\n2 b\nfound 1\n",
         ),
         (
+            "add a\tRed Fox\tthe quick red fox\nflush\nadd b\tFox\tquick brown dog\nflush\nstep 1\ndelete a\nstep 1000000\nsearch quick\n",
+            "added 1\nok\nadded 2\nok\nok\ndeleted 1\nok\n2 b\nfound 1\n",
+            "merge\nsearch NOT x\nstep 0\nstep\nmerge now\n",
+            "ok\n2 b\nfound 1\n! bad line\n! bad line\n! bad line\n",
+        ),
+        (
+            "add a\tRed Fox\tthe quick red fox\nflush\nadd b\tFox\tquick brown dog\nflush\nstep 1\n",
+            "added 1\nok\nadded 2\nok\nok\n",
+            "delete b\nstep 12\nstep 1\ncount fox\nadd b\t\tfox\nmerge\nsearch fox\n",
+            "deleted 2\nok\nok\nfound 1\nadded 3\nok\n1 a\n3 b\nfound 2\n",
+        ),
+        (
             "add a\t\tx\nadd b\t\tx\nadd c\t\tx\ndelete b\ndelete c\nadd b\t\ty\n",
             "added 1\nadded 2\nadded 3\ndeleted 2\ndeleted 3\nadded 4\n",
             "search x OR y\ndelete b\ndelete a\nsearch x OR y\nstats",
@@ -265,6 +279,15 @@ fn cursors_keep_what_they_were_opened_over(rt: HostRuntime) -> Result<(), Fail> 
     assert_eq!(rt;
         replies(alloc, &mut disk, first.as_str())?.as_slice(),
         b"added 1\nadded 2\ncursor 1\ndeleted 1\nadded 3\ncursor 2\n1 a\nmore\n2 b\nend\nend\n2 b\n3 c\nend\nclosed 1\n! no such cursor\n! no such cursor\n".as_slice()
+    );
+    // A cursor keeps its answers over a merge.
+    let mut joined = made(alloc)?;
+    let lines = format!(in alloc;
+        "{BOTH}open quick\ndelete a\nmerge\nfetch 1 1\nfetch 1 5\nfetch 1 5\n"
+    )?;
+    assert_eq!(rt;
+        replies(alloc, &mut joined, lines.as_str())?.as_slice(),
+        b"added 1\nadded 2\ncursor 1\ndeleted 1\nok\n1 a\nmore\n2 b\nend\nend\n".as_slice()
     );
     // A cursor ends with its run. The least number that is free comes next.
     let second =
@@ -311,5 +334,62 @@ fn the_longest_document_is_counted(rt: HostRuntime) -> Result<(), Fail> {
         replies(alloc, &mut disk, longer.as_str())?.as_slice(),
         want.as_bytes()
     );
+    Ok(())
+}
+
+// The slot that counts has its sequence and its number of levels in its third and fourth byte.
+#[test]
+fn a_flush_at_sixteen_levels_joins_two(rt: HostRuntime) -> Result<(), Fail> {
+    let alloc = rt.alloc();
+    let mut disk = made(alloc)?;
+    let mut input = String::new(alloc);
+    let mut want = String::new(alloc);
+    for number in 1..18 {
+        write!(input, "add n{number}\t\tred\nflush\n")?;
+        write!(want, "added {number}\nok\n")?;
+    }
+    assert_eq!(rt;
+        replies(alloc, &mut disk, input.as_str())?.as_slice(),
+        want.as_bytes()
+    );
+    for pick in 0..4 {
+        let image = disk.image(alloc, pick)?;
+        assert_eq!(rt; image.get(4098).copied(), Some(17));
+        assert_eq!(rt; image.get(4099).copied(), Some(16));
+    }
+    assert_eq!(rt;
+        replies(alloc, &mut disk, "merge\ncount red\n")?.as_slice(),
+        b"ok\nfound 17\n".as_slice()
+    );
+    for pick in 0..4 {
+        let image = disk.image(alloc, pick)?;
+        assert_eq!(rt; image.get(2).copied(), Some(18));
+        assert_eq!(rt; image.get(3).copied(), Some(1));
+    }
+    Ok(())
+}
+
+#[test]
+fn a_generated_run_is_reported_on(rt: HostRuntime) -> Result<(), Fail> {
+    let alloc = rt.alloc();
+    let rows = [
+        (
+            "demo 200",
+            "documents 160 words 800 next 201\nfound 80\nfound 2\nfound 20\nfound 2\nfound 2\nfound 0\n",
+        ),
+        (
+            "demo 2000",
+            "documents 1600 words 8000 next 2001\nfound 800\nfound 20\nfound 200\nfound 20\nfound 20\n1999 d1999\nfound 1\n",
+        ),
+    ];
+    for (words, want) in rows {
+        let mut disk = MemoryDisk::new(alloc, Vec::new(alloc), LIMIT, Vec::new(alloc));
+        let (status, given) = call(alloc, &mut disk, words, "")?;
+        assert_eq!(rt; status, Status::Done, "{words}");
+        assert_eq!(rt; given.as_slice(), want.as_bytes(), "{words}");
+        let (status, given) = call(alloc, &mut disk, words, "")?;
+        assert_eq!(rt; status, Status::Exists, "{words}");
+        assert!(rt; given.is_empty());
+    }
     Ok(())
 }

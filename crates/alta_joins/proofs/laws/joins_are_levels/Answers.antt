@@ -1,30 +1,26 @@
-use Rattle.std.proofs.Common.{◌<◌, inl, inr, length, ℕ, List, sym, ap, subst, arith}
+use Rattle.std.proofs.Common.{◌<◌, inl, inr, length, List, ap, arith}
 use Rattle.std.specs.Prelude.{not}
 use Rattle.std.proofs.lemmas.List.Elements.{All-filter}
 use Rattle.alta_content.specs.Lists.{IsContent}
-use Rattle.alta_content.specs.Parts.{IsPart, MayJoin}
+use Rattle.alta_content.specs.Parts.{IsPart}
 use Rattle.alta_content.specs.Rows.{end_of, ends_among}
 use Rattle.alta_content.specs.declared.content.Content.{Content}
 use Rattle.alta_content.specs.declared.document.DocRow.{DocRow}
-use Rattle.alta_content.proofs.Kept.{join_is_part}
 use Rattle.alta_images.specs.Joining.{joined_in}
 use Rattle.alta_images.specs.Working.{rows_of}
 use Rattle.alta_images.proofs.KeptStates.{rise_left}
-use Rattle.alta_joins.proofs.SameWords.{joined-same}
+use Rattle.alta_joins.proofs.KeptLaws.{join_part}
 use Rattle.alta_joins.proofs.laws.joins_are_levels.Goals as goal
-
-is_part : (contents : List Content) (dead : List ℕ) → MayJoin contents → IsPart (joined_in contents dead)
-is_part contents dead may = subst IsPart (sym (joined-same contents dead)) (join_is_part contents dead may)
 
 is_level : (c : Content) → IsPart c → 0 < length c.documents → IsContent c
 is_level c (inl is) some = is
 is_level c (inr empty) some = absurd (omega (arith, some, ap (λ (rows : List DocRow). length rows) empty.documents))
 
 pub returns-clause-part : goal.returns-clause-part
-returns-clause-part c = λ contents dead may. is_part contents dead may
+returns-clause-part c = λ contents dead may. join_part contents dead may
 
 pub returns-clause-level : goal.returns-clause-level
-returns-clause-level c = λ contents dead may some. is_level (joined_in contents dead) (is_part contents dead may) some
+returns-clause-level c = λ contents dead may some. is_level (joined_in contents dead) (join_part contents dead may) some
 
 pub returns-clause-rise : goal.returns-clause-rise
 returns-clause-rise c = λ contents dead rise. rise_left (λ (row : DocRow). not (ends_among dead row)) (rows_of contents) rise

@@ -1,15 +1,19 @@
 use Rattle.std.proofs.Common.{⊎_elim, inl, inr, ap, List, Ok, Err, refl, subst, sym, ◌∙◌, arith}
+use Rattle.std.specs.Prelude.{⊤}
 use Rattle.std.specs.List.{All}
+use Rattle.alta_disk.specs.Parts.{Touches}
+use Rattle.alta_disk.proofs.Moments.{passes_as, passes_start}
 use Rattle.alta_images.specs.Views.{state_of}
 use Rattle.alta_root.specs.Places.{other}
 use Rattle.alta_root.specs.Slots.{Counts}
+use Rattle.alta_root.specs.Switches.{slot_range}
 use Rattle.alta_root.specs.declared.slot.Slot.{Slot}
-use Rattle.alta_switch.specs.Brings.{IsOpenedEither}
-use Rattle.alta_switch.specs.Puts.{Fills, MayPut, Putting}
-use Rattle.alta_switch.specs.declared.piece.Piece.{Piece}
+use Rattle.alta_rewrite.specs.Brings.{IsOpenedEither}
+use Rattle.alta_rewrite.specs.Puts.{Fills, MayPut, Puts, Putting}
+use Rattle.alta_rewrite.specs.declared.piece.Piece.{Piece}
 use Rattle.alta_rewrite.specs.Rewrites.{MayBecome}
-use Rattle.alta_rewrite.proofs.CallLaws.{IsNaming, brings_as, bringing, bytes_now, drafts_as, full_held, full_places, held_now, leaves_one, leaves_same, leaves_told, names_as, naming, tables_done, tables_opened}
-use Rattle.alta_rewrite.proofs.DraftLaws.{draft_fits, draft_may}
+use Rattle.alta_rewrite.proofs.CallLaws.{IsNaming, brings_as, bringing, bytes_now, drafts_as, full_held, full_places, held_now, leaves_one, leaves_same, leaves_told, levels_spared, names_as, naming, tables_done, tables_opened}
+use Rattle.alta_rewrite.proofs.DraftLaws.{draft_extents, draft_fits, draft_may, draft_none, draft_rows}
 use Rattle.alta_rewrite.proofs.NameLaws.{coming_at, coming_by}
 use Rattle.alta_rewrite.proofs.SwitchLaws.{levels_then, then_of}
 use Rattle.alta_rewrite.proofs.rewriting.rewrite.Goals as goal
@@ -143,3 +147,50 @@ returns-clause-opened_then g c = λ o there told may.
         levels_are = tables_opened c.args.levels o now.limit c.args.root.now c.args.ends c.args.next c.args.location c.in-Ok.draft drafted;
       },
     )
+
+pub returns-clause-rows : goal.returns-clause-rows
+returns-clause-rows g c =
+    let now = g.D.Disk.state c.args.disk.now in
+    draft_rows now.limit c.args.root.now c.args.levels c.args.ends c.args.next c.args.location c.in-Ok.draft
+    (drafts_as c.args.levels c.args.ends c.args.next c.args.location now.limit c.limit-limit.result c.limit-limit.ensures c.args.root.now (Ok c.in-Ok.draft) c.in-Ok.ensures)
+
+pub returns-clause-extents : goal.returns-clause-extents
+returns-clause-extents g c =
+    let now = g.D.Disk.state c.args.disk.now in
+    draft_extents now.limit c.args.root.now c.args.levels c.args.ends c.args.next c.args.location c.in-Ok.draft
+    (drafts_as c.args.levels c.args.ends c.args.next c.args.location now.limit c.limit-limit.result c.limit-limit.ensures c.args.root.now (Ok c.in-Ok.draft) c.in-Ok.ensures)
+    (omega (arith, c.limit-limit.type_inv, c.limit-limit.ensures))
+
+pub returns-clause-none : goal.returns-clause-none
+returns-clause-none g c = λ empty.
+    let now = g.D.Disk.state c.args.disk.now in
+    draft_none now.limit c.args.root.now c.args.levels c.args.ends c.args.next c.args.location c.in-Ok.draft
+    (drafts_as c.args.levels c.args.ends c.args.next c.args.location now.limit c.limit-limit.result c.limit-limit.ensures c.args.root.now (Ok c.in-Ok.draft) c.in-Ok.ensures) empty
+
+pub returns-clause-spared : goal.returns-clause-spared
+returns-clause-spared g c = λ told.
+    let now = g.D.Disk.state c.args.disk.now in
+    let then = g.D.Disk.state c.put_root.new.disk in
+    let is = drafts_as c.args.levels c.args.ends c.args.next c.args.location now.limit c.limit-limit.result c.limit-limit.ensures c.args.root.now (Ok c.in-Ok.draft) c.in-Ok.ensures in
+    let may = draft_may now.limit c.args.root.now c.args.levels c.args.ends c.args.next c.args.location c.in-Ok.draft is c.in_ok-pieces.pieces.items c.in_ok-pieces.ensures
+    c.args.slot now.content (c.requires.counts told) c.requires.few c.requires.number c.requires.location in
+    let put = c.in_ok-put_root.ensures.put told in
+    levels_spared c.args.slot c.args.root.now c.in-Ok.draft.root c.in_ok-pieces.pieces.items now.limit now.content put.0 then.content may (c.requires.counts told)
+    (subst (λ (s : Slot). Puts s c.in_ok-pieces.pieces.items now.content put.0) c.other.ensures (subst (λ (ps : List Piece). Puts c.other.result ps now.content put.0) c.deref.ensures.value put.1))
+    (subst (λ (s : Slot). Touches (slot_range s) put.0 then.content) c.other.ensures put.2.touches)
+
+pub returns-in-Err-clause-images : goal.returns-in-Err-clause-images
+returns-in-Err-clause-images g c = passes_start g.D.Disk.tells (g.D.Disk.state c.args.disk.now) (λ old new. ⊤) (g.met.D.Disk.lawful c.args.disk.now) (λ image. tt)
+
+pub returns-in_err-pieces-clause-images : goal.returns-in_err-pieces-clause-images
+returns-in_err-pieces-clause-images g c = passes_start g.D.Disk.tells (g.D.Disk.state c.args.disk.now) (λ old new. ⊤) (g.met.D.Disk.lawful c.args.disk.now) (λ image. tt)
+
+pub returns-in_err-put_root-clause-images : goal.returns-in_err-put_root-clause-images
+returns-in_err-put_root-clause-images g c =
+    passes_as (g.D.Disk.state c.args.disk.now) (g.D.Disk.state c.put_root.new.disk) (Putting c.other.result c.in-Ok.draft.root c.deref.result.now) (λ old new. ⊤) c.put_root.ensures.images
+    (λ z left. (left.0, left.1, tt))
+
+pub returns-clause-images : goal.returns-clause-images
+returns-clause-images g c =
+    passes_as (g.D.Disk.state c.args.disk.now) (g.D.Disk.state c.put_root.new.disk) (Putting c.other.result c.in-Ok.draft.root c.deref.result.now) (λ old new. ⊤) c.put_root.ensures.images
+    (λ z left. (left.0, left.1, tt))

@@ -81,7 +81,7 @@ answer_lines-requires-clause-can g c = c.in-Ok-start.ensures.can
 pub returns : goal.returns
 returns g c = record {
   run = serves_opened g.D.Disk.tells c.args.limit (g.C.Console.told c.args.console.now) (g.C.Console.told c.answer_lines.new.console) (g.C.Console.left c.args.console.now) (g.C.Console.left c.answer_lines.new.console) (g.D.Disk.state c.args.disk.now) (g.D.Disk.state c.start.new.disk)
-      (g.D.Disk.state c.answer_lines.new.disk) c.in-Ok-start.session c.answer_lines.result (g.met.D.Disk.lawful c.args.disk.now) c.start.ensures.images (λ s tell stands. c.in-Ok-start.ensures.agrees s (λ t. stands)) c.start.ensures.content c.start.ensures.same_limit c.answer_lines.ensures.run;
+      (g.D.Disk.state c.answer_lines.new.disk) c.in-Ok-start.session c.answer_lines.result (g.met.D.Disk.lawful c.args.disk.now) (g.met.D.Disk.lawful c.start.new.disk) c.in-Ok-start.ensures.job c.start.ensures.images (λ s tell stands. c.in-Ok-start.ensures.agrees s (λ t. stands)) c.start.ensures.content c.start.ensures.same_limit c.answer_lines.ensures.run;
   read_all = c.answer_lines.ensures.read_all;
   no_root = λ tell is. absurd (running_rooted c.answer_lines.result c.answer_lines.ensures.ends is);
   rooted = λ tell none. absurd (ok_answers c.in-Ok-start.session StoreNoRoot c.start.result c.in-Ok-start.is (c.start.ensures.rooted tell none));

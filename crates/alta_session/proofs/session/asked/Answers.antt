@@ -2,10 +2,10 @@ use Rattle.std.proofs.Common.{List, ℕ, subst}
 use Rattle.alta_model.specs.Command.{Reads}
 use Rattle.alta_model.specs.Seen.{command_of}
 use Rattle.alta_model.specs.declared.line.Line.{Line}
-use Rattle.alta_model.specs.declared.line.Line.TheVariants.{Add, Delete, Search, Count, Explain, OpenCursor, Fetch, Close, Flush, Stats}
+use Rattle.alta_model.specs.declared.line.Line.TheVariants.{Add, Delete, Search, Count, Explain, OpenCursor, Fetch, Close, Flush, Merge, Step, Stats}
 use Rattle.alta_model.specs.declared.line.LineFault.TheVariants.{TooLong, NotUtf8, Unknown, Bad}
 use Rattle.alta_session.proofs.AddingLaws.{line_is_document}
-use Rattle.alta_session.proofs.AskLaws.{IsOther, none_asked, none_searched, refused_asked, refused_searched, step_other, step_asks, step_refuses, reading_is}
+use Rattle.alta_session.proofs.AskLaws.{refused_asked, refused_searched, step_asks, step_refuses, reading_is}
 use Rattle.alta_session.proofs.session.asked.Goals as goal
 
 pub returns-in-Add : goal.returns-in-Add
@@ -71,24 +71,17 @@ returns-in-Stats c = (
   reading_is c.args.bytes.now c.in-Ok.line Stats c.in-Ok.ensures.reading c.in-Stats.is,
 )
 
-pub returns-in_default : goal.returns-in_default
-returns-in_default c =
-    let other : IsOther c.in-Ok.line = record {
-      adds = c.in_default.not-Add;
-      deletes = c.in_default.not-Delete;
-      searches = c.in_default.not-Search;
-      counts = c.in_default.not-Count;
-      explains = c.in_default.not-Explain;
-      opens = c.in_default.not-OpenCursor;
-      fetches = c.in_default.not-Fetch;
-      closes = c.in_default.not-Close;
-      asks_flush = c.in_default.not-Flush;
-      asks_stats = c.in_default.not-Stats;
-    } in (
-      step_other c.args.bytes.now c.in-Ok.line c.in-Ok.ensures.reading other,
-      none_searched c.args.bytes.now c.in-Ok.line c.in-Ok.ensures.reading other,
-      none_asked c.args.bytes.now c.in-Ok.line c.in-Ok.ensures.reading other,
-    )
+pub returns-in-Merge : goal.returns-in-Merge
+returns-in-Merge c = (
+  step_asks c.args.bytes.now c.in-Ok.line Merge c.in-Ok.ensures.reading c.in-Merge.is,
+  reading_is c.args.bytes.now c.in-Ok.line Merge c.in-Ok.ensures.reading c.in-Merge.is,
+)
+
+pub returns-in-Step : goal.returns-in-Step
+returns-in-Step c = (
+  step_asks c.args.bytes.now c.in-Ok.line (Step c.in-Step.count) c.in-Ok.ensures.reading c.in-Step.is,
+  reading_is c.args.bytes.now c.in-Ok.line (Step c.in-Step.count) c.in-Ok.ensures.reading c.in-Step.is,
+)
 
 pub returns-in-Err-TooLong : goal.returns-in-Err-TooLong
 returns-in-Err-TooLong c = (

@@ -1,8 +1,7 @@
-use Rattle.std.proofs.Common.{◌<◌, List, ℕ, ap, refl, subst, ◌∙◌, sym}
+use Rattle.std.proofs.Common.{◌<◌, List, ℕ, ap, map, refl, subst, ◌∙◌, sym}
 use Rattle.std.specs.List.{All}
-use Rattle.std.proofs.lemmas.List.Elements.{All-weaker}
 use Rattle.alta_catalog.specs.Rows.{MayStart}
-use Rattle.alta_content.specs.Rows.{end_of}
+use Rattle.alta_content.specs.Rows.{AreDocuments, end_of}
 use Rattle.alta_content.specs.declared.document.DocRow.{DocRow}
 use Rattle.alta_images.specs.Entries.{after_entries, entries_in}
 use Rattle.alta_table.specs.Tables.{Tables}
@@ -10,6 +9,7 @@ use Rattle.std.specs.Prelude.{Err}
 use Rattle.alta_catalog.proofs.MayLaws.{may_start}
 use Rattle.alta_images.specs.Broken.{IsBrokenAt}
 use Rattle.alta_images.specs.Opened.{journal_of, rows_in}
+use Rattle.alta_opening.specs.Extents.{extent_of}
 use Rattle.alta_journal.specs.Journal.{IsBroken}
 use Rattle.alta_journal.specs.Placed.{IsReplay}
 use Rattle.alta_journal.specs.Places.{start_of}
@@ -70,9 +70,11 @@ returns-in-Ok-catalog_of-clause-intact g c =
       knows = (c.in-Ok-catalog_of.ensures.knows some.0 some.1).1.0;
       entries = entries_in c.deref-2.result.now;
       follows = c.in-Ok-catalog_of.ensures.follows;
-      below = subst (λ (levels : List Tables). All (λ (row : DocRow). end_of row < root.next_location) (rows_in levels)) (sym c.in-Ok-catalog_of.ensures.levels)
-          (All-weaker (λ (row : DocRow). (row.number < root.next_number) × (end_of row < root.next_location)) (λ (row : DocRow). end_of row < root.next_location) (λ row both. both.1)
-          (rows_in c.in-Ok-open_levels.opened.levels.items) c.in-Ok-open_levels.ensures.below);
+      below = subst (λ (levels : List Tables). All (λ (row : DocRow). (row.number < root.next_number) × (end_of row < root.next_location)) (rows_in levels)) (sym c.in-Ok-catalog_of.ensures.levels)
+          c.in-Ok-open_levels.ensures.below;
+      documents = subst (λ (levels : List Tables). AreDocuments (rows_in levels)) (sym c.in-Ok-catalog_of.ensures.levels) c.in-Ok-open_levels.ensures.rows;
+      extents = ap (map extent_of) c.in-Ok-catalog_of.ensures.levels ∙ c.in-Ok-open_levels.ensures.extents;
+      joining = tt;
     }
 
 pub returns-in-Err-catalog_of-clause-damaged : goal.returns-in-Err-catalog_of-clause-damaged

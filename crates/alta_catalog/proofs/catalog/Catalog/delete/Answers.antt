@@ -6,6 +6,7 @@ use Rattle.std.specs.Str.{bytes_eq}
 use Rattle.std.proofs.lemmas.Bool.{false≢true}
 use Rattle.alta_codec.specs.declared.location.TheConstants.{TOP}
 use Rattle.alta_content.specs.Rows.{end_of}
+use Rattle.alta_catalog.proofs.EndLaws.{still_among}
 use Rattle.alta_catalog.proofs.FollowLaws.{follows_deleted}
 use Rattle.alta_catalog.proofs.KnowingLaws.{counted, deleted_already, follow_on, knows_deleted, outside_read, row_fits, row_read, there_is}
 use Rattle.alta_catalog.proofs.catalog.Catalog.delete.Goals as goal
@@ -79,3 +80,6 @@ returns-clause-deleted c = λ e s knows.
 
 pub returns-clause-follows : goal.returns-clause-follows
 returns-clause-follows c = λ root entries follows yes. follows_deleted c.args.self.now root entries follows _ refl refl refl refl c.args.number
+
+pub returns-clause-still : goal.returns-clause-still
+returns-clause-still c = λ row is. still_among c.args.self.now.gone _ c.end_of-end.result c.in_ok-delete.ensures.members (end_of row) is

@@ -7,11 +7,13 @@ use Rattle.alta_journal.specs.declared.entry.Entry.TheVariants.{Add}
 use Rattle.alta_meta.specs.declared.document.State.{State}
 use Rattle.alta_session.specs.Machine.{adding}
 use Rattle.alta_session.specs.Tasks.{task_of_add}
+use Rattle.alta_store.specs.Agreement.{Has}
+use Rattle.alta_store.specs.Calls.{RefusesAdd}
 use Rattle.alta_store.specs.declared.fault.StoreFault.TheVariants.{Damaged, Disk, Taken, Numbers, Full}
 use Rattle.alta_session.proofs.AddingLaws.{adding_bad, adding_taken, adding_full, adding_added, added_is_none, leaves_adding, refused_for, room_left}
 use Rattle.alta_session.proofs.AgreementLaws.{knows_state}
 use Rattle.alta_session.proofs.AnsweringLaws.{same_fault, same_store, looked, answers_same, changed, changed_rests}
-use Rattle.alta_session.proofs.ObeyingLaws.{obeyed_works, obeyed_full, narrow_at, add_only, add_whole}
+use Rattle.alta_session.proofs.ObeyingLaws.{obeyed_works, obeyed_full, narrow_at, add_only, task_broken}
 use Rattle.alta_session.proofs.TaskLaws.{add_bad, add_taken, add_full, add_enters}
 use Rattle.alta_session.proofs.session.Session.add.Goals as goal
 
@@ -40,7 +42,7 @@ returns-in-Ok g c =
       stands = subst (λ (t : State). StandsFor t (g.D.Disk.state c.add.new.disk).content) to (c.in-Ok.ensures.obeys.stands m.state tell (agrees.stands tell));
       images = subst (λ (t : State). LeavesOnly (StandsForEither m.state t) (g.D.Disk.state c.args.disk.now) (g.D.Disk.state c.add.new.disk)) to (c.in-Ok.ensures.obeys.images m.state agrees.stands);
       works = λ held here.
-          obeyed_works (g.D.Disk.state c.args.disk.now).limit held (enters (Add c.args.name.now c.args.title.now c.args.body.now)) _ (g.D.Disk.state c.add.new.disk).content
+          obeyed_works (g.D.Disk.state c.args.disk.now).limit held (enters (Add c.args.name.now c.args.title.now c.args.body.now)) _ (λ now. Has c.add.new.self now (g.D.Disk.state c.add.new.disk).content)
           (add_enters c.args.name.now c.args.title.now c.args.body.now m.state (search rules) number.1 number.2) (c.in-Ok.ensures.obeys.works held tell here);
     })
 
@@ -83,7 +85,7 @@ returns-in_default g c = record {
             let same : c.in-Err.fault ≡ Full need gap = cc in
             obeyed_full (g.D.Disk.state c.args.disk.now).limit held (enters (Add c.args.name.now c.args.title.now c.args.body.now)) _ need gap
             (add_enters c.args.name.now c.args.title.now c.args.body.now m.state (search rules) left.0 left.1) (c.add.ensures.obeys.full held need gap tell here (c.in-Err.is ∙ ap Err same));
-        undamaged = λ place is. let same : c.in-Err.fault ≡ Damaged place = cc in add_whole c.in-Err.fault place c.in-Err.ensures.obeys.only same;
+        undamaged = λ place is. let same : c.in-Err.fault ≡ Damaged place = cc in c.add.ensures.obeys.undamaged m.state tell (agrees.stands tell) place (c.in-Err.is ∙ ap Err same);
       };
   can = tt;
   unchanged = tt;
@@ -91,7 +93,10 @@ returns-in_default g c = record {
   full = λ need gap tell is.
       let same : c.in-Err.fault ≡ Full need gap = cc in
       narrow_at _ _ _ need gap c.add.ensures.obeys.costs.limit (c.add.ensures.obeys.narrow need gap tell (c.in-Err.is ∙ ap Err same));
-  broken = λ place tell is. let same : c.in-Err.fault ≡ Damaged place = cc in absurd (add_whole c.in-Err.fault place c.in-Err.ensures.obeys.only same);
+  broken = λ place tell is.
+      let same : c.in-Err.fault ≡ Damaged place = cc in
+      task_broken g.D.Disk.tells RefusesAdd (g.D.Disk.state c.args.disk.now) (g.D.Disk.state c.add.new.disk) c.args.self.now.store (enters (Add c.args.name.now c.args.title.now c.args.body.now)) c.add.result place tell
+      c.requires.can.agrees c.add.ensures.obeys.damage c.add.ensures.obeys.still (c.in-Err.is ∙ ap Err same);
   cause = λ is. let same : c.in-Err.fault ≡ Disk = cc in c.add.ensures.obeys.cause (c.in-Err.is ∙ ap Err same);
   faults = c.add.ensures.obeys.costs.faults;
   same_limit = c.add.ensures.obeys.costs.limit;

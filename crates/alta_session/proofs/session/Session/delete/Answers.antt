@@ -8,11 +8,13 @@ use Rattle.alta_journal.specs.declared.entry.Entry.TheVariants.{Delete}
 use Rattle.alta_meta.specs.declared.document.State.{State}
 use Rattle.alta_session.specs.Machine.{deleting}
 use Rattle.alta_session.specs.Tasks.{task_of_delete}
+use Rattle.alta_store.specs.Agreement.{Has}
+use Rattle.alta_store.specs.Calls.{NoRefusal}
 use Rattle.alta_store.specs.declared.fault.StoreFault.TheVariants.{Damaged, Disk, Missing, Full}
 use Rattle.alta_session.proofs.AgreementLaws.{knows_state}
 use Rattle.alta_session.proofs.AnsweringLaws.{same_fault, same_store, looked, answers_same, changed, changed_rests}
 use Rattle.alta_session.proofs.DeletingLaws.{deleting_bad, deleting_missing, deleting_deleted, leaves_deleting, missing_for, deleted_where, deleted_is_none}
-use Rattle.alta_session.proofs.ObeyingLaws.{obeyed_works, obeyed_full, narrow_at, some_only, none_damaged}
+use Rattle.alta_session.proofs.ObeyingLaws.{obeyed_works, obeyed_full, narrow_at, some_only, task_broken}
 use Rattle.alta_session.proofs.TaskLaws.{delete_bad, delete_missing, delete_enters}
 use Rattle.alta_session.proofs.session.Session.delete.Goals as goal
 
@@ -43,7 +45,7 @@ returns-in-Ok g c =
       stands = subst (λ (t : State). StandsFor t (g.D.Disk.state c.delete.new.disk).content) to (obeys.stands m.state tell (agrees.stands tell));
       images = subst (λ (t : State). LeavesOnly (StandsForEither m.state t) (g.D.Disk.state c.args.disk.now) (g.D.Disk.state c.delete.new.disk)) to (obeys.images m.state agrees.stands);
       works = λ held here.
-          obeyed_works (g.D.Disk.state c.args.disk.now).limit held (enters (Delete c.in-Ok.number)) _ (g.D.Disk.state c.delete.new.disk).content
+          obeyed_works (g.D.Disk.state c.args.disk.now).limit held (enters (Delete c.in-Ok.number)) _ (λ now. Has c.delete.new.self now (g.D.Disk.state c.delete.new.disk).content)
           (delete_enters c.args.name.now m.state c.in-Ok.number (search rules) numbered) (obeys.works held tell here);
     })
 
@@ -79,13 +81,15 @@ returns-in_default g c =
             full = λ held need gap here is.
                 let same : c.in-Err.fault ≡ Full need gap = cc in
                 obeyed_full (g.D.Disk.state c.args.disk.now).limit held (enters (Delete number.0)) _ need gap (delete_enters c.args.name.now m.state number.0 (search rules) number.1) (does.full held need gap tell here (ap Err same));
-            undamaged = λ place is. let same : c.in-Err.fault ≡ Damaged place = cc in none_damaged c.in-Err.fault place obeys.only same;
+            undamaged = λ place is. let same : c.in-Err.fault ≡ Damaged place = cc in does.undamaged m.state tell (agrees.stands tell) place (ap Err same);
           };
       can = tt;
       unchanged = tt;
       only = some_only c.in-Err.fault obeys.only;
       full = λ need gap tell is. let same : c.in-Err.fault ≡ Full need gap = cc in narrow_at _ _ _ need gap obeys.costs.limit (obeys.narrow need gap tell (ap Err same));
-      broken = λ place tell is. let same : c.in-Err.fault ≡ Damaged place = cc in absurd (none_damaged c.in-Err.fault place obeys.only same);
+      broken = λ place tell is.
+          let same : c.in-Err.fault ≡ Damaged place = cc in
+          task_broken g.D.Disk.tells NoRefusal (g.D.Disk.state c.args.disk.now) (g.D.Disk.state c.delete.new.disk) c.args.self.now.store (enters (Delete n.0)) (Err c.in-Err.fault) place tell c.requires.agrees obeys.damage obeys.still (ap Err same);
       cause = λ is. let same : c.in-Err.fault ≡ Disk = cc in obeys.cause (ap Err same);
       faults = obeys.costs.faults;
       same_limit = obeys.costs.limit;

@@ -3,9 +3,11 @@ use Rattle.std.specs.Prelude.{Some}
 use Rattle.alta_images.specs.Work.{flushes}
 use Rattle.alta_meta.specs.declared.document.State.{State}
 use Rattle.alta_session.specs.Machine.{IsRefusal}
+use Rattle.alta_store.specs.Agreement.{Has}
+use Rattle.alta_store.specs.Calls.{NoRefusal}
 use Rattle.alta_store.specs.declared.fault.StoreFault.TheVariants.{Damaged, Disk, Full}
 use Rattle.alta_session.proofs.AnsweringLaws.{changed}
-use Rattle.alta_session.proofs.ObeyingLaws.{obeyed_works, obeyed_full, narrow_at, some_only, none_damaged}
+use Rattle.alta_session.proofs.ObeyingLaws.{obeyed_works, obeyed_full, narrow_at, some_only, task_broken}
 use Rattle.alta_session.proofs.session.Session.flush.Goals as goal
 
 pub flush-requires-clause-agrees : goal.flush-requires-clause-agrees
@@ -27,7 +29,7 @@ returns-in-Ok g c =
       reply = refl;
       stands = obeys.stands m.state tell (agrees.stands tell);
       images = obeys.images m.state agrees.stands;
-      works = λ held here. obeyed_works (g.D.Disk.state c.args.disk.now).limit held flushes (Some flushes) (g.D.Disk.state c.flush.new.disk).content refl (obeys.works held tell here);
+      works = λ held here. obeyed_works (g.D.Disk.state c.args.disk.now).limit held flushes (Some flushes) (λ now. Has c.flush.new.self now (g.D.Disk.state c.flush.new.disk).content) refl (obeys.works held tell here);
     })
 
 -- the flush failed
@@ -44,13 +46,15 @@ returns-in-Err g c =
         full = λ held need gap here is.
             let same : c.in-Err.fault ≡ Full need gap = cc in
             obeyed_full (g.D.Disk.state c.args.disk.now).limit held flushes (Some flushes) need gap refl (obeys.full held need gap tell here (ap Err same));
-        undamaged = λ place is. let same : c.in-Err.fault ≡ Damaged place = cc in none_damaged c.in-Err.fault place obeys.only same;
+        undamaged = λ place is. let same : c.in-Err.fault ≡ Damaged place = cc in obeys.undamaged m.state tell (agrees.stands tell) place (ap Err same);
       };
       can = tt;
       unchanged = tt;
       only = some_only c.in-Err.fault obeys.only;
       full = λ need gap tell is. let same : c.in-Err.fault ≡ Full need gap = cc in narrow_at _ _ _ need gap obeys.costs.limit (obeys.narrow need gap tell (ap Err same));
-      broken = λ place tell is. let same : c.in-Err.fault ≡ Damaged place = cc in absurd (none_damaged c.in-Err.fault place obeys.only same);
+      broken = λ place tell is.
+          let same : c.in-Err.fault ≡ Damaged place = cc in
+          task_broken g.D.Disk.tells NoRefusal (g.D.Disk.state c.args.disk.now) (g.D.Disk.state c.flush.new.disk) c.args.self.now.store flushes (Err c.in-Err.fault) place tell c.requires.agrees obeys.damage obeys.still (ap Err same);
       cause = λ is. let same : c.in-Err.fault ≡ Disk = cc in obeys.cause (ap Err same);
       faults = obeys.costs.faults;
       same_limit = obeys.costs.limit;

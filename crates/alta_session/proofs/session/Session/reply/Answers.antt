@@ -1,8 +1,8 @@
 use Rattle.std.proofs.Common.{◌≡◌, ◌⊎◌, ◌≤◌, ◌++◌, ℕ, inl, List, length, codes, decimal, ◌∙◌, ap, sym, subst}
 use Rattle.std.specs.Prelude.{nat_le, Some}
 use Rattle.alta_meta.specs.declared.document.State.{State}
-use Rattle.alta_images.specs.Work.{flushes}
-use Rattle.alta_model.specs.Command.{adds, deletes, searches, counts as asks_count, explains, opens, fetches, closes, flushes as asks_flush, asks_stats}
+use Rattle.alta_images.specs.Work.{flushes, merges, steps}
+use Rattle.alta_model.specs.Command.{adds, deletes, searches, counts as asks_count, explains, opens, fetches, closes, flushes as asks_flush, merges as asks_merge, steps as asks_step, asks_stats}
 use Rattle.alta_model.specs.Lines.{Reading, asks}
 use Rattle.alta_search.specs.Open.{AreOpen}
 use Rattle.alta_search.specs.declared.cursors.TheConstants.{CURSORS}
@@ -40,7 +40,17 @@ returns-in-Flush-clause-answers g c =
     answers_by g.D.Disk.tells g.D.Disk.state c.args.disk.now c.flush.new.disk c.args.self.now c.flush.new.self c.flush.result (λ m. (m, codes "ok\n")) (λ m. step m c.args.line.now) (λ m. Some flushes) (λ m. task_of m c.args.line.now)
     (λ m. sym (c.in-Flush.ensures.0 m)) (λ m. sym (task_reads m c.args.line.now (asks asks_flush) c.in-Flush.ensures.1)) c.flush.ensures
 
--- a line that adds, deletes or flushes does not look
+pub returns-in-Merge-clause-answers : goal.returns-in-Merge-clause-answers
+returns-in-Merge-clause-answers g c =
+    answers_by g.D.Disk.tells g.D.Disk.state c.args.disk.now c.merge.new.disk c.args.self.now c.merge.new.self c.merge.result (λ m. (m, codes "ok\n")) (λ m. step m c.args.line.now) (λ m. Some merges) (λ m. task_of m c.args.line.now)
+    (λ m. sym (c.in-Merge.ensures.0 m)) (λ m. sym (task_reads m c.args.line.now (asks asks_merge) c.in-Merge.ensures.1)) c.merge.ensures
+
+pub returns-in-Step-clause-answers : goal.returns-in-Step-clause-answers
+returns-in-Step-clause-answers g c =
+    answers_by g.D.Disk.tells g.D.Disk.state c.args.disk.now c.step.new.disk c.args.self.now c.step.new.self c.step.result (λ m. (m, codes "ok\n")) (λ m. step m c.args.line.now) (λ m. Some (steps c.in-Step.count)) (λ m. task_of m c.args.line.now)
+    (λ m. sym (c.in-Step.ensures.0 m)) (λ m. sym (task_reads m c.args.line.now (asks (asks_step c.in-Step.count)) c.in-Step.ensures.1)) c.step.ensures
+
+-- a line that changes documents or levels does not look
 pub returns-in-Add-clause-no_disk : goal.returns-in-Add-clause-no_disk
 returns-in-Add-clause-no_disk g c = λ looks.
     absurd (adds_more c.args.line.now c.in-Add.name.now c.in-Add.title.now c.in-Add.body.now c.in-Add.ensures.2 looks)
@@ -51,6 +61,12 @@ returns-in-Delete-clause-no_disk g c = λ looks.
 
 pub returns-in-Flush-clause-no_disk : goal.returns-in-Flush-clause-no_disk
 returns-in-Flush-clause-no_disk g c = λ looks. absurd (subst LooksIn c.in-Flush.ensures.1 looks)
+
+pub returns-in-Merge-clause-no_disk : goal.returns-in-Merge-clause-no_disk
+returns-in-Merge-clause-no_disk g c = λ looks. absurd (subst LooksIn c.in-Merge.ensures.1 looks)
+
+pub returns-in-Step-clause-no_disk : goal.returns-in-Step-clause-no_disk
+returns-in-Step-clause-no_disk g c = λ looks. absurd (subst LooksIn c.in-Step.ensures.1 looks)
 
 -- a query is answered over the disk
 pub search-requires : goal.search-requires
@@ -151,6 +167,12 @@ returns-in-Delete-clause-loads g c = λ searches. absurd (subst SearchesIn c.in-
 
 pub returns-in-Flush-clause-loads : goal.returns-in-Flush-clause-loads
 returns-in-Flush-clause-loads g c = λ searches. absurd (subst SearchesIn c.in-Flush.ensures.1 searches)
+
+pub returns-in-Merge-clause-loads : goal.returns-in-Merge-clause-loads
+returns-in-Merge-clause-loads g c = λ searches. absurd (subst SearchesIn c.in-Merge.ensures.1 searches)
+
+pub returns-in-Step-clause-loads : goal.returns-in-Step-clause-loads
+returns-in-Step-clause-loads g c = λ searches. absurd (subst SearchesIn c.in-Step.ensures.1 searches)
 
 pub returns-in-Explain-clause-loads : goal.returns-in-Explain-clause-loads
 returns-in-Explain-clause-loads g c = λ searches. absurd (subst SearchesIn c.in-Explain.ensures.1 searches)

@@ -20,5 +20,5 @@ returns-in-Ok-clause-number g c = λ s knows.
 
 pub returns-in-Err-clause-obeys : goal.returns-in-Err-clause-obeys
 returns-in-Err-clause-obeys g c =
-    changes_fault g.D.Disk.tells _ _ (with_added c.args.name.now c.args.title.now c.args.body.now) NoRefusal RefusesAdd 1 (g.D.Disk.state c.args.disk.now) (g.D.Disk.state c.enter.new.disk) c.args.self.now c.enter.new.self
+    changes_fault g.D.Disk.tells _ _ (with_added c.args.name.now c.args.title.now c.args.body.now) NoRefusal RefusesAdd 1 _ (g.D.Disk.state c.args.disk.now) (g.D.Disk.state c.enter.new.disk) c.args.self.now c.enter.new.self
     c.failed.new.self _ _ c.failed.ensures.fault (λ e refused. absurd refused) c.in-Err.ensures.obeys

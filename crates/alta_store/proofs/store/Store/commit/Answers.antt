@@ -1,5 +1,6 @@
-use Rattle.std.proofs.Common.{[], ◌∷◌, ◌++◌, ◌≤◌, length, refl, subst, sym}
+use Rattle.std.proofs.Common.{◌≡◌, ℕ, true, List, [], ◌∷◌, ◌++◌, ◌≤◌, length, refl, subst, sym}
 use Rattle.alta_catalog.specs.Knowing.{Follows}
+use Rattle.alta_content.specs.Rows.{ends_among}
 use Rattle.alta_images.specs.States.{with_added}
 use Rattle.alta_journal.specs.Record.{body_of}
 use Rattle.alta_journal.specs.declared.entry.Entry.{Entry}
@@ -21,7 +22,7 @@ returns-in-Ok-append-clause-enters g c =
     entry (add_allowed store c.args.name.now c.args.title.now c.args.body.now entry c.in-Ok.ensures c.requires.free c.requires.number)
     (subst (λ (e : Entry). length (body_of e) ≤ room_of store) (sym c.in-Ok.ensures) c.requires.fits)
     (g.D.Disk.state c.append.new.disk) c.in-Ok-append.ensures.images (g.met.D.Disk.lawful c.append.new.disk) c.in-Ok-append.ensures.durable c.in-Ok-append.ensures.appended
-    _ refl refl refl c.in-Ok-append.ensures.tail c.in-Ok-append.ensures.half c.add.ensures.levels
+    _ refl refl refl c.in-Ok-append.ensures.tail c.in-Ok-append.ensures.half refl c.add.ensures.levels (λ row there. subst (λ (gone : List ℕ). ends_among gone row ≡ true) (sym c.add.ensures.gone) there)
     (λ root entries follows. subst (λ (e : Entry). Follows c.add.new.self root (entries ++ e ∷ [])) (sym c.in-Ok.ensures) (c.in-Ok-add.ensures.follows root entries follows))
     (add_knows store c.args.name.now c.args.title.now c.args.body.now entry c.in-Ok.ensures _ c.in-Ok-add.ensures.added)
     (Add c.args.name.now c.args.title.now c.args.body.now) c.in-Ok.ensures (with_added c.args.name.now c.args.title.now c.args.body.now)

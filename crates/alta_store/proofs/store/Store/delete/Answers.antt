@@ -11,11 +11,11 @@ pub returns-in-Ok-clause-obeys : goal.returns-in-Ok-clause-obeys
 returns-in-Ok-clause-obeys g c = λ s number knows named.
     deletes_as g.D.Disk.tells c.in-Some.number number (with_deleted c.args.name.now) (g.D.Disk.state c.args.disk.now) (g.D.Disk.state c.leave_out.new.disk) c.args.self.now c.leave_out.new.self _
     (some_is c.in-Some.number number (c.in-Some.ensures.value s knows ∙ named))
-    (changes_ok g.D.Disk.tells _ _ (with_deleted c.args.name.now) NoRefusal 1 (g.D.Disk.state c.args.disk.now) (g.D.Disk.state c.leave_out.new.disk) c.args.self.now c.leave_out.new.self _ _ c.in-Ok.ensures.obeys)
+    (changes_ok g.D.Disk.tells _ _ (with_deleted c.args.name.now) NoRefusal 1 _ (g.D.Disk.state c.args.disk.now) (g.D.Disk.state c.leave_out.new.disk) c.args.self.now c.leave_out.new.self _ _ c.in-Ok.ensures.obeys)
 
 pub returns-in-Err-clause-obeys : goal.returns-in-Err-clause-obeys
 returns-in-Err-clause-obeys g c = λ s number knows named.
     deletes_as g.D.Disk.tells c.in-Some.number number (with_deleted c.args.name.now) (g.D.Disk.state c.args.disk.now) (g.D.Disk.state c.leave_out.new.disk) c.args.self.now c.failed.new.self _
     (some_is c.in-Some.number number (c.in-Some.ensures.value s knows ∙ named))
-    (changes_fault g.D.Disk.tells _ _ (with_deleted c.args.name.now) NoRefusal NoRefusal 1 (g.D.Disk.state c.args.disk.now) (g.D.Disk.state c.leave_out.new.disk) c.args.self.now c.leave_out.new.self c.failed.new.self _ _
+    (changes_fault g.D.Disk.tells _ _ (with_deleted c.args.name.now) NoRefusal NoRefusal 1 _ (g.D.Disk.state c.args.disk.now) (g.D.Disk.state c.leave_out.new.disk) c.args.self.now c.leave_out.new.self c.failed.new.self _ _
     c.failed.ensures.fault (λ e refused. refused) c.in-Err.ensures.obeys)

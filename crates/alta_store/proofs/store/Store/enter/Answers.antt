@@ -40,7 +40,7 @@ returns-in-Ok-clause-obeys g c =
     let entry = Add c.args.name.now c.args.title.now c.args.body.now in
     let makes = c.in-Ok.ensures.makes entry (sym c.bytes_of_add.ensures) in
     obeys_entry g.D.Disk.tells entry (with_added c.args.name.now c.args.title.now c.args.body.now) (g.D.Disk.state c.args.disk.now) (g.D.Disk.state c.commit.new.disk) c.args.self.now c.commit.new.self _
-    (changes_then g.D.Disk.tells _ _ _ _ (with_added c.args.name.now c.args.title.now c.args.body.now) NoRefusal 1 0 (g.D.Disk.state c.args.disk.now) (g.D.Disk.state c.make_room.new.disk) (g.D.Disk.state c.commit.new.disk)
+    (changes_then g.D.Disk.tells _ _ _ _ (with_added c.args.name.now c.args.title.now c.args.body.now) NoRefusal 1 0 _ (g.D.Disk.state c.args.disk.now) (g.D.Disk.state c.make_room.new.disk) (g.D.Disk.state c.commit.new.disk)
     c.args.self.now c.make_room.new.self c.commit.new.self _ makes _ c.commit.ensures.enters)
 
 pub returns-in-Ok-clause-number : goal.returns-in-Ok-clause-number
@@ -52,5 +52,5 @@ returns-in-Err-clause-obeys g c =
     let entry = Add c.args.name.now c.args.title.now c.args.body.now in
     let makes = c.in-Err.ensures.makes entry (sym c.bytes_of_add.ensures) in
     obeys_entry g.D.Disk.tells entry (with_added c.args.name.now c.args.title.now c.args.body.now) (g.D.Disk.state c.args.disk.now) (g.D.Disk.state c.make_room.new.disk) c.args.self.now c.make_room.new.self _
-    (changes_failed g.D.Disk.tells _ _ _ _ (with_added c.args.name.now c.args.title.now c.args.body.now) NoRefusal 1 0 (g.D.Disk.state c.args.disk.now) (g.D.Disk.state c.make_room.new.disk) c.args.self.now c.make_room.new.self
+    (changes_failed g.D.Disk.tells _ _ _ _ (with_added c.args.name.now c.args.title.now c.args.body.now) NoRefusal 1 0 _ (g.D.Disk.state c.args.disk.now) (g.D.Disk.state c.make_room.new.disk) c.args.self.now c.make_room.new.self
     c.in-Err.fault makes)

@@ -1,13 +1,15 @@
-use Rattle.std.proofs.Common.{arith}
+use Rattle.std.proofs.Common.{◌∙◌, sym}
+use Rattle.alta_images.proofs.Tests.{equal_from}
+use Rattle.alta_journal.specs.Places.{start_of}
 use Rattle.alta_store.specs.Calls.{NoRefusal}
 use Rattle.alta_store.proofs.Changing.{changes_fault}
-use Rattle.alta_store.proofs.Flushing.{idle_flush}
+use Rattle.alta_store.proofs.Idling.{idle_flush}
 use Rattle.alta_store.proofs.store.Store.flush.Goals as goal
 
-pub returns-then-self-start-clause-obeys : goal.returns-then-self-start-clause-obeys
-returns-then-self-start-clause-obeys g c = idle_flush g.D.Disk.tells (g.D.Disk.state c.args.disk.now) (g.met.D.Disk.lawful c.args.disk.now) c.args.self.now c.requires.agrees (omega (arith, c.if-self-start, c.start.ensures)) _
+pub returns-then-has_no_entry-clause-obeys : goal.returns-then-has_no_entry-clause-obeys
+returns-then-has_no_entry-clause-obeys g c = idle_flush g.D.Disk.tells (g.D.Disk.state c.args.disk.now) (g.met.D.Disk.lawful c.args.disk.now) c.args.self.now c.requires.agrees (equal_from c.args.self.now.tail.place (start_of c.args.self.now.tail.half) (sym c.has_no_entry.ensures ∙ c.if-has_no_entry.true)) _
 
 pub returns-in-Err-clause-obeys : goal.returns-in-Err-clause-obeys
 returns-in-Err-clause-obeys g c =
-    changes_fault g.D.Disk.tells _ _ (λ s. s) NoRefusal NoRefusal 1 (g.D.Disk.state c.args.disk.now) (g.D.Disk.state c.put_newest.new.disk) c.args.self.now c.put_newest.new.self c.failed.new.self _ _ c.failed.ensures.fault
+    changes_fault g.D.Disk.tells _ _ (λ s. s) NoRefusal NoRefusal 1 _ (g.D.Disk.state c.args.disk.now) (g.D.Disk.state c.put_newest.new.disk) c.args.self.now c.put_newest.new.self c.failed.new.self _ _ c.failed.ensures.fault
     (λ e refused. refused) c.in-Err.ensures.obeys

@@ -26,11 +26,11 @@ pub returns-in-Ok-clause-obeys : goal.returns-in-Ok-clause-obeys
 returns-in-Ok-clause-obeys g c =
     let makes = c.in-Ok.ensures.makes (Delete c.args.number) (delete_bytes c.args.number) in
     obeys_entry g.D.Disk.tells (Delete c.args.number) (with_deleted c.args.name.now) (g.D.Disk.state c.args.disk.now) (g.D.Disk.state c.remove.new.disk) c.args.self.now c.remove.new.self _
-    (changes_then g.D.Disk.tells _ _ _ _ (with_deleted c.args.name.now) NoRefusal 1 0 (g.D.Disk.state c.args.disk.now) (g.D.Disk.state c.make_room.new.disk) (g.D.Disk.state c.remove.new.disk)
+    (changes_then g.D.Disk.tells _ _ _ _ (with_deleted c.args.name.now) NoRefusal 1 0 _ (g.D.Disk.state c.args.disk.now) (g.D.Disk.state c.make_room.new.disk) (g.D.Disk.state c.remove.new.disk)
     c.args.self.now c.make_room.new.self c.remove.new.self _ makes _ c.remove.ensures.enters)
 
 pub returns-in-Err-clause-obeys : goal.returns-in-Err-clause-obeys
 returns-in-Err-clause-obeys g c =
     let makes = c.in-Err.ensures.makes (Delete c.args.number) (delete_bytes c.args.number) in
     obeys_entry g.D.Disk.tells (Delete c.args.number) (with_deleted c.args.name.now) (g.D.Disk.state c.args.disk.now) (g.D.Disk.state c.make_room.new.disk) c.args.self.now c.make_room.new.self _
-    (changes_failed g.D.Disk.tells _ _ _ _ (with_deleted c.args.name.now) NoRefusal 1 0 (g.D.Disk.state c.args.disk.now) (g.D.Disk.state c.make_room.new.disk) c.args.self.now c.make_room.new.self c.in-Err.fault makes)
+    (changes_failed g.D.Disk.tells _ _ _ _ (with_deleted c.args.name.now) NoRefusal 1 0 _ (g.D.Disk.state c.args.disk.now) (g.D.Disk.state c.make_room.new.disk) c.args.self.now c.make_room.new.self c.in-Err.fault makes)

@@ -1,14 +1,16 @@
-use Rattle.std.proofs.Common.{List, ℕ, inr, subst, sym, ap, arith}
+use Rattle.std.proofs.Common.{◌≡◌, None, List, ℕ, inr, subst, sym, ap, arith}
+use Rattle.alta_catalog.specs.Knowing.{gone_of}
 use Rattle.alta_opening.specs.Costs.{named_bytes}
 use Rattle.alta_root.specs.Slots.{Counts}
 use Rattle.std.proofs.lemmas.Result.{IfOk-at_ok}
 use Rattle.alta_disk.proofs.Moments.{only_same}
-use Rattle.alta_store.specs.Agreement.{Agrees, Holds, IsIntact, Keeps}
+use Rattle.alta_store.specs.Agreement.{Agrees, Holds, IsIntact, Keeps, levels_of}
 use Rattle.alta_images.specs.Opened.{IsOpened}
 use Rattle.alta_root.specs.Slots.{HasNoRoot}
 use Rattle.alta_images.specs.Broken.{IsBrokenAt}
 use Rattle.alta_store.specs.declared.store.Store.{Store}
 use Rattle.alta_store.proofs.Agreements.{kept}
+use Rattle.alta_store.proofs.GoingOn.{none_goes_on}
 use Rattle.alta_store.proofs.Loads.{if_ok, if_err, only_synced, held, outside, rooted, broken_at}
 use Rattle.alta_store.proofs.store.Store.open.Goals as goal
 
@@ -21,6 +23,8 @@ returns-clause-agrees g c =
       content = λ told. subst (Holds store) (sym (c.load.ensures.content told))
           (held g.D.Disk.tells (g.D.Disk.state c.sync.new.self).content c.load.result c.load.ensures.loaded c.load.ensures.no_root c.load.ensures.damaged c.load.ensures.only store is told);
       intact = IfOk-at_ok IsIntact is c.load.ensures.intact;
+      joins = λ told.
+          none_goes_on (g.D.Disk.state c.load.new.disk).content (levels_of store) (gone_of store.catalog) store.job (IfOk-at_ok IsIntact is c.load.ensures.intact).joining (IfOk-at_ok (λ (s : Store). s.job ≡ None) is c.load.ensures.job);
     })
 
 pub returns-clause-opened : goal.returns-clause-opened

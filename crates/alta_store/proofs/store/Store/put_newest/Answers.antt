@@ -1,66 +1,121 @@
-use Rattle.std.proofs.Common.{ap, arith, map, List, ℕ, refl, sym, ◌∙◌, subst, Err}
-use Rattle.alta_flush.specs.declared.fault.FlushFault.{FlushFault}
-use Rattle.alta_memlevel.specs.Added.{Added, HasContent, Level, live_of}
+use Rattle.std.proofs.Common.{true, ◌≡◌, ◌⊎◌, inl, inr, ◌<◌, ◌≤◌, List, length, refl, sym, ◌∙◌, ap, subst, arith, Result, Ok, Err}
+use Rattle.std.specs.List.{All}
+use Rattle.alta_content.specs.Parts.{IsPart}
+use Rattle.alta_content.specs.declared.content.Content.{Content}
+use Rattle.alta_disk.specs.Disk.{DiskState}
+use Rattle.alta_images.specs.Work.{flushes}
+use Rattle.alta_joins.specs.Contents.{StandsOn}
+use Rattle.alta_merge.specs.Merging.{Merging}
+use Rattle.alta_rewrite.specs.Rewrites.{no_content}
+use Rattle.alta_root.specs.declared.root.Root.{Root}
+use Rattle.alta_store.specs.Agreement.{levels_of}
+use Rattle.alta_store.specs.Putting.{ReadsLevels}
+use Rattle.alta_store.specs.declared.fault.StoreFault.{StoreFault}
 use Rattle.alta_store.specs.declared.store.Store.{Store}
-use Rattle.alta_store.proofs.Flushing.{fault_moves, flush_done, flush_failed, flush_lost, intact_then, keeps_flushed, knows_then}
-use Rattle.alta_store.proofs.Agreements.{kept}
+use Rattle.alta_store.proofs.Flushing.{ObeysOver, flush_joined, flush_reads, flush_stays, joined, many_by, stays, two_now, two_of}
+use Rattle.alta_store.proofs.Joining.{joinless, levels_long, levels_now, levels_stand, oldest_joined_now, segments_read, undamaged_read}
+use Rattle.alta_store.proofs.Working.{changes_unread}
+use Rattle.alta_table.specs.Tables.{Tables}
 use Rattle.alta_store.proofs.store.Store.put_newest.Goals as goal
+use Rattle.alta_store.proofs.store.Store.put_newest.Goals.{then-len-lt-LEVELS-via-then-len-lt-LEVELS, then-len-lt-LEVELS-via-else-len-lt-LEVELS+then-len-eq0}
 
-pub returns-in-Err-clause-obeys : goal.returns-in-Err-clause-obeys
-returns-in-Err-clause-obeys g c =
-    let a = g.D.Disk.state c.args.disk.now in
-    let b = g.D.Disk.state c.flush.new.disk in
-    flush_failed c.what_is_gone.ensures.gone c.what_is_gone.ensures.deleted g.D.Disk.tells a b (g.met.D.Disk.lawful c.args.disk.now) c.args.self.now c.requires.agrees c.requires.some
-    c.take_newest-newest.result.content (ap (λ (l : Level). l.content) c.take_newest-newest.ensures.memory)
-    _ c.deref.ensures.value (c.deref-2.ensures.value ∙ c.in-Ok.ensures.value) (c.gone.ensures.value ∙ c.take_newest-newest.ensures.emptied.gone)
-    c.bounds-next.result.0 c.bounds-next.result.1 c.bounds-next.ensures.are.0 c.bounds-next.ensures.are.1
-    c.flush.ensures.images c.flush.ensures.stands
-    c.in-Err.fault c.in-Err.ensures.many c.in-Err.ensures.full c.in-Err.ensures.narrow
-    (fault_moves g.D.Disk.state c.args.disk.now c.flush.new.disk c.in-Err.fault c.in-Err.ensures.memory c.in-Err.ensures.unwritten)
-    (λ is. c.in-Err.ensures.cause (ap (λ (f : FlushFault). Err f) is)) c.flush.ensures.costs
-    _ c.flush_fault.result c.flush_fault.ensures
+no_part : IsPart no_content
+no_part = inr (record { documents = refl; lists = refl })
 
-pub returns-in_default-put_level-clause-obeys : goal.returns-in_default-put_level-clause-obeys
-returns-in_default-put_level-clause-obeys g c =
+pub put-requires-clause-may : goal.put-requires-clause-may
+put-requires-clause-may g c =
+    let agrees = c.requires.agrees in
+    let drained = c.in-Ok.ensures.drained in
+    let long = levels_long g.D.Disk.tells (g.D.Disk.state c.args.disk.now) (g.met.D.Disk.lawful c.args.disk.now) c.args.self.now agrees in
+    let root_long = ap (λ (r : Root). length r.levels.items) drained.root in (
+      c.args.self.now,
+      stays g.D.Disk.tells (g.D.Disk.state c.args.disk.now) (g.met.D.Disk.lawful c.args.disk.now) c.args.self.now agrees c.in-Ok.newest c.in-Ok.ensures.content c.drain.new.self drained c.in-Ok.ensures.job c.in-Ok.ensures.part _
+          (record { stay_from_is = refl; oldest_is = c.no_content-nothing.ensures; newest_is = refl }) no_part
+          (elim c.then-len-lt-LEVELS.branch [
+            | then-len-lt-LEVELS-via-then-len-lt-LEVELS w ↦ inl (omega (arith, w.if-len-lt-LEVELS.true, c.len.ensures.value, root_long, long))
+            | then-len-lt-LEVELS-via-else-len-lt-LEVELS+then-len-eq0 w ↦ inr (omega (arith, w.if-len-eq0.true, w.len-else-len-lt-LEVELS.ensures))
+          ])
+          (omega (arith, c.len.ensures.value, c.len.ensures.fits, root_long, long)),
+    )
+
+pub returns-then-len-lt-LEVELS-clause-obeys : goal.returns-then-len-lt-LEVELS-clause-obeys
+returns-then-len-lt-LEVELS-clause-obeys g c =
+    let agrees = c.requires.agrees in
+    let drained = c.in-Ok.ensures.drained in
+    let long = levels_long g.D.Disk.tells (g.D.Disk.state c.args.disk.now) (g.met.D.Disk.lawful c.args.disk.now) c.args.self.now agrees in
+    let root_long = ap (λ (r : Root). length r.levels.items) drained.root in
+    let few : (length (levels_of c.args.self.now) < 16) ⊎ (length c.in-Ok.newest.documents ≡ 0) =
+    elim c.then-len-lt-LEVELS.branch [
+      | then-len-lt-LEVELS-via-then-len-lt-LEVELS w ↦ inl (omega (arith, w.if-len-lt-LEVELS.true, c.len.ensures.value, root_long, long))
+      | then-len-lt-LEVELS-via-else-len-lt-LEVELS+then-len-eq0 w ↦ inr (omega (arith, w.if-len-eq0.true, w.len-else-len-lt-LEVELS.ensures))
+    ] in
+    let most : length (levels_of c.args.self.now) ≤ 16 = omega (arith, c.len.ensures.value, c.len.ensures.fits, root_long, long) in
+    flush_stays g.D.Disk.tells (g.D.Disk.state c.args.disk.now) (g.met.D.Disk.lawful c.args.disk.now) c.args.self.now agrees c.in-Ok.newest c.in-Ok.ensures.content c.drain.new.self drained c.in-Ok.ensures.job
+    c.in-Ok.ensures.part _ (record { stay_from_is = refl; oldest_is = c.no_content-nothing.ensures; newest_is = refl }) no_part few most (g.D.Disk.state c.put.new.disk) (g.met.D.Disk.lawful c.put.new.disk) c.requires.some c.put.new.self c.put.result c.put.ensures.job
+    (c.put.ensures.puts c.args.self.now
+    (stays g.D.Disk.tells (g.D.Disk.state c.args.disk.now) (g.met.D.Disk.lawful c.args.disk.now) c.args.self.now agrees c.in-Ok.newest c.in-Ok.ensures.content c.drain.new.self drained c.in-Ok.ensures.job c.in-Ok.ensures.part _
+    (record { stay_from_is = refl; oldest_is = c.no_content-nothing.ensures; newest_is = refl }) no_part few most))
+
+pub join_oldest-requires-clause-stands : goal.join_oldest-requires-clause-stands
+join_oldest-requires-clause-stands g c = λ told.
     let a = g.D.Disk.state c.args.disk.now in
-    let b = g.D.Disk.state c.flush.new.disk in
-    flush_lost c.what_is_gone.ensures.gone c.what_is_gone.ensures.deleted g.D.Disk.tells a b (g.met.D.Disk.lawful c.args.disk.now) c.args.self.now c.requires.agrees c.requires.some
-    c.take_newest-newest.result.content (ap (λ (l : Level). l.content) c.take_newest-newest.ensures.memory)
-    _ c.deref.ensures.value (c.deref-2.ensures.value ∙ c.in-Ok.ensures.value) (c.gone.ensures.value ∙ c.take_newest-newest.ensures.emptied.gone)
-    c.bounds-next.result.0 c.bounds-next.result.1 c.bounds-next.ensures.are.0 c.bounds-next.ensures.are.1
-    c.flush.ensures.images c.flush.ensures.stands
-    c.in-Ok-flush.done c.in-Ok-flush.ensures.many c.flush.ensures.costs _ _ refl
+    subst (All (StandsOn a.content)) (levels_now c.args.self.now c.drain.new.self c.in-Ok.ensures.drained)
+    (levels_stand g.D.Disk.tells a (g.met.D.Disk.lawful c.args.disk.now) c.args.self.now c.requires.agrees told)
+
+pub returns-in-Err-join_oldest-clause-obeys : goal.returns-in-Err-join_oldest-clause-obeys
+returns-in-Err-join_oldest-clause-obeys g c =
+    let tells = g.D.Disk.tells in
+    let a = g.D.Disk.state c.args.disk.now in
+    let b = g.D.Disk.state c.join_oldest.new.disk in
+    let store = c.args.self.now in
+    let newest = c.in-Ok.newest in
+    let drained = c.in-Ok.ensures.drained in
+    let long = levels_long tells a (g.met.D.Disk.lawful c.args.disk.now) store c.requires.agrees in
+    let root_long = ap (λ (r : Root). length r.levels.items) drained.root in
+    let many = many_by store newest (omega (arith, c.if-len-lt-LEVELS.false, c.len.ensures.value, c.len.ensures.fits, root_long, long)) (omega (arith, c.if-len-eq0.false, c.len-else-len-lt-LEVELS.ensures)) in
+    let result : Result (Unit {0}) StoreFault = Err c.in-Err-join_oldest.fault in
+    subst (λ (joins : List Tables). ObeysOver tells flushes joins a b store c.join_oldest.new.self result) (sym (flush_reads tells a store c.requires.agrees newest c.in-Ok.ensures.content true many))
+    (changes_unread tells _ _ 1 (two_of store) a b (g.met.D.Disk.lawful c.args.disk.now) (g.met.D.Disk.lawful c.join_oldest.new.disk) store c.join_oldest.new.self c.in-Err-join_oldest.fault c.requires.agrees
+    (segments_read tells a (g.met.D.Disk.lawful c.args.disk.now) store c.requires.agrees store.job)
+    (subst (λ (joins : List Tables). ReadsLevels {T = Content} tells joins a b (Err c.in-Err-join_oldest.fault)) (two_now store c.drain.new.self drained c.in-Ok.ensures.job) c.in-Err-join_oldest.ensures.reads))
+
+pub put-requires-2-clause-may : goal.put-requires-2-clause-may
+put-requires-2-clause-may g c =
+    let tells = g.D.Disk.tells in
+    let a = g.D.Disk.state c.args.disk.now in
+    let b = g.D.Disk.state c.join_oldest.new.disk in
+    let store = c.args.self.now in
+    let drained = c.in-Ok.ensures.drained in
+    let long = levels_long tells a (g.met.D.Disk.lawful c.args.disk.now) store c.requires.agrees in
+    let root_long = ap (λ (r : Root). length r.levels.items) drained.root in
+    let join = oldest_joined_now tells a store c.drain.new.self c.requires.agrees drained c.in-Ok.ensures.job c.in-Ok-join_oldest.oldest c.in-Ok-join_oldest.ensures.goes_on c.in-Ok-join_oldest.ensures.begins in
+    let read = subst (λ (joins : List Tables). ReadsLevels {T = Content} tells joins a b (Ok c.in-Ok-join_oldest.oldest)) (two_now store c.drain.new.self drained c.in-Ok.ensures.job) c.in-Ok-join_oldest.ensures.reads in (
+      store,
+      joined tells a b b (g.met.D.Disk.lawful c.args.disk.now) (g.met.D.Disk.lawful c.join_oldest.new.disk) (g.met.D.Disk.lawful c.join_oldest.new.disk) store c.requires.agrees read.reads
+          (undamaged_read tells (two_of store) a b c.in-Ok-join_oldest.oldest read) join.0 join.1 c.join_oldest.new.self (joinless store c.drain.new.self c.join_oldest.new.self drained c.join_oldest.ensures.taken)
+          (ap (λ (s : Store). s.job) c.join_oldest.ensures.taken) c.in-Ok-join_oldest.oldest c.in-Ok.newest join.2 c.in-Ok.ensures.content c.in-Ok.ensures.part _
+          (record { stay_from_is = refl; oldest_is = refl; newest_is = refl }) (omega (arith, c.len.ensures.value, c.len.ensures.fits, root_long, long)),
+    )
 
 pub returns-clause-obeys : goal.returns-clause-obeys
 returns-clause-obeys g c =
+    let tells = g.D.Disk.tells in
     let a = g.D.Disk.state c.args.disk.now in
-    let b = g.D.Disk.state c.flush.new.disk in
+    let b = g.D.Disk.state c.join_oldest.new.disk in
     let store = c.args.self.now in
-    let done = c.in-Ok-flush.done in
-    let deleted_is = c.deref-3.ensures.value ∙ c.in-Ok.ensures.value in
-    let memory_is = ap (λ (l : Level). l.content) c.take_newest-newest.ensures.memory in
-    let gone_is = c.gone.ensures.value ∙ c.take_newest-newest.ensures.emptied.gone in
-    let rows = λ (added : List Added) (has : HasContent added store.catalog.memory.content).
-    c.in-Ok-flush.ensures.level added (subst (HasContent added) (sym memory_is) has) ∙ ap (λ (g : List ℕ). map (λ (a : Added). a.row) (live_of g added)) gone_is in
-    let later : Store = record { alloc = store.alloc; slot = done.slot; root = done.root; listed = c.in-Ok.deleted; tail = c.tail_of-self.result; catalog = c.put_level.new.self; sound = store.sound } in
-    let lawful_b = g.met.D.Disk.lawful c.flush.new.disk in
-    flush_done c.what_is_gone.ensures.gone c.what_is_gone.ensures.deleted g.D.Disk.tells a b (g.met.D.Disk.lawful c.args.disk.now) store c.requires.agrees c.requires.some
-    c.take_newest-newest.result.content memory_is
-    _ c.deref.ensures.value (c.deref-2.ensures.value ∙ c.in-Ok.ensures.value) gone_is
-    c.bounds-next.result.0 c.bounds-next.result.1 c.bounds-next.ensures.are.0 c.bounds-next.ensures.are.1
-    c.flush.ensures.images c.flush.ensures.stands
-    done c.in-Ok-flush.ensures.many c.flush.ensures.costs
-    lawful_b c.in-Ok-flush.ensures.durable later
-    (intact_then store later c.requires.agrees.intact c.take_newest-newest.new.self c.take_newest-newest.ensures.emptied done.level c.deref-3.result.now rows deleted_is c.what_is_gone.ensures.behind
-    c.in-Ok-put_level.ensures.same c.in-Ok-put_level.ensures.follows (c.in-Ok-flush.ensures.counts.1 ∙ c.bounds-next.ensures.are.0) (c.in-Ok-flush.ensures.counts.2 ∙ c.bounds-next.ensures.are.1))
-    (knows_then store later c.requires.agrees.intact c.take_newest-newest.new.self c.take_newest-newest.ensures.emptied done.level c.deref-3.result.now rows deleted_is c.what_is_gone.ensures.behind
-    c.in-Ok-put_level.ensures.same c.in-Ok-put_level.ensures.follows (c.in-Ok-flush.ensures.counts.1 ∙ c.bounds-next.ensures.are.0) (c.in-Ok-flush.ensures.counts.2 ∙ c.bounds-next.ensures.are.1))
-    c.in-Ok-flush.ensures.works c.in-Ok-flush.ensures.opened_then
-    (λ told o coming is flushed.
-    keeps_flushed store later c.requires.agrees.intact c.take_newest-newest.new.self c.take_newest-newest.ensures.emptied done.level c.deref-3.result.now rows deleted_is c.what_is_gone.ensures.behind
-    c.in-Ok-put_level.ensures.same c.in-Ok-put_level.ensures.follows (c.in-Ok-flush.ensures.counts.1 ∙ c.bounds-next.ensures.are.0) (c.in-Ok-flush.ensures.counts.2 ∙ c.bounds-next.ensures.are.1)
-    c.in-Ok-put_level.ensures.knows c.in-Ok-put_level.ensures.levels done.slot done.root refl refl (sym c.deref-3.ensures.value) c.tail_of-self.ensures.0 c.tail_of-self.ensures.1
-    a.limit _ (c.deref-2.ensures.value ∙ sym c.deref-3.ensures.value) c.bounds-next.result.0 c.bounds-next.result.1 done refl refl refl
-    o coming b.content (lawful_b.bytes b.clock b.content (lawful_b.counts_now b.clock b.content (omega arith) (lawful_b.present told)))
-    (kept store a.content (c.requires.agrees.content told) o is) flushed)
-    _
+    let newest = c.in-Ok.newest in
+    let drained = c.in-Ok.ensures.drained in
+    let long = levels_long tells a (g.met.D.Disk.lawful c.args.disk.now) store c.requires.agrees in
+    let root_long = ap (λ (r : Root). length r.levels.items) drained.root in
+    let most : length (levels_of c.args.self.now) ≤ 16 = omega (arith, c.len.ensures.value, c.len.ensures.fits, root_long, long) in
+    let many = many_by store newest (omega (arith, c.if-len-lt-LEVELS.false, c.len.ensures.value, c.len.ensures.fits, root_long, long)) (omega (arith, c.if-len-eq0.false, c.len-else-len-lt-LEVELS.ensures)) in
+    let join = oldest_joined_now tells a store c.drain.new.self c.requires.agrees drained c.in-Ok.ensures.job c.in-Ok-join_oldest.oldest c.in-Ok-join_oldest.ensures.goes_on c.in-Ok-join_oldest.ensures.begins in
+    let read = subst (λ (joins : List Tables). ReadsLevels {T = Content} tells joins a b (Ok c.in-Ok-join_oldest.oldest)) (two_now store c.drain.new.self drained c.in-Ok.ensures.job) c.in-Ok-join_oldest.ensures.reads in
+    let whole = undamaged_read tells (two_of store) a b c.in-Ok-join_oldest.oldest read in
+    let taken = joinless store c.drain.new.self c.join_oldest.new.self drained c.join_oldest.ensures.taken in
+    let no_job = ap (λ (s : Store). s.job) c.join_oldest.ensures.taken in
+    flush_joined tells a b (g.D.Disk.state c.put-2.new.disk) (g.met.D.Disk.lawful c.args.disk.now) (g.met.D.Disk.lawful c.join_oldest.new.disk) (g.met.D.Disk.lawful c.put-2.new.disk) store c.requires.agrees read.reads
+    whole join.0 join.1 c.join_oldest.new.self taken no_job c.in-Ok-join_oldest.oldest newest join.2 c.in-Ok.ensures.content c.in-Ok.ensures.part _ (record { stay_from_is = refl; oldest_is = refl; newest_is = refl }) most c.requires.some many c.put-2.new.self c.put-2.result c.put-2.ensures.job
+    (c.put-2.ensures.puts store
+    (joined tells a b b (g.met.D.Disk.lawful c.args.disk.now) (g.met.D.Disk.lawful c.join_oldest.new.disk) (g.met.D.Disk.lawful c.join_oldest.new.disk) store c.requires.agrees read.reads whole join.0 join.1 c.join_oldest.new.self
+    taken no_job c.in-Ok-join_oldest.oldest newest join.2 c.in-Ok.ensures.content c.in-Ok.ensures.part _ (record { stay_from_is = refl; oldest_is = refl; newest_is = refl }) most))

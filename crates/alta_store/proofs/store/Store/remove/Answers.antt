@@ -30,7 +30,7 @@ returns-in-Ok-append-clause-enters g c =
     entry (delete_allowed store c.args.name.now c.args.number entry is named)
     (subst (λ (e : Entry). length (body_of e) ≤ room_of store) (sym is) c.requires.fits)
     (g.D.Disk.state c.append.new.disk) c.in-Ok-append.ensures.images (g.met.D.Disk.lawful c.append.new.disk) c.in-Ok-append.ensures.durable c.in-Ok-append.ensures.appended
-    _ refl refl refl c.in-Ok-append.ensures.tail c.in-Ok-append.ensures.half c.remove.ensures.levels
+    _ refl refl refl c.in-Ok-append.ensures.tail c.in-Ok-append.ensures.half refl c.remove.ensures.levels c.in-Ok-remove.ensures.still
     (λ root entries follows. subst (λ (e : Entry). Follows c.remove.new.self root (entries ++ e ∷ [])) (sym is) (c.in-Ok-remove.ensures.follows root entries follows))
     (delete_knows store c.args.name.now c.args.number entry is named _ c.in-Ok-remove.ensures.removed)
     (Delete c.args.number) is (with_deleted c.args.name.now)

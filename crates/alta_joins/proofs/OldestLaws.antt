@@ -1,0 +1,166 @@
+-- Calls that read levels and join them.
+use Rattle.std.proofs.Common.{◌≡◌, true, ℕ, ◌<◌, ◌≤◌, List, [], ◌∷◌, ◌++◌, length, take, drop, refl, sym, subst, ap, ◌∙◌, arith, take-append-drop}
+use Rattle.std.specs.Prelude.{Ok, Err, IsTrue}
+use Rattle.std.specs.Cmp.Lexicographic.{slice_cmp}
+use Rattle.std.specs.List.{All, flat_map, list_any}
+use Rattle.std.specs.Ordering.{match_ordering, nat_cmp}
+use Rattle.std.specs.declared.cmp.Ordering.{Ordering}
+use Rattle.std.specs.declared.cmp.Ordering.TheVariants.{Less, Equal, Greater}
+use Rattle.std.proofs.lemmas.Bool.{false≢true}
+use Rattle.std.proofs.lemmas.Grind.{flat_map-append}
+use Rattle.std.proofs.lemmas.List.{append-nil}
+use Rattle.std.proofs.lemmas.List.Elements.{All-nil, All-cons}
+use Rattle.alta_content.specs.Lists.{IsContent, is_end_list, terms_of}
+use Rattle.alta_content.specs.Parts.{MayJoin}
+use Rattle.alta_content.specs.Rows.{AreDocuments, AreDocumentsBehind, Before, behind_row, ends_among, live_rows, start}
+use Rattle.alta_content.specs.declared.content.Content.{Content}
+use Rattle.alta_content.specs.declared.content.TermList.{TermList}
+use Rattle.alta_content.specs.declared.document.DocRow.{DocRow}
+use Rattle.alta_images.specs.Joining.{content_of, in_order, joined_in, terms_in, with_term}
+use Rattle.alta_images.specs.Opened.{rows_in}
+use Rattle.alta_images.specs.Working.{rows_of}
+use Rattle.alta_images.proofs.WrittenLaws.{all_left}
+use Rattle.alta_joins.proofs.KeptLaws.{live_may_join, live_same}
+use Rattle.alta_joins.proofs.SameWords.{content_of-same}
+use Rattle.alta_joins.proofs.SpaceLaws.{content_rows, contents_join}
+use Rattle.alta_joins.specs.Contents.{AreContentsOf, AreSegmentsOn, IsContentOf}
+use Rattle.alta_joins.specs.Damages.{FindsDamage, Tells}
+use Rattle.alta_joins.specs.Jobs.{AreJoinedOn, DeadAreGone, IsBegun, IsJoining, IsMerging, begun_job}
+use Rattle.alta_joins.specs.Newest.{IsNewest}
+use Rattle.alta_joins.specs.declared.fault.JoinFault.{JoinFault}
+use Rattle.alta_joins.specs.declared.fault.JoinFault.TheVariants as faults
+use Rattle.alta_memlevel.specs.Added.{Added, HasContent, live_of}
+use Rattle.alta_memlevel.specs.Documents.{IsBefore}
+use Rattle.alta_memlevel.proofs.Behind.{may_join_behind}
+use Rattle.alta_memlevel.proofs.One as one
+use Rattle.alta_merge.specs.Merging.{Merging}
+use Rattle.alta_table.specs.Tables.{Tables}
+
+-- ---- damage
+
+-- a call that hands a fault on tells the same damage
+pub finds_fault : {X Y : Type 0} (view : X → List Content) (image : List ℕ) (levels : List Tables) (e : JoinFault) → Tells view image levels (Err e) → FindsDamage {X = Y} image levels (Err e)
+finds_fault view image levels faults.Disk told = record { undamaged = λ contents are. tt; first = tt; damaged = λ p damage. tt }
+finds_fault view image levels faults.Memory told = record { undamaged = λ contents are. tt; first = tt; damaged = λ p damage. tt }
+finds_fault view image levels (faults.Damaged q) told = record { undamaged = λ contents are. told.only contents are; first = told.first; damaged = told.damaged }
+
+-- where all was read, there is none
+pub finds_none : {X Y : Type 0} (view : X → List Content) (image : List ℕ) (levels : List Tables) (x : X) (y : Y) → Tells view image levels (Ok x) → FindsDamage {X = Y} image levels (Ok y)
+finds_none view image levels x y told = record { undamaged = λ contents are. tt; first = tt; damaged = told.damaged }
+
+-- and want of memory is free
+pub finds_lean : {Y : Type 0} (image : List ℕ) (levels : List Tables) → FindsDamage {X = Y} image levels (Err faults.Memory)
+finds_lean image levels = record { undamaged = λ contents are. tt; first = tt; damaged = λ p damage. tt }
+
+-- ---- a term is left
+
+some_by : {X : Type 0} (o : Ordering) (xs ys zs : List X) → 0 < length xs → 0 < length ys → 0 < length zs → 0 < length (match_ordering o xs ys zs)
+some_by Less xs ys zs a b c = a
+some_by Equal xs ys zs a b c = b
+some_by Greater xs ys zs a b c = c
+
+some_with : (term : List ℕ) (terms : List (List ℕ)) → 0 < length (with_term term terms)
+some_with term [] = omega arith
+some_with term (t ∷ ts) =
+    some_by (slice_cmp nat_cmp term t) (term ∷ t ∷ ts) (t ∷ ts) (t ∷ with_term term ts) (omega arith) (omega arith) (omega arith)
+
+some_lists : (lists : List TermList) → IsTrue (list_any is_end_list lists) → 0 < length lists
+some_lists [] is = absurd (false≢true is)
+some_lists (l ∷ ls) is = omega arith
+
+some_terms : (lists : List TermList) (more : List (List ℕ)) → 0 < length lists → 0 < length (in_order (terms_of lists ++ more))
+some_terms [] more some = absurd (omega (arith, some))
+some_terms (l ∷ ls) more some = some_with l.term (in_order (terms_of ls ++ more))
+
+-- contents of which the first is a level's have a term
+pub some_left : (older newer : Content) → IsContent older → 0 < length (terms_in (older ∷ newer ∷ []))
+some_left older newer is = some_terms older.lists (flat_map (λ (c : Content). terms_of c.lists) (newer ∷ [])) (some_lists older.lists is.has_end)
+
+-- ---- the front of documents
+
+documents_front : (before : Before) (xs ys : List DocRow) → AreDocumentsBehind before (xs ++ ys) → AreDocumentsBehind before xs
+unfolding AreDocumentsBehind
+documents_front before [] ys are = tt
+documents_front before (x ∷ xs) ys (follows, are) = (follows, documents_front (behind_row before x) xs ys are)
+
+pub front_all : {X : Type 0} (P : X → Type 0) (n : ℕ) (xs : List X) → All P xs → All P (take n xs)
+front_all P n xs all = all_left P (take n xs) (drop n xs) (subst (All P) (sym (take-append-drop n xs)) all)
+
+pub front_documents : (n : ℕ) (levels : List Tables) → AreDocuments (rows_in levels) → AreDocuments (rows_in (take n levels))
+front_documents n levels are =
+    let split : rows_in levels ≡ rows_in (take n levels) ++ rows_in (drop n levels) = ap rows_in (sym (take-append-drop n levels)) ∙ flat_map-append (λ (t : Tables). t.documents) (take n levels) (drop n levels) in
+    documents_front start (rows_in (take n levels)) (rows_in (drop n levels)) (subst AreDocuments split are)
+
+-- ---- a join that begins
+
+-- the contents of two levels
+pub record AreTwoOf (levels : List Tables) (contents : List Content) : Type 0 where
+  pub older : Tables
+  pub newer : Tables
+  pub more : List Tables
+  pub first : Content
+  pub second : Content
+  pub oldest : levels ≡ older ∷ newer ∷ more
+  pub split : contents ≡ first ∷ second ∷ []
+  pub are : IsContentOf older first × IsContentOf newer second
+
+two_of : (levels : List Tables) (contents : List Content) → 2 ≤ length levels → AreContentsOf (take 2 levels) contents → AreTwoOf levels contents
+two_of [] contents two are = absurd (omega (arith, two))
+two_of (l ∷ []) contents two are = absurd (omega (arith, two))
+two_of (l ∷ m ∷ ls) [] two are = absurd are
+two_of (l ∷ m ∷ ls) (c ∷ []) two are = absurd are.1
+two_of (l ∷ m ∷ ls) (c ∷ d ∷ []) two are = record { older = l; newer = m; more = ls; first = c; second = d; oldest = refl; split = refl; are = (are.0, are.1.0) }
+two_of (l ∷ m ∷ ls) (c ∷ d ∷ e ∷ es) two are = absurd are.1.1
+
+same_dead : (dead : List ℕ) (rows : List DocRow) → DeadAreGone dead dead rows
+same_dead dead [] = All-nil (λ (row : DocRow). ends_among dead row ≡ true → ends_among dead row ≡ true)
+same_dead dead (row ∷ rows) = All-cons (λ (row : DocRow). ends_among dead row ≡ true → ends_among dead row ≡ true) row rows (λ is. is) (same_dead dead rows)
+
+-- what begins is a join of the two oldest, whose contents are those that were read
+pub begins : (levels : List Tables) (gone : List ℕ) (merging : Merging) (contents : List Content) (tells : Type 0) (image : List ℕ) → 2 ≤ length levels → AreContentsOf (take 2 levels) contents → MayJoin contents
+    → (tells → AreSegmentsOn image (take 2 levels) contents) → ((older newer : Content) → contents ≡ older ∷ newer ∷ [] → IsMerging merging (begun_job older newer gone))
+    → (joining : IsJoining levels gone merging) × IsBegun joining × (tells → AreJoinedOn image joining)
+begins levels gone merging contents tells image two are may segments merges =
+    let of = two_of levels contents two are in
+    let front : take 2 levels ≡ of.older ∷ of.newer ∷ [] = ap (λ (ls : List Tables). take 2 ls) of.oldest in (
+      record {
+        job = begun_job of.first of.second gone;
+        is = merges of.first of.second of.split;
+        older = of.older;
+        newer = of.newer;
+        more = of.more;
+        oldest = of.oldest;
+        contents = of.are;
+        may = subst MayJoin of.split may;
+        left = some_left of.first of.second of.are.0.stands;
+        dead = same_dead gone (of.first.documents ++ of.second.documents);
+      },
+      (refl, refl),
+      λ told. subst (λ (cs : List Content). AreSegmentsOn image (of.older ∷ of.newer ∷ []) cs) of.split (subst (λ (ls : List Tables). AreSegmentsOn image ls contents) front (segments told)),
+    )
+
+-- ---- a merge
+
+module _ (levels : List Tables) (contents : List Content) (gone : List ℕ) (added : List Added) (newest : Content) (are : AreContentsOf levels contents) (documents : AreDocuments (rows_in levels))
+    (is : IsNewest levels gone added newest) where
+  newest_is : newest ≡ content_of (live_of gone added)
+  newest_is = is.content_is ∙ sym (content_of-same (live_of gone added))
+
+  all_join : MayJoin (contents ++ content_of added ∷ [])
+  all_join =
+      may_join_behind is.number is.location contents added (content_of added) is.numbered is.located (contents_join levels contents are documents)
+      (subst (λ (rows : List DocRow). All (IsBefore is.number is.location) rows) (sym (content_rows levels contents are)) is.behind) is.are_added
+      (subst (HasContent added) (sym (content_of-same added)) (one.content_has added is.are_added.space))
+
+  pub newest_join : MayJoin (contents ++ newest ∷ [])
+  newest_join = subst (λ (c : Content). MayJoin (contents ++ c ∷ [])) (sym newest_is) (live_may_join contents added gone is.are_added.space all_join)
+
+  pub newest_same : joined_in (contents ++ newest ∷ []) gone ≡ joined_in (contents ++ content_of added ∷ []) gone
+  newest_same = ap (λ (c : Content). joined_in (contents ++ c ∷ []) gone) newest_is ∙ live_same contents added gone is.are_added.space all_join
+
+pub merged_rows : (levels : List Tables) (contents : List Content) (gone : List ℕ) (newest : Content) → AreContentsOf levels contents
+    → (joined_in (contents ++ newest ∷ []) gone).documents ≡ live_rows gone (rows_in levels ++ newest.documents)
+merged_rows levels contents gone newest are =
+    ap (live_rows gone)
+    (flat_map-append (λ (c : Content). c.documents) contents (newest ∷ []) ∙ ap (λ (rows : List DocRow). rows ++ rows_of (newest ∷ [])) (content_rows levels contents are)
+    ∙ ap (λ (rows : List DocRow). rows_in levels ++ rows) (append-nil newest.documents))

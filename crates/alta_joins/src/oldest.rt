@@ -1,0 +1,85 @@
+// The two oldest levels, whose join begins, and all levels, which are merged.
+ghost use Rattle.std.specs.Prelude.{◌≡◌, ◌≤◌, ◌++◌, ◌∷◌, [], List, All, Err, IfOk, length, take};
+ghost use Rattle.std.specs.List.{sum_by};
+ghost use Rattle.alta_codec.specs.Faults.{Rose};
+ghost use Rattle.alta_content.specs.Parts.{IsPart};
+ghost use Rattle.alta_content.specs.Rows.{AreDocuments, live_rows};
+ghost use Rattle.alta_content.specs.declared.content.Content.{Content};
+ghost use Rattle.alta_disk.specs.Calls.{Reads};
+ghost use Rattle.alta_disk.specs.Disk.{DiskState};
+ghost use Rattle.alta_images.specs.Broken.{IsBrokenAmong};
+ghost use Rattle.alta_images.specs.Joining.{content_of, joined_in};
+ghost use Rattle.alta_images.specs.Opened.{rows_in};
+ghost use Rattle.alta_joins.specs.Answers.{IfDamaged};
+ghost use Rattle.alta_joins.specs.Contents.{AreContentsOf, AreSegmentsOn, StandsOn, data_size};
+ghost use Rattle.alta_joins.specs.Damages.{FindsDamage};
+ghost use Rattle.alta_joins.specs.Jobs.{AreJoinedOn, IsBegun, IsJoining};
+ghost use Rattle.alta_joins.specs.Newest.{IsNewest};
+ghost use Rattle.alta_joins.specs.declared.fault.JoinFault.TheVariants.{Disk as DiskFault};
+ghost use Rattle.alta_memlevel.specs.Added.{Added};
+
+use crate::fault::JoinFault;
+use crate::joining::{begin_job, join_levels};
+use crate::levels::read_levels;
+use alta_codec::Loc;
+use alta_content::Content;
+use alta_disk::Disk;
+use alta_merge::Job;
+use alta_table::Table;
+use std::alloc::Global;
+
+/// Reads the two oldest of these levels, and begins their join without what is gone.
+///
+/// # Errors
+///
+/// Those of [`crate::read_levels`].
+pub fn begin_oldest<D: Disk>(
+    alloc: Global,
+    disk: &mut D,
+    levels: &[Table],
+    gone: &[Loc],
+) -> Result<Job, JoinFault>
+    requires two { 2 ≤ length levels.now }
+    requires stands { D.tells → All (StandsOn (D.state disk.old).content) levels.now }
+    requires documents { AreDocuments (rows_in levels.now) }
+    // Whatever the disk tells, it is a join of contents with these tables; and they are those of the segments that stand there.
+    ensures begun { IfOk result (λ job. (joining : IsJoining levels.now gone.now job) × IsBegun joining × (D.tells → AreJoinedOn (D.state disk.old).content joining)) }
+    ensures damage { D.tells → FindsDamage (D.state disk.old).content (take 2 levels.now) result }
+    ensures broken { D.tells → IfDamaged result (IsBrokenAmong (take 2 levels.now) (D.state disk.old).content) }
+    ensures cause { result ≡ Err DiskFault → Rose (D.state disk.old).faults (D.state disk.new).faults }
+    ensures reads { Reads D.tells (sum_by data_size (take 2 levels.now)) (D.state disk.old) (D.state disk.new) }
+{
+    let contents = read_levels(alloc, disk, &levels[..2])?;
+    Ok(begin_job(alloc, contents, gone)?)
+}
+
+/// Reads all of these levels, and joins them with the newest documents behind them, without what is gone. `newest` has the live
+/// ones of documents that were added.
+///
+/// # Errors
+///
+/// Those of [`crate::read_levels`].
+pub fn merge_levels<D: Disk>(
+    alloc: Global,
+    disk: &mut D,
+    levels: &[Table],
+    newest: Content,
+    gone: &[Loc],
+) -> Result<Content, JoinFault>
+    requires stands { D.tells → All (StandsOn (D.state disk.old).content) levels.now }
+    requires documents { AreDocuments (rows_in levels.now) }
+    requires newest { (added : List Added) × IsNewest levels.now gone.now added newest }
+    // It is the join of all levels and of all documents that were added, without what is gone.
+    ensures merged { (added : List Added) → IsNewest levels.now gone.now added newest → IfOk result (λ content. (contents : List Content) × AreContentsOf levels.now contents
+        × (D.tells → AreSegmentsOn (D.state disk.old).content levels.now contents) × (content ≡ joined_in (contents ++ content_of added ∷ []) gone.now)) }
+    ensures part { IfOk result IsPart }
+    ensures rows { IfOk result (λ content. content.documents ≡ live_rows gone.now (rows_in levels.now ++ newest.documents)) }
+    ensures damage { D.tells → FindsDamage (D.state disk.old).content levels.now result }
+    ensures broken { D.tells → IfDamaged result (IsBrokenAmong levels.now (D.state disk.old).content) }
+    ensures cause { result ≡ Err DiskFault → Rose (D.state disk.old).faults (D.state disk.new).faults }
+    ensures reads { Reads D.tells (sum_by data_size levels.now) (D.state disk.old) (D.state disk.new) }
+{
+    let mut contents = read_levels(alloc, disk, levels)?;
+    contents.push(newest)?;
+    Ok(join_levels(alloc, contents, gone)?)
+}

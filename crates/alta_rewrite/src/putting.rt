@@ -1,0 +1,116 @@
+// Pieces are written, a gate is closed, one sync makes both firm, and the root is switched.
+ghost use Rattle.std.specs.Prelude.{◌≡◌, ◌≤◌, ◌+◌, [], List, ℕ, length, OnOk};
+ghost use Rattle.std.specs.List.{All};
+ghost use Rattle.alta_codec.specs.Faults.{HasCause};
+ghost use Rattle.alta_codec.specs.declared.extent.Extent.{Extent};
+ghost use Rattle.alta_disk.specs.Calls.{Costs};
+ghost use Rattle.alta_disk.specs.Disk.{DiskState, LeavesOnly, Only, Passes};
+ghost use Rattle.alta_disk.specs.Parts.{Touches};
+ghost use Rattle.alta_images.specs.Holding.{Holding, IsHeld};
+ghost use Rattle.alta_images.specs.Levels.{Level};
+ghost use Rattle.alta_images.specs.Opened.{Opened, IsOpened, half_of};
+ghost use Rattle.alta_images.specs.Standing.{StandsFor, StandsForEither, view_of};
+ghost use Rattle.alta_images.specs.Views.{state_of};
+ghost use Rattle.alta_meta.specs.declared.document.State.{State};
+ghost use Rattle.alta_root.specs.Switches.{Switched};
+ghost use Rattle.alta_root.specs.declared.places.TheConstants.{HEAD_BYTES};
+ghost use Rattle.alta_rewrite.specs.Brings.{Brings, IsOpenedEither, Names};
+ghost use Rattle.alta_rewrite.specs.Puts.{AreLaid, Fills, MayPut, Puts, Putting, Writes, ranges_before, ranges_in};
+
+use crate::piece::Piece;
+use alta_disk::{Disk, Failed};
+use alta_journal::{Half, format};
+use alta_root::{Root, Slot, switch};
+
+#[cfg(test)]
+mod tests;
+
+/// Writes pieces into gaps beside what the root that counts names, and makes `root` the one that counts, in the slot that does
+/// not count now. Nothing is pending at the start.
+///
+/// The bytes of a piece fill its extent, which meets no extent of the root that counts and no piece before it, and begins no
+/// further than the disk and these reach. What `root` names lies inside the disk once the pieces are there, and its sequence
+/// comes next.
+///
+/// Each piece is one write, and so is the first gate of the journal's half that `slot` uses, which is closed; one sync makes all
+/// of it firm, and then the root is switched by at most three writes with their syncs. At each moment every image is opened as
+/// before, or as the new root says, and after `Ok` only the latter. It takes no memory, and reads one byte.
+///
+/// # Errors
+///
+/// `Failed` where a call of the disk failed. The images are then as at some moment before.
+pub(crate) fn put_root<D: Disk>(
+    disk: &mut D,
+    slot: Slot,
+    root: &Root,
+    pieces: &[Piece<'_>],
+) -> Result<(), Failed>
+    requires settled { Only (D.state disk.old).content (D.state disk.old).images }
+    requires follows { D.tells → MayPut slot root.now pieces.now (D.state disk.old).limit (D.state disk.old).content }
+    requires fits { All (Fills (D.state disk.old).limit) pieces.now }
+    requires limit { HEAD_BYTES ≤ (D.state disk.old).limit }
+
+    ensures put { D.tells → OnOk result ((middle : List ℕ) × Puts slot pieces.now (D.state disk.old).content middle × Switched slot root.now middle (D.state disk.new).content) }
+    ensures durable { OnOk result (Only (D.state disk.new).content (D.state disk.new).images) }
+
+    // At each moment of the call.
+    ensures images { Passes (Putting slot root.now pieces.now) (D.state disk.old) (D.state disk.new) }
+
+    // What an image is opened as then, and what it stands for.
+    ensures opened { (o coming : Opened) → (D.tells → IsOpened o (D.state disk.old).content) → (D.tells → Names slot root.now pieces.now coming (D.state disk.old).content)
+        → LeavesOnly (IsOpenedEither o coming) (D.state disk.old) (D.state disk.new) }
+    ensures opened_then { (coming : Opened) → D.tells → Names slot root.now pieces.now coming (D.state disk.old).content → OnOk result (IsOpened coming (D.state disk.new).content) }
+    ensures stands { (s t : State) → (coming : Opened) → (levels : List Level) → (D.tells → StandsFor s (D.state disk.old).content)
+        → (D.tells → Brings slot root.now pieces.now coming levels t (D.state disk.old).content) → LeavesOnly (StandsForEither s t) (D.state disk.old) (D.state disk.new) }
+    ensures stands_then { (t : State) → (coming : Opened) → (levels : List Level) → D.tells → Brings slot root.now pieces.now coming levels t (D.state disk.old).content
+        → OnOk result (StandsFor t (D.state disk.new).content) }
+    ensures held { (then : Holding) → (coming : Opened) → D.tells → Brings slot root.now pieces.now coming then.view.levels (state_of then.view) (D.state disk.old).content
+        → then.view ≡ view_of coming then.view.levels → then.list ≡ coming.root.deletions → OnOk result (IsHeld then (D.state disk.new).content) }
+
+    ensures cause { HasCause (D.state disk.old).faults (D.state disk.new).faults result }
+    ensures costs { Costs 1 (D.state disk.old) (D.state disk.new) }
+{
+    put(disk, slot, pieces)?;
+    switch(disk, slot, root)
+}
+
+// Writes the pieces, closes the gate, and syncs.
+fn put<D: Disk>(disk: &mut D, slot: Slot, pieces: &[Piece<'_>]) -> Result<(), Failed>
+    requires whole { D.tells → HEAD_BYTES ≤ length (D.state disk.old).content }
+    requires laid { D.tells → (taken : List Extent) × AreLaid taken (D.state disk.old).limit (length (D.state disk.old).content) [] pieces.now }
+    requires fits { All (Fills (D.state disk.old).limit) pieces.now }
+    requires limit { HEAD_BYTES ≤ (D.state disk.old).limit }
+    ensures put { D.tells → OnOk result (Puts slot pieces.now (D.state disk.old).content (D.state disk.new).content) }
+    ensures durable { OnOk result (Only (D.state disk.new).content (D.state disk.new).images) }
+    ensures images { Passes (Touches (ranges_before slot pieces.now)) (D.state disk.old) (D.state disk.new) }
+    ensures cause { HasCause (D.state disk.old).faults (D.state disk.new).faults result }
+    ensures costs { Costs 0 (D.state disk.old) (D.state disk.new) }
+{
+    write_pieces(disk, pieces)?;
+    format(disk, half(slot))?;
+    Ok(())
+}
+
+fn half(slot: Slot) -> Half
+    ensures { result ≡ half_of slot }
+{
+    match slot {
+        Slot::A => Half::A,
+        Slot::B => Half::B,
+    }
+}
+
+// Writes each piece at its extent.
+fn write_pieces<D: Disk>(disk: &mut D, pieces: &[Piece<'_>]) -> Result<(), Failed>
+    requires laid { D.tells → (taken : List Extent) × AreLaid taken (D.state disk.old).limit (length (D.state disk.old).content) [] pieces.now }
+    requires fits { All (Fills (D.state disk.old).limit) pieces.now }
+    ensures written { D.tells → OnOk result (Writes pieces.now (D.state disk.old).content (D.state disk.new).content) }
+    ensures images { Passes (Touches (ranges_in pieces.now)) (D.state disk.old) (D.state disk.new) }
+    ensures cause { HasCause (D.state disk.old).faults (D.state disk.new).faults result }
+    ensures costs { Costs 0 (D.state disk.old) (D.state disk.new) }
+{
+    for piece in pieces {
+        disk.write(piece.extent.place, piece.bytes)?;
+    }
+    Ok(())
+}

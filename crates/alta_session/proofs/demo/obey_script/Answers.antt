@@ -1,0 +1,69 @@
+use Rattle.std.proofs.Common.{◌≡◌, ℕ, ◌<◌, List, ◌∷◌, [], None, Some, length, refl, sym, subst, ◌∙◌, arith}
+use Rattle.std.specs.Prelude.{slice_get}
+use Rattle.std.proofs.lemmas.Option.{slice_get_within}
+use Rattle.alta_console.specs.Lines.{NoNewline}
+use Rattle.alta_make.specs.Script.{script}
+use Rattle.alta_session.specs.Demo.{Obeyed, StopsObeying}
+use Rattle.alta_session.specs.declared.status.Status.TheVariants.{Memory}
+use Rattle.alta_session.proofs.FedLaws.{fed_none}
+use Rattle.alta_session.proofs.ScriptLaws.{fed_next, fed_all, stops_next, stops_before, script_line_free, script_short}
+use Rattle.alta_session.proofs.demo.obey_script.Goals as goal
+
+pub lines-init : goal.lines-init
+lines-init g c = record {
+  within = omega arith;
+  obeyed = fed_none g.D.Disk.tells None (g.D.Disk.state c.args.disk.now) c.args.session.now (g.met.D.Disk.lawful c.args.disk.now);
+  can = c.requires.can;
+  disk_count = omega arith;
+  same_limit = refl;
+}
+
+-- behind the last line
+pub returns-in-Ok-None-clause-ok : goal.returns-in-Ok-None-clause-ok
+returns-in-Ok-None-clause-ok g c = fed_all g.D.Disk.tells None None _ _ _ _ (script c.args.n) c.lines.index (sym c.in-Ok-None.ensures ∙ c.in-Ok-None.field-0-is) c.lines.invariant.obeyed
+
+-- no memory for a line
+pub returns-in-Err-clause-err : goal.returns-in-Err-clause-err
+returns-in-Err-clause-err g c =
+    stops_before g.D.Disk.tells None None _ _ _ c.lines.session (script c.args.n) c.lines.index Memory (g.met.D.Disk.lawful c.lines.disk) (λ need gap is. cc) (λ place is. cc) c.lines.invariant.obeyed
+
+pub obey-requires-clause-one_line : goal.obey-requires-clause-one_line
+obey-requires-clause-one_line g c =
+    let at : slice_get (script c.args.n) c.lines.index ≡ Some c.in-Ok-Some.line = sym c.in-Ok-Some.ensures ∙ c.in-Ok-Some.field-0-is in
+    let bytes : c.as_bytes.result.now ≡ c.in-Ok-Some.line = c.as_bytes.ensures.value ∙ c.as_str.ensures in
+    subst NoNewline (sym bytes) (script_line_free c.args.n c.lines.index c.in-Ok-Some.line c.requires.few at)
+
+pub overflow_add-index : goal.overflow_add-index
+overflow_add-index g c =
+    let at : slice_get (script c.args.n) c.lines.index ≡ Some c.in-Ok-Some.line = sym c.in-Ok-Some.ensures ∙ c.in-Ok-Some.field-0-is in
+    let less : c.lines.index < length (script c.args.n) = slice_get_within (script c.args.n) c.lines.index c.in-Ok-Some.line at in
+    let short : length (script c.args.n) < 1000000 = script_short c.args.n c.requires.few in
+    omega arith
+
+pub lines-smaller : goal.lines-smaller
+lines-smaller g c =
+    let at : slice_get (script c.args.n) c.lines.index ≡ Some c.in-Ok-Some.line = sym c.in-Ok-Some.ensures ∙ c.in-Ok-Some.field-0-is in
+    let less : c.lines.index < length (script c.args.n) = slice_get_within (script c.args.n) c.lines.index c.in-Ok-Some.line at in
+    omega arith
+
+pub lines-preserved : goal.lines-preserved
+lines-preserved g c =
+    let at : slice_get (script c.args.n) c.lines.index ≡ Some c.in-Ok-Some.line = sym c.in-Ok-Some.ensures ∙ c.in-Ok-Some.field-0-is in
+    let less : c.lines.index < length (script c.args.n) = slice_get_within (script c.args.n) c.lines.index c.in-Ok-Some.line at in
+    let bytes : c.as_bytes.result.now ≡ c.in-Ok-Some.line = c.as_bytes.ensures.value ∙ c.as_str.ensures in
+    record {
+      within = omega arith;
+      obeyed = fed_next g.D.Disk.tells None None None _ _ _ _ _ _ (script c.args.n) c.lines.index c.in-Ok-Some.line at c.lines.invariant.obeyed
+          (subst (λ (l : List ℕ). Obeyed g.D.Disk.tells (g.D.Disk.state c.lines.disk) (g.D.Disk.state c.obey.new.disk) c.lines.session c.obey.new.session (l ∷ [])) bytes c.in-Ok.ensures.ok);
+      can = c.in-Ok.ensures.can;
+      disk_count = omega (arith, c.lines.invariant.disk_count, c.obey.ensures.disk_count);
+      same_limit = c.obey.ensures.same_limit ∙ c.lines.invariant.same_limit;
+    }
+
+-- a line was not answered
+pub returns-in-Err-obey-clause-err : goal.returns-in-Err-obey-clause-err
+returns-in-Err-obey-clause-err g c =
+    let at : slice_get (script c.args.n) c.lines.index ≡ Some c.in-Ok-Some.line = sym c.in-Ok-Some.ensures ∙ c.in-Ok-Some.field-0-is in
+    let bytes : c.as_bytes.result.now ≡ c.in-Ok-Some.line = c.as_bytes.ensures.value ∙ c.as_str.ensures in
+    stops_next g.D.Disk.tells None None None _ _ _ _ _ (script c.args.n) c.lines.index c.in-Ok-Some.line c.in-Err-obey.status at c.lines.invariant.obeyed
+    (subst (λ (l : List ℕ). StopsObeying g.D.Disk.tells (g.D.Disk.state c.lines.disk) (g.D.Disk.state c.obey.new.disk) c.lines.session (l ∷ []) c.in-Err-obey.status) bytes c.in-Err-obey.ensures.err)

@@ -1,0 +1,42 @@
+use Rattle.std.proofs.Common.{◌≡◌, ℕ, ◌<◌, List, ◌∷◌, [], Some, length, refl, sym, subst, ◌∙◌, arith}
+use Rattle.std.specs.Prelude.{slice_get}
+use Rattle.std.proofs.lemmas.Option.{slice_get_within}
+use Rattle.alta_make.specs.Script.{report}
+use Rattle.alta_session.specs.Fed.{Fed}
+use Rattle.alta_session.specs.Progress.{StopsWithin}
+use Rattle.alta_session.proofs.FedLaws.{fed_none}
+use Rattle.alta_session.proofs.ScriptLaws.{fed_next, stops_next}
+use Rattle.alta_session.proofs.demo.report.Goals as goal
+
+pub lines-init : goal.lines-init
+lines-init g c = record {
+  within = omega arith;
+  fed = fed_none g.D.Disk.tells (g.C.Console.told c.args.console.now) (g.D.Disk.state c.args.disk.now) c.args.session.now (g.met.D.Disk.lawful c.args.disk.now);
+  can = c.requires;
+  input_kept = refl;
+  give_count = omega arith;
+  disk_count = omega arith;
+  same_limit = refl;
+}
+
+pub lines-preserved : goal.lines-preserved
+lines-preserved g c =
+    let at : slice_get report c.lines.index ≡ Some c.in-Some.line.now = sym c.in-Some.ensures in
+    let less : c.lines.index < length report = slice_get_within report c.lines.index c.in-Some.line.now at in
+    record {
+      within = omega arith;
+      fed = fed_next g.D.Disk.tells _ _ _ _ _ _ _ _ _ report c.lines.index c.in-Some.line.now at c.lines.invariant.fed
+          (subst (λ (l : List ℕ). Fed g.D.Disk.tells (g.C.Console.told c.lines.console) (g.C.Console.told c.answer.new.console) (g.D.Disk.state c.lines.disk) (g.D.Disk.state c.answer.new.disk) c.lines.session c.answer.new.session (l ∷ [])) c.as_bytes.ensures.value c.in-Ok.ensures.ok);
+      can = c.in-Ok.ensures.can;
+      input_kept = c.answer.ensures.input_kept ∙ c.lines.invariant.input_kept;
+      give_count = omega (arith, c.lines.invariant.give_count, c.answer.ensures.give_count);
+      disk_count = omega (arith, c.lines.invariant.disk_count, c.answer.ensures.disk_count);
+      same_limit = c.answer.ensures.same_limit ∙ c.lines.invariant.same_limit;
+    }
+
+-- a line was not answered
+pub returns-in-Err-clause-err : goal.returns-in-Err-clause-err
+returns-in-Err-clause-err g c =
+    let at : slice_get report c.lines.index ≡ Some c.in-Some.line.now = sym c.in-Some.ensures in
+    stops_next g.D.Disk.tells _ _ _ _ _ _ _ _ report c.lines.index c.in-Some.line.now c.in-Err.status at c.lines.invariant.fed
+    (subst (λ (l : List ℕ). StopsWithin g.D.Disk.tells (g.C.Console.told c.lines.console) (g.C.Console.told c.answer.new.console) (g.D.Disk.state c.lines.disk) (g.D.Disk.state c.answer.new.disk) c.lines.session (l ∷ []) c.in-Err.status) c.as_bytes.ensures.value c.in-Err.ensures.err)

@@ -1,0 +1,61 @@
+use Rattle.std.proofs.Common.{refl, ◌≡◌, ap, codes, Err, rules, arith}
+use Rattle.std.specs.Prelude.{Some}
+use Rattle.alta_images.specs.Work.{merges}
+use Rattle.alta_meta.specs.declared.document.State.{State}
+use Rattle.alta_session.specs.Machine.{IsRefusal}
+use Rattle.alta_store.specs.Agreement.{Has}
+use Rattle.alta_store.specs.Calls.{NoRefusal}
+use Rattle.alta_store.specs.declared.fault.StoreFault.TheVariants.{Damaged, Disk, Full}
+use Rattle.alta_session.proofs.AnsweringLaws.{changed}
+use Rattle.alta_session.proofs.ObeyingLaws.{obeyed_works, obeyed_full, narrow_at, some_only, task_broken}
+use Rattle.alta_session.proofs.session.Session.merge.Goals as goal
+
+pub merge-requires-clause-agrees : goal.merge-requires-clause-agrees
+merge-requires-clause-agrees g c = c.requires.agrees
+
+ok_is_none : IsRefusal (codes "ok\n") → ⊥
+ok_is_none refusal = cc
+
+pub returns-in-Ok : goal.returns-in-Ok
+returns-in-Ok g c =
+    let obeys = c.in-Ok.ensures.obeys in
+    changed g.D.Disk.tells g.D.Disk.state c.args.disk.now c.merge.new.disk c.args.self.now _ c.text.result (λ (s : State). (s, codes "ok\n")) (λ m. Some merges) _ c.text.ensures ok_is_none refl
+    (record {
+      sound = search rules;
+      agrees = obeys.agrees;
+      limit = omega (arith, c.requires.limit, obeys.costs.limit);
+    }) obeys.costs.faults obeys.costs.limit
+    (λ m tell agrees. record {
+      reply = refl;
+      stands = obeys.stands m.state tell (agrees.stands tell);
+      images = obeys.images m.state agrees.stands;
+      works = λ held here. obeyed_works (g.D.Disk.state c.args.disk.now).limit held merges (Some merges) (λ now. Has c.merge.new.self now (g.D.Disk.state c.merge.new.disk).content) refl (obeys.works held tell here);
+    })
+
+-- the merge failed
+pub returns-in-Err : goal.returns-in-Err
+returns-in-Err g c =
+    let obeys = c.in-Err.ensures.obeys in
+    record {
+      from = λ m tell agrees. record {
+        reply = tt;
+        agrees = tt;
+        images = obeys.images m.state agrees.stands;
+        refused = λ refusal. absurd (ok_is_none refusal);
+        works = λ held here. tt;
+        full = λ held need gap here is.
+            let same : c.in-Err.fault ≡ Full need gap = cc in
+            obeyed_full (g.D.Disk.state c.args.disk.now).limit held merges (Some merges) need gap refl (obeys.full held need gap tell here (ap Err same));
+        undamaged = λ place is. let same : c.in-Err.fault ≡ Damaged place = cc in obeys.undamaged m.state tell (agrees.stands tell) place (ap Err same);
+      };
+      can = tt;
+      unchanged = tt;
+      only = some_only c.in-Err.fault obeys.only;
+      full = λ need gap tell is. let same : c.in-Err.fault ≡ Full need gap = cc in narrow_at _ _ _ need gap obeys.costs.limit (obeys.narrow need gap tell (ap Err same));
+      broken = λ place tell is.
+          let same : c.in-Err.fault ≡ Damaged place = cc in
+          task_broken g.D.Disk.tells NoRefusal (g.D.Disk.state c.args.disk.now) (g.D.Disk.state c.merge.new.disk) c.args.self.now.store merges (Err c.in-Err.fault) place tell c.requires.agrees obeys.damage obeys.still (ap Err same);
+      cause = λ is. let same : c.in-Err.fault ≡ Disk = cc in obeys.cause (ap Err same);
+      faults = obeys.costs.faults;
+      same_limit = obeys.costs.limit;
+    }

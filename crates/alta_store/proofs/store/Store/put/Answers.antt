@@ -1,0 +1,39 @@
+use Rattle.std.proofs.Common.{ap, ap₂, arith, sym, refl, subst, ◌∙◌, List, ℕ, Vec, Global}
+use Rattle.alta_catalog.specs.Replacing.{rows_between}
+use Rattle.alta_catalog.proofs.LevelLaws.{kept_rise}
+use Rattle.alta_content.specs.Rows.{RowsRise}
+use Rattle.alta_content.specs.declared.document.DocRow.{DocRow}
+use Rattle.alta_store.specs.Agreement.{levels_of}
+use Rattle.alta_store.proofs.Putting.{prepared_as, put_done, put_failed}
+use Rattle.alta_store.proofs.Rows.{all_documents}
+use Rattle.alta_table.specs.Tables.{Tables}
+use Rattle.alta_store.proofs.store.Store.put.Goals as goal
+
+pub prepare-requires-clause-rows : goal.prepare-requires-clause-rows
+prepare-requires-clause-rows g c =
+    let levels = c.args.levels in
+    let before = c.requires.may.0 in
+    let may = c.requires.may.1 in
+    subst RowsRise
+    (sym (ap₂ (λ (xs ys : List DocRow). rows_between xs levels.stay_from (levels_of c.args.self.now) ys) c.as_slice-oldest.ensures c.as_slice-newest.ensures
+    ∙ ap (λ (v : Vec Tables Global). rows_between levels.oldest.now.documents levels.stay_from v.items levels.newest.now.documents) may.drained.catalog.levels ∙ may.rows))
+    (kept_rise before.catalog may.agrees.intact.state may.kept may.agrees.intact.knows)
+
+pub returns-in-Err-clause-puts : goal.returns-in-Err-clause-puts
+returns-in-Err-clause-puts g c = λ before may.
+    put_failed g.D.Disk.tells (g.D.Disk.state c.args.disk.now) (g.D.Disk.state c.rewrite.new.disk) before c.args.self.now c.args.levels may c.in-Ok.prepared
+    (prepared_as c.args.self.now.catalog c.args.levels c.in-Ok.prepared _ _ c.as_slice-oldest.ensures c.as_slice-newest.ensures c.in-Ok.ensures)
+    _ c.deref.ensures.value (c.deref-2.ensures.value ∙ c.in-Ok-from_slice.ensures.items ∙ c.deleted.ensures.value) c.bounds-next.result.0 c.bounds-next.result.1 c.bounds-next.ensures.are.0 c.bounds-next.ensures.are.1
+    c.rewrite.ensures.images c.rewrite.ensures.stands
+    c.in-Err.fault c.in-Err.ensures.full c.in-Err.ensures.why (λ need gap e. ap g.D.Disk.state (c.in-Err.ensures.unwritten need gap e)) c.in-Err.ensures.cause c.rewrite.ensures.costs
+    _ c.rewrite_fault.result c.rewrite_fault.ensures
+
+pub returns-clause-puts : goal.returns-clause-puts
+returns-clause-puts g c = λ before may.
+    put_done g.D.Disk.tells (g.D.Disk.state c.args.disk.now) (g.D.Disk.state c.rewrite.new.disk) (g.met.D.Disk.lawful c.args.disk.now) (g.met.D.Disk.lawful c.rewrite.new.disk) before c.args.self.now c.args.levels may c.in-Ok.prepared
+    (prepared_as c.args.self.now.catalog c.args.levels c.in-Ok.prepared _ _ c.as_slice-oldest.ensures c.as_slice-newest.ensures c.in-Ok.ensures)
+    _ c.deref.ensures.value (c.deref-2.ensures.value ∙ c.in-Ok-from_slice.ensures.items ∙ c.deleted.ensures.value) c.bounds-next.result.0 c.bounds-next.result.1 c.bounds-next.ensures.are.0 c.bounds-next.ensures.are.1
+    (all_documents before may.agrees.intact) c.in-Ok-rewrite.done _ refl refl (sym c.deref-2.ensures.value) c.tail_of-self.ensures.0 c.tail_of-self.ensures.1 refl
+    c.in-Ok-rewrite.ensures.counts.1 c.in-Ok-rewrite.ensures.counts.2 c.in-Ok-rewrite.ensures.rows c.in-Ok-rewrite.ensures.extents c.in-Ok-rewrite.ensures.none c.in-Ok-rewrite.ensures.spared
+    c.put_levels.ensures.same c.put_levels.ensures.levels c.put_levels.ensures.gone c.put_levels.ensures.follows c.put_levels.ensures.knows
+    c.in-Ok-rewrite.ensures.durable c.rewrite.ensures.costs c.rewrite.ensures.images c.rewrite.ensures.stands c.in-Ok-rewrite.ensures.works c.in-Ok-rewrite.ensures.opened_then _

@@ -1,3 +1,0 @@
-pub mod Brings
-pub mod Comes
-pub mod Puts
