@@ -149,22 +149,29 @@ def member_of(query):
 
 
 class Machine:
-    """The documents by their rising numbers, the next number and the open cursors; and the entries that lines have made."""
+    """The documents by their rising numbers, the next number and the open cursors; and the entry that the last line made, if any."""
 
     def __init__(self, queries, documents=(), next_number=1):
         self.queries = {spelled(query): query for query in queries}
-        self.documents = {document.number: document for document in documents}
+        self.documents, self.names = {}, {}
+        for document in documents:
+            self.put(document)
         self.next_number = next_number
         self.cursors = {}
-        self.entries = []
+        self.entry = None
+
+    def put(self, document):
+        self.documents[document.number] = document
+        self.names[document.name] = document.number
+
+    def leave_out(self, number):
+        del self.names[self.documents.pop(number).name]
 
     def reply(self, line):
         """The reply to a line of a right form."""
+        self.entry = None
         word, _, rest = line.partition(" ")
         return getattr(self, "answer_" + word)(rest)
-
-    def number_of(self, name):
-        return next((number for number, document in self.documents.items() if document.name == name), None)
 
     def answers(self, query):
         """The documents that match, as lines."""
@@ -172,22 +179,22 @@ class Machine:
 
     def answer_add(self, rest):
         name, title, body = rest.split("\t", 2)
-        if self.number_of(name) is not None:
+        if name in self.names:
             return "! name taken\n"
         number = self.next_number
         if number == NUMBERS:
             return "! no numbers left\n"
-        self.documents[number] = Document(number, name, title, body)
+        self.put(Document(number, name, title, body))
         self.next_number += 1
-        self.entries.append(("add", name, title, body))
+        self.entry = ("add", name, title, body)
         return f"added {number}\n"
 
     def answer_delete(self, name):
-        number = self.number_of(name)
+        number = self.names.get(name)
         if number is None:
             return "! no such document\n"
-        del self.documents[number]
-        self.entries.append(("delete", number))
+        self.leave_out(number)
+        self.entry = ("delete", number)
         return f"deleted {number}\n"
 
     def answer_search(self, text):

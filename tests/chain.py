@@ -9,7 +9,7 @@ Crates that hold only tests or measurements (check_, bench_) and those of the ki
 import os
 import sys
 
-LONGEST = 10
+LONGEST = 9
 
 
 def crates_of(text):

@@ -493,18 +493,17 @@ class RealProgram(Case):
         with self.assertRaises(buncocedar.DiskFault):
             Index(self.folder.name, program=PROGRAM)
 
-    def test_full(self):
-        # An index has sixteen levels at most, and each flush makes one.
+    def test_many_levels(self):
+        # An index has sixteen levels at most, and each flush makes one or joins two.
         with self.index() as index:
-            for i in range(16):
+            for i in range(20):
                 index.add(f"n{i}", "", "x")
                 index.flush()
-            index.add("n16", "", "x")
-            with self.assertRaises(buncocedar.Full) as raised:
-                index.flush()
-        self.assertEqual((raised.exception.need, raised.exception.gap), (17, 16))
+            self.assertEqual(index.count("x"), 20)
         with self.index() as index:
-            self.assertEqual(index.stats().documents, 17)
+            index.delete("n3")
+            index.merge()
+            self.assertEqual(index.stats().documents, 19)
 
     def test_more_than_a_journal(self):
         with self.index() as index:
@@ -513,27 +512,20 @@ class RealProgram(Case):
         with self.index() as index:
             self.assertEqual(index.stats().documents, 50)
 
-    def known(self, call):
-        """What a call answers that the program may not know yet."""
-        try:
-            return call()
-        except buncocedar.UnknownCommand as refusal:
-            self.skipTest(str(refusal))
-
     def test_upkeep(self):
         with self.index() as index:
             for name in "ab":
                 index.add(name, "", "quick")
-            self.assertIsNone(self.known(index.flush))
-            self.assertIsNone(self.known(lambda: index.step(1)))
-            self.assertIsNone(self.known(index.merge))
+            self.assertIsNone(index.flush())
+            self.assertIsNone(index.step(1))
+            self.assertIsNone(index.merge())
             self.assertEqual(list(index.search("quick")), [(1, "a"), (2, "b")])
 
     def test_cursors(self):
         with self.index() as index:
             for name in "ab":
                 index.add(name, "", "quick")
-            cursor = self.known(lambda: index.cursor("quick"))
+            cursor = index.cursor("quick")
             index.delete("a")
             self.assertEqual(cursor.page(1), ([(1, "a")], True))
             self.assertEqual(cursor.page(5), ([(2, "b")], False))

@@ -5,10 +5,11 @@ usage: tests/damage.py [--program PATH] [--seconds S] [--seed N] [--all] [--keep
 
 In each case a file with some bytes changed, or cut, is opened by `run` with some lines. Status, replies and the line on
 standard error have to be those that `reading.py` and `answers.py` work out: the first broken place in the order of opening, or
-in that of loading, or the replies of what the file stands for. The file has to be as before, but for the records of the lines
-that were answered. The cases are the rows of a table; each byte of two spelled indexes with levels, deletions and records in
-both halves, changed to each of several values, and these cut at each place; spelled indexes that break rules between their
-parts; lists broken at several places; and files that the program itself has written, changed at random. In `--seconds` as many
+in that of loading or of joining, or the replies of what the file stands for. The file has to be the one that `held.py` writes,
+byte by byte: as before, but for the work of the lines that were answered. The cases are the rows of a table; each byte of three
+spelled indexes with levels, deletions and records in both halves, one of them with sixteen levels, changed to each of several
+values, and these cut at each place; spelled indexes that break rules between their parts; lists broken at several places; and
+files that the program itself has written, changed at random. In `--seconds` as many
 of them are tried as the seed picks; with `--all` each byte, and the rest for as long. With `--keep` the files of the
 cases that are told stand in that folder. Ends with status 0 where all is as it has to be.
 """
@@ -25,11 +26,11 @@ import time
 from typing import NamedTuple
 
 from answers import Document, Machine, loads, meets, spelled
+from held import Held, empty_file, slot_bytes
 from levels import entry_of_add, entry_of_delete, journal, level
-from reading import HALF, HALVES, HEAD, NOTHING, PAYLOAD, SLOT, SLOTS, Add, Extent, NoIndex, Root, opened
+from reading import HALF, HALVES, HEAD, LEVELS, NOTHING, PAYLOAD, SLOT, SLOTS, Add, Extent, NoIndex, Root, opened
 from segments import SMALL, Broken, damaged, segment, stream
 
-GATE = b"\xa5"
 LIMIT = 10  # seconds that a run may take
 MEMORY = 2**30  # bytes that it may have where a file is longer
 SHOWN = 5  # cases that are told in full
@@ -56,12 +57,12 @@ class Case(NamedTuple):
 
 
 class Answer(NamedTuple):
-    """How a run ends, what it says and gives, and the file behind it."""
+    """How a run ends, what it says and gives, and the file behind it, where it is known."""
 
     status: int
     said: str
     given: str
-    content: bytes
+    content: bytes | None
 
 
 class Index(NamedTuple):
@@ -79,6 +80,7 @@ RED, FOX, DOG, QUICK = (("word", word) for word in ("red", "fox", "dog", "quick"
 QUERIES = [
     RED,
     FOX,
+    DOG,
     ("word", "Fox"),
     ("word", "nothing"),
     ("prefix", "qui"),
@@ -111,11 +113,36 @@ def all_counts(chance):
     return ["stats", *lines] if chance.random() < 0.5 else [*lines, "stats"]
 
 
+def changes(chance, count):
+    """Adds and deletes."""
+    names = chance.sample("abcdefgh", count)
+    return [f"delete {name}" if chance.random() < 0.4 else f"add {name}\tRed fox\tdog 3.14 {name}" for name in names]
+
+
+def joining(chance):
+    """Lines that join levels, with changes and counts between them."""
+    lines = [chance.choice(["merge", "step 1", "step 9", "step 1000000"]) for _ in range(chance.choice([1, 1, 2, 3]))]
+    lines += ["flush"] * chance.choice([0, 0, 1, 2]) + changes(chance, chance.choice([0, 1, 2]))
+    lines += all_counts(chance)[: chance.choice([1, 2, 5])]
+    chance.shuffle(lines)
+    return lines
+
+
+def counting_or_joining(chance):
+    """A count of each query, or these behind a line that may join levels, or more such lines."""
+    kind = chance.random()
+    if kind < 0.4:
+        return all_counts(chance)
+    if kind < 0.7:
+        return [chance.choice(["merge", "step 1", "flush"]), *all_counts(chance)]
+    return joining(chance)
+
+
 def changing(chance):
     """Lines of all kinds."""
-    lines = asking(chance, 4)
-    for name in chance.sample("abcdefgh", 3):
-        lines.append(f"delete {name}" if chance.random() < 0.4 else f"add {name}\tRed fox\tdog 3.14 {name}")
+    lines = asking(chance, 4) + changes(chance, 3)
+    if chance.random() < 0.5:
+        lines += joining(chance)
     chance.shuffle(lines)
     return lines
 
@@ -137,59 +164,52 @@ class LevelDocument:
 
 
 class OpenedMachine(Machine):
-    """The documents of a file that was opened. A search loads the lists of its tests, or raises `Broken` at the first that is."""
+    """The documents of what is held. A search loads the lists of its tests, or raises `Broken` at the first that is."""
 
-    def __init__(self, found):
-        ends, rows = set(found.ends), [(of_level, row) for of_level in found.levels for row in of_level.rows]
+    def __init__(self, held):
+        ends, rows = set(held.ends), [(of_level, row) for of_level in held.levels for row in of_level.rows]
         live = [LevelDocument(of_level, row) for of_level, row in rows if row.last not in ends]
-        super().__init__(QUERIES, live, found.root.next_number)
-        self.levels = found.levels
-        self.is_ascii = True
-        for entry in found.entries:
+        super().__init__(QUERIES, live, held.root.next_number)
+        self.held = held
+        for entry in held.entries:
             self.enter(entry)
 
     def enter(self, entry):
         """Applies an entry of the journal."""
         if not isinstance(entry, Add):
-            del self.documents[entry.number]
+            self.leave_out(entry.number)
             return
-        self.is_ascii = self.is_ascii and (entry.title + entry.body).isascii()
-        self.documents[self.next_number] = Document(self.next_number, entry.name.decode(), entry.title, entry.body)
+        self.put(Document(self.next_number, entry.name.decode(), entry.title, entry.body))
         self.next_number += 1
 
     def answers(self, query):
         for test in loads(query):
-            for term in sorted({term for of_level in self.levels for term in of_level.terms if meets(test, term)}):
-                for of_level in self.levels:
+            for term in sorted({term for of_level in self.held.levels for term in of_level.terms if meets(test, term)}):
+                for of_level in self.held.levels:
                     if term in of_level.terms:
                         of_level.load(term)
         return super().answers(query)
 
 
-def with_records(content, tail, entries):
-    """The file with these entries behind its journal."""
-    if not entries:
-        return content
-    payloads = [entry_of_add(*entry[1:]) if entry[0] == "add" else entry_of_delete(entry[1]) for entry in entries]
-    records = journal(payloads)
-    return content[:tail] + records + content[tail + len(records) :]
-
-
 def expected(case):
-    """The answer that has to come, and whether its replies are known: those about words beyond ASCII are not."""
+    """The answer that has to come, and whether its replies are known: those about words beyond ASCII are not, nor is the file
+    once such words stand in a level."""
     try:
-        found = opened(case.content)
+        held = Held(case.content)
     except NoIndex:
         return Answer(7, "alta: no index\n", "", case.content), True
     except Broken as fault:
         return Answer(6, f"alta: damaged at {fault.place}\n", "", case.content), True
-    machine, given, status, said = OpenedMachine(found), "", 0, ""
+    machine, root, given, status, said = OpenedMachine(held), held.root, "", 0, ""
     try:
         for line in case.lines:
-            given += machine.reply(line)
+            reply = machine.reply(line)
+            held.work(line, machine.entry)
+            given += reply
     except Broken as fault:
         status, said = 6, f"alta: damaged at {fault.place}\n"
-    return Answer(status, said, given, with_records(case.content, found.tail, machine.entries)), machine.is_ascii
+    is_known = held.is_ascii or held.root == root
+    return Answer(status, said, given, bytes(held.file) if is_known else None), held.is_ascii
 
 
 # ---- the runs
@@ -243,7 +263,7 @@ def fault_of(wanted, came, is_known):
         return f"status {came.status} with {came.said!r} is none of the table"
     if (came.status, came.said) != (wanted.status, wanted.said):
         return f"status {came.status} with {came.said!r} in place of {wanted.status} with {wanted.said!r}"
-    if came.content != wanted.content:
+    if wanted.content is not None and came.content != wanted.content:
         return "the file is " + difference(wanted.content, came.content)
     if is_known and came.given != wanted.given:
         return f"the replies are {came.given!r} in place of {wanted.given!r}"
@@ -258,14 +278,6 @@ def difference(wanted, came):
 
 
 # ---- the spelling of files
-
-
-def slot_bytes(root, is_open=True):
-    extents = [root.deletions, *root.levels]
-    fields = bytes([1, root.sequence, len(root.levels), 0, 0, 0, 0])
-    fields += b"".join(number.to_bytes(8, "big") for number in (root.next_number, root.next_location))
-    fields += b"".join(number.to_bytes(8, "big") for extent in extents for number in extent)
-    return ((GATE if is_open else b"\0") + fields).ljust(SLOT, b"\0")
 
 
 def slot_part(slot, root):
@@ -348,6 +360,17 @@ def wide_level():
     return index_of("a wide level", [(Root(0, 1, 1, NOTHING, []), True), (root, True)], [OLDER[:1], NEWEST[1:2]], body, root)
 
 
+def sixteen_levels():
+    """As many levels as a root may have, of one document each, so that a flush joins the oldest two; the first of them and one
+    more are deleted."""
+    texts = [("Red Fox", "the quick red fox"), ("", "red " * 66 + "dog"), ("Over", "fox jumps"), ("lazy dog", "")]
+    documents = [(2 * i + 1, 90 * i + 1, f"n{i}", *texts[i % 4]) for i in range(LEVELS)]
+    ends = [end_of(documents[0]), end_of(documents[9])]
+    body, extents = place_parts([level([document]) for document in documents] + [stream(ends)], [5] * (LEVELS + 1))
+    root = Root(200, 40, 2000, extents[-1], extents[:-1])
+    return index_of("sixteen levels", [(Root(199, 1, 1, NOTHING, []), True), (root, True)], [OLDER[:1], NEWEST[:2]], body, root)
+
+
 def changed(content, place, new):
     return content[:place] + new + content[place + len(new) :]
 
@@ -373,6 +396,41 @@ ROWS = [
 LISTS = [(2105458, "08", {"count fox": 2105458, "count name:b": 2105458}), (2105463, "00", {"count fox": 2105463})]
 CUTS = [(2105469, 4136), (2105343, 2105343), (8191, None)]
 LINES = {"count fox": "found 1\n", "stats": "documents 1 words 6 next 2\n", "count name:b": "found 0\n"}
+
+
+# three documents, each flushed into a level, and lists of these: a changed byte breaks `D` or `fox` of the first, `D` of the second,
+# or `D` of the third. A line that joins levels is damaged at the first fault of those that it joins, and a line before it is answered.
+THREE = ["add a\tRed Fox\tthe quick red fox", "flush", "add b\tFox\tquick brown dog", "flush", "add c\t\tred dog", "flush"]
+FIRST_END, FIRST_FOX, SECOND_END, THIRD_END = (2105458, "08"), (2105463, "00"), (2105578, "11"), (2105666, "16")
+JOINS = [
+    ([FIRST_END], ["merge"], FIRST_END, ""),
+    ([FIRST_END], ["step 1"], FIRST_END, ""),
+    ([FIRST_FOX], ["merge"], FIRST_FOX, ""),
+    ([FIRST_FOX], ["count name:b", "delete a", "merge"], FIRST_FOX, "found 1\ndeleted 1\n"),
+    ([FIRST_FOX], ["delete a", "flush", "step 1000000"], FIRST_FOX, "deleted 1\nok\n"),
+    ([FIRST_FOX, FIRST_END], ["merge"], FIRST_END, ""),
+    ([SECOND_END], ["step 1"], SECOND_END, ""),
+    ([SECOND_END, FIRST_FOX], ["merge"], FIRST_FOX, ""),
+    ([SECOND_END, FIRST_FOX], ["step 1000000"], FIRST_FOX, ""),
+    ([THIRD_END], ["step 1", "step 1000000", "stats"], None, "ok\nok\ndocuments 3 words 12 next 4\n"),
+    ([THIRD_END], ["merge"], THIRD_END, ""),
+    ([THIRD_END], ["step 1", "step 1000000", "merge"], THIRD_END, "ok\nok\n"),
+    ([THIRD_END, SECOND_END], ["step 1"], SECOND_END, ""),
+    ([], ["delete b", "merge", "count dog", "merge"], None, "deleted 2\nok\nfound 1\nok\n"),
+]
+
+
+def joins():
+    """The rows of joins over three levels, each with the answer that is written in it."""
+    held = Held(empty_file())
+    for number, line in enumerate(THREE):
+        held.work(line, ("add", *line[4:].split("\t")) if number % 2 == 0 else None)
+    for faults, lines, fault, given in JOINS:
+        content = bytes(held.file)
+        for place, new in faults:
+            content = changed(content, place, bytes.fromhex(new))
+        row = (0, "") if fault is None else (6, f"alta: damaged at {fault[0]}\n")
+        yield Case(" and ".join(f"{new} at {place}" for place, new in faults), content, lines), (*row, given)
 
 
 def flushed_index(entries, ends, slot):
@@ -407,7 +465,7 @@ def table():
 
 def try_table(trial):
     """The rows, whose answers are written in them; the reading has to say the same."""
-    for case, row in table():
+    for case, row in (*table(), *joins()):
         answer, _ = expected(case)
         if answer[:3] != row:
             raise SystemExit(f"damage: {case.what}, with {case.lines}: the reading says {answer[:3]}, and the row {row}")
@@ -504,26 +562,26 @@ def case_of_change(chance, change):
     """The case of a change: a byte and its value, or a length."""
     index, place, value = change
     if value is None:
-        return Case(f"{index.name} cut to {place}", index.content[:place], all_counts(chance))
-    return Case(f"{value:02x} at {place} of {index.name}", changed(index.content, place, bytes([value])), all_counts(chance))
+        return Case(f"{index.name} cut to {place}", index.content[:place], counting_or_joining(chance))
+    return Case(f"{value:02x} at {place} of {index.name}", changed(index.content, place, bytes([value])), counting_or_joining(chance))
 
 
 def place_in_lists(chance, index):
     """A place in the lists of a level."""
-    place, length = chance.choice(index.levels)
+    place, length = chance.choice(index.levels[:2] if chance.random() < 0.5 else index.levels)
     tables = sum(int.from_bytes(index.content[place + at : place + at + 8], "big") for at in (16, 24))
     return chance.randrange(place + 32 + tables, place + length)
 
 
 def broken_lists(chance, index):
-    """A case in which several lists are broken, so that the order of loading decides."""
+    """A case in which several lists are broken, so that the order of loading or of joining decides."""
     content, told = index.content, []
     for _ in range(chance.choice([2, 3, 5])):
         place = place_in_lists(chance, index)
         value = chance.choice(values_of(content[place]))
         content = changed(content, place, bytes([value]))
         told.append(f"{value:02x} at {place}")
-    return Case(f"{', '.join(told)} of {index.name}", content, all_counts(chance))
+    return Case(f"{', '.join(told)} of {index.name}", content, counting_or_joining(chance))
 
 
 # ---- indexes that break rules between their parts
@@ -647,12 +705,13 @@ def written_index(program, folder, chance, name):
     subprocess.run([program, path, "init"], check=True)
     words = ["red", "Fox", "quick", "brown", "dog", "lazy", "Over", "fox"]
     for _ in range(chance.choice([1, 2, 3])):
-        lines = ["flush"]
+        lines = [chance.choice(["flush", "step 5", "step 1000"])]
         for _ in range(chance.randrange(1, 25)):
             text = " ".join(chance.choice(words) for _ in range(chance.randrange(12)))
             kinds = [f"delete {chance.choice('abcdefgh')}", "stats"]
             lines.append(chance.choice(kinds) if chance.random() < 0.3 else f"add {chance.choice('abcdefgh')}\t{text}\t{text} {text}")
-        lines.insert(chance.randrange(len(lines)), "flush")
+        for line in ("flush", chance.choice(["flush", "merge", "step 3", "step 1000"])):
+            lines.insert(chance.randrange(len(lines)), line)
         subprocess.run([program, path, "run"], input="".join(line + "\n" for line in lines).encode(), check=True, capture_output=True)
     with open(path, "rb") as file:
         content = file.read()
@@ -699,16 +758,17 @@ def until(seconds, cases, trial):
 
 def try_bytes(chance, seconds, trial, is_all):
     """Each byte and each length in any order; all of them, or as many as there is time for."""
-    indexes = [both_slots(), one_slot()]
-    changes = [change for index in indexes for change in (*byte_changes(index), *cuts(index))]
-    chance.shuffle(changes)
+    indexes = [both_slots(), one_slot(), sixteen_levels()]
+    tried = [change for index in indexes for change in (*byte_changes(index), *cuts(index))]
+    chance.shuffle(tried)
     for index in indexes:
-        trial.try_case(Case(f"nothing changed of {index.name}", index.content, all_counts(chance)))
-    until(24 * 3600 if is_all else seconds, (case_of_change(chance, change) for change in changes), trial)
+        for lines in (all_counts(chance), joining(chance), ["merge", *all_counts(chance)], [*all_counts(chance), "step 1000000", "stats"]):
+            trial.try_case(Case(f"nothing changed of {index.name}", index.content, lines))
+    until(24 * 3600 if is_all else seconds, (case_of_change(chance, change) for change in tried), trial)
 
 
 def try_lists(chance, seconds, trial):
-    indexes = [both_slots(), one_slot(), wide_level()]
+    indexes = [both_slots(), one_slot(), wide_level(), sixteen_levels()]
     until(seconds, (broken_lists(chance, chance.choice(indexes)) for _ in iter(int, 1)), trial)
 
 
@@ -717,7 +777,8 @@ def try_invented(chance, seconds, trial):
 
 
 def try_random(chance, seconds, trial, program, folder):
-    indexes = [written_index(program, folder, chance, f"file {i}") for i in range(4)] + [both_slots(), one_slot(), wide_level()]
+    indexes = [written_index(program, folder, chance, f"file {i}") for i in range(4)]
+    indexes += [both_slots(), one_slot(), wide_level(), sixteen_levels()]
     until(seconds, (random_case(chance, chance.choice(indexes)) for _ in iter(int, 1)), trial)
 
 

@@ -1,28 +1,55 @@
 #!/usr/bin/env python3
-"""Kills the program at random moments while it adds and flushes, and checks that nothing it answered is lost.
+"""Kills the program at random moments while it changes an index, and checks that nothing it answered is lost.
 
 usage: tests/kill.py [--program PATH] [--rounds N] [--seconds S] [--seed N]
 
-Each round starts the program on the same file, feeds it lines that add new names, one that flushes among them, and ends it with
-SIGKILL at a random moment. A new start then has to answer `! name taken` for every name that was answered `added`, and the numbers have to
-go on: of a line that was not answered, the document may be there or not. Ends with status 0 where nothing was lost.
+Each round starts the program on the same file, feeds it lines that add, delete, flush, merge and step, and ends it with SIGKILL some
+moments after one of the replies, which is mostly the one before a line that works on levels. Each reply has to be the line's. The
+file then has to keep the rules of docs/FORMAT.md, the lists of its levels among them, and a new start has to answer searches and
+stats as `answers.py` does behind the lines that were answered, or behind these and the next one. Ends with status 0 where nothing
+was lost.
 """
 
 import argparse
 import os
 import random
+import select
 import subprocess
 import sys
 import tempfile
 import threading
 import time
+from typing import NamedTuple
 
-LINES = 400
+from answers import Machine, spelled
+from reading import NoIndex, opened
+from segments import Broken
 
-# A file has sixteen levels at most, and a flush makes one.
-FLUSHES = 14
+WORDS = ["red", "fox", "quick", "brown", "dog", "lazy", "over", "jumps"]
+FOX = ("word", "fox")
+ASKED = [("not", ("word", "zebra")), ("not", FOX), ("phrase", ["red", "fox"]), ("title", FOX)]
+ASKING = ["stats"] + [f"search {spelled(query)}" for query in ASKED]
+WORKS = ["flush", "merge", "step 10", "step 300", "step 1000000"]
+MOST = 500  # documents that a file gets
+LONGEST = 0.3  # seconds that a round may take
 
-FLUSH = "flush"
+
+class Style(NamedTuple):
+    """How the lines of a round are made: how many, which part of them works on levels, and which part of the others deletes."""
+
+    lines: int
+    works: float
+    deletes: float
+
+
+STYLES = [
+    Style(lines=150, works=0.01, deletes=0.1),
+    Style(lines=80, works=0.1, deletes=0.2),
+    Style(lines=40, works=0.5, deletes=0.3),
+]
+
+
+# ---- the runs
 
 
 def start(program, path):
@@ -39,100 +66,139 @@ def feed(process, lines):
         pass
 
 
-def killed_run(program, path, lines, wait):
-    """The whole reply lines of a run that is killed after this many seconds."""
+def given_by(process, replies, latest):
+    """What a process gives up to so many lines, or up to a moment."""
+    given = b""
+    while given.count(b"\n") < replies:
+        ready, _, _ = select.select([process.stdout], [], [], max(0, latest - time.monotonic()))
+        piece = os.read(process.stdout.fileno(), 65536) if ready else b""
+        if not piece:
+            break
+        given += piece
+    return given
+
+
+def killed_run(program, path, lines, replies, wait):
+    """What a run gives that is killed so many seconds after so many lines were given, or where these take too long."""
     process = start(program, path)
-    pieces = []
-    reader = threading.Thread(target=lambda: pieces.append(process.stdout.read()))
     writer = threading.Thread(target=feed, args=(process, lines))
-    reader.start()
     writer.start()
+    given = given_by(process, replies, time.monotonic() + LONGEST)
     time.sleep(wait)
     process.kill()
     process.wait()
-    reader.join()
+    given += given_by(process, len(lines) + 1, time.monotonic() + LONGEST)
     writer.join()
     process.stderr.close()
     process.stdout.close()
-    return b"".join(pieces).decode().split("\n")[:-1]
+    return given.decode()
 
 
 def whole_run(program, path, lines):
-    """The reply lines of a run to its end."""
+    """What a run gives to its end."""
     process = start(program, path)
     out, err = process.communicate("".join(line + "\n" for line in lines).encode())
     if process.returncode != 0:
         raise SystemExit(f"kill: the program ended with status {process.returncode}: {err.decode().strip()}")
-    return out.decode().split("\n")[:-1]
+    return out.decode()
 
 
-def add_line(name):
-    return f"add {name}\ttitle of {name}\tthe body of {name}"
+# ---- the lines
+
+
+def text(chance, most):
+    return " ".join(chance.choice(WORDS) for _ in range(chance.randrange(most)))
+
+
+def script(chance, style, live):
+    """Lines that are all answered, where these names are live, each by one line."""
+    live, lines = list(live), []
+    for number in range(style.lines):
+        kind = chance.random()
+        if kind < style.works:
+            lines.append(chance.choice(WORKS))
+        elif live and kind < style.works + style.deletes:
+            lines.append(f"delete {live.pop(chance.randrange(len(live)))}")
+        else:
+            name = f"{chance.randrange(1 << 40):x}.{number}"
+            live.append(name)
+            lines.append(f"add {name}\t{text(chance, 4)}\t{text(chance, 25)}")
+    return lines
+
+
+# ---- the checks
 
 
 class Check:
+    """A file, what the lines that were answered over it say, and what was tried."""
+
     def __init__(self, program, folder):
         self.program = program
         self.folder = folder
-        self.files = 0
-        self.killed = 0
-        self.answered = 0
-        self.unanswered = 0
-        self.flushing = 0
+        self.files = self.killed = self.answered = self.done_unanswered = 0
+        self.before = {"add": 0, "delete": 0, "flush": 0, "merge": 0, "step": 0}
         self.new_file()
 
     def new_file(self):
         self.files += 1
         self.path = os.path.join(self.folder, f"{self.files}.alta")
         subprocess.run([self.program, self.path, "init"], check=True)
-        self.names = []
-        self.flushes = 0
+        self.machine = Machine(ASKED)
 
-    def lines_of(self, names, chance):
-        """A line for each name, and a flush among them where the file may have a level more."""
-        lines = [add_line(name) for name in names]
-        if self.flushes < FLUSHES:
-            self.flushes += 1
-            # Mostly early, since few lines may be answered before the kill.
-            lines.insert(int(LINES ** chance.random()), FLUSH)
-        return lines
+    def follow(self, lines, given):
+        """Goes on over the lines that were answered, and answers how many these are. Each reply has to be the line's."""
+        for done, line in enumerate(lines):
+            reply, _, rest = given.partition("\n")
+            if "\n" not in given:
+                return done
+            wanted = self.machine.reply(line)
+            if reply + "\n" != wanted:
+                raise SystemExit(f"kill: the reply to {line!r} was {reply!r}, not {wanted!r}")
+            given = rest
+        if given:
+            raise SystemExit(f"kill: more was given than asked: {given!r}")
+        return len(lines)
 
-    def answered_of(self, lines, replies):
-        """How many of the lines that add were answered. Each reply has to be the line's."""
-        done = 0
-        for line, reply in zip(lines, replies):
-            done += line != FLUSH
-            expected = "ok" if line == FLUSH else f"added {len(self.names) + done}"
-            if reply != expected:
-                raise SystemExit(f"kill: the reply was {reply!r}, not {expected!r}")
-        if len(replies) < len(lines):
-            self.killed += 1
-            self.flushing += lines[len(replies)] == FLUSH
-        return done
+    def said(self):
+        return "".join(map(self.machine.reply, ASKING))
 
-    def round(self, wait, chance):
-        names = [f"n{self.files}.{len(self.names) + i}" for i in range(LINES)]
-        lines = self.lines_of(names, chance)
-        done = self.answered_of(lines, killed_run(self.program, self.path, lines, wait))
+    def is_whole(self):
+        """The file has to be an index each of whose lists can be read."""
+        with open(self.path, "rb") as file:
+            content = file.read()
+        try:
+            for level in opened(content).levels:
+                for term in level.terms:
+                    level.load(term)
+        except NoIndex:
+            raise SystemExit("kill: there is no index any more") from None
+        except Broken as broken:
+            raise SystemExit(f"kill: the file is damaged at {broken.place}") from None
+
+    def nothing_lost(self, following):
+        """What a new start says has to be that of the lines that were answered, or that of one line more, if there is one."""
+        self.is_whole()
+        given = whole_run(self.program, self.path, ASKING)
+        if given == self.said():
+            return
+        if following is not None:
+            self.machine.reply(following)
+            if given == self.said():
+                self.done_unanswered += 1
+                return
+        raise SystemExit(f"kill: behind {self.answered} lines that were answered and {following!r} a new start says {given!r}")
+
+    def round(self, chance, style):
+        lines = script(chance, style, self.machine.names)
+        works = [place for place, line in enumerate(lines) if line in WORKS]
+        replies = chance.choice(works) if works and chance.random() < 0.8 else chance.randrange(len(lines))
+        done = self.follow(lines, killed_run(self.program, self.path, lines, replies, chance.uniform(0, 0.004)))
         self.answered += done
-        # Every name that was answered is there, and of the next the document may be there.
-        again = whole_run(self.program, self.path, [add_line(name) for name in names[: done + 1]])
-        if again[:done] != ["! name taken"] * done:
-            lost = next(place for place in range(done) if again[place] != "! name taken")
-            raise SystemExit(f"kill: {names[lost]} was answered and is lost: {again[lost]!r}")
-        self.names += names[:done]
-        if done < LINES:
-            number = len(self.names) + 1
-            if again[done] == "! name taken":
-                self.unanswered += 1
-            elif again[done] != f"added {number}":
-                raise SystemExit(f"kill: the numbers do not go on: {again[done]!r}, not 'added {number}'")
-            self.names.append(names[done])
-
-    def all_there(self):
-        replies = whole_run(self.program, self.path, [add_line(name) for name in self.names])
-        if replies != ["! name taken"] * len(self.names):
-            raise SystemExit("kill: a document that was there is lost")
+        following = lines[done] if done < len(lines) else None
+        if following:
+            self.killed += 1
+            self.before[following.partition(" ")[0]] += 1
+        self.nothing_lost(following)
 
 
 def main():
@@ -150,17 +216,16 @@ def main():
     with tempfile.TemporaryDirectory() as folder:
         check = Check(options.program, folder)
         while rounds < options.rounds and time.monotonic() - begun < options.seconds:
-            check.round(chance.uniform(0.001, 0.08), chance)
+            check.round(chance, STYLES[rounds % len(STYLES)])
             rounds += 1
-            if len(check.names) > 8000 or check.flushes == FLUSHES:
-                check.all_there()
+            if check.machine.next_number > MOST:
                 check.new_file()
-        check.all_there()
     if not check.killed:
-        raise SystemExit("kill: no run was killed while it added, so nothing was tried")
+        raise SystemExit("kill: no run was killed before its end, so nothing was tried")
+    before = ", ".join(f"{count} before {'an' if word == 'add' else 'a'} {word}" for word, count in check.before.items())
     print(
-        f"kill: {rounds} rounds, {check.killed} killed, {check.flushing} before a flush was answered, {check.answered} documents answered, none lost; "
-        f"{check.unanswered} lines were not answered and their documents were there (seed {seed})"
+        f"kill: {rounds} rounds, {check.killed} killed, {before} was answered; {check.answered} lines answered, nothing lost; "
+        f"{check.done_unanswered} lines were not answered and done (seed {seed})"
     )
     if rounds < options.rounds:
         print(f"kill: only {rounds} of {options.rounds} rounds in {options.seconds} seconds", file=sys.stderr)

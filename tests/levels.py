@@ -5,9 +5,10 @@ usage: tests/levels.py [--program PATH] [--rounds N] [--seed N]
 
 Each round makes random documents, deletes and names that are used again. The program answers the same lines twice: over an index
 that it wrote itself, all in its journal, and over one that has most of the documents in levels, some of them in its deletion list,
-and the rest in a half of the journal. Each reply has to be the same, also after the next start. Then a list of a level is
-broken: a search that loads it ends with status 6 and the place, what was answered before is given, and other words are found;
-and a byte of a level's head is broken, so that nothing is answered. Ends with status 0 where all of that holds.
+and the rest in a half of the journal. Each reply has to be the same, also in the middle of a join, behind a merge and after the
+next start. Then a list of a level is broken: a search that loads it ends with status 6 and the place, what was answered before is
+given, and other words are found; and a byte of a level's head is broken, so that nothing is answered. Ends with status 0 where all
+of that holds.
 """
 
 import argparse
@@ -182,7 +183,8 @@ def compare(program, folder, chance):
         file.write(content)
     names = [c for c in changes if isinstance(c, str)] + [c[0] for c in changes if not isinstance(c, str)]
     between = [f"delete {name}" for name in chance.sample(names, 8)] + [f"add {name}\tOver red\tfox" for name in chance.sample(names, 8)]
-    for lines in (asking(chance.randrange(1, 30)), between, asking(5)):
+    sliced = ["step 1", *between, f"step {chance.choice([1, 20, 1000000])}", *asking(3)]
+    for lines in (asking(chance.randrange(1, 30)), sliced, asking(5), ["merge", *asking(5)], asking(7)):
         wanted, given = answered(program, plain, lines), answered(program, levelled, lines)
         if wanted != given:
             at = next((i for i, (a, b) in enumerate(zip(wanted, given)) if a != b), min(len(wanted), len(given)))

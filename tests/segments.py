@@ -20,6 +20,7 @@ import random
 import subprocess
 import sys
 import tempfile
+from bisect import bisect_left
 from typing import NamedTuple
 
 TOP = 2**62
@@ -199,6 +200,12 @@ def blocks_of(locations, places):
     return [(locations[i], locations[i : i + BLOCK][-1], places[i] - places[0]) for i in starts]
 
 
+def is_inside(location, documents):
+    """Whether a location is one of a document."""
+    at = bisect_left(documents, location, key=lambda row: row.last)
+    return at < len(documents) and documents[at].first <= location
+
+
 def read_list(content, documents, term, stated, bounds):
     """Tests the stream and the summary of a term, and answers its locations."""
     start, middle, end = bounds
@@ -210,7 +217,7 @@ def read_list(content, documents, term, stated, bounds):
         for index in range(max(len(rows), len(want))):
             rule(rows[index : index + 1] == want[index : index + 1], middle + 24 * index)
     rule(len(locations) == stated, start)
-    rule(all(any(row.first <= x <= row.last for row in documents) for x in locations), start)
+    rule(all(is_inside(location, documents) for location in locations), start)
     rule(term != b"D" or locations == [row.last for row in documents], start)
     return locations
 
