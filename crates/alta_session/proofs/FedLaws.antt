@@ -15,6 +15,7 @@ use Rattle.alta_session.specs.Keeping.{clip}
 use Rattle.alta_session.specs.Machine.{Machine, step, after, replies}
 use Rattle.alta_session.specs.Progress.{StandsAfterSome, Progress, StopsWithin, StopsWithinFrom}
 use Rattle.alta_session.specs.Tasks.{IsBy, IsDone, IsOn, IsWorked, task_of, worked_lines, worked_where}
+use Rattle.alta_session.specs.Spending.{KeepsStore, Spends}
 use Rattle.alta_session.specs.declared.session.Session.{Session}
 use Rattle.alta_session.specs.declared.status.Status.{Status}
 use Rattle.alta_session.specs.declared.status.Status.TheVariants.{Full, Damaged}
@@ -25,6 +26,7 @@ use Rattle.alta_session.proofs.ProgressLaws.{some_none, some_either, some_on, so
 use Rattle.alta_session.proofs.TaskLaws.{lines_on, one_worked, worked_as, worked_on_image, worked_same}
 use Rattle.alta_images.specs.Standing.{StandsForEither}
 use Rattle.alta_store.proofs.Agreements.{images_stand}
+use Rattle.alta_session.proofs.SpendingLaws.{keeps_clip, keeps_on, spends_clip, spends_more, spends_none, spends_on}
 
 -- each image now is one of those at any moment
 pub leaves_now : (tells : Type 0) (a b : DiskState) (P : List ℕ → Type 0) → IsLawful tells b → LeavesOnly P a b → Each b.images P
@@ -44,7 +46,8 @@ fed_none tells told d session lawful = record {
   given = [];
   gave = gives_none told;
   same_limit = refl;
-  each = λ m tell agrees. record { given_is = refl; agrees = agrees; images = leaves_none tells d session m [] lawful agrees; works = λ held here. record { now = held; is = refl; held = here } };
+  keeps = λ all. refl;
+  each = λ m tell agrees. record { given_is = refl; agrees = agrees; images = leaves_none tells d session m [] lawful agrees; works = λ held here. record { now = held; is = refl; held = here }; spends = spends_none d session m [] };
 }
 
 pub fed_clip : (tells : Type 0) (a b : Option (List Event)) (d e : DiskState) (s0 s1 : Session) (xs ys : List (List ℕ)) → map clip xs ≡ map clip ys → Fed tells a b d e s0 s1 xs → Fed tells a b d e s0 s1 ys
@@ -52,11 +55,13 @@ fed_clip tells a b d e s0 s1 xs ys same fed = record {
   given = fed.given;
   gave = fed.gave;
   same_limit = fed.same_limit;
+  keeps = keeps_clip s0 s1 xs ys same fed.keeps;
   each = λ m tell agrees. let one : FedFrom tells d e s0 s1 xs fed.given m = fed.each m tell agrees in record {
     given_is = one.given_is ∙ ap joined (replies_same m xs ys same);
     agrees = subst (λ (t : Machine). AgreesOn tells e s1 t) (after_same m xs ys same) one.agrees;
     images = leaves_as d e (StandsAfterSome m xs) (StandsAfterSome m ys) one.images (λ z here. some_clip m xs ys z same here);
     works = λ held here. worked_as _ _ (IsBy s1 e.content) (worked_same d.limit m held xs ys same) (one.works held here);
+    spends = spends_clip d e s0 m xs ys same one.spends;
   };
 }
 
@@ -65,6 +70,7 @@ fed_on tells a b c d e f s0 s1 s2 xs ys first then_ = record {
   given = first.given ++ then_.given;
   gave = gives_on a b c first.given then_.given first.gave then_.gave;
   same_limit = then_.same_limit ∙ first.same_limit;
+  keeps = keeps_on s0 s1 s2 xs ys first.keeps then_.keeps;
   each = λ m tell agrees.
       let one : FedFrom tells d e s0 s1 xs first.given m = first.each m tell agrees in
       let two : FedFrom tells e f s1 s2 ys then_.given (after m xs) = then_.each (after m xs) tell one.agrees in
@@ -75,6 +81,7 @@ fed_on tells a b c d e f s0 s1 s2 xs ys first then_ = record {
         works = λ held here.
             let done : IsWorked (worked_lines d.limit m held xs) (IsBy s1 e.content) = one.works held here in
             lines_on d.limit e.limit m held done.now xs ys (IsBy s2 f.content) first.same_limit done.is (two.works done.now done.held);
+        spends = spends_on d e f s0 s1 m xs ys one.spends first.keeps two.spends;
       };
 }
 
@@ -100,6 +107,7 @@ stops_on tells a b c d e f s0 s1 xs ys status first stops = record {
             let done : IsWorked (worked_lines d.limit m held xs) (IsBy s1 e.content) = one.works held here in
             done_on d.limit e.limit m held done.now xs ys f first.same_limit done.is (two.works done.now done.held (given_behind m xs ys first.given stops.given one.given_is all));
         undamaged = two.undamaged;
+        spends = spends_on d e f s0 s1 m xs ys one.spends first.keeps two.spends;
       };
 }
 
@@ -117,6 +125,7 @@ stops_more tells a b d e s0 xs ys status stops = record {
         let same : xs ++ ys ≡ xs = ap (λ (l : List (List ℕ)). xs ++ l) none ∙ append-nil xs in
         subst (λ (l : List (List ℕ)). IsDone (worked_lines d.limit m held l) e) (sym same) (one.works held here (all ∙ ap (λ (l : List (List ℕ)). joined (replies m l)) same));
     undamaged = one.undamaged;
+    spends = spends_more d e s0 m xs ys one.spends;
   };
 }
 
@@ -132,6 +141,7 @@ stops_clip tells a b d e s0 xs ys status same stops = record {
         let done : IsDone (worked_lines d.limit m held xs) e = one.works held here (all ∙ ap joined (sym (replies_same m xs ys same))) in
         (worked_as _ _ (IsOn e.content) (worked_same d.limit m held xs ys same) done.0, done.1);
     undamaged = one.undamaged;
+    spends = spends_clip d e s0 m xs ys same one.spends;
   };
 }
 
@@ -149,6 +159,7 @@ stops_none tells told d session lines status lawful not_full whole = record {
         let none : [] ≡ lines = sym (none_given m lines (sym all)) in
         subst (λ (l : List (List ℕ)). IsDone (worked_lines d.limit m held l) d) none (record { now = held; is = refl; held = here.is }, agrees.store.settled);
     undamaged = whole;
+    spends = spends_none d session m lines;
   };
 }
 
@@ -164,22 +175,26 @@ stops_full tells a b d e s0 s1 lines status lawful not_full whole fed = record {
     full = λ held here need gap is. absurd (not_full need gap is);
     works = λ held here all. (worked_on_image (worked_lines d.limit m held lines) s1 e.content (one.works held here), one.agrees.store.settled);
     undamaged = whole;
+    spends = one.spends;
   };
 }
 
 -- a line was answered
 pub fed_line : (tells : Type 0) (a b : Option (List Event)) (d e : DiskState) (s0 s1 : Session) (line reply : List ℕ) → Gives a b reply → ((m : Machine) → tells → AgreesOn tells d s0 m → reply ≡ (step m line).1)
     → ((m : Machine) → tells → AgreesOn tells d s0 m → AgreesOn tells e s1 (step m line).0) → ((m : Machine) → tells → AgreesOn tells d s0 m → LeavesOnly (StandsForEither m.state (step m line).0.state) d e)
-    → ((m : Machine) (held : Holding) → tells → AgreesOn tells d s0 m → IsBy s0 d.content held → IsWorked (worked_where d.limit held (task_of m line)) (IsBy s1 e.content)) → e.limit ≡ d.limit → Fed tells a b d e s0 s1 (line ∷ [])
-fed_line tells a b d e s0 s1 line reply gave is now leaves works same = record {
+    → ((m : Machine) (held : Holding) → tells → AgreesOn tells d s0 m → IsBy s0 d.content held → IsWorked (worked_where d.limit held (task_of m line)) (IsBy s1 e.content)) → e.limit ≡ d.limit → KeepsStore s0 s1 (line ∷ []) → ((m : Machine) → tells → AgreesOn tells d s0 m → Spends d e s0 m (line ∷ []))
+    → Fed tells a b d e s0 s1 (line ∷ [])
+fed_line tells a b d e s0 s1 line reply gave is now leaves works same kept spends = record {
   given = reply;
   gave = gave;
   same_limit = same;
+  keeps = kept;
   each = λ m tell agrees. record {
     given_is = is m tell agrees ∙ sym (append-nil (step m line).1);
     agrees = now m tell agrees;
     images = leaves_as d e (StandsForEither m.state (step m line).0.state) (StandsAfterSome m (line ∷ [])) (leaves m tell agrees) (λ z here. some_either m line [] z here);
     works = λ held here. worked_as _ _ (IsBy s1 e.content) (sym (one_worked d.limit m held line)) (works m held tell agrees here);
+    spends = spends m tell agrees;
   };
 }
 
@@ -187,8 +202,8 @@ fed_line tells a b d e s0 s1 line reply gave is now leaves works same = record {
 pub stops_line : (tells : Type 0) (a b : Option (List Event)) (d e : DiskState) (s0 : Session) (line part : List ℕ) (status : Status) → IsLawful tells e → Gives a b part → ((m : Machine) → tells → AgreesOn tells d s0 m → (left : List ℕ) × ((step m line).1 ≡ part ++ left) × (0 < length left))
     → ((m : Machine) → tells → AgreesOn tells d s0 m → LeavesOnly (StandsForEither m.state (step m line).0.state) d e)
     → ((m : Machine) (held : Holding) → tells → AgreesOn tells d s0 m → IsBy s0 d.content held → IsFullOnly d.limit held m (line ∷ []) part status)
-    → ((m : Machine) (place : ℕ) → tells → AgreesOn tells d s0 m → status ≡ Damaged place → ⊥) → StopsWithin tells a b d e s0 (line ∷ []) status
-stops_line tells a b d e s0 line part status lawful gave is leaves full whole = record {
+    → ((m : Machine) (place : ℕ) → tells → AgreesOn tells d s0 m → status ≡ Damaged place → ⊥) → ((m : Machine) → tells → AgreesOn tells d s0 m → Spends d e s0 m (line ∷ [])) → StopsWithin tells a b d e s0 (line ∷ []) status
+stops_line tells a b d e s0 line part status lawful gave is leaves full whole spends = record {
   given = part;
   gave = gave;
   each = λ m tell agrees. let rest = is m tell agrees in record {
@@ -197,13 +212,14 @@ stops_line tells a b d e s0 line part status lawful gave is leaves full whole = 
     full = λ held here. full m held tell agrees here;
     works = λ held here all. absurd (given_less m line part rest.0 rest.1 rest.2 all);
     undamaged = λ place is. whole m place tell agrees is;
+    spends = spends m tell agrees;
   };
 }
 
 -- none of it was given
 pub stops_unanswered : (tells : Type 0) (a : Option (List Event)) (d e : DiskState) (s0 : Session) (line : List ℕ) (status : Status) → IsLawful tells e → ((m : Machine) → tells → AgreesOn tells d s0 m → LeavesOnly (StandsForEither m.state (step m line).0.state) d e)
     → ((m : Machine) (held : Holding) (need gap : ℕ) → tells → AgreesOn tells d s0 m → IsBy s0 d.content held → status ≡ Full need gap → worked_where d.limit held (task_of m line) ≡ Err (record { need = need; gap = gap }))
-    → ((m : Machine) (place : ℕ) → tells → AgreesOn tells d s0 m → status ≡ Damaged place → ⊥) → StopsWithin tells a a d e s0 (line ∷ []) status
-stops_unanswered tells a d e s0 line status lawful leaves full whole =
+    → ((m : Machine) (place : ℕ) → tells → AgreesOn tells d s0 m → status ≡ Damaged place → ⊥) → ((m : Machine) → tells → AgreesOn tells d s0 m → Spends d e s0 m (line ∷ [])) → StopsWithin tells a a d e s0 (line ∷ []) status
+stops_unanswered tells a d e s0 line status lawful leaves full whole spends =
     stops_line tells a a d e s0 line [] status lawful (gives_none a) (λ m tell agrees. ((step m line).1, refl, reply_some m line)) leaves
-    (λ m held tell agrees here need gap is. (0, over_first d.limit m held line need gap (one_worked d.limit m held line ∙ full m held need gap tell agrees here is), refl)) whole
+    (λ m held tell agrees here need gap is. (0, over_first d.limit m held line need gap (one_worked d.limit m held line ∙ full m held need gap tell agrees here is), refl)) whole spends

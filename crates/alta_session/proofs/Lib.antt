@@ -19,6 +19,7 @@ pub mod RunLaws
 pub mod ScriptLaws
 pub mod SearchLaws
 pub mod ServeLaws
+pub mod SpendingLaws
 pub mod StateLaws
 pub mod StatusLaws
 pub mod TaskLaws

@@ -5,7 +5,7 @@ use Rattle.std.proofs.lemmas.Bool.Decides.{nat_tests}
 use Rattle.std.proofs.lemmas.List.Elements.{All-nil}
 use Rattle.std.proofs.lemmas.Result.{IfOk-weaker}
 use Rattle.std.specs.Str.{bytes_eq}
-use Rattle.alta_catalog.specs.Knowing.{gone_of, memory_of}
+use Rattle.alta_catalog.specs.Knowing.{gone_of}
 use Rattle.alta_codec.specs.Faults.{Rose}
 use Rattle.alta_compile.specs.PlanOf.{plan_of}
 use Rattle.alta_content.specs.declared.content.Content.{Content}
@@ -33,7 +33,7 @@ use Rattle.alta_query.specs.declared.test.Test.{Test}
 use Rattle.alta_search.specs.Plans.{tests_of}
 use Rattle.alta_search.specs.declared.cursors.OpenCursor.{OpenCursor}
 use Rattle.alta_search.specs.declared.cursors.TheConstants.{CURSORS}
-use Rattle.alta_session.specs.Loading.{HasBrokenList, Loads, Queries, loads_of_query, of_load, open_loads, search_loads, text_loads}
+use Rattle.alta_session.specs.Loading.{HasBrokenList, Loads, Queries, loads_of_text, newest_in, of_load, open_loads, query_loads, search_loads, text_loads}
 use Rattle.alta_session.specs.Machine.{IsRefusal}
 use Rattle.alta_session.specs.Searching.{IsNoQuery}
 use Rattle.alta_session.proofs.StatusLaws.{ok_answers, err_answers}
@@ -154,12 +154,12 @@ outside_of {X} r f is none = subst (λ (x : Result X LoadFault). IfErr x (λ g. 
 
 -- ---- the lists of a text
 pub text_found : (store : Store) (text : List ℕ) (q : Shape) → query_of text ≡ Ok q → text_loads store text ≡ search_loads store (plan_of q)
-unfolding text_loads
-text_found store text q is = ap (loads_of_query store) is
+unfolding loads_of_text
+text_found store text q is = ap (query_loads (levels_of store) (newest_in store)) is
 
 pub text_none : (store : Store) (text : List ℕ) (f : Fault) → query_of text ≡ Err f → text_loads store text ≡ []
-unfolding text_loads
-text_none store text f is = ap (loads_of_query store) is
+unfolding loads_of_text
+text_none store text f is = ap (query_loads (levels_of store) (newest_in store)) is
 
 -- ---- the levels of lists
 
@@ -207,13 +207,13 @@ of_tests : (levels : List Tables) (newest : Content) (tests : List Test) → Are
 of_tests levels newest [] = tt
 of_tests levels newest (test ∷ tests) = both_of levels (loads_met levels newest test) (loads_of_tests levels newest tests) (of_terms levels (terms_met levels newest test)) (of_tests levels newest tests)
 
-of_query : (store : Store) (r : Result Shape Fault) → AreOf (levels_of store) (loads_of_query store r)
-of_query store (Ok q) = of_tests (levels_of store) (memory_of store.catalog).content (each_once (tests_of (plan_of q)))
-of_query store (Err f) = tt
+of_query : (levels : List Tables) (newest : Content) (r : Result Shape Fault) → AreOf levels (query_loads levels newest r)
+of_query levels newest (Ok q) = of_tests levels newest (each_once (tests_of (plan_of q)))
+of_query levels newest (Err f) = tt
 
 pub of_text : (store : Store) (text : List ℕ) → AreOf (levels_of store) (text_loads store text)
-unfolding text_loads
-of_text store text = of_query store (query_of text)
+unfolding loads_of_text
+of_text store text = of_query (levels_of store) (newest_in store) (query_of text)
 
 pub of_either : (levels : List Tables) (b : Bool) (loads : List Load) → AreOf levels loads → AreOf levels (cond b [] loads)
 of_either levels true loads are = tt

@@ -22,6 +22,7 @@ use Rattle.alta_session.specs.Progress.{StandsAfterSome, Progress, StopsWithin, 
 use Rattle.alta_session.specs.Run.{AnswersAll, AnswersInTime, Runs, RunsFrom}
 use Rattle.alta_session.specs.Status.{StopsLine, EndsLine}
 use Rattle.alta_session.specs.Tasks.{IsBy, IsDone, IsOn, IsWorked, worked_lines}
+use Rattle.alta_session.specs.Spending.{KeepsStore, Spends}
 use Rattle.alta_session.specs.declared.session.Session.{Session}
 use Rattle.alta_session.specs.declared.status.Status.{Status}
 use Rattle.alta_session.specs.declared.status.Status.TheVariants.{Done, Full, TooLong, Damaged}
@@ -34,6 +35,7 @@ use Rattle.alta_session.proofs.ProgressLaws.{progress_begins, progress_acked, pr
 use Rattle.alta_session.proofs.StatusLaws.{ends_not_done, ends_not_long, ends_whole}
 use Rattle.alta_session.proofs.TaskLaws.{lines_on, worked_on_image}
 use Rattle.alta_store.proofs.Agreements.{images_stand}
+use Rattle.alta_session.proofs.SpendingLaws.{keeps_on, spends_none, spends_on}
 
 -- A run that was in time goes on by a take, and then by gives: it is in time where all was answered before the take.
 in_time_on : (m : Machine) (run : List Event) (event : Event) (gives : List Event) → AnswersInTime m run → given_in run ≡ joined (replies m (whole (taken_in run))) → AllGiven gives → AnswersInTime m (run ++ event ∷ gives)
@@ -51,8 +53,8 @@ in_time_on m run event gives before now given k t =
 runs_from : (limit : ℕ) (d e : DiskState) (session : Session) (run : List Event) (status : Status) (m : Machine) → AnswersInTime m run → Progress m (lines_in limit run) (given_in run) e.images
     → (status ≡ Done → (has_ended run ≡ true) × (given_in run ≡ joined (replies m (lines_in limit run)))) → LeavesOnly (StandsAfterSome m (lines_in limit run)) d e
     → ((held : Holding) → IsBy session d.content held → IsFullExactly d.limit held m (lines_in limit run) (given_in run) status) → ((held : Holding) → IsBy session d.content held → AnswersAll limit m run → IsDone (worked_lines d.limit m held (lines_in limit run)) e)
-    → ((place : ℕ) → status ≡ Damaged place → ⊥) → RunsFrom limit d e session run status m
-runs_from limit d e session run status m time p done leaves full levels never = record {
+    → ((place : ℕ) → status ≡ Damaged place → ⊥) → Spends d e session m (lines_in limit run) → RunsFrom limit d e session run status m
+runs_from limit d e session run status m time p done leaves full levels never spends = record {
   replies = record {
     begin = progress_begins m (lines_in limit run) (given_in run) e.images p;
     all = done;
@@ -69,6 +71,7 @@ runs_from limit d e session run status m time p done leaves full levels never = 
   full = full;
   levels = levels;
   undamaged = never;
+  spends = spends;
 }
 
 -- it ended in answering a line, or the work of all that came before was done too
@@ -89,10 +92,10 @@ given_on run gives event given none is =
     given_in_append run (event ∷ gives) ∙ ap (λ (l : List ℕ). given_in run ++ l) (given_in_append (event ∷ []) gives ∙ ap (λ (l : List ℕ). l ++ given_in gives) none ∙ is)
 
 after_from : (tells : Type 0) (limit : ℕ) (d e f : DiskState) (s0 s1 : Session) (run gives : List Event) (event : Event) (given : List ℕ) (later : List (List ℕ)) (status : Status) (m : Machine) → GoingFrom tells d e s0 s1 run m
-    → e.limit ≡ d.limit → StopsWithinFrom e f s1 later given status (after m (whole (taken_in run))) → AllGiven gives → given_in gives ≡ given → given_in (event ∷ []) ≡ [] → lines_in limit (run ++ event ∷ gives) ≡ whole (taken_in run) ++ later
+    → KeepsStore s0 s1 (whole (taken_in run)) → e.limit ≡ d.limit → StopsWithinFrom e f s1 later given status (after m (whole (taken_in run))) → AllGiven gives → given_in gives ≡ given → given_in (event ∷ []) ≡ [] → lines_in limit (run ++ event ∷ gives) ≡ whole (taken_in run) ++ later
     → (status ≡ Done → (has_ended (run ++ event ∷ gives) ≡ true) × (given ≡ joined (replies (after m (whole (taken_in run))) later)))
     → StopsLine status ⊎ ((held : Holding) → IsBy s1 e.content held → IsWorked (worked_lines e.limit (after m (whole (taken_in run))) held later) (IsOn f.content)) → RunsFrom limit d f s0 (run ++ event ∷ gives) status m
-after_from tells limit d e f s0 s1 run gives event given later status m going same stops all_given gave none lines done ends =
+after_from tells limit d e f s0 s1 run gives event given later status m going kept same stops all_given gave none lines done ends =
     let before : List (List ℕ) = whole (taken_in run) in
     let now : List Event = run ++ event ∷ gives in
     let given_is : given_in now ≡ joined (replies m before) ++ given = given_on run gives event given none gave ∙ ap (λ (l : List ℕ). l ++ given) going.given_is in
@@ -102,6 +105,7 @@ after_from tells limit d e f s0 s1 run gives event given later status m going sa
     let F : Holding → List (List ℕ) → Type 0 = λ held l. IsFullExactly d.limit held m l (given_in now) status in
     let G : Holding → List ℕ → Type 0 = λ held l. IsFullOnly d.limit held m (before ++ later) l status in
     let D : Holding → List (List ℕ) → Type 0 = λ held l. IsDone (worked_lines d.limit m held l) f in
+    let S : List (List ℕ) → Type 0 = λ l. Spends d f s0 m l in
     runs_from limit d f s0 now status m (in_time_on m run event gives going.in_time going.given_is all_given)
     (subst P (sym lines) (subst Q (sym given_is) (progress_on m before later given f.images stops.progress)))
     (λ is. ((done is).0, given_is ∙ ap (λ (l : List ℕ). joined (replies m before) ++ l) (done is).1 ∙ sym (joined_append (replies m before) (replies (after m before) later)) ∙ ap joined (sym (replies_append m before later) ∙ ap (λ (l : List (List ℕ)). replies m l) (sym lines))))
@@ -115,7 +119,7 @@ after_from tells limit d e f s0 s1 run gives event given later status m going sa
     let done : IsWorked (worked_lines d.limit m held before) (IsBy s1 e.content) = going.works held here in
     subst (D held) (sym lines) (done_on d.limit e.limit m held done.now before later f same done.is
     (stops.works done.now done.held (given_behind m before later (joined (replies m before)) given refl (sym given_is ∙ all ∙ ap (λ (l : List (List ℕ)). joined (replies m l)) lines)))))
-    stops.undamaged
+    stops.undamaged (subst S (sym lines) (spends_on d e f s0 s1 m before later going.spends kept stops.spends))
 
 -- at the start
 pub goes_none : (tells : Type 0) (limit : ℕ) (told : Option (List Event)) (left : Option (List ℕ)) (d : DiskState) (session : Session) → IsLawful tells d → Goes tells limit told told left left d d session session [] 0
@@ -128,7 +132,15 @@ goes_none tells limit told left d session lawful = record {
   kept_is = refl;
   not_ended = refl;
   same_limit = refl;
-  each = λ m tell agrees. record { given_is = refl; in_time = λ k t. absurd t; agrees = agrees; images = leaves_none tells d session m [] lawful agrees; works = λ held here. record { now = held; is = refl; held = here } };
+  keeps = λ all. refl;
+  each = λ m tell agrees. record {
+    given_is = refl;
+    in_time = λ k t. absurd t;
+    agrees = agrees;
+    images = leaves_none tells d session m [] lawful agrees;
+    works = λ held here. record { now = held; is = refl; held = here };
+    spends = spends_none d session m [];
+  };
 }
 
 same_whole : (kept bytes piece : List ℕ) → clip kept ≡ clip (begun bytes) → map clip (whole_from kept piece) ≡ map clip (whole_from (begun bytes) piece)
@@ -168,6 +180,7 @@ goes_on tells limit a b c d la lb lc ld e f h s0 s1 s2 kept kept_now taken piece
       kept_is = kept_is ∙ begun_from_clip kept (begun bytes) piece goes.kept_is ∙ ap clip (sym (ap begun taken_now ∙ begun_from_append [] bytes piece));
       not_ended = ended_append run (Taken piece ∷ gives) goes.not_ended ∙ given_ends_none gives fed_now.gave.2;
       same_limit = fed_now.same_limit ∙ goes.same_limit;
+      keeps = subst (λ (l : List (List ℕ)). KeepsStore s0 s2 l) (sym lines) (keeps_on s0 s1 s2 (whole bytes) later goes.keeps fed_now.keeps);
       each = λ m tell agrees.
           let one : GoingFrom tells e f s0 s1 run m = goes.each m tell agrees in
           let two : FedFrom tells f h s1 s2 later fed_now.given (after m (whole bytes)) = fed_now.each (after m (whole bytes)) tell one.agrees in
@@ -181,6 +194,7 @@ goes_on tells limit a b c d la lb lc ld e f h s0 s1 s2 kept kept_now taken piece
             works = λ held here.
                 let done : IsWorked (worked_lines e.limit m held (whole bytes)) (IsBy s1 f.content) = one.works held here in
                 subst (λ (l : List (List ℕ)). IsWorked (worked_lines e.limit m held l) (IsBy s2 h.content)) (sym lines) (lines_on e.limit f.limit m held done.now (whole bytes) later (IsBy s2 h.content) goes.same_limit done.is (two.works done.now done.held));
+            spends = subst (λ (l : List (List ℕ)). Spends e h s0 m l) (sym lines) (spends_on e f h s0 s1 m (whole bytes) later one.spends goes.keeps two.spends);
           };
     }
 
@@ -205,7 +219,7 @@ runs_stopped tells limit a b c d la lb lc ld e f h s0 s1 kept taken piece status
       too_long = (λ long. absurd (ends_not_long status ends long), λ past. absurd (omega arith));
       last = λ past. absurd (omega arith);
       each = λ m tell agrees. let one : GoingFrom tells e f s0 s1 run m = goes.each m tell agrees in
-          after_from tells limit e f h s0 s1 run gives (Taken piece) stops.given later status m one goes.same_limit (stops.each (after m (whole bytes)) tell one.agrees) stops.gave.2 stops.gave.3 refl lines (λ done. absurd (ends_not_done status ends done)) (inl (ends_whole status ends (stops.each (after m (whole bytes)) tell one.agrees).undamaged));
+          after_from tells limit e f h s0 s1 run gives (Taken piece) stops.given later status m one goes.keeps goes.same_limit (stops.each (after m (whole bytes)) tell one.agrees) stops.gave.2 stops.gave.3 refl lines (λ done. absurd (ends_not_done status ends done)) (inl (ends_whole status ends (stops.each (after m (whole bytes)) tell one.agrees).undamaged));
     }
 
 -- a piece passed the limit
@@ -227,7 +241,7 @@ runs_past tells limit a b c la lb lc e f s0 s1 kept taken piece lawful goes took
       too_long = (λ long. omega (arith, goes.taken_is, ap length taken_now, length-append bytes piece), λ over. refl);
       last = λ over. record { before = run; piece = piece; run_is = refl; within = goes.within };
       each = λ m tell agrees. let one : GoingFrom tells e f s0 s1 run m = goes.each m tell agrees in
-          after_from tells limit e f f s0 s1 run [] (Taken piece) stops.given [] TooLong m one goes.same_limit (stops.each (after m (whole bytes)) tell one.agrees) tt refl refl lines (λ done. absurd cc) (inr (λ held here. record { now = held; is = refl; held = here.is }));
+          after_from tells limit e f f s0 s1 run [] (Taken piece) stops.given [] TooLong m one goes.keeps goes.same_limit (stops.each (after m (whole bytes)) tell one.agrees) tt refl refl lines (λ done. absurd cc) (inr (λ held here. record { now = held; is = refl; held = here.is }));
     }
 
 ended_on : (run gives : List Event) → AllGiven gives → taken_in (run ++ Ended ∷ gives) ≡ taken_in run ++ []
@@ -255,7 +269,7 @@ ended_with tells limit a b c d la lb lc ld e f h s0 s1 kept taken status goes to
       too_long = (λ long. absurd (not_long long), λ past. absurd (omega arith));
       last = λ past. absurd (omega arith);
       each = λ m tell agrees. let one : GoingFrom tells e f s0 s1 run m = goes.each m tell agrees in
-          after_from tells limit e f h s0 s1 run gives Ended stops.given later status m one goes.same_limit (stops.each (after m (whole bytes)) tell one.agrees) stops.gave.2 stops.gave.3 refl lines (λ done. (ended, all (after m (whole bytes)) tell one.agrees done))
+          after_from tells limit e f h s0 s1 run gives Ended stops.given later status m one goes.keeps goes.same_limit (stops.each (after m (whole bytes)) tell one.agrees) stops.gave.2 stops.gave.3 refl lines (λ done. (ended, all (after m (whole bytes)) tell one.agrees done))
           (ends (after m (whole bytes)) tell one.agrees);
     }
 
@@ -298,5 +312,5 @@ runs_failed tells limit a b c la lb lc e f s0 s1 kept taken status lawful goes s
           (λ held here.
           let done : IsWorked (worked_lines e.limit m held (lines_in limit run)) (IsBy s1 f.content) = subst (λ (l : List (List ℕ)). IsWorked (worked_lines e.limit m held l) (IsBy s1 f.content)) (sym lines) (one.works held here) in
           full_exactly e.limit m held (lines_in limit run) (given_in run) status (λ need gap is. absurd (not_full need gap is)) (inr (done.now, done.is)))
-          (λ held here all. (worked_on_image (worked_lines e.limit m held (lines_in limit run)) s1 f.content (subst (λ (l : List (List ℕ)). IsWorked (worked_lines e.limit m held l) (IsBy s1 f.content)) (sym lines) (one.works held here)), one.agrees.store.settled)) never;
+          (λ held here all. (worked_on_image (worked_lines e.limit m held (lines_in limit run)) s1 f.content (subst (λ (l : List (List ℕ)). IsWorked (worked_lines e.limit m held l) (IsBy s1 f.content)) (sym lines) (one.works held here)), one.agrees.store.settled)) never (subst (λ (l : List (List ℕ)). Spends e f s0 m l) (sym lines) one.spends);
     }

@@ -1,9 +1,12 @@
 -- Laws of runs that open what is on the disk.
-use Rattle.std.proofs.Common.{◌≡◌, ℕ, inl, inr, ⊎_elim, List, [], Option, None, refl, sym, subst, arith}
+use Rattle.std.proofs.Common.{◌≡◌, ◌⊎◌, ◌+◌, ◌≤◌, ℕ, inl, inr, ⊎_elim, List, [], Option, None, refl, sym, subst, ◌∙◌, arith}
+use Rattle.std.specs.List.{All}
 use Rattle.alta_console.specs.Transcript.{given_in, lines_in}
 use Rattle.alta_console.specs.declared.event.Event.{Event}
 use Rattle.alta_console.proofs.Laws.{grows_none, consumes_none}
-use Rattle.alta_disk.specs.Disk.{DiskState, Same, Passes, LeavesOnly, IsLawful}
+use Rattle.alta_content.specs.declared.content.Content.{Content}
+use Rattle.alta_catalog.specs.Knowing.{newest_of}
+use Rattle.alta_disk.specs.Disk.{DiskState, Same, Only, Passes, LeavesOnly, IsLawful}
 use Rattle.alta_disk.proofs.Moments.{leaves_then, leaves_by}
 use Rattle.alta_meta.specs.declared.document.State.{State}
 use Rattle.alta_images.specs.Holding.{Holding, IsHeld, IsJobOf}
@@ -11,17 +14,25 @@ use Rattle.alta_session.specs.Agreement.{AgreesOn}
 use Rattle.alta_session.specs.Fullness.{IsFullExactly}
 use Rattle.alta_session.specs.Machine.{Machine, started_at}
 use Rattle.alta_session.specs.Progress.{StandsAfterSome}
-use Rattle.alta_session.specs.Run.{AnswersAll, Runs, RunsFrom, Serves, Keeps}
+use Rattle.alta_session.specs.Loading.{newest_in}
+use Rattle.alta_session.specs.Run.{AnswersAll, KeepsAnswered, KeepsSince, Runs, RunsFrom, Serves, Keeps}
+use Rattle.alta_session.specs.Spending.{OnlyReads, Spends, lines_bytes, newest_of_opened, opening_bytes}
 use Rattle.alta_session.specs.Tasks.{IsBy, IsFirst, IsOn, IsWorked, worked_lines}
 use Rattle.alta_session.specs.declared.session.Session.{Session}
 use Rattle.alta_session.specs.declared.status.Status.{Status}
-use Rattle.alta_session.specs.declared.status.Status.TheVariants.{Done, Full, TooLong}
+use Rattle.alta_session.specs.declared.status.Status.TheVariants.{DiskFault, Done, Full, TooLong}
 use Rattle.alta_session.proofs.FullnessLaws.{full_exactly}
 use Rattle.alta_session.proofs.ProgressLaws.{some_none}
 use Rattle.alta_images.specs.Standing.{StandsFor, view_of}
 use Rattle.alta_images.specs.Work.{Job}
 use Rattle.alta_merge.specs.Merging.{Merging}
-use Rattle.alta_store.specs.Agreement.{IsJobIn}
+use Rattle.alta_images.specs.Opened.{Opened, IsOpened}
+use Rattle.alta_memlevel.proofs.One.{one_content}
+use Rattle.alta_root.specs.Slots.{Counts}
+use Rattle.alta_root.specs.declared.root.Root.{Root}
+use Rattle.alta_root.specs.declared.slot.Slot.{Slot}
+use Rattle.alta_store.specs.Agreement.{IsJobIn, Keeps as StoreKeeps, levels_of}
+use Rattle.alta_table.specs.Tables.{Tables}
 use Rattle.alta_store.proofs.Agreements.{opened_of}
 use Rattle.alta_store.proofs.Holdings.{content_bytes, well_held}
 
@@ -32,9 +43,36 @@ same_stands P d e passes stand c here = let from = passes.now c here in subst P 
 opens_only : (tells : Type 0) (d e : DiskState) (P : List ℕ → Type 0) → IsLawful tells d → Passes Same d e → ((c : List ℕ) → d.images c → P c) → LeavesOnly P d e
 opens_only tells d e P lawful passes stand = leaves_by tells d e P Same lawful passes stand (λ x z here same. subst P (sym same) (stand x here))
 
+-- at a moment before the calls that opened it there was an image of then
+older : (tells : Type 0) (d m : DiskState) (c : List ℕ) → IsLawful tells d → Passes Same d m → m.since d.clock c → d.images c
+older tells d m c lawful passes here =
+    ⊎_elim (λ old. lawful.only_now c old) (λ from. subst (λ (z : List ℕ). d.images z) (sym from.2) from.1) (passes.between d.clock c (omega arith) here)
+
+-- what an image of the start's state keeps before any line
+keeps_none : (limit : ℕ) (s : State) (c : List ℕ) → StandsFor s c → KeepsAnswered limit (started_at s) [] c
+keeps_none limit s c stands = record {
+  answered = 0;
+  is_acked = record { within = omega arith; begins = ([], refl); greatest = λ j h begins. h };
+  stands = record { reached = 0; least = omega arith; most = omega arith; within = omega arith; stands = stands };
+}
+
+-- It was opened as far as its sync, and then it ended: from then on each image is the content of the start.
+since_sync : (tells : Type 0) (limit : ℕ) (d e : DiskState) (s : State) → IsLawful tells d → IsLawful tells e → Passes Same d e → e.content ≡ d.content → Only e.content e.images → StandsFor s d.content → KeepsSince limit (started_at s) [] d e
+since_sync tells limit d e s lawful lawful_now passes same only stands =
+    let here : (c : List ℕ) → e.images c → StandsFor s c = λ c left. subst (StandsFor s) (sym (only c left ∙ same)) stands in
+    record {
+      moment = e.clock;
+      not_before = passes.later;
+      not_after = omega arith;
+      now = λ c left. keeps_none limit s c (here c left);
+      since = λ c left. some_none (started_at s) [] c (here c (lawful_now.only_now c left));
+      ever = λ c left. inl (older tells d e c lawful passes left);
+    }
+
 -- it was not opened
-pub serves_none : (tells : Type 0) (limit : ℕ) (told : Option (List Event)) (left : Option (List ℕ)) (d e : DiskState) (status : Status) → IsLawful tells d → Passes Same d e → (tells → e.content ≡ d.content) → (status ≡ Done → ⊥) → (status ≡ TooLong → ⊥) → ((need gap : ℕ) → status ≡ Full need gap → ⊥) → Serves tells limit told told left left d e status
-serves_none tells limit told left d e status lawful passes same not_done not_long not_full = record {
+pub serves_none : (tells : Type 0) (limit : ℕ) (told : Option (List Event)) (left : Option (List ℕ)) (d e : DiskState) (status : Status) → IsLawful tells d → IsLawful tells e → Passes Same d e → (tells → e.content ≡ d.content) → (status ≡ DiskFault) ⊎ Only e.content e.images
+    → (tells → (slot : Slot) → (root : Root) → Counts slot root d.content → e.taken ≤ d.taken + opening_bytes root d.content) → (status ≡ Done → ⊥) → (status ≡ TooLong → ⊥) → ((need gap : ℕ) → status ≡ Full need gap → ⊥) → Serves tells limit told told left left d e status
+serves_none tells limit told left d e status lawful lawful_now passes same settled read not_done not_long not_full = record {
   run = [];
   grew = grows_none told;
   read = consumes_none left;
@@ -45,20 +83,12 @@ serves_none tells limit told left d e status lawful passes same not_done not_lon
   levels = λ s held tell stands here all. record { now = held; is = refl; held = subst (IsHeld held) (sym (same tell)) here.is };
   settled = λ s tell stands all some. absurd (omega (arith, some));
   keeps = λ s tell stands. record {
-    now = λ c here. record {
-      answered = 0;
-      is_acked = record { within = omega arith; begins = ([], refl); greatest = λ j h begins. h };
-      stands = record { reached = 0; least = omega arith; most = omega arith; within = omega arith; stands = same_stands (StandsFor s) d e passes stands.images c here };
-    };
+    now = λ c here. keeps_none limit s c (same_stands (StandsFor s) d e passes stands.images c here);
     ever = opens_only tells d e (StandsAfterSome (started_at s) []) lawful passes (λ c here. some_none (started_at s) [] c (stands.images c here));
   };
-  reopened = λ s tell stands. inl (record { none = refl; same = passes });
+  reopened = λ s tell stands. ⊎_elim (λ failed. inl (record { failed = failed; none = refl; same = passes })) (λ only. inr (since_sync tells limit d e s lawful lawful_now passes (same tell) only stands)) settled;
+  reads = λ s tell stands all. omega (arith, read tell stands.opened.slot stands.opened.root stands.counts);
 }
-
--- at a moment before the calls that opened it there was an image of then
-older : (tells : Type 0) (d m : DiskState) (c : List ℕ) → IsLawful tells d → Passes Same d m → m.since d.clock c → d.images c
-older tells d m c lawful passes here =
-    ⊎_elim (λ old. lawful.only_now c old) (λ from. subst (λ (z : List ℕ). d.images z) (sym from.2) from.1) (passes.between d.clock c (omega arith) here)
 
 -- what an image has, as a session has it behind its opening
 pub opened_by : (tells : Type 0) (d m : DiskState) (session : Session) (held : Holding) → IsLawful tells m → tells → session.store.job ≡ None → m.content ≡ d.content → IsFirst d.content held → IsBy session m.content held
@@ -88,10 +118,19 @@ held_of s image stands = (
   record { is = record { opened = stands.opened; is = opened_of s image stands; are = stands.means.are; view_is = refl; list_is = refl }; none = refl },
 )
 
+-- by the levels and newest documents of what was opened
+spends_opened : (d e : DiskState) (session : Session) (m : Machine) (lines : List (List ℕ)) (o : Opened) → StoreKeeps session.store o → Spends d e session m lines → All OnlyReads lines → e.taken ≤ d.taken + lines_bytes o.levels (newest_of_opened o) m lines
+spends_opened d e session m lines o keeps spends all =
+    let newest : newest_in session.store ≡ newest_of_opened o = one_content (newest_of o.root o.entries) (newest_in session.store) keeps.follows.content in
+    let P : List Tables → Type 0 = λ levels. e.taken ≤ d.taken + lines_bytes levels (newest_in session.store) m lines in
+    let Q : Content → Type 0 = λ content. e.taken ≤ d.taken + lines_bytes o.levels content m lines in
+    subst Q newest (subst P keeps.levels (spends all))
+
 -- it was opened, and then it ran
 pub serves_opened : (tells : Type 0) (limit : ℕ) (told told_now : Option (List Event)) (left left_now : Option (List ℕ)) (d m e : DiskState) (session : Session) (status : Status) → IsLawful tells d → IsLawful tells m → session.store.job ≡ None → Passes Same d m → ((s : State) → tells → StandsFor s d.content → AgreesOn tells m session (started_at s)) → (tells → m.content ≡ d.content) → m.limit ≡ d.limit
+    → ((o : Opened) → tells → IsOpened o d.content → StoreKeeps session.store o) → (tells → (slot : Slot) → (root : Root) → Counts slot root d.content → m.taken ≤ d.taken + opening_bytes root d.content)
     → Runs tells limit told told_now left left_now m e session status → Serves tells limit told told_now left left_now d e status
-serves_opened tells limit told told_now left left_now d m e session status lawful lawful_now none passes agrees same same_limit runs = record {
+serves_opened tells limit told told_now left left_now d m e session status lawful lawful_now none passes agrees same same_limit keeps read runs = record {
   run = runs.run;
   grew = runs.grew;
   read = runs.read;
@@ -120,4 +159,10 @@ serves_opened tells limit told told_now left left_now d m e session status lawfu
         since = one.ever.each;
         ever = λ c here. ⊎_elim (λ old. inl (older tells d m c lawful passes old)) (λ some. inr some) (one.ever.between d.clock c passes.later here);
       });
+  reads = λ s tell stands all.
+      omega (
+        arith,
+        read tell stands.opened.slot stands.opened.root stands.counts,
+        spends_opened m e session (started_at s) (lines_in limit runs.run) stands.opened (keeps stands.opened tell (opened_of s d.content stands)) (runs.each (started_at s) tell (agrees s tell stands)).spends all,
+      );
 }

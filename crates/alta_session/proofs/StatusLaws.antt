@@ -210,6 +210,11 @@ status_rooted r e is same = rooted e (sym is ∙ same)
 pub status_damaged : (r : Status) (e : StoreFault) (place : ℕ) → r ≡ status_for e → r ≡ Damaged place → e ≡ StoreDamaged place
 status_damaged r e place is same = damaged e place (sym is ∙ same)
 
+-- after each fault but one of the disk
+pub start_settled : (r : Status) (e : StoreFault) (P : Type 0) → r ≡ status_for e → (e ≡ StoreDisk) ⊎ P → (r ≡ DiskFault) ⊎ P
+start_settled r e P is (inl disk) = inl (is ∙ ap status_for disk)
+start_settled r e P is (inr here) = inr here
+
 pub status_disk : (r : Status) (e : StoreFault) → r ≡ status_for e → r ≡ DiskFault → e ≡ StoreDisk
 status_disk r e is same = disk e (sym is ∙ same)
 

@@ -8,6 +8,7 @@ use Rattle.alta_images.specs.Holding.{Holding}
 use Rattle.alta_session.specs.Agreement.{AgreesOn}
 use Rattle.alta_session.specs.Machine.{Machine, after, replies}
 use Rattle.alta_session.specs.Progress.{StandsAfterSome}
+use Rattle.alta_session.specs.Spending.{KeepsStore, Spends}
 use Rattle.alta_session.specs.Tasks.{IsBy, IsWorked, worked_lines}
 use Rattle.alta_session.specs.declared.session.Session.{Session}
 
@@ -18,9 +19,11 @@ pub record FedFrom (tells : Type 0) (disk disk_now : DiskState) (session session
   pub agrees : AgreesOn tells disk_now session_now (after m lines)
   pub images : LeavesOnly (StandsAfterSome m lines) disk disk_now
   pub works : (held : Holding) → IsBy session disk.content held → IsWorked (worked_lines disk.limit m held lines) (IsBy session_now disk_now.content)
+  pub spends : Spends disk disk_now session m lines
 
 pub record Fed (tells : Type 0) (told told_now : Option (List Event)) (disk disk_now : DiskState) (session session_now : Session) (lines : List (List ℕ)) : Type 0 where
   pub given : List ℕ
   pub gave : Gives told told_now given
   pub same_limit : disk_now.limit ≡ disk.limit
+  pub keeps : KeepsStore session session_now lines
   pub each : (m : Machine) → tells → AgreesOn tells disk session m → FedFrom tells disk disk_now session session_now lines given m

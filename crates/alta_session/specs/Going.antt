@@ -11,6 +11,7 @@ use Rattle.alta_session.specs.Keeping.{clip}
 use Rattle.alta_session.specs.Machine.{Machine, after, replies}
 use Rattle.alta_session.specs.Progress.{StandsAfterSome}
 use Rattle.alta_session.specs.Run.{AnswersInTime}
+use Rattle.alta_session.specs.Spending.{KeepsStore, Spends}
 use Rattle.alta_session.specs.Tasks.{IsBy, IsWorked, worked_lines}
 use Rattle.alta_session.specs.declared.session.Session.{Session}
 
@@ -21,6 +22,7 @@ pub record GoingFrom (tells : Type 0) (disk disk_now : DiskState) (session sessi
   pub agrees : AgreesOn tells disk_now session_now (after m (whole (taken_in run)))
   pub images : LeavesOnly (StandsAfterSome m (whole (taken_in run))) disk disk_now
   pub works : (held : Holding) → IsBy session disk.content held → IsWorked (worked_lines disk.limit m held (whole (taken_in run))) (IsBy session_now disk_now.content)
+  pub spends : Spends disk disk_now session m (whole (taken_in run))
 
 -- A run that took this many bytes, and may take more. `kept` is kept of the line that has begun.
 pub record Goes (tells : Type 0) (limit : ℕ) (told told_now : Option (List Event)) (left left_now : Option (List ℕ)) (disk disk_now : DiskState) (session session_now : Session) (kept : List ℕ) (taken : ℕ) : Type 0 where
@@ -32,4 +34,5 @@ pub record Goes (tells : Type 0) (limit : ℕ) (told told_now : Option (List Eve
   pub kept_is : clip kept ≡ clip (begun (taken_in run))
   pub not_ended : has_ended run ≡ false
   pub same_limit : disk_now.limit ≡ disk.limit
+  pub keeps : KeepsStore session session_now (whole (taken_in run))
   pub each : (m : Machine) → tells → AgreesOn tells disk session m → GoingFrom tells disk disk_now session session_now run m

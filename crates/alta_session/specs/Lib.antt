@@ -12,5 +12,6 @@ pub mod Machine
 pub mod Progress
 pub mod Run
 pub mod Searching
+pub mod Spending
 pub mod Status
 pub mod Tasks

@@ -4,6 +4,7 @@ use Rattle.alta_catalog.specs.Knowing.{memory_of}
 use Rattle.alta_codec.specs.Faults.{Rose}
 use Rattle.alta_compile.specs.PlanOf.{plan_of}
 use Rattle.alta_compile.specs.Tree.{Tree}
+use Rattle.alta_content.specs.declared.content.Content.{Content}
 use Rattle.alta_disk.specs.Calls.{Reads}
 use Rattle.alta_disk.specs.Disk.{DiskState}
 use Rattle.alta_images.specs.Broken.{IsBrokenAmong}
@@ -14,7 +15,7 @@ use Rattle.alta_loading.specs.Met.{each_once, loads_of_tests}
 use Rattle.alta_loading.specs.declared.fault.LoadFault.{LoadFault}
 use Rattle.alta_loading.specs.declared.fault.LoadFault.TheVariants.{Disk as LoadDisk, Memory as LoadMemory, Damaged as LoadDamaged}
 use Rattle.alta_meta.specs.declared.document.State.{State}
-use Rattle.alta_model.specs.Command.{Command, searches, counts, opens}
+use Rattle.alta_model.specs.Command.{Command, adds, deletes, searches, counts, explains, opens, fetches, closes, flushes, merges, steps, asks_stats}
 use Rattle.alta_model.specs.Lines.{Reading, asks, refuses, reading_of}
 use Rattle.alta_query.specs.Faults.{Fault}
 use Rattle.alta_query.specs.Reading.{query_of}
@@ -29,38 +30,63 @@ use Rattle.alta_store.specs.Answers.{IsOutside, AnswersFault}
 use Rattle.alta_store.specs.declared.fault.StoreFault.{StoreFault}
 use Rattle.alta_store.specs.declared.fault.StoreFault.TheVariants.{Disk, Memory, Damaged}
 use Rattle.alta_store.specs.declared.store.Store.{Store}
+use Rattle.alta_table.specs.Tables.{Tables}
 
 -- ---- which lists
 
--- the lists that a search for a plan loads from the store's levels, in the order of loading: those of its tests, each once
-abbrev pub search_loads : Store → Tree → List Load
-search_loads store plan = loads_of_tests (levels_of store) (memory_of store.catalog).content (each_once (tests_of plan))
+-- the lists that a search for a plan loads from levels, beside these newest documents, in the order of loading: those of its tests, each once
+abbrev pub plan_loads : List Tables → Content → Tree → List Load
+plan_loads levels newest plan = loads_of_tests levels newest (each_once (tests_of plan))
 
-abbrev pub loads_of_query : Store → Result Shape Fault → List Load
-loads_of_query store (Ok q) = search_loads store (plan_of q)
-loads_of_query store (Err f) = []
+abbrev pub query_loads : List Tables → Content → Result Shape Fault → List Load
+query_loads levels newest (Ok q) = plan_loads levels newest (plan_of q)
+query_loads levels newest (Err f) = []
 
 -- those of the plan of a text, and none where it is no query
-unfoldable pub text_loads : Store → List ℕ → List Load
-text_loads store text = loads_of_query store (query_of text)
+unfoldable pub loads_of_text : List Tables → Content → List ℕ → List Load
+loads_of_text levels newest text = query_loads levels newest (query_of text)
 
--- those of an open, and none where as many cursors are open as may be
+-- those of a command, where so many cursors are open: an open loads none where as many are open as may be
+abbrev pub command_loads : List Tables → Content → ℕ → Command → List Load
+command_loads levels newest many (searches text) = loads_of_text levels newest text
+command_loads levels newest many (counts text) = loads_of_text levels newest text
+command_loads levels newest many (opens text) = if nat_le CURSORS many then [] else loads_of_text levels newest text
+command_loads levels newest many (adds name title body) = []
+command_loads levels newest many (deletes name) = []
+command_loads levels newest many (explains text) = []
+command_loads levels newest many (fetches cursor count) = []
+command_loads levels newest many (closes cursor) = []
+command_loads levels newest many flushes = []
+command_loads levels newest many merges = []
+command_loads levels newest many (steps count) = []
+command_loads levels newest many asks_stats = []
+
+abbrev pub loads_in : List Tables → Content → ℕ → Reading → List Load
+loads_in levels newest many (asks command) = command_loads levels newest many command
+loads_in levels newest many (refuses fault) = []
+
+-- those of a line
+abbrev pub line_loads : List Tables → Content → ℕ → List ℕ → List Load
+line_loads levels newest many line = loads_in levels newest many (reading_of line)
+
+-- ---- of a store
+
+-- the newest documents of a store, deleted ones among them
+abbrev pub newest_in : Store → Content
+newest_in store = (memory_of store.catalog).content
+
+abbrev pub search_loads : Store → Tree → List Load
+search_loads store plan = plan_loads (levels_of store) (newest_in store) plan
+
+abbrev pub text_loads : Store → List ℕ → List Load
+text_loads store text = loads_of_text (levels_of store) (newest_in store) text
+
 abbrev pub open_loads : Store → List OpenCursor → List ℕ → List Load
 open_loads store cursors text = if nat_le CURSORS (length cursors) then [] else text_loads store text
 
-abbrev pub command_loads : Session → Command → List Load
-command_loads session (searches text) = text_loads session.store text
-command_loads session (counts text) = text_loads session.store text
-command_loads session (opens text) = open_loads session.store session.cursors text
-command_loads session _ = []
-
-abbrev pub loads_in : Session → Reading → List Load
-loads_in session (asks command) = command_loads session command
-loads_in session (refuses fault) = []
-
--- those of a line
-abbrev pub line_loads : Session → List ℕ → List Load
-line_loads session line = loads_in session (reading_of line)
+-- the lists that a session loads for a line
+abbrev pub session_loads : Session → List ℕ → List Load
+session_loads session line = line_loads (levels_of session.store) (newest_in session.store) (length session.cursors) line
 
 -- ---- a call that loads
 

@@ -105,7 +105,11 @@ IsLook (opens text) = IsNoQuery text
 IsLook (fetches cursor count) = Unit {0}
 IsLook (closes cursor) = Unit {0}
 IsLook asks_stats = Unit {0}
-IsLook _ = ⊥
+IsLook (adds name title body) = ⊥
+IsLook (deletes name) = ⊥
+IsLook flushes = ⊥
+IsLook merges = ⊥
+IsLook (steps count) = ⊥
 
 abbrev pub LooksIn : Reading → Type 0
 LooksIn (asks command) = IsLook command
@@ -120,7 +124,15 @@ abbrev pub IsSearch : Command → Type 0
 IsSearch (searches text) = Unit {0}
 IsSearch (counts text) = Unit {0}
 IsSearch (opens text) = Unit {0}
-IsSearch _ = ⊥
+IsSearch (adds name title body) = ⊥
+IsSearch (deletes name) = ⊥
+IsSearch (explains text) = ⊥
+IsSearch (fetches cursor count) = ⊥
+IsSearch (closes cursor) = ⊥
+IsSearch flushes = ⊥
+IsSearch merges = ⊥
+IsSearch (steps count) = ⊥
+IsSearch asks_stats = ⊥
 
 abbrev pub SearchesIn : Reading → Type 0
 SearchesIn (asks command) = IsSearch command

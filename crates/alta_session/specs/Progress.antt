@@ -7,6 +7,7 @@ use Rattle.alta_disk.specs.Disk.{DiskState, LeavesOnly}
 use Rattle.alta_session.specs.Agreement.{AgreesOn}
 use Rattle.alta_session.specs.Fullness.{IsFullOnly}
 use Rattle.alta_session.specs.Machine.{Machine, after, replies}
+use Rattle.alta_session.specs.Spending.{Spends}
 use Rattle.alta_session.specs.Tasks.{IsBy, IsDone, worked_lines}
 use Rattle.alta_session.specs.declared.session.Session.{Session}
 use Rattle.alta_session.specs.declared.status.Status.{Status}
@@ -45,6 +46,7 @@ pub record StopsWithinFrom (disk disk_now : DiskState) (session : Session) (line
   pub full : (held : Holding) → IsBy session disk.content held → IsFullOnly disk.limit held m lines given status
   pub works : (held : Holding) → IsBy session disk.content held → given ≡ joined (replies m lines) → IsDone (worked_lines disk.limit m held lines) disk_now
   pub undamaged : (place : ℕ) → status ≡ Damaged place → ⊥
+  pub spends : Spends disk disk_now session m lines
 
 pub record StopsWithin (tells : Type 0) (told told_now : Option (List Event)) (disk disk_now : DiskState) (session : Session) (lines : List (List ℕ)) (status : Status) : Type 0 where
   pub given : List ℕ

@@ -1,5 +1,5 @@
 -- A whole run of a console and a disk.
-use Rattle.std.specs.Prelude.{◌≡◌, ◌<◌, ◌≤◌, ◌↔◌, ◌⊎◌, ℕ, true, List, [], ◌∷◌, ◌++◌, Option, length, take}
+use Rattle.std.specs.Prelude.{◌≡◌, ◌<◌, ◌≤◌, ◌↔◌, ◌⊎◌, ℕ, ◌+◌, true, List, [], ◌∷◌, ◌++◌, Option, length, take, All}
 use Rattle.alta_console.specs.Lines.{whole}
 use Rattle.alta_console.specs.Replies.{joined, IsPrefix, IsAcked}
 use Rattle.alta_console.specs.Transcript.{given_in, taken_in, has_ended, lines_in, TakesAt, Grows, Consumes}
@@ -11,10 +11,11 @@ use Rattle.alta_session.specs.Agreement.{AgreesOn}
 use Rattle.alta_session.specs.Fullness.{IsFullExactly}
 use Rattle.alta_session.specs.Machine.{Machine, started_at, replies}
 use Rattle.alta_session.specs.Progress.{StandsAfterSome, StandsAfter}
+use Rattle.alta_session.specs.Spending.{OnlyReads, Spends, lines_bytes, newest_of_opened, opening_bytes}
 use Rattle.alta_session.specs.Tasks.{IsBy, IsDone, IsFirst, IsOn, IsWorked, worked_lines}
 use Rattle.alta_session.specs.declared.session.Session.{Session}
 use Rattle.alta_session.specs.declared.status.Status.{Status}
-use Rattle.alta_session.specs.declared.status.Status.TheVariants.{Done, TooLong, Damaged}
+use Rattle.alta_session.specs.declared.status.Status.TheVariants.{Done, TooLong, Damaged, DiskFault}
 use Rattle.alta_images.specs.Holding.{Holding}
 use Rattle.alta_images.specs.Standing.{StandsFor}
 
@@ -65,6 +66,7 @@ pub record RunsFrom (limit : ℕ) (disk disk_now : DiskState) (session : Session
   -- where each line was answered
   pub levels : (held : Holding) → IsBy session disk.content held → AnswersAll limit m run → IsDone (worked_lines disk.limit m held (lines_in limit run)) disk_now
   pub undamaged : (place : ℕ) → status ≡ Damaged place → ⊥
+  pub spends : Spends disk disk_now session m (lines_in limit run)
 
 pub record Runs (tells : Type 0) (limit : ℕ) (told told_now : Option (List Event)) (left left_now : Option (List ℕ)) (disk disk_now : DiskState) (session : Session) (status : Status) : Type 0 where
   pub run : List Event
@@ -74,8 +76,9 @@ pub record Runs (tells : Type 0) (limit : ℕ) (told told_now : Option (List Eve
   pub last : limit < length (taken_in run) → EndsPast limit run
   pub each : (m : Machine) → tells → AgreesOn tells disk session m → RunsFrom limit disk disk_now session run status m
 
--- no line was taken, and what the disk may hold now it might have held before
-pub record NotOpened (disk disk_now : DiskState) (run : List Event) : Type 0 where
+-- The disk failed as it was opened: no line was taken, and what the disk may hold now it might have held before.
+pub record NotOpened (disk disk_now : DiskState) (run : List Event) (status : Status) : Type 0 where
+  pub failed : status ≡ DiskFault
   pub none : run ≡ []
   pub same : Passes Same disk disk_now
 
@@ -109,4 +112,7 @@ pub record Serves (tells : Type 0) (limit : ℕ) (told told_now : Option (List E
   -- where each image stands for a state
   pub keeps : (s : State) → tells → Stands tells disk (StandsFor s) → Keeps limit (started_at s) run disk disk_now
   -- where the content does, whatever was pending
-  pub reopened : (s : State) → tells → StandsFor s disk.content → NotOpened disk disk_now run ⊎ KeepsSince limit (started_at s) run disk disk_now
+  pub reopened : (s : State) → tells → StandsFor s disk.content → NotOpened disk disk_now run status ⊎ KeepsSince limit (started_at s) run disk disk_now
+  -- and no line changes the index: the bytes that opening reads, and those of the lists that the lines load
+  pub reads : (s : State) → tells → (stands : StandsFor s disk.content) → All OnlyReads (lines_in limit run)
+      → disk_now.taken ≤ disk.taken + (opening_bytes stands.opened.root disk.content + lines_bytes stands.opened.levels (newest_of_opened stands.opened) (started_at s) (lines_in limit run))

@@ -9,7 +9,7 @@ use Rattle.alta_images.specs.Work.{Task, enters, flushes, merges, steps}
 use Rattle.alta_images.specs.Working.{Full, worked}
 use Rattle.alta_journal.specs.declared.entry.Entry.TheVariants.{Add, Delete}
 use Rattle.alta_meta.specs.declared.document.State.{State}
-use Rattle.alta_model.specs.Command.{Command, adds, deletes, flushes as asks_flush, merges as asks_merge, steps as asks_step}
+use Rattle.alta_model.specs.Command.{Command, adds, deletes, searches, counts, explains, opens, fetches, closes, flushes as asks_flush, merges as asks_merge, steps as asks_step, asks_stats}
 use Rattle.alta_model.specs.Lines.{Reading, asks, refuses, reading_of}
 use Rattle.alta_session.specs.Machine.{Machine, step}
 use Rattle.alta_session.specs.declared.session.Session.{Session}
@@ -30,7 +30,13 @@ task_by m (deletes name) = task_of_delete name m.state
 task_by m asks_flush = Some flushes
 task_by m asks_merge = Some merges
 task_by m (asks_step n) = Some (steps n)
-task_by m _ = None
+task_by m (searches text) = None
+task_by m (counts text) = None
+task_by m (explains text) = None
+task_by m (opens text) = None
+task_by m (fetches cursor count) = None
+task_by m (closes cursor) = None
+task_by m asks_stats = None
 
 abbrev pub task_in : Machine → Reading → Option Task
 task_in m (asks command) = task_by m command

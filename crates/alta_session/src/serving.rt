@@ -237,7 +237,7 @@ fn finish<C: Console, D: Disk>(
 }
 
 // Answers the lines of a console, whose pieces are taken into a buffer.
-fn answer_lines<C: Console, D: Disk>(
+fn answer_pieces<C: Console, D: Disk>(
     alloc: Global,
     session: &mut Session,
     console: &mut C,
@@ -282,6 +282,35 @@ fn answer_lines<C: Console, D: Disk>(
             Err(status) => return status,
         }
     }
+}
+
+// Answers the lines of a console.
+fn answer_lines<C: Console, D: Disk>(
+    alloc: Global,
+    session: &mut Session,
+    console: &mut C,
+    disk: &mut D,
+    limit: u64,
+) -> Status
+    requires can { CanAnswer D.tells (D.state disk.old) session.old }
+    ensures run { Runs D.tells limit (C.told console.old) (C.told console.new) (C.left console.old) (C.left console.new) (D.state disk.old) (D.state disk.new) session.old result }
+    ensures ends { EndsRunning result }
+    ensures full { (need gap : ℕ) → D.tells → result ≡ Status.Full need gap → IsFull (D.state disk.new) need gap }
+    ensures broken { (place : ℕ) → D.tells → result ≡ Status.Damaged place → HasBrokenList (D.state disk.new).content place }
+    ensures read_all { result ≡ Status.Done → IfSome (C.left console.new) (λ bytes. bytes ≡ []) }
+    ensures take_fault { result ≡ Status.TakeFault → Rose (C.take_faults console.old) (C.take_faults console.new) }
+    ensures give_fault { result ≡ Status.GiveFault → Rose (C.give_faults console.old) (C.give_faults console.new) }
+    ensures disk_fault { result ≡ Status.DiskFault → Rose (D.state disk.old).faults (D.state disk.new).faults }
+    ensures take_count { C.take_faults console.old ≤ C.take_faults console.new }
+    ensures give_count { C.give_faults console.old ≤ C.give_faults console.new }
+    ensures disk_count { (D.state disk.old).faults ≤ (D.state disk.new).faults }
+    ensures same_limit { (D.state disk.new).limit ≡ (D.state disk.old).limit }
+{
+    let mut buffer = match vec![in alloc; 0; PIECE] {
+        Ok(buffer) => buffer,
+        Err(_) => return Status::Memory,
+    };
+    answer_pieces(alloc, session, console, disk, limit, &mut buffer)
 }
 
 /// Opens the index of a disk, and answers the command lines of a console until its input ends. No more than `limit`
@@ -333,13 +362,9 @@ pub fn serve<C: Console, D: Disk>(
     ensures disk_count { (D.state disk.old).faults ≤ (D.state disk.new).faults }
     ensures same_limit { (D.state disk.new).limit ≡ (D.state disk.old).limit }
 {
-    let mut buffer = match vec![in alloc; 0; PIECE] {
-        Ok(buffer) => buffer,
-        Err(_) => return Status::Memory,
-    };
     let mut session = match Session::start(alloc, disk) {
         Ok(session) => session,
         Err(fault) => return status_of(fault),
     };
-    answer_lines(alloc, &mut session, console, disk, limit, &mut buffer)
+    answer_lines(alloc, &mut session, console, disk, limit)
 }

@@ -1,18 +1,22 @@
 // A session: a line changes the state, and has a reply.
-ghost use Rattle.std.specs.Prelude.{◌≡◌, ◌⊎◌, ◌≤◌, ◌++◌, ℕ, codes, decimal, Result, Err, None, Some, IfOk, IfErr, OnErr, IsTrue, ◌↔◌};
+ghost use Rattle.std.specs.Prelude.{◌≡◌, ◌⊎◌, ◌+◌, ◌≤◌, ◌++◌, ℕ, codes, decimal, Result, Err, None, Some, IfOk, IfErr, OnErr, IsTrue, ◌↔◌};
 ghost use Rattle.alta_codec.specs.Faults.{Rose};
 ghost use Rattle.alta_codec.specs.Name.{IsName};
 ghost use Rattle.alta_console.specs.Lines.{NoNewline};
-ghost use Rattle.alta_disk.specs.Disk.{DiskState, Same, Passes};
+ghost use Rattle.alta_disk.specs.Disk.{DiskState, Only, Same, Passes};
 ghost use Rattle.alta_meta.specs.declared.document.State.{State};
 ghost use Rattle.alta_session.specs.Agreement.{AgreesOn, IsSound};
 ghost use Rattle.alta_session.specs.Answering.{Answers, CanAnswer, IsReply};
 ghost use Rattle.alta_session.specs.Asking.{Asks};
-ghost use Rattle.alta_session.specs.Loading.{Loads, line_loads};
+ghost use Rattle.alta_session.specs.Loading.{Loads, session_loads};
 ghost use Rattle.alta_session.specs.Machine.{Machine, started_at, step, changed_by, adding, deleting, Looks, Searches};
+ghost use Rattle.alta_session.specs.Spending.{OnlyReads, opening_bytes};
 ghost use Rattle.alta_session.specs.Tasks.{task_of, task_of_add, task_of_delete};
+ghost use Rattle.alta_store.specs.Agreement.{Keeps};
 ghost use Rattle.alta_store.specs.Answers.{IsOutside, AnswersFault};
-ghost use Rattle.alta_root.specs.Slots.{HasNoRoot};
+ghost use Rattle.alta_root.specs.Slots.{Counts, HasNoRoot};
+ghost use Rattle.alta_root.specs.declared.root.Root.{Root};
+ghost use Rattle.alta_root.specs.declared.slot.Slot.{Slot};
 ghost use Rattle.alta_images.specs.Broken.{IsBrokenAt};
 ghost use Rattle.alta_images.specs.Opened.{Opened, IsOpened};
 ghost use Rattle.alta_images.specs.Standing.{StandsFor};
@@ -48,6 +52,7 @@ impl Session {
         ensures agrees { (s : State) → (D.tells → StandsFor s (D.state disk.old).content) → IfOk result (λ session. AgreesOn D.tells (D.state disk.new) session (started_at s)) }
         ensures can { IfOk result (λ session. CanAnswer D.tells (D.state disk.new) session) }
         ensures job { IfOk result (λ session. session.store.job ≡ None) }
+        ensures keeps { (o : Opened) → D.tells → IsOpened o (D.state disk.old).content → IfOk result (λ session. Keeps session.store o) }
 
         ensures opened { (o : Opened) → D.tells → IsOpened o (D.state disk.old).content → IfErr result IsOutside }
         ensures no_root { D.tells → result ≡ Err StoreFault.NoRoot → HasNoRoot (D.state disk.old).content }
@@ -56,8 +61,11 @@ impl Session {
         ensures undamaged { (place : ℕ) → D.tells → IsBrokenAt (D.state disk.old).content place → AnswersFault result (StoreFault.Damaged place) }
         ensures only { IfErr result (λ e. IsOutside e ⊎ ((e ≡ StoreFault.NoRoot) ⊎ ((place : ℕ) × (e ≡ StoreFault.Damaged place)))) }
 
+        ensures settled { IfErr result (λ e. (e ≡ StoreFault.Disk) ⊎ Only (D.state disk.new).content (D.state disk.new).images) }
         ensures content { D.tells → (D.state disk.new).content ≡ (D.state disk.old).content }
         ensures images { Passes Same (D.state disk.old) (D.state disk.new) }
+        ensures read { D.tells → (slot : Slot) → (root : Root) → Counts slot root (D.state disk.old).content
+            → (D.state disk.new).taken ≤ (D.state disk.old).taken + opening_bytes root (D.state disk.old).content }
         ensures cause { result ≡ Err StoreFault.Disk → Rose (D.state disk.old).faults (D.state disk.new).faults }
         ensures faults { (D.state disk.old).faults ≤ (D.state disk.new).faults }
         ensures same_limit { (D.state disk.new).limit ≡ (D.state disk.old).limit }
@@ -102,7 +110,8 @@ impl Session {
         ensures answers { Answers D.tells D.state disk.old disk.new self.old self.new result (λ m. step m line.now) (λ m. task_of m line.now) }
         ensures not_sound { OnErr result (¬ (IsSound self.new)) }
         ensures no_disk { Looks line.now → (disk.new ≡ disk.old) × IfErr result (λ e. e ≡ StoreFault.Memory) }
-        ensures loads { Searches line.now → Loads D.tells (line_loads self.old line.now) (D.state disk.old) (D.state disk.new) result }
+        ensures loads { Searches line.now → Loads D.tells (session_loads self.old line.now) (D.state disk.old) (D.state disk.new) result }
+        ensures kept { OnlyReads line.now → self.new.store ≡ self.old.store }
     {
         match self.reply(alloc, disk, line) {
             Ok(reply) => Ok(reply),
@@ -124,7 +133,8 @@ impl Session {
         requires can { CanAnswer D.tells (D.state disk.old) self.old }
         ensures answers { Answers D.tells D.state disk.old disk.new self.old self.new result (λ m. step m line.now) (λ m. task_of m line.now) }
         ensures no_disk { Looks line.now → (disk.new ≡ disk.old) × IfErr result (λ e. e ≡ StoreFault.Memory) }
-        ensures loads { Searches line.now → Loads D.tells (line_loads self.old line.now) (D.state disk.old) (D.state disk.new) result }
+        ensures loads { Searches line.now → Loads D.tells (session_loads self.old line.now) (D.state disk.old) (D.state disk.new) result }
+        ensures kept { OnlyReads line.now → self.new.store ≡ self.old.store }
     {
         match asked(line) {
             Ask::Add { name, title, body } => self.add(alloc, disk, name, title, body),

@@ -1,9 +1,12 @@
-use Rattle.std.proofs.Common.{◌≡◌, ℕ, List, None, refl, ap, subst, ◌∙◌, Result, Ok, Err}
+use Rattle.std.proofs.Common.{[], ◌≡◌, ℕ, List, None, refl, ap, subst, ◌∙◌, Result, Ok, Err}
 use Rattle.alta_console.proofs.GivingLaws.{gives_piece}
 use Rattle.alta_session.specs.Answering.{Answers}
 use Rattle.alta_session.specs.Machine.{step}
 use Rattle.alta_session.specs.Tasks.{task_of}
 use Rattle.alta_session.specs.declared.status.Status.TheVariants.{DiskFault, GiveFault, Full as StatusFull}
+use Rattle.std.proofs.lemmas.List.Elements.{All-head}
+use Rattle.alta_session.specs.Spending.{OnlyReads}
+use Rattle.alta_session.proofs.SpendingLaws.{spends_line}
 use Rattle.alta_session.proofs.FedLaws.{fed_line, stops_unanswered}
 use Rattle.alta_session.proofs.StatusLaws.{line_ends, line_ends_run, status_not, status_damaged, status_full, status_disk}
 use Rattle.alta_store.specs.declared.fault.StoreFault.{StoreFault}
@@ -28,6 +31,7 @@ returns-in-Err-clause-err g c =
     (λ m held need gap tell agrees here is.
     (c.line.ensures.answers.from m tell agrees).full held need gap here (c.in-Err.is ∙ ap Err (status_full _ c.in-Err.fault need gap c.status_of.ensures is)))
     (λ m place tell agrees is. (c.line.ensures.answers.from m tell agrees).undamaged place (c.in-Err.is ∙ ap Err (status_damaged _ c.in-Err.fault place c.status_of.ensures is)))
+    (λ m tell agrees. spends_line g.D.Disk.tells g.D.Disk.state c.args.disk.now c.line.new.disk c.args.session.now m c.args.line.now c.line.result agrees.cursors c.line.ensures.no_disk c.line.ensures.loads)
 
 pub returns-in-Err-clause-full : goal.returns-in-Err-clause-full
 returns-in-Err-clause-full g c = λ need gap tell is.
@@ -53,6 +57,8 @@ returns-clause-ok g c =
     fed_line g.D.Disk.tells None None (g.D.Disk.state c.args.disk.now) (g.D.Disk.state c.line.new.disk) c.args.session.now c.line.new.self c.args.line.now c.in-Ok.reply
     (gives_piece None None c.in-Ok.reply refl) (λ m tell agrees. (answers.from m tell agrees).reply) (λ m tell agrees. (answers.from m tell agrees).agrees) (λ m tell agrees. (answers.from m tell agrees).images)
     (λ m held tell agrees here. (answers.from m tell agrees).works held here) c.line.ensures.answers.same_limit
+    (λ all. c.line.ensures.kept (All-head OnlyReads c.args.line.now [] all))
+    (λ m tell agrees. spends_line g.D.Disk.tells g.D.Disk.state c.args.disk.now c.line.new.disk c.args.session.now m c.args.line.now c.line.result agrees.cursors c.line.ensures.no_disk c.line.ensures.loads)
 
 pub returns-clause-can : goal.returns-clause-can
 returns-clause-can g c =

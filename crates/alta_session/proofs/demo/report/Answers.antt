@@ -5,7 +5,7 @@ use Rattle.alta_make.specs.Script.{report}
 use Rattle.alta_session.specs.Fed.{Fed}
 use Rattle.alta_session.specs.Progress.{StopsWithin}
 use Rattle.alta_session.proofs.FedLaws.{fed_none}
-use Rattle.alta_session.proofs.ScriptLaws.{fed_next, stops_next}
+use Rattle.alta_session.proofs.ScriptLaws.{fed_all, fed_next, stops_next}
 use Rattle.alta_session.proofs.demo.report.Goals as goal
 
 pub lines-init : goal.lines-init
@@ -33,6 +33,10 @@ lines-preserved g c =
       disk_count = omega (arith, c.lines.invariant.disk_count, c.answer.ensures.disk_count);
       same_limit = c.answer.ensures.same_limit ∙ c.lines.invariant.same_limit;
     }
+
+-- behind the last line
+pub returns-in-None-clause-ok : goal.returns-in-None-clause-ok
+returns-in-None-clause-ok g c = fed_all g.D.Disk.tells _ _ _ _ _ _ report c.lines.index (sym c.in-None.ensures) c.lines.invariant.fed
 
 -- a line was not answered
 pub returns-in-Err-clause-err : goal.returns-in-Err-clause-err

@@ -1,8 +1,11 @@
-use Rattle.std.proofs.Common.{◌≡◌, ℕ, List, ap, sym, subst, ◌∙◌, Result, Ok, Err}
+use Rattle.std.proofs.Common.{[], ◌≡◌, ℕ, List, ap, sym, subst, ◌∙◌, Result, Ok, Err}
 use Rattle.alta_session.specs.Answering.{Answers}
 use Rattle.alta_session.specs.Machine.{step}
 use Rattle.alta_session.specs.Tasks.{task_of}
 use Rattle.alta_session.specs.declared.status.Status.TheVariants.{Damaged as StatusDamaged, DiskFault, GiveFault, Full as StatusFull}
+use Rattle.std.proofs.lemmas.List.Elements.{All-head}
+use Rattle.alta_session.specs.Spending.{OnlyReads}
+use Rattle.alta_session.proofs.SpendingLaws.{spends_line}
 use Rattle.alta_session.proofs.FedLaws.{fed_line, stops_line, stops_unanswered}
 use Rattle.alta_session.proofs.StatusLaws.{line_ends, line_ends_run, status_damaged, status_full, status_disk}
 use Rattle.alta_store.specs.declared.fault.StoreFault.{StoreFault}
@@ -24,6 +27,7 @@ returns-in-Err-clause-err g c =
     (λ m held need gap tell agrees here is.
     (c.line.ensures.answers.from m tell agrees).full held need gap here (c.in-Err.is ∙ ap Err (status_full _ c.in-Err.fault need gap c.status_of.ensures is)))
     (λ m place tell agrees is. (c.line.ensures.answers.from m tell agrees).undamaged place (c.in-Err.is ∙ ap Err (status_damaged _ c.in-Err.fault place c.status_of.ensures is)))
+    (λ m tell agrees. spends_line g.D.Disk.tells g.D.Disk.state c.args.disk.now c.line.new.disk c.args.session.now m c.args.line.now c.line.result agrees.cursors c.line.ensures.no_disk c.line.ensures.loads)
 
 pub returns-in-Err-clause-full : goal.returns-in-Err-clause-full
 returns-in-Err-clause-full g c = λ need gap tell is.
@@ -54,6 +58,8 @@ returns-in-Ok-give_all-clause-ok g c =
     fed_line g.D.Disk.tells (g.C.Console.told c.args.console.now) (g.C.Console.told c.give_all.new.console) (g.D.Disk.state c.args.disk.now) (g.D.Disk.state c.line.new.disk) c.args.session.now c.line.new.self c.args.line.now c.as_bytes.result.now
     c.in-Ok-give_all.ensures.ok (λ m tell agrees. c.as_bytes.ensures.value ∙ c.as_str.ensures ∙ (answers.from m tell agrees).reply) (λ m tell agrees. (answers.from m tell agrees).agrees) (λ m tell agrees. (answers.from m tell agrees).images)
     (λ m held tell agrees here. (answers.from m tell agrees).works held here) c.line.ensures.answers.same_limit
+    (λ all. c.line.ensures.kept (All-head OnlyReads c.args.line.now [] all))
+    (λ m tell agrees. spends_line g.D.Disk.tells g.D.Disk.state c.args.disk.now c.line.new.disk c.args.session.now m c.args.line.now c.line.result agrees.cursors c.line.ensures.no_disk c.line.ensures.loads)
 
 pub returns-in-Ok-give_all-clause-can : goal.returns-in-Ok-give_all-clause-can
 returns-in-Ok-give_all-clause-can g c =
@@ -75,6 +81,7 @@ returns-clause-err g c =
     (g.met.D.Disk.lawful c.line.new.disk) part.4
     (λ m tell agrees. (part.1, sym (c.as_bytes.ensures.value ∙ c.as_str.ensures ∙ (answers.from m tell agrees).reply) ∙ part.2, part.3))
     (λ m tell agrees. (answers.from m tell agrees).images) (λ m held tell agrees here need gap is. absurd cc) (λ m place tell agrees is. absurd cc)
+    (λ m tell agrees. spends_line g.D.Disk.tells g.D.Disk.state c.args.disk.now c.line.new.disk c.args.session.now m c.args.line.now c.line.result agrees.cursors c.line.ensures.no_disk c.line.ensures.loads)
 
 pub returns-clause-disk_count : goal.returns-clause-disk_count
 returns-clause-disk_count g c = c.line.ensures.answers.faults

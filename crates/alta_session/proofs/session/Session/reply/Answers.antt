@@ -7,11 +7,12 @@ use Rattle.alta_model.specs.Lines.{Reading, asks}
 use Rattle.alta_search.specs.Open.{AreOpen}
 use Rattle.alta_search.specs.declared.cursors.TheConstants.{CURSORS}
 use Rattle.alta_session.specs.Cursors.{opening, fetching, closing}
-use Rattle.alta_session.specs.Loading.{Loads, loads_in, open_loads, text_loads}
+use Rattle.alta_session.specs.Loading.{Loads, loads_in, newest_in, open_loads, text_loads}
 use Rattle.alta_session.specs.Machine.{LooksIn, SearchesIn, changed_by, adding, deleting, step, stats_of}
 use Rattle.alta_session.specs.Searching.{IsNoQuery, searching, counting}
 use Rattle.alta_session.specs.Tasks.{task_of, task_of_add, task_of_delete}
 use Rattle.alta_images.specs.States.{words_in}
+use Rattle.alta_session.specs.Spending.{OnlyReads, ReadsIn}
 use Rattle.alta_session.proofs.AgreementLaws.{knows_state}
 use Rattle.alta_session.proofs.AnsweringLaws.{if_so, looked, answers_by, step_rests, turned}
 use Rattle.alta_session.proofs.AskLaws.{adds_more, deletes_more}
@@ -90,7 +91,7 @@ returns-in-Search-clause-no_disk g c = λ looks. c.search.ensures.queries.idles 
 
 pub returns-in-Search-clause-loads : goal.returns-in-Search-clause-loads
 returns-in-Search-clause-loads g c = λ searches.
-    subst (λ (r : Reading). Loads g.D.Disk.tells (loads_in c.args.self.now r) (g.D.Disk.state c.args.disk.now) (g.D.Disk.state c.search.new.disk) c.search.result) (sym c.in-Search.ensures.1) c.search.ensures.queries.loaded
+    subst (λ (r : Reading). Loads g.D.Disk.tells (loads_in (levels_of c.args.self.now.store) (newest_in c.args.self.now.store) (length c.args.self.now.cursors) r) (g.D.Disk.state c.args.disk.now) (g.D.Disk.state c.search.new.disk) c.search.result) (sym c.in-Search.ensures.1) c.search.ensures.queries.loaded
 
 pub returns-in-Count-clause-answers : goal.returns-in-Count-clause-answers
 returns-in-Count-clause-answers g c =
@@ -104,7 +105,7 @@ returns-in-Count-clause-no_disk g c = λ looks. c.count.ensures.queries.idles (s
 
 pub returns-in-Count-clause-loads : goal.returns-in-Count-clause-loads
 returns-in-Count-clause-loads g c = λ searches.
-    subst (λ (r : Reading). Loads g.D.Disk.tells (loads_in c.args.self.now r) (g.D.Disk.state c.args.disk.now) (g.D.Disk.state c.count.new.disk) c.count.result) (sym c.in-Count.ensures.1) c.count.ensures.queries.loaded
+    subst (λ (r : Reading). Loads g.D.Disk.tells (loads_in (levels_of c.args.self.now.store) (newest_in c.args.self.now.store) (length c.args.self.now.cursors) r) (g.D.Disk.state c.args.disk.now) (g.D.Disk.state c.count.new.disk) c.count.result) (sym c.in-Count.ensures.1) c.count.ensures.queries.loaded
 
 -- a cursor is opened, read or closed
 pub returns-in-Open-clause-answers : goal.returns-in-Open-clause-answers
@@ -121,7 +122,7 @@ returns-in-Open-clause-no_disk g c = λ looks. c.open.ensures.queries.idles (inl
 
 pub returns-in-Open-clause-loads : goal.returns-in-Open-clause-loads
 returns-in-Open-clause-loads g c = λ searches.
-    subst (λ (r : Reading). Loads g.D.Disk.tells (loads_in c.args.self.now r) (g.D.Disk.state c.args.disk.now) (g.D.Disk.state c.open.new.disk) c.open.result) (sym c.in-Open.ensures.1) c.open.ensures.queries.loaded
+    subst (λ (r : Reading). Loads g.D.Disk.tells (loads_in (levels_of c.args.self.now.store) (newest_in c.args.self.now.store) (length c.args.self.now.cursors) r) (g.D.Disk.state c.args.disk.now) (g.D.Disk.state c.open.new.disk) c.open.result) (sym c.in-Open.ensures.1) c.open.ensures.queries.loaded
 
 pub returns-in-Fetch-clause-answers : goal.returns-in-Fetch-clause-answers
 returns-in-Fetch-clause-answers g c =
@@ -188,3 +189,24 @@ returns-in-Stats-clause-loads g c = λ searches. absurd (subst SearchesIn c.in-S
 
 pub returns-in-Refused-clause-loads : goal.returns-in-Refused-clause-loads
 returns-in-Refused-clause-loads g c = λ searches. absurd (c.in-Refused.ensures.1 searches)
+
+-- of these each changes the index
+pub returns-in-Add-clause-kept : goal.returns-in-Add-clause-kept
+unfolding OnlyReads
+returns-in-Add-clause-kept g c = λ reads. absurd (subst ReadsIn c.in-Add.ensures.2 reads)
+
+pub returns-in-Delete-clause-kept : goal.returns-in-Delete-clause-kept
+unfolding OnlyReads
+returns-in-Delete-clause-kept g c = λ reads. absurd (subst ReadsIn c.in-Delete.ensures.1 reads)
+
+pub returns-in-Flush-clause-kept : goal.returns-in-Flush-clause-kept
+unfolding OnlyReads
+returns-in-Flush-clause-kept g c = λ reads. absurd (subst ReadsIn c.in-Flush.ensures.1 reads)
+
+pub returns-in-Merge-clause-kept : goal.returns-in-Merge-clause-kept
+unfolding OnlyReads
+returns-in-Merge-clause-kept g c = λ reads. absurd (subst ReadsIn c.in-Merge.ensures.1 reads)
+
+pub returns-in-Step-clause-kept : goal.returns-in-Step-clause-kept
+unfolding OnlyReads
+returns-in-Step-clause-kept g c = λ reads. absurd (subst ReadsIn c.in-Step.ensures.1 reads)

@@ -2,7 +2,7 @@ use Rattle.std.proofs.Common.{◌≡◌, ◌≤◌, ◌-◌, length}
 use Rattle.alta_console.specs.Lines.{NoNewline}
 use Rattle.alta_session.specs.Answering.{CanAnswer}
 use Rattle.alta_session.specs.Going.{Goes}
-use Rattle.alta_session.proofs.serving.answer_lines.Given as goal
+use Rattle.alta_session.proofs.serving.answer_pieces.Given as goal
 
 abbrev pub invariant-takes : goal.invariant-takes
 invariant-takes g l = record {
