@@ -5,6 +5,7 @@ pub mod AskLaws
 pub mod CursorLaws
 pub mod DeletingLaws
 pub mod DemoLaws
+pub mod EndingLaws
 pub mod FedLaws
 pub mod FeedLaws
 pub mod FullnessLaws

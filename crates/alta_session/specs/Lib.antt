@@ -3,6 +3,7 @@ pub mod Answering
 pub mod Asking
 pub mod Cursors
 pub mod Demo
+pub mod Ending
 pub mod Fed
 pub mod Fullness
 pub mod Going

@@ -6,6 +6,7 @@ ghost use Rattle.alta_disk.specs.Disk.{DiskState};
 ghost use Rattle.alta_make.specs.Script.{script, report as asked};
 ghost use Rattle.alta_session.specs.Answering.{CanAnswer};
 ghost use Rattle.alta_session.specs.Demo.{AsksDemo, Obeyed, StopsObeying, Demonstrates};
+ghost use Rattle.alta_session.specs.Ending.{IsCaused, KeepsCounts};
 ghost use Rattle.alta_session.specs.Fed.{Fed};
 ghost use Rattle.alta_session.specs.Fullness.{IsFull};
 ghost use Rattle.alta_session.specs.Progress.{StopsWithin};
@@ -108,12 +109,9 @@ fn report<C: Console, D: Disk>(
     ensures ok { OnOk result (Fed D.tells (C.told console.old) (C.told console.new) (D.state disk.old) (D.state disk.new) session.old session.new asked) }
     ensures err { IfErr result (StopsWithin D.tells (C.told console.old) (C.told console.new) (D.state disk.old) (D.state disk.new) session.old asked) }
     ensures ends { IfErr result EndsLine }
-    ensures full { (need gap : ℕ) → D.tells → result ≡ Err (Status.Full need gap) → IsFull (D.state disk.new) need gap }
-    ensures give_fault { result ≡ Err Status.GiveFault → Rose (C.give_faults console.old) (C.give_faults console.new) }
-    ensures disk_fault { result ≡ Err Status.DiskFault → Rose (D.state disk.old).faults (D.state disk.new).faults }
+    ensures caused { IfErr result (IsCaused D.tells C.give_faults console.old console.new (D.state disk.old) (D.state disk.new)) }
     ensures input_kept { C.left console.new ≡ C.left console.old }
-    ensures disk_count { (D.state disk.old).faults ≤ (D.state disk.new).faults }
-    ensures same_limit { (D.state disk.new).limit ≡ (D.state disk.old).limit }
+    ensures counts { KeepsCounts C.take_faults C.give_faults console.old console.new (D.state disk.old) (D.state disk.new) }
 {
     let mut index = 0;
     'lines: loop {

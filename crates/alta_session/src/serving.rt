@@ -5,6 +5,7 @@ ghost use Rattle.alta_console.specs.Lines.{NoNewline, whole_from, begun_from, la
 ghost use Rattle.alta_disk.specs.Disk.{DiskState};
 ghost use Rattle.alta_meta.specs.declared.document.State.{State};
 ghost use Rattle.alta_session.specs.Answering.{CanAnswer};
+ghost use Rattle.alta_session.specs.Ending.{IsCaused, KeepsCounts};
 ghost use Rattle.alta_session.specs.Fed.{Fed};
 ghost use Rattle.alta_model.specs.declared.line.TheConstants.{LINE_LIMIT};
 ghost use Rattle.alta_session.specs.Keeping.{clip};
@@ -46,15 +47,9 @@ pub(crate) fn answer<C: Console, D: Disk>(
     ensures err { IfErr result (StopsWithin D.tells (C.told console.old) (C.told console.new) (D.state disk.old) (D.state disk.new) session.old (line.now ∷ [])) }
     ensures can { OnOk result (CanAnswer D.tells (D.state disk.new) session.new) }
     ensures ends { IfErr result EndsLine }
-    ensures full { (need gap : ℕ) → D.tells → result ≡ Err (Status.Full need gap) → IsFull (D.state disk.new) need gap }
-    ensures broken { (place : ℕ) → D.tells → result ≡ Err (Status.Damaged place) → HasBrokenList (D.state disk.new).content place }
-    ensures give_fault { result ≡ Err Status.GiveFault → Rose (C.give_faults console.old) (C.give_faults console.new) }
-    ensures disk_fault { result ≡ Err Status.DiskFault → Rose (D.state disk.old).faults (D.state disk.new).faults }
+    ensures caused { IfErr result (IsCaused D.tells C.give_faults console.old console.new (D.state disk.old) (D.state disk.new)) }
     ensures input_kept { C.left console.new ≡ C.left console.old }
-    ensures take_count { C.take_faults console.old ≤ C.take_faults console.new }
-    ensures give_count { C.give_faults console.old ≤ C.give_faults console.new }
-    ensures disk_count { (D.state disk.old).faults ≤ (D.state disk.new).faults }
-    ensures same_limit { (D.state disk.new).limit ≡ (D.state disk.old).limit }
+    ensures counts { KeepsCounts C.take_faults C.give_faults console.old console.new (D.state disk.old) (D.state disk.new) }
 {
     let reply = match session.line(alloc, disk, line) {
         Ok(reply) => reply,
@@ -97,15 +92,9 @@ fn end_line<C: Console, D: Disk>(
     ensures none_begun { OnOk result (begun.new.items ≡ []) }
     ensures can { OnOk result (CanAnswer D.tells (D.state disk.new) session.new) }
     ensures ends { IfErr result EndsLine }
-    ensures full { (need gap : ℕ) → D.tells → result ≡ Err (Status.Full need gap) → IsFull (D.state disk.new) need gap }
-    ensures broken { (place : ℕ) → D.tells → result ≡ Err (Status.Damaged place) → HasBrokenList (D.state disk.new).content place }
-    ensures give_fault { result ≡ Err Status.GiveFault → Rose (C.give_faults console.old) (C.give_faults console.new) }
-    ensures disk_fault { result ≡ Err Status.DiskFault → Rose (D.state disk.old).faults (D.state disk.new).faults }
+    ensures caused { IfErr result (IsCaused D.tells C.give_faults console.old console.new (D.state disk.old) (D.state disk.new)) }
     ensures input_kept { C.left console.new ≡ C.left console.old }
-    ensures take_count { C.take_faults console.old ≤ C.take_faults console.new }
-    ensures give_count { C.give_faults console.old ≤ C.give_faults console.new }
-    ensures disk_count { (D.state disk.old).faults ≤ (D.state disk.new).faults }
-    ensures same_limit { (D.state disk.new).limit ≡ (D.state disk.old).limit }
+    ensures counts { KeepsCounts C.take_faults C.give_faults console.old console.new (D.state disk.old) (D.state disk.new) }
 {
     if begun.is_empty() {
         return answer(alloc, session, console, disk, rest);
@@ -146,15 +135,9 @@ fn feed_line<C: Console, D: Disk>(
     ensures free { OnOk result (NoNewline begun.new.items) }
     ensures can { OnOk result (CanAnswer D.tells (D.state disk.new) session.new) }
     ensures ends { IfErr result EndsLine }
-    ensures full { (need gap : ℕ) → D.tells → result ≡ Err (Status.Full need gap) → IsFull (D.state disk.new) need gap }
-    ensures broken { (place : ℕ) → D.tells → result ≡ Err (Status.Damaged place) → HasBrokenList (D.state disk.new).content place }
-    ensures give_fault { result ≡ Err Status.GiveFault → Rose (C.give_faults console.old) (C.give_faults console.new) }
-    ensures disk_fault { result ≡ Err Status.DiskFault → Rose (D.state disk.old).faults (D.state disk.new).faults }
+    ensures caused { IfErr result (IsCaused D.tells C.give_faults console.old console.new (D.state disk.old) (D.state disk.new)) }
     ensures input_kept { C.left console.new ≡ C.left console.old }
-    ensures take_count { C.take_faults console.old ≤ C.take_faults console.new }
-    ensures give_count { C.give_faults console.old ≤ C.give_faults console.new }
-    ensures disk_count { (D.state disk.old).faults ≤ (D.state disk.new).faults }
-    ensures same_limit { (D.state disk.new).limit ≡ (D.state disk.old).limit }
+    ensures counts { KeepsCounts C.take_faults C.give_faults console.old console.new (D.state disk.old) (D.state disk.new) }
 {
     match memchr(b'\n', bytes) {
         None => match keep(begun, bytes) {
@@ -187,15 +170,9 @@ fn feed<C: Console, D: Disk>(
     ensures free { OnOk result (NoNewline begun.new.items) }
     ensures can { OnOk result (CanAnswer D.tells (D.state disk.new) session.new) }
     ensures ends { IfErr result EndsLine }
-    ensures full { (need gap : ℕ) → D.tells → result ≡ Err (Status.Full need gap) → IsFull (D.state disk.new) need gap }
-    ensures broken { (place : ℕ) → D.tells → result ≡ Err (Status.Damaged place) → HasBrokenList (D.state disk.new).content place }
-    ensures give_fault { result ≡ Err Status.GiveFault → Rose (C.give_faults console.old) (C.give_faults console.new) }
-    ensures disk_fault { result ≡ Err Status.DiskFault → Rose (D.state disk.old).faults (D.state disk.new).faults }
+    ensures caused { IfErr result (IsCaused D.tells C.give_faults console.old console.new (D.state disk.old) (D.state disk.new)) }
     ensures input_kept { C.left console.new ≡ C.left console.old }
-    ensures take_count { C.take_faults console.old ≤ C.take_faults console.new }
-    ensures give_count { C.give_faults console.old ≤ C.give_faults console.new }
-    ensures disk_count { (D.state disk.old).faults ≤ (D.state disk.new).faults }
-    ensures same_limit { (D.state disk.new).limit ≡ (D.state disk.old).limit }
+    ensures counts { KeepsCounts C.take_faults C.give_faults console.old console.new (D.state disk.old) (D.state disk.new) }
 {
     let mut at = 0;
     'lines: while at < piece.len() {
@@ -220,15 +197,9 @@ fn finish<C: Console, D: Disk>(
     ensures ok { OnOk result (Fed D.tells (C.told console.old) (C.told console.new) (D.state disk.old) (D.state disk.new) session.old session.new (last_piece begun.now)) }
     ensures err { IfErr result (StopsWithin D.tells (C.told console.old) (C.told console.new) (D.state disk.old) (D.state disk.new) session.old (last_piece begun.now)) }
     ensures ends { IfErr result EndsLine }
-    ensures full { (need gap : ℕ) → D.tells → result ≡ Err (Status.Full need gap) → IsFull (D.state disk.new) need gap }
-    ensures broken { (place : ℕ) → D.tells → result ≡ Err (Status.Damaged place) → HasBrokenList (D.state disk.new).content place }
-    ensures give_fault { result ≡ Err Status.GiveFault → Rose (C.give_faults console.old) (C.give_faults console.new) }
-    ensures disk_fault { result ≡ Err Status.DiskFault → Rose (D.state disk.old).faults (D.state disk.new).faults }
+    ensures caused { IfErr result (IsCaused D.tells C.give_faults console.old console.new (D.state disk.old) (D.state disk.new)) }
     ensures input_kept { C.left console.new ≡ C.left console.old }
-    ensures take_count { C.take_faults console.old ≤ C.take_faults console.new }
-    ensures give_count { C.give_faults console.old ≤ C.give_faults console.new }
-    ensures disk_count { (D.state disk.old).faults ≤ (D.state disk.new).faults }
-    ensures same_limit { (D.state disk.new).limit ≡ (D.state disk.old).limit }
+    ensures counts { KeepsCounts C.take_faults C.give_faults console.old console.new (D.state disk.old) (D.state disk.new) }
 {
     if begun.is_empty() {
         return Ok(());
@@ -249,16 +220,10 @@ fn answer_pieces<C: Console, D: Disk>(
     requires can { CanAnswer D.tells (D.state disk.old) session.old }
     ensures run { Runs D.tells limit (C.told console.old) (C.told console.new) (C.left console.old) (C.left console.new) (D.state disk.old) (D.state disk.new) session.old result }
     ensures ends { EndsRunning result }
-    ensures full { (need gap : ℕ) → D.tells → result ≡ Status.Full need gap → IsFull (D.state disk.new) need gap }
-    ensures broken { (place : ℕ) → D.tells → result ≡ Status.Damaged place → HasBrokenList (D.state disk.new).content place }
-    ensures read_all { result ≡ Status.Done → IfSome (C.left console.new) (λ bytes. bytes ≡ []) }
+    ensures caused { IsCaused D.tells C.give_faults console.old console.new (D.state disk.old) (D.state disk.new) result }
     ensures take_fault { result ≡ Status.TakeFault → Rose (C.take_faults console.old) (C.take_faults console.new) }
-    ensures give_fault { result ≡ Status.GiveFault → Rose (C.give_faults console.old) (C.give_faults console.new) }
-    ensures disk_fault { result ≡ Status.DiskFault → Rose (D.state disk.old).faults (D.state disk.new).faults }
-    ensures take_count { C.take_faults console.old ≤ C.take_faults console.new }
-    ensures give_count { C.give_faults console.old ≤ C.give_faults console.new }
-    ensures disk_count { (D.state disk.old).faults ≤ (D.state disk.new).faults }
-    ensures same_limit { (D.state disk.new).limit ≡ (D.state disk.old).limit }
+    ensures read_all { result ≡ Status.Done → IfSome (C.left console.new) (λ bytes. bytes ≡ []) }
+    ensures counts { KeepsCounts C.take_faults C.give_faults console.old console.new (D.state disk.old) (D.state disk.new) }
 {
     let mut begun = Vec::new(alloc);
     let mut taken: u64 = 0;
@@ -295,16 +260,10 @@ fn answer_lines<C: Console, D: Disk>(
     requires can { CanAnswer D.tells (D.state disk.old) session.old }
     ensures run { Runs D.tells limit (C.told console.old) (C.told console.new) (C.left console.old) (C.left console.new) (D.state disk.old) (D.state disk.new) session.old result }
     ensures ends { EndsRunning result }
-    ensures full { (need gap : ℕ) → D.tells → result ≡ Status.Full need gap → IsFull (D.state disk.new) need gap }
-    ensures broken { (place : ℕ) → D.tells → result ≡ Status.Damaged place → HasBrokenList (D.state disk.new).content place }
-    ensures read_all { result ≡ Status.Done → IfSome (C.left console.new) (λ bytes. bytes ≡ []) }
+    ensures caused { IsCaused D.tells C.give_faults console.old console.new (D.state disk.old) (D.state disk.new) result }
     ensures take_fault { result ≡ Status.TakeFault → Rose (C.take_faults console.old) (C.take_faults console.new) }
-    ensures give_fault { result ≡ Status.GiveFault → Rose (C.give_faults console.old) (C.give_faults console.new) }
-    ensures disk_fault { result ≡ Status.DiskFault → Rose (D.state disk.old).faults (D.state disk.new).faults }
-    ensures take_count { C.take_faults console.old ≤ C.take_faults console.new }
-    ensures give_count { C.give_faults console.old ≤ C.give_faults console.new }
-    ensures disk_count { (D.state disk.old).faults ≤ (D.state disk.new).faults }
-    ensures same_limit { (D.state disk.new).limit ≡ (D.state disk.old).limit }
+    ensures read_all { result ≡ Status.Done → IfSome (C.left console.new) (λ bytes. bytes ≡ []) }
+    ensures counts { KeepsCounts C.take_faults C.give_faults console.old console.new (D.state disk.old) (D.state disk.new) }
 {
     let mut buffer = match vec![in alloc; 0; PIECE] {
         Ok(buffer) => buffer,

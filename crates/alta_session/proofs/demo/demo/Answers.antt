@@ -68,4 +68,4 @@ returns-clause-demo g c =
     } in
     demo_late g.D.Disk.tells (script c.args.n) report (g.C.Console.told c.args.console.now) (g.C.Console.told c.report.new.console) (g.D.Disk.state c.args.disk.now) (g.D.Disk.state c.start.new.disk) (g.D.Disk.state c.obey_script.new.disk) (g.D.Disk.state c.report.new.disk)
     c.in-Ok.session c.obey_script.new.session c.in-Err-report.status (g.met.D.Disk.lawful c.report.new.disk) made new c.in-Ok-obey_script.ensures.ok c.in-Err-report.ensures.err c.in-Err-report.ensures.ends
-    (λ need gap tell is. c.report.ensures.full need gap tell (c.in-Err-report.is ∙ ap Err is))
+    c.in-Err-report.ensures.caused.full

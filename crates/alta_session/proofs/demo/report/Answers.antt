@@ -4,6 +4,7 @@ use Rattle.std.proofs.lemmas.Option.{slice_get_within}
 use Rattle.alta_make.specs.Script.{report}
 use Rattle.alta_session.specs.Fed.{Fed}
 use Rattle.alta_session.specs.Progress.{StopsWithin}
+use Rattle.alta_session.proofs.EndingLaws.{caused_on, counts_none, counts_on}
 use Rattle.alta_session.proofs.FedLaws.{fed_none}
 use Rattle.alta_session.proofs.ScriptLaws.{fed_all, fed_next, stops_next}
 use Rattle.alta_session.proofs.demo.report.Goals as goal
@@ -14,9 +15,7 @@ lines-init g c = record {
   fed = fed_none g.D.Disk.tells (g.C.Console.told c.args.console.now) (g.D.Disk.state c.args.disk.now) c.args.session.now (g.met.D.Disk.lawful c.args.disk.now);
   can = c.requires;
   input_kept = refl;
-  give_count = omega arith;
-  disk_count = omega arith;
-  same_limit = refl;
+  counts = counts_none g.C.Console.take_faults g.C.Console.give_faults c.args.console.now (g.D.Disk.state c.args.disk.now);
 }
 
 pub lines-preserved : goal.lines-preserved
@@ -29,9 +28,7 @@ lines-preserved g c =
           (subst (λ (l : List ℕ). Fed g.D.Disk.tells (g.C.Console.told c.lines.console) (g.C.Console.told c.answer.new.console) (g.D.Disk.state c.lines.disk) (g.D.Disk.state c.answer.new.disk) c.lines.session c.answer.new.session (l ∷ [])) c.as_bytes.ensures.value c.in-Ok.ensures.ok);
       can = c.in-Ok.ensures.can;
       input_kept = c.answer.ensures.input_kept ∙ c.lines.invariant.input_kept;
-      give_count = omega (arith, c.lines.invariant.give_count, c.answer.ensures.give_count);
-      disk_count = omega (arith, c.lines.invariant.disk_count, c.answer.ensures.disk_count);
-      same_limit = c.answer.ensures.same_limit ∙ c.lines.invariant.same_limit;
+      counts = counts_on g.C.Console.take_faults g.C.Console.give_faults c.args.console.now c.lines.console c.answer.new.console (g.D.Disk.state c.args.disk.now) (g.D.Disk.state c.lines.disk) (g.D.Disk.state c.answer.new.disk) c.lines.invariant.counts c.answer.ensures.counts;
     }
 
 -- behind the last line
@@ -44,3 +41,11 @@ returns-in-Err-clause-err g c =
     let at : slice_get report c.lines.index ≡ Some c.in-Some.line.now = sym c.in-Some.ensures in
     stops_next g.D.Disk.tells _ _ _ _ _ _ _ _ report c.lines.index c.in-Some.line.now c.in-Err.status at c.lines.invariant.fed
     (subst (λ (l : List ℕ). StopsWithin g.D.Disk.tells (g.C.Console.told c.lines.console) (g.C.Console.told c.answer.new.console) (g.D.Disk.state c.lines.disk) (g.D.Disk.state c.answer.new.disk) c.lines.session (l ∷ []) c.in-Err.status) c.as_bytes.ensures.value c.in-Err.ensures.err)
+
+pub returns-in-Err-clause-caused : goal.returns-in-Err-clause-caused
+returns-in-Err-clause-caused g c =
+    caused_on g.C.Console.take_faults g.C.Console.give_faults g.D.Disk.tells c.args.console.now c.lines.console c.answer.new.console (g.D.Disk.state c.args.disk.now) (g.D.Disk.state c.lines.disk) (g.D.Disk.state c.answer.new.disk) c.in-Err.status c.lines.invariant.counts c.in-Err.ensures.caused
+
+pub returns-in-Err-clause-counts : goal.returns-in-Err-clause-counts
+returns-in-Err-clause-counts g c =
+    counts_on g.C.Console.take_faults g.C.Console.give_faults c.args.console.now c.lines.console c.answer.new.console (g.D.Disk.state c.args.disk.now) (g.D.Disk.state c.lines.disk) (g.D.Disk.state c.answer.new.disk) c.lines.invariant.counts c.answer.ensures.counts

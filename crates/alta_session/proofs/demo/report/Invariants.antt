@@ -1,5 +1,6 @@
 use Rattle.std.proofs.Common.{◌≡◌, ◌≤◌, ◌-◌, take}
 use Rattle.alta_make.specs.Script.{report}
+use Rattle.alta_session.specs.Ending.{KeepsCounts}
 use Rattle.alta_session.specs.Answering.{CanAnswer}
 use Rattle.alta_session.specs.Fed.{Fed}
 use Rattle.alta_session.proofs.demo.report.Given as goal
@@ -10,9 +11,7 @@ invariant-lines g l = record {
   fed : Fed g.D.Disk.tells (g.C.Console.told l.fn.console) (g.C.Console.told l.console) (g.D.Disk.state l.fn.disk) (g.D.Disk.state l.disk) l.fn.session l.session (take l.index report);
   can : CanAnswer g.D.Disk.tells (g.D.Disk.state l.disk) l.session;
   input_kept : g.C.Console.left l.console ≡ g.C.Console.left l.fn.console;
-  give_count : g.C.Console.give_faults l.fn.console ≤ g.C.Console.give_faults l.console;
-  disk_count : (g.D.Disk.state l.fn.disk).faults ≤ (g.D.Disk.state l.disk).faults;
-  same_limit : (g.D.Disk.state l.disk).limit ≡ (g.D.Disk.state l.fn.disk).limit;
+  counts : KeepsCounts g.C.Console.take_faults g.C.Console.give_faults l.fn.console l.console (g.D.Disk.state l.fn.disk) (g.D.Disk.state l.disk);
 }
 
 abbrev pub decreases-lines : goal.decreases-lines

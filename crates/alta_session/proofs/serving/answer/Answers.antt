@@ -5,9 +5,10 @@ use Rattle.alta_session.specs.Tasks.{task_of}
 use Rattle.alta_session.specs.declared.status.Status.TheVariants.{Damaged as StatusDamaged, DiskFault, GiveFault, Full as StatusFull}
 use Rattle.std.proofs.lemmas.List.Elements.{All-head}
 use Rattle.alta_session.specs.Spending.{OnlyReads}
+use Rattle.alta_session.proofs.EndingLaws.{counts_disk}
 use Rattle.alta_session.proofs.SpendingLaws.{spends_line}
 use Rattle.alta_session.proofs.FedLaws.{fed_line, stops_line, stops_unanswered}
-use Rattle.alta_session.proofs.StatusLaws.{line_ends, line_ends_run, status_damaged, status_full, status_disk}
+use Rattle.alta_session.proofs.StatusLaws.{line_ends, line_ends_run, status_damaged, status_full, status_disk, status_not}
 use Rattle.alta_store.specs.declared.fault.StoreFault.{StoreFault}
 use Rattle.alta_session.proofs.serving.answer.Goals as goal
 
@@ -29,28 +30,21 @@ returns-in-Err-clause-err g c =
     (λ m place tell agrees is. (c.line.ensures.answers.from m tell agrees).undamaged place (c.in-Err.is ∙ ap Err (status_damaged _ c.in-Err.fault place c.status_of.ensures is)))
     (λ m tell agrees. spends_line g.D.Disk.tells g.D.Disk.state c.args.disk.now c.line.new.disk c.args.session.now m c.args.line.now c.line.result agrees.cursors c.line.ensures.no_disk c.line.ensures.loads)
 
-pub returns-in-Err-clause-full : goal.returns-in-Err-clause-full
-returns-in-Err-clause-full g c = λ need gap tell is.
-    let same : c.status_of.result ≡ StatusFull need gap = cc in
-    c.line.ensures.answers.full need gap tell (c.in-Err.is ∙ ap Err (status_full _ c.in-Err.fault need gap c.status_of.ensures same))
+pub returns-in-Err-clause-caused : goal.returns-in-Err-clause-caused
+returns-in-Err-clause-caused g c = record {
+  full = λ need gap tell is. c.line.ensures.answers.full need gap tell (c.in-Err.is ∙ ap Err (status_full _ c.in-Err.fault need gap c.status_of.ensures is));
+  broken = λ place tell is. c.line.ensures.answers.broken place tell (c.in-Err.is ∙ ap Err (status_damaged _ c.in-Err.fault place c.status_of.ensures is));
+  give_fault = λ is. absurd (status_not c.status_of.result c.in-Err.fault c.status_of.ensures GiveFault tt is);
+  disk_fault = λ is. c.line.ensures.answers.cause (c.in-Err.is ∙ ap Err (status_disk _ c.in-Err.fault c.status_of.ensures is));
+}
 
-pub returns-in-Err-clause-broken : goal.returns-in-Err-clause-broken
-returns-in-Err-clause-broken g c = λ place tell is.
-    let same : c.status_of.result ≡ StatusDamaged place = cc in
-    c.line.ensures.answers.broken place tell (c.in-Err.is ∙ ap Err (status_damaged _ c.in-Err.fault place c.status_of.ensures same))
-
-pub returns-in-Err-clause-disk_fault : goal.returns-in-Err-clause-disk_fault
-returns-in-Err-clause-disk_fault g c = λ is.
-    let same : c.status_of.result ≡ DiskFault = cc in
-    c.line.ensures.answers.cause (c.in-Err.is ∙ ap Err (status_disk _ c.in-Err.fault c.status_of.ensures same))
-
-pub returns-in-Err-clause-disk_count : goal.returns-in-Err-clause-disk_count
-returns-in-Err-clause-disk_count g c = c.line.ensures.answers.faults
-
-pub returns-in-Err-clause-same_limit : goal.returns-in-Err-clause-same_limit
-returns-in-Err-clause-same_limit g c = c.line.ensures.answers.same_limit
+pub returns-in-Err-clause-counts : goal.returns-in-Err-clause-counts
+returns-in-Err-clause-counts g c = counts_disk g.C.Console.take_faults g.C.Console.give_faults c.args.console.now (g.D.Disk.state c.args.disk.now) (g.D.Disk.state c.line.new.disk) c.line.ensures.answers.faults c.line.ensures.answers.same_limit
 
 -- it was
+pub returns-in-Ok-give_all-clause-counts : goal.returns-in-Ok-give_all-clause-counts
+returns-in-Ok-give_all-clause-counts g c = record { takes = c.give_all.ensures.take_count; gives = c.give_all.ensures.give_count; faults = c.line.ensures.answers.faults; limit = c.line.ensures.answers.same_limit }
+
 pub returns-in-Ok-give_all-clause-ok : goal.returns-in-Ok-give_all-clause-ok
 returns-in-Ok-give_all-clause-ok g c =
     let answers : Answers g.D.Disk.tells g.D.Disk.state c.args.disk.now c.line.new.disk c.args.session.now c.line.new.self (Ok c.in-Ok.reply) (λ m. step m c.args.line.now) (λ m. task_of m c.args.line.now) =
@@ -65,12 +59,6 @@ pub returns-in-Ok-give_all-clause-can : goal.returns-in-Ok-give_all-clause-can
 returns-in-Ok-give_all-clause-can g c =
     (subst (λ (r : Result (List ℕ) StoreFault). Answers g.D.Disk.tells g.D.Disk.state c.args.disk.now c.line.new.disk c.args.session.now c.line.new.self r (λ m. step m c.args.line.now) (λ m. task_of m c.args.line.now)) c.in-Ok.is c.line.ensures.answers).can
 
-pub returns-in-Ok-give_all-clause-disk_count : goal.returns-in-Ok-give_all-clause-disk_count
-returns-in-Ok-give_all-clause-disk_count g c = c.line.ensures.answers.faults
-
-pub returns-in-Ok-give_all-clause-same_limit : goal.returns-in-Ok-give_all-clause-same_limit
-returns-in-Ok-give_all-clause-same_limit g c = c.line.ensures.answers.same_limit
-
 -- some of the reply was given
 pub returns-clause-err : goal.returns-clause-err
 returns-clause-err g c =
@@ -83,8 +71,8 @@ returns-clause-err g c =
     (λ m tell agrees. (answers.from m tell agrees).images) (λ m held tell agrees here need gap is. absurd cc) (λ m place tell agrees is. absurd cc)
     (λ m tell agrees. spends_line g.D.Disk.tells g.D.Disk.state c.args.disk.now c.line.new.disk c.args.session.now m c.args.line.now c.line.result agrees.cursors c.line.ensures.no_disk c.line.ensures.loads)
 
-pub returns-clause-disk_count : goal.returns-clause-disk_count
-returns-clause-disk_count g c = c.line.ensures.answers.faults
+pub returns-clause-caused : goal.returns-clause-caused
+returns-clause-caused g c = record { full = λ need gap tell is. absurd cc; broken = λ place tell is. absurd cc; give_fault = λ is. c.in-Err-give_all.ensures.failed; disk_fault = λ is. absurd cc }
 
-pub returns-clause-same_limit : goal.returns-clause-same_limit
-returns-clause-same_limit g c = c.line.ensures.answers.same_limit
+pub returns-clause-counts : goal.returns-clause-counts
+returns-clause-counts g c = record { takes = c.give_all.ensures.take_count; gives = c.give_all.ensures.give_count; faults = c.line.ensures.answers.faults; limit = c.line.ensures.answers.same_limit }

@@ -1,10 +1,14 @@
-use Rattle.std.proofs.Common.{◌≡◌, ◌≤◌, ◌+◌, ◌∙◌, List, ℕ, Option, [], length, take, ap, sym, subst, Err, rules, arith}
+use Rattle.std.proofs.Common.{◌≡◌, refl, ◌≤◌, ◌+◌, ◌∙◌, List, ℕ, Option, [], length, take, ap, sym, subst, Err, rules, arith}
 use Rattle.std.proofs.lemmas.List.{length-take}
 use Rattle.alta_console.specs.Lines.{last_piece}
 use Rattle.alta_console.specs.Transcript.{Consumes}
 use Rattle.alta_session.specs.Fed.{Fed}
 use Rattle.alta_session.specs.Going.{Goes}
 use Rattle.alta_session.specs.Progress.{StopsWithin}
+use Rattle.alta_disk.specs.Disk.{DiskState}
+use Rattle.alta_session.specs.Ending.{KeepsCounts}
+use Rattle.alta_session.specs.declared.status.Status.TheVariants.{TakeFault}
+use Rattle.alta_session.proofs.EndingLaws.{caused_input, caused_on, counts_none, counts_on}
 use Rattle.alta_session.proofs.RunLaws.{goes_none, goes_on, runs_stopped, runs_failed, runs_past, runs_done, runs_ended}
 use Rattle.alta_session.proofs.serving.answer_pieces.Goals as goal
 
@@ -13,6 +17,10 @@ long n bytes l = omega (arith, length-take n bytes)
 
 none : (a b : Option (List ℕ)) (n : ℕ) (bytes : List ℕ) → n ≡ 0 → Consumes a b (take n bytes) → Consumes a b []
 none a b n bytes is read = let P : ℕ → Type 0 = λ k. Consumes a b (take k bytes) in subst P is read
+
+-- a take behind calls that went well
+took : {C : Type 0} (take_faults give_faults : C → ℕ) (a b c : C) (d e : DiskState) → KeepsCounts take_faults give_faults a b d e → take_faults b ≤ take_faults c → give_faults b ≤ give_faults c → KeepsCounts take_faults give_faults a c d e
+took take_faults give_faults a b c d e counts takes gives = record { takes = omega (arith, counts.takes, takes); gives = omega (arith, counts.gives, gives); faults = counts.faults; limit = counts.limit }
 
 pub takes-init : goal.takes-init
 takes-init g c =
@@ -23,10 +31,7 @@ takes-init g c =
       free = search rules;
       can = c.requires.can;
       within = search rules;
-      take_count = search rules;
-      give_count = search rules;
-      disk_count = search rules;
-      same_limit = search rules;
+      counts = counts_none g.C.Console.take_faults g.C.Console.give_faults c.args.console.now (g.D.Disk.state c.args.disk.now);
     }
 
 pub returns-in-Err-clause-run : goal.returns-in-Err-clause-run
@@ -65,10 +70,7 @@ takes-preserved g c =
       free = c.in-Ok-feed.ensures.free;
       can = c.in-Ok-feed.ensures.can;
       within = omega arith;
-      take_count = search rules;
-      give_count = search rules;
-      disk_count = search rules;
-      same_limit = search rules;
+      counts = counts_on g.C.Console.take_faults g.C.Console.give_faults c.args.console.now c.take.new.self c.feed.new.console (g.D.Disk.state c.args.disk.now) (g.D.Disk.state c.takes.disk) (g.D.Disk.state c.feed.new.disk) (took g.C.Console.take_faults g.C.Console.give_faults c.args.console.now c.takes.console c.take.new.self (g.D.Disk.state c.args.disk.now) (g.D.Disk.state c.takes.disk) c.takes.invariant.counts c.take.ensures.take_count c.take.ensures.give_count) c.feed.ensures.counts;
     }
 
 pub returns-in-Err-feed-clause-run : goal.returns-in-Err-feed-clause-run
@@ -79,14 +81,39 @@ returns-in-Err-feed-clause-run g c =
     runs_stopped g.D.Disk.tells c.args.limit _ _ _ _ _ _ _ _ _ _ _ _ c.takes.session c.takes.begun.items c.takes.taken piece c.in-Err-feed.status c.takes.invariant.goes (c.in-Ok.ensures.taken (omega arith)) c.in-Ok.ensures.input
     c.in-Err-feed.ensures.err c.feed.ensures.input_kept (omega arith) c.in-Err-feed.ensures.ends
 
-pub returns-in-Err-finish-clause-full : goal.returns-in-Err-finish-clause-full
-returns-in-Err-finish-clause-full g c = λ need gap tell is. c.finish.ensures.full need gap tell (c.in-Err-finish.is ∙ ap Err is)
+pub returns-in-Err-clause-caused : goal.returns-in-Err-clause-caused
+returns-in-Err-clause-caused g c = caused_input g.D.Disk.tells g.C.Console.give_faults c.args.console.now c.take.new.self (g.D.Disk.state c.args.disk.now) (g.D.Disk.state c.takes.disk) TakeFault refl
 
-pub returns-in-Err-feed-clause-full : goal.returns-in-Err-feed-clause-full
-returns-in-Err-feed-clause-full g c = λ need gap tell is. c.feed.ensures.full need gap tell (c.in-Err-feed.is ∙ ap Err is)
+pub returns-in-Err-clause-counts : goal.returns-in-Err-clause-counts
+returns-in-Err-clause-counts g c = took g.C.Console.take_faults g.C.Console.give_faults c.args.console.now c.takes.console c.take.new.self (g.D.Disk.state c.args.disk.now) (g.D.Disk.state c.takes.disk) c.takes.invariant.counts c.take.ensures.take_count c.take.ensures.give_count
 
-pub returns-in-Err-finish-clause-broken : goal.returns-in-Err-finish-clause-broken
-returns-in-Err-finish-clause-broken g c = λ place tell is. c.finish.ensures.broken place tell (c.in-Err-finish.is ∙ ap Err is)
+pub returns-in-Err-finish-clause-caused : goal.returns-in-Err-finish-clause-caused
+returns-in-Err-finish-clause-caused g c =
+    caused_on g.C.Console.take_faults g.C.Console.give_faults g.D.Disk.tells c.args.console.now c.take.new.self c.finish.new.console (g.D.Disk.state c.args.disk.now) (g.D.Disk.state c.takes.disk) (g.D.Disk.state c.finish.new.disk) c.in-Err-finish.status
+    (took g.C.Console.take_faults g.C.Console.give_faults c.args.console.now c.takes.console c.take.new.self (g.D.Disk.state c.args.disk.now) (g.D.Disk.state c.takes.disk) c.takes.invariant.counts c.take.ensures.take_count c.take.ensures.give_count) c.in-Err-finish.ensures.caused
 
-pub returns-in-Err-feed-clause-broken : goal.returns-in-Err-feed-clause-broken
-returns-in-Err-feed-clause-broken g c = λ place tell is. c.feed.ensures.broken place tell (c.in-Err-feed.is ∙ ap Err is)
+pub returns-in-Err-finish-clause-counts : goal.returns-in-Err-finish-clause-counts
+returns-in-Err-finish-clause-counts g c =
+    counts_on g.C.Console.take_faults g.C.Console.give_faults c.args.console.now c.take.new.self c.finish.new.console (g.D.Disk.state c.args.disk.now) (g.D.Disk.state c.takes.disk) (g.D.Disk.state c.finish.new.disk) (took g.C.Console.take_faults g.C.Console.give_faults c.args.console.now c.takes.console c.take.new.self (g.D.Disk.state c.args.disk.now) (g.D.Disk.state c.takes.disk) c.takes.invariant.counts c.take.ensures.take_count c.take.ensures.give_count) c.finish.ensures.counts
+
+pub returns-in-Err-feed-clause-caused : goal.returns-in-Err-feed-clause-caused
+returns-in-Err-feed-clause-caused g c =
+    caused_on g.C.Console.take_faults g.C.Console.give_faults g.D.Disk.tells c.args.console.now c.take.new.self c.feed.new.console (g.D.Disk.state c.args.disk.now) (g.D.Disk.state c.takes.disk) (g.D.Disk.state c.feed.new.disk) c.in-Err-feed.status
+    (took g.C.Console.take_faults g.C.Console.give_faults c.args.console.now c.takes.console c.take.new.self (g.D.Disk.state c.args.disk.now) (g.D.Disk.state c.takes.disk) c.takes.invariant.counts c.take.ensures.take_count c.take.ensures.give_count) c.in-Err-feed.ensures.caused
+
+pub returns-in-Err-feed-clause-counts : goal.returns-in-Err-feed-clause-counts
+returns-in-Err-feed-clause-counts g c =
+    counts_on g.C.Console.take_faults g.C.Console.give_faults c.args.console.now c.take.new.self c.feed.new.console (g.D.Disk.state c.args.disk.now) (g.D.Disk.state c.takes.disk) (g.D.Disk.state c.feed.new.disk) (took g.C.Console.take_faults g.C.Console.give_faults c.args.console.now c.takes.console c.take.new.self (g.D.Disk.state c.args.disk.now) (g.D.Disk.state c.takes.disk) c.takes.invariant.counts c.take.ensures.take_count c.take.ensures.give_count) c.feed.ensures.counts
+
+pub returns-in-Ok-finish-clause-caused : goal.returns-in-Ok-finish-clause-caused
+returns-in-Ok-finish-clause-caused g c = record { full = λ need gap tell is. absurd cc; broken = λ place tell is. absurd cc; give_fault = λ is. absurd cc; disk_fault = λ is. absurd cc }
+
+pub returns-in-Ok-finish-clause-counts : goal.returns-in-Ok-finish-clause-counts
+returns-in-Ok-finish-clause-counts g c =
+    counts_on g.C.Console.take_faults g.C.Console.give_faults c.args.console.now c.take.new.self c.finish.new.console (g.D.Disk.state c.args.disk.now) (g.D.Disk.state c.takes.disk) (g.D.Disk.state c.finish.new.disk) (took g.C.Console.take_faults g.C.Console.give_faults c.args.console.now c.takes.console c.take.new.self (g.D.Disk.state c.args.disk.now) (g.D.Disk.state c.takes.disk) c.takes.invariant.counts c.take.ensures.take_count c.take.ensures.give_count) c.finish.ensures.counts
+
+pub returns-then-n-limit-clause-caused : goal.returns-then-n-limit-clause-caused
+returns-then-n-limit-clause-caused g c = record { full = λ need gap tell is. absurd cc; broken = λ place tell is. absurd cc; give_fault = λ is. absurd cc; disk_fault = λ is. absurd cc }
+
+pub returns-then-n-limit-clause-counts : goal.returns-then-n-limit-clause-counts
+returns-then-n-limit-clause-counts g c = took g.C.Console.take_faults g.C.Console.give_faults c.args.console.now c.takes.console c.take.new.self (g.D.Disk.state c.args.disk.now) (g.D.Disk.state c.takes.disk) c.takes.invariant.counts c.take.ensures.take_count c.take.ensures.give_count

@@ -2,6 +2,7 @@ use Rattle.std.proofs.Common.{◌≡◌, List, ℕ, [], ◌∷◌, ◌++◌, ap,
 use Rattle.alta_console.specs.Lines.{NoNewline}
 use Rattle.alta_session.specs.Keeping.{clip}
 use Rattle.alta_session.specs.declared.status.Status.TheVariants.{Memory}
+use Rattle.alta_session.proofs.EndingLaws.{caused_memory, counts_none}
 use Rattle.alta_session.proofs.FedLaws.{fed_clip, stops_clip, stops_none}
 use Rattle.alta_session.proofs.KeepingLaws.{clip_clip, free_clip, free_append}
 use Rattle.alta_session.proofs.serving.end_line.Goals as goal
@@ -23,3 +24,9 @@ pub returns-in-Err-answer-clause-err : goal.returns-in-Err-answer-clause-err
 returns-in-Err-answer-clause-err g c =
     let line : List ℕ = c.args.begun.now.items ++ c.args.rest.now in
     stops_clip g.D.Disk.tells _ _ _ _ _ (c.deref.result.now ∷ []) (line ∷ []) c.in-Err-answer.status (ap (λ (l : List ℕ). l ∷ []) (ap clip (c.deref.ensures.value ∙ c.in-Ok.ensures.kept) ∙ clip_clip line)) c.in-Err-answer.ensures.err
+
+pub returns-in-Err-clause-caused : goal.returns-in-Err-clause-caused
+returns-in-Err-clause-caused g c = caused_memory g.D.Disk.tells g.C.Console.give_faults c.args.console.now c.args.console.now (g.D.Disk.state c.args.disk.now) (g.D.Disk.state c.args.disk.now) c.in-Err.status c.in-Err.ensures.memory
+
+pub returns-in-Err-clause-counts : goal.returns-in-Err-clause-counts
+returns-in-Err-clause-counts g c = counts_none g.C.Console.take_faults g.C.Console.give_faults c.args.console.now (g.D.Disk.state c.args.disk.now)

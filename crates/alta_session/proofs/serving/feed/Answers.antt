@@ -1,5 +1,6 @@
 use Rattle.std.proofs.Common.{◌≡◌, ◌∙◌, refl, ap, Err, rules, arith}
 use Rattle.alta_session.specs.declared.status.Status.TheVariants.{Damaged, Full}
+use Rattle.alta_session.proofs.EndingLaws.{caused_on, counts_none, counts_on}
 use Rattle.alta_session.proofs.FedLaws.{fed_none}
 use Rattle.alta_session.proofs.FeedLaws.{feed_on, kept_on, feed_stops}
 use Rattle.alta_session.proofs.serving.feed.Goals as goal
@@ -13,10 +14,7 @@ lines-init g c = record {
   free = c.requires.free;
   can = c.requires.can;
   input_kept = refl;
-  take_count = search rules;
-  give_count = search rules;
-  disk_count = search rules;
-  same_limit = refl;
+  counts = counts_none g.C.Console.take_faults g.C.Console.give_faults c.args.console.now (g.D.Disk.state c.args.disk.now);
 }
 
 pub lines-preserved : goal.lines-preserved
@@ -28,21 +26,16 @@ lines-preserved g c = record {
   free = c.in-Ok.ensures.free;
   can = c.in-Ok.ensures.can;
   input_kept = search rules;
-  take_count = search rules;
-  give_count = search rules;
-  disk_count = search rules;
-  same_limit = search rules;
+  counts = counts_on g.C.Console.take_faults g.C.Console.give_faults c.args.console.now c.lines.console c.feed_line.new.console (g.D.Disk.state c.args.disk.now) (g.D.Disk.state c.lines.disk) (g.D.Disk.state c.feed_line.new.disk) c.lines.invariant.counts c.feed_line.ensures.counts;
 }
 
 pub returns-in-Err-clause-err : goal.returns-in-Err-clause-err
 returns-in-Err-clause-err g c = feed_stops g.D.Disk.tells _ _ _ _ _ _ _ _ c.args.begun.now.items c.lines.begun.items c.args.piece.now c.lines.at c.in-Err.status c.lines.invariant.fed c.lines.invariant.begun c.in-Err.ensures.err
 
-pub returns-in-Err-clause-full : goal.returns-in-Err-clause-full
-returns-in-Err-clause-full g c = λ need gap tell is.
-    let same : c.in-Err.status ≡ Full need gap = cc in
-    c.feed_line.ensures.full need gap tell (c.in-Err.is ∙ ap Err same)
+pub returns-in-Err-clause-caused : goal.returns-in-Err-clause-caused
+returns-in-Err-clause-caused g c =
+    caused_on g.C.Console.take_faults g.C.Console.give_faults g.D.Disk.tells c.args.console.now c.lines.console c.feed_line.new.console (g.D.Disk.state c.args.disk.now) (g.D.Disk.state c.lines.disk) (g.D.Disk.state c.feed_line.new.disk) c.in-Err.status c.lines.invariant.counts c.in-Err.ensures.caused
 
-pub returns-in-Err-clause-broken : goal.returns-in-Err-clause-broken
-returns-in-Err-clause-broken g c = λ place tell is.
-    let same : c.in-Err.status ≡ Damaged place = cc in
-    c.feed_line.ensures.broken place tell (c.in-Err.is ∙ ap Err same)
+pub returns-in-Err-clause-counts : goal.returns-in-Err-clause-counts
+returns-in-Err-clause-counts g c =
+    counts_on g.C.Console.take_faults g.C.Console.give_faults c.args.console.now c.lines.console c.feed_line.new.console (g.D.Disk.state c.args.disk.now) (g.D.Disk.state c.lines.disk) (g.D.Disk.state c.feed_line.new.disk) c.lines.invariant.counts c.feed_line.ensures.counts

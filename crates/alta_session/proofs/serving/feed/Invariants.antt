@@ -1,5 +1,6 @@
 use Rattle.std.proofs.Common.{◌≡◌, ◌≤◌, ◌-◌, length, take}
 use Rattle.alta_console.specs.Lines.{NoNewline, whole_from, begun_from}
+use Rattle.alta_session.specs.Ending.{KeepsCounts}
 use Rattle.alta_session.specs.Answering.{CanAnswer}
 use Rattle.alta_session.specs.Fed.{Fed}
 use Rattle.alta_session.specs.Keeping.{clip}
@@ -14,10 +15,7 @@ invariant-lines g l = record {
   free : NoNewline l.begun.items;
   can : CanAnswer g.D.Disk.tells (g.D.Disk.state l.disk) l.session;
   input_kept : g.C.Console.left l.console ≡ g.C.Console.left l.fn.console;
-  take_count : g.C.Console.take_faults l.fn.console ≤ g.C.Console.take_faults l.console;
-  give_count : g.C.Console.give_faults l.fn.console ≤ g.C.Console.give_faults l.console;
-  disk_count : (g.D.Disk.state l.fn.disk).faults ≤ (g.D.Disk.state l.disk).faults;
-  same_limit : (g.D.Disk.state l.disk).limit ≡ (g.D.Disk.state l.fn.disk).limit;
+  counts : KeepsCounts g.C.Console.take_faults g.C.Console.give_faults l.fn.console l.console (g.D.Disk.state l.fn.disk) (g.D.Disk.state l.disk);
 }
 
 abbrev pub decreases-lines : goal.decreases-lines

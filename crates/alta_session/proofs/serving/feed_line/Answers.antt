@@ -1,6 +1,7 @@
 use Rattle.std.proofs.Common.{◌≡◌, ◌++◌, ◌∙◌, length, ap, sym, subst, Err, arith}
 use Rattle.alta_console.specs.Lines.{NoNewline}
 use Rattle.alta_session.specs.declared.status.Status.TheVariants.{Damaged, Full, Memory}
+use Rattle.alta_session.proofs.EndingLaws.{caused_memory, counts_none}
 use Rattle.alta_session.proofs.FedLaws.{stops_none}
 use Rattle.alta_session.proofs.FeedLaws.{fed_free, kept_free, fed_ended, kept_ended, stops_ended}
 use Rattle.alta_session.proofs.KeepingLaws.{clip_short, free_clip, free_append, no_newline_found, newline_found}
@@ -35,12 +36,11 @@ returns-in-Ok-end_line-clause-begun g c = kept_ended c.args.begun.now.items c.en
 pub returns-in-Err-end_line-clause-err : goal.returns-in-Err-end_line-clause-err
 returns-in-Err-end_line-clause-err g c = stops_ended g.D.Disk.tells _ _ _ _ _ c.args.begun.now.items c.args.bytes.now c.in-Some.n c.in-Err-end_line.status (newline_found c.in-Some.n c.args.bytes.now c.in-Some.ensures) c.in-Err-end_line.ensures.err
 
-pub returns-in-Err-end_line-clause-full : goal.returns-in-Err-end_line-clause-full
-returns-in-Err-end_line-clause-full g c = λ need gap tell is.
-    let same : c.in-Err-end_line.status ≡ Full need gap = cc in
-    c.end_line.ensures.full need gap tell (c.in-Err-end_line.is ∙ ap Err same)
+pub returns-in-Ok-clause-counts : goal.returns-in-Ok-clause-counts
+returns-in-Ok-clause-counts g c = counts_none g.C.Console.take_faults g.C.Console.give_faults c.args.console.now (g.D.Disk.state c.args.disk.now)
 
-pub returns-in-Err-end_line-clause-broken : goal.returns-in-Err-end_line-clause-broken
-returns-in-Err-end_line-clause-broken g c = λ place tell is.
-    let same : c.in-Err-end_line.status ≡ Damaged place = cc in
-    c.end_line.ensures.broken place tell (c.in-Err-end_line.is ∙ ap Err same)
+pub returns-in-Err-clause-caused : goal.returns-in-Err-clause-caused
+returns-in-Err-clause-caused g c = caused_memory g.D.Disk.tells g.C.Console.give_faults c.args.console.now c.args.console.now (g.D.Disk.state c.args.disk.now) (g.D.Disk.state c.args.disk.now) c.in-Err.status c.in-Err.ensures.memory
+
+pub returns-in-Err-clause-counts : goal.returns-in-Err-clause-counts
+returns-in-Err-clause-counts g c = counts_none g.C.Console.take_faults g.C.Console.give_faults c.args.console.now (g.D.Disk.state c.args.disk.now)

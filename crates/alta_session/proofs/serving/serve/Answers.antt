@@ -57,22 +57,22 @@ returns g c = record {
   rooted = λ tell none. absurd (ok_answers c.in-Ok.session StoreNoRoot c.start.result c.in-Ok.is (c.start.ensures.rooted tell none));
   undamaged = λ place tell broken. absurd (ok_answers c.in-Ok.session (StoreDamaged place) c.start.result c.in-Ok.is (c.start.ensures.undamaged place tell broken));
   unopened = λ is. absurd (running_rooted c.answer_lines.result c.answer_lines.ensures.ends is);
-  damaged = λ place is. inr (λ tell. c.answer_lines.ensures.broken place tell is);
+  damaged = λ place is. inr (λ tell. c.answer_lines.ensures.caused.broken place tell is);
   stands = λ s tell stands. record {
     rooted = running_rooted c.answer_lines.result c.answer_lines.ensures.ends;
     whole = (c.answer_lines.ensures.run.each (started_at s) tell (c.in-Ok.ensures.agrees s (λ t. stands))).undamaged;
   };
   never = running_never c.answer_lines.result c.answer_lines.ensures.ends;
-  full = c.answer_lines.ensures.full;
+  full = c.answer_lines.ensures.caused.full;
   complete = λ s tell stands takes gives disk.
-      running_completes c.answer_lines.result _ _ (Rose (g.D.Disk.state c.args.disk.now).faults (g.D.Disk.state c.answer_lines.new.disk).faults) c.answer_lines.ensures.ends c.answer_lines.ensures.take_fault c.answer_lines.ensures.give_fault
-      (λ is. omega (arith, c.answer_lines.ensures.disk_fault is, c.start.ensures.faults)) takes gives disk
+      running_completes c.answer_lines.result _ _ (Rose (g.D.Disk.state c.args.disk.now).faults (g.D.Disk.state c.answer_lines.new.disk).faults) c.answer_lines.ensures.ends c.answer_lines.ensures.take_fault c.answer_lines.ensures.caused.give_fault
+      (λ is. omega (arith, c.answer_lines.ensures.caused.disk_fault is, c.start.ensures.faults)) takes gives disk
       (c.answer_lines.ensures.run.each (started_at s) tell (c.in-Ok.ensures.agrees s (λ t. stands))).undamaged;
   take_fault = c.answer_lines.ensures.take_fault;
-  give_fault = c.answer_lines.ensures.give_fault;
-  disk_fault = λ is. omega (arith, c.answer_lines.ensures.disk_fault is, c.start.ensures.faults);
-  take_count = c.answer_lines.ensures.take_count;
-  give_count = c.answer_lines.ensures.give_count;
-  disk_count = omega (arith, c.start.ensures.faults, c.answer_lines.ensures.disk_count);
-  same_limit = c.answer_lines.ensures.same_limit ∙ c.start.ensures.same_limit;
+  give_fault = c.answer_lines.ensures.caused.give_fault;
+  disk_fault = λ is. omega (arith, c.answer_lines.ensures.caused.disk_fault is, c.start.ensures.faults);
+  take_count = c.answer_lines.ensures.counts.takes;
+  give_count = c.answer_lines.ensures.counts.gives;
+  disk_count = omega (arith, c.start.ensures.faults, c.answer_lines.ensures.counts.faults);
+  same_limit = c.answer_lines.ensures.counts.limit ∙ c.start.ensures.same_limit;
 }
