@@ -44,6 +44,7 @@ leaves_start tells s P lawful here = record {
   later = omega arith;
   each = λ c left. here c (lawful.only_now c left);
   between = λ t c le left. inl left;
+  keeps = λ t c le left. left;
 }
 
 -- a run whose images have P, and then another
@@ -52,6 +53,7 @@ leaves_then a b c P one two = record {
   later = omega (arith, one.later, two.later);
   each = λ z left. ⊎_elim (one.each z) (λ here. here) (two.between a.clock z one.later left);
   between = λ t z le left. ⊎_elim (one.between t z le) (λ here. inr here) (two.between t z (omega (arith, le, one.later)) left);
+  keeps = λ t z le left. two.keeps t z (omega (arith, le, one.later)) (one.keeps t z le left);
 }
 
 -- a run that takes each image by a step to one that has P
@@ -61,6 +63,7 @@ leaves_by tells a b P step lawful run here leads = record {
   later = run.later;
   each = λ c left. ⊎_elim (λ old. here c (lawful.only_now c old)) (λ after. leads after.0 c after.1 after.2) (run.between a.clock c (omega arith) left);
   between = λ t c le left. ⊎_elim (λ old. inl old) (λ after. inr (leads after.0 c after.1 after.2)) (run.between t c le left);
+  keeps = run.keeps;
 }
 
 -- after a sync it is enough to know the content
@@ -109,6 +112,7 @@ leaves_as a b P Q one weaker = record {
   later = one.later;
   each = λ c left. weaker c (one.each c left);
   between = λ t c le left. ⊎_elim (λ older. inl older) (λ here. inr (weaker c here)) (one.between t c le left);
+  keeps = one.keeps;
 }
 
 -- after a run whose images have P, each image now has it

@@ -65,6 +65,8 @@ pub record LeavesOnly (P : List ℕ → Type 0) (old new : DiskState) : Type 0 w
   pub each : (c : List ℕ) → new.since old.clock c → P c
   -- for a run that began earlier
   pub between : (t : ℕ) (c : List ℕ) → t ≤ old.clock → new.since t c → old.since t c ⊎ P c
+  -- of which no image is forgotten
+  pub keeps : (t : ℕ) (c : List ℕ) → t ≤ old.clock → old.since t c → new.since t c
 
 -- what each disk keeps at each moment
 pub record IsLawful (tells : Type 0) (state : DiskState) : Type 0 where

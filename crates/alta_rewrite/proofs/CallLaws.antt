@@ -86,6 +86,7 @@ leaves_told tells a b P Q step lawful passes leaves follows = record {
   later = leaves.later;
   each = λ z since. ⊎_elim (λ before. follows (lawful.told z (lawful.only_now z before)) z (leaves.each z since)) (λ (d, here, stepped). follows (lawful.told d here) z (leaves.each z since)) (passes.between a.clock z (omega arith) since);
   between = λ t z le since. ⊎_elim (λ before. inl before) (λ (d, here, stepped). ⊎_elim (λ before. inl before) (λ p. inr (follows (lawful.told d here) z p)) (leaves.between t z le since)) (passes.between t z le since);
+  keeps = leaves.keeps;
 }
 
 pub held_now : (tells : Type 0) (held : Holding) (levels : NextLevels) (ends : Ends) (next location : ℕ) (old : List ℕ) → (tells → MayRewrite held levels ends next location old) → tells → StandsFor (state_of held.view) old

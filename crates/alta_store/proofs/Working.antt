@@ -42,6 +42,7 @@ leaves_if tells a b P lawful passes leaves = record {
   later = passes.later;
   each = λ z since. ⊎_elim (λ before. (leaves (lawful.told z (lawful.only_now z before))).each z since) (λ came. (leaves (lawful.told came.0 came.1)).each z since) (passes.between a.clock z (omega arith) since);
   between = λ t z le since. ⊎_elim (λ before. inl before) (λ came. (leaves (lawful.told came.0 came.1)).between t z le since) (passes.between t z le since);
+  keeps = passes.keeps;
 }
 
 -- ---- levels put in place of others
