@@ -144,8 +144,9 @@ impl<'a> WordReader<'a> {
         self.before = before;
     }
 
-    /// Goes one location on. It adds one step.
-    fn go_next<L: Ledger>(&mut self, steps: &mut Steps<L>)
+    /// Goes one location on, and answers it, `TOP` behind the last. It adds one step.
+    #[inline(always)]
+    fn go_next<L: Ledger>(&mut self, steps: &mut Steps<L>) -> Loc
         requires posting { IsPosting self.old.stream self.old.summary.bytes self.old.summary.count }
         requires holds { HoldsBlock (locations_of self.old.stream) self.old.block.items self.old.row self.old.index self.old.before }
         requires below { slice_index_or (locations_of self.old.stream) (64 * self.old.row + self.old.index) TOP < TOP }
@@ -154,10 +155,34 @@ impl<'a> WordReader<'a> {
         ensures end { self.new.end ≡ self.old.end }
         ensures holds { HoldsBlock (locations_of self.old.stream) self.new.block.items self.new.row self.new.index self.new.before }
         ensures place { 64 * self.new.row + self.new.index ≡ 64 * self.old.row + self.old.index + 1 }
+        ensures here { result ≡ slice_index_or (locations_of self.old.stream) (64 * self.new.row + self.new.index) TOP }
+        ensures steps { steps.new ≡ steps.old + 1 }
+    {
+        let index = self.index + 1;
+        if index < self.block.len() {
+            steps.tick();
+            self.index = index;
+            return self.block.as_slice()[index];
+        }
+        self.leave_block(steps);
+        self.here()
+    }
+
+    /// Goes from the last location of a block to the first of the next, or behind the last. It adds one step.
+    #[inline(never)]
+    fn leave_block<L: Ledger>(&mut self, steps: &mut Steps<L>)
+        requires posting { IsPosting self.old.stream self.old.summary.bytes self.old.summary.count }
+        requires holds { HoldsBlock (locations_of self.old.stream) self.old.block.items self.old.row self.old.index self.old.before }
+        requires last { self.old.index + 1 ≡ length self.old.block.items }
+        ensures stream { self.new.stream ≡ self.old.stream }
+        ensures summary { self.new.summary ≡ self.old.summary }
+        ensures end { self.new.end ≡ self.old.end }
+        ensures holds { HoldsBlock (locations_of self.old.stream) self.new.block.items self.new.row self.new.index self.new.before }
+        ensures place { 64 * self.new.row + self.new.index ≡ 64 * self.old.row + self.old.index + 1 }
         ensures steps { steps.new ≡ steps.old + 1 }
     {
         let rows = self.summary.rows();
-        if self.index + 1 < self.block.len() || self.row + 1 >= rows {
+        if self.row + 1 >= rows {
             steps.tick();
             self.index += 1;
             return;
@@ -261,8 +286,7 @@ impl<'a> Reader for WordReader<'a> {
         ensures cost { steps.new ≤ steps.old + 1 }
         ensures one { steps.new ≡ steps.old + 1 }
     {
-        self.go_next(steps);
-        self.at = self.here();
+        self.at = self.go_next(steps);
     }
 
     /// Goes to the least location at or above `to`, or to `TOP` past the last. It adds exactly one step. Outside the block
