@@ -8,7 +8,7 @@ exponential distribution), with their streams and summaries. PATH is the program
 there (crates/bench_decode/out/bench_decode by default). The C loop is compiled by `gcc -O2` in a temporary folder.
 
 Prints for each list its bytes a location and how many million locations a second of processor time are decoded: by the
-check of the stream and its summary (which copies both first), by a walk with `next`, and by the C loop, which adds the
+check of the stream and its summary, by a walk with `next`, and by the C loop, which adds the
 locations up and tests nothing but the end. The time is that of ROUNDS rounds more, the best of some turns.
 """
 

@@ -3,18 +3,19 @@ use Rattle.std.proofs.Common.{◌≡◌, ℕ, ◌+◌, ◌<◌, ◌≤◌, ◌�
 use Rattle.std.proofs.lemmas.Grind.{common_steps}
 use Rattle.std.proofs.lemmas.List.{take-append-drop, take-append-le, take_all, append_cancel_left}
 use Rattle.std.proofs.lemmas.Bool.{cases_lt}
-use Rattle.alta_console.specs.Replies.{joined, IsPrefix, IsAcked, IsPartOfFirst}
+use Rattle.std.specs.List.{concat}
+use Rattle.alta_console.specs.Replies.{IsPrefix, IsAcked, IsPartOfFirst}
 
-pub joined_append : (xs ys : List (List ℕ)) → joined (xs ++ ys) ≡ joined xs ++ joined ys
+pub joined_append : (xs ys : List (List ℕ)) → concat (xs ++ ys) ≡ concat xs ++ concat ys
 joined_append [] ys = refl
-joined_append (x ∷ xs) ys = ap (λ (l : List ℕ). x ++ l) (joined_append xs ys) ∙ sym (append_assoc x (joined xs) (joined ys))
+joined_append (x ∷ xs) ys = ap (λ (l : List ℕ). x ++ l) (joined_append xs ys) ∙ sym (append_assoc x (concat xs) (concat ys))
 
 -- one more text
-pub joined_text : (texts : List (List ℕ)) (text : List ℕ) → joined (texts ++ text ∷ []) ≡ joined texts ++ text
-joined_text texts text = joined_append texts (text ∷ []) ∙ ap (λ (l : List ℕ). joined texts ++ l) (append-nil text)
+pub joined_text : (texts : List (List ℕ)) (text : List ℕ) → concat (texts ++ text ∷ []) ≡ concat texts ++ text
+joined_text texts text = joined_append texts (text ∷ []) ∙ ap (λ (l : List ℕ). concat texts ++ l) (append-nil text)
 
-pub joined_parts : (k : ℕ) (texts : List (List ℕ)) → joined texts ≡ joined (take k texts) ++ joined (drop k texts)
-joined_parts k texts = ap joined (sym (take-append-drop k texts)) ∙ joined_append (take k texts) (drop k texts)
+pub joined_parts : (k : ℕ) (texts : List (List ℕ)) → concat texts ≡ concat (take k texts) ++ concat (drop k texts)
+joined_parts k texts = ap concat (sym (take-append-drop k texts)) ∙ joined_append (take k texts) (drop k texts)
 
 pub prefix_same : (xs : List ℕ) → IsPrefix xs xs
 prefix_same xs = ([], sym (append-nil xs))
@@ -25,37 +26,37 @@ prefix_on xs ys more p = (p.0 ++ more, ap (λ (l : List ℕ). l ++ more) p.1 ∙
 pub prefix_of : (xs ys zs : List ℕ) → IsPrefix xs ys → IsPrefix ys zs → IsPrefix xs zs
 prefix_of xs ys zs p q = (p.0 ++ q.0, q.1 ∙ ap (λ (l : List ℕ). l ++ q.0) p.1 ∙ append_assoc xs p.0 q.0)
 
-pub part_begins : (texts : List (List ℕ)) (part : List ℕ) → IsPartOfFirst texts part → IsPrefix part (joined texts)
+pub part_begins : (texts : List (List ℕ)) (part : List ℕ) → IsPartOfFirst texts part → IsPrefix part (concat texts)
 part_begins [] part none = ([], sym (append-nil part ∙ none))
-part_begins (text ∷ texts) part first = (first.0 ++ joined texts, ap (λ (l : List ℕ). l ++ joined texts) first.1 ∙ append_assoc part first.0 (joined texts))
+part_begins (text ∷ texts) part first = (first.0 ++ concat texts, ap (λ (l : List ℕ). l ++ concat texts) first.1 ∙ append_assoc part first.0 (concat texts))
 
 -- more texts, joined, are longer than fewer and a part of the next
-longer : (texts : List (List ℕ)) (k j : ℕ) (part : List ℕ) → k < j → j ≤ length texts → IsPartOfFirst (drop k texts) part → length (joined (take k texts)) + length part < length (joined (take j texts))
+longer : (texts : List (List ℕ)) (k j : ℕ) (part : List ℕ) → k < j → j ≤ length texts → IsPartOfFirst (drop k texts) part → length (concat (take k texts)) + length part < length (concat (take j texts))
 longer [] k j part l h p = absurd (omega arith)
 longer (text ∷ texts) k zero part l h p = absurd (omega arith)
-longer (text ∷ texts) zero (suc j) part l h p = omega (arith, length-append text (joined (take j texts)), ap length p.1, length-append part p.0, p.2)
-longer (text ∷ texts) (suc k) (suc j) part l h p = omega (arith, longer texts k j part (omega arith) (omega arith) p, length-append text (joined (take j texts)), length-append text (joined (take k texts)))
+longer (text ∷ texts) zero (suc j) part l h p = omega (arith, length-append text (concat (take j texts)), ap length p.1, length-append part p.0, p.2)
+longer (text ∷ texts) (suc k) (suc j) part l h p = omega (arith, longer texts k j part (omega arith) (omega arith) p, length-append text (concat (take j texts)), length-append text (concat (take k texts)))
 
 -- where the first k texts were given, and less than the next, k went out whole
-pub acked_part : (k : ℕ) (texts : List (List ℕ)) (given part : List ℕ) → k ≤ length texts → given ≡ joined (take k texts) ++ part → IsPartOfFirst (drop k texts) part → IsAcked k texts given
+pub acked_part : (k : ℕ) (texts : List (List ℕ)) (given part : List ℕ) → k ≤ length texts → given ≡ concat (take k texts) ++ part → IsPartOfFirst (drop k texts) part → IsAcked k texts given
 acked_part k texts given part within is first = record {
   within = within;
   begins = (part, is);
-  greatest = λ j h begins. elim (cases_lt k j) [ inl l ↦ absurd (omega (arith, longer texts k j part l h first, ap length begins.1, ap length is, length-append (joined (take j texts)) begins.0, length-append (joined (take k texts)) part)) | inr l ↦ l ];
+  greatest = λ j h begins. elim (cases_lt k j) [ inl l ↦ absurd (omega (arith, longer texts k j part l h first, ap length begins.1, ap length is, length-append (concat (take j texts)) begins.0, length-append (concat (take k texts)) part)) | inr l ↦ l ];
 }
 
 -- where all texts were given, all went out whole
-pub acked_all : (texts : List (List ℕ)) → IsAcked (length texts) texts (joined texts)
+pub acked_all : (texts : List (List ℕ)) → IsAcked (length texts) texts (concat texts)
 acked_all texts = record {
   within = omega arith;
-  begins = ([], ap joined (sym (take_all (length texts) texts (omega arith))) ∙ sym (append-nil (joined (take (length texts) texts))));
+  begins = ([], ap concat (sym (take_all (length texts) texts (omega arith))) ∙ sym (append-nil (concat (take (length texts) texts))));
   greatest = λ j h begins. h;
 }
 
 -- one more text, given whole
-pub acked_text : (texts : List (List ℕ)) (text : List ℕ) → IsAcked (length texts + 1) (texts ++ text ∷ []) (joined texts ++ text)
+pub acked_text : (texts : List (List ℕ)) (text : List ℕ) → IsAcked (length texts + 1) (texts ++ text ∷ []) (concat texts ++ text)
 acked_text texts text =
-    let P : ℕ → Type 0 = λ n. IsAcked n (texts ++ text ∷ []) (joined texts ++ text) in
+    let P : ℕ → Type 0 = λ n. IsAcked n (texts ++ text ∷ []) (concat texts ++ text) in
     let Q : List ℕ → Type 0 = λ given. IsAcked (length (texts ++ text ∷ [])) (texts ++ text ∷ []) given in
     subst P (length-append texts (text ∷ [])) (subst Q (joined_text texts text) (acked_all (texts ++ text ∷ [])))
 
@@ -65,25 +66,25 @@ acked_same k j texts given p q = omega (arith, p.greatest j q.within q.begins, q
 
 -- it does not fall as more is given
 pub acked_later : (k j : ℕ) (texts : List (List ℕ)) (given more : List ℕ) → IsAcked k texts given → IsAcked j texts (given ++ more) → k ≤ j
-acked_later k j texts given more p q = q.greatest k p.within (prefix_on (joined (take k texts)) given more p.begins)
+acked_later k j texts given more p q = q.greatest k p.within (prefix_on (concat (take k texts)) given more p.begins)
 
 -- more texts begin with all of fewer
-take_past : (j : ℕ) (texts more : List (List ℕ)) → length texts ≤ j → IsPrefix (joined texts) (joined (take j (texts ++ more)))
-take_past j [] more past = (joined (take j more), refl)
+take_past : (j : ℕ) (texts more : List (List ℕ)) → length texts ≤ j → IsPrefix (concat texts) (concat (take j (texts ++ more)))
+take_past j [] more past = (concat (take j more), refl)
 take_past zero (text ∷ texts) more past = absurd (omega arith)
 take_past (suc j) (text ∷ texts) more past =
-    let rest : IsPrefix (joined texts) (joined (take j (texts ++ more))) = take_past j texts more (omega arith) in
-    (rest.0, ap (λ (l : List ℕ). text ++ l) rest.1 ∙ sym (append_assoc text (joined texts) rest.0))
+    let rest : IsPrefix (concat texts) (concat (take j (texts ++ more))) = take_past j texts more (omega arith) in
+    (rest.0, ap (λ (l : List ℕ). text ++ l) rest.1 ∙ sym (append_assoc text (concat texts) rest.0))
 
 -- where a text did not go out whole, more texts behind it change nothing
 pub acked_on : (k : ℕ) (texts more : List (List ℕ)) (given : List ℕ) → k < length texts → IsAcked k texts given → IsAcked k (texts ++ more) given
 acked_on k texts more given l p =
-    let P : List (List ℕ) → Type 0 = λ first. IsPrefix (joined first) given in
+    let P : List (List ℕ) → Type 0 = λ first. IsPrefix (concat first) given in
     record {
       within = omega (arith, length-append texts more);
       begins = subst P (sym (take-append-le k texts more p.within)) p.begins;
       greatest = λ j h begins. elim (cases_lt (length texts) j) [
-        | inl past ↦ absurd (omega (arith, p.greatest (length texts) (omega arith) (subst P (sym (take_all (length texts) texts (omega arith))) (prefix_of (joined texts) (joined (take j (texts ++ more))) given (take_past j texts more (omega arith)) begins))))
+        | inl past ↦ absurd (omega (arith, p.greatest (length texts) (omega arith) (subst P (sym (take_all (length texts) texts (omega arith))) (prefix_of (concat texts) (concat (take j (texts ++ more))) given (take_past j texts more (omega arith)) begins))))
         | inr within ↦ p.greatest j within (subst P (take-append-le j texts more within) begins)
       ];
     }
@@ -103,22 +104,22 @@ decide_prefix (x ∷ xs) (y ∷ ys) = decide_byte x y xs ys (x == y) refl (decid
 one_more : (text rest given : List ℕ) (texts : List (List ℕ)) (k : ℕ) → given ≡ text ++ rest → IsAcked k texts rest → IsAcked (suc k) (text ∷ texts) given
 one_more text rest given texts k is p = record {
   within = omega (arith, p.within);
-  begins = (p.begins.0, is ∙ ap (λ (l : List ℕ). text ++ l) p.begins.1 ∙ sym (append_assoc text (joined (take k texts)) p.begins.0));
+  begins = (p.begins.0, is ∙ ap (λ (l : List ℕ). text ++ l) p.begins.1 ∙ sym (append_assoc text (concat (take k texts)) p.begins.0));
   greatest = λ j h begins. up_to j h begins;
 }
   where
-    up_to : (j : ℕ) → j ≤ length (text ∷ texts) → IsPrefix (joined (take j (text ∷ texts))) given → j ≤ suc k
+    up_to : (j : ℕ) → j ≤ length (text ∷ texts) → IsPrefix (concat (take j (text ∷ texts))) given → j ≤ suc k
     up_to zero h begins = omega arith
     up_to (suc j) h begins =
-        let rest_is : rest ≡ joined (take j texts) ++ begins.0 = append_cancel_left text rest (joined (take j texts) ++ begins.0) (sym is ∙ begins.1 ∙ append_assoc text (joined (take j texts)) begins.0) in
+        let rest_is : rest ≡ concat (take j texts) ++ begins.0 = append_cancel_left text rest (concat (take j texts) ++ begins.0) (sym is ∙ begins.1 ∙ append_assoc text (concat (take j texts)) begins.0) in
         omega (arith, p.greatest j (omega arith) (begins.0, rest_is))
 
 none_whole : (text given : List ℕ) (texts : List (List ℕ)) → (IsPrefix text given → ⊥) → IsAcked 0 (text ∷ texts) given
 none_whole text given texts other = record { within = omega arith; begins = (given, refl); greatest = λ j h begins. up_to j begins }
   where
-    up_to : (j : ℕ) → IsPrefix (joined (take j (text ∷ texts))) given → j ≤ 0
+    up_to : (j : ℕ) → IsPrefix (concat (take j (text ∷ texts))) given → j ≤ 0
     up_to zero begins = omega arith
-    up_to (suc j) begins = absurd (other (joined (take j texts) ++ begins.0, begins.1 ∙ append_assoc text (joined (take j texts)) begins.0))
+    up_to (suc j) begins = absurd (other (concat (take j texts) ++ begins.0, begins.1 ∙ append_assoc text (concat (take j texts)) begins.0))
 
 -- there is such a number, whatever was given
 pub acked_is : (texts : List (List ℕ)) (given : List ℕ) → (k : ℕ) × IsAcked k texts given

@@ -1,10 +1,6 @@
 -- How many texts of a list went out whole.
 use Rattle.std.specs.Prelude.{◌≡◌, ◌<◌, ◌≤◌, ℕ, List, [], ◌∷◌, ◌++◌, length, take}
-
--- the texts, one behind the other
-abbrev pub joined : List (List ℕ) → List ℕ
-joined [] = []
-joined (text ∷ texts) = text ++ joined texts
+use Rattle.std.specs.List.{concat}
 
 abbrev pub IsPrefix : List ℕ → List ℕ → Type 0
 IsPrefix front bytes = (more : List ℕ) × (bytes ≡ front ++ more)
@@ -12,8 +8,8 @@ IsPrefix front bytes = (more : List ℕ) × (bytes ≡ front ++ more)
 -- k is the greatest number such that the first k texts, joined, begin the bytes given
 pub record IsAcked (k : ℕ) (texts : List (List ℕ)) (given : List ℕ) : Type 0 where
   pub within : k ≤ length texts
-  pub begins : IsPrefix (joined (take k texts)) given
-  pub greatest : (j : ℕ) → j ≤ length texts → IsPrefix (joined (take j texts)) given → j ≤ k
+  pub begins : IsPrefix (concat (take k texts)) given
+  pub greatest : (j : ℕ) → j ≤ length texts → IsPrefix (concat (take j texts)) given → j ≤ k
 
 -- less than the first text, and nothing where there is none
 abbrev pub IsPartOfFirst : List (List ℕ) → List ℕ → Type 0

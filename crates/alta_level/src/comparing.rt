@@ -13,7 +13,7 @@ use alta_words::PostingFault;
 // Whether a row has these values.
 fn has_row(table: &Summary<'_>, i: usize, first: Loc, last: Loc, place: u64) -> bool
     requires { i < table.now.count }
-    ensures { IsTrue result ↔ HasRow table.now.bytes.now i first last place }
+    ensures { IsTrue result ↔ HasRow table.now.bytes i first last place }
 {
     let row = table.row(i);
     row.first == first && row.last == last && row.place == place
@@ -22,7 +22,7 @@ fn has_row(table: &Summary<'_>, i: usize, first: Loc, last: Loc, place: u64) -> 
 // Whether a number is that of a row and of a block that are the same, or of neither.
 fn agrees(table: &Summary<'_>, locations: &[Loc], places: &[u64], i: usize) -> bool
     requires { HasPlaces locations.now (length locations.now) places.now }
-    ensures { IsTrue result ↔ Agrees locations.now table.now.bytes.now table.now.count i }
+    ensures { IsTrue result ↔ Agrees locations.now table.now.bytes table.now.count i }
 {
     if i >= table.rows() {
         return i >= places.len();
@@ -37,8 +37,8 @@ fn agrees(table: &Summary<'_>, locations: &[Loc], places: &[u64], i: usize) -> b
 // The first number of which the row is not the block, or one of the two is missing.
 fn first_other(table: &Summary<'_>, locations: &[Loc], places: &[u64]) -> Option<usize>
     requires { HasPlaces locations.now (length locations.now) places.now }
-    ensures same { result ≡ None → AreRowsOf locations.now table.now.bytes.now table.now.count }
-    ensures other { IfSome result (IsFirstOther locations.now table.now.bytes.now table.now.count) }
+    ensures same { result ≡ None → AreRowsOf locations.now table.now.bytes table.now.count }
+    ensures other { IfSome result (IsFirstOther locations.now table.now.bytes table.now.count) }
 {
     if table.rows() == 0 && places.len() < 2 {
         return None;

@@ -3,7 +3,6 @@ use Rattle.std.specs.Prelude.{ℕ, ◌+◌, ◌<◌, ◌≤◌, List, [], length
 use Rattle.alta_codec.specs.Rising.{IsRising}
 use Rattle.alta_disk.specs.Parts.{part}
 use Rattle.alta_level.specs.Stored.{Stored, Fits}
-use Rattle.alta_postings.specs.Deltas.{locations_of}
 use Rattle.alta_table.specs.Places.{stream_place}
 use Rattle.alta_table.specs.Tables.{Tables, total_of}
 use Rattle.alta_table.specs.Terms.{counts_of, streams_of, summaries_of, terms_of}
@@ -41,7 +40,7 @@ stored_in level row image = stored_as level row (part (stream_place level row) (
 
 -- the locations of a list that was loaded
 abbrev pub list_of : Posting → List ℕ
-list_of posting = locations_of posting.stream.items
+list_of posting = posting
 
 -- The list is not empty, rises, and keeps what its row and the documents of its level say, whatever the disk tells.
 pub record KeepsRow (level : Tables) (row : ℕ) (list : List ℕ) : Type 0 where

@@ -9,6 +9,7 @@ ghost use Rattle.alta_level.specs.Stored.{IsListFault, IsListOf, stored_of};
 ghost use Rattle.alta_loading.specs.Answers.{IfDamaged, IsDamaged, IsFound};
 ghost use Rattle.alta_loading.specs.Lists.{KeepsRow, LiesWithin, list_of, stored_as, stored_in, stream_size, summary_size};
 ghost use Rattle.alta_loading.specs.declared.fault.LoadFault.TheVariants.{Disk as DiskFault};
+ghost use Rattle.alta_postings.specs.Deltas.{locations_of};
 ghost use Rattle.alta_table.specs.Places.{stream_place};
 ghost use Rattle.alta_words.specs.Word.{IsPosting};
 
@@ -115,7 +116,7 @@ fn checked(
 // A list that was tested.
 fn made(stream: Vec<u8>, summary: Vec<u8>) -> Posting
     requires { (b : ℕ) × IsPosting stream.items summary.items b }
-    ensures { result.stream.items ≡ stream.items }
+    ensures { result ≡ locations_of stream.items }
 {
     match Posting::check(stream, summary) {
         Ok(posting) => posting,

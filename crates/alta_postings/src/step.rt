@@ -7,13 +7,14 @@ ghost use Rattle.alta_postings.specs.Short.{IsShort};
 use crate::fault::{StreamCause, StreamFault, cause};
 use alta_codec::{TOP, get_number};
 
-// What the second byte of a number counts, if it has one.
+// What the second byte of a number counts, if it has one. It is a product, since a branch here would be foreseen badly.
 #[inline(always)]
 fn second_of(first: u64, second: u64) -> u64
+    requires { first < 256 }
     ensures one { first < 128 → result ≡ 0 }
     ensures two { 128 ≤ first → result ≡ second }
 {
-    if first < 128 { 0 } else { second }
+    first / 128 * second
 }
 
 // The number of one or of two bytes at a place, and the place after it; none where it is longer. No branch depends on which of the

@@ -9,13 +9,21 @@ use crate::step::next_location;
 use alta_codec::{Steps, TOP};
 use arrayvec::ArrayVec;
 use std::alloc::{AllocError, Global};
+use std::marker::Model;
 use std::sync::ledger::Ledger;
 
-/// Bytes that spell a list of locations.
-#[derive(Clone, Copy, Drop)]
+/// Bytes that spell a list of locations, borrowed. Contracts see the bytes.
+#[derive(Drop)]
 pub struct Stream<'a> {
     bytes: &'a [u8],
-    ghost spelled: { Spells bytes.now (locations_of bytes.now) },
+}
+
+impl<'a> Model for Stream<'a> {
+    ghost Value = { List ℕ };
+
+    ghost view = { λ s. s.bytes.now };
+
+    ghost invariant = { λ s. Spells s.bytes.now (locations_of s.bytes.now) };
 }
 
 impl<'a> Stream<'a> {
@@ -23,7 +31,7 @@ impl<'a> Stream<'a> {
     /// number that shows it, with the place of that number's first byte: `Cut`, `Long` and `Wide` where it is misspelt,
     /// `Zero` where it is 0, `Top` where it leads to a location at or above `TOP`.
     pub fn open(bytes: &'a [u8]) -> Result<Stream<'a>, StreamFault>
-        ensures found { IfOk result (λ stream. (stream.bytes.now ≡ bytes.now) × Spells bytes.now (locations_of bytes.now)) }
+        ensures found { IfOk result (λ stream. (stream ≡ bytes.now) × Spells bytes.now (locations_of bytes.now)) }
         ensures never { (list : List ℕ) → Spells bytes.now list → IsOk result × (locations_of bytes.now ≡ list) }
         ensures first { IfErr result (λ fault. first_fault bytes.now ≡ Some fault) }
     {
@@ -44,14 +52,15 @@ impl<'a> Stream<'a> {
     /// Bytes that are known to spell a list. They are not read.
     pub fn of(bytes: &'a [u8]) -> Stream<'a>
         requires { (list : List ℕ) × Spells bytes.now list }
-        ensures { result.bytes.now ≡ bytes.now }
+        ensures { result ≡ bytes.now }
     {
         Stream { bytes }
     }
 
     /// The bytes that spell the list.
     pub fn bytes(&self) -> &[u8]
-        ensures { result.now ≡ self.now.bytes.now }
+        ensures bytes { result.now ≡ self.now }
+        ensures spelled { Spells self.now (locations_of self.now) }
     {
         self.bytes
     }
@@ -65,9 +74,9 @@ impl<'a> Stream<'a> {
         out: &mut ArrayVec<u64, 64>,
         steps: &mut Steps<L>,
     )
-        requires begins { (i : ℕ) × BeginsBlock (locations_of self.now.bytes.now) i place before }
-        ensures block { (i : ℕ) → BeginsBlock (locations_of self.now.bytes.now) i place before
-            → out.new.items ≡ take 64 (drop (64 * i) (locations_of self.now.bytes.now)) }
+        requires begins { (i : ℕ) × BeginsBlock (locations_of self.now) i place before }
+        ensures block { (i : ℕ) → BeginsBlock (locations_of self.now) i place before
+            → out.new.items ≡ take 64 (drop (64 * i) (locations_of self.now)) }
         ensures steps { steps.new ≡ steps.old + 1 }
     {
         steps.tick();
@@ -76,7 +85,7 @@ impl<'a> Stream<'a> {
 
     /// The whole list.
     pub fn locations(&self, alloc: Global) -> Result<Vec<u64>, AllocError>
-        ensures { IfOk result (λ list. list.items ≡ locations_of self.now.bytes.now) }
+        ensures { IfOk result (λ list. list.items ≡ locations_of self.now) }
     {
         read_all(alloc, self.bytes)
     }

@@ -4,7 +4,7 @@ use Rattle.std.proofs.lemmas.List.{drop_at, length-take}
 use Rattle.std.proofs.Math.ListN.{drop_of_length-le}
 use Rattle.std.proofs.Math.Seq.{take-append-add}
 use Rattle.alta_console.specs.Giving.{Gives}
-use Rattle.alta_console.specs.Replies.{joined}
+use Rattle.std.specs.List.{concat}
 use Rattle.alta_console.specs.declared.event.Event.{Event}
 use Rattle.alta_console.proofs.GivingLaws.{gives_none}
 use Rattle.alta_disk.specs.Disk.{DiskState, IsLawful}
@@ -55,19 +55,19 @@ fresh_is = record { state_is = refl; jobless = refl }
 -- ---- lines, and then others whose replies are given
 
 -- while the first are answered none was given
-none_given : (m : Machine) (xs ys : List (List ℕ)) (k : ℕ) → k < length xs → [] ≡ joined (drop (length xs) (take k (replies m (xs ++ ys))))
+none_given : (m : Machine) (xs ys : List (List ℕ)) (k : ℕ) → k < length xs → [] ≡ concat (drop (length xs) (take k (replies m (xs ++ ys))))
 none_given m xs ys k within =
     let all : List (List ℕ) = replies m (xs ++ ys) in
-    sym (ap joined (drop_of_length-le (take k all) {i = length xs} (omega (arith, within, length-take k all))))
+    sym (ap concat (drop_of_length-le (take k all) {i = length xs} (omega (arith, within, length-take k all))))
 
 -- and then those to the others
-given_behind_all : (m : Machine) (xs ys : List (List ℕ)) (k : ℕ) → joined (take k (replies (after m xs) ys)) ≡ joined (drop (length xs) (take (length xs + k) (replies m (xs ++ ys))))
+given_behind_all : (m : Machine) (xs ys : List (List ℕ)) (k : ℕ) → concat (take k (replies (after m xs) ys)) ≡ concat (drop (length xs) (take (length xs + k) (replies m (xs ++ ys))))
 given_behind_all m xs ys k =
     let first : List (List ℕ) = replies m xs in
     let later : List (List ℕ) = replies (after m xs) ys in
     let taken : take (length xs + k) (replies m (xs ++ ys)) ≡ first ++ take k later =
     ap (λ (l : List (List ℕ)). take (length xs + k) l) (replies_append m xs ys) ∙ ap (λ (n : ℕ). take (n + k) (first ++ later)) (sym (length_replies m xs)) ∙ take-append-add first later k in
-    sym (ap joined (ap (λ (l : List (List ℕ)). drop (length xs) l) taken ∙ drop_at first (take k later) (length xs) (length_replies m xs)))
+    sym (ap concat (ap (λ (l : List (List ℕ)). drop (length xs) l) taken ∙ drop_at first (take k later) (length xs) (length_replies m xs)))
 
 ends_opened : (status : Status) → EndsLine status → ((place : ℕ) → status ≡ Damaged place → ⊥) → IsOpened status
 ends_opened status ends whole = record { rooted = running_rooted status (inr (inr (inr ends))); whole = whole }
@@ -90,7 +90,7 @@ interrupted_not_full status need gap (inr (inr is)) other = cc
 
 pub reports_none : (limit : ℕ) (held : Holding) (m : Machine) (lines asked : List (List ℕ)) (e : DiskState) (status : Status) → IsInterrupted status → ReportsFrom limit held m lines asked [] e status
 reports_none limit held m lines asked e status stopped = record {
-  begins = (joined (replies (after m lines) asked), refl);
+  begins = (concat (replies (after m lines) asked), refl);
   all = λ done. absurd (interrupted_not_done status stopped done);
   stands = λ done. absurd (interrupted_not_done status stopped done);
   levels = λ done. absurd (interrupted_not_done status stopped done);
@@ -107,7 +107,7 @@ reports_early d e session held m lines asked given status here stops ends =
     let stopped : StopsLine status = ends_whole status ends stops.undamaged in
     let only : IsFullOnly d.limit held m lines given status = stops.full held here in
     record {
-      begins = (joined (replies (after m lines) asked), refl);
+      begins = (concat (replies (after m lines) asked), refl);
       all = λ done. absurd (ends_not_done status ends done);
       stands = λ done. absurd (ends_not_done status ends done);
       levels = λ done. absurd (ends_not_done status ends done);
@@ -136,7 +136,7 @@ reports_late tells d e f s0 s1 held m lines asked silent given status here fed s
         only = λ need gap is.
             let found = only need gap is in
             (length lines + found.0, over_on d.limit e.limit m held done.now lines asked found.0 need gap same done.is found.1, found.2 ∙ given_behind_all m lines asked found.0);
-        always = (full_exactly d.limit m held (lines ++ asked) (joined (replies m lines) ++ given) status (full_on d.limit e.limit m held done.now lines asked given status same done.is only) (inl stopped)).always;
+        always = (full_exactly d.limit m held (lines ++ asked) (concat (replies m lines) ++ given) status (full_on d.limit e.limit m held done.now lines asked given status same done.is only) (inl stopped)).always;
       };
       opened = ends_opened status ends stops.undamaged;
     }
@@ -187,7 +187,7 @@ demo_unmade tells lines asked told d e status ends not_done exists found narrow 
   ends = inl ends;
   given = [];
   gave = gives_none told;
-  begins = λ tell. (joined (replies (after (started_at empty) lines) asked), refl);
+  begins = λ tell. (concat (replies (after (started_at empty) lines) asked), refl);
   opened = λ tell. init_opened status ends;
   exists = exists;
   found = found;

@@ -1,7 +1,7 @@
 -- Laws of lines that were answered.
 use Rattle.std.proofs.Common.{◌≡◌, ℕ, ◌<◌, List, [], ◌∷◌, ◌++◌, Option, length, map, refl, ap, sym, subst, ◌∙◌, append-nil, Ok, Err}
 use Rattle.alta_console.specs.Giving.{Gives}
-use Rattle.alta_console.specs.Replies.{joined}
+use Rattle.std.specs.List.{concat}
 use Rattle.alta_console.specs.declared.event.Event.{Event}
 use Rattle.alta_console.proofs.GivingLaws.{gives_on, gives_none}
 use Rattle.alta_console.proofs.ReplyLaws.{joined_append}
@@ -57,7 +57,7 @@ fed_clip tells a b d e s0 s1 xs ys same fed = record {
   same_limit = fed.same_limit;
   keeps = keeps_clip s0 s1 xs ys same fed.keeps;
   each = λ m tell agrees. let one : FedFrom tells d e s0 s1 xs fed.given m = fed.each m tell agrees in record {
-    given_is = one.given_is ∙ ap joined (replies_same m xs ys same);
+    given_is = one.given_is ∙ ap concat (replies_same m xs ys same);
     agrees = subst (λ (t : Machine). AgreesOn tells e s1 t) (after_same m xs ys same) one.agrees;
     images = leaves_as d e (StandsAfterSome m xs) (StandsAfterSome m ys) one.images (λ z here. some_clip m xs ys z same here);
     works = λ held here. worked_as _ _ (IsBy s1 e.content) (worked_same d.limit m held xs ys same) (one.works held here);
@@ -75,7 +75,7 @@ fed_on tells a b c d e f s0 s1 s2 xs ys first then_ = record {
       let one : FedFrom tells d e s0 s1 xs first.given m = first.each m tell agrees in
       let two : FedFrom tells e f s1 s2 ys then_.given (after m xs) = then_.each (after m xs) tell one.agrees in
       record {
-        given_is = ap (λ (l : List ℕ). l ++ then_.given) one.given_is ∙ ap (λ (l : List ℕ). joined (replies m xs) ++ l) two.given_is ∙ sym (joined_append (replies m xs) (replies (after m xs) ys)) ∙ ap joined (sym (replies_append m xs ys));
+        given_is = ap (λ (l : List ℕ). l ++ then_.given) one.given_is ∙ ap (λ (l : List ℕ). concat (replies m xs) ++ l) two.given_is ∙ sym (joined_append (replies m xs) (replies (after m xs) ys)) ∙ ap concat (sym (replies_append m xs ys));
         agrees = subst (λ (t : Machine). AgreesOn tells f s2 t) (sym (after_append m xs ys)) two.agrees;
         images = leaves_on d e f m xs ys one.images two.images;
         works = λ held here.
@@ -123,7 +123,7 @@ stops_more tells a b d e s0 xs ys status stops = record {
     works = λ held here all.
         let none : ys ≡ [] = none_behind m xs ys stops.given e.images one.progress all in
         let same : xs ++ ys ≡ xs = ap (λ (l : List (List ℕ)). xs ++ l) none ∙ append-nil xs in
-        subst (λ (l : List (List ℕ)). IsDone (worked_lines d.limit m held l) e) (sym same) (one.works held here (all ∙ ap (λ (l : List (List ℕ)). joined (replies m l)) same));
+        subst (λ (l : List (List ℕ)). IsDone (worked_lines d.limit m held l) e) (sym same) (one.works held here (all ∙ ap (λ (l : List (List ℕ)). concat (replies m l)) same));
     undamaged = one.undamaged;
     spends = spends_more d e s0 m xs ys one.spends;
   };
@@ -138,7 +138,7 @@ stops_clip tells a b d e s0 xs ys status same stops = record {
     images = leaves_as d e (StandsAfterSome m xs) (StandsAfterSome m ys) one.images (λ z here. some_clip m xs ys z same here);
     full = λ held here. full_clip d.limit m held xs ys stops.given status same (one.full held here);
     works = λ held here all.
-        let done : IsDone (worked_lines d.limit m held xs) e = one.works held here (all ∙ ap joined (sym (replies_same m xs ys same))) in
+        let done : IsDone (worked_lines d.limit m held xs) e = one.works held here (all ∙ ap concat (sym (replies_same m xs ys same))) in
         (worked_as _ _ (IsOn e.content) (worked_same d.limit m held xs ys same) done.0, done.1);
     undamaged = one.undamaged;
     spends = spends_clip d e s0 m xs ys same one.spends;

@@ -3,7 +3,7 @@ use Rattle.std.proofs.Common.{◌≡◌, ℕ, ◌+◌, ◌-◌, ◌<◌, ◌≤�
 use Rattle.std.proofs.lemmas.Bool.{cases_lt}
 use Rattle.std.proofs.lemmas.List.{take-append-le, take-append-drop}
 use Rattle.std.proofs.Math.Seq.{take-add, take-append-add}
-use Rattle.alta_console.specs.Replies.{joined}
+use Rattle.std.specs.List.{concat}
 use Rattle.alta_console.proofs.ReplyLaws.{joined_append}
 use Rattle.alta_images.specs.Holding.{Holding}
 use Rattle.alta_images.specs.Working.{Full as Place}
@@ -41,17 +41,17 @@ over_on limit later m held now xs ys k need gap same done over = record {
   wanting = work_on_next limit later m held now xs ys k same done ∙ over.wanting;
 }
 
-given_on : (m : Machine) (xs ys : List (List ℕ)) (k : ℕ) → joined (replies m xs) ++ joined (take k (replies (after m xs) ys)) ≡ joined (take (length xs + k) (replies m (xs ++ ys)))
+given_on : (m : Machine) (xs ys : List (List ℕ)) (k : ℕ) → concat (replies m xs) ++ concat (take k (replies (after m xs) ys)) ≡ concat (take (length xs + k) (replies m (xs ++ ys)))
 given_on m xs ys k =
     let first : List (List ℕ) = replies m xs in
     let later : List (List ℕ) = replies (after m xs) ys in
-    sym (joined_append first (take k later)) ∙ ap joined (sym (take-append-add first later k) ∙ ap (λ (n : ℕ). take (n + k) (first ++ later)) (length_replies m xs) ∙ ap (λ (l : List (List ℕ)). take (length xs + k) l) (sym (replies_append m xs ys)))
+    sym (joined_append first (take k later)) ∙ ap concat (sym (take-append-add first later k) ∙ ap (λ (n : ℕ). take (n + k) (first ++ later)) (length_replies m xs) ∙ ap (λ (l : List (List ℕ)). take (length xs + k) l) (sym (replies_append m xs ys)))
 
 pub full_on : (limit later : ℕ) (m : Machine) (held now : Holding) (xs ys : List (List ℕ)) (given : List ℕ) (status : Status) → later ≡ limit → worked_lines limit m held xs ≡ Ok now → IsFullOnly later now (after m xs) ys given status
-    → IsFullOnly limit held m (xs ++ ys) (joined (replies m xs) ++ given) status
+    → IsFullOnly limit held m (xs ++ ys) (concat (replies m xs) ++ given) status
 full_on limit later m held now xs ys given status same done only = λ need gap is.
     let found = only need gap is in
-    (length xs + found.0, over_on limit later m held now xs ys found.0 need gap same done found.1, ap (λ (l : List ℕ). joined (replies m xs) ++ l) found.2 ∙ given_on m xs ys found.0)
+    (length xs + found.0, over_on limit later m held now xs ys found.0 need gap same done found.1, ap (λ (l : List ℕ). concat (replies m xs) ++ l) found.2 ∙ given_on m xs ys found.0)
 
 -- with lines behind that were not reached
 work_more : (limit : ℕ) (m : Machine) (held : Holding) (xs ys : List (List ℕ)) (k : ℕ) → k ≤ length xs → worked_lines limit m held (take k (xs ++ ys)) ≡ worked_lines limit m held (take k xs)
@@ -72,7 +72,7 @@ given_more m xs ys k within =
 pub full_more : (limit : ℕ) (m : Machine) (held : Holding) (xs ys : List (List ℕ)) (given : List ℕ) (status : Status) → IsFullOnly limit held m xs given status → IsFullOnly limit held m (xs ++ ys) given status
 full_more limit m held xs ys given status only = λ need gap is.
     let found = only need gap is in
-    (found.0, over_more limit m held xs ys found.0 need gap found.1, found.2 ∙ ap joined (given_more m xs ys found.0 (omega (arith, found.1.within))))
+    (found.0, over_more limit m held xs ys found.0 need gap found.1, found.2 ∙ ap concat (given_more m xs ys found.0 (omega (arith, found.1.within))))
 
 -- of lines that are the same up to a clip
 over_clip : (limit : ℕ) (m : Machine) (held : Holding) (xs ys : List (List ℕ)) (k need gap : ℕ) → map clip xs ≡ map clip ys → Overflows limit held m xs k need gap → Overflows limit held m ys k need gap
@@ -86,7 +86,7 @@ over_clip limit m held xs ys k need gap same over = record {
 pub full_clip : (limit : ℕ) (m : Machine) (held : Holding) (xs ys : List (List ℕ)) (given : List ℕ) (status : Status) → map clip xs ≡ map clip ys → IsFullOnly limit held m xs given status → IsFullOnly limit held m ys given status
 full_clip limit m held xs ys given status same only = λ need gap is.
     let found = only need gap is in
-    (found.0, over_clip limit m held xs ys found.0 need gap same found.1, found.2 ∙ ap (λ (l : List (List ℕ)). joined (take found.0 l)) (replies_same m xs ys same))
+    (found.0, over_clip limit m held xs ys found.0 need gap same found.1, found.2 ∙ ap (λ (l : List (List ℕ)). concat (take found.0 l)) (replies_same m xs ys same))
 
 -- one line
 pub over_first : (limit : ℕ) (m : Machine) (held : Holding) (line : List ℕ) (need gap : ℕ) → worked_lines limit m held (line ∷ []) ≡ Err (place need gap) → Overflows limit held m (line ∷ []) 0 need gap

@@ -2,7 +2,8 @@
 use Rattle.std.proofs.Common.{◌≡◌, ℕ, ◌+◌, ◌<◌, ◌≤◌, inl, inr, List, [], ◌∷◌, ◌++◌, length, take, drop, map, refl, ap, sym, subst, ◌∙◌, append_assoc, append-nil, length-append, arith}
 use Rattle.std.proofs.lemmas.List.{take-append-le, drop-append-le}
 use Rattle.std.proofs.Math.Seq.{take-append-add, drop-append-add}
-use Rattle.alta_console.specs.Replies.{joined, IsPrefix, IsAcked, IsPartOfFirst}
+use Rattle.std.specs.List.{concat}
+use Rattle.alta_console.specs.Replies.{IsPrefix, IsAcked, IsPartOfFirst}
 use Rattle.alta_console.proofs.ReplyLaws.{joined_append, joined_parts, part_begins, acked_part}
 use Rattle.alta_session.specs.Keeping.{clip}
 use Rattle.alta_session.specs.Machine.{Machine, step, after, replies}
@@ -48,13 +49,13 @@ some_clip m xs ys image same some = record {
 }
 
 -- what was given begins what is to be given
-pub progress_begins : (m : Machine) (lines : List (List ℕ)) (given : List ℕ) (images : List ℕ → Type 0) → Progress m lines given images → IsPrefix given (joined (replies m lines))
+pub progress_begins : (m : Machine) (lines : List (List ℕ)) (given : List ℕ) (images : List ℕ → Type 0) → Progress m lines given images → IsPrefix given (concat (replies m lines))
 progress_begins m lines given images p =
     let all : List (List ℕ) = replies m lines in
-    let begins : IsPrefix p.part (joined (drop p.answered all)) = part_begins (drop p.answered all) p.part p.started in (
+    let begins : IsPrefix p.part (concat (drop p.answered all)) = part_begins (drop p.answered all) p.part p.started in (
       begins.0,
-      joined_parts p.answered all ∙ ap (λ (l : List ℕ). joined (take p.answered all) ++ l) begins.1
-          ∙ sym (append_assoc (joined (take p.answered all)) p.part begins.0) ∙ ap (λ (l : List ℕ). l ++ begins.0) (sym p.given_is),
+      joined_parts p.answered all ∙ ap (λ (l : List ℕ). concat (take p.answered all) ++ l) begins.1
+          ∙ sym (append_assoc (concat (take p.answered all)) p.part begins.0) ∙ ap (λ (l : List ℕ). l ++ begins.0) (sym p.given_is),
     )
 
 pub progress_acked : (m : Machine) (lines : List (List ℕ)) (given : List ℕ) (images : List ℕ → Type 0) (p : Progress m lines given images) → IsAcked p.answered (replies m lines) given
@@ -85,7 +86,7 @@ after_on answered m xs ys image r = record {
 }
 
 -- lines that were answered before
-pub progress_on : (m : Machine) (xs ys : List (List ℕ)) (given : List ℕ) (images : List ℕ → Type 0) → Progress (after m xs) ys given images → Progress m (xs ++ ys) (joined (replies m xs) ++ given) images
+pub progress_on : (m : Machine) (xs ys : List (List ℕ)) (given : List ℕ) (images : List ℕ → Type 0) → Progress (after m xs) ys given images → Progress m (xs ++ ys) (concat (replies m xs) ++ given) images
 progress_on m xs ys given images p =
     let first : List (List ℕ) = replies m xs in
     let later : List (List ℕ) = replies (after m xs) ys in
@@ -99,18 +100,18 @@ progress_on m xs ys given images p =
       answered = length xs + p.answered;
       part = p.part;
       some = omega (arith, length-append xs ys, p.some);
-      given_is = ap (λ (l : List ℕ). joined first ++ l) p.given_is ∙ sym (append_assoc (joined first) (joined (take p.answered later)) p.part)
-          ∙ ap (λ (l : List ℕ). l ++ p.part) (sym (joined_append first (take p.answered later))) ∙ ap (λ (l : List (List ℕ)). joined l ++ p.part) (sym taken);
+      given_is = ap (λ (l : List ℕ). concat first ++ l) p.given_is ∙ sym (append_assoc (concat first) (concat (take p.answered later)) p.part)
+          ∙ ap (λ (l : List ℕ). l ++ p.part) (sym (joined_append first (take p.answered later))) ∙ ap (λ (l : List (List ℕ)). concat l ++ p.part) (sym taken);
       started = subst P (sym dropped) p.started;
       stand = λ t h. after_on p.answered m xs ys t (p.stand t h);
     }
 
 -- all lines were answered
-pub progress_full : (m : Machine) (lines : List (List ℕ)) (images : List ℕ → Type 0) → ((image : List ℕ) → images image → StandsFor (after m lines).state image) → Progress m lines (joined (replies m lines)) images
+pub progress_full : (m : Machine) (lines : List (List ℕ)) (images : List ℕ → Type 0) → ((image : List ℕ) → images image → StandsFor (after m lines).state image) → Progress m lines (concat (replies m lines)) images
 progress_full m lines images stand =
-    let P : List (List ℕ) → Type 0 = λ l. Progress m l (joined (replies m lines) ++ []) images in
+    let P : List (List ℕ) → Type 0 = λ l. Progress m l (concat (replies m lines) ++ []) images in
     let Q : List ℕ → Type 0 = λ g. Progress m lines g images in
-    subst Q (append-nil (joined (replies m lines))) (subst P (append-nil lines) (progress_on m lines [] [] images (progress_none (after m lines) [] images stand)))
+    subst Q (append-nil (concat (replies m lines))) (subst P (append-nil lines) (progress_on m lines [] [] images (progress_none (after m lines) [] images stand)))
 
 after_clipped : (answered : ℕ) (m : Machine) (xs ys : List (List ℕ)) (image : List ℕ) → map clip xs ≡ map clip ys → StandsAfter answered m xs image → StandsAfter answered m ys image
 after_clipped answered m xs ys image same r = record {
@@ -130,7 +131,7 @@ progress_clip m xs ys given images same p =
       answered = p.answered;
       part = p.part;
       some = omega (arith, length_same m xs ys same, p.some);
-      given_is = p.given_is ∙ ap (λ (l : List (List ℕ)). joined (take p.answered l) ++ p.part) all;
+      given_is = p.given_is ∙ ap (λ (l : List (List ℕ)). concat (take p.answered l) ++ p.part) all;
       started = subst P all p.started;
       stand = λ t h. after_clipped p.answered m xs ys t same (p.stand t h);
     }
@@ -165,7 +166,7 @@ progress_more m xs ys given images p =
       answered = p.answered;
       part = p.part;
       some = omega (arith, length-append xs ys, p.some);
-      given_is = p.given_is ∙ ap (λ (l : List (List ℕ)). joined l ++ p.part) (sym taken);
+      given_is = p.given_is ∙ ap (λ (l : List (List ℕ)). concat l ++ p.part) (sym taken);
       started = subst P (sym dropped) (part_more (drop p.answered first) (after m xs) ys p.part p.started);
       stand = λ t h. after_more p.answered m xs ys t (p.stand t h);
     }

@@ -2,7 +2,7 @@
 use Rattle.std.proofs.Common.{◌≡◌, ◌⊎◌, ℕ, zero, suc, ◌+◌, ◌<◌, ◌≤◌, inl, inr, true, List, [], ◌∷◌, ◌++◌, Option, length, take, map, refl, ap, sym, subst, ◌∙◌, append-nil, length-append, arith, Ok}
 use Rattle.alta_console.specs.Giving.{AllGiven}
 use Rattle.alta_console.specs.Lines.{whole, whole_from, begun, begun_from, last_piece}
-use Rattle.alta_console.specs.Replies.{joined}
+use Rattle.std.specs.List.{concat}
 use Rattle.alta_console.specs.Transcript.{given_in, taken_in, has_ended, lines_in, TakesAt, Grows, Consumes}
 use Rattle.alta_console.specs.declared.event.Event.{Event}
 use Rattle.alta_console.specs.declared.event.Event.TheVariants.{Taken, Ended}
@@ -38,20 +38,20 @@ use Rattle.alta_store.proofs.Agreements.{images_stand}
 use Rattle.alta_session.proofs.SpendingLaws.{keeps_on, spends_none, spends_on}
 
 -- A run that was in time goes on by a take, and then by gives: it is in time where all was answered before the take.
-in_time_on : (m : Machine) (run : List Event) (event : Event) (gives : List Event) → AnswersInTime m run → given_in run ≡ joined (replies m (whole (taken_in run))) → AllGiven gives → AnswersInTime m (run ++ event ∷ gives)
+in_time_on : (m : Machine) (run : List Event) (event : Event) (gives : List Event) → AnswersInTime m run → given_in run ≡ concat (replies m (whole (taken_in run))) → AllGiven gives → AnswersInTime m (run ++ event ∷ gives)
 in_time_on m run event gives before now given k t =
-    let P : List Event → Type 0 = λ l. given_in l ≡ joined (replies m (whole (taken_in l))) in
+    let P : List Event → Type 0 = λ l. given_in l ≡ concat (replies m (whole (taken_in l))) in
     elim (takes_in run (event ∷ gives) k t) [ inl here ↦ subst P (sym here.1) (before k here.0) | inr there ↦ subst P (sym there.2) (at_event there.0 there.1) ]
   where
-    at_event : (j : ℕ) → TakesAt (event ∷ gives) j → given_in (run ++ take j (event ∷ gives)) ≡ joined (replies m (whole (taken_in (run ++ take j (event ∷ gives)))))
+    at_event : (j : ℕ) → TakesAt (event ∷ gives) j → given_in (run ++ take j (event ∷ gives)) ≡ concat (replies m (whole (taken_in (run ++ take j (event ∷ gives)))))
     at_event zero t =
-        let P : List Event → Type 0 = λ l. given_in l ≡ joined (replies m (whole (taken_in l))) in
+        let P : List Event → Type 0 = λ l. given_in l ≡ concat (replies m (whole (taken_in l))) in
         subst P (sym (append-nil run)) now
     at_event (suc j) t = absurd (given_takes_at gives j given (takes_later event gives j t))
 
 -- what a run from a machine keeps
 runs_from : (limit : ℕ) (d e : DiskState) (session : Session) (run : List Event) (status : Status) (m : Machine) → AnswersInTime m run → Progress m (lines_in limit run) (given_in run) e.images
-    → (status ≡ Done → (has_ended run ≡ true) × (given_in run ≡ joined (replies m (lines_in limit run)))) → LeavesOnly (StandsAfterSome m (lines_in limit run)) d e
+    → (status ≡ Done → (has_ended run ≡ true) × (given_in run ≡ concat (replies m (lines_in limit run)))) → LeavesOnly (StandsAfterSome m (lines_in limit run)) d e
     → ((held : Holding) → IsBy session d.content held → IsFullExactly d.limit held m (lines_in limit run) (given_in run) status) → ((held : Holding) → IsBy session d.content held → AnswersAll limit m run → IsDone (worked_lines d.limit m held (lines_in limit run)) e)
     → ((place : ℕ) → status ≡ Damaged place → ⊥) → Spends d e session m (lines_in limit run) → RunsFrom limit d e session run status m
 runs_from limit d e session run status m time p done leaves full levels never spends = record {
@@ -93,12 +93,12 @@ given_on run gives event given none is =
 
 after_from : (tells : Type 0) (limit : ℕ) (d e f : DiskState) (s0 s1 : Session) (run gives : List Event) (event : Event) (given : List ℕ) (later : List (List ℕ)) (status : Status) (m : Machine) → GoingFrom tells d e s0 s1 run m
     → KeepsStore s0 s1 (whole (taken_in run)) → e.limit ≡ d.limit → StopsWithinFrom e f s1 later given status (after m (whole (taken_in run))) → AllGiven gives → given_in gives ≡ given → given_in (event ∷ []) ≡ [] → lines_in limit (run ++ event ∷ gives) ≡ whole (taken_in run) ++ later
-    → (status ≡ Done → (has_ended (run ++ event ∷ gives) ≡ true) × (given ≡ joined (replies (after m (whole (taken_in run))) later)))
+    → (status ≡ Done → (has_ended (run ++ event ∷ gives) ≡ true) × (given ≡ concat (replies (after m (whole (taken_in run))) later)))
     → StopsLine status ⊎ ((held : Holding) → IsBy s1 e.content held → IsWorked (worked_lines e.limit (after m (whole (taken_in run))) held later) (IsOn f.content)) → RunsFrom limit d f s0 (run ++ event ∷ gives) status m
 after_from tells limit d e f s0 s1 run gives event given later status m going kept same stops all_given gave none lines done ends =
     let before : List (List ℕ) = whole (taken_in run) in
     let now : List Event = run ++ event ∷ gives in
-    let given_is : given_in now ≡ joined (replies m before) ++ given = given_on run gives event given none gave ∙ ap (λ (l : List ℕ). l ++ given) going.given_is in
+    let given_is : given_in now ≡ concat (replies m before) ++ given = given_on run gives event given none gave ∙ ap (λ (l : List ℕ). l ++ given) going.given_is in
     let P : List (List ℕ) → Type 0 = λ l. Progress m l (given_in now) f.images in
     let Q : List ℕ → Type 0 = λ l. Progress m (before ++ later) l f.images in
     let R : List (List ℕ) → Type 0 = λ l. LeavesOnly (StandsAfterSome m l) d f in
@@ -108,7 +108,7 @@ after_from tells limit d e f s0 s1 run gives event given later status m going ke
     let S : List (List ℕ) → Type 0 = λ l. Spends d f s0 m l in
     runs_from limit d f s0 now status m (in_time_on m run event gives going.in_time going.given_is all_given)
     (subst P (sym lines) (subst Q (sym given_is) (progress_on m before later given f.images stops.progress)))
-    (λ is. ((done is).0, given_is ∙ ap (λ (l : List ℕ). joined (replies m before) ++ l) (done is).1 ∙ sym (joined_append (replies m before) (replies (after m before) later)) ∙ ap joined (sym (replies_append m before later) ∙ ap (λ (l : List (List ℕ)). replies m l) (sym lines))))
+    (λ is. ((done is).0, given_is ∙ ap (λ (l : List ℕ). concat (replies m before) ++ l) (done is).1 ∙ sym (joined_append (replies m before) (replies (after m before) later)) ∙ ap concat (sym (replies_append m before later) ∙ ap (λ (l : List (List ℕ)). replies m l) (sym lines))))
     (subst R (sym lines) (leaves_on d e f m before later going.images stops.images))
     (λ held here.
     let done : IsWorked (worked_lines d.limit m held before) (IsBy s1 e.content) = going.works held here in
@@ -118,7 +118,7 @@ after_from tells limit d e f s0 s1 run gives event given later status m going ke
     (λ held here all.
     let done : IsWorked (worked_lines d.limit m held before) (IsBy s1 e.content) = going.works held here in
     subst (D held) (sym lines) (done_on d.limit e.limit m held done.now before later f same done.is
-    (stops.works done.now done.held (given_behind m before later (joined (replies m before)) given refl (sym given_is ∙ all ∙ ap (λ (l : List (List ℕ)). joined (replies m l)) lines)))))
+    (stops.works done.now done.held (given_behind m before later (concat (replies m before)) given refl (sym given_is ∙ all ∙ ap (λ (l : List (List ℕ)). concat (replies m l)) lines)))))
     stops.undamaged (subst S (sym lines) (spends_on d e f s0 s1 m before later going.spends kept stops.spends))
 
 -- at the start
@@ -186,8 +186,8 @@ goes_on tells limit a b c d la lb lc ld e f h s0 s1 s2 kept kept_now taken piece
           let two : FedFrom tells f h s1 s2 later fed_now.given (after m (whole bytes)) = fed_now.each (after m (whole bytes)) tell one.agrees in
           record {
             given_is = given_on run gives (Taken piece) fed_now.given refl fed_now.gave.3 ∙ ap (λ (l : List ℕ). l ++ fed_now.given) one.given_is
-                ∙ ap (λ (l : List ℕ). joined (replies m (whole bytes)) ++ l) two.given_is ∙ sym (joined_append (replies m (whole bytes)) (replies (after m (whole bytes)) later))
-                ∙ ap joined (sym (replies_append m (whole bytes) later) ∙ ap (λ (l : List (List ℕ)). replies m l) (sym lines));
+                ∙ ap (λ (l : List ℕ). concat (replies m (whole bytes)) ++ l) two.given_is ∙ sym (joined_append (replies m (whole bytes)) (replies (after m (whole bytes)) later))
+                ∙ ap concat (sym (replies_append m (whole bytes) later) ∙ ap (λ (l : List (List ℕ)). replies m l) (sym lines));
             in_time = in_time_on m run (Taken piece) gives one.in_time one.given_is fed_now.gave.2;
             agrees = subst (λ (t : Machine). AgreesOn tells h s2 t) (sym (after_append m (whole bytes) later) ∙ ap (λ (l : List (List ℕ)). after m l) (sym lines)) two.agrees;
             images = subst (λ (l : List (List ℕ)). LeavesOnly (StandsAfterSome m l) e h) (sym lines) (leaves_on e f h m (whole bytes) later one.images two.images);
@@ -249,7 +249,7 @@ ended_on run gives given = taken_in_append run (Ended ∷ gives) ∙ ap (λ (l :
 
 -- the input ended, and of a last line some was answered
 ended_with : (tells : Type 0) (limit : ℕ) (a b c d : Option (List Event)) (la lb lc ld : Option (List ℕ)) (e f h : DiskState) (s0 s1 : Session) (kept : List ℕ) (taken : ℕ) (status : Status) (goes : Goes tells limit a b la lb e f s0 s1 kept taken) → Grows b c (Ended ∷ []) → Consumes lb lc []
-    → (stops : StopsWithin tells c d f h s1 (last_piece (begun (taken_in goes.run))) status) → ld ≡ lc → ((m : Machine) → tells → AgreesOn tells f s1 m → status ≡ Done → stops.given ≡ joined (replies m (last_piece (begun (taken_in goes.run))))) → (status ≡ TooLong → ⊥)
+    → (stops : StopsWithin tells c d f h s1 (last_piece (begun (taken_in goes.run))) status) → ld ≡ lc → ((m : Machine) → tells → AgreesOn tells f s1 m → status ≡ Done → stops.given ≡ concat (replies m (last_piece (begun (taken_in goes.run))))) → (status ≡ TooLong → ⊥)
     → ((m : Machine) → tells → AgreesOn tells f s1 m → StopsLine status ⊎ ((held : Holding) → IsBy s1 f.content held → IsWorked (worked_lines f.limit m held (last_piece (begun (taken_in goes.run)))) (IsOn h.content))) → Runs tells limit a d la ld e h s0 status
 ended_with tells limit a b c d la lb lc ld e f h s0 s1 kept taken status goes took more stops same all not_long ends =
     let run : List Event = goes.run in

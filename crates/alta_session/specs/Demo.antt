@@ -1,7 +1,8 @@
 -- A demo: an index is made, lines are answered without giving their replies, and then others whose replies are given.
 use Rattle.std.specs.Prelude.{◌≡◌, ◌⊎◌, ◌<◌, ◌≤◌, ℕ, List, [], ◌∷◌, ◌++◌, Option, None, length, take, drop, codes, decimal}
 use Rattle.alta_console.specs.Giving.{Gives}
-use Rattle.alta_console.specs.Replies.{joined, IsPrefix}
+use Rattle.std.specs.List.{concat}
+use Rattle.alta_console.specs.Replies.{IsPrefix}
 use Rattle.alta_console.specs.declared.event.Event.{Event}
 use Rattle.alta_disk.specs.Disk.{DiskState, Stands}
 use Rattle.alta_images.specs.Holding.{Holding}
@@ -42,14 +43,14 @@ StopsObeying tells disk disk_now session lines status = StopsWithin tells None N
 -- lines before that one were given, and no more.
 pub record IsFullBehind (limit : ℕ) (held : Holding) (start : Machine) (lines asked : List (List ℕ)) (given : List ℕ) (status : Status) : Type 0 where
   pub only : (need gap : ℕ) → status ≡ Full need gap
-      → (answered : ℕ) × Overflows limit held start (lines ++ asked) answered need gap × (given ≡ joined (drop (length lines) (take answered (replies start (lines ++ asked)))))
+      → (answered : ℕ) × Overflows limit held start (lines ++ asked) answered need gap × (given ≡ concat (drop (length lines) (take answered (replies start (lines ++ asked)))))
   pub always : (answered need gap : ℕ) → Overflows limit held start (lines ++ asked) answered need gap → (status ≡ Full need gap) ⊎ IsInterrupted status
 
 -- Over an open index that has this: the replies to `asked` were given, and the disk has what the work of all lines makes of it, or it ended
 -- before.
 pub record ReportsFrom (limit : ℕ) (held : Holding) (start : Machine) (lines asked : List (List ℕ)) (given : List ℕ) (disk_now : DiskState) (status : Status) : Type 0 where
-  pub begins : IsPrefix given (joined (replies (after start lines) asked))
-  pub all : status ≡ Done → given ≡ joined (replies (after start lines) asked)
+  pub begins : IsPrefix given (concat (replies (after start lines) asked))
+  pub all : status ≡ Done → given ≡ concat (replies (after start lines) asked)
   pub stands : status ≡ Done → StandsFor (after start (lines ++ asked)).state disk_now.content
   -- nothing is pending then
   pub levels : status ≡ Done → IsDone (worked_lines limit start held (lines ++ asked)) disk_now
@@ -74,7 +75,7 @@ pub record Demonstrates (tells : Type 0) (lines asked : List (List ℕ)) (told t
   pub given : List ℕ
   pub gave : Gives told told_now given
   -- at every status
-  pub begins : tells → IsPrefix given (joined (replies (after (started_at empty) lines) asked))
+  pub begins : tells → IsPrefix given (concat (replies (after (started_at empty) lines) asked))
   pub opened : tells → IsOpened status
   -- where there is an index already, or the disk is too small for one
   pub exists : tells → status ≡ Exists → HasNoRoot disk.content → ⊥

@@ -1,7 +1,7 @@
 -- Lines that were all answered.
 use Rattle.std.specs.Prelude.{◌≡◌, ℕ, List, Option}
 use Rattle.alta_console.specs.Giving.{Gives}
-use Rattle.alta_console.specs.Replies.{joined}
+use Rattle.std.specs.List.{concat}
 use Rattle.alta_console.specs.declared.event.Event.{Event}
 use Rattle.alta_disk.specs.Disk.{DiskState, LeavesOnly}
 use Rattle.alta_images.specs.Holding.{Holding}
@@ -15,7 +15,7 @@ use Rattle.alta_session.specs.declared.session.Session.{Session}
 -- From this machine on the lines were answered, what is held then is what their work makes of what was held before, and at no moment was
 -- there an image of another state than after some.
 pub record FedFrom (tells : Type 0) (disk disk_now : DiskState) (session session_now : Session) (lines : List (List ℕ)) (given : List ℕ) (m : Machine) : Type 0 where
-  pub given_is : given ≡ joined (replies m lines)
+  pub given_is : given ≡ concat (replies m lines)
   pub agrees : AgreesOn tells disk_now session_now (after m lines)
   pub images : LeavesOnly (StandsAfterSome m lines) disk disk_now
   pub works : (held : Holding) → IsBy session disk.content held → IsWorked (worked_lines disk.limit m held lines) (IsBy session_now disk_now.content)

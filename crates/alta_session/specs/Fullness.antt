@@ -1,6 +1,6 @@
 -- The first line whose work finds no place.
 use Rattle.std.specs.Prelude.{◌≡◌, ◌⊎◌, ℕ, ◌+◌, ◌<◌, List, length, take, Ok, Err}
-use Rattle.alta_console.specs.Replies.{joined}
+use Rattle.std.specs.List.{concat}
 use Rattle.alta_disk.specs.Disk.{DiskState}
 use Rattle.alta_images.specs.Holding.{Holding}
 use Rattle.alta_session.specs.Machine.{Machine, replies}
@@ -20,7 +20,7 @@ pub record Overflows (limit : ℕ) (held : Holding) (start : Machine) (lines : L
 abbrev pub IsFullOnly : ℕ → Holding → Machine → List (List ℕ) → List ℕ → Status → Type 0
 IsFullOnly limit held start lines given status =
     (need gap : ℕ) → status ≡ Full need gap
-    → (answered : ℕ) × Overflows limit held start lines answered need gap × (given ≡ joined (take answered (replies start lines)))
+    → (answered : ℕ) × Overflows limit held start lines answered need gap × (given ≡ concat (take answered (replies start lines)))
 
 -- want of memory, or a fault of the disk or of giving, which is counted
 abbrev pub IsInterrupted : Status → Type 0

@@ -1,7 +1,7 @@
 -- A run that goes on.
 use Rattle.std.specs.Prelude.{◌≡◌, ◌≤◌, ℕ, false, List, Option, length}
 use Rattle.alta_console.specs.Lines.{whole, begun}
-use Rattle.alta_console.specs.Replies.{joined}
+use Rattle.std.specs.List.{concat}
 use Rattle.alta_console.specs.Transcript.{given_in, taken_in, has_ended, Grows, Consumes}
 use Rattle.alta_console.specs.declared.event.Event.{Event}
 use Rattle.alta_disk.specs.Disk.{DiskState, LeavesOnly}
@@ -17,7 +17,7 @@ use Rattle.alta_session.specs.declared.session.Session.{Session}
 
 -- From this machine on every whole line taken so far was answered.
 pub record GoingFrom (tells : Type 0) (disk disk_now : DiskState) (session session_now : Session) (run : List Event) (m : Machine) : Type 0 where
-  pub given_is : given_in run ≡ joined (replies m (whole (taken_in run)))
+  pub given_is : given_in run ≡ concat (replies m (whole (taken_in run)))
   pub in_time : AnswersInTime m run
   pub agrees : AgreesOn tells disk_now session_now (after m (whole (taken_in run)))
   pub images : LeavesOnly (StandsAfterSome m (whole (taken_in run))) disk disk_now

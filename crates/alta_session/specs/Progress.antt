@@ -1,7 +1,8 @@
 -- How far lines were answered, and what the disk may hold then.
 use Rattle.std.specs.Prelude.{◌≡◌, ◌≤◌, ℕ, ◌+◌, List, ◌++◌, Option, length, take, drop}
 use Rattle.alta_console.specs.Giving.{Gives}
-use Rattle.alta_console.specs.Replies.{joined, IsPartOfFirst}
+use Rattle.std.specs.List.{concat}
+use Rattle.alta_console.specs.Replies.{IsPartOfFirst}
 use Rattle.alta_console.specs.declared.event.Event.{Event}
 use Rattle.alta_disk.specs.Disk.{DiskState, LeavesOnly}
 use Rattle.alta_session.specs.Agreement.{AgreesOn}
@@ -35,7 +36,7 @@ pub record Progress (start : Machine) (lines : List (List ℕ)) (given : List �
   pub answered : ℕ
   pub part : List ℕ
   pub some : answered ≤ length lines
-  pub given_is : given ≡ joined (take answered (replies start lines)) ++ part
+  pub given_is : given ≡ concat (take answered (replies start lines)) ++ part
   pub started : IsPartOfFirst (drop answered (replies start lines)) part
   pub stand : (image : List ℕ) → images image → StandsAfter answered start lines image
 
@@ -44,7 +45,7 @@ pub record StopsWithinFrom (disk disk_now : DiskState) (session : Session) (line
   pub progress : Progress m lines given disk_now.images
   pub images : LeavesOnly (StandsAfterSome m lines) disk disk_now
   pub full : (held : Holding) → IsBy session disk.content held → IsFullOnly disk.limit held m lines given status
-  pub works : (held : Holding) → IsBy session disk.content held → given ≡ joined (replies m lines) → IsDone (worked_lines disk.limit m held lines) disk_now
+  pub works : (held : Holding) → IsBy session disk.content held → given ≡ concat (replies m lines) → IsDone (worked_lines disk.limit m held lines) disk_now
   pub undamaged : (place : ℕ) → status ≡ Damaged place → ⊥
   pub spends : Spends disk disk_now session m lines
 

@@ -1,7 +1,8 @@
 -- A whole run of a console and a disk.
 use Rattle.std.specs.Prelude.{◌≡◌, ◌<◌, ◌≤◌, ◌↔◌, ◌⊎◌, ℕ, ◌+◌, true, List, [], ◌∷◌, ◌++◌, Option, length, take, All}
 use Rattle.alta_console.specs.Lines.{whole}
-use Rattle.alta_console.specs.Replies.{joined, IsPrefix, IsAcked}
+use Rattle.std.specs.List.{concat}
+use Rattle.alta_console.specs.Replies.{IsPrefix, IsAcked}
 use Rattle.alta_console.specs.Transcript.{given_in, taken_in, has_ended, lines_in, TakesAt, Grows, Consumes}
 use Rattle.alta_console.specs.declared.event.Event.{Event}
 use Rattle.alta_console.specs.declared.event.Event.TheVariants.{Taken}
@@ -21,17 +22,17 @@ use Rattle.alta_images.specs.Standing.{StandsFor}
 
 -- At each take, what was given so far is the replies to the whole lines taken so far.
 abbrev pub AnswersInTime : Machine → List Event → Type 0
-AnswersInTime start run = (k : ℕ) → TakesAt run k → given_in (take k run) ≡ joined (replies start (whole (taken_in (take k run))))
+AnswersInTime start run = (k : ℕ) → TakesAt run k → given_in (take k run) ≡ concat (replies start (whole (taken_in (take k run))))
 
 -- What a run gives that begins at this machine and ends with this status: the replies of the machine.
 pub record Replies (limit : ℕ) (start : Machine) (run : List Event) (status : Status) : Type 0 where
-  pub begin : IsPrefix (given_in run) (joined (replies start (lines_in limit run)))
-  pub all : status ≡ Done → (has_ended run ≡ true) × (given_in run ≡ joined (replies start (lines_in limit run)))
+  pub begin : IsPrefix (given_in run) (concat (replies start (lines_in limit run)))
+  pub all : status ≡ Done → (has_ended run ≡ true) × (given_in run ≡ concat (replies start (lines_in limit run)))
   pub in_time : AnswersInTime start run
 
 -- each line was answered, and its reply given whole
 abbrev pub AnswersAll : ℕ → Machine → List Event → Type 0
-AnswersAll limit start run = given_in run ≡ joined (replies start (lines_in limit run))
+AnswersAll limit start run = given_in run ≡ concat (replies start (lines_in limit run))
 
 -- The image stands for the state after a prefix of the lines that holds each line whose reply was given whole, and at
 -- most one more.

@@ -36,6 +36,11 @@ pub record IsSummary (bytes : List ℕ) (b : ℕ) : Type 0 where
   pub rows : HasRows bytes b
   pub keeps : (k : ℕ) → k < fields_of b → Keeps bytes b k
 
+-- a table: its bytes, and how many rows it has
+pub record Table : Type 0 where
+  pub bytes : List ℕ
+  pub count : ℕ
+
 -- the length is wrong: its place is the end
 pub record HasWrongLength (bytes : List ℕ) (place : ℕ) : Type 0 where
   pub none : (b : ℕ) → HasRows bytes b → ⊥

@@ -7,13 +7,13 @@ use Rattle.alta_words.specs.declared.word.WordReader.{WordReader}
 use Rattle.alta_words.specs.Word.{IsPosting, HoldsBlock}
 
 abbrev pub word_list : WordReader → List ℕ
-word_list s = locations_of s.stream.bytes.now
+word_list s = locations_of s.stream
 
 abbrev pub word_place : WordReader → ℕ
-word_place s = slice_index_or (locations_of s.stream.bytes.now) (64 * s.row + s.index) TOP
+word_place s = slice_index_or (locations_of s.stream) (64 * s.row + s.index) TOP
 
 -- the reader is at a block of the list, and keeps where it stands and the list's last location
 abbrev pub IsSoundWord : WordReader → Type 0
 IsSoundWord s =
-    IsPosting s.stream.bytes.now s.summary.bytes.now s.summary.count × HoldsBlock (locations_of s.stream.bytes.now) s.block.items s.row s.index s.before
+    IsPosting s.stream s.summary.bytes s.summary.count × HoldsBlock (locations_of s.stream) s.block.items s.row s.index s.before
     × (s.at ≡ word_place s) × (s.end ≡ pred_of (word_list s) TOP)

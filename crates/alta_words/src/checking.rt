@@ -34,7 +34,7 @@ pub struct Bounds {
 // How many of the first rows are the blocks of their number, after one more block.
 fn same_after(table: &Summary<'_>, same: usize, block: usize, at: usize, span: &BlockSpan) -> usize
     requires { same ≤ block }
-    ensures { IsSameAfter table.now.bytes.now table.now.count same block at span.now.first span.now.last result }
+    ensures { IsSameAfter table.now.bytes table.now.count same block at span.now.first span.now.last result }
 {
     if same < block {
         return same;
@@ -75,9 +75,9 @@ fn are_all_same(rows: usize, blocks: usize, same: usize) -> bool
 
 // Reads the stream block by block, beside the rows of the summary.
 fn compare(stream: &[u8], table: &Summary<'_>) -> Result<Bounds, PostingFault>
-    ensures posting { IfOk result (λ bounds. IsPosting stream.now table.now.bytes.now bounds.rows) }
+    ensures posting { IfOk result (λ bounds. IsPosting stream.now table.now.bytes bounds.rows) }
     ensures bounds { IfOk result (λ bounds. HasBounds (locations_of stream.now) bounds.count bounds.first bounds.last) }
-    ensures fault { IfErr result (λ fault. IsPostingFault stream.now table.now.bytes.now fault) }
+    ensures fault { IfErr result (λ fault. IsPostingFault stream.now table.now.bytes fault) }
 {
     let mut at = 0;
     let mut last: u64 = 0;

@@ -1,5 +1,5 @@
 // A coded list that readers may borrow.
-ghost use Rattle.std.specs.Prelude.{◌≡◌, ℕ, ◌+◌, length, slice_index, IfOk, IfErr, IsOk};
+ghost use Rattle.std.specs.Prelude.{◌≡◌, ℕ, ◌+◌, List, length, slice_index, IfOk, IfErr, IsOk};
 ghost use Rattle.alta_codec.specs.Rising.{first_from, pred_of};
 ghost use Rattle.alta_codec.specs.declared.location.TheConstants.{TOP};
 ghost use Rattle.alta_postings.specs.Deltas.{locations_of};
@@ -12,9 +12,10 @@ use alta_codec::{Steps, TOP};
 use alta_postings::Stream;
 use alta_reader::Reader;
 use alta_summary::Summary;
+use std::marker::Model;
 use std::sync::ledger::Ledger;
 
-/// A stream and the summary that belongs to it. The type keeps that they agree.
+/// A stream and the summary that belongs to it. Contracts see the list of the stream's locations.
 #[derive(Drop)]
 pub struct Posting {
     stream: Vec<u8>,
@@ -23,8 +24,14 @@ pub struct Posting {
     count: u64,
     first: u64,
     last: u64,
-    ghost agrees: { IsPosting stream.items summary.items rows },
-    ghost bounded: { HasBounds (locations_of stream.items) count first last },
+}
+
+impl Model for Posting {
+    ghost Value = { List ℕ };
+
+    ghost view = { λ p. locations_of p.stream.items };
+
+    ghost invariant = { λ p. IsPosting p.stream.items p.summary.items p.rows × HasBounds (locations_of p.stream.items) p.count p.first p.last };
 }
 
 impl Posting {
@@ -34,9 +41,8 @@ impl Posting {
     /// least number at which the row is not the block, or one of the two is missing. A stream of at most one block
     /// agrees with the empty summary.
     pub fn check(stream: Vec<u8>, summary: Vec<u8>) -> Result<Posting, PostingFault>
-        ensures stream { IfOk result (λ posting. posting.stream.items ≡ stream.items) }
-        ensures summary { IfOk result (λ posting. posting.summary.items ≡ summary.items) }
-        ensures agrees { IfOk result (λ posting. IsPosting stream.items summary.items posting.rows) }
+        ensures list { IfOk result (λ posting. posting ≡ locations_of stream.items) }
+        ensures agrees { IsOk result → (b : ℕ) × IsPosting stream.items summary.items b }
         ensures never { (b : ℕ) → IsPosting stream.items summary.items b → IsOk result }
         ensures fault { IfErr result (λ fault. IsPostingFault stream.items summary.items fault) }
     {
@@ -55,21 +61,21 @@ impl Posting {
 
     /// How many locations the list has.
     pub fn list_len(&self) -> u64
-        ensures { result ≡ length (locations_of self.now.stream.items) }
+        ensures { result ≡ length self.now }
     {
         self.count
     }
 
     /// The first location, 0 for the empty list.
     pub fn first(&self) -> u64
-        ensures { result ≡ slice_index (locations_of self.now.stream.items) 0 }
+        ensures { result ≡ slice_index self.now 0 }
     {
         self.first
     }
 
     /// The last location, 0 for the empty list.
     pub fn last(&self) -> u64
-        ensures { result ≡ pred_of (locations_of self.now.stream.items) TOP }
+        ensures { result ≡ pred_of self.now TOP }
     {
         self.last
     }
@@ -78,10 +84,10 @@ impl Posting {
     /// one step.
     pub fn reader<'a, L: Ledger>(&'a self, steps: &mut Steps<L>) -> WordReader<'a>
         ensures sound { ⟦<WordReader<'a> as Reader>⟧.sound result }
-        ensures list { ⟦<WordReader<'a> as Reader>⟧.list result ≡ locations_of self.now.stream.items }
-        ensures all { ⟦<WordReader<'a> as Reader>⟧.all result ≡ locations_of self.now.stream.items }
-        ensures unmoved { ⟦<WordReader<'a> as Reader>⟧.location result ≡ first_from (locations_of self.now.stream.items) 0 }
-        ensures left { ⟦<WordReader<'a> as Reader>⟧.left result ≡ length (locations_of self.now.stream.items) }
+        ensures list { ⟦<WordReader<'a> as Reader>⟧.list result ≡ self.now }
+        ensures all { ⟦<WordReader<'a> as Reader>⟧.all result ≡ self.now }
+        ensures unmoved { ⟦<WordReader<'a> as Reader>⟧.location result ≡ first_from self.now 0 }
+        ensures left { ⟦<WordReader<'a> as Reader>⟧.left result ≡ length self.now }
         ensures steps { steps.new ≡ steps.old + 1 }
     {
         let stream = Stream::of(&self.stream);

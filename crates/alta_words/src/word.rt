@@ -32,7 +32,7 @@ pub struct WordReader<'a> {
 
 /// The first block of a list, none where the list is empty. It adds one step.
 fn first_block<L: Ledger>(stream: &Stream<'_>, steps: &mut Steps<L>) -> ArrayVec<u64, 64>
-    ensures holds { HoldsBlock (locations_of stream.now.bytes.now) result.items 0 0 0 }
+    ensures holds { HoldsBlock (locations_of stream.now) result.items 0 0 0 }
     ensures steps { steps.new ≡ steps.old + 1 }
 {
     let mut block = ArrayVec::new();
@@ -48,7 +48,7 @@ fn first_block<L: Ledger>(stream: &Stream<'_>, steps: &mut Steps<L>) -> ArrayVec
 fn before_row(summary: &Summary<'_>, row: usize) -> u64
     requires { row ≤ summary.now.count }
     ensures first { row ≡ 0 → result ≡ 0 }
-    ensures later { 0 < row → result ≡ field_at summary.now.bytes.now (3 * (row - 1) + 1) }
+    ensures later { 0 < row → result ≡ field_at summary.now.bytes (3 * (row - 1) + 1) }
 {
     if row == 0 {
         return 0;
@@ -63,12 +63,12 @@ impl<'a> WordReader<'a> {
         summary: Summary<'a>,
         steps: &mut Steps<L>,
     ) -> WordReader<'a>
-        requires { IsPosting stream.bytes.now summary.bytes.now summary.count }
+        requires { IsPosting stream summary.bytes summary.count }
         ensures sound { ⟦<WordReader<'a> as Reader>⟧.sound result }
-        ensures list { ⟦<WordReader<'a> as Reader>⟧.list result ≡ locations_of stream.entry.bytes.now }
-        ensures all { ⟦<WordReader<'a> as Reader>⟧.all result ≡ locations_of stream.entry.bytes.now }
-        ensures unmoved { ⟦<WordReader<'a> as Reader>⟧.location result ≡ first_from (locations_of stream.entry.bytes.now) 0 }
-        ensures left { ⟦<WordReader<'a> as Reader>⟧.left result ≡ length (locations_of stream.entry.bytes.now) }
+        ensures list { ⟦<WordReader<'a> as Reader>⟧.list result ≡ locations_of stream.entry }
+        ensures all { ⟦<WordReader<'a> as Reader>⟧.all result ≡ locations_of stream.entry }
+        ensures unmoved { ⟦<WordReader<'a> as Reader>⟧.location result ≡ first_from (locations_of stream.entry) 0 }
+        ensures left { ⟦<WordReader<'a> as Reader>⟧.left result ≡ length (locations_of stream.entry) }
         ensures steps { steps.new ≡ steps.old + 1 }
     {
         let block = first_block(&stream, steps);
@@ -97,8 +97,8 @@ impl<'a> WordReader<'a> {
 
     /// The greatest location of the list, read from the last row, or from the only block.
     fn list_last(&self) -> Loc
-        requires posting { IsPosting self.now.stream.bytes.now self.now.summary.bytes.now self.now.summary.count }
-        requires holds { HoldsBlock (locations_of self.now.stream.bytes.now) self.now.block.items self.now.row self.now.index self.now.before }
+        requires posting { IsPosting self.now.stream self.now.summary.bytes self.now.summary.count }
+        requires holds { HoldsBlock (locations_of self.now.stream) self.now.block.items self.now.row self.now.index self.now.before }
         ensures { result ≡ pred_of (word_list self.now) TOP }
     {
         let rows = self.summary.rows();
@@ -114,7 +114,7 @@ impl<'a> WordReader<'a> {
 
     /// The location at the index in the block, `TOP` behind the last block.
     fn here(&self) -> Loc
-        requires { HoldsBlock (locations_of self.now.stream.bytes.now) self.now.block.items self.now.row self.now.index self.now.before }
+        requires { HoldsBlock (locations_of self.now.stream) self.now.block.items self.now.row self.now.index self.now.before }
         ensures { result ≡ word_place self.now }
     {
         if self.index < self.block.len() {
@@ -126,14 +126,14 @@ impl<'a> WordReader<'a> {
 
     /// Holds another block, and stands at its first location. It adds one step.
     fn load<L: Ledger>(&mut self, row: usize, steps: &mut Steps<L>)
-        requires posting { IsPosting self.old.stream.bytes.now self.old.summary.bytes.now self.old.summary.count }
+        requires posting { IsPosting self.old.stream self.old.summary.bytes self.old.summary.count }
         requires within { row < self.old.summary.count }
         ensures stream { self.new.stream ≡ self.old.stream }
         ensures summary { self.new.summary ≡ self.old.summary }
         ensures end { self.new.end ≡ self.old.end }
         ensures row { self.new.row ≡ row }
         ensures index { self.new.index ≡ 0 }
-        ensures holds { HoldsBlock (locations_of self.old.stream.bytes.now) self.new.block.items row 0 self.new.before }
+        ensures holds { HoldsBlock (locations_of self.old.stream) self.new.block.items row 0 self.new.before }
         ensures steps { steps.new ≡ steps.old + 1 }
     {
         let place = self.summary.row(row).place as usize;
@@ -144,19 +144,45 @@ impl<'a> WordReader<'a> {
         self.before = before;
     }
 
-    /// Goes one location on. It adds one step.
-    fn go_next<L: Ledger>(&mut self, steps: &mut Steps<L>)
-        requires posting { IsPosting self.old.stream.bytes.now self.old.summary.bytes.now self.old.summary.count }
-        requires holds { HoldsBlock (locations_of self.old.stream.bytes.now) self.old.block.items self.old.row self.old.index self.old.before }
-        requires below { slice_index_or (locations_of self.old.stream.bytes.now) (64 * self.old.row + self.old.index) TOP < TOP }
+    /// Goes one location on, and answers it, `TOP` behind the last. It adds one step.
+    #[inline(always)]
+    fn go_next<L: Ledger>(&mut self, steps: &mut Steps<L>) -> Loc
+        requires posting { IsPosting self.old.stream self.old.summary.bytes self.old.summary.count }
+        requires holds { HoldsBlock (locations_of self.old.stream) self.old.block.items self.old.row self.old.index self.old.before }
+        requires below { slice_index_or (locations_of self.old.stream) (64 * self.old.row + self.old.index) TOP < TOP }
         ensures stream { self.new.stream ≡ self.old.stream }
         ensures summary { self.new.summary ≡ self.old.summary }
         ensures end { self.new.end ≡ self.old.end }
-        ensures holds { HoldsBlock (locations_of self.old.stream.bytes.now) self.new.block.items self.new.row self.new.index self.new.before }
+        ensures holds { HoldsBlock (locations_of self.old.stream) self.new.block.items self.new.row self.new.index self.new.before }
+        ensures place { 64 * self.new.row + self.new.index ≡ 64 * self.old.row + self.old.index + 1 }
+        ensures here { result ≡ slice_index_or (locations_of self.old.stream) (64 * self.new.row + self.new.index) TOP }
+        ensures steps { steps.new ≡ steps.old + 1 }
+    {
+        let index = self.index + 1;
+        if index < self.block.len() {
+            steps.tick();
+            self.index = index;
+            return self.block.as_slice()[index];
+        }
+        self.leave_block(steps);
+        self.here()
+    }
+
+    /// Goes from the last location of a block to the first of the next, or behind the last. It adds one step.
+    #[inline(never)]
+    fn leave_block<L: Ledger>(&mut self, steps: &mut Steps<L>)
+        requires posting { IsPosting self.old.stream self.old.summary.bytes self.old.summary.count }
+        requires holds { HoldsBlock (locations_of self.old.stream) self.old.block.items self.old.row self.old.index self.old.before }
+        requires last { self.old.index + 1 ≡ length self.old.block.items }
+        ensures stream { self.new.stream ≡ self.old.stream }
+        ensures summary { self.new.summary ≡ self.old.summary }
+        ensures end { self.new.end ≡ self.old.end }
+        ensures holds { HoldsBlock (locations_of self.old.stream) self.new.block.items self.new.row self.new.index self.new.before }
         ensures place { 64 * self.new.row + self.new.index ≡ 64 * self.old.row + self.old.index + 1 }
         ensures steps { steps.new ≡ steps.old + 1 }
     {
-        if self.index + 1 < self.block.len() || self.row + 1 >= self.summary.rows() {
+        let rows = self.summary.rows();
+        if self.row + 1 >= rows {
             steps.tick();
             self.index += 1;
             return;
@@ -167,16 +193,16 @@ impl<'a> WordReader<'a> {
     /// Goes on to the first location at or above `to`, which mostly is one of the next four of the block. It adds one step.
     #[inline(always)]
     fn go_seek<L: Ledger>(&mut self, to: Loc, steps: &mut Steps<L>)
-        requires posting { IsPosting self.old.stream.bytes.now self.old.summary.bytes.now self.old.summary.count }
-        requires holds { HoldsBlock (locations_of self.old.stream.bytes.now) self.old.block.items self.old.row self.old.index self.old.before }
-        requires end { self.old.end ≡ pred_of (locations_of self.old.stream.bytes.now) TOP }
-        requires above { slice_index_or (locations_of self.old.stream.bytes.now) (64 * self.old.row + self.old.index) TOP < to }
+        requires posting { IsPosting self.old.stream self.old.summary.bytes self.old.summary.count }
+        requires holds { HoldsBlock (locations_of self.old.stream) self.old.block.items self.old.row self.old.index self.old.before }
+        requires end { self.old.end ≡ pred_of (locations_of self.old.stream) TOP }
+        requires above { slice_index_or (locations_of self.old.stream) (64 * self.old.row + self.old.index) TOP < to }
         requires top { to ≤ TOP }
         ensures stream { self.new.stream ≡ self.old.stream }
         ensures summary { self.new.summary ≡ self.old.summary }
         ensures end { self.new.end ≡ self.old.end }
-        ensures holds { HoldsBlock (locations_of self.old.stream.bytes.now) self.new.block.items self.new.row self.new.index self.new.before }
-        ensures place { slice_index_or (locations_of self.old.stream.bytes.now) (64 * self.new.row + self.new.index) TOP ≡ first_from (locations_of self.old.stream.bytes.now) to }
+        ensures holds { HoldsBlock (locations_of self.old.stream) self.new.block.items self.new.row self.new.index self.new.before }
+        ensures place { slice_index_or (locations_of self.old.stream) (64 * self.new.row + self.new.index) TOP ≡ first_from (locations_of self.old.stream) to }
         ensures steps { steps.new ≡ steps.old + 1 }
     {
         let next = self.index + 1;
@@ -194,16 +220,16 @@ impl<'a> WordReader<'a> {
     /// Goes on to the first location at or above `to`, however far. It adds one step.
     #[inline(never)]
     fn go_far<L: Ledger>(&mut self, to: Loc, steps: &mut Steps<L>)
-        requires posting { IsPosting self.old.stream.bytes.now self.old.summary.bytes.now self.old.summary.count }
-        requires holds { HoldsBlock (locations_of self.old.stream.bytes.now) self.old.block.items self.old.row self.old.index self.old.before }
-        requires end { self.old.end ≡ pred_of (locations_of self.old.stream.bytes.now) TOP }
-        requires above { slice_index_or (locations_of self.old.stream.bytes.now) (64 * self.old.row + self.old.index) TOP < to }
+        requires posting { IsPosting self.old.stream self.old.summary.bytes self.old.summary.count }
+        requires holds { HoldsBlock (locations_of self.old.stream) self.old.block.items self.old.row self.old.index self.old.before }
+        requires end { self.old.end ≡ pred_of (locations_of self.old.stream) TOP }
+        requires above { slice_index_or (locations_of self.old.stream) (64 * self.old.row + self.old.index) TOP < to }
         requires top { to ≤ TOP }
         ensures stream { self.new.stream ≡ self.old.stream }
         ensures summary { self.new.summary ≡ self.old.summary }
         ensures end { self.new.end ≡ self.old.end }
-        ensures holds { HoldsBlock (locations_of self.old.stream.bytes.now) self.new.block.items self.new.row self.new.index self.new.before }
-        ensures place { slice_index_or (locations_of self.old.stream.bytes.now) (64 * self.new.row + self.new.index) TOP ≡ first_from (locations_of self.old.stream.bytes.now) to }
+        ensures holds { HoldsBlock (locations_of self.old.stream) self.new.block.items self.new.row self.new.index self.new.before }
+        ensures place { slice_index_or (locations_of self.old.stream) (64 * self.new.row + self.new.index) TOP ≡ first_from (locations_of self.old.stream) to }
         ensures steps { steps.new ≡ steps.old + 1 }
     {
         let held = self.block.len();
@@ -260,8 +286,7 @@ impl<'a> Reader for WordReader<'a> {
         ensures cost { steps.new ≤ steps.old + 1 }
         ensures one { steps.new ≡ steps.old + 1 }
     {
-        self.go_next(steps);
-        self.at = self.here();
+        self.at = self.go_next(steps);
     }
 
     /// Goes to the least location at or above `to`, or to `TOP` past the last. It adds exactly one step. Outside the block

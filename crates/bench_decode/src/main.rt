@@ -7,33 +7,31 @@ ghost use Rattle.std.specs.Prelude.{◌≡◌, ◌<◌};
 
 use alta_codec::{Steps, TOP};
 use alta_reader::Reader;
-use alta_words::Posting;
+use alta_words::{Posting, check};
 use std::alloc::{AllocError, Global};
 use std::marker::Brand;
 use std::process::ExitCode;
 use std::sync::ledger::{Blank, Ledger};
 use std::{env, fs, io};
 
-// How many locations a posting has, and their sum, by a walk.
-fn walk<L: Ledger>(posting: &Posting, blank: Blank) -> (u64, u64)
+// The sum of the locations of a posting, by a walk.
+fn walk<L: Ledger>(posting: &Posting, blank: Blank) -> u64
     requires name { blank.name ≡ L.name }
     requires parts { blank.parts ≡ L.parts }
     requires shared { 0 < L.parts }
 {
     let mut steps = Steps::<L>::new(blank);
     let mut reader = posting.reader(&mut steps);
-    let mut count: u64 = 0;
     let mut sum: u64 = 0;
     'list: while reader.loc() < TOP {
-        count = count.wrapping_add(1);
         sum = sum.wrapping_add(reader.loc());
         reader.next(&mut steps);
     }
-    (count, sum)
+    sum
 }
 
 // The same, where nobody counts the steps.
-fn uncounted(posting: &Posting) -> (u64, u64) {
+fn uncounted(posting: &Posting) -> u64 {
     walk::<Brand>(posting, Blank::new(1))
 }
 
@@ -43,14 +41,14 @@ fn posting_of(stream: &Vec<u8>, summary: &Vec<u8>) -> Result<Option<Posting>, Al
 }
 
 // How many locations were checked in all rounds.
-fn checks(stream: &Vec<u8>, summary: &Vec<u8>, rounds: u64) -> Result<u64, AllocError> {
+fn checks(stream: &[u8], summary: &[u8], rounds: u64) -> u64 {
     let mut count: u64 = 0;
     for _ in 0..rounds {
-        if let Some(posting) = posting_of(stream, summary)? {
-            count = count.wrapping_add(posting.list_len());
+        if let Ok(bounds) = check(stream, summary) {
+            count = count.wrapping_add(bounds.count);
         }
     }
-    Ok(count)
+    count
 }
 
 // How many locations were walked in all rounds, and the sum of them.
@@ -59,9 +57,8 @@ fn walks(stream: &Vec<u8>, summary: &Vec<u8>, rounds: u64) -> Result<(u64, u64),
     let mut sum: u64 = 0;
     if let Some(posting) = posting_of(stream, summary)? {
         for _ in 0..rounds {
-            let (more, locations) = uncounted(&posting);
-            count = count.wrapping_add(more);
-            sum = sum.wrapping_add(locations);
+            count = count.wrapping_add(posting.list_len());
+            sum = sum.wrapping_add(uncounted(&posting));
         }
     }
     Ok((count, sum))
@@ -82,7 +79,7 @@ fn main(rt: HostRuntime) -> io::Result<ExitCode> {
     let stream = fs::read(&rt, stream.as_str())?;
     let summary = fs::read(&rt, summary.as_str())?;
     if mode.as_str() == "check" {
-        let count = checks(&stream, &summary, rounds)?;
+        let count = checks(&stream, &summary, rounds);
         println!(rt; "{count}")?;
     } else {
         let (count, sum) = walks(&stream, &summary, rounds)?;

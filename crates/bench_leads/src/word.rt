@@ -1,7 +1,6 @@
 // A word's locations, as a coded list and as a plain one.
 ghost use Rattle.std.specs.Prelude.{◌≡◌, OnOk, OnSome, IfOk, IfSome};
-ghost use Rattle.alta_codec.specs.Rising.{first_from};
-ghost use Rattle.alta_postings.specs.Deltas.{locations_of};
+ghost use Rattle.alta_codec.specs.Rising.{IsRising, first_from};
 ghost use Rattle.alta_words.specs.Leaf.{leaf_list, leaf_place, IsSoundLeaf};
 
 use alta_codec::Steps;
@@ -15,7 +14,8 @@ use std::sync::ledger::Ledger;
 pub struct Word {
     posting: Posting,
     list: Vec<u64>,
-    ghost same: { list.items ≡ locations_of posting.stream.items },
+    ghost same: { list.items ≡ posting },
+    ghost rising: { IsRising list.items },
 }
 
 impl Word {

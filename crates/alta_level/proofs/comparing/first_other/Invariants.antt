@@ -3,4 +3,4 @@ use Rattle.alta_words.specs.Fault.{Agrees}
 use Rattle.alta_level.proofs.comparing.first_other.Given as goal
 
 abbrev pub invariant-loop-i : goal.invariant-loop-i
-invariant-loop-i l = (j : ℕ) → j < l.i → Agrees l.locations l.table.bytes.now l.table.count j
+invariant-loop-i l = (j : ℕ) → j < l.i → Agrees l.locations l.table.bytes l.table.count j

@@ -20,5 +20,5 @@ returns-in-Ok-clause-some c =
     let same : stored_of c.stored-list.result ≡ stored_as level row stream summary =
     c.stored-list.ensures ∙ ap (λ (x : List ℕ). stored_as level row x c.deref-2.result.now) c.deref.ensures.value ∙ ap (λ (y : List ℕ). stored_as level row stream y) c.deref-2.ensures.value in
     let whole = subst (λ (s : Stored). IsListOf c.documents.result.now s (locations_of s.stream)) same c.in-Ok.ensures.whole in
-    subst (λ (xs : List ℕ). 0 < length (locations_of xs)) (sym c.made.ensures)
+    subst (λ (xs : List ℕ). 0 < length xs) (sym c.made.ensures)
     (subst (λ (n : ℕ). 0 < n) (sym whole.fits.counted) (row_counted level.terms row c.documents.ensures.kept.terms_stand c.requires.row))

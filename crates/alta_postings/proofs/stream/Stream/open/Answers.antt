@@ -9,7 +9,10 @@ whole-init c = record { same = refl; low = omega arith; within = omega arith }
 
 pub invariant_of-result : goal.invariant_of-result
 invariant_of-result c =
-    record { spelled = reading_spells c.args.bytes.now (λ i l. omega (arith, c.type_inv.bytes i)) (c.whole.invariant.same ∙ fault_end c.args.bytes.now c.whole.at c.whole.before (omega arith)) }
+    reading_spells c.args.bytes.now (λ i l. omega (arith, c.type_inv.bytes i)) (c.whole.invariant.same ∙ fault_end c.args.bytes.now c.whole.at c.whole.before (omega arith))
+
+pub returns-clause-found : goal.returns-clause-found
+returns-clause-found c = (refl, invariant_of-result c)
 
 pub returns-clause-never : goal.returns-clause-never
 returns-clause-never c = λ xs s. (refl, (spelling_reads c.args.bytes.now xs s).1)
