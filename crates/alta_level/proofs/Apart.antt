@@ -4,9 +4,8 @@ use Rattle.std.proofs.lemmas.Bool.{cases_lt}
 use Rattle.std.proofs.lemmas.List.{get_or-map}
 use Rattle.alta_codec.specs.declared.location.TheConstants.{TOP}
 use Rattle.alta_content.specs.declared.document.DocRow.{DocRow}
-use Rattle.alta_table.specs.Documents.{documents_table}
 use Rattle.alta_content.specs.Lists.{IsInRange}
-use Rattle.alta_content.specs.Rows.{AreDocuments, AreDocumentsBehind, Before, MayFollow, behind_row, end_of, ends_of, firsts_of, start}
+use Rattle.alta_content.specs.Rows.{AreDocuments, AreDocumentsBehind, Before, behind_row, end_of, ends_of, firsts_of, start}
 use Rattle.alta_level.specs.Stored.{AreApart}
 
 pub end_is : (documents : List DocRow) (i : ℕ) (row : DocRow) → i < length documents → row ≡ get_or documents i row → end_of row ≡ get_or (ends_of documents) i 0

@@ -1,25 +1,12 @@
--- A stream that is appended to other bytes, and the rows of its blocks.
-use Rattle.std.proofs.Common.{◌≡◌, ℕ, ◌+◌, ◌-◌, ◌*◌, ◌/◌, ◌<◌, ◌≤◌, min, List, [], ◌∷◌, ◌++◌, map, length, take, get_or, sym, ap, ◌∙◌, refl, arith, length-append, append_assoc, append-nil}
+-- The rows of a list's blocks, and bytes behind other bytes.
+use Rattle.std.proofs.Common.{◌≡◌, ℕ, ◌+◌, ◌-◌, ◌*◌, ◌/◌, ◌<◌, ◌≤◌, min, List, [], ◌∷◌, ◌++◌, map, length, get_or, sym, ap, ◌∙◌, arith, length-append}
 use Rattle.std.specs.List.{range_with_len}
 use Rattle.std.proofs.lemmas.List.FromFn.{map-range_with_len_more}
 use Rattle.std.proofs.lemmas.List.{get_or-append-add}
 use Rattle.alta_codec.proofs.Numerals.{AreBytes}
-use Rattle.alta_codec.specs.Numbers.{number_bytes}
-use Rattle.alta_postings.specs.Deltas.{stream_bytes, HasPlaces}
-use Rattle.alta_postings.proofs.Encoding.{stream_more}
+use Rattle.alta_postings.specs.Deltas.{HasPlaces}
 use Rattle.alta_summary.specs.declared.summary.Row.{Row}
 use Rattle.alta_level.specs.Coded.{block_of, blocks_of}
-
-pub stream_none : (xs old : List ℕ) → old ≡ old ++ stream_bytes 0 (take 0 xs)
-unfolding stream_bytes
-stream_none xs old = sym (append-nil old)
-
-pub append_more : (k before : ℕ) (xs start old new : List ℕ) → k < length xs → old ≡ start ++ stream_bytes 0 (take k xs) → before ≡ get_or (0 ∷ xs) k 0
-    → new ≡ old ++ number_bytes (get_or xs k 0 - before) → new ≡ start ++ stream_bytes 0 (take (k + 1) xs)
-append_more k before xs start old new l o b n =
-    let s = stream_bytes 0 (take k xs) in
-    let e = number_bytes (get_or xs k 0 - before) in
-    n ∙ ap (λ t. t ++ e) o ∙ append_assoc start s e ∙ ap (λ t. start ++ t) (stream_more k before 0 xs s (s ++ e) l refl b refl)
 
 row_ext : (row : Row) (first last place : ℕ) → row.first ≡ first → row.last ≡ last → row.place ≡ place → row ≡ record { first = first; last = last; place = place }
 row_ext row first last place a b c =

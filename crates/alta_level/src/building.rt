@@ -64,7 +64,9 @@ pub fn build(alloc: Global, content: &Content) -> Result<Vec<u8>, AllocError>
         document_bytes: documents.len() as u64,
         term_bytes: terms.len() as u64,
     };
-    let mut bytes = Vec::new(alloc);
+    let tables = documents.len().saturating_add(terms.len());
+    let size = tables.saturating_add(streams.len()).saturating_add(32);
+    let mut bytes = Vec::with_capacity(alloc, size)?;
     put_head(&mut bytes, &head)?;
     bytes.extend_from_slice(&documents)?;
     bytes.extend_from_slice(&terms)?;

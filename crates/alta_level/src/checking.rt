@@ -64,7 +64,11 @@ fn check_coded(list: &StoredList<'_>) -> Result<u64, LevelFault>
 }
 
 // The locations of a list on the disk that is coded as it should be, or the place of the first fault.
-fn read_coded(alloc: Global, list: &StoredList<'_>) -> Result<Vec<Loc>, LevelFault>
+fn read_coded(
+    alloc: Global,
+    places: &mut Vec<u64>,
+    list: &StoredList<'_>,
+) -> Result<Vec<Loc>, LevelFault>
     requires stream { list.now.stream_place + length list.now.stream.now < 2 ^ 64 }
     requires summary { list.now.summary_place + length list.now.summary.now < 2 ^ 64 }
     ensures coded { IfOk result (λ locations. IsCoded list.now.stream.now list.now.summary.now (locations_of list.now.stream.now)) }
@@ -72,9 +76,9 @@ fn read_coded(alloc: Global, list: &StoredList<'_>) -> Result<Vec<Loc>, LevelFau
     ensures read { IfOk result (λ locations. locations.items ≡ locations_of list.now.stream.now) }
     ensures fault { IfDamaged result (λ p. (documents : List DocRow) → IsListFault documents (stored_of list.now) p) }
 {
-    match decode(alloc, list.stream) {
-        Ok(decoded) => match compare(list.summary, &decoded.locations, &decoded.places) {
-            Ok(()) => Ok(decoded.locations),
+    match decode(alloc, places, list.count, list.stream) {
+        Ok(locations) => match compare(list.summary, &locations, places.as_slice()) {
+            Ok(()) => Ok(locations),
             Err(fault) => Err(LevelFault::Damaged(place_of(list, fault))),
         },
         Err(DecodeFault::Memory) => Err(LevelFault::Memory),
@@ -85,9 +89,11 @@ fn read_coded(alloc: Global, list: &StoredList<'_>) -> Result<Vec<Loc>, LevelFau
     }
 }
 
-// The locations of a list, or the first fault.
-fn locations_at(
+/// The locations of a list, or the first fault, as [`read_list`] reads it. `places` is room to work in, which lists may
+/// share.
+pub fn locations_at(
     alloc: Global,
+    places: &mut Vec<u64>,
     list: &StoredList<'_>,
     documents: &[DocRow],
 ) -> Result<Vec<Loc>, LevelFault>
@@ -97,7 +103,7 @@ fn locations_at(
     ensures found { IfOk result (λ locations. IsListOf documents.now (stored_of list.now) locations.items) }
     ensures first { IfDamaged result (IsListFault documents.now (stored_of list.now)) }
 {
-    let locations = read_coded(alloc, list)?;
+    let locations = read_coded(alloc, places, list)?;
     if fits(documents, list.term, list.count, &locations) {
         Ok(locations)
     } else {
@@ -166,5 +172,6 @@ pub fn read_list(
     ensures first { IfDamaged result (IsListFault documents.now (stored_of list.now)) }
     ensures broken { (p : ℕ) → IsListFault documents.now (stored_of list.now) p → IsDamaged result p }
 {
-    locations_at(alloc, list, documents)
+    let mut places = Vec::new(alloc);
+    locations_at(alloc, &mut places, list, documents)
 }

@@ -9,7 +9,7 @@ ghost use Rattle.alta_level.specs.Segments.{IsSegment};
 ghost use Rattle.alta_level.specs.Stored.{IsListFault, IsListOf};
 ghost use Rattle.alta_content.specs.declared.content.Content.{Content};
 
-use crate::checking::read_list;
+use crate::checking::locations_at;
 use crate::laws::segments_read_back;
 use crate::stored::StoredList;
 use alta_content::{Content, DocRow, DocRows, Locations, TermList, TermLists};
@@ -42,6 +42,7 @@ fn tables_at(alloc: Global, bytes: &[u8], place: u64) -> Result<(Table, usize), 
 // The list of a row, whose stream begins the bytes, which begin at a place.
 fn list_at(
     alloc: Global,
+    places: &mut Vec<u64>,
     row: TermRow,
     bytes: &[u8],
     place: u64,
@@ -64,7 +65,7 @@ fn list_at(
         term: row.term.as_slice(),
         count: row.count,
     };
-    match read_list(alloc, &stored, documents) {
+    match locations_at(alloc, places, &stored, documents) {
         Ok(locations) => Ok(TermList {
             term: row.term,
             locations: Locations::from_vec(locations),
@@ -88,11 +89,12 @@ fn lists_at(
     ensures first { IfDamaged result (IsFaultInLists documents.now rows.items streams.now place) }
 {
     let mut lists = Vec::new(alloc);
+    let mut places = Vec::new(alloc);
     let mut rest = streams;
     let mut at = place;
     for row in rows {
         let len = row.stream + row.summary;
-        match list_at(alloc, row, rest, at, documents) {
+        match list_at(alloc, &mut places, row, rest, at, documents) {
             Err(fault) => return Err(fault),
             Ok(list) => {
                 let Ok(()) = lists.push(list) else {
@@ -121,7 +123,9 @@ fn content_of(
     ensures found { IfOk result (IsSegment bytes.now) }
     ensures first { IfDamaged result (IsSegmentFault bytes.now place) }
 {
-    let (documents, rows) = table.into_rows();
+    let Ok((documents, rows)) = table.into_rows(alloc) else {
+        return Err(LevelFault::Memory);
+    };
     let (_tables, streams) = bytes.split_at(len);
     match lists_at(alloc, rows, streams, place + len as u64, &documents) {
         Ok(lists) => Ok(Content {
@@ -148,7 +152,7 @@ fn content_at(alloc: Global, bytes: &[u8], place: u64) -> Result<Content, LevelF
 /// rule: of the head, then of the documents, then of the terms, then the first byte behind the last stream and summary,
 /// then the head's number of terms where the term `D` is missing. Then come the lists in the order of the terms, each as
 /// [`read_list`] tests it. `Memory` comes only where memory is wanting. Each field of the tables is read once, but for
-/// the head, which is read twice; each number of a stream is read once, and no name, term or list is copied.
+/// the head, which is read twice; each number of a stream is read once, each term is copied once, and no name or list is.
 pub fn read_content(alloc: Global, bytes: &[u8], place: u64) -> Result<Content, LevelFault>
     requires { place + length bytes.now < 2 ^ 64 }
     // What is read is spelled so.

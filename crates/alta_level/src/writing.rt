@@ -1,10 +1,11 @@
 // A list of locations, written as its stream and its summary.
-ghost use Rattle.std.specs.Prelude.{◌≡◌, ℕ, ◌++◌, ◌∷◌, [], ◌+◌, ◌%◌, ◌<◌, ◌≤◌, length, OnOk, IfOk};
+ghost use Rattle.std.specs.Prelude.{◌≡◌, ℕ, ◌++◌, ◌+◌, ◌<◌, ◌≤◌, length, OnOk, IfOk};
 ghost use Rattle.alta_codec.specs.Rising.{IsRising};
 ghost use Rattle.alta_postings.specs.Deltas.{stream_bytes, HasPlaces};
 ghost use Rattle.alta_level.specs.Coded.{blocks_of, summary_bytes};
 
-use alta_codec::{Loc, put_number};
+use alta_codec::Loc;
+use alta_postings::put_stream;
 use alta_summary::{Row, build};
 use std::alloc::{AllocError, Global};
 
@@ -15,34 +16,6 @@ pub struct ListSize {
     pub stream: u64,
     /// The summary's bytes.
     pub summary: u64,
-}
-
-/// Notes the place of location `i` of a list in its stream, if a block begins with it.
-pub fn mark(places: &mut Vec<u64>, i: usize, at: usize) -> Result<(), AllocError>
-    ensures first { i % 64 ≡ 0 → OnOk result (places.new.items ≡ places.old.items ++ at ∷ []) }
-    ensures later { 0 < i % 64 → OnOk result (places.new.items ≡ places.old.items) }
-{
-    if i % 64 == 0 {
-        places.push(at as u64)?;
-    }
-    Ok(())
-}
-
-// Appends the stream of a list, and leaves the place of each block in `places`.
-fn put_stream(out: &mut Vec<u8>, places: &mut Vec<u64>, locations: &[Loc]) -> Result<(), AllocError>
-    requires { IsRising locations.now }
-    ensures bytes { OnOk result (out.new.items ≡ out.old.items ++ stream_bytes 0 locations.now) }
-    ensures places { OnOk result (HasPlaces locations.now (length locations.now) places.new.items) }
-{
-    places.clear();
-    let start = out.len();
-    let mut before: u64 = 0;
-    for (i, location) in locations.iter().enumerate() {
-        mark(places, i, out.len() - start)?;
-        put_number(out, *location - before)?;
-        before = *location;
-    }
-    Ok(())
 }
 
 // The blocks of a list as rows.

@@ -1,4 +1,4 @@
-pub mod LastTerm
+pub mod Spans
 pub mod Order
 pub mod RowLaws
 pub mod TermLaws

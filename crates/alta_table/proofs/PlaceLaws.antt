@@ -1,5 +1,6 @@
 -- Places of names and streams, as rows are read.
 use Rattle.std.proofs.Common.{◌≡◌, ℕ, zero, suc, ◌+◌, ◌-◌, ◌≤◌, ◌<◌, ◌^◌, List, [], ◌∷◌, ◌++◌, length, get_or, take, map, Ok, refl, sym, ap, ◌∙◌, arith, length-append}
+use Rattle.std.proofs.Math.ListN.{get_or-map}
 use Rattle.std.proofs.lemmas.List.{get_or_default}
 use Rattle.std.proofs.lemmas.List.Sums.{sum_by-cons, sum_by_push, sum_by_more, sum_by-take-le}
 use Rattle.std.specs.List.{sum_by}
@@ -11,12 +12,12 @@ use Rattle.alta_content.specs.declared.document.DocRow.{DocRow}
 use Rattle.alta_table.specs.declared.term.TermRow.{TermRow}
 use Rattle.alta_table.specs.Documents.{row_bytes, row_format, documents_table, documents_bytes}
 use Rattle.alta_content.specs.Rows.{Before, behind_row, start}
-use Rattle.alta_table.specs.Terms.{data_of, data_bytes, last_term}
-use Rattle.alta_table.specs.Places.{name_place, name_places, stream_place, stream_places, stream_extent, summary_extent, tables_in, AreParts}
+use Rattle.alta_table.specs.Terms.{data_of, data_bytes}
+use Rattle.alta_table.specs.Places.{name_place, name_places, stream_place, stream_places, stream_extent, summary_extent, tables_in, AreParts, row_in, rows_in, places_in}
 use Rattle.alta_table.specs.declared.sizes.Head.{Head}
 use Rattle.alta_table.specs.declared.parts.Parts.{Parts}
+use Rattle.alta_table.specs.declared.span.TermSpan.{TermSpan}
 use Rattle.alta_table.specs.Tables.{tables_bytes, read_head, tables_of}
-use Rattle.alta_table.proofs.LastTerm.{last_term-push}
 use Rattle.alta_table.proofs.TableLaws.{tables_are}
 use Rattle.alta_table.proofs.RowLaws.{row_spelled, row-some}
 
@@ -125,42 +126,48 @@ reads_none place bytes rows names no_rows no_names fits = rw (no_rows, no_names)
 pub record AreTermsRead (room end : ℕ) (rows : List TermRow) (streams : List ℕ) (left : ℕ) : Type 0 where
   pub left_is : left + data_bytes rows ≡ room
   pub streams_are : streams ≡ stream_places (end - room) rows
-  pub short : length (last_term rows) ≤ 129
 
-pub terms_none : (room end : ℕ) (rows : List TermRow) (streams : List ℕ) → rows ≡ [] → streams ≡ [] → AreTermsRead room end rows streams room
+terms_none : (room end : ℕ) (rows : List TermRow) (streams : List ℕ) → rows ≡ [] → streams ≡ [] → AreTermsRead room end rows streams room
 unfolding stream_places
 terms_none room end rows streams no_rows no_streams = rw (no_rows, no_streams) none
   where
     none : AreTermsRead room end [] [] room
-    none = record { left_is = omega arith; streams_are = refl; short = omega arith }
+    none = record { left_is = omega arith; streams_are = refl }
 
-pub term_read : (room end : ℕ) (rows more : List TermRow) (streams places : List ℕ) (left : ℕ) (t : TermRow) → room ≤ end → t.stream + t.summary ≤ left → length t.term ≤ 129
+pub none_read : (room end : ℕ) (text : List ℕ) (spans : List TermSpan) → spans ≡ [] → AreTermsRead room end (rows_in text spans) (places_in spans) room
+none_read room end text spans none = terms_none room end (rows_in text spans) (places_in spans) (ap (rows_in text) none) (ap places_in none)
+
+pub term_read : (room end : ℕ) (rows more : List TermRow) (streams places : List ℕ) (left : ℕ) (t : TermRow) → room ≤ end → t.stream + t.summary ≤ left
     → more ≡ rows ++ t ∷ [] → places ≡ streams ++ (end - left) ∷ [] → AreTermsRead room end rows streams left → AreTermsRead room end more places (left - t.stream - t.summary)
-term_read room end rows more streams places left t le fits short pushed placed seen =
+term_read room end rows more streams places left t le fits pushed placed seen =
     let sum : data_bytes more ≡ data_bytes rows + data_of t = ap (λ (l : List TermRow). data_bytes l) pushed ∙ sum_by_push data_of rows t in
     let at : end - left ≡ end - room + data_bytes rows = omega (arith, seen.left_is, le) in
-    let last : last_term more ≡ t.term = ap last_term pushed ∙ last_term-push rows t in
     record {
       left_is = omega (arith, seen.left_is, sum, fits);
       streams_are = placed ∙ ap (λ (l : List ℕ). l ++ (end - left) ∷ []) seen.streams_are ∙ ap (λ (k : ℕ). stream_places (end - room) rows ++ k ∷ []) at ∙ sym (stream_places-push (end - room) rows t)
           ∙ ap (λ (l : List TermRow). stream_places (end - room) l) (sym pushed);
-      short = omega (arith, short, ap length last);
     }
 
 -- ---- what is opened
+
+abbrev pub terms_at : Parts → List TermRow
+terms_at p = rows_in p.text.items p.spans.items
+
+abbrev pub places_at : Parts → List ℕ
+places_at p = places_in p.spans.items
 
 -- rows with the places that were kept while they were read
 pub parts_are : (p : Parts) (bytes : List ℕ) (place total : ℕ) → AreBytes bytes → place + total < 2 ^ 64
     → ((h : Head) → read_head bytes place total ≡ Ok h → length bytes ≡ 32 + h.document_bytes + h.term_bytes)
     → tables_of bytes place total ≡ Ok (tables_in p) → p.names.items ≡ name_places (place + 32) start p.documents.items
-    → p.streams.items ≡ stream_places (place + total - data_bytes p.terms.items) p.terms.items → AreParts p
+    → (places_at p) ≡ stream_places (place + total - data_bytes (terms_at p)) (terms_at p) → AreParts p
 parts_are p bytes place total fits below exact e names streams =
     let a = tables_are bytes place total (tables_in p) fits (λ h read. omega (arith, exact h read)) e in
-    let size : ℕ = length (tables_bytes p.documents.items p.terms.items) in
-    let from : place + total - data_bytes p.terms.items ≡ p.place + size = omega (arith, a.keeps.filled, a.at) in
+    let size : ℕ = length (tables_bytes p.documents.items (terms_at p)) in
+    let from : place + total - data_bytes (terms_at p) ≡ p.place + size = omega (arith, a.keeps.filled, a.at) in
     record {
       names_are = names ∙ ap (λ (k : ℕ). name_places (k + 32) start p.documents.items) (sym a.at);
-      streams_are = streams ∙ ap (λ (k : ℕ). stream_places k p.terms.items) from;
+      streams_are = streams ∙ ap (λ (k : ℕ). stream_places k (terms_at p)) from;
       keeps = record {
         some = a.keeps.some;
         documents_stand = a.keeps.documents_stand;
@@ -182,22 +189,30 @@ name_is p row at a lt here =
     here ∙ get_or_default p.names.items row at 0 (omega (arith, names-len p a, lt)) ∙ ap (λ (l : List ℕ). get_or l row 0) a.names_are ∙ name_places-at (p.place + 32) start p.documents.items row lt
     ∙ ap (λ (k : ℕ). p.place + 32 + length (documents_bytes (take k p.documents.items)) - length (name_at p.documents.items row)) next
 
-pub streams-len : (p : Parts) → AreParts p → length p.streams.items ≡ length p.terms.items
-streams-len p a = ap length a.streams_are ∙ length-stream_places (p.place + length (tables_bytes p.documents.items p.terms.items)) p.terms.items
+pub streams-len : (p : Parts) → AreParts p → length (places_at p) ≡ length (terms_at p)
+streams-len p a = ap length a.streams_are ∙ length-stream_places (p.place + length (tables_bytes p.documents.items (terms_at p))) (terms_at p)
 
-stream_is : (p : Parts) (row at : ℕ) → AreParts p → row < length p.terms.items → at ≡ get_or p.streams.items row at → at ≡ stream_place (tables_in p) row
-stream_is p row at a lt here = here ∙ get_or_default p.streams.items row at 0 (omega (arith, streams-len p a, lt)) ∙ ap (λ (l : List ℕ). get_or l row 0) a.streams_are ∙ stream_places-at (p.place + length (tables_bytes p.documents.items p.terms.items)) p.terms.items row lt
+stream_is : (p : Parts) (row at : ℕ) → AreParts p → row < length (terms_at p) → at ≡ get_or (places_at p) row at → at ≡ stream_place (tables_in p) row
+stream_is p row at a lt here = here ∙ get_or_default (places_at p) row at 0 (omega (arith, streams-len p a, lt)) ∙ ap (λ (l : List ℕ). get_or l row 0) a.streams_are ∙ stream_places-at (p.place + length (tables_bytes p.documents.items (terms_at p))) (terms_at p) row lt
+
+-- a span's place and row are those of its number
+place_of : (p : Parts) (row : ℕ) (s : TermSpan) → s ≡ get_or p.spans.items row s → s.place ≡ get_or (places_at p) row s.place
+place_of p row s is = ap (λ (x : TermSpan). x.place) is ∙ sym (get_or-map (λ (x : TermSpan). x.place) p.spans.items row s)
+
+row_of : (p : Parts) (row : ℕ) (s : TermSpan) → s ≡ get_or p.spans.items row s → row_in p.text.items s ≡ get_or (terms_at p) row (row_in p.text.items s)
+row_of p row s is = ap (row_in p.text.items) is ∙ sym (get_or-map (row_in p.text.items) p.spans.items row s)
 
 -- a row's stream and summary end where those of all rows do, on the disk
-pub data_within : (p : Parts) (row at : ℕ) (t : TermRow) → AreParts p → row < length p.terms.items → at ≡ get_or p.streams.items row at → t ≡ get_or p.terms.items row t
-    → at + t.stream + t.summary ≤ p.place + length (tables_bytes p.documents.items p.terms.items) + data_bytes p.terms.items
-data_within p row at t a lt here is =
-    let more = sum_by_more data_of p.terms.items row t lt in
-    let some = sum_by-take-le data_of p.terms.items (row + 1) in
-    omega (arith, stream_is p row at a lt here, more, some, ap data_of is)
+pub data_within : (p : Parts) (row : ℕ) (s : TermSpan) → AreParts p → row < length (terms_at p) → s ≡ get_or p.spans.items row s
+    → s.place + s.stream + s.summary ≤ p.place + length (tables_bytes p.documents.items (terms_at p)) + data_bytes (terms_at p)
+data_within p row s a lt is =
+    let t : TermRow = row_in p.text.items s in
+    let more = sum_by_more data_of (terms_at p) row t lt in
+    let some = sum_by-take-le data_of (terms_at p) (row + 1) in
+    omega (arith, stream_is p row s.place a lt (place_of p row s is), more, some, ap data_of (row_of p row s is))
 
-pub stream_ends : (p : Parts) (row at : ℕ) (t : TermRow) → AreParts p → row < length p.terms.items → at ≡ get_or p.streams.items row at → t ≡ get_or p.terms.items row t → at + t.stream < 2 ^ 64
-stream_ends p row at t a lt here is = omega (arith, data_within p row at t a lt here is, a.below)
+pub stream_ends : (p : Parts) (row : ℕ) (s : TermSpan) → AreParts p → row < length (terms_at p) → s ≡ get_or p.spans.items row s → s.place + s.stream < 2 ^ 64
+stream_ends p row s a lt is = omega (arith, data_within p row s a lt is, a.below)
 
 map_at : (f : TermRow → ℕ) (rows : List TermRow) (row : ℕ) (d : TermRow) → row < length rows → get_or (map f rows) row 0 ≡ f (get_or rows row d)
 map_at f [] row d lt = absurd (omega (arith, lt))
@@ -207,17 +222,17 @@ map_at f (t ∷ rows) (suc row) d lt = map_at f rows row d (omega (arith, lt))
 abbrev extent : ℕ → ℕ → Extent
 extent place bytes = record { place = place; bytes = bytes }
 
-pub stream_extent_is : (p : Parts) (row at : ℕ) (t : TermRow) → AreParts p → row < length p.terms.items → at ≡ get_or p.streams.items row at → t ≡ get_or p.terms.items row t
-    → extent at t.stream ≡ stream_extent (tables_in p) row
-stream_extent_is p row at t a lt here is =
-    ap (λ (k : ℕ). extent k t.stream) (stream_is p row at a lt here)
-    ∙ ap (λ (k : ℕ). extent (stream_place (tables_in p) row) k) (ap (λ (x : TermRow). x.stream) is ∙ sym (map_at (λ (x : TermRow). x.stream) p.terms.items row t lt))
+pub stream_extent_is : (p : Parts) (row : ℕ) (s : TermSpan) → AreParts p → row < length (terms_at p) → s ≡ get_or p.spans.items row s → extent s.place s.stream ≡ stream_extent (tables_in p) row
+stream_extent_is p row s a lt is =
+    let t : TermRow = row_in p.text.items s in
+    ap (λ (k : ℕ). extent k s.stream) (stream_is p row s.place a lt (place_of p row s is))
+    ∙ ap (λ (k : ℕ). extent (stream_place (tables_in p) row) k) (ap (λ (x : TermRow). x.stream) (row_of p row s is) ∙ sym (map_at (λ (x : TermRow). x.stream) (terms_at p) row t lt))
 
-pub summary_extent_is : (p : Parts) (row at : ℕ) (t : TermRow) → AreParts p → row < length p.terms.items → at ≡ get_or p.streams.items row at → t ≡ get_or p.terms.items row t
-    → extent (at + t.stream) t.summary ≡ summary_extent (tables_in p) row
-summary_extent_is p row at t a lt here is =
-    let stream : t.stream ≡ get_or (map (λ (x : TermRow). x.stream) p.terms.items) row 0 = ap (λ (x : TermRow). x.stream) is ∙ sym (map_at (λ (x : TermRow). x.stream) p.terms.items row t lt) in
-    let summary : t.summary ≡ get_or (map (λ (x : TermRow). x.summary) p.terms.items) row 0 = ap (λ (x : TermRow). x.summary) is ∙ sym (map_at (λ (x : TermRow). x.summary) p.terms.items row t lt) in
-    ap (λ (k : ℕ). extent (k + t.stream) t.summary) (stream_is p row at a lt here)
-    ∙ ap (λ (k : ℕ). extent (stream_place (tables_in p) row + k) t.summary) stream
-    ∙ ap (λ (k : ℕ). extent (stream_place (tables_in p) row + get_or (map (λ (x : TermRow). x.stream) p.terms.items) row 0) k) summary
+pub summary_extent_is : (p : Parts) (row : ℕ) (s : TermSpan) → AreParts p → row < length (terms_at p) → s ≡ get_or p.spans.items row s → extent (s.place + s.stream) s.summary ≡ summary_extent (tables_in p) row
+summary_extent_is p row s a lt is =
+    let t : TermRow = row_in p.text.items s in
+    let stream : s.stream ≡ get_or (map (λ (x : TermRow). x.stream) (terms_at p)) row 0 = ap (λ (x : TermRow). x.stream) (row_of p row s is) ∙ sym (map_at (λ (x : TermRow). x.stream) (terms_at p) row t lt) in
+    let summary : s.summary ≡ get_or (map (λ (x : TermRow). x.summary) (terms_at p)) row 0 = ap (λ (x : TermRow). x.summary) (row_of p row s is) ∙ sym (map_at (λ (x : TermRow). x.summary) (terms_at p) row t lt) in
+    ap (λ (k : ℕ). extent (k + s.stream) s.summary) (stream_is p row s.place a lt (place_of p row s is))
+    ∙ ap (λ (k : ℕ). extent (stream_place (tables_in p) row + k) s.summary) stream
+    ∙ ap (λ (k : ℕ). extent (stream_place (tables_in p) row + get_or (map (λ (x : TermRow). x.stream) (terms_at p)) row 0) k) summary

@@ -9,13 +9,18 @@ use Rattle.std.specs.Cmp.Lexicographic.{slice_cmp, lists_total}
 use Rattle.std.specs.declared.cmp.Ordering.{Ordering}
 use Rattle.std.specs.declared.cmp.Ordering.TheVariants.{Less, Equal, Greater}
 use Rattle.std.specs.FinMap.{slice_cmp-IsAntisymmetric, nat_cmp-IsAntisymmetric}
+use Rattle.std.proofs.Math.ListN.{get_or-map}
+use Rattle.std.proofs.lemmas.List as lists
 use Rattle.std.proofs.lemmas.Cmp.{tied_itself}
 use Rattle.std.proofs.lemmas.Bool.{cases_lt, and_parts, eqb-true, eq-eqb}
 use Rattle.alta_codec.specs.Order.{Precedes}
+use Rattle.alta_table.specs.declared.span.TermSpan.{TermSpan}
 use Rattle.alta_table.specs.declared.term.TermRow.{TermRow}
+use Rattle.alta_table.specs.Places.{term_in, row_in, rows_in}
 use Rattle.alta_table.specs.Terms.{AreTermsBehind, AreTerms, terms_of}
 use Rattle.alta_table.specs.Search.{StartsWith, IsPrefixRange}
 use Rattle.alta_table.proofs.Order.{cmp_less, cmp_equal, cmp_greater}
+use Rattle.alta_table.proofs.Spans.{term_at, length-rows_in}
 
 abbrev order : List ℕ → List ℕ → Ordering
 order a b = slice_cmp nat_cmp a b
@@ -74,24 +79,14 @@ row_at [] i term e = absurd cc
 row_at (row ∷ rows) zero term e = (row, omega arith, refl, cc)
 row_at (row ∷ rows) (suc i) term e = let (d, lt, is, same) = row_at rows i term e in (d, omega (arith, lt), is, same)
 
-term_at : (rows : List TermRow) (i : ℕ) (d : TermRow) → i < length rows → slice_get (terms_of rows) i ≡ Some (get_or rows i d).term
-term_at [] i d lt = absurd (omega (arith, lt))
-term_at (row ∷ rows) zero d lt = refl
-term_at (row ∷ rows) (suc i) d lt = term_at rows i d (omega (arith, lt))
-
 abbrev to : List ℕ → TermRow → Ordering
 to term row = order row.term term
 
-pub found_is : (rows : List TermRow) (term : List ℕ) (i : ℕ) → i < length rows → ((d : TermRow) → to term (get_or rows i d) ≡ Equal) → slice_get (terms_of rows) i ≡ Some term
-found_is [] term i lt ties = absurd (omega (arith, lt))
-found_is (row ∷ rows) term i lt ties =
-    term_at (row ∷ rows) i row lt ∙ ap (λ (t : List ℕ). Some t) (slice_cmp-IsAntisymmetric nat_cmp-IsAntisymmetric (get_or (row ∷ rows) i row).term term (ties row))
-
-pub rises_to : (rows : List TermRow) (term : List ℕ) → AreTerms rows → IsNonDecreasingBy (λ row. ordering_index (to term row)) rows
+rises_to : (rows : List TermRow) (term : List ℕ) → AreTerms rows → IsNonDecreasingBy (λ row. ordering_index (to term row)) rows
 rises_to rows term m i j d le lt =
     at_or_before rows (λ a b. ordering_index (order a term) ≤ ordering_index (order b term)) m (λ a. omega arith) (λ a b h. index-le a b term h) i j d le lt
 
-pub absent_is : (rows : List TermRow) (term : List ℕ) (at : ℕ) → IsPartitionPoint (λ row. to term row ≡ Less) (λ row. to term row ≡ Greater) rows at → (i : ℕ) → slice_get (terms_of rows) i ≡ Some term → ⊥
+absent_is : (rows : List TermRow) (term : List ℕ) (at : ℕ) → IsPartitionPoint (λ row. to term row ≡ Less) (λ row. to term row ≡ Greater) rows at → (i : ℕ) → slice_get (terms_of rows) i ≡ Some term → ⊥
 absent_is rows term at (low, high) i e =
     let (d, lt, is, same) = row_at rows i term e in
     let tied : to term (get_or rows i d) ≡ Equal = ap (λ (row : TermRow). order row.term term) is ∙ ap (λ (t : List ℕ). order t term) same ∙ tied_itself bytes_total term in
@@ -102,10 +97,10 @@ absent_is rows term at (low, high) i e =
 -- ---- a prefix
 
 -- the row's term stands before the prefix; it stands before it or begins with it
-abbrev pub is_before : List ℕ → TermRow → Bool
+abbrev is_before : List ℕ → TermRow → Bool
 is_before prefix row = is_lt (slice_cmp nat_cmp row.term prefix)
 
-abbrev pub is_upto : List ℕ → TermRow → Bool
+abbrev is_upto : List ℕ → TermRow → Bool
 is_upto prefix row = is_lt (slice_cmp nat_cmp row.term prefix) || starts_with nat_eq row.term prefix
 
 less_is : (r : Ordering) → is_lt r ≡ true → r ≡ Less
@@ -160,12 +155,12 @@ between (y ∷ a) (z ∷ b) (x ∷ p) h s =
     (cases_lt z y))
     (cases_lt y z)
 
-pub before_parts : (rows : List TermRow) (prefix : List ℕ) → AreTerms rows → IsPartitionedBy (is_before prefix) rows
+before_parts : (rows : List TermRow) (prefix : List ℕ) → AreTerms rows → IsPartitionedBy (is_before prefix) rows
 before_parts rows prefix m i j d le lt =
     at_or_before rows (λ a b. is_lt (order b prefix) ≡ true → is_lt (order a prefix) ≡ true) m (λ a h. h)
     (λ a b less h. let f : order a prefix ≡ Less = precedes-trans a b prefix less (less_is (order b prefix) h) in ap is_lt f) i j d le lt
 
-pub upto_parts : (rows : List TermRow) (prefix : List ℕ) → AreTerms rows → IsPartitionedBy (is_upto prefix) rows
+upto_parts : (rows : List TermRow) (prefix : List ℕ) → AreTerms rows → IsPartitionedBy (is_upto prefix) rows
 upto_parts rows prefix m i j d le lt =
     at_or_before rows (λ a b. (is_lt (order b prefix) || starts_with nat_eq b prefix) ≡ true → (is_lt (order a prefix) || starts_with nat_eq a prefix) ≡ true) m (λ a h. h)
     (λ a b less h. ⊎_elim
@@ -173,7 +168,7 @@ upto_parts rows prefix m i j d le lt =
     (λ begins. between a b prefix less begins)
     (or_true _ _ h)) i j d le lt
 
-abbrev pub IsSplit : (TermRow → Bool) → List TermRow → ℕ → Type 0
+abbrev IsSplit : (TermRow → Bool) → List TermRow → ℕ → Type 0
 IsSplit p rows at = IsPartitionPoint (λ row. p row ≡ true) (λ row. p row ≡ false) rows at
 
 not_both : (b : Bool) → b ≡ true → b ≡ false → ⊥
@@ -188,7 +183,7 @@ begins_is : (a b : Bool) → (a || b) ≡ true → a ≡ false → b ≡ true
 begins_is true b h e = absurd cc
 begins_is false b h e = h
 
-pub range_is : (rows : List TermRow) (prefix : List ℕ) (first behind : ℕ) → first ≤ length rows → behind ≤ length rows
+range_is : (rows : List TermRow) (prefix : List ℕ) (first behind : ℕ) → first ≤ length rows → behind ≤ length rows
     → IsSplit (is_before prefix) rows first → IsSplit (is_upto prefix) rows behind → IsPrefixRange (terms_of rows) prefix first behind
 range_is rows prefix first behind within1 within2 (low1, high1) (low2, high2) = record {
   ordered = ⊎_elim (λ crossed. absurd (clash crossed)) (λ le. le) (cases_lt behind first);
@@ -214,3 +209,65 @@ range_is rows prefix first behind within1 within2 (low1, high1) (low2, high2) = 
         let d : TermRow = some_row rows (omega (arith, crossed, within1)) in
         let before : is_before prefix (get_or rows behind d) ≡ true = low1 behind d (omega arith) crossed in
         not_both (is_upto prefix (get_or rows behind d)) (or_left _ _ before) (high2 behind d (omega arith) (omega (arith, crossed, within1)))
+
+-- ---- the same of spans in a text
+
+-- what holds of the rows of two numbers holds of their spans
+at_spans : (text : List ℕ) (spans : List TermSpan) (P : TermRow → TermRow → Type 0) (i j : ℕ) (d : TermSpan)
+    → P (get_or (rows_in text spans) i (row_in text d)) (get_or (rows_in text spans) j (row_in text d)) → P (row_in text (get_or spans i d)) (row_in text (get_or spans j d))
+at_spans text spans P i j d holds =
+    subst (λ (r : TermRow). P r (row_in text (get_or spans j d))) (get_or-map (row_in text) spans i d)
+    (subst (λ (r : TermRow). P (get_or (rows_in text spans) i (row_in text d)) r) (get_or-map (row_in text) spans j d) holds)
+
+no_span : TermSpan
+no_span = record { start = 0; len = 0; count = 0; place = 0; stream = 0; summary = 0 }
+
+-- what holds of a span holds of its row
+at_row : (text : List ℕ) (spans : List TermSpan) (P : TermRow → Type 0) (i : ℕ) (d : TermRow) → i < length spans → P (row_in text (get_or spans i no_span)) → P (get_or (rows_in text spans) i d)
+at_row text spans P i d lt holds = subst P (sym (lists.get_or-map (row_in text) spans i no_span d lt)) holds
+
+point_in : (text : List ℕ) (spans : List TermSpan) (P Q : TermRow → Type 0) (at : ℕ) → at ≤ length spans
+    → IsPartitionPoint (λ s. P (row_in text s)) (λ s. Q (row_in text s)) spans at → IsPartitionPoint P Q (rows_in text spans) at
+point_in text spans P Q at le (low, high) = (
+  λ i d from upto. at_row text spans P i d (omega (arith, upto, le)) (low i no_span from upto),
+  λ i d from upto. let lt : i < length spans = omega (arith, upto, length-rows_in text spans) in at_row text spans Q i d lt (high i no_span from lt),
+)
+
+pub found_in : (text : List ℕ) (spans : List TermSpan) (term : List ℕ) (i : ℕ) → i < length spans → ((s : TermSpan) → order (term_in text (get_or spans i s)) term ≡ Equal)
+    → slice_get (terms_of (rows_in text spans)) i ≡ Some term
+found_in text spans term i lt ties =
+    term_at text spans i no_span lt ∙ ap (λ (t : List ℕ). Some t) (slice_cmp-IsAntisymmetric nat_cmp-IsAntisymmetric (term_in text (get_or spans i no_span)) term (ties no_span))
+
+pub rises_in : (text : List ℕ) (spans : List TermSpan) (term : List ℕ) → AreTerms (rows_in text spans) → IsNonDecreasingBy (λ s. ordering_index (order (term_in text s) term)) spans
+rises_in text spans term m i j d le lt =
+    at_spans text spans (λ r s. ordering_index (to term r) ≤ ordering_index (to term s)) i j d (rises_to (rows_in text spans) term m i j (row_in text d) le (omega (arith, lt, length-rows_in text spans)))
+
+pub absent_in : (text : List ℕ) (spans : List TermSpan) (term : List ℕ) (at : ℕ) → at ≤ length spans
+    → IsPartitionPoint (λ s. order (term_in text s) term ≡ Less) (λ s. order (term_in text s) term ≡ Greater) spans at → (i : ℕ) → slice_get (terms_of (rows_in text spans)) i ≡ Some term → ⊥
+absent_in text spans term at le point = absent_is (rows_in text spans) term at (point_in text spans (λ row. to term row ≡ Less) (λ row. to term row ≡ Greater) at le point)
+
+abbrev pub stands_before : List ℕ → List ℕ → TermSpan → Bool
+stands_before text prefix s = is_lt (slice_cmp nat_cmp (term_in text s) prefix)
+
+abbrev pub stands_upto : List ℕ → List ℕ → TermSpan → Bool
+stands_upto text prefix s = is_lt (slice_cmp nat_cmp (term_in text s) prefix) || starts_with nat_eq (term_in text s) prefix
+
+parted : (text : List ℕ) (spans : List TermSpan) (p : TermRow → Bool) → IsPartitionedBy p (rows_in text spans) → IsPartitionedBy (λ s. p (row_in text s)) spans
+parted text spans p parts i j d le lt =
+    at_spans text spans (λ r s. p s ≡ true → p r ≡ true) i j d (parts i j (row_in text d) le (omega (arith, lt, length-rows_in text spans)))
+
+pub before_parted : (text : List ℕ) (spans : List TermSpan) (prefix : List ℕ) → AreTerms (rows_in text spans) → IsPartitionedBy (stands_before text prefix) spans
+before_parted text spans prefix m = parted text spans (is_before prefix) (before_parts (rows_in text spans) prefix m)
+
+pub upto_parted : (text : List ℕ) (spans : List TermSpan) (prefix : List ℕ) → AreTerms (rows_in text spans) → IsPartitionedBy (stands_upto text prefix) spans
+upto_parted text spans prefix m = parted text spans (is_upto prefix) (upto_parts (rows_in text spans) prefix m)
+
+abbrev pub IsPoint : (TermSpan → Bool) → List TermSpan → ℕ → Type 0
+IsPoint p spans at = IsPartitionPoint (λ s. p s ≡ true) (λ s. p s ≡ false) spans at
+
+pub range_in : (text : List ℕ) (spans : List TermSpan) (prefix : List ℕ) (first behind : ℕ) → first ≤ length spans → behind ≤ length spans
+    → IsPoint (stands_before text prefix) spans first → IsPoint (stands_upto text prefix) spans behind → IsPrefixRange (terms_of (rows_in text spans)) prefix first behind
+range_in text spans prefix first behind within1 within2 point1 point2 =
+    range_is (rows_in text spans) prefix first behind (omega (arith, within1, length-rows_in text spans)) (omega (arith, within2, length-rows_in text spans))
+    (point_in text spans (λ row. is_before prefix row ≡ true) (λ row. is_before prefix row ≡ false) first within1 point1)
+    (point_in text spans (λ row. is_upto prefix row ≡ true) (λ row. is_upto prefix row ≡ false) behind within2 point2)

@@ -1,9 +1,10 @@
--- Where names, streams and summaries stand on the disk.
-use Rattle.std.specs.Prelude.{◌≡◌, ◌<◌, ◌^◌, ℕ, ◌+◌, ◌-◌, List, [], ◌∷◌, length, take, map, slice_index, slice_index_or}
+-- Where terms stand in memory, and names, streams and summaries on the disk.
+use Rattle.std.specs.Prelude.{◌≡◌, ◌<◌, ◌^◌, ℕ, ◌+◌, ◌-◌, List, [], ◌∷◌, length, take, drop, map, slice_index, slice_index_or}
 use Rattle.std.specs.List.{sum_by}
 use Rattle.alta_codec.specs.declared.extent.Extent.{Extent}
 use Rattle.alta_content.specs.declared.document.DocRow.{DocRow}
 use Rattle.alta_table.specs.declared.parts.Parts.{Parts}
+use Rattle.alta_table.specs.declared.span.TermSpan.{TermSpan}
 use Rattle.alta_table.specs.declared.term.TermRow.{TermRow}
 use Rattle.alta_table.specs.Documents.{row_bytes, documents_bytes}
 use Rattle.alta_content.specs.Rows.{Before, behind_row, start}
@@ -26,6 +27,28 @@ stream_extent tables row = record { place = stream_place tables row; bytes = sli
 abbrev pub summary_extent : Tables → ℕ → Extent
 summary_extent tables row = record { place = stream_place tables row + slice_index (streams_of tables.terms) row; bytes = slice_index (summaries_of tables.terms) row }
 
+-- ---- terms in one text
+
+-- the term of a span
+abbrev pub term_in : List ℕ → TermSpan → List ℕ
+term_in text span = take span.len (drop span.start text)
+
+abbrev pub row_in : List ℕ → TermSpan → TermRow
+row_in text span = record { term = term_in text span; count = span.count; stream = span.stream; summary = span.summary }
+
+abbrev pub rows_in : List ℕ → List TermSpan → List TermRow
+rows_in text spans = map (row_in text) spans
+
+-- where the streams stand
+abbrev pub places_in : List TermSpan → List ℕ
+places_in spans = map (λ span. span.place) spans
+
+-- the text grew by the term of a span
+pub record GrowsBy (old new : List ℕ) (span : TermSpan) : Type 0 where
+  pub kept : take (length old) new ≡ old
+  pub begins : span.start ≡ length old
+  pub ends : length new ≡ span.start + span.len
+
 -- ---- what is kept beside the rows
 
 -- the places of the names of rows that begin at a place
@@ -40,11 +63,11 @@ stream_places from [] = []
 stream_places from (row ∷ rows) = from ∷ stream_places (from + data_of row) rows
 
 abbrev pub tables_in : Parts → Tables
-tables_in p = record { place = p.place; documents = p.documents.items; terms = p.terms.items }
+tables_in p = record { place = p.place; documents = p.documents.items; terms = rows_in p.text.items p.spans.items }
 
 -- the rows have their places beside them and keep the rules of a segment, which ends on the disk
 pub record AreParts (p : Parts) : Type 0 where
   pub names_are : p.names.items ≡ name_places (p.place + 32) start p.documents.items
-  pub streams_are : p.streams.items ≡ stream_places (p.place + length (tables_bytes p.documents.items p.terms.items)) p.terms.items
-  pub keeps : KeepRules (total_of p.documents.items p.terms.items) p.documents.items p.terms.items
-  pub below : p.place + total_of p.documents.items p.terms.items < 2 ^ 64
+  pub streams_are : places_in p.spans.items ≡ stream_places (p.place + length (tables_bytes p.documents.items (rows_in p.text.items p.spans.items))) (rows_in p.text.items p.spans.items)
+  pub keeps : KeepRules (total_of p.documents.items (rows_in p.text.items p.spans.items)) p.documents.items (rows_in p.text.items p.spans.items)
+  pub below : p.place + total_of p.documents.items (rows_in p.text.items p.spans.items) < 2 ^ 64

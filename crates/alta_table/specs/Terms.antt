@@ -7,6 +7,7 @@ use Rattle.alta_codec.specs.Order.{Precedes}
 use Rattle.alta_content.specs.Lists.{is_kind}
 use Rattle.alta_format.specs.Format.{Format, packed, ends, number_field, text_field, Repeats, repeated}
 use Rattle.alta_table.specs.declared.term.TermRow.{TermRow}
+use Rattle.alta_table.specs.declared.terms.Entry.{Entry}
 
 abbrev pub terms_of : List TermRow → List (List ℕ)
 terms_of rows = map (λ row. row.term) rows
@@ -34,6 +35,10 @@ is_end row = bytes_eq row.term (68 ∷ [])
 
 abbrev pub HasEnd : List TermRow → Type 0
 HasEnd rows = IsTrue (list_any is_end rows)
+
+-- the row of these fields, behind one of the term `before`
+abbrev pub entry_row : List ℕ → Entry → TermRow
+entry_row before entry = record { term = take entry.shared before ++ entry.rest.now; count = entry.count; stream = entry.stream; summary = entry.summary }
 
 -- ---- the rules, each of one field
 
@@ -119,9 +124,3 @@ AreTermsBehind before (row ∷ rows) = MayFollowTerm before row × AreTermsBehin
 -- the same from the first on, which has the empty term before it
 abbrev pub AreTerms : List TermRow → Type 0
 AreTerms rows = AreTermsBehind [] rows
-
--- the last term, nothing where there is none
-abbrev pub last_term : List TermRow → List ℕ
-last_term [] = []
-last_term (row ∷ []) = row.term
-last_term (row ∷ other ∷ rows) = last_term (other ∷ rows)

@@ -107,14 +107,16 @@ fn row_at(
     ))
 }
 
-// So many rows, which are all of the bytes. These begin at a place of the disk.
+// So many rows, which are all of the bytes. These begin at a place of the disk. A row takes five bytes at least, so no
+// false count takes more memory than the part.
 fn rows_of(alloc: Global, count: u64, bytes: &[u8], place: u64) -> Result<DocumentPart, ReadFault>
     requires { place + length bytes.now < 2 ^ 64 }
     ensures gives { Gives (λ part. (part.rows.items, [])) result (read (documents_format count) bytes.now) }
     ensures names { IfOk result (λ part. part.names.items ≡ name_places place start part.rows.items) }
 {
-    let mut rows = Vec::new(alloc);
-    let mut names = Vec::new(alloc);
+    let most = (bytes.len() as u64 / 5).min(count) as usize;
+    let mut rows = Vec::with_capacity(alloc, most)?;
+    let mut names = Vec::with_capacity(alloc, most)?;
     let mut number: DocNumber = 0;
     let mut end: Loc = 0;
     let mut rest = bytes;

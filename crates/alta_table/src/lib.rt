@@ -12,6 +12,7 @@ mod laws;
 mod parts;
 mod search;
 mod sizes;
+mod span;
 mod table;
 mod term;
 mod terms;

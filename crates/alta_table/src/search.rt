@@ -4,49 +4,50 @@ ghost use Rattle.std.specs.Cmp.Lexicographic.{slice_cmp};
 ghost use Rattle.std.specs.List.{starts_with};
 ghost use Rattle.std.specs.Ordering.{is_lt, nat_cmp};
 ghost use Rattle.alta_table.specs.Terms.{AreTerms, terms_of};
+ghost use Rattle.alta_table.specs.Places.{rows_in, term_in};
 ghost use Rattle.alta_table.specs.Search.{IsPrefixRange};
 
-use crate::term::TermRow;
+use crate::span::{TermSpan, term_of};
 use std::cmp::Ordering;
 
-// How the row's term stands to another.
-fn order(row: &TermRow, term: &[u8]) -> Ordering
-    ensures { result ≡ slice_cmp nat_cmp row.now.term term.now }
+// How the span's term stands to another.
+fn order(text: &[u8], span: &TermSpan, term: &[u8]) -> Ordering
+    ensures { result ≡ slice_cmp nat_cmp (term_in text.now span.now) term.now }
 {
-    row.term.as_slice().cmp(term)
+    term_of(text, span).cmp(term)
 }
 
-// Whether the row's term stands before the prefix.
-fn is_before(row: &TermRow, prefix: &[u8]) -> bool
-    ensures { result ≡ is_lt (slice_cmp nat_cmp row.now.term prefix.now) }
+// Whether the span's term stands before the prefix.
+fn is_before(text: &[u8], span: &TermSpan, prefix: &[u8]) -> bool
+    ensures { result ≡ is_lt (slice_cmp nat_cmp (term_in text.now span.now) prefix.now) }
 {
-    order(row, prefix).is_lt()
+    order(text, span, prefix).is_lt()
 }
 
-// Whether the row's term stands before the prefix or begins with it.
-fn is_up_to(row: &TermRow, prefix: &[u8]) -> bool
-    ensures { result ≡ (is_lt (slice_cmp nat_cmp row.now.term prefix.now) || starts_with nat_eq row.now.term prefix.now) }
+// Whether the span's term stands before the prefix or begins with it.
+fn is_up_to(text: &[u8], span: &TermSpan, prefix: &[u8]) -> bool
+    ensures { result ≡ (is_lt (slice_cmp nat_cmp (term_in text.now span.now) prefix.now) || starts_with nat_eq (term_in text.now span.now) prefix.now) }
 {
-    is_before(row, prefix) || row.term.as_slice().starts_with(prefix)
+    is_before(text, span, prefix) || term_of(text, span).starts_with(prefix)
 }
 
 /// The row of a term, None exactly where it is not there.
-pub fn find_in(rows: &[TermRow], term: &[u8]) -> Option<usize>
-    requires { AreTerms rows.now }
-    ensures { MatchOption result ((i : ℕ) → slice_get (terms_of rows.now) i ≡ Some term.now → ⊥) (λ i. slice_get (terms_of rows.now) i ≡ Some term.now) }
+pub fn find_in(text: &[u8], spans: &[TermSpan], term: &[u8]) -> Option<usize>
+    requires { AreTerms (rows_in text.now spans.now) }
+    ensures { MatchOption result ((i : ℕ) → slice_get (terms_of (rows_in text.now spans.now)) i ≡ Some term.now → ⊥) (λ i. slice_get (terms_of (rows_in text.now spans.now)) i ≡ Some term.now) }
 {
-    match rows.binary_search_by(|row| order(row, term)) {
+    match spans.binary_search_by(|span| order(text, span, term)) {
         Ok(row) => Some(row),
         Err(_place) => None,
     }
 }
 
 /// The first row whose term begins with the prefix, and the row behind the last.
-pub fn prefixed_in(rows: &[TermRow], prefix: &[u8]) -> (usize, usize)
-    requires { AreTerms rows.now }
-    ensures { IsPrefixRange (terms_of rows.now) prefix.now result.0 result.1 }
+pub fn prefixed_in(text: &[u8], spans: &[TermSpan], prefix: &[u8]) -> (usize, usize)
+    requires { AreTerms (rows_in text.now spans.now) }
+    ensures { IsPrefixRange (terms_of (rows_in text.now spans.now)) prefix.now result.0 result.1 }
 {
-    let first = rows.partition_point(|row| is_before(row, prefix));
-    let behind = rows.partition_point(|row| is_up_to(row, prefix));
+    let first = spans.partition_point(|span| is_before(text, span, prefix));
+    let behind = spans.partition_point(|span| is_up_to(text, span, prefix));
     (first, behind)
 }

@@ -5,7 +5,7 @@ ghost use Rattle.alta_table.specs.Answers.{Answers, IfDamaged, IsDamaged, IsFoun
 ghost use Rattle.alta_content.specs.Rows.{start};
 ghost use Rattle.alta_table.specs.Terms.{counts_of, data_bytes, is_end, terms_of};
 ghost use Rattle.alta_table.specs.Tables.{AreTables, IsDamage, KeepRules, Tables, read_head, tables_bytes, tables_of, total_of};
-ghost use Rattle.alta_table.specs.Places.{name_place, name_places, stream_extent, stream_places, summary_extent, tables_in};
+ghost use Rattle.alta_table.specs.Places.{name_place, name_places, places_in, row_in, rows_in, stream_extent, stream_places, summary_extent, tables_in};
 ghost use Rattle.alta_table.specs.Search.{IsPrefixRange};
 ghost use Rattle.alta_table.specs.declared.sizes.Head.{Head};
 
@@ -14,11 +14,12 @@ use crate::fault::LevelFault;
 use crate::heading::head;
 use crate::parts::Parts;
 use crate::search::{find_in, prefixed_in};
+use crate::span::{TermSpan, term_of};
 use crate::term::TermRow;
 use crate::terms::read_terms;
-use alta_codec::Extent;
+use alta_codec::{Bytes, Extent};
 use alta_content::DocRow;
-use std::alloc::Global;
+use std::alloc::{AllocError, Global};
 use std::marker::Model;
 
 /// Head, documents and terms of a segment. Contracts see the segment's place on the disk and the rows.
@@ -38,12 +39,48 @@ impl Model for Table {
     ghost invariant = { λ t. AreParts t.parts };
 }
 
-// Whether there is the term at which documents end.
-fn has_end(rows: &[TermRow]) -> bool
-    ensures { result ≡ list_any is_end rows.now }
+// Whether the span's term is the one at which documents end.
+fn ends(text: &[u8], span: &TermSpan) -> bool
+    ensures { result ≡ is_end (row_in text.now span.now) }
 {
-    rows.iter()
-        .any(|row| row.term.as_slice() == b"D".as_slice())
+    term_of(text, span) == b"D".as_slice()
+}
+
+fn any_ends(text: &[u8], spans: &[TermSpan]) -> bool
+    ensures { result ≡ list_any (λ span. is_end (row_in text.now span)) spans.now }
+{
+    spans.iter().any(|span| ends(text, span))
+}
+
+// Whether there is the term at which documents end.
+fn has_end(text: &[u8], spans: &[TermSpan]) -> bool
+    ensures { result ≡ list_any is_end (rows_in text.now spans.now) }
+{
+    any_ends(text, spans)
+}
+
+// A row with its term in memory of its own.
+fn row_of(alloc: Global, text: &[u8], span: &TermSpan) -> Result<TermRow, AllocError>
+    ensures { IfOk result (λ row. row ≡ row_in text.now span.now) }
+{
+    let term = Vec::from_slice(alloc, term_of(text, span))?;
+    Ok(TermRow {
+        term: Bytes::from_vec(term),
+        count: span.count,
+        stream: span.stream,
+        summary: span.summary,
+    })
+}
+
+// The rows of all spans.
+fn rows_at(alloc: Global, text: &[u8], spans: &[TermSpan]) -> Result<Vec<TermRow>, AllocError>
+    ensures { IfOk result (λ rows. rows.items ≡ rows_in text.now spans.now) }
+{
+    let mut rows = Vec::with_capacity(alloc, spans.len())?;
+    for span in spans {
+        rows.push(row_of(alloc, text, span)?)?;
+    }
+    Ok(rows)
 }
 
 #[tactic(auto, unfolding(crate::specs::Tables::tables_of))]
@@ -52,7 +89,7 @@ fn opened(alloc: Global, bytes: &[u8], place: u64, total: u64) -> Result<Parts, 
     requires whole { (h : Head) → read_head bytes.now place total ≡ Ok h → length bytes.now ≡ 32 + h.document_bytes + h.term_bytes }
     ensures exact { Answers tables_in result (tables_of bytes.now place total) }
     ensures names { IfOk result (λ p. p.names.items ≡ name_places (place + 32) start p.documents.items) }
-    ensures streams { IfOk result (λ p. p.streams.items ≡ stream_places (place + total - data_bytes p.terms.items) p.terms.items) }
+    ensures streams { IfOk result (λ p. places_in p.spans.items ≡ stream_places (place + total - data_bytes (rows_in p.text.items p.spans.items)) (rows_in p.text.items p.spans.items)) }
 {
     let head = head(bytes, place, total)?;
     let (_front, tables) = bytes.split_at(32);
@@ -65,15 +102,15 @@ fn opened(alloc: Global, bytes: &[u8], place: u64, total: u64) -> Result<Parts, 
     if terms.left > 0 {
         return Err(LevelFault::Damaged(place + (total - terms.left)));
     }
-    if !has_end(&terms.rows) {
+    if !has_end(&terms.text, &terms.spans) {
         return Err(LevelFault::Damaged(place + 8));
     }
     Ok(Parts {
         place,
         documents: documents.rows,
         names: documents.names,
-        terms: terms.rows,
-        streams: terms.streams,
+        text: terms.text,
+        spans: terms.spans,
     })
 }
 
@@ -121,19 +158,14 @@ impl Table {
         &self.parts.documents
     }
 
-    /// The documents and the terms, without a copy.
-    pub fn into_rows(self) -> (Vec<DocRow>, Vec<TermRow>)
-        ensures documents { result.0.items ≡ self.documents }
-        ensures terms { result.1.items ≡ self.terms }
+    /// The documents, without a copy, and the terms, each in memory of its own.
+    pub fn into_rows(self, alloc: Global) -> Result<(Vec<DocRow>, Vec<TermRow>), AllocError>
+        ensures documents { IfOk result (λ x. x.0.items ≡ self.documents) }
+        ensures terms { IfOk result (λ x. x.1.items ≡ self.terms) }
     {
-        let Parts {
-            place: _,
-            documents,
-            names: _,
-            terms,
-            streams: _,
-        } = self.parts;
-        (documents, terms)
+        let parts = self.parts;
+        let rows = rows_at(alloc, &parts.text, &parts.spans)?;
+        Ok((parts.documents, rows))
     }
 
     /// The place on the disk of a document's name.
@@ -148,7 +180,7 @@ impl Table {
     pub fn terms(&self) -> usize
         ensures { result ≡ length self.now.terms }
     {
-        self.parts.terms.len()
+        self.parts.spans.len()
     }
 
     /// The term of a row.
@@ -156,7 +188,7 @@ impl Table {
         requires { row < length self.now.terms }
         ensures { slice_get (terms_of self.now.terms) row ≡ Some result.now }
     {
-        self.parts.terms[row].term.as_slice()
+        term_of(&self.parts.text, &self.parts.spans[row])
     }
 
     /// At how many locations the term of a row stands, as its row says.
@@ -164,14 +196,14 @@ impl Table {
         requires { row < length self.now.terms }
         ensures { result ≡ slice_index (counts_of self.now.terms) row }
     {
-        self.parts.terms[row].count
+        self.parts.spans[row].count
     }
 
     /// The row of a term, None exactly where it is not there. It looks by halves.
     pub fn find(&self, term: &[u8]) -> Option<usize>
         ensures { MatchOption result ((i : ℕ) → slice_get (terms_of self.now.terms) i ≡ Some term.now → ⊥) (λ i. slice_get (terms_of self.now.terms) i ≡ Some term.now) }
     {
-        find_in(&self.parts.terms, term)
+        find_in(&self.parts.text, &self.parts.spans, term)
     }
 
     /// The rows of the terms that begin with a prefix: the first, and the row behind the last. The two are equal where
@@ -179,7 +211,7 @@ impl Table {
     pub fn prefixed(&self, prefix: &[u8]) -> (usize, usize)
         ensures { IsPrefixRange (terms_of self.now.terms) prefix.now result.0 result.1 }
     {
-        prefixed_in(&self.parts.terms, prefix)
+        prefixed_in(&self.parts.text, &self.parts.spans, prefix)
     }
 
     /// Where stream and summary of a row's term stand on the disk.
@@ -191,16 +223,15 @@ impl Table {
         ensures beside { result.1.place ≡ result.0.place + result.0.bytes }
         ensures within { result.1.place + result.1.bytes ≤ self.now.place + total_of self.now.documents self.now.terms }
     {
-        let place = self.parts.streams[row];
-        let term = &self.parts.terms[row];
+        let span = &self.parts.spans[row];
         (
             Extent {
-                place,
-                bytes: term.stream,
+                place: span.place,
+                bytes: span.stream,
             },
             Extent {
-                place: place + term.stream,
-                bytes: term.summary,
+                place: span.place + span.stream,
+                bytes: span.summary,
             },
         )
     }

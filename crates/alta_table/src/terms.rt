@@ -1,25 +1,38 @@
 // The term part of a segment.
-ghost use Rattle.std.specs.Prelude.{◌≡◌, ℕ, ◌+◌, ◌-◌, ◌<◌, ◌≤◌, ◌^◌, ◌++◌, List, [], length, IfOk};
+ghost use Rattle.std.specs.Prelude.{◌≡◌, ℕ, ◌+◌, ◌-◌, ◌<◌, ◌≤◌, ◌^◌, ◌++◌, List, [], length, take, IfOk};
 ghost use Rattle.alta_format.specs.Gives.{Gives};
 ghost use Rattle.alta_format.specs.Format.{read, part};
 ghost use Rattle.alta_table.specs.Answers.{Answers};
-ghost use Rattle.alta_table.specs.Places.{stream_places};
-ghost use Rattle.alta_table.specs.Terms.{is_rest_len, continues, data_bytes, last_term, term_format, terms_format};
+ghost use Rattle.alta_table.specs.Places.{GrowsBy, places_in, row_in, rows_in, stream_places, term_in};
+ghost use Rattle.alta_table.specs.Terms.{is_rest_len, continues, data_bytes, entry_row, term_format, terms_format};
 ghost use Rattle.alta_content.specs.Lists.{is_kind};
 
 use crate::fault::LevelFault;
-use crate::term::TermRow;
-use alta_codec::Bytes;
+use crate::span::TermSpan;
 use alta_format::{ReadFault, packed_at, text_at};
-use std::alloc::{AllocError, Global};
+use std::alloc::Global;
 
-/// The rows of a term part, where their streams stand on the disk, and how many bytes of the segment no stream or
-/// summary takes.
+// The longest term.
+const LONGEST: usize = 129;
+
+/// The terms of a term part in one text, their spans in it, and how many bytes of the segment no stream or summary
+/// takes.
 #[derive(Drop)]
 pub struct TermPart {
-    pub rows: Vec<TermRow>,
-    pub streams: Vec<u64>,
+    pub text: Vec<u8>,
+    pub spans: Vec<TermSpan>,
     pub left: u64,
+}
+
+/// The fields of a row: how many bytes its term shares with the one before, the rest of the term, at how many locations
+/// it stands, and the bytes of its stream and its summary.
+#[derive(Clone, Copy, Drop)]
+pub struct Entry<'a> {
+    pub shared: usize,
+    pub rest: &'a [u8],
+    pub count: u64,
+    pub stream: u64,
+    pub summary: u64,
 }
 
 fn is_kind_byte(b: u8) -> bool
@@ -54,26 +67,17 @@ fn is_next(before: &[u8], shared: usize, rest: &[u8]) -> bool
     }
 }
 
-fn joined(alloc: Global, front: &[u8], rest: &[u8]) -> Result<Bytes, AllocError>
-    ensures { IfOk result (λ b. b ≡ front.now ++ rest.now) }
-{
-    let mut term = Vec::with_capacity(alloc, front.len() + rest.len())?;
-    term.extend_from_slice(front)?;
-    term.extend_from_slice(rest)?;
-    Ok(Bytes::from_vec(term))
-}
-
-// The row at the front, behind one of the term `before`, with so much room for streams and summaries.
+// The fields of the row at the front, behind one of the term `before`, with so much room for streams and summaries.
 #[tactic(auto, unfolding(alta_format::specs::Format::read, crate::specs::Terms::term_format))]
-fn term_at<'a>(
-    alloc: Global,
+fn entry_at<'a>(
     before: &[u8],
     room: u64,
     bytes: &'a [u8],
-) -> Result<(TermRow, &'a [u8]), ReadFault>
+) -> Result<(Entry<'a>, &'a [u8]), ReadFault>
     requires { length before.now ≤ 129 }
-    ensures gives { Gives (λ x. (x.0, x.1.now)) result (read (term_format (record { term = before.now; room = room })) bytes.now) }
-    ensures short { IfOk result (λ x. length x.0.term ≤ 129) }
+    ensures gives { Gives (λ x. (entry_row before.now x.0, x.1.now)) result (read (term_format (record { term = before.now; room = room })) bytes.now) }
+    ensures shared { IfOk result (λ x. x.0.shared ≤ length before.now) }
+    ensures short { IfOk result (λ x. x.0.shared + length x.0.rest.now ≤ 129) }
     ensures fits { IfOk result (λ x. x.0.stream + x.0.summary ≤ room) }
 {
     let (shared, behind_shared) = packed_at(bytes)?;
@@ -101,11 +105,10 @@ fn term_at<'a>(
     if summary > room - stream {
         return Err(ReadFault::Broken(behind_stream.len()));
     }
-    let (front, _unshared) = before.split_at(shared);
-    let term = joined(alloc, front, rest)?;
     Ok((
-        TermRow {
-            term,
+        Entry {
+            shared,
+            rest,
             count,
             stream,
             summary,
@@ -114,16 +117,53 @@ fn term_at<'a>(
     ))
 }
 
-fn last_of(rows: &[TermRow]) -> &[u8]
-    ensures { result.now ≡ last_term rows.now }
+// Writes the rest of a term behind the front that it shares with the term before.
+fn replace(before: &mut [u8; LONGEST], shared: usize, rest: &[u8])
+    requires { shared + length rest.now ≤ 129 }
+    ensures { take (shared + length rest.now) before.new ≡ take shared before.old ++ rest.now }
 {
-    match rows {
-        [] => &[],
-        [.., last] => last.term.as_slice(),
-    }
+    before[shared..shared + rest.len()].copy_from_slice(rest);
+}
+
+// The row at the front, behind one of the term that is the first `len` bytes of `before`, with so much room for streams
+// and summaries, which ends at a place of the disk. Its term goes behind the text, and takes the place of the one before.
+fn term_at<'a>(
+    text: &mut Vec<u8>,
+    before: &mut [u8; LONGEST],
+    len: usize,
+    room: u64,
+    end: u64,
+    bytes: &'a [u8],
+) -> Result<(TermSpan, &'a [u8]), ReadFault>
+    requires len { len ≤ 129 }
+    requires room { room ≤ end }
+    ensures gives { Gives (λ x. (row_in text.new.items x.0, x.1.now)) result (read (term_format (record { term = take len before.old; room = room })) bytes.now) }
+    ensures grown { IfOk result (λ x. GrowsBy text.old.items text.new.items x.0) }
+    ensures last { IfOk result (λ x. take x.0.len before.new ≡ term_in text.new.items x.0) }
+    ensures short { IfOk result (λ x. x.0.len ≤ 129) }
+    ensures place { IfOk result (λ x. x.0.place ≡ end - room) }
+    ensures fits { IfOk result (λ x. x.0.stream + x.0.summary ≤ room) }
+{
+    let (entry, behind) = entry_at(&before[..len], room, bytes)?;
+    let start = text.len();
+    let size = entry.shared + entry.rest.len();
+    replace(before, entry.shared, entry.rest);
+    text.extend_from_slice(&before[..size])?;
+    Ok((
+        TermSpan {
+            start,
+            len: size,
+            count: entry.count,
+            place: end - room,
+            stream: entry.stream,
+            summary: entry.summary,
+        },
+        behind,
+    ))
 }
 
 // So many rows, which are all of the bytes. Streams and summaries have so much room, which ends at a place of the disk.
+// A row takes six bytes at least, so no false count takes more memory than the part.
 fn rows_of(
     alloc: Global,
     count: u64,
@@ -132,21 +172,23 @@ fn rows_of(
     bytes: &[u8],
 ) -> Result<TermPart, ReadFault>
     requires { room ≤ end }
-    ensures gives { Gives (λ part. ((part.rows.items, part.left), [])) result (read (terms_format count room) bytes.now) }
-    ensures streams { IfOk result (λ part. part.streams.items ≡ stream_places (end - room) part.rows.items) }
-    ensures left { IfOk result (λ part. part.left + data_bytes part.rows.items ≡ room) }
+    ensures gives { Gives (λ part. ((rows_in part.text.items part.spans.items, part.left), [])) result (read (terms_format count room) bytes.now) }
+    ensures streams { IfOk result (λ part. places_in part.spans.items ≡ stream_places (end - room) (rows_in part.text.items part.spans.items)) }
+    ensures left { IfOk result (λ part. part.left + data_bytes (rows_in part.text.items part.spans.items) ≡ room) }
 {
-    let mut rows = Vec::new(alloc);
-    let mut streams = Vec::new(alloc);
+    let mut text = Vec::with_capacity(alloc, bytes.len())?;
+    let mut spans = Vec::with_capacity(alloc, (bytes.len() as u64 / 6).min(count) as usize)?;
+    let mut before = [0u8; LONGEST];
+    let mut len = 0;
     let mut left = room;
     let mut rest = bytes;
     for _ in 0..count {
-        match term_at(alloc, last_of(&rows), left, rest) {
-            Ok((row, behind)) => {
-                streams.push(end - left)?;
-                left = left - row.stream - row.summary;
+        match term_at(&mut text, &mut before, len, left, end, rest) {
+            Ok((span, behind)) => {
+                left = left - span.stream - span.summary;
+                len = span.len;
                 rest = behind;
-                rows.push(row)?;
+                spans.push(span)?;
             }
             Err(fault) => return Err(fault),
         }
@@ -154,11 +196,7 @@ fn rows_of(
     if !rest.is_empty() {
         return Err(ReadFault::Broken(rest.len()));
     }
-    Ok(TermPart {
-        rows,
-        streams,
-        left,
-    })
+    Ok(TermPart { text, spans, left })
 }
 
 /// The rows of a term part that begins at a place of the disk. `room` bytes of the segment stand behind its tables, and
@@ -173,9 +211,9 @@ pub fn read_terms(
 ) -> Result<TermPart, LevelFault>
     requires room { room ≤ end }
     requires below { place + length bytes.now < 2 ^ 64 }
-    ensures exact { Answers (λ x. (x.rows.items, x.left)) result (part (terms_format count room) bytes.now place) }
-    ensures streams { IfOk result (λ x. x.streams.items ≡ stream_places (end - room) x.rows.items) }
-    ensures left { IfOk result (λ x. x.left + data_bytes x.rows.items ≡ room) }
+    ensures exact { Answers (λ x. (rows_in x.text.items x.spans.items, x.left)) result (part (terms_format count room) bytes.now place) }
+    ensures streams { IfOk result (λ x. places_in x.spans.items ≡ stream_places (end - room) (rows_in x.text.items x.spans.items)) }
+    ensures left { IfOk result (λ x. x.left + data_bytes (rows_in x.text.items x.spans.items) ≡ room) }
 {
     match rows_of(alloc, count, room, end, bytes) {
         Ok(found) => Ok(found),

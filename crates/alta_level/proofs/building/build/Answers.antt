@@ -24,8 +24,8 @@ returns c =
     c.in_ok-put_lists.ensures.terms ∙ ap (λ (x : List ℕ). x ++ terms_bytes (rows_of c.as_slice-lists.result.now)) c.new-terms.ensures.items ∙ ap (λ (x : List TermList). terms_bytes (rows_of x)) lists in
     let streams : c.put_lists.new.streams.items ≡ flat_map list_bytes content.lists =
     c.in_ok-put_lists.ensures.streams ∙ ap (λ (x : List ℕ). x ++ flat_map list_bytes c.as_slice-lists.result.now) c.new-streams.ensures.items ∙ ap (λ (x : List TermList). flat_map list_bytes x) lists in
-    assembled content _ c.new-bytes.result.items c.put_head.new.out.items c.extend_from_slice.new.self.items c.extend_from_slice-2.new.self.items c.extend_from_slice-3.new.self.items
+    assembled content _ _ c.put_head.new.out.items c.extend_from_slice.new.self.items c.extend_from_slice-2.new.self.items c.extend_from_slice-3.new.self.items
     c.deref.result.now c.deref-2.result.now c.deref-3.result.now
-    c.new-bytes.ensures.items c.in_ok-put_head.ensures.ok c.in_ok-extend_from_slice.ensures.items c.in_ok-extend_from_slice-2.ensures.items c.in_ok-extend_from_slice-3.ensures.items
+    c.in_ok-bytes.ensures.items c.in_ok-put_head.ensures.ok c.in_ok-extend_from_slice.ensures.items c.in_ok-extend_from_slice-2.ensures.items c.in_ok-extend_from_slice-3.ensures.items
     (c.deref.ensures.value ∙ first) (c.deref-2.ensures.value ∙ second) (c.deref-3.ensures.value ∙ streams)
     (omega (arith, ap length c.as_slice-rows.ensures)) (omega (arith, ap length lists)) (omega (arith, c.len.ensures, c.deref.ensures.len)) (omega (arith, c.len-2.ensures, c.deref-2.ensures.len))

@@ -3,7 +3,7 @@ use Rattle.alta_level.proofs.DecodedTo.{IsDecodedTo}
 use Rattle.alta_level.proofs.decoding.decode.Given as goal
 
 abbrev pub invariant-numbers : goal.invariant-numbers
-invariant-numbers l = IsDecodedTo l.stream l.decoded.locations.items l.decoded.places.items l.at l.last
+invariant-numbers l = IsDecodedTo l.stream l.locations.items l.places.items l.at l.last
 
 abbrev pub decreases-numbers : goal.decreases-numbers
 decreases-numbers l = length l.stream - l.at

@@ -8,10 +8,10 @@ use Rattle.alta_table.proofs.documents.rows_of.Goals as goal
 
 pub loop-init : goal.loop-init
 loop-init c = record {
-  reads = from_start documents_table c.args.count start c.new-rows.result.items c.args.bytes.now c.new-rows.ensures.items;
+  reads = from_start documents_table c.args.count start _ c.args.bytes.now c.in_ok-rows.ensures.items;
   number = omega arith;
   end = omega arith;
-  places = reads_none c.args.place c.args.bytes.now c.new-rows.result.items c.new-names.result.items c.new-rows.ensures.items c.new-names.ensures.items (λ i. omega (arith, c.type_inv.bytes i));
+  places = reads_none c.args.place c.args.bytes.now _ _ c.in_ok-rows.ensures.items c.in_ok-names.ensures.items (λ i. omega (arith, c.type_inv.bytes i));
 }
 
 pub overflow_sub-bytes : goal.overflow_sub-bytes

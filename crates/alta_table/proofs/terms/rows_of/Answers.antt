@@ -1,41 +1,49 @@
-use Rattle.std.proofs.Common.{rules, ◌≡◌, ◌<◌, ◌++◌, ◌∷◌, List, [], length, ℕ, Ok, refl, ap, subst, ◌∙◌}
+use Rattle.std.proofs.Common.{rules, ◌≡◌, ◌<◌, ◌++◌, ◌∷◌, List, [], length, take, ℕ, refl, arith}
 use Rattle.alta_format.specs.Format.{read}
-use Rattle.alta_format.specs.Gives.{Fails}
 use Rattle.alta_format.specs.EntryLaws.{from_start, goes_on, stops, closed, left_over}
-use Rattle.alta_table.specs.Terms.{term_format, terms_format, terms_table, last_term}
-use Rattle.alta_table.proofs.LastTerm.{last_term-push}
-use Rattle.alta_table.proofs.PlaceLaws.{terms_none, term_read}
+use Rattle.alta_table.specs.Places.{row_in, rows_in, places_in}
+use Rattle.alta_table.specs.Terms.{terms_format, terms_table}
+use Rattle.alta_table.specs.declared.span.TermSpan.{TermSpan}
+use Rattle.alta_table.specs.declared.term.TermRow.{TermRow}
+use Rattle.alta_table.proofs.PlaceLaws.{none_read, term_read}
+use Rattle.alta_table.proofs.Spans.{lie_none, rows_push, places_push, lie_push}
 use Rattle.alta_table.proofs.terms.rows_of.Goals as goal
 
 pub loop-init : goal.loop-init
 loop-init c = record {
-  reads = rw c.new-rows.ensures.items (from_start terms_table c.args.count (record { term = []; room = c.args.room }) [] c.args.bytes.now refl);
-  seen = terms_none c.args.room c.args.end c.new-rows.result.items c.new-streams.result.items c.new-rows.ensures.items c.new-streams.ensures.items;
+  reads = rw c.in_ok-spans.ensures.items (from_start terms_table c.args.count (record { term = []; room = c.args.room }) [] c.args.bytes.now refl);
+  seen = none_read c.args.room c.args.end _ _ c.in_ok-spans.ensures.items;
+  lie = lie_none _ _ c.in_ok-spans.ensures.items;
+  short = omega arith;
 }
 
 pub returns-in-Err-clause-gives : goal.returns-in-Err-clause-gives
 returns-in-Err-clause-gives c =
-    let last : c.last_of.result.now ≡ last_term c.loop.rows.items = c.last_of.ensures ∙ ap last_term c.deref.ensures.value in
-    let fails = subst (λ (t : List ℕ). Fails c.in-Err.fault (read (term_format (record { term = t; room = c.loop.left })) c.loop.rest.now)) last c.in-Err.ensures.gives in
-    stops terms_table c.in-Err.fault c.args.count c.loop.counter (record { term = last_term c.loop.rows.items; room = c.loop.left }) c.loop.rows.items c.loop.rest.now (read (terms_format c.args.count c.args.room) c.args.bytes.now) c.loop-test.true fails c.loop.invariant.reads
+    stops terms_table c.in-Err.fault c.args.count c.loop.counter (record { term = take c.loop.len c.loop.before; room = c.loop.left }) (rows_in c.loop.text.items c.loop.spans.items) c.loop.rest.now (read (terms_format c.args.count c.args.room) c.args.bytes.now) c.loop-test.true c.in-Err.ensures.gives c.loop.invariant.reads
 
 pub loop-preserved : goal.loop-preserved
 loop-preserved c =
-    let last : c.last_of.result.now ≡ last_term c.loop.rows.items = c.last_of.ensures ∙ ap last_term c.deref.ensures.value in
-    let got = subst (λ (t : List ℕ). read (term_format (record { term = t; room = c.loop.left })) c.loop.rest.now ≡ Ok (c.in-Ok.row, c.in-Ok.behind.now)) last c.in-Ok.ensures.gives in
-    let pushed : c.push-in-Ok.new.self.items ≡ c.loop.rows.items ++ c.in-Ok.row ∷ [] = c.in_ok-push-in-Ok-2.ensures.items in
-    let newest : last_term c.push-in-Ok.new.self.items ≡ c.in-Ok.row.term = ap last_term pushed ∙ last_term-push c.loop.rows.items c.in-Ok.row in
+    let old : List ℕ = c.loop.text.items in
+    let new : List ℕ = c.term_at.new.text.items in
+    let spans : List TermSpan = c.loop.spans.items in
+    let more : List TermSpan = c.push.new.self.items in
+    let added : more ≡ spans ++ c.in-Ok.span ∷ [] = c.in_ok-push-in-Ok.ensures.items in
+    let row : TermRow = row_in new c.in-Ok.span in
+    let pushed : rows_in new more ≡ rows_in old spans ++ row ∷ [] = rows_push old new spans more c.in-Ok.span c.in-Ok.ensures.grown added c.loop.invariant.lie in
+    let placed = places_push spans more c.in-Ok.span _ added c.in-Ok.ensures.place in
     record {
-      reads = rw newest (rw pushed (goes_on terms_table c.args.count c.loop.counter (record { term = last_term c.loop.rows.items; room = c.loop.left }) c.loop.rows.items c.loop.rest.now c.in-Ok.row c.in-Ok.behind.now (read (terms_format c.args.count c.args.room) c.args.bytes.now) c.loop-test.true got c.loop.invariant.reads));
-      seen = term_read c.args.room c.args.end c.loop.rows.items c.push-in-Ok.new.self.items c.loop.streams.items c.push.new.self.items c.loop.left c.in-Ok.row c.requires c.in-Ok.ensures.fits c.in-Ok.ensures.short pushed c.in_ok-push-in-Ok.ensures.items c.loop.invariant.seen;
+      reads = rw pushed (rw c.in-Ok.ensures.last (goes_on terms_table c.args.count c.loop.counter (record { term = take c.loop.len c.loop.before; room = c.loop.left }) (rows_in old spans) c.loop.rest.now row c.in-Ok.behind.now (read (terms_format c.args.count c.args.room) c.args.bytes.now) c.loop-test.true c.in-Ok.ensures.gives c.loop.invariant.reads));
+      seen = term_read c.args.room c.args.end (rows_in old spans) (rows_in new more) (places_in spans) (places_in more) c.loop.left row c.requires c.in-Ok.ensures.fits pushed placed c.loop.invariant.seen;
+      lie = lie_push old new spans more c.in-Ok.span c.in-Ok.ensures.grown added c.loop.invariant.lie;
+      short = c.in-Ok.ensures.short;
     }
 
 pub returns-then-not-is_empty-clause-gives : goal.returns-then-not-is_empty-clause-gives
 returns-then-not-is_empty-clause-gives c =
     let some : 0 < length c.loop.rest.now = search rules in
-    left_over terms_table c.args.count c.loop.counter (record { term = last_term c.loop.rows.items; room = c.loop.left }) c.loop.rows.items c.loop.rest.now (read (terms_format c.args.count c.args.room) c.args.bytes.now) c.loop-test.false some c.loop.invariant.reads
+    left_over terms_table c.args.count c.loop.counter (record { term = take c.loop.len c.loop.before; room = c.loop.left }) (rows_in c.loop.text.items c.loop.spans.items) c.loop.rest.now (read (terms_format c.args.count c.args.room) c.args.bytes.now) c.loop-test.false some c.loop.invariant.reads
 
 pub returns-clause-gives : goal.returns-clause-gives
 returns-clause-gives c =
     let none : length c.loop.rest.now ≡ 0 = search rules in
-    closed terms_table c.args.count c.loop.counter (record { term = last_term c.loop.rows.items; room = c.loop.left }) c.loop.rows.items c.loop.rest.now (read (terms_format c.args.count c.args.room) c.args.bytes.now) c.loop-test.false none c.loop.invariant.reads
+    closed terms_table c.args.count c.loop.counter (record { term = take c.loop.len c.loop.before; room = c.loop.left }) (rows_in c.loop.text.items c.loop.spans.items) c.loop.rest.now (read (terms_format c.args.count c.args.room) c.args.bytes.now) c.loop-test.false none c.loop.invariant.reads
