@@ -1,5 +1,5 @@
 -- What was loaded from a disk is what its content says.
-use Rattle.std.proofs.Common.{◌≡◌, ◌⊎◌, inl, inr, ⊎_elim, ℕ, suc, zero, ◌+◌, ◌-◌, ◌<◌, ◌≤◌, true, Bool, cond, List, [], ◌∷◌, ◌++◌, length, map, get_or, refl, sym, ◌∙◌, ap, subst, arith, length-append}
+use Rattle.std.proofs.Common.{◌≡◌, ◌⊎◌, inl, inr, ⊎_elim, ℕ, suc, zero, ◌+◌, ◌-◌, ◌<◌, ◌≤◌, true, List, [], ◌∷◌, length, map, get_or, refl, sym, ◌∙◌, ap, subst, arith, length-append}
 use Rattle.std.specs.Prelude.{Result, Ok, Err, IfOk, IfErr}
 use Rattle.std.specs.List.{All, flat_map}
 use Rattle.std.proofs.lemmas.List.{length-take-le}
@@ -11,12 +11,11 @@ use Rattle.alta_catalog.specs.declared.fault.CatalogFault.TheVariants.{Memory as
 use Rattle.alta_catalog.proofs.MayLaws.{may_start}
 use Rattle.alta_disk.specs.Disk.{DiskState, IsLawful, Only}
 use Rattle.alta_images.specs.Broken.{HasLevels, IsBrokenAt, in_records, in_entries}
-use Rattle.alta_images.specs.Entries.{Allows, AllowsAll, after_entry, after_entries, entries_in, IsRefusedAt}
-use Rattle.alta_images.specs.Known.{Known, admits, known_behind, known_of, replayed}
-use Rattle.alta_images.specs.Opened.{Opened, IsOpened, half_of, have_ends, journal_of, known_at}
-use Rattle.alta_images.proofs.KnownLaws.{admitted_from, allowed_from, known_entry, replayed_allows}
+use Rattle.alta_images.specs.Entries.{AllowsAll, after_entries, entries_in, IsRefusedAt}
+use Rattle.alta_images.specs.Known.{Known, known_of, replayed}
+use Rattle.alta_images.specs.Opened.{Opened, IsOpened, half_of, have_ends, journal_of, known_at, extent_of}
+use Rattle.alta_images.proofs.KnownLaws.{replayed_allows}
 use Rattle.alta_images.proofs.OneReading.{one_place, opened_unbroken, opened_rooted, broken_rooted}
-use Rattle.alta_images.proofs.Tests.{by_test}
 use Rattle.alta_journal.specs.Journal.{IsBroken}
 use Rattle.alta_journal.specs.Placed.{placed, IsReplay}
 use Rattle.alta_journal.specs.Places.{half_at}
@@ -28,7 +27,6 @@ use Rattle.alta_journal.specs.declared.replaying.OpenFault.{OpenFault}
 use Rattle.alta_journal.specs.declared.replaying.OpenFault.TheVariants.{Disk as JournalDisk, Memory as JournalMemory, Damaged as JournalDamaged}
 use Rattle.alta_journal.proofs.Frames.{ends_inside}
 use Rattle.alta_meta.specs.declared.document.State.{State}
-use Rattle.alta_opening.specs.Extents.{extent_of}
 use Rattle.alta_opening.specs.declared.fault.OpeningFault.{OpeningFault}
 use Rattle.alta_opening.specs.declared.fault.OpeningFault.TheVariants.{Disk as LevelsDisk, Memory as LevelsMemory, Damaged as LevelsDamaged}
 use Rattle.alta_root.specs.Slots.{HasNoRoot}
@@ -45,6 +43,7 @@ use Rattle.alta_store.specs.declared.store.Store.{Store}
 use Rattle.alta_store.proofs.Room.{journal_fits}
 use Rattle.alta_store.proofs.Speaking.{start_known}
 use Rattle.alta_table.specs.Tables.{Tables}
+use Rattle.alta_catalog.proofs.KnownLaws.{refused_is}
 
 -- the entries of placed ones
 entries_in-placed : (place : ℕ) (entries : List Entry) → entries_in (placed place entries) ≡ entries
@@ -67,21 +66,6 @@ small_places slot found tail content (entries, is, ends) =
     omega (arith, ap length ends.begins.records, length-take-le (tail - start) (half_at start content) (omega (arith, ends.begins.gate)), inside, ends.starts) in
     subst (λ (xs : List Placed). All (λ p. p.place < 4294967296) xs) (sym is)
     (λ k d within. omega (arith, far, placed_below start (start + HALF_BYTES) entries (omega (arith, bytes)) k d within))
-
--- the first entry that is not allowed is the first that is not admitted
-refused_at : (s : State) (before : List Placed) (p : Placed) (behind : List Placed) → AllowsAll s (entries_in before) → (Allows (after_entries s (entries_in before)) p.entry → ⊥)
-    → replayed (known_of s) (before ++ p ∷ behind) ≡ Err (p.place + 5)
-refused_at s [] p behind allowed refused =
-    by_test (admits (known_of s) p.entry) (λ yes. absurd (refused (allowed_from s p.entry yes)))
-    (λ no. ap (λ (b : Bool). cond b (replayed (known_behind (known_of s) p.entry) behind) (Err (p.place + 5))) no)
-refused_at s (q ∷ before) p behind allowed refused =
-    ap (λ (b : Bool). cond b (replayed (known_behind (known_of s) q.entry) (before ++ p ∷ behind)) (Err (q.place + 5))) (admitted_from s q.entry allowed.0)
-    ∙ ap (λ (known : Known). replayed known (before ++ p ∷ behind)) (sym (known_entry s q.entry))
-    ∙ refused_at (after_entry s q.entry) before p behind allowed.1 refused
-
-refused_is : (s : State) (found : List Placed) (place : ℕ) → IsRefusedAt s found place → replayed (known_of s) found ≡ Err place
-refused_is s found place r =
-    ap (λ (ps : List Placed). replayed (known_of s) ps) r.split ∙ refused_at s r.before r.refused r.behind r.allowed r.not_allowed ∙ ap (λ (n : ℕ). Err n) (sym r.place_is)
 
 -- a catalog stands at each state behind entries from one that a root may speak of
 abbrev pub KnowsAll : Catalog → Root → List Tables → List Placed → List ℕ → Type 0
