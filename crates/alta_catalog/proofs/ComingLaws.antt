@@ -15,12 +15,12 @@ use Rattle.alta_images.specs.Ordered.{Precedes, RowsRise as RowsPrecede}
 use Rattle.alta_images.proofs.KeptStates.{map_filter}
 use Rattle.alta_images.proofs.KnownLaws.{all_weaker}
 use Rattle.alta_images.proofs.Tests.{apart_test, by_test, equal_test}
-use Rattle.alta_images.proofs.WrittenLaws.{all_left}
 use Rattle.alta_memlevel.proofs.Ends.{ends_rise}
 use Rattle.alta_table.specs.Tables.{Tables}
 use Rattle.alta_catalog.specs.Replacing.{ends_in, is_end}
 use Rattle.alta_catalog.proofs.EndLaws.{among, here_or_there, is_among, member, no_member}
 use Rattle.alta_catalog.proofs.RisingLaws.{one_from}
+use Rattle.alta_content.proofs.Elements.{all_left}
 
 -- ---- rows that rise
 

@@ -1,44 +1,30 @@
--- Lists of documents: their numbers rise, and each is found by its name.
-use Rattle.std.proofs.Common.{◌≡◌, ℕ, ◌+◌, ◌<◌, ◌≤◌, Bool, true, false, cond, not, Global, List, [], ◌∷◌, ◌++◌, refl, sym, ◌∙◌, ap, subst, arith}
+-- Lists of documents whose numbers rise, and of which each is found by its name.
+use Rattle.std.proofs.Common.{◌≡◌, ℕ, ◌+◌, Bool, true, false, cond, not, Global, List, [], ◌∷◌, ◌++◌, refl, sym, ◌∙◌, ap, subst, arith, map}
 use Rattle.std.specs.Prelude.{◌||◌, ◌==◌, Option, Some, None, String, is_some, option_map}
-use Rattle.std.specs.List.{list_any, find, filter}
+use Rattle.std.specs.List.{list_any, find, filter, All}
 use Rattle.std.specs.Map.{update}
 use Rattle.std.specs.Str.{bytes_eq}
 use Rattle.std.specs.BTreeMap.{BTreeMap, get_by_text}
 use Rattle.std.proofs.lemmas.Bool.{false≢true}
 use Rattle.alta_meta.specs.declared.document.Document.{Document}
-use Rattle.alta_catalog.specs.Knowing.{AreFound, RiseWithin}
+use Rattle.alta_catalog.specs.Knowing.{AreFound}
 use Rattle.alta_images.specs.States.{has_number_in}
-use Rattle.alta_images.proofs.Tests.{by_test, filter_keep, filter_drop, equal_test, equal_from, apart_test, bytes_from, bytes_same, none_left, or_right, or_left}
+use Rattle.alta_images.proofs.Tests.{by_test, filter_keep, filter_drop, equal_test, equal_from, apart_test, bytes_from, bytes_same, none_left, or_right, or_left, or_neither}
+use Rattle.alta_images.specs.Known.{Named, named_of}
+use Rattle.alta_images.specs.Ordered.{AreOrdered, IsBefore}
+use Rattle.std.proofs.lemmas.List.Elements.{All-head, All-tail}
 
 -- one of these documents has this name
 abbrev pub has_name_in : List ℕ → List Document → Bool
 has_name_in name ds = list_any (λ (d : Document). bytes_eq name d.name) ds
 
-pub rise_bound : (low : ℕ) (ds : List Document) (next : ℕ) → RiseWithin low ds next → low ≤ next
-rise_bound low [] next rise = rise
-rise_bound low (d ∷ ds) next rise = omega (arith, rise.0, rise_bound (d.number + 1) ds next rise.1)
-
-pub rise_from : (low lower : ℕ) (ds : List Document) (next : ℕ) → lower ≤ low → RiseWithin low ds next → RiseWithin lower ds next
-rise_from low lower [] next le rise = omega (arith, le, rise)
-rise_from low lower (d ∷ ds) next le rise = (omega (arith, le, rise.0), rise.1)
-
-pub rise_more : (low : ℕ) (ds : List Document) (next : ℕ) (d : Document) → d.number ≡ next → RiseWithin low ds next → RiseWithin low (ds ++ d ∷ []) (next + 1)
-rise_more low [] next d e rise = (omega (arith, e, rise), omega (arith, e))
-rise_more low (c ∷ ds) next d e rise = (rise.0, rise_more (c.number + 1) ds next d e rise.1)
-
-pub rise_left : (p : Document → Bool) (low : ℕ) (ds : List Document) (next : ℕ) → RiseWithin low ds next → RiseWithin low (filter p ds) next
-rise_left p low [] next rise = rise
-rise_left p low (d ∷ ds) next rise =
-    by_test (p d)
-    (λ holds. subst (λ (xs : List Document). RiseWithin low xs next) (sym (filter_keep p d ds holds)) (rise.0, rise_left p (d.number + 1) ds next rise.1))
-    (λ fails. subst (λ (xs : List Document). RiseWithin low xs next) (sym (filter_drop p d ds fails)) (rise_from (d.number + 1) low (filter p ds) next (omega (arith, rise.0)) (rise_left p (d.number + 1) ds next rise.1)))
-
-pub none_below : (m low : ℕ) (ds : List Document) (next : ℕ) → RiseWithin low ds next → m < low → has_number_in m ds ≡ false
-none_below m low [] next rise less = refl
-none_below m low (d ∷ ds) next rise less =
-    ap (λ (b : Bool). b || has_number_in m ds) (apart_test d.number m (λ e. absurd (omega (arith, e, less, rise.0))))
-    ∙ none_below m (d.number + 1) ds next rise.1 (omega (arith, less, rise.0))
+-- no document behind one has its number
+pub none_behind : (row : Named) (ds : List Document) → All (IsBefore row) (map named_of ds) → has_number_in row.number ds ≡ false
+none_behind row [] all = refl
+none_behind row (d ∷ ds) all =
+    or_neither (d.number == row.number) (has_number_in row.number ds)
+    (apart_test d.number row.number (λ e. absurd (omega (arith, e, (All-head (IsBefore row) (named_of d) (map named_of ds) all).0))))
+    (none_behind row ds (All-tail (IsBefore row) (named_of d) (map named_of ds) all))
 
 -- each number is found by its name
 
@@ -77,13 +63,13 @@ number_found known q (d ∷ ds) found has =
     ∙ number_found known q ds found.1 (has_tail q d ds fails has))
 
 -- to leave out a name is to leave out its number
-pub same_left : (known : BTreeMap (String Global) ℕ) (q : List ℕ) (n low : ℕ) (ds : List Document) (next : ℕ) → RiseWithin low ds next → AreFound known ds → get_by_text known q ≡ Some n → has_name_in q ds ≡ true
+pub same_left : (known : BTreeMap (String Global) ℕ) (q : List ℕ) (n : ℕ) (ds : List Document) → AreOrdered (map named_of ds) → AreFound known ds → get_by_text known q ≡ Some n → has_name_in q ds ≡ true
     → filter (λ (d : Document). not (bytes_eq q d.name)) ds ≡ filter (λ (d : Document). not (d.number == n)) ds
-same_left known q n low [] next rise found is has = refl
-same_left known q n low (d ∷ ds) next rise found is has =
+same_left known q n [] ordered found is has = refl
+same_left known q n (d ∷ ds) ordered found is has =
     by_test (d.number == n)
     (λ holds.
-    let none : has_number_in n ds ≡ false = none_below n (d.number + 1) ds next rise.1 (omega (arith, equal_from d.number n holds)) in
+    let none : has_number_in n ds ≡ false = subst (λ (m : ℕ). has_number_in m ds ≡ false) (equal_from d.number n holds) (none_behind (named_of d) ds ordered.0) in
     let no_name : has_name_in q ds ≡ false = by_test (has_name_in q ds) (λ some. absurd (false≢true (sym none ∙ numbered_as known q n ds found.1 is some))) (λ fails. fails) in
     filter_drop (λ (d : Document). not (bytes_eq q d.name)) d ds (ap not (or_left (bytes_eq q d.name) (has_name_in q ds) has no_name))
     ∙ none_left (λ (d : Document). bytes_eq q d.name) ds no_name
@@ -91,7 +77,7 @@ same_left known q n low (d ∷ ds) next rise found is has =
     (λ fails.
     let other : bytes_eq q d.name ≡ false = by_test (bytes_eq q d.name) (λ same. absurd (false≢true (sym fails ∙ equal_test d.number n (number_here known q n d found.0 is same)))) (λ fails. fails) in
     filter_keep (λ (d : Document). not (bytes_eq q d.name)) d ds (ap not other)
-    ∙ ap (λ (xs : List Document). d ∷ xs) (same_left known q n (d.number + 1) ds next rise.1 found.1 is (has_tail q d ds other has))
+    ∙ ap (λ (xs : List Document). d ∷ xs) (same_left known q n ds ordered.1 found.1 is (has_tail q d ds other has))
     ∙ sym (filter_keep (λ (d : Document). not (d.number == n)) d ds (ap not fails)))
 
 -- a name that was left out is gone

@@ -1,5 +1,5 @@
 -- Which documents are left once one more of their ends is deleted.
-use Rattle.std.proofs.Common.{◌≡◌, ◌⊎◌, inl, inr, ⊎_elim, ℕ, zero, suc, ◌+◌, ◌<◌, ◌≤◌, Bool, true, false, not, nat_eq, List, [], ◌∷◌, ◌++◌, length, map, refl, sym, ◌∙◌, ap, subst, arith}
+use Rattle.std.proofs.Common.{◌≡◌, ◌⊎◌, inl, inr, ⊎_elim, ℕ, zero, suc, ◌+◌, ◌<◌, Bool, true, false, not, nat_eq, List, [], ◌∷◌, ◌++◌, length, map, refl, sym, ◌∙◌, ap, subst, arith}
 use Rattle.std.specs.Prelude.{◌||◌, ◌==◌, ◌↔◌, Contains, sum_by}
 use Rattle.std.specs.List.{All, filter, list_any}
 use Rattle.std.proofs.lemmas.Bool.{false≢true}
@@ -10,11 +10,13 @@ use Rattle.alta_content.specs.Rows.{end_of, ends_among}
 use Rattle.alta_memlevel.specs.Added.{Added, IsDocument, IsSpace}
 use Rattle.alta_memlevel.specs.Documents.{document_in}
 use Rattle.alta_meta.specs.declared.document.Document.{Document}
-use Rattle.alta_catalog.specs.Knowing.{AreNumbered, RiseWithin}
+use Rattle.alta_catalog.specs.Knowing.{AreNumbered}
 use Rattle.alta_catalog.specs.Rows.{documents_left}
 use Rattle.alta_images.specs.States.{has_number_in}
 use Rattle.alta_images.proofs.Tests.{apart_test, by_test, equal_from, equal_test, filter_drop, filter_keep, none_left}
-use Rattle.alta_catalog.proofs.DocumentLaws.{none_below}
+use Rattle.alta_catalog.proofs.DocumentLaws.{none_behind}
+use Rattle.alta_images.specs.Known.{Named, named_of}
+use Rattle.alta_images.specs.Ordered.{AreOrdered, IsBefore}
 
 -- ---- members of lists
 pub here_or_there : {X : Type 0} (x : X) (xs : List X) (y : X) → Contains (x ∷ xs) y → (x ≡ y) ⊎ Contains xs y
@@ -182,11 +184,11 @@ numbered_more n [] a is numbered = (omega (arith, is), tt)
 numbered_more n (b ∷ added) a is numbered = (numbered.0, numbered_more (n + 1) added a (omega (arith, is)) numbered.1)
 
 -- ---- documents of rising numbers
-above : (low : ℕ) (ds : List Document) (next : ℕ) → RiseWithin low ds next → (d : Document) → Contains ds d → low ≤ d.number
-above low [] next rise d has = absurd (no_member d has)
-above low (c ∷ ds) next rise d has =
-    ⊎_elim (λ (same : c ≡ d). subst (λ (x : Document). low ≤ x.number) same rise.0)
-    (λ behind. omega (arith, rise.0, above (c.number + 1) ds next rise.1 d behind))
+above : (row : Named) (ds : List Document) → All (IsBefore row) (map named_of ds) → (d : Document) → Contains ds d → row.number < d.number
+above row [] all d has = absurd (no_member d has)
+above row (c ∷ ds) all d has =
+    ⊎_elim (λ (same : c ≡ d). subst (λ (x : Document). row.number < x.number) same (All-head (IsBefore row) (named_of c) (map named_of ds) all).0)
+    (λ behind. above row ds (All-tail (IsBefore row) (named_of c) (map named_of ds) all) d behind)
     (here_or_there c ds d has)
 
 pub has_number_of : (ds : List Document) (d : Document) → Contains ds d → has_number_in d.number ds ≡ true
@@ -201,38 +203,38 @@ has_number_of (c ∷ ds) d has =
     or_right false b e = e
 
 -- without a document a sum over them is less by its part
-pub one_less : (f : Document → ℕ) (low : ℕ) (ds : List Document) (next : ℕ) → RiseWithin low ds next → (d : Document) → Contains ds d
+pub one_less : (f : Document → ℕ) (ds : List Document) → AreOrdered (map named_of ds) → (d : Document) → Contains ds d
     → sum_by f (filter (λ (e : Document). not (e.number == d.number)) ds) + f d ≡ sum_by f ds
-one_less f low [] next rise d has = absurd (no_member d has)
-one_less f low (c ∷ ds) next rise d has =
+one_less f [] ordered d has = absurd (no_member d has)
+one_less f (c ∷ ds) ordered d has =
     let others : Document → Bool = λ (e : Document). not (e.number == d.number) in
     ⊎_elim
     (λ (same : c ≡ d).
     let number : c.number ≡ d.number = ap (λ (x : Document). x.number) same in
     let rest : filter others (c ∷ ds) ≡ ds =
-    filter_drop others c ds (ap not (equal_test c.number d.number number)) ∙ none_left (λ (e : Document). e.number == d.number) ds (none_below d.number (c.number + 1) ds next rise.1 (omega (arith, number))) in
+    filter_drop others c ds (ap not (equal_test c.number d.number number)) ∙ none_left (λ (e : Document). e.number == d.number) ds (subst (λ (m : ℕ). has_number_in m ds ≡ false) number (none_behind (named_of c) ds ordered.0)) in
     subst (λ (xs : List Document). sum_by f xs + f d ≡ sum_by f (c ∷ ds)) (sym rest) (omega (arith, sum_by-cons f c ds, ap f same)))
     (λ behind.
-    let less = above (c.number + 1) ds next rise.1 d behind in
+    let less = above (named_of c) ds ordered.0 d behind in
     subst (λ (xs : List Document). sum_by f xs + f d ≡ sum_by f (c ∷ ds)) (sym (filter_keep others c ds (ap not (apart_test c.number d.number (λ e. absurd (omega (arith, e, less)))))))
-    (omega (arith, sum_by-cons f c ds, sum_by-cons f c (filter others ds), one_less f (c.number + 1) ds next rise.1 d behind)))
+    (omega (arith, sum_by-cons f c ds, sum_by-cons f c (filter others ds), one_less f ds ordered.1 d behind)))
     (here_or_there c ds d has)
 
-pub one_fewer : (low : ℕ) (ds : List Document) (next : ℕ) → RiseWithin low ds next → (d : Document) → Contains ds d
+pub one_fewer : (ds : List Document) → AreOrdered (map named_of ds) → (d : Document) → Contains ds d
     → length (filter (λ (e : Document). not (e.number == d.number)) ds) + 1 ≡ length ds
-one_fewer low [] next rise d has = absurd (no_member d has)
-one_fewer low (c ∷ ds) next rise d has =
+one_fewer [] ordered d has = absurd (no_member d has)
+one_fewer (c ∷ ds) ordered d has =
     let others : Document → Bool = λ (e : Document). not (e.number == d.number) in
     ⊎_elim
     (λ (same : c ≡ d).
     let number : c.number ≡ d.number = ap (λ (x : Document). x.number) same in
     let rest : filter others (c ∷ ds) ≡ ds =
-    filter_drop others c ds (ap not (equal_test c.number d.number number)) ∙ none_left (λ (e : Document). e.number == d.number) ds (none_below d.number (c.number + 1) ds next rise.1 (omega (arith, number))) in
+    filter_drop others c ds (ap not (equal_test c.number d.number number)) ∙ none_left (λ (e : Document). e.number == d.number) ds (subst (λ (m : ℕ). has_number_in m ds ≡ false) number (none_behind (named_of c) ds ordered.0)) in
     subst (λ (xs : List Document). length xs + 1 ≡ length (c ∷ ds)) (sym rest) (omega arith))
     (λ behind.
-    let less = above (c.number + 1) ds next rise.1 d behind in
+    let less = above (named_of c) ds ordered.0 d behind in
     subst (λ (xs : List Document). length xs + 1 ≡ length (c ∷ ds)) (sym (filter_keep others c ds (ap not (apart_test c.number d.number (λ e. absurd (omega (arith, e, less)))))))
-    (omega (arith, one_fewer (c.number + 1) ds next rise.1 d behind)))
+    (omega (arith, one_fewer ds ordered.1 d behind)))
     (here_or_there c ds d has)
 
 -- what was among ends is so still

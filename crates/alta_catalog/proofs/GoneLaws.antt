@@ -21,9 +21,9 @@ use Rattle.alta_images.specs.Work.{added_from, gone, gone_among, is_gone, newest
 use Rattle.alta_images.proofs.CellLaws.{doc_of}
 use Rattle.alta_images.proofs.KeptStates.{added_behind, after_documents, left_out, map_filter, stay}
 use Rattle.alta_images.proofs.KnownLaws.{all_both, all_weaker, allows_replayed}
-use Rattle.alta_images.proofs.OrderLaws.{all_from, and_left, and_right, below_from, first_of_levels, is_more, rows_more}
+use Rattle.alta_images.proofs.OrderLaws.{all_from, first_of_levels, is_more, rows_more}
 use Rattle.alta_images.proofs.Steps.{one_value}
-use Rattle.alta_images.proofs.Tests.{by_test, filter_drop, filter_keep}
+use Rattle.alta_images.proofs.Tests.{by_test, filter_drop, filter_keep, and_left, and_right, below_from}
 use Rattle.alta_journal.specs.Placed.{placed}
 use Rattle.alta_journal.specs.declared.entry.Entry.{Entry}
 use Rattle.alta_memlevel.specs.Added.{Added, IsDocument, live_of}

@@ -24,21 +24,24 @@ use Rattle.alta_catalog.specs.Knowing.{AreFound, AreNumbered, AreParts, Knows, K
 use Rattle.alta_catalog.specs.Rows.{AreRowsOf, documents_left}
 use Rattle.alta_catalog.specs.Finding.{AreOther, FollowOn}
 use Rattle.alta_images.specs.Opened.{rows_in}
-use Rattle.alta_images.proofs.WrittenLaws.{all_right}
 use Rattle.alta_rows.specs.All.{joined, rows_in as rows_of}
 use Rattle.alta_rows.specs.declared.level.LevelRows.{LevelRows}
 use Rattle.std.specs.declared.rc.Rc.{Rc}
-use Rattle.alta_images.specs.Ordered.{RowsRise}
+use Rattle.alta_images.specs.Ordered.{RowsRise, IsOrdered}
 use Rattle.alta_catalog.proofs.SharingLaws.{space_ends, space_precedes}
 use Rattle.alta_catalog.proofs.StartLaws.{row_of}
 use Rattle.alta_table.specs.Tables.{Tables}
-use Rattle.alta_catalog.proofs.SpaceLaws.{left_append, rise_long, space_push, words_fit}
+use Rattle.alta_catalog.proofs.SpaceLaws.{left_append, ordered_long, space_push, words_fit}
 use Rattle.alta_images.specs.States.{has_name, has_number, has_number_in, with_added, with_deleted, without, word_count, words_in}
 use Rattle.alta_catalog.specs.declared.catalog.Catalog.{Catalog}
 use Rattle.alta_images.proofs.Tests.{equal_from}
 use Rattle.alta_catalog.proofs.EndLaws.{IsSame, all_same, among, among_more, has_number_of, here_or_there, is_left, left_more, left_out, no_member, none_with, not_among, there, numbered_more, one_fewer, one_less, space_all}
 use Rattle.alta_catalog.proofs.NotingLaws.{deleted_is, is_named, is_numbered, notes_deleted, notes_more}
-use Rattle.alta_catalog.proofs.WordCounts.{few_words, words_long}
+use Rattle.alta_content.proofs.Elements.{all_right}
+use Rattle.alta_images.specs.Known.{known_of}
+use Rattle.alta_images.proofs.KnownLaws.{ordered_allowed}
+use Rattle.alta_journal.specs.declared.entry.Entry.TheVariants.{Add}
+use Rattle.alta_memlevel.proofs.Cells.{cells_few, cells_long}
 
 -- the rows that are shared stay those of the levels
 shared_on : (c new : Catalog) → map rows_of c.rows.items ≡ map documents_of c.levels.items → new.levels ≡ c.levels → new.rows ≡ c.rows → map rows_of new.rows.items ≡ map documents_of new.levels.items
@@ -89,8 +92,8 @@ found_by known (e ∷ ds) d found has =
 -- how many cells a document has that an entry holds
 pub few_cells : (name title body : List ℕ) → IsUtf8 title → IsUtf8 body → length title + length body ≤ 65590 → (3 ≤ length (cells_of name title body)) × (length (cells_of name title body) ≤ 65593)
 few_cells name title body text_title text_body short = (
-  omega (arith, words_long name title body),
-  omega (arith, words_long name title body, few_words title text_title, few_words body text_body, short),
+  omega (arith, cells_long name title body),
+  omega (arith, cells_few name title body text_title text_body, short),
 )
 
 -- ---- rows of documents
@@ -131,10 +134,13 @@ module _ (c : Catalog) (s : State) (f : Knows c s) where
       subst (All (λ (r : DocRow). end_of r < c.location)) (sym f.content.documents)
       (All-map (λ (r : DocRow). end_of r < c.location) (λ (a : Added). a.row) f.added (λ k d inside. (behind k d inside).1))
 
+  positive : 1 ≤ s.next
+  positive = omega (arith, f.notes.next, f.next, f.from.0)
+
   -- what is counted fits
   pub bounded : (c.count ≤ c.next) × (c.words ≤ c.location)
   bounded = (
-    omega (arith, f.count, f.notes.next, rise_long 0 s.documents s.next f.notes.rising),
+    omega (arith, f.count, f.notes.next, ordered_long 1 s.documents s.next f.notes.ordered.ordered f.notes.ordered.within positive),
     omega (
       arith,
       f.words,
@@ -197,6 +203,9 @@ module _ (c : Catalog) (s : State) (f : Knows c s) where
     document_is : document_in a ≡ record { number = c.next; name = name; cells = cells_of name title body }
     document_is = ap (λ (r : DocRow). record { number = r.number; name = r.name; cells = cells }) row_is ∙ ap (λ (l : List (List (List ℕ))). record { number = c.next; name = name; cells = l }) cells_are
 
+    ordered_then : IsOrdered (known_of (with_added name title body s))
+    ordered_then = ordered_allowed s (Add name title body) f.notes.ordered positive (free, left)
+
     abbrev more : List Added
     more = all ++ a ∷ []
 
@@ -228,7 +237,7 @@ module _ (c : Catalog) (s : State) (f : Knows c s) where
             let (b, member, is) = f.ends end (subst (λ (g : List ℕ). Contains g end) gone has) in
             (b, subst (λ (xs : List Added). Contains xs b) same (Contains-append_left all (a ∷ []) b member), is);
         notes = subst (λ (n : ℕ). Notes n new.names (documents_left new.gone (f.olds ++ (f.added ++ a ∷ []))) (with_added name title body s)) (sym next)
-            (notes_more c.next c.names (documents_left c.gone all) s f.notes new.names name title body (f.notes.names name ∙ free) noted (document_in a) document_is
+            (notes_more c.next c.names (documents_left c.gone all) s f.notes new.names name title body (f.notes.names name ∙ free) noted (document_in a) document_is ordered_then
             (documents_left new.gone (f.olds ++ (f.added ++ a ∷ [])))
             (ap (λ (g : List ℕ). documents_left g (f.olds ++ (f.added ++ a ∷ []))) gone ∙ ap (documents_left c.gone) (sym same) ∙ left_more c.gone all a alive));
         numbered = subst (λ (n : ℕ). AreNumbered n (f.added ++ a ∷ [])) (sym first) (numbered_more c.first f.added a (number_is_next ∙ f.next) f.numbered);
@@ -329,11 +338,11 @@ module _ (c : Catalog) (s : State) (f : Knows c s) where
 
       fewer : length (filter (λ (e : Document). not (e.number == number)) s.documents) + 1 ≡ length s.documents
       fewer = subst (λ (n : ℕ). length (filter (λ (e : Document). not (e.number == n)) s.documents) + 1 ≡ length s.documents) number_is
-          (one_fewer 0 s.documents s.next f.notes.rising d is_member)
+          (one_fewer s.documents f.notes.ordered.ordered d is_member)
 
       less : sum_by word_count (filter (λ (e : Document). not (e.number == number)) s.documents) + word_count d ≡ sum_by word_count s.documents
       less = subst (λ (n : ℕ). sum_by word_count (filter (λ (e : Document). not (e.number == n)) s.documents) + word_count d ≡ sum_by word_count s.documents) number_is
-          (one_less word_count 0 s.documents s.next f.notes.rising d is_member)
+          (one_less word_count s.documents f.notes.ordered.ordered d is_member)
 
       pub counted : (1 ≤ c.count) × (row.cells - 3 ≤ c.words)
       counted = (omega (arith, fewer, f.count), omega (arith, less, f.words, word_count_is))

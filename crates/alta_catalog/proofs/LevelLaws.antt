@@ -177,10 +177,6 @@ one_kept p (r ∷ rows) row has =
     (here_or_there r (filter p rows) row (subst (λ (rs : List DocRow). Contains rs row) (filter_keep p r rows keeps) has)))
     (λ drops. let rest = one_kept p rows row (subst (λ (rs : List DocRow). Contains rs row) (filter_drop p r rows drops) has) in (there r rows row rest.0, rest.1))
 
--- all of it is among all
-pub kept_among : (p : DocRow → Bool) (rows : List DocRow) → All (Contains rows) (filter p rows)
-kept_among p rows = λ k d inside. (one_kept p rows (get_or (filter p rows) k d) (Contains-get_or (filter p rows) k d inside)).0
-
 -- the ends of rows that are gone tell of each row what all tell
 ends_tell : (gone : List ℕ) (rows : List DocRow) → All (λ (row : DocRow). ends_among (ends_in gone rows) row ≡ ends_among gone row) rows
 ends_tell gone rows = λ k d inside.

@@ -20,4 +20,3 @@ pub mod SpaceLaws
 pub mod StartLaws
 pub mod StartingLaws
 pub mod TallyLaws
-pub mod WordCounts

@@ -1,5 +1,5 @@
 -- The rows of a store's names are those of the state.
-use Rattle.std.proofs.Common.{◌≡◌, ◌⊎◌, inl, inr, ⊎_elim, ℕ, zero, suc, Bool, true, false, cond, Global, List, [], ◌∷◌, map, Option, refl, sym, ◌∙◌, ap, subst, arith}
+use Rattle.std.proofs.Common.{◌≡◌, ◌⊎◌, ⊎_elim, ℕ, zero, Bool, true, false, cond, Global, List, [], ◌∷◌, map, Option, refl, sym, ◌∙◌, ap, subst, arith}
 use Rattle.std.specs.Prelude.{Some, None, Contains, String, string_bytes, is_some}
 use Rattle.std.specs.BTreeMap.{BTreeMap, IsOrdered, get_by_text}
 use Rattle.std.specs.Cmp.Lexicographic.{slice_cmp}
@@ -23,6 +23,7 @@ use Rattle.alta_images.specs.States.{has_name, number_of}
 use Rattle.alta_catalog.specs.declared.lists.NameRow.{NameRow}
 use Rattle.alta_images.proofs.Tests.{by_test}
 use Rattle.alta_catalog.proofs.DocumentLaws.{no_number_of, number_found}
+use Rattle.alta_catalog.proofs.EndLaws.{here_or_there, there}
 
 -- a name and its number, as they are kept
 abbrev Kept : Type 0
@@ -44,13 +45,6 @@ ascend [] sorted = tt
 ascend (e ∷ es) sorted = (ascend_after (string_bytes e.0) es sorted.0, ascend es sorted.1)
 
 -- ---- a row is there exactly where its name is found with its number
-here_or_there : {X : Type 0} (x : X) (xs : List X) (y : X) → Contains (x ∷ xs) y → (x ≡ y) ⊎ Contains xs y
-here_or_there x xs y (zero, inside, is) = inl is
-here_or_there x xs y (suc k, inside, is) = inr (k, omega (arith, inside), is)
-
-there : {X : Type 0} (x : X) (xs : List X) (y : X) → Contains xs y → Contains (x ∷ xs) y
-there x xs y (k, inside, is) = (suc k, omega (arith, inside), is)
-
 same_bytes : (name bytes : List ℕ) → name ≡ bytes → is_eq (slice_cmp nat_cmp name bytes) ≡ true
 same_bytes name bytes same = subst (λ (b : List ℕ). is_eq (slice_cmp nat_cmp name b) ≡ true) same (ap is_eq (tied_itself nat_list_cmp_total name))
 

@@ -1,5 +1,5 @@
 -- What the store notes of a state, as documents come and go.
-use Rattle.std.proofs.Common.{◌≡◌, ℕ, ◌+◌, Bool, true, false, cond, not, Global, List, [], ◌∷◌, ◌++◌, refl, sym, ◌∙◌, ap, subst}
+use Rattle.std.proofs.Common.{◌≡◌, ℕ, ◌+◌, Bool, true, false, cond, not, Global, List, [], ◌∷◌, ◌++◌, sym, ◌∙◌, ap, subst}
 use Rattle.std.specs.Prelude.{◌||◌, ◌==◌, Some, None, String, is_some}
 use Rattle.std.specs.List.{filter}
 use Rattle.std.specs.Map.{update}
@@ -11,22 +11,25 @@ use Rattle.alta_meta.specs.declared.document.State.{State}
 use Rattle.alta_catalog.specs.Knowing.{AreFound, Notes}
 use Rattle.alta_images.specs.States.{has_name, has_number, number_of, with_added, with_deleted, without}
 use Rattle.alta_images.proofs.Tests.{by_test, bytes_from}
-use Rattle.alta_catalog.proofs.DocumentLaws.{found_left, found_more, name_gone, name_stays, number_found, numbered_as, rise_left, rise_more, same_left}
+use Rattle.alta_catalog.proofs.DocumentLaws.{found_left, found_more, name_gone, name_stays, number_found, numbered_as, same_left}
 use Rattle.alta_images.proofs.NameLaws.{has_name-with_added, is_some-noted}
+use Rattle.alta_images.specs.Known.{known_of}
+use Rattle.alta_images.specs.Ordered.{IsOrdered}
+use Rattle.alta_images.proofs.KnownLaws.{ordered_deleted}
 
 module _ (number : ℕ) (old : BTreeMap (String Global) ℕ) (kept : List Document) (s : State) (notes : Notes number old kept s) where
   -- a document more
   pub notes_added : (new : BTreeMap (String Global) ℕ) (name title body : List ℕ) → is_some (get_by_text old name) ≡ false
       → ((q : List ℕ) → get_by_text new q ≡ update bytes_eq (get_by_text old) name (Some number) q)
-      → (d : Document) → d ≡ record { number = number; name = name; cells = cells_of name title body } → Notes (number + 1) new (kept ++ d ∷ []) (with_added name title body s)
-  notes_added new name title body free noted d is =
+      → (d : Document) → d ≡ record { number = number; name = name; cells = cells_of name title body } → IsOrdered (known_of (with_added name title body s)) → Notes (number + 1) new (kept ++ d ∷ []) (with_added name title body s)
+  notes_added new name title body free noted d is ordered =
       let made : ℕ → Document = λ (n : ℕ). record { number = n; name = name; cells = cells_of name title body } in
       record {
         next = ap (λ (n : ℕ). n + 1) notes.next;
         documents = ap (λ (ds : List Document). ds ++ d ∷ []) notes.documents ∙ ap (λ (c : Document). s.documents ++ c ∷ []) (is ∙ ap made notes.next);
         names = λ q. is_some-noted old new name number noted q ∙ ap (λ (known : Bool). bytes_eq q name || known) (notes.names q) ∙ sym (has_name-with_added q name title body s);
         numbers = found_more old new s.documents (made s.next) (subst (λ (n : ℕ). (q : List ℕ) → get_by_text new q ≡ update bytes_eq (get_by_text old) name (Some n) q) notes.next noted) free notes.numbers;
-        rising = rise_more 0 s.documents s.next (made s.next) refl notes.rising;
+        ordered = ordered;
       }
 
   -- a name that stands for a number is that of a live document
@@ -40,7 +43,7 @@ module _ (number : ℕ) (old : BTreeMap (String Global) ℕ) (kept : List Docume
   is_numbered q n is = numbered_as old q n s.documents notes.numbers is (is_named q n is)
 
   documents_left : (q : List ℕ) (n : ℕ) → get_by_text old q ≡ Some n → filter (λ (d : Document). not (bytes_eq q d.name)) s.documents ≡ filter (λ (d : Document). not (d.number == n)) s.documents
-  documents_left q n is = same_left old q n 0 s.documents s.next notes.rising notes.numbers is (is_named q n is)
+  documents_left q n is = same_left old q n s.documents notes.ordered.ordered notes.numbers is (is_named q n is)
 
   -- to delete a name is to leave out its number
   pub deleted_is : (q : List ℕ) (n : ℕ) → get_by_text old q ≡ Some n → without n s ≡ with_deleted q s
@@ -60,10 +63,10 @@ module _ (number : ℕ) (old : BTreeMap (String Global) ℕ) (kept : List Docume
             (λ other. ap (λ (b : Bool). is_some (cond b None (get_by_text old x))) other ∙ notes.names x ∙ sym (name_stays q x s.documents other))
             ∙ ap (has_name x) (sym (deleted_is q n is));
         numbers = subst (AreFound new) left (found_left old new q s.documents forgot notes.numbers);
-        rising = rise_left (λ (d : Document). not (d.number == n)) 0 s.documents s.next notes.rising;
+        ordered = subst (λ (t : State). IsOrdered (known_of t)) (sym (deleted_is q n is)) (ordered_deleted s q notes.ordered);
       }
 
   pub notes_more : (new : BTreeMap (String Global) ℕ) (name title body : List ℕ) → is_some (get_by_text old name) ≡ false
       → ((q : List ℕ) → get_by_text new q ≡ update bytes_eq (get_by_text old) name (Some number) q)
-      → (d : Document) → d ≡ record { number = number; name = name; cells = cells_of name title body } → (all : List Document) → all ≡ kept ++ d ∷ [] → Notes (number + 1) new all (with_added name title body s)
-  notes_more new name title body free noted d is all all_is = subst (λ (ds : List Document). Notes (number + 1) new ds (with_added name title body s)) (sym all_is) (notes_added new name title body free noted d is)
+      → (d : Document) → d ≡ record { number = number; name = name; cells = cells_of name title body } → IsOrdered (known_of (with_added name title body s)) → (all : List Document) → all ≡ kept ++ d ∷ [] → Notes (number + 1) new all (with_added name title body s)
+  notes_more new name title body free noted d is ordered all all_is = subst (λ (ds : List Document). Notes (number + 1) new ds (with_added name title body s)) (sym all_is) (notes_added new name title body free noted d is ordered)

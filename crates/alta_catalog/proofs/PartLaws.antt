@@ -1,5 +1,5 @@
 -- Documents that are known by their rows.
-use Rattle.std.proofs.Common.{◌≡◌, ℕ, ◌+◌, Bool, Global, List, [], ◌∷◌, map, refl, sym, ◌∙◌, ap, subst, arith}
+use Rattle.std.proofs.Common.{◌≡◌, ℕ, Bool, Global, List, [], ◌∷◌, map, refl, sym, ◌∙◌, ap, subst}
 use Rattle.std.specs.Prelude.{◌||◌, Some, String}
 use Rattle.std.specs.List.{list_any}
 use Rattle.std.specs.BTreeMap.{BTreeMap, get_by_text}
@@ -7,7 +7,8 @@ use Rattle.std.specs.Str.{bytes_eq}
 use Rattle.alta_images.specs.Known.{Named, named_of}
 use Rattle.alta_meta.specs.declared.document.Document.{Document}
 use Rattle.alta_meta.specs.declared.document.State.{State}
-use Rattle.alta_catalog.specs.Knowing.{AreFound, Notes, RiseWithin}
+use Rattle.alta_catalog.specs.Knowing.{AreFound, Notes}
+use Rattle.alta_images.specs.Ordered.{IsOrdered}
 
 -- ---- documents with the same names and numbers
 
@@ -29,16 +30,6 @@ same_found known (d ∷ ds) (e ∷ es) same found =
     let rest : map named_of ds ≡ map named_of es = cc in
     (subst (λ (n : Named). get_by_text known n.name ≡ Some n.number) here found.0, same_found known ds es rest found.1)
 
-same_rise : (low next : ℕ) (ds es : List Document) → map named_of ds ≡ map named_of es → RiseWithin low ds next → RiseWithin low es next
-same_rise low next [] [] same rise = rise
-same_rise low next [] (e ∷ es) same rise = absurd cc
-same_rise low next (d ∷ ds) [] same rise = absurd cc
-same_rise low next (d ∷ ds) (e ∷ es) same rise =
-    let here : named_of d ≡ named_of e = cc in
-    let rest : map named_of ds ≡ map named_of es = cc in
-    let number : d.number ≡ e.number = ap (λ (n : Named). n.number) here in
-    (omega (arith, number, rise.0), same_rise (e.number + 1) next ds es rest (subst (λ n. RiseWithin (n + 1) ds next) number rise.1))
-
 -- what is noted of documents is noted of others with their names and numbers
 pub notes_same : (number : ℕ) (known : BTreeMap (String Global) ℕ) (kept : List Document) (s : State) → Notes number known kept s → (others : List Document) → map named_of kept ≡ map named_of others
     → Notes number known others (record { next = s.next; documents = others })
@@ -49,5 +40,5 @@ notes_same number known kept s notes others same =
       documents = refl;
       names = λ name. notes.names name ∙ same_names name s.documents others alike;
       numbers = same_found known s.documents others alike notes.numbers;
-      rising = same_rise 0 s.next s.documents others alike notes.rising;
+      ordered = subst (λ (rows : List Named). IsOrdered (record { next = s.next; live = rows })) alike notes.ordered;
     }

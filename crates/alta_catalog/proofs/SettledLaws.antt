@@ -12,7 +12,6 @@ use Rattle.alta_images.specs.Ordered.{Precedes, RowsRise}
 use Rattle.alta_images.specs.States.{words_in}
 use Rattle.alta_images.proofs.KeptStates.{rise_some}
 use Rattle.alta_images.proofs.KnownLaws.{all_weaker}
-use Rattle.alta_images.proofs.WrittenLaws.{all_left, all_right}
 use Rattle.alta_memlevel.specs.Added.{Added, HasContent, IsDocument, IsSpace}
 use Rattle.alta_memlevel.specs.Documents.{IsBefore, IsMade}
 use Rattle.alta_meta.specs.declared.document.State.{State}
@@ -23,6 +22,7 @@ use Rattle.alta_catalog.specs.declared.catalog.Catalog.{Catalog}
 use Rattle.alta_catalog.proofs.EndLaws.{space_all}
 use Rattle.alta_catalog.proofs.SharingLaws.{space_precedes}
 use Rattle.alta_catalog.proofs.StartLaws.{IsCounted, all_rows, row_of}
+use Rattle.alta_content.proofs.Elements.{all_left, all_right}
 
 -- ---- a catalog
 

@@ -10,9 +10,10 @@ use Rattle.alta_memlevel.specs.Documents.{document_in}
 use Rattle.alta_meta.specs.declared.document.Document.{Document}
 use Rattle.alta_images.specs.States.{word_count}
 use Rattle.alta_images.proofs.Tests.{by_test, filter_drop, filter_keep}
-use Rattle.alta_catalog.specs.Knowing.{RiseWithin}
 use Rattle.alta_catalog.specs.Rows.{documents_left}
-use Rattle.alta_catalog.proofs.DocumentLaws.{rise_from}
+use Rattle.alta_images.specs.Known.{Named, named_of}
+use Rattle.alta_images.specs.Ordered.{AreOrdered, IsBefore}
+use Rattle.alta_images.proofs.KnownLaws.{all_both, all_weaker}
 
 -- a document more, behind all
 pub space_push : (xs : List Added) (a : Added) → IsSpace xs → IsDocument a → All (λ (b : Added). b.row.number < a.row.number) xs → All (λ (b : Added). end_of b.row < a.row.first) xs → IsSpace (xs ++ a ∷ [])
@@ -57,19 +58,16 @@ words_fit gone low location (a ∷ more) space firsts ends within =
     (omega (arith, rest, first, some, space.0.counted, sum_by-cons word_count (document_in a) (documents_left gone more))))
 
 -- nor are they more than there are numbers
-pub rise_long : (low : ℕ) (ds : List Document) (next : ℕ) → RiseWithin low ds next → low + length ds ≤ next
-rise_long low [] next rise = omega (arith, rise)
-rise_long low (d ∷ ds) next rise = omega (arith, rise.0, rise_long (d.number + 1) ds next rise.1)
-
--- and their numbers rise
-pub rise_of : (gone : List ℕ) (low next : ℕ) (xs : List Added) → IsSpace xs → All (λ (a : Added). low ≤ a.row.number) xs → All (λ (a : Added). a.row.number < next) xs → low ≤ next → RiseWithin low (documents_left gone xs) next
-rise_of gone low next [] space numbers below within = within
-rise_of gone low next (a ∷ more) space numbers below within =
-    let here : low ≤ a.row.number = All-head (λ (b : Added). low ≤ b.row.number) a more numbers in
-    let under : a.row.number < next = All-head (λ (b : Added). b.row.number < next) a more below in
-    let rest : RiseWithin (a.row.number + 1) (documents_left gone more) next =
-    rise_of gone (a.row.number + 1) next more space.3 (All-weaker (λ (b : Added). a.row.number < b.row.number) (λ (b : Added). a.row.number + 1 ≤ b.row.number) (λ b lies. omega (arith, lies)) more space.1)
-    (All-tail (λ (b : Added). b.row.number < next) a more below) (omega (arith, under)) in
-    by_test (ends_among gone a.row)
-    (λ dead. subst (λ (ds : List Document). RiseWithin low ds next) (sym (left_dead gone a more dead)) (rise_from (a.row.number + 1) low (documents_left gone more) next (omega (arith, here)) rest))
-    (λ alive. subst (λ (ds : List Document). RiseWithin low ds next) (sym (left_alive gone a more alive)) (here, rest))
+pub ordered_long : (low : ℕ) (ds : List Document) (next : ℕ) → AreOrdered (map named_of ds) → All (λ (row : Named). (low ≤ row.number) × (row.number < next)) (map named_of ds) → low ≤ next → low + length ds ≤ next
+ordered_long low [] next ordered within le = omega (arith, le)
+ordered_long low (d ∷ ds) next ordered within le =
+    let Fits : ℕ → Named → Type 0 = λ n row. (n ≤ row.number) × (row.number < next) in
+    let here = All-head (Fits low) (named_of d) (map named_of ds) within in
+    let rest = All-tail (Fits low) (named_of d) (map named_of ds) within in
+    omega (
+      arith,
+      here,
+      ordered_long (d.number + 1) ds next ordered.1
+          (all_weaker (λ (row : Named). IsBefore (named_of d) row × Fits low row) (Fits (d.number + 1)) (map named_of ds) (λ row both. (omega (arith, both.0.0), both.1.1)) (all_both (IsBefore (named_of d)) (Fits low) (map named_of ds) ordered.0 rest))
+          (omega (arith, here.1)),
+    )

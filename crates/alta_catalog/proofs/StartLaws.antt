@@ -14,8 +14,7 @@ use Rattle.alta_images.specs.Known.{Named, named, named_of}
 use Rattle.alta_images.specs.Opened.{have_ends, live_in, rows_in}
 use Rattle.alta_images.specs.Ordered.{AreOrdered, IsBefore}
 use Rattle.alta_images.specs.States.{word_count}
-use Rattle.alta_images.proofs.OrderLaws.{and_left, and_right}
-use Rattle.alta_images.proofs.Tests.{by_test, bytes_from, bytes_same, equal_from, filter_drop, filter_keep}
+use Rattle.alta_images.proofs.Tests.{by_test, bytes_from, bytes_same, equal_from, filter_drop, filter_keep, and_left, and_right}
 use Rattle.alta_memlevel.specs.Added.{Added, IsSpace}
 use Rattle.alta_memlevel.specs.Documents.{document_in}
 use Rattle.alta_meta.specs.declared.document.Document.{Document}
@@ -36,7 +35,7 @@ abbrev pub IsCounted : Added → Type 0
 IsCounted a = length a.cells ≡ a.row.cells
 
 -- the rows of documents rise as the rows do
-lies_behind : (before : Before) (xs : List Added) → AreDocumentsBehind before (map row_of xs) → All (λ (a : Added). before.number < a.row.number) xs
+pub lies_behind : (before : Before) (xs : List Added) → AreDocumentsBehind before (map row_of xs) → All (λ (a : Added). before.number < a.row.number) xs
 unfolding AreDocumentsBehind
 lies_behind before [] are = All-nil (λ (a : Added). before.number < a.row.number)
 lies_behind before (a ∷ xs) are =

@@ -1,14 +1,14 @@
 -- A catalog of what opening found stands at each state of which its root may speak.
 use Rattle.std.proofs.Common.{◌≡◌, ℕ, ◌+◌, ◌-◌, ◌*◌, ◌<◌, ◌≤◌, true, IsTrue, List, [], length, map, sym, ◌∙◌, ap, subst, arith}
-use Rattle.std.specs.Prelude.{Contains}
+use Rattle.std.specs.Prelude.{Contains, not}
 use Rattle.std.specs.List.{All, sum_by}
 use Rattle.alta_codec.specs.Rising.{IsRising}
-use Rattle.alta_content.specs.Rows.{AreDocuments, end_of, live_rows, start}
+use Rattle.alta_content.specs.Rows.{AreDocuments, end_of, live_rows, start, ends_among}
 use Rattle.alta_content.specs.declared.document.DocRow.{DocRow}
 use Rattle.alta_images.specs.Known.{named_of}
 use Rattle.alta_images.specs.Opened.{have_ends, live_in, rows_in}
 use Rattle.alta_images.specs.Ordered.{AreBelow, AreOrdered}
-use Rattle.alta_memlevel.specs.Added.{Added, HasContent, IsSpace}
+use Rattle.alta_memlevel.specs.Added.{Added, HasContent, IsSpace, live_of}
 use Rattle.alta_meta.specs.declared.document.Document.{Document}
 use Rattle.alta_meta.specs.declared.document.State.{State}
 use Rattle.alta_root.specs.Root.{IsSound}
@@ -20,8 +20,10 @@ use Rattle.alta_rows.specs.All.{rows_in as rows_of}
 use Rattle.alta_catalog.specs.Rows.{MayStart, documents_left}
 use Rattle.alta_catalog.specs.declared.catalog.Catalog.{Catalog}
 use Rattle.alta_catalog.proofs.SettledLaws.{IsSettled, settled_knows}
-use Rattle.alta_catalog.proofs.SpaceLaws.{rise_of}
-use Rattle.alta_catalog.proofs.StartLaws.{all_rows, cells_fit, ends_there, filled_of, live_long, live_named, live_words, name_known, names_found, space_of}
+use Rattle.alta_catalog.proofs.StartLaws.{all_rows, cells_fit, ends_there, filled_of, lies_behind, live_long, live_named, live_words, name_known, names_found, space_of}
+use Rattle.alta_images.proofs.KnownLaws.{IsWithin}
+use Rattle.std.proofs.lemmas.List.Elements.{All-filter, All-map}
+use Rattle.alta_memlevel.specs.Documents.{document_in}
 
 -- the cells of the rows below a root are few
 pub cells_below : (root : Root) (size : ℕ) → IsSound size root → (rows : List DocRow) → AreDocuments rows → AreBelow root rows → cells_in rows < 18446744073709551616
@@ -56,6 +58,16 @@ module _ (c : Catalog) (root : Root) (size : ℕ) (sound : IsSound size root) (g
       all_rows (λ (r : DocRow). (r.number < root.next_number) × (end_of r < root.next_location)) olds
       (subst (AreBelow root) (sym may.rows.rows_are) below)
 
+  positive : All (λ (a : Added). 0 < a.row.number) olds
+  positive = lies_behind start olds (subst AreDocuments (sym may.rows.rows_are) rows)
+
+  within : All (IsWithin root.next_number) (map named_of left)
+  within =
+      All-map (IsWithin root.next_number) named_of left
+      (All-map (λ (d : Document). IsWithin root.next_number (named_of d)) document_in (live_of gone olds)
+      (All-filter (λ (a : Added). not (ends_among gone a.row)) (λ (a : Added). (1 ≤ a.row.number) × (a.row.number < root.next_number)) olds
+      (λ k d inside. (omega (arith, positive k d inside), (all_below k d inside).0))))
+
   settled : IsSettled c olds (record { next = root.next_number; documents = left })
   settled = record {
     rows = may.rows;
@@ -72,7 +84,7 @@ module _ (c : Catalog) (root : Root) (size : ℕ) (sound : IsSound size root) (g
       documents = ap (λ (g : List ℕ). documents_left g olds) gone_is;
       names = λ q. name_known c.names left are_names q;
       numbers = names_found c.names left are_names (subst AreOrdered live_is ordered);
-      rising = rise_of gone 0 root.next_number olds space (λ k d inside. omega arith) (λ k d inside. (all_below k d inside).0) (omega arith);
+      ordered = record { ordered = subst AreOrdered live_is ordered; within = within };
     };
     first = first_is ∙ sym next_is;
     from = (omega (arith, next_is, sound.number), omega (arith, location_is, sound.location));

@@ -19,6 +19,8 @@ use Rattle.alta_catalog.specs.Rows.{AreRowsOf, documents_left}
 use Rattle.alta_catalog.specs.declared.catalog.Catalog.{Catalog}
 use Rattle.alta_rows.specs.All.{rows_in as rows_of}
 use Rattle.alta_table.specs.Tables.{Tables}
+use Rattle.alta_images.specs.Known.{known_of}
+use Rattle.alta_images.specs.Ordered.{IsOrdered}
 
 -- ---- names and numbers
 
@@ -27,18 +29,13 @@ abbrev pub AreFound : BTreeMap (String Global) ℕ → List Document → Type 0
 AreFound known [] = Unit {0}
 AreFound known (document ∷ documents) = (get_by_text known document.name ≡ Some document.number) × AreFound known documents
 
--- the numbers of the documents rise, from at least `low` to below `next`
-abbrev pub RiseWithin : ℕ → List Document → ℕ → Type 0
-RiseWithin low [] next = low ≤ next
-RiseWithin low (document ∷ documents) next = (low ≤ document.number) × RiseWithin (document.number + 1) documents next
-
--- This is the next number of the state, these are its documents, and these are their names.
+-- This is the next number of the state, these are its documents, and these are their names; their numbers rise.
 pub record Notes (number : ℕ) (known : BTreeMap (String Global) ℕ) (kept : List Document) (s : State) : Type 0 where
   pub next : number ≡ s.next
   pub documents : kept ≡ s.documents
   pub names : (name : List ℕ) → is_some (get_by_text known name) ≡ has_name name s
   pub numbers : AreFound known s.documents
-  pub rising : RiseWithin 0 s.documents s.next
+  pub ordered : IsOrdered (known_of s)
 
 -- ---- all of it
 

@@ -13,9 +13,9 @@ use Rattle.alta_images.specs.Chain.{◌>>=◌}
 use Rattle.alta_images.specs.Working.{Full, Placed, in_front, placed, placed_levels, AllApart, staying, LiesWithin}
 use Rattle.alta_images.proofs.FullLaws.{placed_first}
 use Rattle.alta_images.proofs.KeptStates.{ok_is, err_ok}
-use Rattle.alta_images.proofs.WrittenLaws.{all_left, all_right}
+use Rattle.alta_content.proofs.Elements.{all_left, all_right}
 
-swapped : (a b : Extent) → AreApart a b → AreApart b a
+pub swapped : (a b : Extent) → AreApart a b → AreApart b a
 swapped a b apart = ⊎_elim (λ before. inr before) (λ behind. inl behind) apart
 
 -- a gap beside what is taken and others
@@ -130,7 +130,7 @@ all_drop P zero es all = all
 all_drop P (suc k) [] all = all
 all_drop P (suc k) (e ∷ es) all = all_drop P k es (All-tail P e es all)
 
-apart_drop : (k : ℕ) (es : List Extent) → AllApart es → AllApart (drop k es)
+pub apart_drop : (k : ℕ) (es : List Extent) → AllApart es → AllApart (drop k es)
 apart_drop zero es apart = apart
 apart_drop (suc k) [] apart = apart
 apart_drop (suc k) (e ∷ es) apart = apart_drop k es apart.1

@@ -15,14 +15,15 @@ use Rattle.alta_content.specs.declared.content.TermList.{TermList}
 use Rattle.alta_memlevel.specs.Added.{Added, IsDocument, IsSpace, list_of, places_of}
 use Rattle.alta_meta.specs.Cells.{cell_holds, cells_of, word_cell}
 use Rattle.alta_meta.specs.declared.document.Document.{Document}
-use Rattle.alta_images.specs.Joining.{content_of}
 use Rattle.alta_images.specs.Levels.{cell_at, document_of, locations_from}
-use Rattle.alta_images.proofs.ContentLaws.{content_has}
 use Rattle.alta_images.proofs.NameLaws.{bytes_eq-swap}
 use Rattle.alta_content.specs.declared.document.DocRow.{DocRow}
 use Rattle.alta_text.specs.Words.{words_of}
-use Rattle.alta_images.proofs.TermOrder.{After, Sorted, has, none_of, one_list, same_term}
 use Rattle.alta_images.proofs.KnownLaws.{all_weaker, all_both}
+use Rattle.alta_content.proofs.Order.{After, Sorted, has, none_of, one_list, same_term}
+use Rattle.alta_memlevel.proofs.One.{content_has}
+use Rattle.alta_memlevel.specs.Documents.{content_of}
+use Rattle.alta_images.proofs.Tests.{or_last, or_neither}
 
 abbrev pub among : ℕ → List ℕ → Bool
 among x xs = list_any (nat_eq x) xs
@@ -82,14 +83,6 @@ not_there : (x y : ℕ) (b : Bool) → (x ≡ y → ⊥) → among x (cond b (y 
 not_there x y true other = ap (λ b. b || false) (ne_eqb x y other)
 not_there x y false other = refl
 
-or_none : (a b : Bool) → a ≡ false → b ≡ false → (a || b) ≡ false
-or_none true b e f = e
-or_none false b e f = f
-
-or_last : (a b : Bool) → a ≡ false → (a || b) ≡ b
-or_last true b e = absurd cc
-or_last false b e = refl
-
 or_front : (a b : Bool) → b ≡ false → (a || b) ≡ a
 or_front true b e = refl
 or_front false b e = e
@@ -98,13 +91,13 @@ below_places : (x first : ℕ) (t : List ℕ) (cells : List (List (List ℕ))) �
 below_places x first t [] less = refl
 below_places x first t (c ∷ cs) less =
     among_first x first (cell_holds t c) (places_of (first + 1) t cs)
-    ∙ or_none (among x (cond (cell_holds t c) (first ∷ []) [])) (among x (places_of (first + 1) t cs)) (not_there x first (cell_holds t c) (λ e. omega (arith, e, less))) (below_places x (first + 1) t cs (omega (arith, less)))
+    ∙ or_neither (among x (cond (cell_holds t c) (first ∷ []) [])) (among x (places_of (first + 1) t cs)) (not_there x first (cell_holds t c) (λ e. omega (arith, e, less))) (below_places x (first + 1) t cs (omega (arith, less)))
 
 above_places : (x first : ℕ) (t : List ℕ) (cells : List (List (List ℕ))) → first + length cells ≤ x → among x (places_of first t cells) ≡ false
 above_places x first t [] past = refl
 above_places x first t (c ∷ cs) past =
     among_first x first (cell_holds t c) (places_of (first + 1) t cs)
-    ∙ or_none (among x (cond (cell_holds t c) (first ∷ []) [])) (among x (places_of (first + 1) t cs)) (not_there x first (cell_holds t c) (λ e. omega (arith, e, past))) (above_places x (first + 1) t cs (omega (arith, past)))
+    ∙ or_neither (among x (cond (cell_holds t c) (first ∷ []) [])) (among x (places_of (first + 1) t cs)) (not_there x first (cell_holds t c) (λ e. omega (arith, e, past))) (above_places x (first + 1) t cs (omega (arith, past)))
 
 here_place : (x y : ℕ) (b : Bool) → x ≡ y → among x (cond b (y ∷ []) []) ≡ b
 here_place x y true e = ap (λ b. b || false) (eq-eqb x y e)
@@ -131,7 +124,7 @@ none_behind : (x : ℕ) (t : List ℕ) (added : List Added) → All (λ (b : Add
 none_behind x t [] all = refl
 none_behind x t (b ∷ more) all =
     list_any-append (nat_eq x) (places_of b.row.first t b.cells) (list_of more t)
-    ∙ or_none (among x (places_of b.row.first t b.cells)) (among x (list_of more t)) (below_places x b.row.first t b.cells (All-head (λ (b : Added). x < b.row.first) b more all))
+    ∙ or_neither (among x (places_of b.row.first t b.cells)) (among x (list_of more t)) (below_places x b.row.first t b.cells (All-head (λ (b : Added). x < b.row.first) b more all))
     (none_behind x t more (All-tail (λ (b : Added). x < b.row.first) b more all))
 
 -- at the locations of a document the lists are those of its cells alone

@@ -2,7 +2,6 @@
 use Rattle.std.proofs.Common.{inl, ℕ, List, [], length, take, refl, ap, ◌∙◌, arith}
 use Rattle.std.proofs.lemmas.List.Elements.{All-nil, All-cons}
 use Rattle.alta_journal.specs.Entry.{IsSound as IsSoundEntry}
-use Rattle.alta_journal.specs.declared.places.TheConstants.{START_A}
 use Rattle.alta_level.specs.Segments.{IsSegment}
 use Rattle.alta_postings.specs.Deltas.{fault_from, first_fault, list_from, locations_of}
 use Rattle.alta_root.specs.Places.{fields_at}
@@ -12,9 +11,10 @@ use Rattle.alta_root.specs.declared.slot.Slot.TheVariants.{A}
 use Rattle.alta_root.proofs.SpellLaws.{body_says}
 use Rattle.alta_images.specs.Levels.{Level}
 use Rattle.alta_images.specs.States.{empty}
-use Rattle.alta_images.specs.Opened.{Opened, IsNamed, bytes_at, deleted_in}
-use Rattle.alta_images.specs.Standing.{StandsFor}
-use Rattle.alta_images.specs.Switching.{empty_root, IsFormatted}
+use Rattle.alta_images.specs.Holding.{IsHeld}
+use Rattle.alta_images.specs.Opened.{IsNamed, IsOpened, bytes_at, deleted_in}
+use Rattle.alta_images.specs.Standing.{AreLevels, StandsFor}
+use Rattle.alta_images.specs.Switching.{empty_held, empty_opened, empty_root, IsFormatted}
 
 empty_sound : (size : ℕ) → IsSound size empty_root
 empty_sound size = record { few = omega arith; number = (omega arith, omega arith); location = (omega arith, omega arith); deletions = inl refl; levels = tt }
@@ -29,10 +29,7 @@ formatted_counts image is = record {
   later = λ second. absurd (is.second second);
 }
 
-abbrev pub formatted_opened : Opened
-formatted_opened = record { slot = A; root = empty_root; deleted = []; levels = []; entries = []; tail = START_A }
-
-pub formatted_named : (image : List ℕ) → IsFormatted image → IsNamed formatted_opened image
+pub formatted_named : (image : List ℕ) → IsFormatted image → IsNamed empty_opened image
 unfolding deleted_in first_fault fault_from list_from locations_of
 formatted_named image is = record {
   list = refl;
@@ -48,14 +45,18 @@ formatted_named image is = record {
   admitted = refl;
 }
 
+pub formatted_opened : (image : List ℕ) → IsFormatted image → IsOpened empty_opened image
+formatted_opened image is = record { counts = formatted_counts image is; named = formatted_named image is }
+
+are_none : (image : List ℕ) → AreLevels empty_opened [] image
+are_none image = record { extents = refl; tables = refl; segments = All-nil (λ (l : Level). IsSegment (bytes_at l.extent image) l.content) }
+
+pub formatted_held : (image : List ℕ) → IsFormatted image → IsHeld empty_held image
+formatted_held image is = record { opened = empty_opened; is = formatted_opened image is; are = are_none image; view_is = refl; list_is = refl }
+
 pub formatted_stands : (image : List ℕ) → IsFormatted image → StandsFor empty image
 formatted_stands image is = record {
-  opened = formatted_opened;
+  opened = empty_opened;
   counts = formatted_counts image is;
-  means = record {
-    named = formatted_named image is;
-    levels = [];
-    are = record { extents = refl; tables = refl; segments = All-nil (λ (l : Level). IsSegment (bytes_at l.extent image) l.content) };
-    state_is = refl;
-  };
+  means = record { named = formatted_named image is; levels = []; are = are_none image; state_is = refl };
 }

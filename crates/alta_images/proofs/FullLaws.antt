@@ -14,7 +14,6 @@ use Rattle.alta_content.specs.declared.content.Content.{Content}
 use Rattle.alta_postings.specs.Deltas.{stream_bytes}
 use Rattle.alta_root.specs.Root.{no_extent}
 use Rattle.alta_root.specs.Gaps.{IsFirstGap, IsLongestGap}
-use Rattle.alta_images.specs.Joining.{terms_in}
 use Rattle.alta_images.specs.Levels.{Level}
 use Rattle.alta_images.specs.Work.{Job, Coming, stays, anew, coming, newest_content, gone_among, is_merged, job_of, oldest_joined, with_oldest, whole_of, rows_in, Task, enters, flushes, merges, steps, fits}
 use Rattle.alta_images.proofs.Tests.{by_test}
@@ -27,11 +26,12 @@ use Rattle.alta_images.specs.Working.{Full, IsWanting, Placed, in_front, placed,
 use Rattle.alta_root.proofs.GapFunctions.{first_some, first_none, greatest_is}
 use Rattle.alta_images.proofs.KeptStates.{by_levels, by_entries, ok_is, err_ok}
 use Rattle.alta_images.proofs.WellLaws.{all_of, by_merged, by_none, by_room, by_same, by_terms}
+use Rattle.alta_content.specs.Joining.{terms_in}
 
-full_is : {A : Type 0} (x y : Full) → ◌≡◌ {A = Result A Full} (Err x) (Err y) → x ≡ y
+pub full_is : {A : Type 0} (x y : Full) → ◌≡◌ {A = Result A Full} (Err x) (Err y) → x ≡ y
 full_is x y e = cc
 
-ok_err : {A : Type 0} (x : A) (full : Full) → ◌≡◌ {A = Result A Full} (Ok x) (Err full) → ⊥
+pub ok_err : {A : Type 0} (x : A) (full : Full) → ◌≡◌ {A = Result A Full} (Ok x) (Err full) → ⊥
 ok_err x full e = absurd cc
 
 -- ---- one place
@@ -43,7 +43,7 @@ fewer more less at (e ∷ es) le all =
     (fewer more less at es le (All-tail (λ (e : Extent). Apart at more e.place e.bytes) e es all))
 
 -- nothing is as long as what finds no gap
-gap_short : (taken : List Extent) (bytes limit : ℕ) → 0 < bytes → first_gap taken bytes limit ≡ None → greatest_gap taken limit < bytes
+pub gap_short : (taken : List Extent) (bytes limit : ℕ) → 0 < bytes → first_gap taken bytes limit ≡ None → greatest_gap taken limit < bytes
 gap_short taken bytes limit some none =
     ⊎_elim (λ less. less)
     (λ more. ⊎_elim (λ zero. absurd (omega (arith, zero, more, some)))
@@ -74,7 +74,7 @@ segment_some : (c : Content) → 0 < length (segment_bytes c)
 unfolding segment_bytes
 segment_some c = omega (arith, length-append (tables_bytes c.documents (term_rows c.lists)) (flat_map list_bytes c.lists), length-tables_bytes c.documents (term_rows c.lists))
 
-number_some : (n : ℕ) → 0 < length (number_bytes n)
+pub number_some : (n : ℕ) → 0 < length (number_bytes n)
 unfolding number_bytes spelling
 number_some n = by_low (nat_lt n 128)
   where
@@ -82,7 +82,7 @@ number_some n = by_low (nat_lt n 128)
     by_low true = omega arith
     by_low false = omega arith
 
-stream_some : (deleted : List ℕ) → (length deleted == 0) ≡ false → 0 < length (stream_bytes 0 deleted)
+pub stream_some : (deleted : List ℕ) → (length deleted == 0) ≡ false → 0 < length (stream_bytes 0 deleted)
 unfolding stream_bytes
 stream_some [] some = absurd cc
 stream_some (d ∷ ds) some = omega (arith, length-append (number_bytes (d - 0)) (stream_bytes d ds), number_some (d - 0))

@@ -6,7 +6,6 @@ use Rattle.std.proofs.lemmas.List.Elements.{All-append, All-filter, All-map}
 use Rattle.std.proofs.lemmas.List.Folds.{flat_map-map}
 use Rattle.alta_content.specs.declared.content.Content.{Content}
 use Rattle.alta_memlevel.specs.Added.{Added}
-use Rattle.alta_images.specs.Joining.{content_of, joined_in, terms_in}
 use Rattle.alta_images.specs.Views.{View, state_of}
 use Rattle.alta_images.specs.Work.{Job, Coming, coming, newest, newest_content, gone, gone_among, is_merged, job_of, oldest_joined, with_oldest, whole_of, rows_in as level_rows, steps}
 use Rattle.alta_images.proofs.Tests.{by_test}
@@ -27,6 +26,8 @@ use Rattle.alta_images.proofs.SpacedLaws.{written_stands}
 use Rattle.alta_images.proofs.KeptStates.{by_levels, by_entries, contents_of, ok_is, placed_contents, rise_left, rows_append, rows_by_levels, switched_is}
 use Rattle.alta_images.proofs.WellLaws.{by_merged, by_terms}
 use Rattle.alta_images.proofs.WrittenLaws.{held_stands}
+use Rattle.alta_content.specs.Joining.{joined_in, terms_in}
+use Rattle.alta_memlevel.specs.Documents.{content_of}
 
 -- all rows lie below what comes behind the newest documents
 pub all_low : (view : View) → IsSpaced view → 1 ≤ view.location → All (LiesBelow (view.next + length (newest view)) (view.location + cells_in (newest view))) (all_rows view)

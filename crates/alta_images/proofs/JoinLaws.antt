@@ -11,7 +11,6 @@ use Rattle.alta_memlevel.specs.Added.{Added}
 use Rattle.alta_content.specs.Rows.{ends_among}
 use Rattle.alta_content.proofs.Outside.{filter_alike}
 use Rattle.alta_meta.specs.declared.document.Document.{Document}
-use Rattle.alta_images.specs.Joining.{content_of}
 use Rattle.alta_images.specs.Levels.{Level, document_of, live_rows}
 use Rattle.alta_images.specs.Views.{View, rooted, state_of}
 use Rattle.alta_images.specs.Work.{Job, stays, anew, coming, newest, newest_content, gone, gone_among, is_gone, rows_in}
@@ -23,7 +22,8 @@ use Rattle.alta_images.specs.Working.{switched, content_to_come, rows_of, docume
 use Rattle.alta_images.proofs.CellLaws.{doc_of, content_documents}
 use Rattle.alta_images.proofs.KnownLaws.{all_weaker, all_both}
 use Rattle.alta_images.proofs.KeptStates.{AreGone, IsFilled, stay, left_out, added_sorted, after_documents, contents_of, ends_kept, flushing_documents_by, flushing_rows, gone_are, live_rows_are, map_filter, newest_kept, no_rows, rise_left, rise_some, rows_append, rows_by_levels, stay_contents, switch_keeps, contents_kept}
-use Rattle.alta_images.proofs.WrittenLaws.{all_left, all_right}
+use Rattle.alta_content.proofs.Elements.{all_left, all_right}
+use Rattle.alta_memlevel.specs.Documents.{content_of}
 
 -- ---- ends that are the gone ones
 

@@ -22,7 +22,7 @@ use Rattle.alta_images.specs.Entries.{AllowsAll, after_entry, after_entries}
 use Rattle.alta_images.specs.Levels.{Level, document_of, documents_of, live_rows}
 use Rattle.alta_images.specs.Views.{View, rooted, state_of}
 use Rattle.alta_images.specs.Work.{Job, Coming, stays, anew, coming, added_at, added_from, newest, leaves_out, is_gone, gone, gone_among, newest_content, rows_in, with_oldest, oldest_joined}
-use Rattle.alta_images.proofs.Tests.{by_test, filter_keep, filter_drop, equal_test, equal_from, apart_test}
+use Rattle.alta_images.proofs.Tests.{by_test, filter_keep, filter_drop, equal_test, equal_from, apart_test, or_last, or_neither}
 use Rattle.alta_content.specs.declared.document.DocRow.{DocRow}
 use Rattle.alta_images.specs.Chain.{◌>>=◌}
 use Rattle.alta_images.specs.Holding.{Holding, taken_by, all_rows, IsSpaced}
@@ -30,7 +30,8 @@ use Rattle.alta_images.specs.Ordered.{Precedes, RowsRise}
 use Rattle.alta_images.specs.Working.{Full, Placed, in_front, placed, placed_levels, placed_list, held_then, switched, flushed, content_to_come, rows_of, documents_in}
 use Rattle.alta_images.proofs.CellLaws.{AreSorted, doc_of, content_documents, cells_sorted}
 use Rattle.alta_images.proofs.KnownLaws.{all_weaker, all_both}
-use Rattle.alta_images.proofs.WrittenLaws.{IsBehindAll, all_left, all_right, rise_apart}
+use Rattle.alta_content.proofs.Elements.{all_left, all_right}
+use Rattle.alta_images.proofs.ReadLaws.{IsBehindAll, rise_apart}
 
 -- ---- lists
 
@@ -73,14 +74,6 @@ not_or true b true e = refl
 not_or true b false e = absurd cc
 not_or false b true e = absurd cc
 not_or false b false e = refl
-
-or_last : (a b : Bool) → a ≡ false → (a || b) ≡ b
-or_last true b e = absurd cc
-or_last false b e = refl
-
-or_none : (a b : Bool) → a ≡ false → b ≡ false → (a || b) ≡ false
-or_none true b e f = e
-or_none false b e f = f
 
 eq_swap : (a b : ℕ) → (a == b) ≡ (b == a)
 eq_swap a b =
@@ -159,7 +152,7 @@ none_among p (r ∷ rows) row all =
     let rest = none_among p rows row (All-tail (λ (r : DocRow). end_of r ≢ end_of row) r rows all) in
     by_test (p r)
     (λ keeps. ap (λ (rs : List DocRow). ends_among (map end_of rs) row) (filter_keep p r rows keeps)
-    ∙ or_none (nat_eq (end_of r) (end_of row)) (ends_among (map end_of (filter p rows)) row) (ne_eqb (end_of r) (end_of row) (All-head (λ (r : DocRow). end_of r ≢ end_of row) r rows all)) rest)
+    ∙ or_neither (nat_eq (end_of r) (end_of row)) (ends_among (map end_of (filter p rows)) row) (ne_eqb (end_of r) (end_of row) (All-head (λ (r : DocRow). end_of r ≢ end_of row) r rows all)) rest)
     (λ drops. ap (λ (rs : List DocRow). ends_among (map end_of rs) row) (filter_drop p r rows drops) ∙ rest)
 
 -- a row among others with other ends: its end is kept where it passes the test
@@ -310,7 +303,7 @@ added_behind number location (Add name title body ∷ entries) =
     (all_weaker (λ (a : Added). location + length cells ≤ a.row.first) (λ (a : Added). location ≤ a.row.first) more (λ a le. omega (arith, le)) (added_behind (number + 1) (location + length cells) entries))
 added_behind number location (Delete n ∷ entries) = added_behind number location entries
 
-space_left : (p : Added → Bool) (added : List Added) → IsSpace added → IsSpace (filter p added)
+pub space_left : (p : Added → Bool) (added : List Added) → IsSpace added → IsSpace (filter p added)
 space_left p [] space = tt
 space_left p (a ∷ more) space =
     by_test (p a)
@@ -332,7 +325,7 @@ rise_some p (x ∷ xs) ys rise =
 none_deleted : (deleted : List ℕ) (location : ℕ) (row : DocRow) → All (λ end. end < location) deleted → location ≤ row.first → 1 ≤ row.cells → ends_among deleted row ≡ false
 none_deleted [] location row below behind some = refl
 none_deleted (end ∷ deleted) location row below behind some =
-    or_none (nat_eq end (end_of row)) (ends_among deleted row) (ne_eqb end (end_of row) (λ e. omega (arith, e, All-head (λ end. end < location) end deleted below, behind, some)))
+    or_neither (nat_eq end (end_of row)) (ends_among deleted row) (ne_eqb end (end_of row) (λ e. omega (arith, e, All-head (λ end. end < location) end deleted below, behind, some)))
     (none_deleted deleted location row (All-tail (λ end. end < location) end deleted below) behind some)
 
 module _ (view : View) (spaced : IsSpaced view) where

@@ -1,9 +1,9 @@
 -- What is known before and behind entries, beside the state that they make.
-use Rattle.std.proofs.Common.{◌≡◌, ◌≢◌, ⊎_elim, ℕ, ◌+◌, ◌<◌, ◌≤◌, Bool, true, false, cond, List, [], ◌∷◌, ◌++◌, length, map, refl, sym, ap, subst, ◌∙◌, arith, Result, Ok, Err}
-use Rattle.std.specs.Prelude.{not, ◌&&◌, ◌||◌, ◌==◌, nat_lt}
+use Rattle.std.proofs.Common.{◌≡◌, ◌≢◌, ℕ, ◌+◌, ◌<◌, ◌≤◌, Bool, true, false, cond, List, [], ◌∷◌, ◌++◌, length, map, refl, sym, ap, subst, ◌∙◌, arith, Result, Ok, Err}
+use Rattle.std.specs.Prelude.{not, ◌||◌, ◌==◌, nat_lt}
 use Rattle.std.specs.List.{All, filter, list_any}
 use Rattle.std.specs.Str.{bytes_eq}
-use Rattle.std.proofs.lemmas.Bool.{cases_lt, lt-ltb, le-ltb, false≢true}
+use Rattle.std.proofs.lemmas.Bool.{lt-ltb, false≢true}
 use Rattle.std.proofs.lemmas.List.{map-append}
 use Rattle.std.proofs.lemmas.List.Elements.{All-nil, All-cons, All-head, All-tail, All-append, All-filter}
 use Rattle.alta_journal.specs.Placed.{placed}
@@ -15,7 +15,7 @@ use Rattle.alta_meta.specs.declared.document.Document.{Document}
 use Rattle.alta_meta.specs.declared.document.State.{State}
 use Rattle.alta_images.specs.Entries.{Allows, AllowsAll, after_entry, after_entries}
 use Rattle.alta_images.specs.States.{with_deleted}
-use Rattle.alta_images.proofs.Tests.{by_test, filter_keep, filter_drop, bytes_same}
+use Rattle.alta_images.proofs.Tests.{by_test, filter_keep, filter_drop, bytes_same, not_true, and_left, and_right, and_both, below_from, or_both}
 use Rattle.alta_images.specs.Known.{Named, Known, named, is_taken, is_live, admits, known_behind, replayed, named_of, known_of}
 use Rattle.alta_images.specs.Ordered.{IsBefore, AreOrdered, IsOrdered}
 use Rattle.alta_images.proofs.Steps.{one_value, not_failed}
@@ -48,26 +48,6 @@ known_entry s (Add name title body) = ap (known_with (s.next + 1)) (map-append n
 known_entry s (Delete number) = ap (known_with s.next) (left_of (λ (row : Named). not (row.number == number)) s.documents)
 
 -- ---- an entry is admitted where the state allows it
-
-not_true : (b : Bool) → not b ≡ true → b ≡ false
-not_true true e = absurd (false≢true e)
-not_true false e = refl
-
-and_left : (a b : Bool) → (a && b) ≡ true → a ≡ true
-and_left true b e = refl
-and_left false b e = absurd (false≢true e)
-
-and_right : (a b : Bool) → (a && b) ≡ true → b ≡ true
-and_right true b e = e
-and_right false b e = absurd (false≢true e)
-
-and_both : (a b : Bool) → a ≡ true → b ≡ true → (a && b) ≡ true
-and_both true true e f = refl
-and_both true false e f = f
-and_both false b e f = absurd (false≢true e)
-
-below_from : (a b : ℕ) → nat_lt a b ≡ true → a < b
-below_from a b e = ⊎_elim (λ below. below) (λ above. absurd (false≢true (sym (le-ltb a b above) ∙ e))) (cases_lt a b)
 
 pub allowed_from : (s : State) (entry : Entry) → admits (known_of s) entry ≡ true → Allows s entry
 allowed_from s (Add name title body) e = (
@@ -128,21 +108,13 @@ pub all_weaker : {X : Type 0} (P Q : X → Type 0) (xs : List X) → ((x : X) �
 all_weaker P Q [] weaker all = All-nil Q
 all_weaker P Q (x ∷ xs) weaker all = All-cons Q x xs (weaker x (All-head P x xs all)) (all_weaker P Q xs weaker (All-tail P x xs all))
 
-or_false_left : (a b : Bool) → (a || b) ≡ false → a ≡ false
-or_false_left true b e = e
-or_false_left false b e = refl
-
-or_false_right : (a b : Bool) → (a || b) ≡ false → b ≡ false
-or_false_right true b e = absurd (false≢true (sym e))
-or_false_right false b e = e
-
 -- none of the live documents has the name
 pub all_others : (name : List ℕ) (rows : List Named) → is_taken name rows ≡ false → All (λ (row : Named). row.name ≢ name) rows
 all_others name [] none = All-nil (λ (row : Named). row.name ≢ name)
 all_others name (row ∷ rows) none =
     All-cons (λ (row : Named). row.name ≢ name) row rows
-    (λ same. false≢true (sym (or_false_left (bytes_eq name row.name) (is_taken name rows) none) ∙ ap (λ (n : List ℕ). bytes_eq name n) same ∙ bytes_same name))
-    (all_others name rows (or_false_right (bytes_eq name row.name) (is_taken name rows) none))
+    (λ same. false≢true (sym ((or_both (bytes_eq name row.name) (is_taken name rows) none).0) ∙ ap (λ (n : List ℕ). bytes_eq name n) same ∙ bytes_same name))
+    (all_others name rows ((or_both (bytes_eq name row.name) (is_taken name rows) none).1))
 
 pub all_both : {X : Type 0} (P Q : X → Type 0) (xs : List X) → All P xs → All Q xs → All (λ x. P x × Q x) xs
 all_both P Q [] p q = All-nil (λ x. P x × Q x)

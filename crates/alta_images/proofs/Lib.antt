@@ -1,7 +1,7 @@
 pub mod ApartLaws
 pub mod AppendLaws
 pub mod CellLaws
-pub mod ContentLaws
+pub mod DiskReads
 pub mod Entering
 pub mod Existence
 pub mod FormattedLaws
@@ -17,11 +17,11 @@ pub mod OneReading
 pub mod OneState
 pub mod OrderLaws
 pub mod PlaceLaws
+pub mod ReadLaws
 pub mod SpacedLaws
 pub mod StateLaws
 pub mod Steps
 pub mod SwitchLaws
-pub mod TermOrder
 pub mod Tests
 pub mod Untouched
 pub mod WellLaws

@@ -7,7 +7,6 @@ use Rattle.std.proofs.lemmas.List.Elements.{All-nil, All-cons}
 use Rattle.alta_content.specs.declared.content.Content.{Content}
 use Rattle.alta_memlevel.specs.Added.{Added}
 use Rattle.alta_content.specs.Rows.{ends_among}
-use Rattle.alta_images.specs.Joining.{joined_in}
 use Rattle.alta_images.specs.Levels.{Level}
 use Rattle.alta_images.specs.Views.{View}
 use Rattle.alta_images.specs.Work.{Job, begun, gone, is_gone, job_of, newest, oldest_joined, whole_of, rows_in}
@@ -17,7 +16,8 @@ use Rattle.alta_images.specs.Working.{rows_of, IsJoin, AreJoins, JoinsKeep, olde
 use Rattle.alta_images.proofs.KnownLaws.{all_weaker, all_both}
 use Rattle.alta_images.proofs.KeptStates.{AreGone, gone_are}
 use Rattle.alta_images.proofs.WellLaws.{no_job, one_job}
-use Rattle.alta_images.proofs.WrittenLaws.{all_left}
+use Rattle.alta_content.proofs.Elements.{all_left}
+use Rattle.alta_content.specs.Joining.{joined_in}
 
 all_of_rows : (P : DocRow → Type 0) (rows : List DocRow) → ((row : DocRow) → P row) → All P rows
 all_of_rows P [] each = All-nil P

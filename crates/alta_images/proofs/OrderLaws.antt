@@ -1,15 +1,14 @@
 -- The numbers of live documents rise, and their names differ, in what an image is opened as and stands for.
-use Rattle.std.proofs.Common.{◌≡◌, ◌≢◌, ⊎_elim, ℕ, ◌+◌, ◌<◌, ◌≤◌, Bool, true, false, List, [], ◌∷◌, ◌++◌, map, refl, sym, ap, subst, ◌∙◌, arith, Result, Ok, Err, append_assoc}
+use Rattle.std.proofs.Common.{◌≡◌, ◌≢◌, ℕ, ◌+◌, ◌<◌, ◌≤◌, Bool, true, false, List, [], ◌∷◌, ◌++◌, map, refl, sym, ap, subst, ◌∙◌, arith, Result, Ok, Err, append_assoc}
 use Rattle.std.specs.Prelude.{not, ◌&&◌, nat_lt}
 use Rattle.std.specs.List.{All, flat_map, list_all}
-use Rattle.std.proofs.lemmas.Bool.{cases_lt, le-ltb, false≢true}
 use Rattle.std.proofs.lemmas.Grind.{flat_map-append}
 use Rattle.std.proofs.lemmas.List.{map-append, append-nil}
 use Rattle.std.proofs.lemmas.List.Elements.{All-nil, All-cons, All-head, All-tail, All-append, All-map, All-filter, filter-append}
 use Rattle.alta_codec.specs.declared.extent.Extent.{Extent}
 use Rattle.alta_journal.specs.Placed.{placed}
 use Rattle.alta_level.specs.Segments.{IsSegment}
-use Rattle.alta_content.specs.Rows.{AreDocuments, AreDocumentsBehind, Before, MayFollow, behind_row, end_of, ends_among, start}
+use Rattle.alta_content.specs.Rows.{AreDocuments, AreDocumentsBehind, Before, behind_row, end_of, ends_among, start}
 use Rattle.alta_journal.specs.declared.entry.Entry.{Entry}
 use Rattle.alta_journal.specs.declared.entry.Entry.TheVariants.{Add, Delete}
 use Rattle.alta_meta.specs.States.{IsState, AllDiffer, name_of, number_of, Rise as StateRise}
@@ -20,7 +19,7 @@ use Rattle.alta_root.proofs.Frames.{counts_sound}
 use Rattle.alta_images.specs.Entries.{after_entry, after_entries}
 use Rattle.alta_images.specs.Levels.{Level, document_of, documents_of, live_rows}
 use Rattle.alta_images.specs.Views.{rooted}
-use Rattle.alta_images.proofs.Tests.{by_test, filter_keep, filter_drop}
+use Rattle.alta_images.proofs.Tests.{by_test, filter_keep, filter_drop, and_left, and_right, below_from}
 use Rattle.alta_table.specs.Places.{name_place}
 use Rattle.alta_table.specs.Tables.{Tables}
 use Rattle.alta_content.specs.declared.document.DocRow.{DocRow}
@@ -33,9 +32,6 @@ use Rattle.alta_images.proofs.KnownLaws.{IsWithin, all_weaker, all_both, all_oth
 use Rattle.alta_images.proofs.Steps.{not_failed, one_value}
 
 -- ---- live rows
-
-row_named : DocRow → Named
-row_named row = named row.name row.number
 
 pub live_keep : (deleted : List ℕ) (row : DocRow) (rows : List DocRow) → ends_among deleted row ≡ false → live_in deleted (row ∷ rows) ≡ named row.name row.number ∷ live_in deleted rows
 live_keep deleted row rows lives = ap (λ (rs : List DocRow). map (λ (r : DocRow). named r.name r.number) rs) (filter_keep (λ (r : DocRow). not (ends_among deleted r)) row rows (ap not lives))
@@ -57,17 +53,6 @@ all_live deleted P rows all =
     All-map (λ (x : Named). P x.number) (λ (r : DocRow). named r.name r.number) (live_rows deleted rows) (All-filter (λ (r : DocRow). not (ends_among deleted r)) (λ (r : DocRow). P r.number) rows all)
 
 -- ---- tests
-
-pub and_left : (a b : Bool) → (a && b) ≡ true → a ≡ true
-and_left true b e = refl
-and_left false b e = absurd (false≢true e)
-
-pub and_right : (a b : Bool) → (a && b) ≡ true → b ≡ true
-and_right true b e = e
-and_right false b e = absurd (false≢true e)
-
-pub below_from : (a b : ℕ) → nat_lt a b ≡ true → a < b
-below_from a b e = ⊎_elim (λ below. below) (λ above. absurd (false≢true (sym (le-ltb a b above) ∙ e))) (cases_lt a b)
 
 pub all_from : {X : Type 0} (p : X → Bool) (xs : List X) → list_all p xs ≡ true → All (λ x. p x ≡ true) xs
 all_from p [] e = All-nil (λ x. p x ≡ true)

@@ -1,6 +1,6 @@
 -- What a flush leaves is in place.
 use Rattle.std.proofs.Common.{◌≡◌, ℕ, ◌+◌, ◌<◌, ◌≤◌, Bool, true, false, List, [], ◌∷◌, ◌++◌, length, map, refl, sym, ap, subst, ◌∙◌, arith, Ok, append_assoc}
-use Rattle.std.specs.Prelude.{not, ◌&&◌, ◌||◌, ◌==◌, nat_eq, nat_le}
+use Rattle.std.specs.Prelude.{not, ◌&&◌, ◌==◌, nat_eq, nat_le}
 use Rattle.std.specs.List.{All, filter, list_any, sum_by}
 use Rattle.std.proofs.lemmas.Bool.{eq-eqb}
 use Rattle.std.proofs.lemmas.List.{append-nil}
@@ -15,7 +15,7 @@ use Rattle.alta_meta.specs.Cells.{cells_of}
 use Rattle.alta_root.specs.declared.root.Root.{Root}
 use Rattle.alta_images.specs.Views.{View}
 use Rattle.alta_images.specs.Work.{stays, coming, added_at, added_from, gone, gone_among, is_gone, newest, newest_content, rows_in as level_rows}
-use Rattle.alta_images.proofs.Tests.{by_test}
+use Rattle.alta_images.proofs.Tests.{by_test, or_first, or_right}
 use Rattle.alta_table.specs.Tables.{Tables}
 use Rattle.alta_content.specs.declared.document.DocRow.{DocRow}
 use Rattle.alta_images.specs.Holding.{Holding, IsSpaced, taken_by}
@@ -26,7 +26,7 @@ use Rattle.alta_images.specs.Switching.{InPlace}
 use Rattle.alta_images.specs.Working.{flushed, rows_of}
 use Rattle.alta_images.proofs.KnownLaws.{all_weaker}
 use Rattle.alta_images.proofs.KeptStates.{switched_is, placed_contents, flush_contents, flush_contents_are, flush_contents_none, no_rows, contents_of, live_rows_are, rise_some, by_levels, by_entries, rows_append, rows_by_levels}
-use Rattle.alta_images.proofs.WrittenLaws.{all_to}
+use Rattle.alta_images.proofs.ReadLaws.{all_to}
 
 -- ---- the newest documents lie below what comes behind them
 
@@ -53,20 +53,12 @@ added_low number location (Delete n ∷ entries) some = added_low number locatio
 abbrev has_end_of : DocRow → DocRow → Bool
 has_end_of r row = ends_among (end_of r ∷ []) row
 
-or_second : (a b : Bool) → b ≡ true → (a || b) ≡ true
-or_second true b e = refl
-or_second false b e = e
-
-or_first : (a b : Bool) → a ≡ true → (a || b) ≡ true
-or_first true b e = refl
-or_first false b e = absurd cc
-
 each_has : (front rows : List DocRow) → All (λ (r : DocRow). list_any (has_end_of r) (front ++ rows) ≡ true) rows
 each_has front [] = All-nil (λ (r : DocRow). list_any (has_end_of r) (front ++ []) ≡ true)
 each_has front (row ∷ rows) =
     All-cons (λ (r : DocRow). list_any (has_end_of r) (front ++ row ∷ rows) ≡ true) row rows
     (list_any-append (has_end_of row) front (row ∷ rows)
-    ∙ or_second (list_any (has_end_of row) front) (list_any (has_end_of row) (row ∷ rows))
+    ∙ or_right (list_any (has_end_of row) front) (list_any (has_end_of row) (row ∷ rows))
     (or_first (has_end_of row row) (list_any (has_end_of row) rows) (or_first (nat_eq (end_of row) (end_of row)) false (eq-eqb (end_of row) (end_of row) refl))))
     (subst (λ (rs : List DocRow). All (λ (r : DocRow). list_any (has_end_of r) rs ≡ true) rows) (append_assoc front (row ∷ []) rows) (each_has (front ++ row ∷ []) rows))
 

@@ -12,7 +12,7 @@ use Rattle.alta_journal.specs.Placed.{placed}
 use Rattle.alta_journal.specs.declared.entry.Entry.{Entry}
 use Rattle.alta_level.specs.Segments.{IsSegment}
 use Rattle.alta_memlevel.specs.Added.{Added, IsSpace}
-use Rattle.alta_content.specs.Rows.{AreDocuments, AreDocumentsBehind, Before, MayFollow, behind_row, end_of, ends_among, start}
+use Rattle.alta_content.specs.Rows.{AreDocuments, AreDocumentsBehind, Before, behind_row, end_of, ends_among, start}
 use Rattle.alta_meta.specs.declared.document.Document.{Document}
 use Rattle.alta_meta.specs.declared.document.State.{State}
 use Rattle.alta_root.specs.declared.root.Root.{Root}
@@ -20,7 +20,7 @@ use Rattle.alta_images.specs.Entries.{after_entries}
 use Rattle.alta_images.specs.Levels.{Level}
 use Rattle.alta_images.specs.Views.{View, rooted, state_of}
 use Rattle.alta_images.specs.Work.{newest, rows_in as level_rows}
-use Rattle.alta_images.proofs.Tests.{by_test}
+use Rattle.alta_images.proofs.Tests.{by_test, below_from, and_left, and_right}
 use Rattle.alta_table.specs.Tables.{Tables}
 use Rattle.alta_content.specs.declared.document.DocRow.{DocRow}
 use Rattle.alta_images.specs.Holding.{Holding, IsHeld, IsSpaced}
@@ -30,10 +30,11 @@ use Rattle.alta_images.specs.Ordered.{AreBelow, AreOrdered, IsOrdered, Precedes,
 use Rattle.alta_images.specs.Standing.{AreLevels, tables_by, view_of}
 use Rattle.alta_images.specs.Switching.{IsWritten, MayStand}
 use Rattle.alta_images.proofs.KnownLaws.{IsWithin, all_weaker, all_both, allows_replayed}
-use Rattle.alta_images.proofs.OrderLaws.{HasDocuments, all_from, all_middle, below_from, and_left, and_right, first_of_levels, has_documents, in_front, is_more, known_ordered, rooted_known, rows_more, all_before}
+use Rattle.alta_images.proofs.OrderLaws.{HasDocuments, all_from, all_middle, first_of_levels, has_documents, in_front, is_more, known_ordered, rooted_known, rows_more, all_before}
 use Rattle.alta_images.proofs.KeptStates.{IsFilled, added_behind, added_high}
 use Rattle.alta_images.proofs.Steps.{one_value}
-use Rattle.alta_images.proofs.WrittenLaws.{IsBehindAll, IsRead, level_read, levels_read, list_read}
+use Rattle.alta_images.proofs.WrittenLaws.{IsRead, level_read, levels_read, list_read}
+use Rattle.alta_images.proofs.ReadLaws.{IsBehindAll}
 
 -- ---- rows of a level
 

@@ -1,7 +1,7 @@
 -- Commands and entries keep a state well formed.
-use Rattle.std.proofs.Common.{◌≡◌, ◌≢◌, ℕ, ◌<◌, ◌≤◌, ◌+◌, ◌||◌, Bool, true, false, not, cond, List, [], ◌∷◌, ◌++◌, map, refl, sym, subst, arith, rules}
+use Rattle.std.proofs.Common.{◌≡◌, ◌≢◌, ℕ, ◌<◌, ◌≤◌, ◌+◌, Bool, true, false, not, cond, List, [], ◌∷◌, ◌++◌, map, sym, subst, arith, rules}
 use Rattle.std.specs.Prelude.{◌==◌}
-use Rattle.std.specs.List.{All, list_any, filter, flat_map}
+use Rattle.std.specs.List.{All, list_any, filter}
 use Rattle.std.specs.Str.{bytes_eq}
 use Rattle.std.proofs.lemmas.Bool.{false≢true}
 use Rattle.std.proofs.lemmas.List.{map-append}
@@ -15,6 +15,7 @@ use Rattle.alta_meta.specs.declared.document.Document.{Document}
 use Rattle.alta_meta.specs.declared.document.State.{State}
 use Rattle.alta_images.specs.Entries.{Allows, AllowsAll, after_entry, after_entries}
 use Rattle.alta_images.specs.States.{has_name, with_added, with_deleted}
+use Rattle.alta_images.proofs.Tests.{or_both}
 
 -- a document behind those of smaller numbers and other names
 rise_more : (ds : List Document) (d : Document) → Rise (map number_of ds) → All (λ (e : Document). e.number < d.number) ds → Rise (map number_of (ds ++ d ∷ []))
@@ -25,10 +26,6 @@ rise_more (e ∷ es) d rise below = (
   rise_more es d rise.1 (All-tail (λ (e : Document). e.number < d.number) e es below),
 )
 
-both_false : (a b : Bool) → (a || b) ≡ false → (a ≡ false) × (b ≡ false)
-both_false true b is = absurd (false≢true (sym is))
-both_false false b is = (refl, is)
-
 same_bytes : (xs ys : List ℕ) → ys ≡ xs → bytes_eq xs ys ≡ true
 same_bytes xs ys is = let same : xs ≡ ys = sym is in search (rules, bytes_eq-Decides xs ys)
 
@@ -38,7 +35,7 @@ differ xs ys other is = false≢true (subst (λ (b : Bool). b ≡ true) other (s
 differ_more : (ds : List Document) (d : Document) → AllDiffer (map name_of ds) → list_any (λ (e : Document). bytes_eq d.name e.name) ds ≡ false → AllDiffer (map name_of (ds ++ d ∷ []))
 differ_more [] d apart free = (All-nil (λ n. d.name ≢ n), tt)
 differ_more (e ∷ es) d apart free =
-    let parts = both_false (bytes_eq d.name e.name) (list_any (λ (e : Document). bytes_eq d.name e.name) es) free in (
+    let parts = or_both (bytes_eq d.name e.name) (list_any (λ (e : Document). bytes_eq d.name e.name) es) free in (
       subst (All (λ n. e.name ≢ n)) (sym (map-append name_of es (d ∷ [])))
           (All-append (λ n. e.name ≢ n) (map name_of es) (d.name ∷ []) apart.0 (All-cons (λ n. e.name ≢ n) d.name [] (differ d.name e.name parts.0) (All-nil (λ n. e.name ≢ n)))),
       differ_more es d apart.1 parts.1,

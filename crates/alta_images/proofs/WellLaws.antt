@@ -13,7 +13,6 @@ use Rattle.alta_memlevel.specs.Added.{Added}
 use Rattle.alta_content.specs.Rows.{ends_among}
 use Rattle.alta_postings.specs.Deltas.{stream_bytes}
 use Rattle.alta_root.specs.Root.{no_extent}
-use Rattle.alta_images.specs.Joining.{content_of, joined_in, terms_in}
 use Rattle.alta_images.specs.Levels.{Level}
 use Rattle.alta_images.specs.Views.{View}
 use Rattle.alta_images.specs.Work.{Job, Coming, stays, coming, newest, newest_content, gone, gone_among, is_gone, is_merged, leaves_out, job_of, begun, oldest_joined, with_oldest, whole_of, rows_in, Task, enters, flushes, merges, steps, fits}
@@ -28,14 +27,16 @@ use Rattle.alta_root.proofs.GapFunctions.{first_some}
 use Rattle.alta_images.proofs.KnownLaws.{all_weaker, all_both}
 use Rattle.alta_images.proofs.PlaceLaws.{flush_rows}
 use Rattle.alta_images.proofs.KeptStates.{AreGone, IsFilled, IsSwitched, switched_is, placed_contents, flush_contents, live_rows_are, rise_some, ends_kept, gone_are, by_levels, by_entries, rows_by_levels, ok_is, err_ok}
-use Rattle.alta_images.proofs.WrittenLaws.{all_left, all_right}
+use Rattle.alta_content.proofs.Elements.{all_left, all_right}
+use Rattle.alta_content.specs.Joining.{joined_in, terms_in}
+use Rattle.alta_memlevel.specs.Documents.{content_of}
 
 -- ---- the list
 
 abbrev IsListed : Extent → List ℕ → Type 0
 IsListed list deleted = (list ≡ no_extent) ↔ (deleted ≡ [])
 
-none_left : (deleted : List ℕ) → (length deleted == 0) ≡ true → deleted ≡ []
+pub none_left : (deleted : List ℕ) → (length deleted == 0) ≡ true → deleted ≡ []
 none_left [] e = refl
 none_left (d ∷ ds) e = absurd (omega (arith, equal_from (length (d ∷ ds)) 0 e))
 

@@ -3,7 +3,6 @@ use Rattle.std.proofs.Common.{◌≡◌, ℕ, ◌+◌, [], ◌∷◌, length, ta
 use Rattle.std.specs.Prelude.{◌&&◌, ◌==◌, nat_le, Option, None, Some}
 use Rattle.alta_journal.specs.declared.entry.Entry.{Entry}
 use Rattle.alta_images.specs.Entries.{after_entry}
-use Rattle.alta_images.specs.Joining.{joined_in, terms_in}
 use Rattle.alta_images.specs.Views.{rooted, state_of}
 use Rattle.alta_images.specs.Work.{Job, newest_content, gone, is_merged, job_of, oldest_joined, with_oldest, whole_of, Task, enters, flushes, merges, steps, fits}
 use Rattle.alta_images.proofs.Entering.{after_more}
@@ -14,6 +13,7 @@ use Rattle.alta_images.specs.Working.{Full, switched, flushed, merged, moved, en
 use Rattle.alta_images.proofs.JoinLaws.{join_keeps, merge_keeps}
 use Rattle.alta_images.proofs.KeptStates.{by_levels, by_entries, flush_keeps, ok_is, err_ok}
 use Rattle.alta_images.proofs.WellLaws.{by_merged, by_room, by_terms}
+use Rattle.alta_content.specs.Joining.{joined_in, terms_in}
 
 oldest_keeps : (limit : ℕ) (held then : Holding) → IsSpaced held.view → (job : Option Job) (is : IsJoin held.view (oldest_contents held.view) (oldest_joined held.job held.view))
     → switched limit held (with_oldest (oldest_joined held.job held.view) held.view) job ≡ Ok then → state_of then.view ≡ state_of held.view

@@ -17,7 +17,6 @@ use Rattle.alta_content.specs.declared.content.TermList.{TermList}
 use Rattle.alta_meta.specs.declared.document.State.{State}
 use Rattle.alta_postings.specs.Deltas.{stream_bytes}
 use Rattle.alta_root.specs.Root.{no_extent}
-use Rattle.alta_images.specs.Joining.{joined}
 use Rattle.alta_images.specs.Levels.{Level, locations_from}
 use Rattle.alta_images.specs.Views.{state_of}
 use Rattle.alta_images.specs.Work.{Job, enters, flushes, merges, steps, fits}
@@ -26,6 +25,7 @@ use Rattle.alta_content.specs.declared.document.DocRow.{DocRow}
 use Rattle.unicode_segmentation.specs.Segments.{segments, cut}
 use Rattle.alta_images.specs.Holding.{Holding}
 use Rattle.alta_images.specs.Working.{Full, worked, flushed, entered}
+use Rattle.alta_content.specs.Joining.{joined}
 
 -- ---- contents of documents of two cells, the second of which is the end
 

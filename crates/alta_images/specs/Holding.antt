@@ -7,7 +7,6 @@ use Rattle.alta_content.specs.Rows.{end_of, ends_among}
 use Rattle.alta_meta.specs.declared.document.Document.{Document}
 use Rattle.alta_root.specs.Root.{no_extent}
 use Rattle.alta_images.specs.Entries.{AllowsAll}
-use Rattle.alta_images.specs.Joining.{terms_in}
 use Rattle.alta_images.specs.Levels.{Level}
 use Rattle.alta_images.specs.Views.{View, rooted}
 use Rattle.alta_images.specs.Work.{Job, extents_in, is_gone, newest, rows_in}
@@ -15,6 +14,7 @@ use Rattle.alta_content.specs.declared.document.DocRow.{DocRow}
 use Rattle.alta_images.specs.Opened.{Opened, IsOpened}
 use Rattle.alta_images.specs.Ordered.{RowsRise}
 use Rattle.alta_images.specs.Standing.{AreLevels, view_of}
+use Rattle.alta_content.specs.Joining.{terms_in}
 
 -- The view of the disk, where the deletion list stands, with place and bytes 0 where there is none, and the job if one goes on.
 pub record Holding : Type 0 where

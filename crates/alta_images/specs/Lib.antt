@@ -2,7 +2,6 @@ pub mod Broken
 pub mod Chain
 pub mod Entries
 pub mod Holding
-pub mod Joining
 pub mod Known
 pub mod Levels
 pub mod Opened

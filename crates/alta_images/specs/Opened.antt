@@ -18,7 +18,7 @@ use Rattle.alta_root.specs.declared.slot.Slot.{Slot}
 use Rattle.alta_root.specs.declared.slot.Slot.TheVariants as slots
 use Rattle.alta_images.specs.Levels.{live_rows}
 use Rattle.alta_table.specs.Places.{name_place}
-use Rattle.alta_table.specs.Tables.{Tables, tables_of}
+use Rattle.alta_table.specs.Tables.{Tables, tables_of, total_of}
 use Rattle.alta_content.specs.declared.document.DocRow.{DocRow}
 use Rattle.alta_images.specs.Chain.{◌>>=◌}
 use Rattle.alta_images.specs.Known.{Named, Known, named, is_taken, replayed}
@@ -41,6 +41,10 @@ half_of slots.B = halves.B
 -- where the journal of a root in this slot starts
 abbrev pub journal_of : Slot → ℕ
 journal_of slot = start_of (half_of slot)
+
+-- the bytes from a level's place on that its tables, streams and summaries fill
+abbrev pub extent_of : Tables → Extent
+extent_of level = record { place = level.place; bytes = total_of level.documents level.terms }
 
 -- the bytes of an extent
 abbrev pub bytes_at : Extent → List ℕ → List ℕ

@@ -1,5 +1,5 @@
 -- What leaves the meaning of an image as it is, and what a switch of the root makes of it.
-use Rattle.std.specs.Prelude.{◌≡◌, ◌≤◌, ◌<◌, ◌^◌, ℕ, ◌+◌, true, List, [], ◌∷◌, ◌++◌, length, map, take}
+use Rattle.std.specs.Prelude.{◌≡◌, ◌≤◌, ◌<◌, ◌^◌, ℕ, ◌+◌, true, List, [], ◌∷◌, ◌++◌, length, map, take, None}
 use Rattle.std.specs.List.{All}
 use Rattle.alta_codec.specs.declared.extent.Extent.{Extent}
 use Rattle.alta_disk.specs.Parts.{Clear}
@@ -18,6 +18,7 @@ use Rattle.alta_root.specs.declared.places.TheConstants.{HEAD_BYTES, SLOTS_BYTES
 use Rattle.alta_root.specs.declared.root.Root.{Root}
 use Rattle.alta_root.specs.declared.slot.Slot.{Slot}
 use Rattle.alta_root.specs.declared.slot.Slot.TheVariants.{A, B}
+use Rattle.alta_images.specs.Holding.{Holding}
 use Rattle.alta_images.specs.Levels.{Level}
 use Rattle.alta_images.specs.Views.{View}
 use Rattle.alta_table.specs.Tables.{Tables}
@@ -60,6 +61,14 @@ pub record MayAppend (entry : Entry) (o : Opened) (known : Known) : Type 0 where
 
 abbrev pub empty_root : Root
 empty_root = record { sequence = 0; next_number = 1; next_location = 1; levels = record { items = [] }; deletions = no_extent }
+
+-- what a disk without documents is opened as
+abbrev pub empty_opened : Opened
+empty_opened = record { slot = A; root = empty_root; deleted = []; levels = []; entries = []; tail = START_A }
+
+-- what is held of it: no level, no deleted end, no entry and no job, and the first number and location come next
+abbrev pub empty_held : Holding
+empty_held = record { view = record { next = 1; location = 1; levels = []; deleted = []; entries = [] }; list = no_extent; job = None }
 
 -- The first slot is open, and says the root without documents; the second is closed, and so is the first gate of the journal.
 pub record IsFormatted (image : List ℕ) : Type 0 where

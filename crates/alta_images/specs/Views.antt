@@ -25,10 +25,6 @@ with_entry view entry = record {
   entries = view.entries ++ entry ∷ [];
 }
 
--- the state that a root without levels speaks of, before the entries
-abbrev pub start_at : ℕ → State
-start_at next = record { next = next; documents = [] }
-
 -- the state that the root of a view speaks of: the documents of its levels that are not deleted
 abbrev pub rooted : View → State
 rooted view = record { next = view.next; documents = flat_map (documents_of view.deleted) view.levels }

@@ -1,7 +1,6 @@
 -- What the work on levels does to what a store holds.
 use Rattle.std.specs.Prelude.{ℕ, ◌+◌, ◌==◌, nat_le, Bool, false, ◌&&◌, ◌||◌, cond, List, [], ◌∷◌, ◌++◌, length, take, drop, map, Option, Some, None}
-use Rattle.std.specs.List.{filter, flat_map, list_any, sum_by}
-use Rattle.std.specs.Str.{bytes_eq}
+use Rattle.std.specs.List.{filter, flat_map, list_any}
 use Rattle.alta_codec.specs.declared.extent.Extent.{Extent}
 use Rattle.alta_journal.specs.Record.{record_of}
 use Rattle.alta_journal.specs.declared.entry.Entry.{Entry}
@@ -12,9 +11,10 @@ use Rattle.alta_content.specs.declared.content.Content.{Content}
 use Rattle.alta_content.specs.declared.document.DocRow.{DocRow}
 use Rattle.alta_memlevel.specs.Added.{Added, live_of}
 use Rattle.alta_meta.specs.Cells.{cells_of}
-use Rattle.alta_images.specs.Joining.{content_of, joined, joined_in, terms_in}
 use Rattle.alta_images.specs.Levels.{Level}
-use Rattle.alta_images.specs.Views.{View, with_entry}
+use Rattle.alta_images.specs.Views.{View}
+use Rattle.alta_content.specs.Joining.{joined, joined_in}
+use Rattle.alta_memlevel.specs.Documents.{content_of}
 
 -- ---- what a store holds
 

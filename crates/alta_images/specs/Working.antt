@@ -15,7 +15,6 @@ use Rattle.alta_root.specs.Gaps.{IsLongestGap}
 use Rattle.alta_root.specs.Root.{AreApart, no_extent}
 use Rattle.alta_root.specs.declared.places.TheConstants.{HEAD_BYTES}
 use Rattle.alta_images.specs.Entries.{after_entry}
-use Rattle.alta_images.specs.Joining.{content_of, joined_in, terms_in}
 use Rattle.alta_images.specs.Levels.{Level, document_of, live_rows}
 use Rattle.alta_images.specs.Views.{View, with_entry}
 use Rattle.alta_images.specs.Work.{Job, Coming, stays, anew, coming, newest, newest_content, gone, gone_among, rows_in, whole_of, oldest_joined, with_oldest, is_merged, job_of, fits, Task, enters, flushes, merges, steps}
@@ -23,6 +22,8 @@ use Rattle.alta_content.specs.declared.document.DocRow.{DocRow}
 use Rattle.alta_images.specs.Chain.{◌>>=◌}
 use Rattle.alta_root.specs.Gaps.{first_gap, greatest_gap}
 use Rattle.alta_images.specs.Holding.{Holding, taken_by}
+use Rattle.alta_content.specs.Joining.{joined_in, terms_in}
+use Rattle.alta_memlevel.specs.Documents.{content_of}
 
 -- no gap holds so many bytes, and this many are the most that have one
 pub record Full : Type 0 where

@@ -19,7 +19,7 @@ ghost use Rattle.alta_images.specs.Known.{Known, admits, known_behind, known_of,
 ghost use Rattle.alta_images.specs.Opened.{Opened, IsNamed, IsOpened, bytes_at, deleted_in, journal_of, levels_in, live_in, rows_in, tables_at};
 ghost use Rattle.alta_images.specs.Ordered.{AreBelow, AreOrdered, IsOrdered, RowsRise};
 ghost use Rattle.alta_images.specs.Standing.{AreLevels, Means, StandsFor, tables_by, view_of};
-ghost use Rattle.alta_images.specs.Switching.{InPlace, IsFormatted, IsInPlace, IsPut, IsWritten, MayAppend, MayOpen, MayStand, Spares, SparesSlots, with_entry};
+ghost use Rattle.alta_images.specs.Switching.{empty_held, empty_opened, InPlace, IsFormatted, IsInPlace, IsPut, IsWritten, MayAppend, MayOpen, MayStand, Spares, SparesSlots, with_entry};
 ghost use Rattle.alta_images.specs.Working.{AllApart, AreJoins, Full, IsJoin, IsWanting, JoinsKeep, LiesWithin, Placed, all_contents, content_to_come, documents_left, entered, flushed, merged, oldest_contents, placed as placed_extent, placed_levels, state_behind, staying, switched, worked};
 ghost use Rattle.alta_meta.specs.States.{IsState};
 ghost use Rattle.alta_meta.specs.declared.document.State.{State};
@@ -180,9 +180,11 @@ pub fn a_written_root_may_stand()
         → MayStand s coming image }
 {}
 
-/// A disk that was formatted stands for the state without documents.
+/// A disk that was formatted stands for the state without documents, is opened as the root without levels, and has what is held of it.
 pub fn a_formatted_disk_is_empty()
-    ensures { (image : List ℕ) → IsFormatted image → StandsFor empty image }
+    ensures stands { (image : List ℕ) → IsFormatted image → StandsFor empty image }
+    ensures opened { (image : List ℕ) → IsFormatted image → IsOpened empty_opened image }
+    ensures held { (image : List ℕ) → IsFormatted image → IsHeld empty_held image }
 {}
 
 /// What a flush leaves is in place under a root with its next number and location.

@@ -11,13 +11,13 @@ use Rattle.alta_codec.specs.declared.extent.Extent.{Extent}
 use Rattle.alta_disk.specs.Disk.{DiskState, IsLawful}
 use Rattle.alta_disk.specs.Parts.{part}
 use Rattle.alta_images.specs.Broken.{IsBrokenIn, IsFaultAmong}
-use Rattle.alta_images.specs.Opened.{bytes_at, tables_at}
+use Rattle.alta_images.specs.Opened.{bytes_at, tables_at, extent_of}
 use Rattle.std.specs.Prelude.{Result, IfOk}
 use Rattle.alta_joins.specs.Answers.{IfDamaged}
 use Rattle.alta_joins.specs.declared.fault.JoinFault.{JoinFault}
 use Rattle.alta_joins.proofs.FaultLaws.{damaged_goes, damaged_of, ok_goes, only_of}
 use Rattle.alta_joins.proofs.LevelRuns.{TellsOne}
-use Rattle.alta_joins.specs.Contents.{IsContentOf, IsSegmentOn, StandsOn, extent_of}
+use Rattle.alta_joins.specs.Contents.{IsContentOf, IsSegmentOn, StandsOn}
 use Rattle.alta_joins.specs.Damages.{IsDamageOn}
 use Rattle.alta_level.specs.Damage.{AreListsOf, IsFaultInLists, IsSegmentFault, data_in, data_place, stored_at}
 use Rattle.alta_level.specs.Damage.IsSegmentFault.{in_lists}

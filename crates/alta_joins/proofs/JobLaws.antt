@@ -5,33 +5,27 @@ use Rattle.std.specs.declared.alloc.AllocError.{AllocError}
 use Rattle.std.proofs.lemmas.Bool.{leb-true, le-leb, false≢true}
 use Rattle.std.proofs.lemmas.List.{drop-drop}
 use Rattle.alta_content.specs.declared.content.Content.{Content}
-use Rattle.alta_content.specs.Joining.{joined as content_joined, joined_in as content_join, terms_in as content_terms}
-use Rattle.alta_images.specs.Joining.{joined_in, terms_in}
+use Rattle.alta_content.specs.Joining.{joined, joined_in, terms_in}
 use Rattle.alta_images.specs.Work.{Job}
 use Rattle.alta_joins.specs.Jobs.{IsMerging, begun_job, moved_by}
 use Rattle.alta_joins.proofs.RowSteps.{drop-all}
-use Rattle.alta_joins.proofs.SameWords.{joined-same, terms-same}
 use Rattle.alta_merge.specs.Merging.{Merging}
 
 -- the terms of a job's contents
 abbrev pub terms_of_job : Job → List (List ℕ)
 terms_of_job job = terms_in (job.older ∷ job.newer ∷ [])
 
-pub merging_begun : (merging : Merging) (older newer : Content) (dead : List ℕ) → merging.whole ≡ content_joined older newer dead → merging.left ≡ content_terms (older ∷ newer ∷ []) → IsMerging merging (begun_job older newer dead)
+pub merging_begun : (merging : Merging) (older newer : Content) (dead : List ℕ) → merging.whole ≡ joined older newer dead → merging.left ≡ terms_in (older ∷ newer ∷ []) → IsMerging merging (begun_job older newer dead)
 merging_begun merging older newer dead whole left = record {
-  whole = whole ∙ sym (joined-same (older ∷ newer ∷ []) dead);
-  left = left ∙ sym (terms-same (older ∷ newer ∷ []));
+  whole = whole;
+  left = left;
 }
 
 -- a join of two contents that begins
-pub begun_over : (contents : List Content) (older newer : Content) (dead : List ℕ) (r : Result Merging AllocError) → contents ≡ older ∷ newer ∷ [] → IfOk r (λ m. m.whole ≡ content_join contents dead)
-    → IfOk r (λ m. m.left ≡ content_terms contents) → IfOk r (λ m. IsMerging m (begun_job older newer dead))
-begun_over contents older newer dead (Ok m) e whole left = merging_begun m older newer dead (whole ∙ ap (λ (cs : List Content). content_join cs dead) e) (left ∙ ap content_terms e)
+pub begun_over : (contents : List Content) (older newer : Content) (dead : List ℕ) (r : Result Merging AllocError) → contents ≡ older ∷ newer ∷ [] → IfOk r (λ m. m.whole ≡ joined_in contents dead)
+    → IfOk r (λ m. m.left ≡ terms_in contents) → IfOk r (λ m. IsMerging m (begun_job older newer dead))
+begun_over contents older newer dead (Ok m) e whole left = merging_begun m older newer dead (whole ∙ ap (λ (cs : List Content). joined_in cs dead) e) (left ∙ ap terms_in e)
 begun_over contents older newer dead (Err x) e whole left = tt
-
-pub whole_over : (contents : List Content) (dead : List ℕ) (r : Result Merging AllocError) → IfOk r (λ m. m.whole ≡ content_join contents dead) → IfOk r (λ m. m.whole ≡ joined_in contents dead)
-whole_over contents dead (Ok m) whole = whole ∙ sym (joined-same contents dead)
-whole_over contents dead (Err x) whole = tt
 
 module _ (old : Merging) (job : Job) (is : IsMerging old job) where
   pub merging_moved : (new : Merging) (n : ℕ) → new.whole ≡ old.whole → new.left ≡ drop n old.left → IsMerging new (moved_by job n)

@@ -11,9 +11,8 @@ use Rattle.alta_content.specs.Rows.{ends_among, live_rows}
 use Rattle.alta_content.specs.declared.content.Content.{Content}
 use Rattle.alta_content.specs.declared.document.DocRow.{DocRow}
 use Rattle.alta_images.specs.Holding.{Holding, IsHeld, IsJob}
-use Rattle.alta_images.specs.Joining.{joined_in, terms_in}
 use Rattle.alta_images.specs.Levels.{Level}
-use Rattle.alta_images.specs.Opened.{Opened, IsOpened, bytes_at}
+use Rattle.alta_images.specs.Opened.{Opened, IsOpened, bytes_at, extent_of}
 use Rattle.alta_images.specs.Standing.{AreLevels, tables_by}
 use Rattle.alta_images.specs.Views.{View}
 use Rattle.alta_images.specs.Work.{gone as gone_from, is_gone, newest, rows_in as level_rows}
@@ -21,15 +20,17 @@ use Rattle.alta_images.specs.Working.{IsJoin, documents_in, oldest_contents, row
 use Rattle.alta_images.proofs.KeptStates.{gone_are}
 use Rattle.alta_images.proofs.KnownLaws.{all_both, all_weaker}
 use Rattle.alta_images.proofs.OneState.{one_are}
-use Rattle.alta_images.proofs.WrittenLaws.{all_left}
-use Rattle.alta_joins.proofs.KeptLaws.{held_is_spaced, join_part, joins_keep}
+use Rattle.alta_joins.proofs.KeptLaws.{held_is_spaced, joins_keep}
 use Rattle.alta_joins.proofs.OpenedLaws.{opened_extents}
-use Rattle.alta_joins.specs.Contents.{extent_of, level_with}
+use Rattle.alta_joins.specs.Contents.{level_with}
 use Rattle.alta_joins.specs.Jobs.{AreJoinedOn, DeadAreGone, IsJoining, IsMerging, moved_by}
 use Rattle.alta_level.specs.Segments.{IsSegment}
 use Rattle.alta_memlevel.specs.Added.{Added}
 use Rattle.alta_merge.specs.Merging.{Merging}
 use Rattle.alta_table.specs.Tables.{Tables}
+use Rattle.alta_content.proofs.Elements.{all_left}
+use Rattle.alta_content.specs.Joining.{joined_in, terms_in}
+use Rattle.alta_content.proofs.Kept.{join_is_part}
 
 -- ---- lists of two and more
 
@@ -80,7 +81,7 @@ module _ (levels : List Tables) (gone : List ℕ) (merging : Merging) (joining :
   whole_is = joining.is.whole
 
   pub joining_part : IsPart merging.whole
-  joining_part = subst IsPart (sym whole_is) (join_part (joining.job.older ∷ joining.job.newer ∷ []) joining.job.dead joining.may)
+  joining_part = subst IsPart (sym whole_is) (join_is_part (joining.job.older ∷ joining.job.newer ∷ []) joining.job.dead joining.may)
 
   pub joining_rows : merging.whole.documents ≡ live_rows joining.job.dead (joining.older.documents ++ joining.newer.documents)
   joining_rows = ap (λ (c : Content). c.documents) whole_is ∙ ap (live_rows joining.job.dead) (rows_are ∙ table_rows_are)

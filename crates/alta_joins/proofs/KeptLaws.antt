@@ -5,7 +5,7 @@ use Rattle.std.proofs.lemmas.Grind.{flat_map-append}
 use Rattle.std.proofs.lemmas.List.{map-append}
 use Rattle.std.proofs.lemmas.List.Elements.{All-nil, All-cons, All-head, All-tail, All-map, All-weaker}
 use Rattle.alta_content.specs.Cells.{with_cells}
-use Rattle.alta_content.specs.Joining.{joined_in as content_join}
+use Rattle.alta_content.specs.Joining.{joined_in}
 use Rattle.alta_content.specs.Parts.{IsPart, MayJoin}
 use Rattle.alta_content.specs.Rows.{end_of, live_rows}
 use Rattle.alta_content.specs.declared.content.Content.{Content}
@@ -13,10 +13,9 @@ use Rattle.alta_content.specs.declared.content.TermList.{TermList}
 use Rattle.alta_content.specs.declared.document.DocRow.{DocRow}
 use Rattle.alta_content.proofs.Documents.{states_kept}
 use Rattle.alta_content.proofs.Folds.{join_of_join}
-use Rattle.alta_content.proofs.Kept.{join_is_part, join_may_join}
+use Rattle.alta_content.proofs.Kept.{join_may_join}
 use Rattle.alta_images.specs.Entries.{AllowsAll, after_entry}
 use Rattle.alta_images.specs.Holding.{Holding, IsHeld, IsSpaced, IsWell}
-use Rattle.alta_images.specs.Joining.{content_of, joined_in}
 use Rattle.alta_images.specs.Known.{Known, replayed}
 use Rattle.alta_images.specs.Levels.{Level, document_of}
 use Rattle.alta_images.specs.Opened.{Opened, IsNamed, bytes_at, journal_of}
@@ -30,7 +29,7 @@ use Rattle.alta_images.proofs.KnownLaws.{all_both, all_weaker, allows_replayed}
 use Rattle.alta_images.proofs.MergeLaws.{joins_are}
 use Rattle.alta_images.proofs.OrderLaws.{rooted_known}
 use Rattle.alta_images.proofs.SpacedLaws.{held_spaced}
-use Rattle.alta_joins.proofs.SameWords.{content_of-same, document-same, document_with, joined-same}
+use Rattle.alta_joins.proofs.SameWords.{document-same, document_with}
 use Rattle.alta_joins.proofs.SpaceLaws.{rise_front, rising_join}
 use Rattle.alta_journal.specs.Entry.{IsSound}
 use Rattle.alta_journal.specs.Placed.{placed}
@@ -39,7 +38,7 @@ use Rattle.alta_journal.specs.declared.entry.Entry.TheVariants.{Add, Delete}
 use Rattle.alta_journal.proofs.Spelling.{add_long}
 use Rattle.alta_level.specs.Segments.{IsSegment}
 use Rattle.alta_memlevel.specs.Added.{Added, HasContent, IsSpace, live_of}
-use Rattle.alta_memlevel.specs.Documents.{AreAdded, AreMade, IsBefore, IsFrom, IsMade}
+use Rattle.alta_memlevel.specs.Documents.{AreAdded, AreMade, IsBefore, IsFrom, IsMade, content_of}
 use Rattle.alta_memlevel.proofs.Behind.{may_join_behind}
 use Rattle.alta_memlevel.proofs.Cells.{cells_few, cells_long}
 use Rattle.alta_memlevel.proofs.Live.{live_joined}
@@ -67,39 +66,19 @@ map_contents deleted (c ∷ cs) =
 
 pub joins_keep : (contents : List Content) → MayJoin contents → JoinsKeep contents
 joins_keep contents may = λ dead deleted all.
-    let join = content_join contents dead in
-    ap (documents_in deleted) (joined-same contents dead)
-    ∙ sym (map_rows join.lists (live_rows deleted join.documents))
+    let join = joined_in contents dead in
+    sym (map_rows join.lists (live_rows deleted join.documents))
     ∙ ap (map document_with) (states_kept contents dead deleted may all)
     ∙ map_contents deleted contents
 
--- a join is a level's content, or empty
-pub join_part : (contents : List Content) (dead : List ℕ) → MayJoin contents → IsPart (joined_in contents dead)
-join_part contents dead may = subst IsPart (sym (joined-same contents dead)) (join_is_part contents dead may)
-
 -- ---- joins of joins
 
-pub fold_beside : (before middle after : List Content) (dead : List ℕ) → MayJoin (before ++ (middle ++ after)) → MayJoin (before ++ joined_in middle dead ∷ after)
-fold_beside before middle after dead may =
-    subst (λ (c : Content). MayJoin (before ++ c ∷ after)) (sym (joined-same middle dead)) (join_may_join before middle after dead may)
-
-pub fold_same : (before middle after : List Content) (dead : List ℕ) → MayJoin (before ++ (middle ++ after)) → joined_in (before ++ joined_in middle dead ∷ after) dead ≡ joined_in (before ++ (middle ++ after)) dead
-fold_same before middle after dead may =
-    ap (λ (c : Content). joined_in (before ++ c ∷ after) dead) (joined-same middle dead) ∙ joined-same (before ++ content_join middle dead ∷ after) dead
-    ∙ join_of_join before middle after dead may ∙ sym (joined-same (before ++ (middle ++ after)) dead)
-
 module _ (contents : List Content) (added : List Added) (gone : List ℕ) (space : IsSpace added) (may : MayJoin (contents ++ content_of added ∷ [])) where
-  -- the content without the gone documents is the join of the one content without them
-  live_is : content_of (live_of gone added) ≡ joined_in (content_of added ∷ []) gone
-  live_is =
-      content_of-same (live_of gone added) ∙ live_joined added gone space
-      ∙ ap (λ (c : Content). content_join (c ∷ []) gone) (sym (content_of-same added)) ∙ sym (joined-same (content_of added ∷ []) gone)
-
   pub live_may_join : MayJoin (contents ++ content_of (live_of gone added) ∷ [])
-  live_may_join = subst (λ (c : Content). MayJoin (contents ++ c ∷ [])) (sym live_is) (fold_beside contents (content_of added ∷ []) [] gone may)
+  live_may_join = subst (λ (c : Content). MayJoin (contents ++ c ∷ [])) (sym (live_joined added gone space)) (join_may_join contents (content_of added ∷ []) [] gone may)
 
   pub live_same : joined_in (contents ++ content_of (live_of gone added) ∷ []) gone ≡ joined_in (contents ++ content_of added ∷ []) gone
-  live_same = ap (λ (c : Content). joined_in (contents ++ c ∷ []) gone) live_is ∙ fold_same contents (content_of added ∷ []) [] gone may
+  live_same = ap (λ (c : Content). joined_in (contents ++ c ∷ []) gone) (live_joined added gone space) ∙ join_of_join contents (content_of added ∷ []) [] gone may
 
 -- ---- the documents that entries add
 
@@ -195,7 +174,7 @@ module _ (held : Holding) (image : List ℕ) (is : IsHeld held image) where
       let view = held.view in
       let number : 1 ≤ view.next = subst (λ (v : View). 1 ≤ v.next) (sym is.view_is) held_sound.number.0 in
       let location : 1 ≤ view.location = subst (λ (v : View). 1 ≤ v.location) (sym is.view_is) held_sound.location.0 in
-      let has : HasContent (newest view) (content_of (newest view)) = subst (HasContent (newest view)) (sym (content_of-same (newest view))) (one.content_has (newest view) held_added.space) in
+      let has : HasContent (newest view) (content_of (newest view)) = one.content_has (newest view) held_added.space in
       may_join_behind view.next view.location (contents_of view.levels) (newest view) (content_of (newest view)) number location held_levels
       (subst (All (IsBefore view.next view.location)) (sym (rows_by_levels view.levels)) held_is_spaced.below) held_added has
 

@@ -16,8 +16,8 @@ use Rattle.alta_joins.specs.Contents.{AreContentsOf, AreSegmentsOn, IsContentOf,
 use Rattle.alta_joins.specs.Damages.{IsDamageOn, IsFirstDamage, Tells}
 use Rattle.alta_joins.specs.declared.fault.JoinFault.{JoinFault}
 use Rattle.alta_joins.specs.declared.fault.JoinFault.TheVariants as faults
-use Rattle.alta_joins.proofs.DiskReads.{reads_none, reads_then, reads_within}
 use Rattle.alta_table.specs.Tables.{Tables}
+use Rattle.alta_images.proofs.DiskReads.{reads_then, reads_within, reads_none}
 
 -- ---- one level more
 

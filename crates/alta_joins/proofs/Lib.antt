@@ -1,5 +1,4 @@
 pub mod DataLaws
-pub mod DiskReads
 pub mod FaultLaws
 pub mod JobLaws
 pub mod JoiningLaws

@@ -1,6 +1,6 @@
 -- Calls that read levels and join them.
 use Rattle.std.proofs.Common.{◌≡◌, true, ℕ, ◌<◌, ◌≤◌, List, [], ◌∷◌, ◌++◌, length, take, drop, refl, sym, subst, ap, ◌∙◌, arith, take-append-drop}
-use Rattle.std.specs.Prelude.{Ok, Err, IsTrue}
+use Rattle.std.specs.Prelude.{Ok, IsTrue}
 use Rattle.std.specs.Cmp.Lexicographic.{slice_cmp}
 use Rattle.std.specs.List.{All, flat_map, list_any}
 use Rattle.std.specs.Ordering.{match_ordering, nat_cmp}
@@ -16,41 +16,29 @@ use Rattle.alta_content.specs.Rows.{AreDocuments, AreDocumentsBehind, Before, be
 use Rattle.alta_content.specs.declared.content.Content.{Content}
 use Rattle.alta_content.specs.declared.content.TermList.{TermList}
 use Rattle.alta_content.specs.declared.document.DocRow.{DocRow}
-use Rattle.alta_images.specs.Joining.{content_of, in_order, joined_in, terms_in, with_term}
 use Rattle.alta_images.specs.Opened.{rows_in}
 use Rattle.alta_images.specs.Working.{rows_of}
-use Rattle.alta_images.proofs.WrittenLaws.{all_left}
 use Rattle.alta_joins.proofs.KeptLaws.{live_may_join, live_same}
-use Rattle.alta_joins.proofs.SameWords.{content_of-same}
 use Rattle.alta_joins.proofs.SpaceLaws.{content_rows, contents_join}
 use Rattle.alta_joins.specs.Contents.{AreContentsOf, AreSegmentsOn, IsContentOf}
 use Rattle.alta_joins.specs.Damages.{FindsDamage, Tells}
 use Rattle.alta_joins.specs.Jobs.{AreJoinedOn, DeadAreGone, IsBegun, IsJoining, IsMerging, begun_job}
 use Rattle.alta_joins.specs.Newest.{IsNewest}
-use Rattle.alta_joins.specs.declared.fault.JoinFault.{JoinFault}
 use Rattle.alta_joins.specs.declared.fault.JoinFault.TheVariants as faults
-use Rattle.alta_memlevel.specs.Added.{Added, HasContent, live_of}
-use Rattle.alta_memlevel.specs.Documents.{IsBefore}
+use Rattle.alta_memlevel.specs.Added.{Added, live_of}
+use Rattle.alta_memlevel.specs.Documents.{IsBefore, content_of}
 use Rattle.alta_memlevel.proofs.Behind.{may_join_behind}
 use Rattle.alta_memlevel.proofs.One as one
 use Rattle.alta_merge.specs.Merging.{Merging}
 use Rattle.alta_table.specs.Tables.{Tables}
+use Rattle.alta_content.proofs.Elements.{all_left}
+use Rattle.alta_content.specs.Joining.{in_order, joined_in, terms_in, with_term, parts_of}
 
 -- ---- damage
-
--- a call that hands a fault on tells the same damage
-pub finds_fault : {X Y : Type 0} (view : X → List Content) (image : List ℕ) (levels : List Tables) (e : JoinFault) → Tells view image levels (Err e) → FindsDamage {X = Y} image levels (Err e)
-finds_fault view image levels faults.Disk told = record { undamaged = λ contents are. tt; first = tt; damaged = λ p damage. tt }
-finds_fault view image levels faults.Memory told = record { undamaged = λ contents are. tt; first = tt; damaged = λ p damage. tt }
-finds_fault view image levels (faults.Damaged q) told = record { undamaged = λ contents are. told.only contents are; first = told.first; damaged = told.damaged }
 
 -- where all was read, there is none
 pub finds_none : {X Y : Type 0} (view : X → List Content) (image : List ℕ) (levels : List Tables) (x : X) (y : Y) → Tells view image levels (Ok x) → FindsDamage {X = Y} image levels (Ok y)
 finds_none view image levels x y told = record { undamaged = λ contents are. tt; first = tt; damaged = told.damaged }
-
--- and want of memory is free
-pub finds_lean : {Y : Type 0} (image : List ℕ) (levels : List Tables) → FindsDamage {X = Y} image levels (Err faults.Memory)
-finds_lean image levels = record { undamaged = λ contents are. tt; first = tt; damaged = λ p damage. tt }
 
 -- ---- a term is left
 
@@ -74,7 +62,7 @@ some_terms (l ∷ ls) more some = some_with l.term (in_order (terms_of ls ++ mor
 
 -- contents of which the first is a level's have a term
 pub some_left : (older newer : Content) → IsContent older → 0 < length (terms_in (older ∷ newer ∷ []))
-some_left older newer is = some_terms older.lists (flat_map (λ (c : Content). terms_of c.lists) (newer ∷ [])) (some_lists older.lists is.has_end)
+some_left older newer is = some_terms older.lists (flat_map terms_of (parts_of (newer ∷ []))) (some_lists older.lists is.has_end)
 
 -- ---- the front of documents
 
@@ -144,13 +132,13 @@ begins levels gone merging contents tells image two are may segments merges =
 module _ (levels : List Tables) (contents : List Content) (gone : List ℕ) (added : List Added) (newest : Content) (are : AreContentsOf levels contents) (documents : AreDocuments (rows_in levels))
     (is : IsNewest levels gone added newest) where
   newest_is : newest ≡ content_of (live_of gone added)
-  newest_is = is.content_is ∙ sym (content_of-same (live_of gone added))
+  newest_is = is.content_is
 
   all_join : MayJoin (contents ++ content_of added ∷ [])
   all_join =
       may_join_behind is.number is.location contents added (content_of added) is.numbered is.located (contents_join levels contents are documents)
       (subst (λ (rows : List DocRow). All (IsBefore is.number is.location) rows) (sym (content_rows levels contents are)) is.behind) is.are_added
-      (subst (HasContent added) (sym (content_of-same added)) (one.content_has added is.are_added.space))
+      (one.content_has added is.are_added.space)
 
   pub newest_join : MayJoin (contents ++ newest ∷ [])
   newest_join = subst (λ (c : Content). MayJoin (contents ++ c ∷ [])) (sym newest_is) (live_may_join contents added gone is.are_added.space all_join)

@@ -1,21 +1,17 @@
 -- Tables that were opened stand on the image, and with contents that were read they are the levels of what is opened.
-use Rattle.std.proofs.Common.{◌≡◌, ℕ, ◌+◌, ◌≤◌, true, List, [], ◌∷◌, ◌++◌, length, map, drop, refl, sym, subst, ap, ap₂, ◌∙◌, arith, Result, Ok, Err, append_assoc, length-drop}
+use Rattle.std.proofs.Common.{◌≡◌, ℕ, ◌+◌, ◌≤◌, List, [], ◌∷◌, ◌++◌, length, map, drop, refl, sym, subst, ap, ap₂, ◌∙◌, arith, Ok, length-drop}
 use Rattle.std.specs.List.{All}
-use Rattle.std.proofs.lemmas.List.{append-nil, length-take}
+use Rattle.std.proofs.lemmas.List.{length-take}
 use Rattle.std.proofs.lemmas.List.Elements.{All-nil, All-cons, All-head, All-tail}
 use Rattle.alta_codec.proofs.ByteLaws.{AreBytes-drop, AreBytes-take}
 use Rattle.alta_codec.specs.Bytes.{AreBytes}
 use Rattle.alta_codec.specs.declared.extent.Extent.{Extent}
 use Rattle.alta_content.specs.declared.content.Content.{Content}
 use Rattle.alta_images.specs.Broken.{HasLevels}
-use Rattle.alta_images.specs.Known.{Named}
 use Rattle.alta_images.specs.Levels.{Level}
-use Rattle.alta_images.specs.Opened.{Opened, IsOpened, are_in_order, bytes_at, levels_from, names_in, tables_at, with_level}
+use Rattle.alta_images.specs.Opened.{Opened, IsOpened, bytes_at, tables_at, extent_of}
 use Rattle.alta_images.specs.Standing.{AreLevels, tables_by}
-use Rattle.alta_images.proofs.OrderLaws.{first_of_levels}
-use Rattle.alta_images.proofs.Steps.{not_failed, one_value}
-use Rattle.alta_images.proofs.Tests.{by_test}
-use Rattle.alta_joins.specs.Contents.{AreContentsOf, AreSegmentsOn, StandsOn, level_with, levels_with, extent_of}
+use Rattle.alta_joins.specs.Contents.{AreContentsOf, AreSegmentsOn, StandsOn, level_with, levels_with}
 use Rattle.alta_level.specs.Segments.{IsSegment}
 use Rattle.alta_root.specs.Root.{AreLevels as AreExtents}
 use Rattle.alta_root.specs.declared.root.Root.{Root}
@@ -24,55 +20,7 @@ use Rattle.alta_root.proofs.Frames.{counts_sound}
 use Rattle.alta_table.specs.Tables.{AreTables, Tables}
 use Rattle.alta_table.proofs.FrontLaws.{whole_has_parts}
 use Rattle.alta_table.proofs.TableLaws.{tables_are}
-
--- ---- tables that were read, each in its extent
-
-AreRead : List Extent → List Tables → List ℕ → Type 0
-AreRead [] [] image = Unit {0}
-AreRead [] (t ∷ ts) image = ⊥
-AreRead (e ∷ es) [] image = ⊥
-AreRead (e ∷ es) (t ∷ ts) image = (tables_at e image ≡ Ok t) × AreRead es ts image
-
-record IsStep (levels longer : List Tables) (extent : Extent) (image : List ℕ) : Type 0 where
-  level : Tables
-  read : tables_at extent image ≡ Ok level
-  longer_is : longer ≡ levels ++ level ∷ []
-
-module _ (root : Root) (deleted : List ℕ) (levels longer : List Tables) (extent : Extent) (image : List ℕ) (e : with_level root deleted levels extent image ≡ Ok longer) where
-  by_names : (level : Tables) → tables_at extent image ≡ Ok level → are_in_order root levels level.documents ≡ true → (r : Result (List Named) ℕ) → names_in deleted levels level ≡ r → IsStep levels longer extent image
-  by_names level found ordered (Ok live) names = record {
-    level = level;
-    read = found;
-    longer_is = one_value (with_level root deleted levels extent image) longer (levels ++ level ∷ []) e (rw found rw ordered rw names refl);
-  }
-  by_names level found ordered (Err place) names = absurd (not_failed (with_level root deleted levels extent image) longer place e (rw found rw ordered rw names refl))
-
-  by_tables : (r : Result Tables ℕ) → tables_at extent image ≡ r → IsStep levels longer extent image
-  by_tables (Ok level) found =
-      by_test (are_in_order root levels level.documents) (λ ordered. by_names level found ordered (names_in deleted levels level) refl)
-      (λ wrong. absurd (not_failed (with_level root deleted levels extent image) longer extent.place e (rw found rw wrong refl)))
-  by_tables (Err place) found = absurd (not_failed (with_level root deleted levels extent image) longer place e (rw found refl))
-
-  step_is : IsStep levels longer extent image
-  step_is = by_tables (tables_at extent image) refl
-
-record WasRead (levels : List Tables) (extents : List Extent) (image : List ℕ) (final : List Tables) : Type 0 where
-  more : List Tables
-  final_is : final ≡ levels ++ more
-  read : AreRead extents more image
-
-was_read : (root : Root) (deleted : List ℕ) (levels : List Tables) (extents : List Extent) (image : List ℕ) (final : List Tables) → levels_from root deleted levels extents image ≡ Ok final → WasRead levels extents image final
-unfolding AreRead
-was_read root deleted levels [] image final e = record { more = []; final_is = sym (one_value {E = ℕ} (Ok levels) levels final refl e) ∙ sym (append-nil levels); read = tt }
-was_read root deleted levels (extent ∷ extents) image final e =
-    let first = first_of_levels root deleted levels extent extents image final (with_level root deleted levels extent image) refl e in
-    let step = step_is root deleted levels first.longer extent image first.here in
-    let rest = was_read root deleted first.longer extents image final first.rest in
-    record {
-      more = step.level ∷ rest.more;
-      final_is = rest.final_is ∙ ap (λ (l : List Tables). l ++ rest.more) step.longer_is ∙ append_assoc levels (step.level ∷ []) rest.more;
-      read = (step.read, rest.read);
-    }
+use Rattle.alta_images.proofs.ReadLaws.{AreRead, was_read}
 
 -- ---- they stand on the image
 
@@ -104,7 +52,6 @@ record AreLaid (extents : List Extent) (levels : List Tables) (image : List ℕ)
 
 all_laid : (size : ℕ) (before : List Extent) (extents : List Extent) (levels : List Tables) (image : List ℕ) → AreBytes image → size ≡ length image → AreExtents size before extents → AreRead extents levels image
     → AreLaid extents levels image
-unfolding AreRead
 all_laid size before [] [] image are is sound read = record { stand = All-nil (StandsOn image); extents_are = refl }
 all_laid size before [] (t ∷ ts) image are is sound read = absurd read
 all_laid size before (e ∷ es) [] image are is sound read = absurd read

@@ -11,9 +11,9 @@ use Rattle.alta_codec.specs.Name.{IsName}
 use Rattle.alta_codec.specs.declared.location.TheConstants.{TOP}
 use Rattle.alta_images.specs.Opened.{rows_in as table_rows}
 use Rattle.alta_images.specs.Ordered.{Precedes, RowsRise}
-use Rattle.alta_images.proofs.WrittenLaws.{all_left}
 use Rattle.alta_joins.specs.Contents.{AreContentsOf}
 use Rattle.alta_table.specs.Tables.{Tables}
+use Rattle.alta_content.proofs.Elements.{all_left}
 
 -- ---- rows that keep the rules, and rise
 

@@ -1,19 +1,14 @@
 -- Levels whose tables were opened, and their contents.
 use Rattle.std.specs.Prelude.{◌≡◌, ℕ, ◌+◌, ◌≤◌, List, [], ◌∷◌, length, slice_index, slice_index_or, Ok}
-use Rattle.alta_codec.specs.declared.extent.Extent.{Extent}
 use Rattle.alta_content.specs.Lists.{IsContent}
 use Rattle.alta_content.specs.declared.content.Content.{Content}
 use Rattle.alta_images.specs.Levels.{Level}
-use Rattle.alta_images.specs.Opened.{bytes_at, tables_at}
+use Rattle.alta_images.specs.Opened.{bytes_at, tables_at, extent_of}
 use Rattle.alta_images.specs.Standing.{tables_by}
 use Rattle.alta_level.specs.Segments.{IsSegment}
 use Rattle.alta_table.specs.Tables.{Tables, total_of}
 use Rattle.alta_table.specs.Terms.{counts_of, data_bytes, streams_of, summaries_of, terms_of}
 use Rattle.alta_table.specs.declared.term.TermRow.{TermRow}
-
--- where the segment of a level stands: its tables, and its streams and summaries behind them
-abbrev pub extent_of : Tables → Extent
-extent_of level = record { place = level.place; bytes = total_of level.documents level.terms }
 
 -- The tables are those that the image has at their place, and it has the whole segment.
 pub record StandsOn (image : List ℕ) (level : Tables) : Type 0 where

@@ -1,9 +1,9 @@
 -- The first damage among levels, and what a call that reads them tells.
 use Rattle.std.specs.Prelude.{◌⊎◌, ℕ, List, [], ◌∷◌, Result, IfOk}
 use Rattle.alta_content.specs.declared.content.Content.{Content}
-use Rattle.alta_images.specs.Opened.{bytes_at}
+use Rattle.alta_images.specs.Opened.{bytes_at, extent_of}
 use Rattle.alta_joins.specs.Answers.{IfDamaged, IsDamaged, IsFound}
-use Rattle.alta_joins.specs.Contents.{AreSegmentsOn, IsSegmentOn, extent_of}
+use Rattle.alta_joins.specs.Contents.{AreSegmentsOn, IsSegmentOn}
 use Rattle.alta_joins.specs.declared.fault.JoinFault.{JoinFault}
 use Rattle.alta_level.specs.Damage.{IsSegmentFault}
 use Rattle.alta_table.specs.Tables.{Tables}

@@ -5,11 +5,11 @@ use Rattle.alta_content.specs.Parts.{MayJoin}
 use Rattle.alta_content.specs.Rows.{ends_among}
 use Rattle.alta_content.specs.declared.content.Content.{Content}
 use Rattle.alta_content.specs.declared.document.DocRow.{DocRow}
-use Rattle.alta_images.specs.Joining.{terms_in}
 use Rattle.alta_images.specs.Work.{Job, whole_of}
 use Rattle.alta_joins.specs.Contents.{AreSegmentsOn, IsContentOf}
 use Rattle.alta_merge.specs.Merging.{Merging}
 use Rattle.alta_table.specs.Tables.{Tables}
+use Rattle.alta_content.specs.Joining.{terms_in}
 
 -- The join is that of the job: it comes to the job's whole content, and of the terms of both levels those are left that are not
 -- merged.

@@ -1,7 +1,7 @@
 // Laws of levels that are read, and of their joins. The functions have nothing to run: their contracts are the laws.
 ghost use Rattle.std.specs.Prelude.{◌≡◌, ℕ, ◌+◌, ◌<◌, ◌≤◌, List, [], ◌∷◌, ◌++◌, All, Some, length, map, take};
 ghost use Rattle.alta_codec.specs.Bytes.{AreBytes};
-ghost use Rattle.alta_content.specs.Joining.{joined_in as content_join, terms_in as content_terms};
+ghost use Rattle.alta_content.specs.Joining.{joined_in, terms_in};
 ghost use Rattle.alta_content.specs.Lists.{IsContent};
 ghost use Rattle.alta_content.specs.Parts.{IsPart, MayJoin};
 ghost use Rattle.alta_content.specs.Rows.{AreDocuments, live_rows};
@@ -10,30 +10,21 @@ ghost use Rattle.alta_content.specs.declared.content.TermList.{TermList};
 ghost use Rattle.alta_content.specs.declared.document.DocRow.{DocRow};
 ghost use Rattle.alta_images.specs.Broken.{HasLevels};
 ghost use Rattle.alta_images.specs.Holding.{Holding, IsHeld, IsJobOf, IsSpaced, IsWell};
-ghost use Rattle.alta_images.specs.Joining.{content_of, joined_in, terms_in};
 ghost use Rattle.alta_images.specs.Levels.{Level, document_of};
-ghost use Rattle.alta_images.specs.Opened.{Opened, IsOpened, bytes_at, rows_in};
+ghost use Rattle.alta_images.specs.Opened.{Opened, IsOpened, bytes_at, rows_in, extent_of};
 ghost use Rattle.alta_images.specs.Ordered.{AreBelow, RowsRise};
 ghost use Rattle.alta_images.specs.Standing.{AreLevels, tables_by};
 ghost use Rattle.alta_images.specs.Views.{View};
 ghost use Rattle.alta_images.specs.Work.{gone as gone_from, newest};
 ghost use Rattle.alta_images.specs.Working.{AreJoins, IsJoin, JoinsKeep, all_contents, oldest_contents, rows_of};
-ghost use Rattle.alta_joins.specs.Contents.{AreContentsOf, AreSegmentsOn, StandsOn, extent_of, levels_with};
+ghost use Rattle.alta_joins.specs.Contents.{AreContentsOf, AreSegmentsOn, StandsOn, levels_with};
 ghost use Rattle.alta_joins.specs.Jobs.{AreJoinedOn, DeadAreGone, IsJoining, IsMerging, moved_by};
 ghost use Rattle.alta_memlevel.specs.Added.{Added, HasContent, IsSpace, live_of};
-ghost use Rattle.alta_memlevel.specs.Documents.{AreAdded, IsBefore, content_of as memory_content, document_of as memory_document};
+ghost use Rattle.alta_memlevel.specs.Documents.{AreAdded, IsBefore, content_of};
 ghost use Rattle.alta_merge.specs.Merging.{Merging};
 ghost use Rattle.alta_root.specs.declared.root.Root.{Root};
 ghost use Rattle.alta_root.specs.declared.slot.Slot.{Slot};
 ghost use Rattle.alta_table.specs.Tables.{Tables};
-
-/// The words on what levels mean are those on contents and on documents that were added.
-pub fn words_agree()
-    ensures joins { (contents : List Content) → (dead : List ℕ) → joined_in contents dead ≡ content_join contents dead }
-    ensures terms { (contents : List Content) → terms_in contents ≡ content_terms contents }
-    ensures documents { (lists : List TermList) → (row : DocRow) → document_of lists row ≡ memory_document lists row }
-    ensures contents { (added : List Added) → content_of added ≡ memory_content added }
-{}
 
 /// The tables that opening finds stand on the image; with contents that were read they are the levels of what is opened; and where
 /// what is opened has levels, their contents are those that are read.

@@ -13,7 +13,7 @@ pub use fault::JoinFault;
 pub use joining::{begin_job, finish_job, join_levels, run_job, step_job};
 pub use laws::{
     joins_are_levels, joins_go_on, joins_keep_documents, read_contents_may_join,
-    read_levels_are_opened, what_is_held_may_join, words_agree,
+    read_levels_are_opened, what_is_held_may_join,
 };
 pub use level::read_level;
 pub use levels::read_levels;

@@ -8,7 +8,6 @@ ghost use Rattle.alta_content.specs.declared.content.Content.{Content};
 ghost use Rattle.alta_disk.specs.Calls.{Reads};
 ghost use Rattle.alta_disk.specs.Disk.{DiskState};
 ghost use Rattle.alta_images.specs.Broken.{IsBrokenAmong};
-ghost use Rattle.alta_images.specs.Joining.{content_of, joined_in};
 ghost use Rattle.alta_images.specs.Opened.{rows_in};
 ghost use Rattle.alta_joins.specs.Answers.{IfDamaged};
 ghost use Rattle.alta_joins.specs.Contents.{AreContentsOf, AreSegmentsOn, StandsOn, data_size};
@@ -17,6 +16,8 @@ ghost use Rattle.alta_joins.specs.Jobs.{AreJoinedOn, IsBegun, IsJoining};
 ghost use Rattle.alta_joins.specs.Newest.{IsNewest};
 ghost use Rattle.alta_joins.specs.declared.fault.JoinFault.TheVariants.{Disk as DiskFault};
 ghost use Rattle.alta_memlevel.specs.Added.{Added};
+ghost use Rattle.alta_content.specs.Joining.{joined_in};
+ghost use Rattle.alta_memlevel.specs.Documents.{content_of};
 
 use crate::fault::JoinFault;
 use crate::joining::{begin_job, join_levels};

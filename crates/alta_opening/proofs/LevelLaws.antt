@@ -1,5 +1,5 @@
 -- A level behind those that were opened.
-use Rattle.std.proofs.Common.{◌≡◌, ℕ, suc, ◌+◌, ◌<◌, ◌≤◌, true, false, List, [], ◌∷◌, ◌++◌, length, take, drop, get_or, drop-cons, refl, sym, ap, subst, ◌∙◌, Result, Ok, Err, arith}
+use Rattle.std.proofs.Common.{◌≡◌, ℕ, suc, ◌+◌, ◌<◌, ◌≤◌, true, List, [], ◌∷◌, ◌++◌, length, take, drop, get_or, drop-cons, refl, sym, ap, subst, ◌∙◌, Result, Ok, Err, arith}
 use Rattle.std.specs.Prelude.{None, nat_lt, ◌&&◌}
 use Rattle.std.specs.BTreeMap.{get_by_text}
 use Rattle.std.proofs.lemmas.List.{get_or_default, take-append-drop, take_more}
@@ -14,7 +14,7 @@ use Rattle.alta_content.specs.Rows.{AreDocuments, AreDocumentsBehind, start}
 use Rattle.alta_images.specs.Known.{Named}
 use Rattle.alta_images.specs.Opened.{are_in_order, comes_behind, is_below, known_at, levels_from, live_in, names_in, rows_in, tables_at, with_level}
 use Rattle.alta_images.proofs.KnownLaws.{all_weaker}
-use Rattle.alta_images.proofs.OrderLaws.{all_from, and_left, and_right, below_from, level_ordered, live_append, rows_more}
+use Rattle.alta_images.proofs.OrderLaws.{all_from, level_ordered, live_append, rows_more}
 use Rattle.alta_images.proofs.Steps.{levels_append}
 use Rattle.alta_root.specs.declared.root.Root.{Root}
 use Rattle.alta_table.specs.Tables.{Tables}
@@ -26,6 +26,7 @@ use Rattle.alta_opening.specs.declared.fault.OpeningFault.{OpeningFault}
 use Rattle.alta_opening.specs.declared.fault.OpeningFault.TheVariants as faults
 use Rattle.alta_opening.specs.declared.levels.Levels.{Levels}
 use Rattle.alta_opening.proofs.RowLaws.{behind_any, behind_append, order_extends, rows_append}
+use Rattle.alta_images.proofs.Tests.{and_left, and_right, below_from}
 
 -- a row lies below the next number and location of the root
 abbrev IsBelow : Root → DocRow → Type 0
@@ -44,15 +45,6 @@ reached_none root deleted found none last names = record {
 -- ---- the steps of one level
 
 module _ (root : Root) (deleted : List ℕ) (levels : List Tables) (extent : Extent) (level : Tables) where
-  pub not_in_order : are_in_order root levels level.documents ≡ false → admitted root deleted levels extent level ≡ Err extent.place
-  not_in_order e = rw e refl
-
-  pub second_name : (place : ℕ) → are_in_order root levels level.documents ≡ true → names_in deleted levels level ≡ Err place → admitted root deleted levels extent level ≡ Err place
-  second_name place e names = rw e rw names refl
-
-  pub is_admitted : (live : List Named) → are_in_order root levels level.documents ≡ true → names_in deleted levels level ≡ Ok live → admitted root deleted levels extent level ≡ Ok (levels ++ level ∷ [])
-  is_admitted live e names = rw e rw names refl
-
   pub tables_first : (image : List ℕ) → tables_at extent image ≡ Ok level → with_level root deleted levels extent image ≡ admitted root deleted levels extent level
   tables_first image found = rw found refl
 

@@ -1,5 +1,4 @@
 pub mod BrokenLevels
-pub mod DiskReads
 pub mod EndLaws
 pub mod LevelLaws
 pub mod ListLaws

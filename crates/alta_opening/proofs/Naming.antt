@@ -64,10 +64,6 @@ joins_dead deleted live row dead = ap (λ (b : Bool). b || not (is_taken row.nam
 pub joins_live : (deleted : List ℕ) (live : List Named) (row : DocRow) → ends_among deleted row ≡ false → may_join deleted live row ≡ not (is_taken row.name live)
 joins_live deleted live row lives = ap (λ (b : Bool). b || not (is_taken row.name live)) lives
 
-pub names_dead : (names : BTreeMap (String Global) ℕ) (deleted : List ℕ) (live : List Named) (row : DocRow) → ends_among deleted row ≡ true → AreNames names live
-    → AreNames names (live ++ live_in deleted (row ∷ []))
-names_dead names deleted live row dead are = subst (AreNames names) (sym (ap (λ (l : List Named). live ++ l) (live_drop deleted row [] dead) ∙ append-nil live)) are
-
 pub names_live : (m n : BTreeMap (String Global) ℕ) (deleted : List ℕ) (live : List Named) (row : DocRow) → ends_among deleted row ≡ false → AreNames m live → is_taken row.name live ≡ false
     → ((q : List ℕ) → get_by_text n q ≡ update bytes_eq (get_by_text m) row.name (Some row.number) q) → AreNames n (live ++ live_in deleted (row ∷ []))
 names_live m n deleted live row lives are free updated =
@@ -109,14 +105,6 @@ stops deleted level live i row rows joins =
     step : ends_among deleted row ≡ false → is_taken row.name live ≡ true → names_from deleted level live i (row ∷ rows) ≡ Err (name_place level i)
     step lives taken = rw lives rw taken refl
 
-pub free_from : (b : Bool) → not b ≡ true → b ≡ false
-free_from true e = sym e
-free_from false e = refl
-
-pub taken_from : (b : Bool) → not b ≡ false → b ≡ true
-taken_from true e = refl
-taken_from false e = sym e
-
 -- ---- a row among those of a level
 
 -- the rows from a place on
@@ -149,8 +137,3 @@ module _ (deleted : List ℕ) (level : Tables) (names : BTreeMap (String Global)
         ∙ ap (λ (l : List Named). names_from deleted level l (i + 1) (drop (i + 1) level.documents)) (live_more deleted level.documents i row inside is live),
     subst (AreNames next) (live_more deleted level.documents i row inside is live) are,
   )
-
-  pub stopped_row : may_join deleted (live ++ live_in deleted (take i level.documents)) row ≡ false → names_from deleted level live 0 level.documents ≡ Err (name_place level i)
-  stopped_row joins =
-      so_far.0 ∙ ap (names_from deleted level (live ++ live_in deleted (take i level.documents)) i) (rows_from level.documents i row inside is)
-      ∙ stops deleted level (live ++ live_in deleted (take i level.documents)) i row (drop (i + 1) level.documents) joins

@@ -7,20 +7,11 @@ use Rattle.std.proofs.lemmas.List.Elements.{All-nil, All-cons, All-head, All-tai
 use Rattle.alta_content.specs.Rows.{AreDocuments, AreDocumentsBehind, Before, IsPlaced, behind_row, end_of, start}
 use Rattle.alta_content.specs.declared.document.DocRow.{DocRow}
 use Rattle.alta_images.specs.Opened.{are_in_order, comes_behind, is_below, rows_in}
-use Rattle.alta_images.proofs.OrderLaws.{and_left, and_right, below_from}
-use Rattle.alta_images.proofs.Tests.{by_test}
+use Rattle.alta_images.proofs.Tests.{by_test, and_left, and_right, below_from, and_both}
 use Rattle.alta_root.specs.declared.root.Root.{Root}
 use Rattle.alta_table.specs.Tables.{Tables}
 use Rattle.alta_opening.specs.Rows.{behind_rows, leaves_room, lies_behind}
-
-pub both_true : (a b : Bool) → a ≡ true → b ≡ true → (a && b) ≡ true
-both_true true b e f = f
-both_true false b e f = e
-
-pub same_test : (a b : Bool) → (a ≡ true → b ≡ true) → (b ≡ true → a ≡ true) → a ≡ b
-same_test true b there back = sym (there refl)
-same_test false true there back = back refl
-same_test false false there back = refl
+use Rattle.alta_content.proofs.Order.{iff_same}
 
 -- ---- places
 
@@ -80,7 +71,7 @@ rows_split before (x ∷ xs) ys are = rows_split (behind_row before x) xs ys are
 all_before : (row : DocRow) (before : Before) (rows : List DocRow) → AreDocumentsBehind before rows → before.number < row.number → before.end < row.first
     → list_all (λ (earlier : DocRow). comes_behind earlier row) rows ≡ lies_behind (behind_rows before rows) row
 unfolding AreDocumentsBehind
-all_before row before [] are number first = sym (both_true (nat_lt before.number row.number) (nat_lt before.end row.first) (lt-ltb before.number row.number number) (lt-ltb before.end row.first first))
+all_before row before [] are number first = sym (and_both (nat_lt before.number row.number) (nat_lt before.end row.first) (lt-ltb before.number row.number number) (lt-ltb before.end row.first first))
 all_before row before (x ∷ xs) are number first =
     by_test (comes_behind x row)
     (λ holds. ap (λ (b : Bool). b && list_all (λ (earlier : DocRow). comes_behind earlier row) xs) holds
@@ -94,7 +85,7 @@ all_before row before (x ∷ xs) are number first =
         (λ holds.
         let n : behind.number < row.number = below_from behind.number row.number (and_left (nat_lt behind.number row.number) (nat_lt behind.end row.first) holds) in
         let f : behind.end < row.first = below_from behind.end row.first (and_right (nat_lt behind.number row.number) (nat_lt behind.end row.first) holds) in
-        absurd (false≢true (sym fails ∙ both_true (nat_lt x.number row.number) (nat_lt (end_of x) row.first) (lt-ltb x.number row.number (omega (arith, n, less.number))) (lt-ltb (end_of x) row.first (omega (arith, f, less.end))))))
+        absurd (false≢true (sym fails ∙ and_both (nat_lt x.number row.number) (nat_lt (end_of x) row.first) (lt-ltb x.number row.number (omega (arith, n, less.number))) (lt-ltb (end_of x) row.first (omega (arith, f, less.end))))))
         (λ fails. fails)
 
 module _ (root : Root) (earlier : List DocRow) (are : AreDocuments earlier) where
@@ -121,7 +112,7 @@ module _ (root : Root) (earlier : List DocRow) (are : AreDocuments earlier) wher
   above_to : (row : DocRow) → IsAbove row → lies_behind (behind_rows start earlier) row ≡ true
   above_to row above =
       let b = behind_rows start earlier in
-      both_true (nat_lt b.number row.number) (nat_lt b.end row.first) (lt-ltb b.number row.number above.number) (lt-ltb b.end row.first above.first)
+      and_both (nat_lt b.number row.number) (nat_lt b.end row.first) (lt-ltb b.number row.number above.number) (lt-ltb b.end row.first above.first)
 
   each_placed : (before : Before) (rows : List DocRow) → AreDocumentsBehind before rows → All IsAbove rows → leaves_room root (behind_rows before rows) ≡ true → list_all is_placed rows ≡ true
   unfolding AreDocumentsBehind
@@ -131,9 +122,9 @@ module _ (root : Root) (earlier : List DocRow) (are : AreDocuments earlier) wher
       let end = behind_rows (behind_row before row) rows in
       let n : end.number < root.next_number = below_from end.number root.next_number (and_left (nat_lt end.number root.next_number) (nat_lt end.end root.next_location) room) in
       let l : end.end < root.next_location = below_from end.end root.next_location (and_right (nat_lt end.number root.next_number) (nat_lt end.end root.next_location) room) in
-      both_true (is_placed row) (list_all is_placed rows)
-      (both_true (is_below root row) (list_all (λ (e : DocRow). comes_behind e row) earlier)
-      (both_true (nat_lt row.number root.next_number) (nat_lt (end_of row) root.next_location) (lt-ltb row.number root.next_number (omega (arith, n, last.number)))
+      and_both (is_placed row) (list_all is_placed rows)
+      (and_both (is_below root row) (list_all (λ (e : DocRow). comes_behind e row) earlier)
+      (and_both (nat_lt row.number root.next_number) (nat_lt (end_of row) root.next_location) (lt-ltb row.number root.next_number (omega (arith, n, last.number)))
       (lt-ltb (end_of row) root.next_location (omega (arith, l, last.end))))
       (all_before row start earlier are (omega (arith, fine.0.rises)) (omega (arith, fine.0.starts_behind)) ∙ above_to row (All-head IsAbove row rows above)))
       (each_placed (behind_row before row) rows fine.1 (All-tail IsAbove row rows above) room)
@@ -149,8 +140,8 @@ module _ (root : Root) (earlier : List DocRow) (are : AreDocuments earlier) wher
       → list_all is_placed (row ∷ rows) ≡ (lies_behind (behind_rows start earlier) row && leaves_room root (behind_rows start (row ∷ rows)))
   unfolding AreDocumentsBehind
   placed_or_not row rows fine =
-      same_test (list_all is_placed (row ∷ rows)) (lies_behind (behind_rows start earlier) row && leaves_room root (behind_rows start (row ∷ rows)))
-      (λ e. both_true (lies_behind (behind_rows start earlier) row) (leaves_room root (behind_rows start (row ∷ rows)))
+      iff_same (list_all is_placed (row ∷ rows)) (lies_behind (behind_rows start earlier) row && leaves_room root (behind_rows start (row ∷ rows)))
+      (λ e. and_both (lies_behind (behind_rows start earlier) row) (leaves_room root (behind_rows start (row ∷ rows)))
       (sym (all_before row start earlier are (omega (arith, fine.0.rises)) (omega (arith, fine.0.starts_behind)))
       ∙ and_right (is_below root row) (list_all (λ (e : DocRow). comes_behind e row) earlier) (and_left (is_placed row) (list_all is_placed rows) e))
       (last_below start row rows e))

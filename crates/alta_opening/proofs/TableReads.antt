@@ -12,7 +12,6 @@ use Rattle.alta_table.specs.declared.fault.LevelFault.{LevelFault}
 use Rattle.alta_table.specs.declared.fault.LevelFault.TheVariants as levels
 use Rattle.alta_table.specs.declared.sizes.Head.{Head}
 use Rattle.alta_table.proofs.FrontLaws.{head_same, tables_same}
-use Rattle.alta_opening.specs.Costs.{front_bytes, level_bytes}
 use Rattle.alta_opening.specs.Steps.{Answers, outer}
 
 -- a part in front of a part
@@ -75,11 +74,3 @@ head_fails extent image front (levels.Damaged place) long is read = rw (sym (hea
 pub tables_fail : (fault : LevelFault) (found : Result Tables ℕ) → TableAnswers (λ (t : Tables). t) (Err fault) found → Answers (λ (t : Tables). t) (Err (outer fault)) found
 tables_fail levels.Memory found answers = tt
 tables_fail (levels.Damaged place) found answers = answers
-
--- what a head says of the bytes of its level
-pub bytes_by_head : (extent : Extent) (image : List ℕ) (h : Head) → read_head (bytes_at extent image) extent.place extent.bytes ≡ Ok h → level_bytes image extent ≡ 32 + h.document_bytes + h.term_bytes
-bytes_by_head extent image h read = ap front_bytes read
-
-pub at_least_head : (r : Result Head ℕ) → 32 ≤ front_bytes r
-at_least_head (Ok h) = omega arith
-at_least_head (Err p) = omega arith

@@ -1,5 +1,4 @@
 pub mod Costs
-pub mod Extents
 pub mod Names
 pub mod Reached
 pub mod Rows

@@ -6,12 +6,11 @@ ghost use Rattle.alta_content.specs.Rows.{AreDocuments};
 ghost use Rattle.alta_disk.specs.Calls.{Reads};
 ghost use Rattle.alta_disk.specs.Disk.{DiskState};
 ghost use Rattle.alta_images.specs.Broken.{HasLevels, IsBrokenAt};
-ghost use Rattle.alta_images.specs.Opened.{Opened, IsOpened, have_ends, known_at, live_in, rows_in};
+ghost use Rattle.alta_images.specs.Opened.{Opened, IsOpened, have_ends, known_at, live_in, rows_in, extent_of};
 ghost use Rattle.alta_images.specs.Ordered.{AreBelow, IsOrdered};
 ghost use Rattle.alta_root.specs.Slots.{Counts};
 ghost use Rattle.alta_root.specs.declared.slot.Slot.{Slot};
 ghost use Rattle.alta_opening.specs.Costs.{named_bytes, whole_bytes};
-ghost use Rattle.alta_opening.specs.Extents.{extent_of};
 ghost use Rattle.alta_opening.specs.Names.{AreNames};
 ghost use Rattle.alta_opening.specs.declared.fault.OpeningFault.TheVariants.{Damaged, Disk as DiskFault};
 

@@ -3,9 +3,8 @@ ghost use Rattle.std.specs.Prelude.{◌≡◌, ◌+◌, ◌<◌, ◌≤◌, ◌^
 ghost use Rattle.alta_codec.specs.Faults.{Rose};
 ghost use Rattle.alta_disk.specs.Calls.{Reads};
 ghost use Rattle.alta_disk.specs.Disk.{DiskState};
-ghost use Rattle.alta_images.specs.Opened.{tables_at};
+ghost use Rattle.alta_images.specs.Opened.{tables_at, extent_of};
 ghost use Rattle.alta_opening.specs.Costs.{level_bytes};
-ghost use Rattle.alta_opening.specs.Extents.{extent_of};
 ghost use Rattle.alta_opening.specs.Steps.{Answers, outer};
 ghost use Rattle.alta_opening.specs.declared.fault.OpeningFault.TheVariants.{Disk as DiskFault};
 

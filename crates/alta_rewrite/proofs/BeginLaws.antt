@@ -5,7 +5,6 @@ use Rattle.alta_codec.specs.Bytes.{AreBytes}
 use Rattle.alta_content.specs.declared.content.Content.{Content}
 use Rattle.alta_images.proofs.SpacedLaws.{held_spaced}
 use Rattle.alta_images.specs.Holding.{Holding, IsHeld, IsSpaced}
-use Rattle.alta_images.specs.Joining.{joined_in}
 use Rattle.alta_images.specs.Levels.{Level}
 use Rattle.alta_images.specs.Opened.{Opened, IsOpened}
 use Rattle.alta_images.specs.Standing.{view_of}
@@ -19,6 +18,7 @@ use Rattle.alta_rewrite.specs.declared.ends.Ends.{Ends}
 use Rattle.alta_rewrite.specs.declared.levels.NextLevels.{NextLevels}
 use Rattle.alta_rewrite.proofs.JoinedLaws.{all_given, oldest_given, stay_given}
 use Rattle.alta_rewrite.proofs.SpaceLaws.{opened_spaced}
+use Rattle.alta_content.specs.Joining.{joined_in}
 
 module _ (held : Holding) (levels : NextLevels) (ends : Ends) (next location : ℕ) (image : List ℕ) (is : IsHeld held image) (space : IsSpace (newest held.view)) (agrees : Agrees held.view levels ends next location) where
   spaced : IsSpaced held.view

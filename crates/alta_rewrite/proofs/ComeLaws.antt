@@ -10,7 +10,6 @@ use Rattle.alta_codec.specs.declared.extent.Extent.{Extent}
 use Rattle.alta_disk.specs.Images.{end_of}
 use Rattle.alta_disk.specs.Parts.{Apart, Clear}
 use Rattle.alta_images.proofs.KeptStates.{unmap}
-use Rattle.alta_images.proofs.SpacedLaws.{written_stands}
 use Rattle.alta_images.specs.Known.{known_of}
 use Rattle.alta_images.specs.Levels.{Level}
 use Rattle.alta_images.specs.Opened.{Opened, bytes_at, journal_of}
@@ -20,7 +19,6 @@ use Rattle.alta_images.specs.Switching.{InPlace, IsPut, IsWritten}
 use Rattle.alta_images.specs.Views.{state_of}
 use Rattle.alta_journal.specs.Journal.{EndsAt}
 use Rattle.alta_level.specs.Segments.{IsSegment}
-use Rattle.alta_meta.specs.declared.document.State.{State}
 use Rattle.alta_postings.specs.Deltas.{Spells, stream_bytes}
 use Rattle.alta_root.proofs.Frames.{counts_sound}
 use Rattle.alta_root.proofs.NextRoot.{levels_inside}
@@ -31,7 +29,7 @@ use Rattle.alta_root.specs.declared.places.TheConstants.{HEAD_BYTES, LEVEL_BYTES
 use Rattle.alta_root.specs.declared.root.Root.{Root}
 use Rattle.alta_root.specs.declared.slot.Slot.{Slot}
 use Rattle.alta_rewrite.proofs.RunLaws.{follows_as, spared}
-use Rattle.alta_rewrite.specs.Brings.{Brings, Names}
+use Rattle.alta_rewrite.specs.Brings.{Brings}
 use Rattle.alta_rewrite.specs.Comes.{Comes, LevelComes, ListComes, WillStand}
 use Rattle.alta_rewrite.specs.Puts.{extents_in, ranges_before, ranges_in, HasPiece, IsLaid, AreLaid, MayPut, Puts}
 use Rattle.alta_rewrite.specs.declared.piece.Piece.{Piece}
@@ -92,11 +90,11 @@ module _ (root : Root) (limit size : ℕ) (before : List Piece) (piece : Piece) 
 
 -- ---- what stands there
 
-bytes_long : (extent : Extent) (image : List ℕ) → EndsIn (length image) extent → length (bytes_at extent image) ≡ extent.bytes
+pub bytes_long : (extent : Extent) (image : List ℕ) → EndsIn (length image) extent → length (bytes_at extent image) ≡ extent.bytes
 bytes_long extent image le = length-take-le extent.bytes (drop extent.place image) (omega (arith, length-drop extent.place image, le))
 
-are_bytes : (extent : Extent) (image : List ℕ) → AreBytes image → AreBytes (bytes_at extent image)
-are_bytes extent image bytes = AreBytes-take extent.bytes (drop extent.place image) (AreBytes-drop extent.place image bytes)
+pub bytes_fit : (extent : Extent) (image : List ℕ) → AreBytes image → AreBytes (bytes_at extent image)
+bytes_fit extent image bytes = AreBytes-take extent.bytes (drop extent.place image) (AreBytes-drop extent.place image bytes)
 
 laid_within : (taken : List Extent) (limit size : ℕ) (before pieces : List Piece) → size ≤ limit → AreLaid taken limit size before pieces → end_of size (ranges_in pieces) ≤ limit
 laid_within taken limit size before [] le laid = le
@@ -132,7 +130,7 @@ module _ (slot at : Slot) (root earlier : Root) (pieces : List Piece) (limit : �
     level_there l (bytes, stand, segment) =
         let ends = comes_end l.extent bytes stand in
         let within = laid_within (extents_of may.earlier) limit (length old) [] pieces fits may.laid in
-        (are_bytes l.extent new puts.bytes, bytes_long l.extent new ends, omega (arith, ends, puts.size, within, short))
+        (bytes_fit l.extent new puts.bytes, bytes_long l.extent new ends, omega (arith, ends, puts.size, within, short))
 
     level_segment : (l : Level) → LevelComes earlier pieces old l → IsSegment (bytes_at l.extent new) l.content
     level_segment l (bytes, stand, segment) = subst (λ (b : List ℕ). IsSegment b l.content) (sym (will_stand l.extent bytes stand)) segment

@@ -4,7 +4,7 @@ use Rattle.std.specs.Prelude.{◌==◌, Option, Some, None}
 use Rattle.std.specs.List.{All}
 use Rattle.alta_codec.specs.declared.extent.Extent.{Extent}
 use Rattle.alta_content.specs.declared.document.DocRow.{DocRow}
-use Rattle.alta_images.specs.Opened.{rows_in}
+use Rattle.alta_images.specs.Opened.{rows_in, extent_of}
 use Rattle.alta_images.specs.Work.{anew, coming}
 use Rattle.alta_root.specs.Gaps.{taken_by}
 use Rattle.alta_root.specs.Places.{other}
@@ -16,7 +16,7 @@ use Rattle.alta_rewrite.specs.Puts.{Fills, MayPut}
 use Rattle.alta_rewrite.specs.declared.piece.Piece.{Piece}
 use Rattle.alta_table.specs.Tables.{Tables}
 use Rattle.alta_rewrite.specs.Places.{as_list}
-use Rattle.alta_rewrite.specs.Rewrites.{extent_of, tables_in}
+use Rattle.alta_rewrite.specs.Rewrites.{tables_in}
 use Rattle.alta_rewrite.specs.Drafts.{IsDraft, list_of, pairs_in, piece_of, pieces_of, segment_of, table_to_come}
 use Rattle.alta_rewrite.specs.declared.draft.Draft.{Draft}
 use Rattle.alta_rewrite.specs.declared.ends.Ends.{Ends}

@@ -3,7 +3,6 @@ use Rattle.std.proofs.Common.{◌≡◌, ℕ, ◌+◌, ◌≤◌, ◌<◌, Bool,
 use Rattle.std.specs.Prelude.{not, ◌==◌, ◌&&◌, nat_le, Some, None}
 use Rattle.std.specs.List.{All, filter}
 use Rattle.std.proofs.Math.Seq.{drop-length}
-use Rattle.std.proofs.lemmas.Bool.{false≢true}
 use Rattle.std.proofs.lemmas.Grind.{flat_map-append}
 use Rattle.std.proofs.lemmas.List.{append-nil, map-append}
 use Rattle.std.proofs.lemmas.List.Elements.{All-filter, All-head, All-tail, filter-append, filter_passes}
@@ -15,11 +14,9 @@ use Rattle.alta_images.proofs.JoinLaws.{all_now, coming_rows, joined_left, merge
 use Rattle.alta_images.proofs.KeptStates.{AreGone, by_entries, by_levels, gone_are, live_rows_are, rise_left, rows_append, rows_by_levels, stay_contents}
 use Rattle.alta_images.proofs.KnownLaws.{all_both, all_weaker}
 use Rattle.alta_images.proofs.PlaceLaws.{LiesBelow, cells_in}
-use Rattle.alta_images.proofs.Tests.{filter_drop}
+use Rattle.alta_images.proofs.Tests.{filter_drop, not_true}
 use Rattle.alta_images.proofs.WellLaws.{by_merged, by_terms}
-use Rattle.alta_images.proofs.WrittenLaws.{all_left, all_right}
 use Rattle.alta_images.specs.Holding.{Holding, IsSpaced, all_rows}
-use Rattle.alta_images.specs.Joining.{content_of, joined_in, terms_in}
 use Rattle.alta_images.specs.Levels.{Level, live_rows}
 use Rattle.alta_images.specs.Ordered.{RowsRise}
 use Rattle.alta_images.specs.Views.{View, state_of}
@@ -29,6 +26,9 @@ use Rattle.alta_memlevel.specs.Added.{Added}
 use Rattle.alta_rewrite.specs.Rewrites.{Agrees, IsGiven, Replaces, contents_to_come, levels_to_come, no_content, rows_to_come}
 use Rattle.alta_rewrite.specs.declared.ends.Ends.{Ends}
 use Rattle.alta_rewrite.specs.declared.levels.NextLevels.{NextLevels}
+use Rattle.alta_content.proofs.Elements.{all_left, all_right}
+use Rattle.alta_content.specs.Joining.{joined_in, terms_in}
+use Rattle.alta_memlevel.specs.Documents.{content_of}
 
 -- ---- the levels to come
 
@@ -38,10 +38,6 @@ replaced n oldest newest view = coming oldest ++ (map stays (drop n view.levels)
 to_come : (levels : NextLevels) (n : ℕ) (oldest newest : Content) (view : View) → Replaces levels n oldest newest → levels_to_come levels view ≡ replaced n oldest newest view
 to_come levels n oldest newest view is =
     ap (λ (c : Content). replaced levels.stay_from c levels.newest.now view) is.oldest_is ∙ ap (λ (c : Content). replaced levels.stay_from oldest c view) is.newest_is ∙ ap (λ k. replaced k oldest newest view) is.stay_from_is
-
--- all levels stay
-all_stay : (levels : List Level) → drop 0 levels ≡ levels
-all_stay levels = refl
 
 stay_is : (levels : NextLevels) (view : View) → Replaces levels 0 no_content (newest_content view) → levels_to_come levels view ≡ map stays view.levels ++ coming (newest_content view)
 stay_is levels view is = to_come levels 0 no_content (newest_content view) view is
@@ -123,10 +119,6 @@ module _ (view : View) (levels : NextLevels) (ends : Ends) (next location : ℕ)
 filter_none : {X : Type 0} (p : X → Bool) (xs : List X) → All (λ x. p x ≡ false) xs → filter p xs ≡ []
 filter_none p [] all = refl
 filter_none p (x ∷ xs) all = filter_drop p x xs (All-head (λ x. p x ≡ false) x xs all) ∙ filter_none p xs (All-tail (λ x. p x ≡ false) x xs all)
-
-not_true : (b : Bool) → not b ≡ true → b ≡ false
-not_true true e = absurd (false≢true e)
-not_true false e = refl
 
 pub gone_append : (view : View) (xs ys : List DocRow) → gone_among view (xs ++ ys) ≡ gone_among view xs ++ gone_among view ys
 gone_append view xs ys = ap (map end_of) (filter-append (is_gone view) xs ys) ∙ map-append end_of (filter (is_gone view) xs) (filter (is_gone view) ys)

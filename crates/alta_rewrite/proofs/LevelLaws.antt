@@ -9,13 +9,13 @@ use Rattle.alta_content.specs.declared.content.Content.{Content}
 use Rattle.alta_content.specs.declared.document.DocRow.{DocRow}
 use Rattle.alta_images.proofs.FullLaws.{placed_first}
 use Rattle.alta_images.proofs.Tests.{by_test, equal_from}
-use Rattle.alta_images.specs.Opened.{rows_in}
+use Rattle.alta_images.specs.Opened.{rows_in, extent_of}
 use Rattle.alta_images.specs.Work.{Coming, anew, coming}
 use Rattle.alta_level.proofs.Spelled.{segment_tables}
 use Rattle.alta_level.specs.Segments.{segment_bytes}
 use Rattle.alta_rewrite.specs.Drafts.{segment_of, table_to_come}
 use Rattle.alta_rewrite.specs.Places.{as_list}
-use Rattle.alta_rewrite.specs.Rewrites.{extent_of, tables_in}
+use Rattle.alta_rewrite.specs.Rewrites.{tables_in}
 use Rattle.alta_rewrite.specs.declared.levels.NextLevels.{NextLevels}
 use Rattle.alta_rewrite.specs.declared.places.Places.{Places}
 use Rattle.alta_rewrite.proofs.PlaceLaws.{IsPlaceFor}

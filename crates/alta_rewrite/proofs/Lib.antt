@@ -10,7 +10,6 @@ pub mod OpenedLaws
 pub mod PieceLaws
 pub mod PlaceLaws
 pub mod PutLaws
-pub mod ReadLaws
 pub mod RootLaws
 pub mod RunLaws
 pub mod SegmentLaws

@@ -18,6 +18,7 @@ use Rattle.alta_rewrite.proofs.PutLaws.{laid_behind}
 use Rattle.alta_rewrite.specs.Comes.{IsMade, IsPlaced}
 use Rattle.alta_rewrite.specs.Puts.{extents_in, ranges_in, AreLaid, MayPut}
 use Rattle.alta_rewrite.specs.declared.piece.Piece.{Piece}
+use Rattle.alta_images.proofs.ApartLaws.{swapped}
 
 -- ---- levels that do not meet
 
@@ -26,9 +27,6 @@ IsInside size e = (LEVEL_BYTES ≤ e.bytes) × (HEAD_BYTES ≤ e.place) × (e.pl
 
 abbrev IsBeside : List Extent → Extent → Type 0
 IsBeside levels e = All (AreApart e) levels
-
-swapped : (a b : Extent) → AreApart a b → AreApart b a
-swapped a b apart = ⊎_elim (λ before. inr before) (λ behind. inl behind) apart
 
 levels_sound : (size : ℕ) (before levels : List Extent) → All (IsInside size) levels → All (IsBeside levels) before → AllApart levels → AreLevels size before levels
 levels_sound size before [] inside beside apart = tt

@@ -1,5 +1,5 @@
 -- What is put brings or names what comes.
-use Rattle.std.proofs.Common.{◌≡◌, ⊎_elim, inl, inr, ℕ, zero, suc, ◌+◌, ◌-◌, ◌*◌, ◌≤◌, ◌<◌, ◌^◌, Bool, true, cond, List, [], ◌∷◌, ◌++◌, length, map, drop, refl, sym, ap, subst, ◌∙◌, arith, Ok}
+use Rattle.std.proofs.Common.{◌≡◌, ⊎_elim, inl, inr, ℕ, zero, suc, ◌+◌, ◌-◌, ◌*◌, ◌≤◌, ◌<◌, ◌^◌, Bool, cond, List, [], ◌∷◌, ◌++◌, length, map, drop, refl, sym, ap, subst, ◌∙◌, arith, Ok}
 use Rattle.std.specs.Prelude.{◌==◌, Contains, Option, Some, None}
 use Rattle.std.specs.List.{All, sum_by}
 use Rattle.std.specs.Str.{bytes_eq}
@@ -11,10 +11,10 @@ use Rattle.alta_codec.specs.Rising.{IsRising}
 use Rattle.alta_codec.specs.declared.extent.Extent.{Extent}
 use Rattle.alta_content.specs.Parts.{IsPart}
 use Rattle.alta_content.specs.declared.content.Content.{Content}
-use Rattle.alta_images.proofs.FullLaws.{placed_first}
+use Rattle.alta_images.proofs.FullLaws.{placed_first, stream_some}
 use Rattle.alta_images.proofs.KeptStates.{unmap}
 use Rattle.alta_images.proofs.KnownLaws.{all_both, all_weaker}
-use Rattle.alta_images.proofs.Tests.{by_test, bytes_from, equal_from}
+use Rattle.alta_images.proofs.Tests.{by_test, bytes_from}
 use Rattle.alta_images.proofs.WrittenLaws.{level_read, list_read}
 use Rattle.alta_images.specs.Holding.{Holding}
 use Rattle.alta_images.specs.Known.{known_of}
@@ -36,7 +36,7 @@ use Rattle.alta_root.specs.Root.{extents_of, no_extent}
 use Rattle.alta_root.specs.declared.places.TheConstants.{DOCUMENT_CELLS, LAST_NEXT}
 use Rattle.alta_root.specs.declared.root.Root.{Root}
 use Rattle.alta_root.specs.declared.slot.Slot.{Slot}
-use Rattle.alta_rewrite.proofs.ComeLaws.{comes_brings, will_stand}
+use Rattle.alta_rewrite.proofs.ComeLaws.{comes_brings, will_stand, bytes_fit}
 use Rattle.alta_rewrite.specs.Brings.{Brings, Names}
 use Rattle.alta_rewrite.specs.Comes.{Comes, LevelComes, ListComes, WillStand}
 use Rattle.alta_rewrite.specs.Puts.{MayPut, Puts}
@@ -50,12 +50,13 @@ use Rattle.alta_rewrite.specs.declared.ends.Ends.{Ends}
 use Rattle.alta_rewrite.specs.declared.levels.NextLevels.{NextLevels}
 use Rattle.alta_rewrite.specs.declared.places.Places.{Places}
 use Rattle.alta_rewrite.proofs.DraftLaws.{draft_may, draft_places, draft_put}
-use Rattle.alta_rewrite.proofs.OpenedLaws.{bytes_fit, come_of, come_ordered, come_place, opened_read, place, same_state, state_ordered, then}
+use Rattle.alta_rewrite.proofs.OpenedLaws.{come_of, come_ordered, come_place, opened_read, place, same_state, state_ordered, then}
 use Rattle.alta_rewrite.proofs.PieceLaws.{ArePut, IsThere}
 use Rattle.alta_rewrite.proofs.PlaceLaws.{ArePlaces, IsPlaceFor}
-use Rattle.alta_rewrite.proofs.ReadLaws.{AreRead, read_again}
-use Rattle.alta_rewrite.proofs.RootLaws.{content_stands, has_segment, stream_some}
+use Rattle.alta_images.proofs.ReadLaws.{AreRead, read_again}
+use Rattle.alta_rewrite.proofs.RootLaws.{content_stands, has_segment}
 use Rattle.alta_rewrite.proofs.SwitchLaws.{new_levels}
+use Rattle.alta_images.proofs.WellLaws.{none_left}
 
 -- what is opened then, by what is opened before
 abbrev pub coming_at : Opened → NextLevels → Ends → ℕ → ℕ → Places → Opened
@@ -95,10 +96,6 @@ list_spelled root deleted image fits e = by_fault (first_fault (bytes_at root.de
         (reading_spells (bytes_at root.deletions image) (λ i lt. AreBytes-take root.deletions.bytes (drop root.deletions.place image) (AreBytes-drop root.deletions.place image fits) i) none)
     by_fault (Some fault) some e = absurd cc
 
-nothing : (xs : List ℕ) → (length xs == 0) ≡ true → xs ≡ []
-nothing [] e = refl
-nothing (x ∷ xs) e = absurd (omega (arith, equal_from (length (x ∷ xs)) 0 e))
-
 nothing_spelled : Spells [] []
 unfolding stream_bytes
 nothing_spelled = record {
@@ -137,7 +134,7 @@ module _ (root : Root) (ends : Ends) (limit : ℕ) (old : List ℕ) (pieces : Li
       subst (λ (x : Extent). ListComes root pieces old x ends.deleted.now) (sym (ap come_by others))
       (inl (
         refl,
-        by_test (length ends.deleted.now == 0) (λ none. nothing ends.deleted.now none)
+        by_test (length ends.deleted.now == 0) (λ none. none_left ends.deleted.now none)
             (λ some. let bytes : length (list_of ends) ≡ length (stream_bytes 0 ends.deleted.now) = ap (λ b. length (list_by b)) others in absurd (omega (arith, stream_some ends.deleted.now some, bytes, place))),
       )))
 

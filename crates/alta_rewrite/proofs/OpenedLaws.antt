@@ -2,10 +2,9 @@
 use Rattle.std.proofs.Common.{◌≡◌, ℕ, true, List, [], ◌∷◌, ◌++◌, length, map, drop, refl, sym, ap, subst, ◌∙◌, arith, Ok}
 use Rattle.std.specs.Prelude.{Option, Some, None}
 use Rattle.std.specs.List.{All, flat_map}
-use Rattle.std.proofs.lemmas.List.{drop-map, length-drop, length-take-le, map-append}
+use Rattle.std.proofs.lemmas.List.{drop-map, map-append}
 use Rattle.std.proofs.lemmas.List.Elements.{All-cons, All-head, All-nil, All-tail}
 use Rattle.std.proofs.lemmas.List.Folds.{flat_map-map}
-use Rattle.alta_codec.proofs.ByteLaws.{AreBytes-drop, AreBytes-take}
 use Rattle.alta_codec.specs.Bytes.{AreBytes}
 use Rattle.alta_codec.specs.declared.extent.Extent.{Extent}
 use Rattle.alta_content.specs.declared.content.Content.{Content}
@@ -31,7 +30,7 @@ use Rattle.alta_meta.specs.declared.document.State.{State}
 use Rattle.alta_root.proofs.Frames.{counts_sound}
 use Rattle.alta_root.specs.Root.{extents_of}
 use Rattle.alta_root.specs.declared.root.Root.{Root}
-use Rattle.alta_rewrite.proofs.ComeLaws.{EndsIn, root_ends}
+use Rattle.alta_rewrite.proofs.ComeLaws.{EndsIn, root_ends, bytes_long, bytes_fit}
 use Rattle.alta_table.proofs.FrontLaws.{whole_has_parts}
 use Rattle.alta_table.proofs.TableLaws.{tables_are}
 use Rattle.alta_table.specs.Tables.{Tables}
@@ -41,15 +40,9 @@ use Rattle.alta_rewrite.specs.declared.ends.Ends.{Ends}
 use Rattle.alta_rewrite.specs.declared.levels.NextLevels.{NextLevels}
 use Rattle.alta_rewrite.specs.declared.places.Places.{Places}
 use Rattle.alta_rewrite.proofs.SwitchLaws.{levels_then, new_levels, rows_placed, switch_is, switched_then, then_of}
-use Rattle.alta_rewrite.proofs.ReadLaws.{AreRead, was_read}
+use Rattle.alta_images.proofs.ReadLaws.{AreRead, was_read}
 
 -- ---- tables that were read
-
-bytes_long : (extent : Extent) (image : List ℕ) → EndsIn (length image) extent → length (bytes_at extent image) ≡ extent.bytes
-bytes_long extent image le = length-take-le extent.bytes (drop extent.place image) (omega (arith, length-drop extent.place image, le))
-
-pub bytes_fit : (extent : Extent) (image : List ℕ) → AreBytes image → AreBytes (bytes_at extent image)
-bytes_fit extent image bytes = AreBytes-take extent.bytes (drop extent.place image) (AreBytes-drop extent.place image bytes)
 
 table_stands : (extent : Extent) (t : Tables) (image : List ℕ) → AreBytes image → EndsIn (length image) extent → tables_at extent image ≡ Ok t → HasDocuments t
 unfolding tables_at

@@ -7,7 +7,6 @@ use Rattle.std.proofs.lemmas.List.Elements.{All-cons, All-contains_itself, All-h
 use Rattle.alta_codec.specs.declared.extent.Extent.{Extent}
 use Rattle.alta_images.proofs.FullLaws.{placed_first}
 use Rattle.alta_images.proofs.KnownLaws.{all_weaker}
-use Rattle.alta_images.proofs.WrittenLaws.{all_left, all_right}
 use Rattle.alta_images.specs.Working.{placed}
 use Rattle.alta_root.specs.Gaps.{IsFirstGap, taken_by}
 use Rattle.alta_root.specs.Root.{IsSound, extents_of}
@@ -20,6 +19,7 @@ use Rattle.alta_rewrite.specs.Drafts.{pairs_in, piece_of}
 use Rattle.alta_rewrite.specs.Places.{as_list}
 use Rattle.alta_rewrite.specs.declared.places.Places.{Places}
 use Rattle.alta_rewrite.proofs.PlaceLaws.{ArePlaces, IsPlaceFor}
+use Rattle.alta_content.proofs.Elements.{all_left, all_right}
 
 abbrev pub Pair : Type 0
 Pair = Extent × List ℕ

@@ -5,7 +5,7 @@ use Rattle.std.proofs.lemmas.List.Elements.{All-cons, All-nil, All-weaker}
 use Rattle.alta_codec.specs.Bytes.{AreBytes}
 use Rattle.alta_codec.specs.declared.extent.Extent.{Extent}
 use Rattle.alta_disk.specs.Disk.{DiskState, Holds, Passes, Torn}
-use Rattle.alta_disk.specs.Parts.{Clear, Touches}
+use Rattle.alta_disk.specs.Parts.{Touches}
 use Rattle.alta_disk.specs.Writes.{length-holds}
 use Rattle.alta_disk.proofs.Moments.{passes_as}
 use Rattle.alta_disk.proofs.PartLaws.{touches_as, touches_then, touches_written}
@@ -80,9 +80,6 @@ module _ (slot : Slot) (taken : List Extent) (limit : ℕ) (pieces : List Piece)
     }
 
 -- ---- what is spared
-
-abbrev IsClearOf : List (ℕ × ℕ) → Extent → Type 0
-IsClearOf ranges e = Clear e.place e.bytes ranges
 
 none_spares : (slot : Slot) (root : Root) → Spares [] slot root
 none_spares slot root = record { half = tt; extents = λ k d lt. tt }

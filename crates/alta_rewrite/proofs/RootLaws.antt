@@ -1,12 +1,11 @@
 -- The root to come keeps the rules of a slot.
-use Rattle.std.proofs.Common.{◌≡◌, ◌⊎◌, inl, inr, ⊎_elim, ℕ, suc, zero, ◌+◌, ◌-◌, ◌*◌, ◌/◌, ◌%◌, ◌≤◌, ◌<◌, Bool, true, false, cond, List, [], ◌∷◌, ◌++◌, length, drop, refl, sym, ap, subst, ◌∙◌, arith, Ok}
-use Rattle.std.specs.Prelude.{Contains, ◌==◌, nat_lt, Option, Some, None}
+use Rattle.std.proofs.Common.{◌≡◌, ◌⊎◌, inl, inr, ⊎_elim, ℕ, ◌+◌, ◌-◌, ◌*◌, ◌≤◌, ◌<◌, Bool, true, false, cond, List, [], ◌∷◌, ◌++◌, length, drop, refl, sym, ap, subst, ◌∙◌, arith, Ok}
+use Rattle.std.specs.Prelude.{Contains, ◌==◌, Option, Some, None}
 use Rattle.std.specs.List.{All, flat_map}
 use Rattle.std.specs.Str.{bytes_eq}
 use Rattle.std.proofs.lemmas.Bool.{false≢true}
 use Rattle.std.proofs.lemmas.List.{append-nil, length-append, length-drop}
 use Rattle.std.proofs.lemmas.List.Elements.{All-append, All-cons, All-contains_itself, All-drop, All-head, All-nil, All-push, All-tail, All-weaker}
-use Rattle.alta_codec.specs.Numbers.{number_bytes, spelling}
 use Rattle.alta_codec.specs.declared.extent.Extent.{Extent}
 use Rattle.alta_content.specs.Lists.{IsContent}
 use Rattle.alta_content.specs.Parts.{IsPart}
@@ -15,7 +14,6 @@ use Rattle.alta_content.specs.declared.content.Content.{Content}
 use Rattle.alta_images.proofs.FullLaws.{placed_first}
 use Rattle.alta_images.proofs.KnownLaws.{all_both}
 use Rattle.alta_images.proofs.Tests.{by_test, equal_from}
-use Rattle.alta_images.proofs.WrittenLaws.{all_left, all_right}
 use Rattle.alta_images.specs.Work.{Coming, anew, coming}
 use Rattle.alta_images.specs.Working.{placed, AllApart}
 use Rattle.alta_level.specs.Segments.{list_bytes, rows_of, segment_bytes}
@@ -43,11 +41,10 @@ use Rattle.alta_rewrite.specs.declared.levels.NextLevels.{NextLevels}
 use Rattle.alta_rewrite.specs.declared.places.Places.{Places}
 use Rattle.alta_rewrite.proofs.PieceLaws.{ArePut, all_laid}
 use Rattle.alta_rewrite.proofs.PlaceLaws.{ArePlaces, IsPlaceFor}
+use Rattle.alta_content.proofs.Elements.{all_left, all_right}
+use Rattle.alta_images.proofs.ApartLaws.{swapped, apart_drop}
 
 -- ---- extents that do not meet
-
-swapped : (a b : Extent) → AreApart a b → AreApart b a
-swapped a b apart = ⊎_elim (λ before. inr before) (λ behind. inl behind) apart
 
 all_apart : (size : ℕ) (before levels : List Extent) → AreLevels size before levels → AllApart levels
 all_apart size before [] are = tt
@@ -55,11 +52,6 @@ all_apart size before (l ∷ ls) are = (
   All-weaker (MeetsNone (before ++ l ∷ [])) (AreApart l) (λ e meets. swapped e l (All-head (AreApart e) l [] (all_right (AreApart e) before (l ∷ []) meets))) ls (levels_apart size (before ++ l ∷ []) ls are.1),
   all_apart size (before ++ l ∷ []) ls are.1,
 )
-
-drop_apart : (n : ℕ) (es : List Extent) → AllApart es → AllApart (drop n es)
-drop_apart zero es apart = apart
-drop_apart (suc n) [] apart = tt
-drop_apart (suc n) (e ∷ es) apart = drop_apart n es apart.1
 
 apart_push : (es : List Extent) (x : Extent) → AllApart es → All (AreApart x) es → AllApart (es ++ x ∷ [])
 apart_push [] x apart all = (All-nil (AreApart x), tt)
@@ -78,19 +70,6 @@ placed_apart taken bytes limit x e =
 pub segment_long : (c : Content) → LEVEL_BYTES ≤ length (segment_bytes c)
 unfolding segment_bytes
 segment_long c = omega (arith, length-append (tables_bytes c.documents (rows_of c.lists)) (flat_map list_bytes c.lists), length-tables_bytes c.documents (rows_of c.lists))
-
-number_some : (n : ℕ) → 0 < length (number_bytes n)
-unfolding number_bytes spelling
-number_some n = by_low (nat_lt n 128)
-  where
-    by_low : (b : Bool) → 0 < length (cond b (n ∷ []) ((128 + n % 128) ∷ spelling 9 (n / 128)))
-    by_low true = omega arith
-    by_low false = omega arith
-
-pub stream_some : (deleted : List ℕ) → (length deleted == 0) ≡ false → 0 < length (stream_bytes 0 deleted)
-unfolding stream_bytes
-stream_some [] some = absurd cc
-stream_some (d ∷ ds) some = omega (arith, length-append (number_bytes (d - 0)) (stream_bytes d ds), number_some (d - 0))
 
 pub no_stream : (deleted : List ℕ) → (length deleted == 0) ≡ true → length (stream_bytes 0 deleted) ≡ 0
 unfolding stream_bytes
@@ -170,9 +149,9 @@ module _ (root : Root) (levels : NextLevels) (ends : Ends) (limit size : ℕ) (s
   newest_apart oldest y is = placed_apart (taken_by root (as_list oldest)) (length (segment_of levels.newest.now)) limit y is.1
 
   behind_apart : (oldest newest : Option Extent) → IsPlaceFor (taken_by root (as_list oldest)) (length (segment_of levels.newest.now)) limit newest → AllApart (staying ++ as_list newest)
-  behind_apart oldest None is = subst AllApart (sym (append-nil staying)) (drop_apart levels.stay_from root.levels.items (all_apart size (root.deletions ∷ []) root.levels.items sound.levels))
+  behind_apart oldest None is = subst AllApart (sym (append-nil staying)) (apart_drop levels.stay_from root.levels.items (all_apart size (root.deletions ∷ []) root.levels.items sound.levels))
   behind_apart oldest (Some y) is =
-      apart_push staying y (drop_apart levels.stay_from root.levels.items (all_apart size (root.deletions ∷ []) root.levels.items sound.levels))
+      apart_push staying y (apart_drop levels.stay_from root.levels.items (all_apart size (root.deletions ∷ []) root.levels.items sound.levels))
       (All-drop (AreApart y) levels.stay_from root.levels.items
       (All-tail (AreApart y) root.deletions root.levels.items (all_left (AreApart y) (extents_of root) (as_list oldest) (newest_apart oldest y is))))
 

@@ -25,7 +25,8 @@ use Rattle.alta_rewrite.specs.declared.ends.Ends.{Ends}
 use Rattle.alta_rewrite.specs.declared.levels.NextLevels.{NextLevels}
 use Rattle.alta_rewrite.specs.declared.places.Places.{Places}
 use Rattle.alta_rewrite.proofs.PlaceLaws.{by_bytes}
-use Rattle.alta_rewrite.proofs.RootLaws.{no_stream, segment_long, stream_some}
+use Rattle.alta_rewrite.proofs.RootLaws.{no_stream, segment_long}
+use Rattle.alta_images.proofs.FullLaws.{stream_some}
 
 -- the level of a content at its place
 abbrev pub new_levels : Content → Option Extent → List Level

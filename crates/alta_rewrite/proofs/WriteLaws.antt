@@ -3,20 +3,20 @@ use Rattle.std.proofs.Common.{◌≡◌, inl, inr, ⊎_elim, ℕ, zero, suc, ◌
 use Rattle.std.specs.Prelude.{max}
 use Rattle.std.specs.List.{All}
 use Rattle.std.proofs.lemmas.List.{map_more}
-use Rattle.std.proofs.lemmas.List.Elements.{All-more, All-weaker, All-nil}
+use Rattle.std.proofs.lemmas.List.Elements.{All-more, All-weaker}
 use Rattle.alta_codec.specs.declared.extent.Extent.{Extent}
 use Rattle.alta_disk.specs.Disk.{DiskState, After, Holds, Passes, Torn}
 use Rattle.alta_disk.specs.Images.{end_of}
 use Rattle.alta_disk.specs.Parts.{Apart, Clear, Touches}
 use Rattle.alta_disk.specs.Writes.{holds_torn, length-holds}
 use Rattle.alta_disk.proofs.Moments.{passes_then}
-use Rattle.alta_disk.proofs.PartLaws.{part_torn, part_written, touches_as, touches_same, touches_then, touches_torn}
+use Rattle.alta_disk.proofs.PartLaws.{part_torn, part_written, touches_as, touches_then, touches_torn}
 use Rattle.alta_images.proofs.KeptStates.{unmap}
 use Rattle.alta_images.proofs.KnownLaws.{all_both}
-use Rattle.alta_images.proofs.WrittenLaws.{all_right}
 use Rattle.alta_images.specs.Opened.{bytes_at}
 use Rattle.alta_rewrite.specs.Puts.{extents_in, ranges_in, Fills, IsLaid, AreLaid, HasPiece, Writes}
 use Rattle.alta_rewrite.specs.declared.piece.Piece.{Piece}
+use Rattle.alta_content.proofs.Elements.{all_right}
 
 -- ---- ranges
 

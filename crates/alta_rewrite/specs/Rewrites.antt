@@ -1,7 +1,6 @@
 -- What a rewrite is of what is held, and of what is opened.
 use Rattle.std.specs.Prelude.{◌≡◌, ◌⊎◌, ◌+◌, ◌<◌, ◌++◌, ℕ, List, [], ◌∷◌, length, drop, map, Option, Some, None, Ok}
 use Rattle.std.specs.List.{All, sum_by}
-use Rattle.alta_codec.specs.declared.extent.Extent.{Extent}
 use Rattle.alta_content.specs.Rows.{end_of}
 use Rattle.alta_content.specs.declared.content.Content.{Content}
 use Rattle.alta_content.specs.declared.document.DocRow.{DocRow}
@@ -17,7 +16,7 @@ use Rattle.alta_memlevel.specs.Added.{Added}
 use Rattle.alta_root.specs.Places.{other}
 use Rattle.alta_root.specs.Slots.{Counts}
 use Rattle.alta_root.specs.declared.slot.Slot.{Slot}
-use Rattle.alta_table.specs.Tables.{Tables, total_of}
+use Rattle.alta_table.specs.Tables.{Tables}
 use Rattle.alta_rewrite.specs.Drafts.{rewrite_places, root_to_come, table_to_come}
 use Rattle.alta_rewrite.specs.declared.ends.Ends.{Ends}
 use Rattle.alta_rewrite.specs.declared.levels.NextLevels.{NextLevels}
@@ -60,10 +59,6 @@ pub record MayRewrite (held : Holding) (levels : NextLevels) (ends : Ends) (next
 abbrev pub tables_in : Option Tables → List Tables
 tables_in None = []
 tables_in (Some tables) = tables ∷ []
-
--- where the segment of a level stands
-abbrev pub extent_of : Tables → Extent
-extent_of level = record { place = level.place; bytes = total_of level.documents level.terms }
 
 -- tables that stay, between new ones
 abbrev pub tables_between : Option Tables → ℕ → List Tables → Option Tables → List Tables

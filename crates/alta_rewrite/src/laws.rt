@@ -4,7 +4,6 @@ ghost use Rattle.alta_codec.specs.Bytes.{AreBytes};
 ghost use Rattle.alta_content.specs.declared.content.Content.{Content};
 ghost use Rattle.alta_content.specs.declared.document.DocRow.{DocRow};
 ghost use Rattle.alta_images.specs.Holding.{Holding, IsHeld, IsSpaced};
-ghost use Rattle.alta_images.specs.Joining.{content_of as joined_content_of, joined_in, terms_in};
 ghost use Rattle.alta_images.specs.Levels.{Level};
 ghost use Rattle.alta_images.specs.Opened.{Opened, IsOpened};
 ghost use Rattle.alta_images.specs.Standing.{view_of};
@@ -16,6 +15,7 @@ ghost use Rattle.alta_memlevel.specs.Documents.{content_of};
 ghost use Rattle.alta_rewrite.specs.Rewrites.{Agrees, HaveRows, IsGiven, MayRewrite, MayRewriteOpened, Replaces, levels_to_come, no_content, rows_to_come};
 ghost use Rattle.alta_rewrite.specs.declared.ends.Ends.{Ends};
 ghost use Rattle.alta_rewrite.specs.declared.levels.NextLevels.{NextLevels};
+ghost use Rattle.alta_content.specs.Joining.{joined_in, terms_in};
 
 /// Flush, merge and a step that ends a join are rewrites, where they switch the root: a flush lets all levels stay, or at 16 levels
 /// joins the two oldest; a merge makes one content of all; and a step puts the content of its job in place of the two oldest.
@@ -84,10 +84,4 @@ pub fn a_content_is_one_level_at_most()
 /// Levels with the rows of what is opened are spaced, whatever their streams are, where the newest documents are.
 pub fn what_is_opened_is_spaced()
     ensures { (o : Opened) → (there : List Level) → (image : List ℕ) → IsOpened o image → AreBytes image → HaveRows o there → IsSpace (newest (view_of o there)) → IsSpaced (view_of o there) × (1 ≤ o.root.next_location) }
-{}
-
-/// The content of documents in memory, as a level in memory gives it, is the one that work on levels writes.
-pub fn documents_have_one_content()
-    ensures all { (added : List Added) → IsSpace added → content_of added ≡ joined_content_of added }
-    ensures live { (view : View) → IsSpace (newest view) → content_of (live_of (gone view) (newest view)) ≡ newest_content view }
 {}

@@ -26,9 +26,9 @@ mod tests;
 pub use ends::Ends;
 pub use fault::RewriteFault;
 pub use laws::{
-    a_content_is_one_level_at_most, a_join_may_be_written, documents_have_one_content,
-    gone_ends_of_levels_to_come, what_is_held_may_be_rewritten, what_is_opened_is_spaced,
-    what_is_opened_may_be_rewritten, work_is_a_rewrite,
+    a_content_is_one_level_at_most, a_join_may_be_written, gone_ends_of_levels_to_come,
+    what_is_held_may_be_rewritten, what_is_opened_is_spaced, what_is_opened_may_be_rewritten,
+    work_is_a_rewrite,
 };
 pub use levels::NextLevels;
 pub use rewriting::{Rewritten, rewrite};

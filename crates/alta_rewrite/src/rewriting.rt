@@ -8,7 +8,7 @@ ghost use Rattle.alta_disk.specs.Calls.{Costs};
 ghost use Rattle.alta_disk.specs.Disk.{DiskState, LeavesOnly, Only, Passes};
 ghost use Rattle.alta_images.specs.Holding.{Holding};
 ghost use Rattle.alta_images.specs.Levels.{Level};
-ghost use Rattle.alta_images.specs.Opened.{Opened, bytes_at, rows_in};
+ghost use Rattle.alta_images.specs.Opened.{Opened, bytes_at, rows_in, extent_of};
 ghost use Rattle.alta_images.specs.Standing.{StandsFor};
 ghost use Rattle.alta_images.specs.Views.{state_of};
 ghost use Rattle.alta_images.specs.Work.{Job, coming};
@@ -17,7 +17,7 @@ ghost use Rattle.alta_root.specs.Places.{other};
 ghost use Rattle.alta_root.specs.Slots.{Counts};
 ghost use Rattle.alta_root.specs.declared.places.TheConstants.{DOCUMENT_CELLS, HEAD_BYTES, LAST_NEXT};
 ghost use Rattle.alta_rewrite.specs.Drafts.{rewrite_places};
-ghost use Rattle.alta_rewrite.specs.Rewrites.{IsRewritten, IsRewrittenOpened, MayBecome, MayRewrite, MayRewriteOpened, extent_of, levels_to_come, tables_in};
+ghost use Rattle.alta_rewrite.specs.Rewrites.{IsRewritten, IsRewrittenOpened, MayBecome, MayRewrite, MayRewriteOpened, levels_to_come, tables_in};
 ghost use Rattle.alta_rewrite.specs.declared.fault.RewriteFault.TheVariants.{Disk as DiskFault, Full, Memory};
 
 use crate::draft::{make_draft, pieces_in};

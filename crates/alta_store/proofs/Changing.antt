@@ -1,12 +1,11 @@
 -- Calls that change a store, one behind the other.
 use Rattle.std.proofs.Common.{◌≡◌, ◌⊎◌, inl, inr, ⊎_elim, ℕ, ◌+◌, ◌≤◌, Bool, true, false, cond, List, [], refl, sym, ◌∙◌, ap, subst, arith, Result, Ok, Err}
-use Rattle.std.specs.Prelude.{Some, IfErr, IfOk}
+use Rattle.std.specs.Prelude.{Some}
 use Rattle.std.specs.List.{sum_by}
 use Rattle.alta_codec.specs.Faults.{Rose}
 use Rattle.alta_disk.specs.Calls.{Costs}
 use Rattle.alta_disk.specs.Disk.{DiskState, IsLawful, LeavesOnly}
 use Rattle.alta_disk.proofs.Moments.{leaves_as, leaves_start, leaves_then}
-use Rattle.alta_images.specs.Broken.{IsBrokenAmong}
 use Rattle.alta_images.specs.Chain.{◌>>=◌}
 use Rattle.alta_images.specs.Holding.{Holding}
 use Rattle.alta_images.specs.Opened.{Opened, IsOpened}
@@ -79,33 +78,6 @@ costs_none bytes a = record { faults = omega arith; taken_up = omega arith; take
 -- what an append costs
 pub costs_appended : (a b : DiskState) → a.faults ≤ b.faults → b.taken ≡ a.taken → b.limit ≡ a.limit → Costs 0 a b
 costs_appended a b faults taken limit = record { faults = faults; taken_up = omega (arith, taken); taken = omega (arith, taken); limit = limit }
-
--- memory was wanting before a call
-pub changes_none : {T : Type 0} (tells : Type 0) (work : Work) (turns : Turns) (step : State → State) (refuses : StoreFault → Type 0) (bytes : ℕ) (joins : List Tables) (a : DiskState) (store later : Store) (fault : StoreFault)
-    → IsLawful tells a → Agrees tells a store → fault ≡ faults.Memory → Changes {T = T} tells work turns step refuses bytes joins a a store later (Err fault)
-changes_none {T} tells work turns step refuses bytes joins a store later fault lawful agrees is = record {
-  agrees = tt;
-  knows = λ s knows. tt;
-  works = λ held told has. tt;
-  full = λ held need gap told has e. absurd (no_full need gap e);
-  images = λ s stands. leaves_start tells a (StandsForEither s (step s)) lawful (λ image here. inl (images_stand tells a s lawful agrees.settled stands image here));
-  stands = λ s told stands. tt;
-  becomes = λ o told opened. tt;
-  narrow = λ need gap told e. absurd (no_full need gap e);
-  damage = λ told. finds_outside refuses a.content joins fault (inl is) (not_damaged fault (inl is));
-  undamaged = λ s told stands place e. not_damaged fault (inl is) place e;
-  unread = λ told none place e. not_damaged fault (inl is) place e;
-  still = λ told place e. absurd (not_damaged fault (inl is) place e);
-  only = inl (inl is);
-  cause = λ e. absurd (no_disk e);
-  costs = costs_none (bytes + sum_by data_size joins) a;
-}
-  where
-    no_full : (need gap : ℕ) → ◌≡◌ {A = Result T StoreFault} (Err fault) (Err (faults.Full need gap)) → ⊥
-    no_full need gap e = absurd cc
-
-    no_disk : ◌≡◌ {A = Result T StoreFault} (Err fault) (Err faults.Disk) → ⊥
-    no_disk e = absurd cc
 
 -- nothing was to be done
 pub changes_idle : (tells : Type 0) (work : Work) (turns : Turns) (bytes : ℕ) (joins : List Tables) (a : DiskState) (store : Store) (u : Unit {0})

@@ -7,7 +7,6 @@ use Rattle.alta_catalog.specs.Knowing.{Follows, KnowsBy, gone_of}
 use Rattle.alta_catalog.specs.declared.catalog.Catalog.{Catalog}
 use Rattle.alta_catalog.proofs.MayLaws.{may_be}
 use Rattle.alta_codec.specs.Faults.{Rose}
-use Rattle.alta_codec.specs.declared.extent.Extent.{Extent}
 use Rattle.alta_content.specs.Rows.{AreDocuments, end_of, ends_among}
 use Rattle.alta_content.specs.declared.document.DocRow.{DocRow}
 use Rattle.alta_disk.specs.Calls.{Costs}
@@ -15,7 +14,7 @@ use Rattle.alta_disk.specs.Disk.{DiskState, IsLawful, Only, Passes, Stands, Leav
 use Rattle.alta_disk.proofs.Moments.{stands_only, leaves_from}
 use Rattle.alta_images.specs.Entries.{Allows, after_entries, after_entry}
 use Rattle.alta_images.specs.Holding.{Holding, IsHeld}
-use Rattle.alta_images.specs.Opened.{Opened, IsOpened, journal_of, rows_in}
+use Rattle.alta_images.specs.Opened.{Opened, IsOpened, journal_of, rows_in, extent_of}
 use Rattle.alta_images.specs.Standing.{StandsFor, StandsForEither}
 use Rattle.alta_images.specs.States.{IsDocument, has_name, has_number, with_added, with_deleted, without}
 use Rattle.alta_images.specs.Switching.{MayAppend, with_entry}
@@ -40,12 +39,10 @@ use Rattle.alta_journal.specs.Record.{body_of, record_of}
 use Rattle.alta_journal.specs.declared.entry.Entry.{Entry}
 use Rattle.alta_journal.specs.declared.entry.Entry.TheVariants.{Add, Delete}
 use Rattle.alta_journal.specs.declared.half.Half.{Half}
-use Rattle.alta_journal.specs.declared.places.TheConstants.{HALF_BYTES, HEAD_BYTES}
 use Rattle.alta_journal.proofs.Frames.{appends_touch, ends_closed}
 use Rattle.alta_journal.proofs.Spelling.{add_long, body_long, delete_long}
 use Rattle.alta_merge.specs.Merging.{Merging}
 use Rattle.alta_meta.specs.declared.document.State.{State}
-use Rattle.alta_opening.specs.Extents.{extent_of}
 use Rattle.alta_root.specs.Root.{extents_of}
 use Rattle.alta_root.specs.declared.root.Root.{Root}
 use Rattle.alta_root.proofs.Frames.{counts_sound}

@@ -1,16 +1,14 @@
 -- Flush and step: the newest documents become a level, and a join may come in place of the two oldest.
-use Rattle.std.proofs.Common.{◌≡◌, ◌⊎◌, inl, inr, ⊎_elim, ℕ, ◌+◌, ◌<◌, ◌≤◌, Bool, true, false, cond, Vec, Global, List, [], ◌∷◌, length, map, take, refl, sym, ◌∙◌, ap, ap₂, subst, arith, Result, Ok, Err}
-use Rattle.std.specs.Prelude.{◌==◌, ◌&&◌, nat_le, OnOk, Option, Some, None}
+use Rattle.std.proofs.Common.{◌≡◌, ◌⊎◌, inl, inr, ⊎_elim, ℕ, ◌+◌, ◌<◌, ◌≤◌, Bool, true, false, cond, Vec, Global, List, [], ◌∷◌, length, take, sym, ◌∙◌, ap, ap₂, subst, arith, Result, Ok}
+use Rattle.std.specs.Prelude.{◌==◌, ◌&&◌, nat_le, OnOk, Option, None}
 use Rattle.std.specs.List.{sum_by}
 use Rattle.std.proofs.lemmas.List.{length-map}
-use Rattle.alta_catalog.specs.Knowing.{gone_of}
 use Rattle.alta_content.specs.Parts.{IsPart}
 use Rattle.alta_content.specs.declared.content.Content.{Content}
 use Rattle.alta_content.specs.declared.document.DocRow.{DocRow}
 use Rattle.alta_disk.specs.Calls.{Reads}
 use Rattle.alta_disk.specs.Disk.{DiskState, IsLawful}
 use Rattle.alta_images.specs.Holding.{Holding, IsHeld}
-use Rattle.alta_images.specs.Joining.{terms_in}
 use Rattle.alta_images.specs.Levels.{Level}
 use Rattle.alta_images.specs.Opened.{Opened, IsOpened}
 use Rattle.alta_images.specs.Standing.{view_of}
@@ -39,6 +37,7 @@ use Rattle.alta_store.proofs.Rows.{live_newest}
 use Rattle.alta_store.proofs.Tasks.{HasNewest, given_stay, held_given, newest_held, newest_there, stay_may, two_held, two_kind, two_may}
 use Rattle.alta_store.proofs.Working.{Switches, agrees_read, changes_put, changes_read}
 use Rattle.alta_table.specs.Tables.{Tables}
+use Rattle.alta_content.specs.Joining.{terms_in}
 
 -- a task that reads these levels
 abbrev pub ObeysOver : {T : Type 0} → Type 0 → Task → List Tables → DiskState → DiskState → Store → Store → Result T StoreFault → Type 0

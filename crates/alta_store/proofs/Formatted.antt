@@ -1,7 +1,7 @@
--- The bytes of a formatted disk stand for the state without documents.
+-- A disk that was formatted.
 use Rattle.std.proofs.Common.{◌≡◌, inr, ℕ, ◌+◌, ◌<◌, ◌≤◌, List, [], ◌∷◌, ◌++◌, length, get_or, take, drop, refl, sym, ◌∙◌, ap, ap₂, subst, arith, ◌-◌, replicate}
 use Rattle.std.proofs.Math.Seq.{take-append-add}
-use Rattle.std.proofs.lemmas.List.{get_or-take, get_or-drop, take-take, drop-take, drop-drop, length-take-le, length-drop, take-append-drop, take-replicate}
+use Rattle.std.proofs.lemmas.List.{get_or-take, get_or-drop, take-take, drop-take, drop-drop, length-take-le, length-drop, take-replicate}
 use Rattle.std.proofs.lemmas.List.Elements.{All-head, All-tail, All-take, All-drop, All-get_or}
 use Rattle.alta_disk.specs.Disk.{Holds}
 use Rattle.alta_disk.specs.Parts.{part}
@@ -9,22 +9,16 @@ use Rattle.alta_disk.specs.Writes.{holds_torn}
 use Rattle.alta_disk.proofs.PartLaws.{part_torn, part_written}
 use Rattle.alta_journal.specs.declared.places.TheConstants.{START_A, HEAD_BYTES}
 use Rattle.alta_journal.proofs.HalfLaws.{half_long, half_byte}
-use Rattle.alta_images.specs.States.{empty}
 use Rattle.alta_images.specs.Switching.{empty_root, IsFormatted}
-use Rattle.alta_images.proofs.FormattedLaws.{formatted_stands}
 use Rattle.alta_root.specs.Places.{fields_at, gate_of}
 use Rattle.alta_root.specs.Root.{body_of, fields_of, wide_bytes}
 use Rattle.alta_root.specs.declared.slot.Slot.TheVariants.{A}
 use Rattle.alta_store.specs.Clearing.{AreZero, IsClear, empty_fields}
-use Rattle.alta_images.specs.Standing.{StandsFor}
+use Rattle.alta_journal.proofs.Steps.{take_sum}
 
 -- the byte at a place
 abbrev byte_at : ℕ → List ℕ → ℕ
 byte_at at image = get_or image at 0
-
-take_sum : (m n : ℕ) (xs : List ℕ) → take (m + n) xs ≡ take m xs ++ take n (drop m xs)
-take_sum m n xs =
-    sym (take-append-drop m (take (m + n) xs)) ∙ ap (λ (l : List ℕ). l ++ drop m (take (m + n) xs)) (take-take m (m + n) xs (omega arith)) ∙ ap (λ (l : List ℕ). take m xs ++ l) (drop-take m n xs)
 
 -- a byte is read off its part
 byte_in_part : (at : ℕ) (image : List ℕ) → byte_at at image ≡ get_or (part at 1 image) 0 0
@@ -102,7 +96,7 @@ module _ (c0 c1 c2 : List ℕ) (clear : IsClear HEAD_BYTES c0) (body : Holds c0 
   gate_byte : gate_of A c2 ≡ 165
   gate_byte = ap (λ (l : List ℕ). get_or l 0 0) (part_written 0 (165 ∷ []) c1 c2 (omega arith) gate)
 
-  is_formatted : IsFormatted c2
+  pub is_formatted : IsFormatted c2
   is_formatted = record {
     whole = longer.1;
     first = gate_byte;
@@ -114,7 +108,3 @@ module _ (c0 c1 c2 : List ℕ) (clear : IsClear HEAD_BYTES c0) (body : Holds c0 
       λ is_open. absurd (omega (arith, half_byte START_A 0 c2 (omega arith) ∙ byte_behind START_A (omega arith) (omega arith), is_open)),
     );
   }
-
-  -- the formatted disk stands for the empty state
-  pub stands : StandsFor empty c2
-  stands = formatted_stands c2 is_formatted

@@ -1,20 +1,18 @@
 -- A join that goes on, over other levels and on another image.
-use Rattle.std.proofs.Common.{◌≡◌, ℕ, true, List, [], ◌∷◌, ◌++◌, map, take, sym, subst, append_assoc}
+use Rattle.std.proofs.Common.{◌≡◌, ℕ, true, List, ◌∷◌, ◌++◌, map, take, sym, subst, append_assoc}
 use Rattle.std.specs.Prelude.{Option, Some, None}
 use Rattle.std.specs.List.{All}
 use Rattle.std.proofs.lemmas.List.Elements.{All-head, All-tail}
-use Rattle.alta_codec.specs.declared.extent.Extent.{Extent}
 use Rattle.alta_content.specs.Rows.{ends_among}
 use Rattle.alta_content.specs.declared.document.DocRow.{DocRow}
-use Rattle.alta_images.specs.Opened.{rows_in}
+use Rattle.alta_images.specs.Opened.{rows_in, extent_of}
 use Rattle.alta_images.proofs.Untouched.{IsSame}
-use Rattle.alta_images.proofs.WrittenLaws.{all_left}
 use Rattle.alta_joins.specs.Jobs.{AreJoinedOn, DeadAreGone, IsBegun, IsJoining}
 use Rattle.alta_joins.proofs.JoiningLaws.{joining_more, joining_stays}
 use Rattle.alta_merge.specs.Merging.{Merging}
-use Rattle.alta_opening.specs.Extents.{extent_of}
 use Rattle.alta_store.specs.Agreement.{GoesOnOver, MayGoOn}
 use Rattle.alta_table.specs.Tables.{Tables}
+use Rattle.alta_content.proofs.Elements.{all_left}
 
 -- the rows of the two oldest levels are among those of all
 two_rows : (P : DocRow → Type 0) (levels : List Tables) (older newer : Tables) (more : List Tables) → levels ≡ older ∷ newer ∷ more → All P (rows_in levels) → All P (older.documents ++ newer.documents)

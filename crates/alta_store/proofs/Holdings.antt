@@ -1,7 +1,6 @@
 -- What a store that agrees with its disk has of the image.
-use Rattle.std.proofs.Common.{◌≡◌, ◌⊎◌, ⊎_elim, ℕ, ◌+◌, ◌≤◌, List, [], ◌∷◌, ◌++◌, length, map, drop, refl, sym, ◌∙◌, ap, subst, arith, Result, Ok, Err, length-drop}
+use Rattle.std.proofs.Common.{◌≡◌, ◌⊎◌, ⊎_elim, ℕ, ◌+◌, List, [], ◌∷◌, ◌++◌, length, map, drop, refl, sym, ◌∙◌, ap, subst, arith, Ok, length-drop}
 use Rattle.std.specs.Prelude.{Option, Some, None}
-use Rattle.std.specs.List.{All}
 use Rattle.std.proofs.lemmas.List.{length-take-le}
 use Rattle.alta_catalog.specs.Knowing.{gone_of}
 use Rattle.alta_catalog.proofs.GoneLaws.{gone_is}
@@ -22,13 +21,13 @@ use Rattle.alta_meta.specs.declared.document.State.{State}
 use Rattle.alta_postings.specs.Deltas.{first_fault, locations_of, stream_bytes}
 use Rattle.alta_postings.specs.declared.fault.StreamFault.{StreamFault}
 use Rattle.alta_postings.proofs.Reading.{reading_spells}
-use Rattle.alta_rewrite.proofs.OpenedLaws.{bytes_fit}
 use Rattle.alta_root.specs.Root.{IsSound, no_extent}
 use Rattle.alta_root.specs.declared.root.Root.{Root}
 use Rattle.alta_root.proofs.Frames.{counts_sound}
-use Rattle.alta_store.specs.Agreement.{Agrees, GoesOnOver, Has, IsJobIn, Keeps, MayGoOn, levels_of}
+use Rattle.alta_store.specs.Agreement.{Agrees, GoesOnOver, Has, IsJobIn, MayGoOn, levels_of}
 use Rattle.alta_store.specs.declared.store.Store.{Store}
 use Rattle.alta_store.proofs.Agreements.{kept, opened_of}
+use Rattle.alta_rewrite.proofs.ComeLaws.{bytes_fit}
 
 -- ---- levels by their rows
 

@@ -13,7 +13,7 @@ use Rattle.alta_images.specs.Opened.{Opened, IsOpened}
 use Rattle.alta_images.specs.Standing.{tables_by}
 use Rattle.alta_images.specs.Views.{View}
 use Rattle.alta_images.specs.Work.{Job, begun, enters, fits, flushes, is_merged, job_of, merges, steps}
-use Rattle.alta_images.specs.Working.{flushed, merged, moved, stepped}
+use Rattle.alta_images.specs.Working.{flushed, moved}
 use Rattle.alta_images.proofs.KeptStates.{by_entries}
 use Rattle.alta_images.proofs.Tests.{by_test, equal_from, equal_test}
 use Rattle.alta_images.proofs.WellLaws.{by_merged}
@@ -22,7 +22,6 @@ use Rattle.alta_journal.specs.Record.{body_of}
 use Rattle.alta_journal.specs.declared.entry.Entry.{Entry}
 use Rattle.alta_memlevel.specs.Added.{Added}
 use Rattle.alta_merge.specs.Merging.{Merging}
-use Rattle.alta_meta.specs.declared.document.State.{State}
 use Rattle.alta_store.specs.Agreement.{Agrees, Has, HasNoEntry, IsJobIn, Keeps, MayGoOn, levels_of, room_of}
 use Rattle.alta_store.specs.Calls.{BecomesFlushed, Changes, MakesRoom, NoRefusal, Obeys, flush_joins, has_live, is_one, joined_by, merge_joins, step_joins, unless_read}
 use Rattle.alta_store.specs.declared.fault.StoreFault.{StoreFault}
@@ -30,7 +29,7 @@ use Rattle.alta_store.specs.declared.store.Store.{Store}
 use Rattle.alta_store.proofs.Agreements.{kept}
 use Rattle.alta_store.proofs.Changing.{changes_as, changes_idle}
 use Rattle.alta_store.proofs.Holdings.{levels_held}
-use Rattle.alta_store.proofs.Room.{fits_room, le_false, le_true, none_is, none_kept, some_kept}
+use Rattle.alta_store.proofs.Room.{fits_room, le_false, le_true, none_kept, some_kept}
 use Rattle.alta_table.specs.Tables.{Tables}
 
 pub and_false : (b : Bool) → (b && false) ≡ false

@@ -1,5 +1,5 @@
 -- The join of a store's two oldest levels, and the job of what is held.
-use Rattle.std.proofs.Common.{◌≡◌, ◌⊎◌, inl, inr, ⊎_elim, ℕ, ◌<◌, ◌≤◌, zero, suc, Vec, Global, List, [], ◌∷◌, length, map, take, refl, sym, ◌∙◌, ap, ap₂, subst, Result, Ok, Err}
+use Rattle.std.proofs.Common.{◌≡◌, ◌⊎◌, inl, inr, ⊎_elim, ℕ, zero, suc, Vec, Global, List, [], ◌∷◌, length, map, take, refl, sym, ◌∙◌, ap, ap₂, subst, Result, Ok, Err}
 use Rattle.std.specs.Prelude.{Option, Some, None}
 use Rattle.std.specs.List.{All, sum_by}
 use Rattle.std.proofs.lemmas.List.{length-map}
@@ -10,13 +10,12 @@ use Rattle.alta_disk.specs.Disk.{DiskState, IsLawful}
 use Rattle.alta_disk.specs.Calls.{Reads}
 use Rattle.alta_images.specs.Broken.{IsBrokenAmong}
 use Rattle.alta_images.specs.Holding.{Holding, IsHeld, IsJob}
-use Rattle.alta_images.specs.Joining.{joined_in}
 use Rattle.alta_images.specs.Levels.{Level}
-use Rattle.alta_images.specs.Opened.{Opened, IsOpened}
+use Rattle.alta_images.specs.Opened.{extent_of}
 use Rattle.alta_images.specs.Standing.{StandsFor}
 use Rattle.alta_images.specs.Views.{View}
 use Rattle.alta_images.specs.Work.{Coming, Job, begun, gone, job_of, oldest_joined, whole_of}
-use Rattle.alta_images.specs.Working.{Full, IsJoin, oldest_contents, switched}
+use Rattle.alta_images.specs.Working.{IsJoin, oldest_contents, switched}
 use Rattle.alta_images.proofs.KeptStates.{switched_is}
 use Rattle.alta_joins.specs.Answers.{IfDamaged}
 use Rattle.alta_joins.specs.Contents.{AreSegmentsOn, StandsOn, data_size}
@@ -28,7 +27,6 @@ use Rattle.alta_joins.proofs.JoiningLaws.{joining_job, joining_join}
 use Rattle.alta_joins.proofs.OpenedLaws.{levels_segments, opened_stand}
 use Rattle.alta_merge.specs.Merging.{Merging}
 use Rattle.alta_meta.specs.declared.document.State.{State}
-use Rattle.alta_opening.specs.Extents.{extent_of}
 use Rattle.alta_store.specs.Agreement.{Agrees, GoesOnOver, Has, IsJobIn, MayGoOn, levels_of}
 use Rattle.alta_store.specs.Answers.{of_join}
 use Rattle.alta_store.specs.Calls.{unless_read}
@@ -40,6 +38,8 @@ use Rattle.alta_store.proofs.Agreements.{kept}
 use Rattle.alta_store.proofs.GoingOn.{Begins, begins_as}
 use Rattle.alta_store.proofs.Holdings.{content_bytes, gone_held, has_of, levels_held}
 use Rattle.alta_table.specs.Tables.{Tables}
+use Rattle.alta_content.specs.Joining.{joined_in}
+use Rattle.alta_images.proofs.WellLaws.{one_job, no_job}
 
 -- ---- a join of a store's two oldest levels
 
@@ -86,21 +86,15 @@ pub oldest_of : (view : View) (j : Job) → IsJob j view → oldest_contents vie
 oldest_of view j is =
     ap (λ (levels : List Level). map (λ (l : Level). l.content) (take 2 levels)) is.oldest ∙ ap₂ (λ (c d : Content). c ∷ d ∷ []) (sym is.contents.0) (sym is.contents.1)
 
-some_job : (a b : Job) → ◌≡◌ {A = Option Job} (Some a) (Some b) → a ≡ b
-some_job a b e = cc
-
-none_job : (a : Job) → ◌≡◌ {A = Option Job} None (Some a) → ⊥
-none_job a e = absurd cc
-
 -- what the two oldest levels become is what the job comes to
 pub oldest_whole : (job : Option Job) (view : View) (j : Job) → job_of job view ≡ Some j → oldest_joined job view ≡ whole_of j
-oldest_whole (Some other) view j e = ap whole_of (some_job other j e)
+oldest_whole (Some other) view j e = ap whole_of (one_job other j e)
 oldest_whole None view j e = by_levels view.levels e
   where
     by_levels : (levels : List Level) → begun view levels ≡ Some j → joined_in (map (λ (l : Level). l.content) (take 2 levels)) (gone view) ≡ whole_of j
-    by_levels [] e = absurd (none_job j e)
-    by_levels (l ∷ []) e = absurd (none_job j e)
-    by_levels (l ∷ m ∷ ns) e = ap whole_of (some_job (record { older = l.content; newer = m.content; dead = gone view; merged = 0 }) j e)
+    by_levels [] e = absurd (no_job j e)
+    by_levels (l ∷ []) e = absurd (no_job j e)
+    by_levels (l ∷ m ∷ ns) e = ap whole_of (one_job (record { older = l.content; newer = m.content; dead = gone view; merged = 0 }) j e)
 
 -- a switch of the root has the job that it is given
 pub switched_job : (limit : ℕ) (held : Holding) (levels : List Coming) (job : Option Job) (then : Holding) → switched limit held levels job ≡ Ok then → then.job ≡ job

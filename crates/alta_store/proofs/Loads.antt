@@ -1,6 +1,6 @@
 -- What was loaded from a disk is what its content says.
-use Rattle.std.proofs.Common.{◌≡◌, ◌⊎◌, inl, inr, ⊎_elim, ℕ, suc, zero, ◌+◌, ◌-◌, ◌<◌, ◌≤◌, true, Bool, cond, List, [], ◌∷◌, ◌++◌, length, map, get_or, refl, sym, ◌∙◌, ap, subst, arith, length-append}
-use Rattle.std.specs.Prelude.{Result, Ok, Err, IfOk, IfErr}
+use Rattle.std.proofs.Common.{◌≡◌, ◌⊎◌, inl, inr, ⊎_elim, ℕ, suc, zero, ◌+◌, ◌-◌, ◌<◌, ◌≤◌, true, List, [], ◌∷◌, length, map, get_or, refl, sym, ◌∙◌, ap, subst, arith, length-append}
+use Rattle.std.specs.Prelude.{Result, Ok, Err, IfOk, IfErr, OnOk}
 use Rattle.std.specs.List.{All, flat_map}
 use Rattle.std.proofs.lemmas.List.{length-take-le}
 use Rattle.std.proofs.lemmas.Result.{IfOk-at_ok, IfErr-at_err}
@@ -9,29 +9,27 @@ use Rattle.alta_catalog.specs.declared.catalog.Catalog.{Catalog}
 use Rattle.alta_catalog.specs.declared.fault.CatalogFault.{CatalogFault}
 use Rattle.alta_catalog.specs.declared.fault.CatalogFault.TheVariants.{Memory as CatalogMemory, Damaged as CatalogDamaged}
 use Rattle.alta_catalog.proofs.MayLaws.{may_start}
-use Rattle.alta_disk.specs.Disk.{DiskState, IsLawful, Only}
+use Rattle.alta_disk.specs.Disk.{DiskState, IsLawful, Only, Passes, Same}
 use Rattle.alta_images.specs.Broken.{HasLevels, IsBrokenAt, in_records, in_entries}
-use Rattle.alta_images.specs.Entries.{Allows, AllowsAll, after_entry, after_entries, entries_in, IsRefusedAt}
-use Rattle.alta_images.specs.Known.{Known, admits, known_behind, known_of, replayed}
-use Rattle.alta_images.specs.Opened.{Opened, IsOpened, half_of, have_ends, journal_of, known_at}
-use Rattle.alta_images.proofs.KnownLaws.{admitted_from, allowed_from, known_entry, replayed_allows}
+use Rattle.alta_images.specs.Entries.{AllowsAll, after_entries, entries_in, IsRefusedAt}
+use Rattle.alta_images.specs.Known.{Known, known_of, replayed}
+use Rattle.alta_images.specs.Opened.{Opened, IsOpened, half_of, have_ends, journal_of, known_at, extent_of}
+use Rattle.alta_images.proofs.KnownLaws.{replayed_allows}
 use Rattle.alta_images.proofs.OneReading.{one_place, opened_unbroken, opened_rooted, broken_rooted}
-use Rattle.alta_images.proofs.Tests.{by_test}
 use Rattle.alta_journal.specs.Journal.{IsBroken}
 use Rattle.alta_journal.specs.Placed.{placed, IsReplay}
 use Rattle.alta_journal.specs.Places.{half_at}
 use Rattle.alta_journal.specs.Record.{record_of}
 use Rattle.alta_journal.specs.declared.entry.Entry.{Entry}
 use Rattle.alta_journal.specs.declared.placed.Placed.{Placed}
-use Rattle.alta_journal.specs.declared.places.TheConstants.{HALF_BYTES}
+use Rattle.alta_journal.specs.declared.places.TheConstants.{HALF_BYTES, HEAD_BYTES}
 use Rattle.alta_journal.specs.declared.replaying.OpenFault.{OpenFault}
 use Rattle.alta_journal.specs.declared.replaying.OpenFault.TheVariants.{Disk as JournalDisk, Memory as JournalMemory, Damaged as JournalDamaged}
 use Rattle.alta_journal.proofs.Frames.{ends_inside}
 use Rattle.alta_meta.specs.declared.document.State.{State}
-use Rattle.alta_opening.specs.Extents.{extent_of}
 use Rattle.alta_opening.specs.declared.fault.OpeningFault.{OpeningFault}
 use Rattle.alta_opening.specs.declared.fault.OpeningFault.TheVariants.{Disk as LevelsDisk, Memory as LevelsMemory, Damaged as LevelsDamaged}
-use Rattle.alta_root.specs.Slots.{HasNoRoot}
+use Rattle.alta_root.specs.Slots.{HasNoRoot, Counts}
 use Rattle.alta_root.specs.declared.fault.RootFault.{RootFault}
 use Rattle.alta_root.specs.declared.fault.RootFault.TheVariants.{Disk as RootDisk, NoRoot as RootNone, Damaged as RootDamaged}
 use Rattle.alta_root.specs.declared.root.Root.{Root}
@@ -40,11 +38,15 @@ use Rattle.alta_catalog.specs.Knowing.{Follows, KnowsBy}
 use Rattle.alta_store.specs.Agreement.{Holds, levels_of}
 use Rattle.alta_store.specs.Answers.{IsOutside, AnswersFault, of_catalog, of_levels, of_opening, of_root}
 use Rattle.alta_store.specs.declared.fault.StoreFault.{StoreFault}
-use Rattle.alta_store.specs.declared.fault.StoreFault.TheVariants.{NoRoot, Damaged}
+use Rattle.alta_store.specs.declared.fault.StoreFault.TheVariants.{NoRoot, Damaged, Disk}
 use Rattle.alta_store.specs.declared.store.Store.{Store}
 use Rattle.alta_store.proofs.Room.{journal_fits}
 use Rattle.alta_store.proofs.Speaking.{start_known}
 use Rattle.alta_table.specs.Tables.{Tables}
+use Rattle.alta_catalog.proofs.KnownLaws.{refused_is}
+use Rattle.alta_codec.specs.Faults.{Rose}
+use Rattle.alta_opening.specs.Costs.{named_bytes}
+use Rattle.alta_store.specs.Opening.{Opens}
 
 -- the entries of placed ones
 entries_in-placed : (place : ℕ) (entries : List Entry) → entries_in (placed place entries) ≡ entries
@@ -67,21 +69,6 @@ small_places slot found tail content (entries, is, ends) =
     omega (arith, ap length ends.begins.records, length-take-le (tail - start) (half_at start content) (omega (arith, ends.begins.gate)), inside, ends.starts) in
     subst (λ (xs : List Placed). All (λ p. p.place < 4294967296) xs) (sym is)
     (λ k d within. omega (arith, far, placed_below start (start + HALF_BYTES) entries (omega (arith, bytes)) k d within))
-
--- the first entry that is not allowed is the first that is not admitted
-refused_at : (s : State) (before : List Placed) (p : Placed) (behind : List Placed) → AllowsAll s (entries_in before) → (Allows (after_entries s (entries_in before)) p.entry → ⊥)
-    → replayed (known_of s) (before ++ p ∷ behind) ≡ Err (p.place + 5)
-refused_at s [] p behind allowed refused =
-    by_test (admits (known_of s) p.entry) (λ yes. absurd (refused (allowed_from s p.entry yes)))
-    (λ no. ap (λ (b : Bool). cond b (replayed (known_behind (known_of s) p.entry) behind) (Err (p.place + 5))) no)
-refused_at s (q ∷ before) p behind allowed refused =
-    ap (λ (b : Bool). cond b (replayed (known_behind (known_of s) q.entry) (before ++ p ∷ behind)) (Err (q.place + 5))) (admitted_from s q.entry allowed.0)
-    ∙ ap (λ (known : Known). replayed known (before ++ p ∷ behind)) (sym (known_entry s q.entry))
-    ∙ refused_at (after_entry s q.entry) before p behind allowed.1 refused
-
-refused_is : (s : State) (found : List Placed) (place : ℕ) → IsRefusedAt s found place → replayed (known_of s) found ≡ Err place
-refused_is s found place r =
-    ap (λ (ps : List Placed). replayed (known_of s) ps) r.split ∙ refused_at s r.before r.refused r.behind r.allowed r.not_allowed ∙ ap (λ (n : ℕ). Err n) (sym r.place_is)
 
 -- a catalog stands at each state behind entries from one that a root may speak of
 abbrev pub KnowsAll : Catalog → Root → List Tables → List Placed → List ℕ → Type 0
@@ -265,3 +252,23 @@ module _ (tells : Type 0) (content : List ℕ) (r : Result Store StoreFault)
       cases (Err e) is = ⊎_elim (λ out. answers e out is (Damaged place))
           (λ more. ⊎_elim (λ none. absurd (broken_rooted content place broken (no_root told (is ∙ ap Err none))))
           (λ (spot, at). inl (is ∙ ap Err at ∙ ap (λ (p : ℕ). Err (Damaged p)) (one_place content spot place (damaged told spot (is ∙ ap Err at)) broken))) more) (by_error e is)
+
+  -- so a call that comes to it, over the same content, opens an index as it is
+  pub opens_by : (before after : DiskState) → (tells → content ≡ before.content) → OnOk r (HEAD_BYTES ≤ after.limit) → (tells → after.content ≡ before.content) → Passes Same before after → (r ≡ Err Disk → Rose before.faults after.faults)
+      → before.faults ≤ after.faults
+      → (tells → (slot : Slot) → (root : Root) → Counts slot root before.content → after.taken ≤ before.taken + (592 + named_bytes root before.content + HALF_BYTES)) → after.limit ≡ before.limit → Opens tells before after r
+  opens_by before after same limit kept images cause faults read same_limit = record {
+    opened = λ o told is. outside o told (subst (IsOpened o) (sym (same told)) is);
+    no_root = λ told e. subst HasNoRoot (same told) (no_root told e);
+    rooted = λ told none. rooted told (subst HasNoRoot (sym (same told)) none);
+    damaged = λ place told e. subst (λ (image : List ℕ). IsBrokenAt image place) (same told) (damaged told place e);
+    undamaged = λ place told broken. broken_at place told (subst (λ (image : List ℕ). IsBrokenAt image place) (sym (same told)) broken);
+    only = only;
+    cause = cause;
+    limit = limit;
+    content = kept;
+    images = images;
+    faults = faults;
+    read = read;
+    same_limit = same_limit;
+  }

@@ -1,12 +1,12 @@
 -- Levels in place of others, on a store and its disk.
-use Rattle.std.proofs.Common.{◌≡◌, ◌⊎◌, inl, inr, ⊎_elim, ℕ, zero, suc, ◌+◌, ◌-◌, ◌<◌, ◌≤◌, Bool, true, false, cond, Vec, Global, List, [], ◌∷◌, ◌++◌, length, map, take, drop, refl, sym, ◌∙◌, ap, ap₂, subst, arith, Result, Ok, Err}
+use Rattle.std.proofs.Common.{◌≡◌, ◌⊎◌, inl, inr, ⊎_elim, ℕ, zero, suc, ◌+◌, ◌-◌, ◌<◌, Bool, true, false, cond, Vec, Global, List, [], ◌∷◌, ◌++◌, length, map, take, drop, refl, sym, ◌∙◌, ap, ap₂, subst, arith, Result, Ok, Err}
 use Rattle.std.specs.Prelude.{◌==◌, Contains, Option, Some, None, ⊤}
-use Rattle.std.specs.List.{All, filter, flat_map, sum_by}
-use Rattle.std.proofs.lemmas.Bool.{cases_lt, false≢true}
+use Rattle.std.specs.List.{All}
+use Rattle.std.proofs.lemmas.Bool.{false≢true}
 use Rattle.std.proofs.lemmas.Grind.{flat_map-append}
-use Rattle.std.proofs.lemmas.List.{append-nil, drop-map, length-map, map-append}
-use Rattle.std.proofs.lemmas.List.Elements.{All-append, All-contains_itself, All-cons, All-filter, All-head, All-map, All-nil, All-tail, All-weaker}
-use Rattle.alta_catalog.specs.Knowing.{Follows, Knows as CatalogKnows, KnowsBy, gone_of, levels_of as levels_in, location_of, memory_of, newest_of, next_of}
+use Rattle.std.proofs.lemmas.List.{drop-map, map-append}
+use Rattle.std.proofs.lemmas.List.Elements.{All-contains_itself, All-filter, All-map, All-weaker}
+use Rattle.alta_catalog.specs.Knowing.{Follows, Knows as CatalogKnows, KnowsBy, gone_of, levels_of as levels_in, location_of, memory_of, next_of}
 use Rattle.alta_catalog.specs.Replacing.{IsEmptied, IsPrepared, MayReplace, deleted_of, ends_in, level_in, rows_between, stay_from_of, tables_between}
 use Rattle.alta_catalog.specs.Rows.{AreRowsOf, MayBe, documents_left}
 use Rattle.alta_catalog.specs.declared.catalog.Catalog.{Catalog}
@@ -14,7 +14,6 @@ use Rattle.alta_catalog.specs.declared.replacing.PreparedLevels.{PreparedLevels}
 use Rattle.alta_catalog.proofs.EndLaws.{among, here_or_there, no_member}
 use Rattle.alta_catalog.proofs.GoneLaws.{among_is}
 use Rattle.alta_catalog.proofs.MayLaws.{may_be}
-use Rattle.alta_codec.specs.Bytes.{AreBytes}
 use Rattle.alta_codec.specs.Faults.{Rose}
 use Rattle.alta_codec.specs.declared.extent.Extent.{Extent}
 use Rattle.alta_content.specs.Rows.{AreDocuments, end_of, ends_among}
@@ -24,22 +23,19 @@ use Rattle.alta_content.proofs.Kept.{rows_kept}
 use Rattle.alta_content.proofs.Rises.{Contains-head, Contains-tail}
 use Rattle.alta_disk.specs.Calls.{Costs}
 use Rattle.alta_disk.specs.Disk.{DiskState, IsLawful, LeavesOnly, Only, Passes}
-use Rattle.alta_disk.specs.Parts.{Apart}
-use Rattle.alta_disk.proofs.Moments.{leaves_start, passes_start}
 use Rattle.alta_images.specs.Chain.{◌>>=◌}
 use Rattle.alta_images.specs.Entries.{after_entries}
 use Rattle.alta_images.specs.Holding.{Holding, IsHeld}
 use Rattle.alta_images.specs.Levels.{Level}
-use Rattle.alta_images.specs.Opened.{Opened, IsOpened, half_of, journal_of, rows_in}
+use Rattle.alta_images.specs.Opened.{Opened, IsOpened, half_of, journal_of, rows_in, extent_of}
 use Rattle.alta_images.specs.Standing.{StandsFor, tables_by, view_of}
 use Rattle.alta_images.specs.Views.{View, state_of}
-use Rattle.alta_images.specs.Work.{Coming, Job, anew, coming, gone_among, newest, rows_in as level_rows, stays}
+use Rattle.alta_images.specs.Work.{Job, coming, gone_among, newest, rows_in as level_rows, stays}
 use Rattle.alta_images.specs.Working.{Full, content_to_come, placed, placed_at, rows_of as content_rows, switched}
 use Rattle.alta_images.proofs.JoinLaws.{coming_rows}
 use Rattle.alta_images.proofs.KeptStates.{rows_by_levels, stay_contents}
 use Rattle.alta_images.proofs.Tests.{by_test, filter_drop, filter_keep}
 use Rattle.alta_images.proofs.Untouched.{IsSame}
-use Rattle.alta_images.proofs.WrittenLaws.{all_left, held_stands}
 use Rattle.alta_joins.specs.Jobs.{DeadAreGone}
 use Rattle.alta_journal.specs.declared.entry.Entry.{Entry}
 use Rattle.alta_memlevel.specs.Added.{Added, HasContent}
@@ -47,32 +43,29 @@ use Rattle.alta_memlevel.specs.Documents.{IsBefore}
 use Rattle.alta_merge.specs.Merging.{Merging}
 use Rattle.alta_meta.specs.declared.document.Document.{Document}
 use Rattle.alta_meta.specs.declared.document.State.{State}
-use Rattle.alta_opening.specs.Extents.{extent_of}
 use Rattle.alta_rewrite.specs.Drafts.{list_of, rewrite_places, segment_of}
 use Rattle.alta_rewrite.specs.Places.{as_list, place_for, places_for}
-use Rattle.alta_rewrite.specs.Rewrites.{Agrees as AgreesWith, HaveRows, IsComing, IsRewritten, IsRewrittenOpened, MayRewrite, MayRewriteOpened, levels_to_come, rows_to_come, tables_in}
+use Rattle.alta_rewrite.specs.Rewrites.{Agrees as AgreesWith, HaveRows, IsRewritten, IsRewrittenOpened, MayRewrite, MayRewriteOpened, levels_to_come, rows_to_come, tables_in}
 use Rattle.alta_rewrite.specs.declared.ends.Ends.{Ends}
 use Rattle.alta_rewrite.specs.declared.fault.RewriteFault.{RewriteFault}
 use Rattle.alta_rewrite.specs.declared.fault.RewriteFault.TheVariants as rewrite_faults
 use Rattle.alta_rewrite.specs.declared.levels.NextLevels.{NextLevels}
 use Rattle.alta_rewrite.specs.declared.rewriting.Rewritten.{Rewritten}
 use Rattle.alta_root.specs.Gaps.{IsLongestGap, first_gap, greatest_gap, taken_by}
-use Rattle.alta_root.specs.Slots.{Counts}
 use Rattle.alta_root.specs.declared.root.Root.{Root}
-use Rattle.alta_root.specs.declared.slot.Slot.{Slot}
-use Rattle.alta_root.proofs.GapFunctions.{first_none, greatest_is}
+use Rattle.alta_root.proofs.GapFunctions.{greatest_is}
 use Rattle.alta_store.specs.Agreement.{Agrees, GoesOnOver, IsIntact, Keeps, Knows, MayGoOn, levels_of}
 use Rattle.alta_store.specs.Answers.{IsOutside, of_rewrite}
 use Rattle.alta_store.specs.Calls.{IsNarrow}
-use Rattle.alta_store.specs.Putting.{IsDrained, IsGivenBy, IsPut, MayPut, Puts, rows_of}
+use Rattle.alta_store.specs.Putting.{IsGivenBy, MayPut, Puts, rows_of}
 use Rattle.alta_store.specs.declared.fault.StoreFault.{StoreFault}
 use Rattle.alta_store.specs.declared.fault.StoreFault.TheVariants as store_faults
 use Rattle.alta_store.specs.declared.store.Store.{Store}
-use Rattle.alta_store.proofs.Agreements.{images_stand, kept}
-use Rattle.alta_store.proofs.Changing.{costs_none}
+use Rattle.alta_store.proofs.Agreements.{kept}
 use Rattle.alta_store.proofs.GoingOn.{goes_on_over, goes_on_there}
-use Rattle.alta_store.proofs.Holdings.{content_bytes, rows_by_tables}
 use Rattle.alta_table.specs.Tables.{Tables}
+use Rattle.alta_content.proofs.Elements.{all_left}
+use Rattle.alta_images.proofs.FullLaws.{full_is, gap_short, ok_err}
 
 -- ---- rows
 
@@ -176,33 +169,13 @@ module _ (tells : Type 0) (a : DiskState) (before now : Store) (levels : NextLev
 
 -- ---- where no gap is long enough
 
-fewer : (more less at : ℕ) (es : List Extent) → less ≤ more → All (λ (e : Extent). Apart at more e.place e.bytes) es → All (λ (e : Extent). Apart at less e.place e.bytes) es
-fewer more less at [] le all = All-nil (λ (e : Extent). Apart at less e.place e.bytes)
-fewer more less at (e ∷ es) le all =
-    All-cons (λ (e : Extent). Apart at less e.place e.bytes) e es (⊎_elim (λ before. inl (omega (arith, before, le))) (λ behind. inr behind) (All-head (λ (e : Extent). Apart at more e.place e.bytes) e es all))
-    (fewer more less at es le (All-tail (λ (e : Extent). Apart at more e.place e.bytes) e es all))
-
-gap_short : (taken : List Extent) (bytes limit : ℕ) → 0 < bytes → first_gap taken bytes limit ≡ None → greatest_gap taken limit < bytes
-gap_short taken bytes limit some none =
-    ⊎_elim (λ less. less)
-    (λ more. ⊎_elim (λ zero. absurd (omega (arith, zero, more, some)))
-    (λ (at, gap). absurd (first_none taken bytes limit none at (record { behind = gap.behind; before = omega (arith, gap.before, more); apart = fewer (greatest_gap taken limit) bytes at taken more gap.apart })))
-    (greatest_is taken limit).there)
-    (cases_lt (greatest_gap taken limit) bytes)
-
-full_is : {X : Type 0} (x y : Full) → ◌≡◌ {A = Result X Full} (Err x) (Err y) → x ≡ y
-full_is x y e = cc
-
-ok_err : {X : Type 0} (x : X) (full : Full) → ◌≡◌ {A = Result X Full} (Ok x) (Err full) → ⊥
-ok_err x full e = absurd cc
-
 -- no gap beside what is taken is as long as what is needed
 abbrev IsShort : ℕ → List Extent → Full → Type 0
 IsShort limit taken full = IsLongestGap taken limit full.gap × (full.gap < full.need)
 
 place_short : (taken : List Extent) (bytes limit : ℕ) (full : Full) → place_for taken bytes limit ≡ Err full → IsShort limit taken full
 place_short taken bytes limit full e =
-    by_test (bytes == 0) (λ none. absurd (ok_err {X = Option Extent} None full (ap (λ (b : Bool). cond b (Ok None) (placed taken bytes limit >>= λ extent. Ok (Some extent))) (sym none) ∙ e)))
+    by_test (bytes == 0) (λ none. absurd (ok_err {A = Option Extent} None full (ap (λ (b : Bool). cond b (Ok None) (placed taken bytes limit >>= λ extent. Ok (Some extent))) (sym none) ∙ e)))
     (λ some. by_gap (first_gap taken bytes limit) refl (ap (λ (b : Bool). cond b (Ok None) (placed taken bytes limit >>= λ extent. Ok (Some extent))) (sym some) ∙ e) (positive bytes some))
   where
     positive : (n : ℕ) → (n == 0) ≡ false → 0 < n
@@ -211,12 +184,12 @@ place_short taken bytes limit full e =
 
     by_gap : (o : Option ℕ) → first_gap taken bytes limit ≡ o → (placed_at taken bytes limit o >>= λ extent. Ok (Some extent)) ≡ Err full → 0 < bytes → IsShort limit taken full
     by_gap None is e some =
-        subst (IsShort limit taken) (full_is {X = Option Extent} (record { need = bytes; gap = greatest_gap taken limit }) full e) (greatest_is taken limit, gap_short taken bytes limit some is)
-    by_gap (Some at) is e some = absurd (ok_err {X = Option Extent} (Some (record { place = at; bytes = bytes })) full e)
+        subst (IsShort limit taken) (full_is {A = Option Extent} (record { need = bytes; gap = greatest_gap taken limit }) full e) (greatest_is taken limit, gap_short taken bytes limit some is)
+    by_gap (Some at) is e some = absurd (ok_err {A = Option Extent} (Some (record { place = at; bytes = bytes })) full e)
 
 first_failed : {X Y : Type 0} (r : Result X Full) (f : X → Result Y Full) (full : Full) → (r >>= f) ≡ Err full → ((x : X) × (r ≡ Ok x) × (f x ≡ Err full)) ⊎ (r ≡ Err full)
 first_failed (Ok x) f full e = inl (x, refl, e)
-first_failed {X} {Y} (Err other) f full e = inr (ap (λ (g : Full). Err g) (full_is {X = Y} other full e))
+first_failed {X} {Y} (Err other) f full e = inr (ap (λ (g : Full). Err g) (full_is {A = Y} other full e))
 
 places_short : (limit : ℕ) (root : Root) (oldest newest list : ℕ) (full : Full) → places_for limit root oldest newest list ≡ Err full → (extra : List Extent) × IsShort limit (taken_by root extra) full
 places_short limit root oldest newest list full e =
@@ -522,28 +495,3 @@ module _ (tells : Type 0) (a b : DiskState) (lawful_a : IsLawful tells a) (lawfu
         where
           not_ok : (fault : StoreFault) → ◌≡◌ {A = Result (Unit {0}) StoreFault} (Ok u) (Err fault) → ⊥
           not_ok fault e = absurd cc
-
--- ---- memory was wanting before
-
-pub put_none : {T : Type 0} (tells : Type 0) (a : DiskState) → IsLawful tells a → (before now later : Store) (levels : NextLevels) → MayPut tells a before now levels → (fault : StoreFault) → fault ≡ store_faults.Memory
-    → Puts {T = T} tells levels a a before later (Err fault)
-put_none {T} tells a lawful before now later levels may fault is = record {
-  agrees = tt;
-  knows = λ s knows. tt;
-  works = λ held job told has given. tt;
-  full = λ held job need gap told has given e. absurd (no_full need gap e);
-  passes = passes_start tells a (λ old new. ⊤) lawful (λ c. tt);
-  images = λ held has. leaves_start tells a (StandsFor (state_of held.view)) lawful
-      (λ image here. images_stand tells a (state_of held.view) lawful may.agrees.settled (λ told. held_stands held a.content (has told).0) image here);
-  becomes = λ o there told opened have given. tt;
-  narrow = λ need gap told e. absurd (no_full need gap e);
-  only = inl (inl is);
-  cause = λ e. absurd (no_disk e);
-  costs = costs_none 1 a;
-}
-  where
-    no_full : (need gap : ℕ) → ◌≡◌ {A = Result T StoreFault} (Err fault) (Err (store_faults.Full need gap)) → ⊥
-    no_full need gap e = absurd cc
-
-    no_disk : ◌≡◌ {A = Result T StoreFault} (Err fault) (Err store_faults.Disk) → ⊥
-    no_disk e = absurd cc

@@ -1,5 +1,5 @@
 -- The rows of a store: of its levels, and of its newest documents behind them.
-use Rattle.std.proofs.Common.{◌≡◌, ℕ, ◌+◌, ◌<◌, ◌≤◌, Bool, true, false, List, [], ◌∷◌, ◌++◌, length, map, refl, sym, ◌∙◌, ap, ap₂, subst, arith, append_assoc}
+use Rattle.std.proofs.Common.{◌≡◌, ℕ, ◌+◌, ◌<◌, ◌≤◌, Bool, true, false, List, [], ◌∷◌, ◌++◌, map, refl, sym, ◌∙◌, ap, ap₂, subst, arith, append_assoc}
 use Rattle.std.specs.Prelude.{get_or, not}
 use Rattle.std.specs.List.{All, filter}
 use Rattle.std.proofs.lemmas.Bool.{false≢true}
@@ -13,24 +13,22 @@ use Rattle.alta_content.specs.Rows.{AreDocuments, end_of, ends_among, live_rows,
 use Rattle.alta_content.specs.declared.content.Content.{Content}
 use Rattle.alta_content.specs.declared.document.DocRow.{DocRow}
 use Rattle.alta_images.specs.Levels.{Level}
-use Rattle.alta_images.specs.Opened.{Opened, IsOpened, rows_in}
+use Rattle.alta_images.specs.Opened.{Opened, rows_in, extent_of}
 use Rattle.alta_images.specs.Ordered.{Precedes, RowsRise}
 use Rattle.alta_images.proofs.KeptStates.{map_filter}
-use Rattle.alta_images.proofs.Tests.{by_test, filter_drop, filter_keep}
-use Rattle.alta_images.proofs.WrittenLaws.{all_left, all_right}
 use Rattle.alta_joins.specs.Jobs.{IsJoining}
 use Rattle.alta_joins.proofs.SpaceLaws.{IsRow, each_row, part_rows, rows_documents}
 use Rattle.alta_memlevel.specs.Added.{Added, HasContent, live_of}
 use Rattle.alta_memlevel.specs.Documents.{AreMade, content_of}
 use Rattle.alta_memlevel.proofs.Part.{have_part}
 use Rattle.alta_merge.specs.Merging.{Merging}
-use Rattle.alta_opening.specs.Extents.{extent_of}
 use Rattle.alta_rewrite.specs.Rewrites.{HaveRows}
 use Rattle.alta_store.specs.Agreement.{IsIntact, Keeps, levels_of}
 use Rattle.alta_store.specs.Putting.{rows_of}
 use Rattle.alta_store.specs.declared.store.Store.{Store}
 use Rattle.alta_store.proofs.Kept.{kept_by, kept_three, left_three}
 use Rattle.alta_table.specs.Tables.{Tables}
+use Rattle.alta_content.proofs.Elements.{all_left, all_right, filter_again}
 
 -- ---- levels of which the rows alone are known
 
@@ -53,17 +51,11 @@ bare_have store o keeps = record { extents = sym keeps.extents ∙ bare_extents 
 
 -- ---- live rows
 
-filter_twice : {X : Type 0} (p : X → Bool) (xs : List X) → filter p (filter p xs) ≡ filter p xs
-filter_twice p [] = refl
-filter_twice {X} p (x ∷ xs) =
-    by_test (p x) (λ yes. ap (filter p) (filter_keep p x xs yes) ∙ filter_keep p x (filter p xs) yes ∙ ap (λ (ys : List X). x ∷ ys) (filter_twice p xs) ∙ sym (filter_keep p x xs yes))
-    (λ no. ap (filter p) (filter_drop p x xs no) ∙ filter_twice p xs ∙ sym (filter_drop p x xs no))
-
 -- to leave out what is gone behind, and then everywhere, is to leave it out everywhere
 pub live_twice : (store : Store) (es bs : List DocRow) → live_rows (gone_of store.catalog) (es ++ filter (λ row. not (ends_among (gone_of store.catalog) row)) bs) ≡ filter (λ row. not (ends_among (gone_of store.catalog) row)) (es ++ bs)
 live_twice store es bs =
     let p : DocRow → Bool = λ row. not (ends_among (gone_of store.catalog) row) in
-    filter-append p es (filter p bs) ∙ ap (λ (rows : List DocRow). filter p es ++ rows) (filter_twice p bs) ∙ sym (filter-append p es bs)
+    filter-append p es (filter p bs) ∙ ap (λ (rows : List DocRow). filter p es ++ rows) (filter_again p bs) ∙ sym (filter-append p es bs)
 
 -- ---- the rules
 

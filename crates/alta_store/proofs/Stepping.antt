@@ -1,5 +1,5 @@
 -- A step whose join goes on, and a merge of all levels.
-use Rattle.std.proofs.Common.{◌≡◌, inl, inr, ⊎_elim, ℕ, ◌+◌, ◌<◌, ◌≤◌, Bool, true, false, cond, List, [], ◌∷◌, ◌++◌, length, map, refl, sym, ◌∙◌, ap, subst, arith, Result, Ok, Err}
+use Rattle.std.proofs.Common.{◌≡◌, inl, inr, ℕ, ◌+◌, ◌<◌, ◌≤◌, Bool, false, cond, List, [], ◌∷◌, ◌++◌, length, refl, sym, ◌∙◌, ap, subst, arith, Result, Ok, Err}
 use Rattle.std.specs.Prelude.{nat_le, OnOk, Option, Some, None}
 use Rattle.std.specs.List.{All, sum_by}
 use Rattle.std.proofs.lemmas.List.Elements.{All-cons, All-nil, All-weaker}
@@ -11,13 +11,11 @@ use Rattle.alta_content.specs.declared.document.DocRow.{DocRow}
 use Rattle.alta_disk.specs.Calls.{Reads}
 use Rattle.alta_disk.specs.Disk.{DiskState, IsLawful}
 use Rattle.alta_disk.proofs.Moments.{leaves_start}
-use Rattle.alta_images.specs.Holding.{Holding, IsHeld}
-use Rattle.alta_images.specs.Joining.{content_of as joined_content_of, joined_in, terms_in}
-use Rattle.alta_images.specs.Levels.{Level}
+use Rattle.alta_images.specs.Holding.{Holding}
 use Rattle.alta_images.specs.Opened.{Opened, IsOpened, rows_in}
-use Rattle.alta_images.specs.Standing.{StandsForEither, view_of}
-use Rattle.alta_images.specs.Work.{Job, Task, merges, steps, whole_of}
-use Rattle.alta_images.specs.Working.{Full, moved, stepped, switched, worked}
+use Rattle.alta_images.specs.Standing.{StandsForEither}
+use Rattle.alta_images.specs.Work.{Job, merges, steps}
+use Rattle.alta_images.specs.Working.{Full, moved, worked}
 use Rattle.alta_images.proofs.KeptStates.{added_behind, added_high}
 use Rattle.alta_images.proofs.KnownLaws.{all_both}
 use Rattle.alta_images.proofs.Tests.{by_test}
@@ -30,15 +28,14 @@ use Rattle.alta_joins.proofs.JoiningLaws.{joining_moved}
 use Rattle.alta_joins.proofs.KeptLaws.{held_is_spaced}
 use Rattle.alta_journal.specs.declared.entry.Entry.{Entry}
 use Rattle.alta_memlevel.specs.Added.{Added, HasContent, IsDocument, IsSpace}
-use Rattle.alta_memlevel.specs.Documents.{AreMade, IsBefore, IsFrom, content_of}
+use Rattle.alta_memlevel.specs.Documents.{AreMade, IsBefore, content_of}
 use Rattle.alta_merge.specs.Merging.{Merging}
-use Rattle.alta_meta.specs.declared.document.State.{State}
 use Rattle.alta_rewrite.specs.Rewrites.{Replaces, levels_to_come, no_content}
 use Rattle.alta_root.specs.declared.root.Root.{Root}
 use Rattle.alta_rewrite.specs.declared.levels.NextLevels.{NextLevels}
 use Rattle.alta_rewrite.proofs.JoinedLaws.{merge_is}
-use Rattle.alta_store.specs.Agreement.{Agrees, GoesOnOver, Has, Holds, IsIntact, IsJobIn, Keeps, MayGoOn, levels_of}
-use Rattle.alta_store.specs.Calls.{Becomes, Changes, JoinsAll, NoRefusal, Obeys, is_one, merge_joins}
+use Rattle.alta_store.specs.Agreement.{Agrees, Has, IsIntact, IsJobIn, Keeps, levels_of}
+use Rattle.alta_store.specs.Calls.{Becomes, JoinsAll, NoRefusal, Obeys, is_one}
 use Rattle.alta_store.specs.Putting.{IsDrained, MayPut, Puts}
 use Rattle.alta_store.specs.declared.fault.StoreFault.{StoreFault}
 use Rattle.alta_store.specs.declared.fault.StoreFault.TheVariants as faults
@@ -51,6 +48,7 @@ use Rattle.alta_store.proofs.Joining.{IsJoinOf, job_held, switched_job}
 use Rattle.alta_store.proofs.Tasks.{HasNewest, all_held, all_kind_put, all_may}
 use Rattle.alta_store.proofs.Working.{Switches, agrees_read, changes_put, changes_read}
 use Rattle.alta_table.specs.Tables.{Tables}
+use Rattle.alta_content.specs.Joining.{joined_in, terms_in}
 
 -- ---- a join that goes on
 
@@ -187,7 +185,7 @@ newest_as levels others gone ends added content same still is = subst (λ (es : 
 -- what a merge of all levels tells, in the store's words
 abbrev pub IsMergedFrom : (tells : Type 0) (image : List ℕ) (levels : List Tables) (gone : List ℕ) (oldest newest : Content) → Type 0
 IsMergedFrom tells image levels gone oldest newest =
-    (added : List Added) → IsNewest levels gone added newest → (contents : List Content) × AreContentsOf levels contents × (tells → AreSegmentsOn image levels contents) × (oldest ≡ joined_in (contents ++ joined_content_of added ∷ []) gone)
+    (added : List Added) → IsNewest levels gone added newest → (contents : List Content) × AreContentsOf levels contents × (tells → AreSegmentsOn image levels contents) × (oldest ≡ joined_in (contents ++ content_of added ∷ []) gone)
 
 pub merged_as : (tells : Type 0) (image : List ℕ) (store : Store) (levels : List Tables) (gone : List ℕ) (oldest newest : Content) → levels ≡ levels_of store → gone ≡ gone_of store.catalog → IsMergedFrom tells image levels gone oldest newest
     → IsMergedFrom tells image (levels_of store) (gone_of store.catalog) oldest newest
@@ -238,12 +236,12 @@ module _ (tells : Type 0) (a b c : DiskState) (lawful_a : IsLawful tells a) (law
     (oldest newest : Content) (has_newest : HasNewest store newest) (part : IsPart oldest) (no_part : IsPart no_content) (rows_are : oldest.documents ≡ live_rows (gone_of store.catalog) (rows_in (levels_of store) ++ newest.documents))
     (levels : NextLevels) (replaces : Replaces levels (length (levels_of store)) oldest no_content)
     (merged : (added : List Added) → IsNewest (levels_of store) (gone_of store.catalog) added newest
-    → (contents : List Content) × AreContentsOf (levels_of store) contents × (tells → AreSegmentsOn a.content (levels_of store) contents) × (oldest ≡ joined_in (contents ++ joined_content_of added ∷ []) (gone_of store.catalog))) where
+    → (contents : List Content) × AreContentsOf (levels_of store) contents × (tells → AreSegmentsOn a.content (levels_of store) contents) × (oldest ≡ joined_in (contents ++ content_of added ∷ []) (gone_of store.catalog))) where
   abbrev pub agrees_there : Agrees tells b store
   agrees_there = agrees_read tells a b lawful_a lawful_b store agrees (sum_by data_size (levels_of store)) reads
 
   pub merged_there : (added : List Added) → HasContent added (memory_of store.catalog).content → AreMade added → (o : Opened) → tells → IsOpened o b.content → newest_of o.root o.entries ≡ added
-      → (contents : List Content) × AreContentsOf (levels_of store) contents × (tells → AreSegmentsOn b.content (levels_of store) contents) × (oldest ≡ joined_in (contents ++ joined_content_of added ∷ []) (gone_of store.catalog))
+      → (contents : List Content) × AreContentsOf (levels_of store) contents × (tells → AreSegmentsOn b.content (levels_of store) contents) × (oldest ≡ joined_in (contents ++ content_of added ∷ []) (gone_of store.catalog))
   merged_there added content made o told is same =
       let root_is : store.root ≡ o.root = (kept store b.content (agrees_there.content told) o is).root in
       let added_is : newest_of store.root o.entries ≡ added = ap (λ (r : Root). newest_of r o.entries) root_is ∙ same in

@@ -1,52 +1,48 @@
 -- Flush, merge and step, each as levels put in place of others.
-use Rattle.std.proofs.Common.{◌≡◌, ◌⊎◌, inl, inr, ⊎_elim, ℕ, ◌+◌, ◌-◌, ◌<◌, ◌≤◌, Bool, true, false, cond, List, [], ◌∷◌, ◌++◌, length, map, take, drop, refl, sym, ◌∙◌, ap, ap₂, subst, arith, Result, Ok, Err}
-use Rattle.std.specs.Prelude.{◌==◌, ◌&&◌, nat_le, not, Option, Some, None}
-use Rattle.std.specs.List.{All, filter, sum_by}
+use Rattle.std.proofs.Common.{◌≡◌, ◌⊎◌, inl, inr, ⊎_elim, ℕ, ◌+◌, ◌-◌, ◌<◌, ◌≤◌, cond, List, [], ◌∷◌, ◌++◌, length, map, take, drop, refl, sym, ◌∙◌, ap, ap₂, subst, arith}
+use Rattle.std.specs.Prelude.{◌==◌, not, None}
+use Rattle.std.specs.List.{filter}
 use Rattle.std.proofs.Math.Seq.{drop-length}
 use Rattle.std.proofs.lemmas.List.{append-nil, length-map}
 use Rattle.alta_catalog.specs.Knowing.{gone_of, memory_of, newest_of}
 use Rattle.alta_catalog.specs.Replacing.{rows_between}
 use Rattle.alta_codec.specs.declared.extent.Extent.{Extent}
 use Rattle.alta_content.specs.Parts.{IsPart}
-use Rattle.alta_content.specs.Rows.{end_of, ends_among, live_rows}
+use Rattle.alta_content.specs.Rows.{ends_among, live_rows}
 use Rattle.alta_content.specs.declared.content.Content.{Content}
 use Rattle.alta_content.specs.declared.document.DocRow.{DocRow}
 use Rattle.alta_disk.specs.Disk.{DiskState, IsLawful}
-use Rattle.alta_images.specs.Holding.{Holding, IsHeld, IsJob, IsSpaced}
-use Rattle.alta_images.specs.Joining.{content_of as joined_content_of, joined_in, terms_in}
+use Rattle.alta_images.specs.Holding.{Holding, IsHeld, IsSpaced}
 use Rattle.alta_images.specs.Levels.{Level}
-use Rattle.alta_images.specs.Opened.{Opened, IsOpened, rows_in}
+use Rattle.alta_images.specs.Opened.{Opened, IsOpened, rows_in, extent_of}
 use Rattle.alta_images.specs.Standing.{AreLevels, view_of}
 use Rattle.alta_images.specs.Views.{View}
-use Rattle.alta_images.specs.Work.{Job, anew, coming, flushes, gone, is_merged, job_of, merges, newest, newest_content, oldest_joined, rows_in as level_rows, steps, whole_of}
-use Rattle.alta_images.specs.Working.{IsJoin, all_contents, flushed, oldest_contents, switched, worked}
+use Rattle.alta_images.specs.Work.{anew, coming, gone, newest, newest_content, rows_in as level_rows}
+use Rattle.alta_images.specs.Working.{IsJoin, all_contents, oldest_contents}
 use Rattle.alta_images.proofs.OneState.{one_are}
-use Rattle.alta_joins.specs.Contents.{AreContentsOf, AreSegmentsOn, IsContentOf, level_with, levels_with}
-use Rattle.alta_joins.specs.Jobs.{AreJoinedOn, IsBegun, IsJoining, IsMerging}
-use Rattle.alta_joins.proofs.JoiningLaws.{joining_job, joining_join, joining_part, joining_rows}
+use Rattle.alta_joins.specs.Contents.{AreContentsOf, AreSegmentsOn, level_with, levels_with}
+use Rattle.alta_joins.specs.Jobs.{IsJoining}
+use Rattle.alta_joins.proofs.JoiningLaws.{joining_join, joining_part, joining_rows}
 use Rattle.alta_joins.proofs.KeptLaws.{held_joins}
 use Rattle.alta_joins.proofs.OpenedLaws.{read_levels_are, with_contents}
-use Rattle.alta_joins.proofs.SpaceLaws.{content_rows}
 use Rattle.alta_memlevel.specs.Added.{Added, HasContent, live_of}
 use Rattle.alta_memlevel.specs.Documents.{AreMade, content_of}
 use Rattle.alta_merge.specs.Merging.{Merging}
-use Rattle.alta_opening.specs.Extents.{extent_of}
-use Rattle.alta_rewrite.specs.Rewrites.{HaveRows, IsGiven, Replaces, levels_to_come, no_content}
-use Rattle.alta_rewrite.specs.declared.ends.Ends.{Ends}
+use Rattle.alta_rewrite.specs.Rewrites.{HaveRows, Replaces, no_content}
 use Rattle.alta_rewrite.specs.declared.levels.NextLevels.{NextLevels}
-use Rattle.alta_rewrite.proofs.JoinedLaws.{all_given, flush_is, merge_is, oldest_given, room_is, stay_given, step_is}
+use Rattle.alta_rewrite.proofs.JoinedLaws.{all_given, oldest_given, stay_given}
 use Rattle.alta_rewrite.proofs.RootLaws.{at_most_one}
-use Rattle.alta_rewrite.proofs.SpaceLaws.{contents_same, live_same, opened_spaced}
-use Rattle.alta_store.specs.Agreement.{Agrees, GoesOnOver, Has, IsJobIn, Keeps, MayGoOn, levels_of}
-use Rattle.alta_store.specs.Calls.{AddsNewest, Flushes, JoinsAll, JoinsOldest, is_many}
-use Rattle.alta_store.specs.Putting.{IsDrained, IsGivenBy, MayPut, rows_of}
+use Rattle.alta_rewrite.proofs.SpaceLaws.{opened_spaced}
+use Rattle.alta_store.specs.Agreement.{Agrees, levels_of}
+use Rattle.alta_store.specs.Calls.{JoinsAll, JoinsOldest}
+use Rattle.alta_store.specs.Putting.{IsDrained, IsGivenBy, MayPut}
 use Rattle.alta_store.specs.declared.store.Store.{Store}
 use Rattle.alta_store.proofs.Agreements.{kept}
-use Rattle.alta_store.proofs.Holdings.{content_bytes, gone_held, gone_opened, levels_held, rows_by_tables, well_held}
+use Rattle.alta_store.proofs.Holdings.{content_bytes, gone_held, gone_opened, well_held}
 use Rattle.alta_store.proofs.Putting.{have_rows, rows_from}
-use Rattle.alta_store.proofs.Room.{none_is, some_kept}
 use Rattle.alta_store.proofs.Rows.{bare, bare_extents, bare_have, bare_rows, flush_kept, flush_left, flush_rows, join_kept, join_left, join_rows, live_newest, live_twice, merge_left}
 use Rattle.alta_table.specs.Tables.{Tables}
+use Rattle.alta_content.specs.Joining.{joined_in}
 
 -- What a task was given of the newest documents: the live ones.
 abbrev pub HasNewest : Store → Content → Type 0
@@ -69,7 +65,6 @@ module _ (tells : Type 0) (a : DiskState) (lawful : IsLawful tells a) (store : S
       let keeps = kept store a.content (agrees.content told) o is in
       drained (newest_of o.root o.entries) keeps.follows.content keeps.follows.made
       ∙ ap (λ (g : List ℕ). content_of (live_of g (newest_of o.root o.entries))) (gone_there told o is there have)
-      ∙ live_same (view_of o there) keeps.follows.content.space
 
   pub newest_held : (newest : Content) → HasNewest store newest → (told : tells) (held : Holding) → IsHeld held a.content → newest ≡ newest_content held.view
   newest_held content drained told held has =
@@ -85,10 +80,6 @@ module _ (tells : Type 0) (a : DiskState) (lawful : IsLawful tells a) (store : S
   -- the same of what is held
   pub held_given : (levels : NextLevels) (held : Holding) (has : IsHeld held a.content) → IsGivenBy (view_of has.opened held.view.levels) levels → IsGivenBy held.view levels
   held_given levels held has given = subst (λ (view : View). IsGivenBy view levels) (sym has.view_is) given
-
-  -- as many levels are held as the store has
-  pub held_long : (told : tells) (held : Holding) → IsHeld held a.content → length held.view.levels ≡ length (levels_of store)
-  held_long told held has = sym (ap length (levels_held tells a lawful store agrees told held has) ∙ length-map held.view.levels _)
 
   -- ---- all levels stay
 
@@ -199,7 +190,7 @@ module _ (tells : Type 0) (a : DiskState) (lawful : IsLawful tells a) (store : S
   module _ (now : Store) (drained : IsDrained store now) (no_job : now.job ≡ None) (oldest newest : Content) (has_newest : HasNewest store newest) (part : IsPart oldest) (no_part : IsPart no_content)
       (rows_are : oldest.documents ≡ live_rows (gone_of store.catalog) (rows_in (levels_of store) ++ newest.documents)) (levels : NextLevels) (replaces : Replaces levels (length (levels_of store)) oldest no_content)
       (merged : (added : List Added) → HasContent added (memory_of store.catalog).content → AreMade added → (o : Opened) → tells → IsOpened o a.content → newest_of o.root o.entries ≡ added
-      → (contents : List Content) × AreContentsOf (levels_of store) contents × (tells → AreSegmentsOn a.content (levels_of store) contents) × (oldest ≡ joined_in (contents ++ joined_content_of added ∷ []) (gone_of store.catalog))) where
+      → (contents : List Content) × AreContentsOf (levels_of store) contents × (tells → AreSegmentsOn a.content (levels_of store) contents) × (oldest ≡ joined_in (contents ++ content_of added ∷ []) (gone_of store.catalog))) where
     -- an image that was read whole is held
     pub found : (told : tells) (o : Opened) (is : IsOpened o a.content) → (there : List Level) × AreLevels o there a.content × (oldest ≡ joined_in (all_contents (view_of o there)) (gone (view_of o there))) × HaveRows o there
     found told o is =
@@ -214,7 +205,7 @@ module _ (tells : Type 0) (a : DiskState) (lawful : IsLawful tells a) (store : S
         let same : map (λ (l : Level). l.content) there ≡ m.0 = with_contents o.levels m.0 contents_are in (
           there,
           are,
-          m.3 ∙ ap₂ (λ (cs : List Content) (g : List ℕ). joined_in (cs ++ joined_content_of (newest_of o.root o.entries) ∷ []) g) (sym same) (gone_held tells a lawful store agrees told held has),
+          m.3 ∙ ap₂ (λ (cs : List Content) (g : List ℕ). joined_in (cs ++ content_of (newest_of o.root o.entries) ∷ []) g) (sym same) (gone_held tells a lawful store agrees told held has),
           have_rows held a.content has,
         )
 

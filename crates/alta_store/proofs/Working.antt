@@ -1,15 +1,12 @@
 -- A task that puts levels in place of others is a change of the store.
-use Rattle.std.proofs.Common.{◌≡◌, ◌⊎◌, inl, inr, ⊎_elim, ℕ, ◌+◌, ◌≤◌, List, [], refl, sym, ◌∙◌, ap, subst, arith, Result, Ok, Err}
-use Rattle.std.specs.Prelude.{Option, IfErr, OnOk, ⊤}
-use Rattle.std.specs.List.{All, sum_by}
-use Rattle.alta_codec.specs.Faults.{Rose}
+use Rattle.std.proofs.Common.{◌≡◌, ◌⊎◌, inl, inr, ⊎_elim, ℕ, ◌+◌, List, [], refl, sym, ◌∙◌, ap, subst, arith, Result, Ok, Err}
+use Rattle.std.specs.Prelude.{Option, OnOk, ⊤}
+use Rattle.std.specs.List.{sum_by}
 use Rattle.alta_content.specs.declared.content.Content.{Content}
-use Rattle.alta_disk.specs.Calls.{Costs, Reads}
+use Rattle.alta_disk.specs.Calls.{Reads}
 use Rattle.alta_disk.specs.Disk.{DiskState, IsLawful, LeavesOnly, Passes, Same}
-use Rattle.alta_disk.proofs.Moments.{leaves_as, leaves_from, leaves_now, leaves_start, leaves_then, only_same}
-use Rattle.alta_images.specs.Broken.{IsBrokenAmong}
-use Rattle.alta_images.specs.Holding.{Holding, IsHeld}
-use Rattle.alta_images.specs.Levels.{Level}
+use Rattle.alta_disk.proofs.Moments.{leaves_as, leaves_from, leaves_now, leaves_then, only_same}
+use Rattle.alta_images.specs.Holding.{Holding}
 use Rattle.alta_images.specs.Opened.{Opened, IsOpened}
 use Rattle.alta_images.specs.Standing.{StandsFor, StandsForEither, view_of}
 use Rattle.alta_images.specs.Views.{View, state_of}
@@ -21,17 +18,15 @@ use Rattle.alta_joins.specs.Damages.{IsFirstDamage}
 use Rattle.alta_joins.proofs.KeptLaws.{held_is_spaced}
 use Rattle.alta_merge.specs.Merging.{Merging}
 use Rattle.alta_meta.specs.declared.document.State.{State}
-use Rattle.alta_rewrite.specs.Rewrites.{HaveRows, levels_to_come}
+use Rattle.alta_rewrite.specs.Rewrites.{levels_to_come}
 use Rattle.alta_rewrite.specs.declared.levels.NextLevels.{NextLevels}
 use Rattle.alta_store.specs.Agreement.{Agrees, GoesOnOver, Has, Holds, IsJobIn, Keeps, levels_of}
 use Rattle.alta_catalog.specs.Knowing.{gone_of}
-use Rattle.alta_store.specs.Answers.{IsOutside}
-use Rattle.alta_store.specs.Calls.{Becomes, Changes, Finds, IsCause, IsNarrow, IsRewrite, NoRefusal}
+use Rattle.alta_store.specs.Calls.{Becomes, Changes, IsNarrow, IsRewrite, NoRefusal}
 use Rattle.alta_store.specs.Putting.{IsGivenBy, MayPut, Puts, ReadsLevels}
 use Rattle.alta_store.specs.declared.fault.StoreFault.{StoreFault}
 use Rattle.alta_store.specs.declared.fault.StoreFault.TheVariants as faults
 use Rattle.alta_store.specs.declared.store.Store.{Store}
-use Rattle.alta_store.proofs.Agreements.{images_stand}
 use Rattle.alta_store.proofs.Changing.{Turns, Work, costs_more, finds_none, not_damaged, rose_later}
 use Rattle.alta_store.proofs.Holdings.{has_of}
 use Rattle.alta_table.specs.Tables.{Tables}
@@ -142,9 +137,6 @@ module _ (tells : Type 0) (a b : DiskState) (lawful_a : IsLawful tells a) (lawfu
   images_read : (s : State) → (tells → StandsFor s a.content) → LeavesOnly (StandsForEither s s) a b
   images_read s stands =
       leaves_from tells a lawful_a agrees.settled (StandsForEither s s) (λ told. inl (stands told)) b Same reads.images (λ told z same. inl (subst (StandsFor s) (sym same) (stands told)))
-
-  limit_is : b.limit ≡ a.limit
-  limit_is = reads.costs.limit
 
 -- a change behind a call that read these levels, of which none is damaged
 pub changes_read : {T : Type 0} (tells : Type 0) (work : Work) (turns : Turns) (bytes : ℕ) (joins : List Tables) (a b c : DiskState) → IsLawful tells a → IsLawful tells b → (store later : Store) (result : Result T StoreFault) → Agrees tells a store

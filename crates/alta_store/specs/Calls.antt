@@ -1,5 +1,5 @@
 -- What a call that changes a store does, in one word.
-use Rattle.std.specs.Prelude.{◌≡◌, ◌⊎◌, ◌<◌, ◌+◌, ◌==◌, ◌&&◌, nat_le, ℕ, Bool, cond, true, false, List, [], ◌∷◌, length, map, take, Option, Some, None, Result, Ok, Err, OnOk, IfOk, IfErr}
+use Rattle.std.specs.Prelude.{◌≡◌, ◌⊎◌, ◌<◌, ◌+◌, ◌==◌, ◌&&◌, nat_le, ℕ, Bool, cond, true, false, List, [], length, map, take, Option, Some, None, Result, Ok, Err, OnOk, IfOk, IfErr}
 use Rattle.std.specs.List.{sum_by}
 use Rattle.alta_catalog.specs.Knowing.{gone_of, memory_of}
 use Rattle.alta_codec.specs.Faults.{Rose}
@@ -9,9 +9,7 @@ use Rattle.alta_content.specs.declared.content.Content.{Content}
 use Rattle.alta_disk.specs.Calls.{Costs}
 use Rattle.alta_disk.specs.Disk.{DiskState, LeavesOnly}
 use Rattle.alta_images.specs.Broken.{IsBrokenAmong}
-use Rattle.alta_images.specs.Chain.{◌>>=◌}
 use Rattle.alta_images.specs.Holding.{Holding}
-use Rattle.alta_images.specs.Joining.{joined_in}
 use Rattle.alta_images.specs.Levels.{Level}
 use Rattle.alta_images.specs.Opened.{Opened, IsOpened}
 use Rattle.alta_images.specs.Standing.{StandsFor, StandsForEither, view_of}
@@ -36,6 +34,7 @@ use Rattle.alta_store.specs.declared.fault.StoreFault.{StoreFault}
 use Rattle.alta_store.specs.declared.fault.StoreFault.TheVariants as faults
 use Rattle.alta_store.specs.declared.store.Store.{Store}
 use Rattle.alta_table.specs.Tables.{Tables}
+use Rattle.alta_content.specs.Joining.{joined_in}
 
 -- ---- which levels a task reads and joins
 
@@ -199,7 +198,3 @@ Enters tells entry step before after store later result =
 -- the name is taken, or no number is left
 abbrev pub RefusesAdd : StoreFault → Type 0
 RefusesAdd fault = (fault ≡ faults.Taken) ⊎ (fault ≡ faults.Numbers)
-
--- no live document has the name
-abbrev pub RefusesDelete : StoreFault → Type 0
-RefusesDelete fault = fault ≡ faults.Missing

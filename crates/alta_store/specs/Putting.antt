@@ -24,7 +24,7 @@ use Rattle.alta_rewrite.specs.declared.ends.Ends.{Ends}
 use Rattle.alta_rewrite.specs.declared.levels.NextLevels.{NextLevels}
 use Rattle.alta_store.specs.Agreement.{Agrees, Keeps, Knows, levels_of}
 use Rattle.alta_store.specs.Answers.{IsOutside}
-use Rattle.alta_store.specs.Calls.{Finds, IsCause, IsNarrow, NoRefusal}
+use Rattle.alta_store.specs.Calls.{Finds, IsNarrow, NoRefusal}
 use Rattle.alta_store.specs.declared.fault.StoreFault.{StoreFault}
 use Rattle.alta_store.specs.declared.fault.StoreFault.TheVariants as faults
 use Rattle.alta_store.specs.declared.store.Store.{Store}

@@ -3,7 +3,10 @@ ghost use Rattle.std.specs.Prelude.{◌≡◌, ◌≤◌, ◌+◌, ◌↔◌, tr
 ghost use Rattle.alta_codec.specs.Faults.{HasCause};
 ghost use Rattle.alta_disk.specs.Disk.{DiskState, Same, Passes, Stands};
 ghost use Rattle.alta_journal.specs.declared.places.TheConstants.{HEAD_BYTES};
+ghost use Rattle.alta_images.specs.Holding.{IsHeld};
+ghost use Rattle.alta_images.specs.Opened.{IsOpened};
 ghost use Rattle.alta_images.specs.Standing.{StandsFor};
+ghost use Rattle.alta_images.specs.Switching.{empty_held, empty_opened};
 ghost use Rattle.alta_store.specs.Clearing.{AreZero, IsClear};
 ghost use Rattle.alta_images.specs.States.{empty};
 
@@ -20,7 +23,8 @@ const EMPTY_FIELDS: [u8; 39] = [
 
 /// Writes an index without documents over what the disk holds: zeros over both slots and both halves of the journal, then
 /// the fields of the first slot, then its gate, each synced before the next. After `Ok` every image that a stop may
-/// leave stands for the empty state. Bytes behind the journal stay as they are.
+/// leave stands for the empty state: the first slot counts, and has no level, no deleted end and no entry, and the first number and
+/// location come next. Bytes behind the journal stay as they are.
 ///
 /// # Errors
 ///
@@ -28,6 +32,8 @@ const EMPTY_FIELDS: [u8; 39] = [
 pub fn format<D: Disk>(disk: &mut D) -> Result<(), Failed>
     requires { HEAD_BYTES ≤ (D.state disk.old).limit }
     ensures formatted { OnOk result (Stands D.tells (D.state disk.new) (StandsFor empty)) }
+    ensures opened { OnOk result (Stands D.tells (D.state disk.new) (IsOpened empty_opened)) }
+    ensures holds { OnOk result (Stands D.tells (D.state disk.new) (IsHeld empty_held)) }
     ensures cause { HasCause (D.state disk.old).faults (D.state disk.new).faults result }
     ensures taken { (D.state disk.new).taken ≡ (D.state disk.old).taken }
     ensures same_limit { (D.state disk.new).limit ≡ (D.state disk.old).limit }

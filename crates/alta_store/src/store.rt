@@ -36,6 +36,7 @@ ghost use Rattle.alta_root.specs.declared.slot.Slot.{Slot};
 ghost use Rattle.alta_store.specs.Agreement.{Agrees, HasNoEntry, Holds, IsIntact, Keeps, is_sound, room_of};
 ghost use Rattle.alta_store.specs.Answers.{IsOutside, AnswersFault};
 ghost use Rattle.alta_store.specs.Calls.{Enters, MakesRoom, NoRefusal, Obeys, RefusesAdd, is_one, unless_read};
+ghost use Rattle.alta_store.specs.Opening.{Opens};
 ghost use Rattle.alta_store.specs.Putting.{IsDrained, MayPut, Puts, ReadsLevels};
 ghost use Rattle.alta_store.specs.Searched.{IsSearched};
 ghost use Rattle.alta_store.specs.declared.fault.StoreFault.TheVariants.{Disk as DiskFault, Memory as MemoryFault, NoRoot, Damaged, Taken, Missing, Numbers};
@@ -164,6 +165,7 @@ impl Store {
         ensures job { IfOk result (λ store. store.job ≡ None) }
         ensures limit { OnOk result (HEAD_BYTES ≤ (D.state disk.new).limit) }
 
+        ensures opens { Opens D.tells (D.state disk.old) (D.state disk.new) result }
         ensures opened { (o : Opened) → D.tells → IsOpened o (D.state disk.old).content → IfErr result IsOutside }
         ensures no_root { D.tells → result ≡ Err NoRoot → HasNoRoot (D.state disk.old).content }
         ensures rooted { D.tells → HasNoRoot (D.state disk.old).content → AnswersFault result NoRoot }

@@ -6,10 +6,10 @@ use Rattle.alta_content.specs.Parts.{IsPart}
 use Rattle.alta_content.specs.Rows.{end_of, ends_among}
 use Rattle.alta_content.specs.declared.content.Content.{Content}
 use Rattle.alta_content.specs.declared.document.DocRow.{DocRow}
-use Rattle.alta_images.specs.Joining.{joined_in}
 use Rattle.alta_images.specs.Working.{rows_of}
 use Rattle.alta_images.proofs.KeptStates.{rise_left}
-use Rattle.alta_joins.proofs.KeptLaws.{join_part}
+use Rattle.alta_content.specs.Joining.{joined_in}
+use Rattle.alta_content.proofs.Kept.{join_is_part}
 use Rattle.alta_joins.proofs.laws.joins_are_levels.Goals as goal
 
 is_level : (c : Content) → IsPart c → 0 < length c.documents → IsContent c
@@ -17,10 +17,10 @@ is_level c (inl is) some = is
 is_level c (inr empty) some = absurd (omega (arith, some, ap (λ (rows : List DocRow). length rows) empty.documents))
 
 pub returns-clause-part : goal.returns-clause-part
-returns-clause-part c = λ contents dead may. join_part contents dead may
+returns-clause-part c = λ contents dead may. join_is_part contents dead may
 
 pub returns-clause-level : goal.returns-clause-level
-returns-clause-level c = λ contents dead may some. is_level (joined_in contents dead) (join_part contents dead may) some
+returns-clause-level c = λ contents dead may some. is_level (joined_in contents dead) (join_is_part contents dead may) some
 
 pub returns-clause-rise : goal.returns-clause-rise
 returns-clause-rise c = λ contents dead rise. rise_left (λ (row : DocRow). not (ends_among dead row)) (rows_of contents) rise

@@ -6,8 +6,8 @@ use Rattle.alta_root.specs.Root.{no_extent}
 use Rattle.alta_opening.specs.Costs.{level_bytes}
 use Rattle.alta_opening.specs.declared.fault.OpeningFault.{OpeningFault}
 use Rattle.alta_opening.specs.declared.levels.Levels.{Levels}
-use Rattle.alta_opening.proofs.DiskReads.{reads_then, reads_within}
 use Rattle.alta_opening.proofs.LevelLaws.{extents_more, counted_all, counted_more, error_answers, extent_at, levels_more, levels_stop}
+use Rattle.alta_images.proofs.DiskReads.{reads_then, reads_within}
 use Rattle.alta_opening.proofs.levels.read_levels.Goals as goal
 
 pub returns-in-Err-clause-exact : goal.returns-in-Err-clause-exact

@@ -5,7 +5,8 @@ use Rattle.std.specs.Map.{update}
 use Rattle.std.specs.Str.{bytes_eq}
 use Rattle.alta_content.specs.Rows.{ends_among}
 use Rattle.alta_images.specs.Known.{is_taken}
-use Rattle.alta_opening.proofs.Naming.{free_from, names_live}
+use Rattle.alta_opening.proofs.Naming.{names_live}
+use Rattle.alta_images.proofs.Tests.{not_true}
 use Rattle.alta_opening.proofs.names.join.Goals as goal
 
 pub returns-clause-names : goal.returns-clause-names
@@ -13,6 +14,6 @@ returns-clause-names c = λ live are _.
     let row = c.args.row.now in
     let lives : ends_among c.args.deleted.now row ≡ false = sym c.is_deleted.ensures ∙ c.if-is_deleted.false in
     let tested : not (is_taken row.name live) ≡ true = ap (λ (name : List ℕ). not (is_taken name live)) (sym c.as_str.ensures) ∙ sym (c.is_free.ensures live are) ∙ c.if-not-is_free.false in
-    let free : is_taken row.name live ≡ false = free_from (is_taken row.name live) tested in
+    let free : is_taken row.name live ≡ false = not_true (is_taken row.name live) tested in
     names_live c.args.names.now c.note.new.names c.args.deleted.now live row lives are free
     (λ q. c.in_ok-note.ensures q ∙ ap (λ (name : List ℕ). update bytes_eq (get_by_text c.args.names.now) name (Some row.number) q) c.as_str-2.ensures)

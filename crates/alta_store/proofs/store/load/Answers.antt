@@ -8,8 +8,7 @@ use Rattle.alta_table.specs.Tables.{Tables}
 use Rattle.std.specs.Prelude.{Err}
 use Rattle.alta_catalog.proofs.MayLaws.{may_start}
 use Rattle.alta_images.specs.Broken.{IsBrokenAt}
-use Rattle.alta_images.specs.Opened.{journal_of, rows_in}
-use Rattle.alta_opening.specs.Extents.{extent_of}
+use Rattle.alta_images.specs.Opened.{journal_of, rows_in, extent_of}
 use Rattle.alta_journal.specs.Journal.{IsBroken}
 use Rattle.alta_journal.specs.Placed.{IsReplay}
 use Rattle.alta_journal.specs.Places.{start_of}

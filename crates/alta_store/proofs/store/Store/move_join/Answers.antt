@@ -1,17 +1,11 @@
-use Rattle.std.proofs.Common.{◌≡◌, inl, inr, List, length, refl, sym, ◌∙◌, ap, subst, ℕ, ◌≤◌, arith, true, false, Result, Ok, Err}
-use Rattle.std.specs.Prelude.{nat_le, Option, Some, None, ◌∷◌, []}
-use Rattle.alta_content.specs.declared.content.Content.{Content}
-use Rattle.alta_images.specs.Joining.{terms_in}
-use Rattle.alta_images.specs.Work.{Job, steps}
-use Rattle.alta_joins.specs.Jobs.{IsMerging}
-use Rattle.alta_merge.specs.Merging.{Merging}
-use Rattle.alta_store.specs.Agreement.{levels_of}
+use Rattle.std.proofs.Common.{List, refl, sym, ◌∙◌, ap, subst, Result, Ok, Err}
+use Rattle.alta_images.specs.Work.{steps}
 use Rattle.alta_store.specs.Calls.{NoRefusal, Obeys}
 use Rattle.alta_store.specs.Putting.{IsDrained}
 use Rattle.alta_store.specs.declared.fault.StoreFault.{StoreFault}
 use Rattle.alta_store.specs.declared.store.Store.{Store}
 use Rattle.alta_store.proofs.Flushing.{ObeysOver, joined, step_joined, step_reads, two_of}
-use Rattle.alta_store.proofs.Joining.{join_answered, levels_long, levels_stand, segments_read, undamaged_read}
+use Rattle.alta_store.proofs.Joining.{join_answered, levels_stand, segments_read, undamaged_read}
 use Rattle.alta_store.proofs.Stepping.{given_up, step_moves, with_join}
 use Rattle.alta_store.proofs.Tasks.{HasNewest}
 use Rattle.alta_store.proofs.Working.{changes_unread}

@@ -1,4 +1,4 @@
-use Rattle.std.proofs.Common.{ap, ap₂, arith, sym, refl, subst, ◌∙◌, List, ℕ, Vec, Global}
+use Rattle.std.proofs.Common.{ap, ap₂, sym, refl, subst, ◌∙◌, List, Vec, Global}
 use Rattle.alta_catalog.specs.Replacing.{rows_between}
 use Rattle.alta_catalog.proofs.LevelLaws.{kept_rise}
 use Rattle.alta_content.specs.Rows.{RowsRise}

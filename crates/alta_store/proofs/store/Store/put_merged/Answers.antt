@@ -1,19 +1,15 @@
-use Rattle.std.proofs.Common.{inr, ◌≡◌, ◌∷◌, [], ◌++◌, List, length, refl, sym, ◌∙◌, ap, ap₂, subst, ℕ, Bool, cond, Result, Ok, Err}
+use Rattle.std.proofs.Common.{inr, [], ◌++◌, List, length, refl, sym, ◌∙◌, ap, ap₂, subst, ℕ, Bool, cond, Result, Ok, Err}
 use Rattle.std.specs.List.{All}
-use Rattle.alta_catalog.specs.Knowing.{gone_of, memory_of, newest_of}
+use Rattle.alta_catalog.specs.Knowing.{gone_of, newest_of}
 use Rattle.alta_content.specs.Parts.{IsPart}
 use Rattle.alta_content.specs.Rows.{live_rows}
 use Rattle.alta_content.specs.declared.content.Content.{Content}
-use Rattle.alta_content.specs.declared.document.DocRow.{DocRow}
-use Rattle.alta_images.specs.Joining.{content_of, joined_in}
 use Rattle.alta_images.specs.Opened.{rows_in}
 use Rattle.alta_images.specs.Work.{merges}
-use Rattle.alta_joins.specs.Contents.{AreContentsOf, AreSegmentsOn, StandsOn}
-use Rattle.alta_joins.specs.Newest.{IsNewest}
-use Rattle.alta_memlevel.specs.Added.{Added}
+use Rattle.alta_joins.specs.Contents.{StandsOn}
 use Rattle.alta_rewrite.specs.Rewrites.{no_content}
 use Rattle.alta_store.specs.Agreement.{levels_of}
-use Rattle.alta_store.specs.Putting.{IsDrained, ReadsLevels}
+use Rattle.alta_store.specs.Putting.{ReadsLevels}
 use Rattle.alta_store.specs.declared.fault.StoreFault.{StoreFault}
 use Rattle.alta_store.proofs.Flushing.{ObeysOver}
 use Rattle.alta_store.proofs.Joining.{levels_now, levels_stand, read_done, read_failed, segments_here, undamaged_read}

@@ -1,11 +1,9 @@
-use Rattle.std.proofs.Common.{true, ◌≡◌, ◌⊎◌, inl, inr, ◌<◌, ◌≤◌, List, length, refl, sym, ◌∙◌, ap, subst, arith, Result, Ok, Err}
+use Rattle.std.proofs.Common.{true, ◌≡◌, ◌⊎◌, inl, inr, ◌<◌, ◌≤◌, List, length, refl, sym, ap, subst, arith, Result, Ok, Err}
 use Rattle.std.specs.List.{All}
 use Rattle.alta_content.specs.Parts.{IsPart}
 use Rattle.alta_content.specs.declared.content.Content.{Content}
-use Rattle.alta_disk.specs.Disk.{DiskState}
 use Rattle.alta_images.specs.Work.{flushes}
 use Rattle.alta_joins.specs.Contents.{StandsOn}
-use Rattle.alta_merge.specs.Merging.{Merging}
 use Rattle.alta_rewrite.specs.Rewrites.{no_content}
 use Rattle.alta_root.specs.declared.root.Root.{Root}
 use Rattle.alta_store.specs.Agreement.{levels_of}

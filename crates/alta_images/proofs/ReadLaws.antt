@@ -1,11 +1,11 @@
 -- Levels that were read are read again, behind another root and with other deleted ends.
 use Rattle.std.proofs.Common.{◌≡◌, ℕ, ◌+◌, ◌<◌, Bool, true, false, List, [], ◌∷◌, ◌++◌, refl, sym, ap, subst, ◌∙◌, Result, Ok, Err, append_assoc}
-use Rattle.std.specs.Prelude.{◌&&◌, ◌||◌, nat_lt}
+use Rattle.std.specs.Prelude.{◌&&◌, nat_lt}
 use Rattle.std.specs.List.{All, list_all}
 use Rattle.std.specs.Str.{bytes_eq}
 use Rattle.std.proofs.lemmas.Bool.{lt-ltb}
 use Rattle.std.proofs.lemmas.List.{append-nil}
-use Rattle.std.proofs.lemmas.List.Elements.{All-head}
+use Rattle.std.proofs.lemmas.List.Elements.{All-head, All-nil, All-cons, All-tail}
 use Rattle.alta_codec.specs.declared.extent.Extent.{Extent}
 use Rattle.alta_content.specs.Rows.{end_of, ends_among}
 use Rattle.alta_content.specs.declared.document.DocRow.{DocRow}
@@ -13,14 +13,14 @@ use Rattle.alta_images.proofs.Existence.{level_found}
 use Rattle.alta_images.proofs.KnownLaws.{all_weaker, all_both}
 use Rattle.alta_images.proofs.OrderLaws.{first_of_levels, live_append, live_drop, live_keep, rows_more}
 use Rattle.alta_images.proofs.Steps.{not_failed, one_value}
-use Rattle.alta_images.proofs.Tests.{by_test, bytes_from}
-use Rattle.alta_images.proofs.WrittenLaws.{IsBehindAll, all_left, all_right, all_to, rise_apart}
+use Rattle.alta_images.proofs.Tests.{by_test, bytes_from, and_both, or_neither}
 use Rattle.alta_images.specs.Chain.{◌>>=◌}
 use Rattle.alta_images.specs.Known.{Named, named, is_taken}
 use Rattle.alta_images.specs.Opened.{tables_at, comes_behind, is_below, are_in_order, names_from, names_in, with_level, levels_from, rows_in, live_in}
 use Rattle.alta_images.specs.Ordered.{AreBelow, AreOrdered, IsBefore, Precedes, RowsRise}
 use Rattle.alta_root.specs.declared.root.Root.{Root}
 use Rattle.alta_table.specs.Tables.{Tables}
+use Rattle.alta_content.proofs.Elements.{all_left, all_right}
 
 -- each extent has these tables
 abbrev pub AreRead : List Extent → List Tables → List ℕ → Type 0
@@ -74,14 +74,24 @@ was_read root deleted levels (extent ∷ extents) image final e =
 
 -- ---- tests
 
-and_both : (a b : Bool) → a ≡ true → b ≡ true → (a && b) ≡ true
-and_both true true e f = refl
-and_both true false e f = f
-and_both false b e f = absurd cc
+pub all_to : {X : Type 0} (p : X → Bool) (xs : List X) → All (λ x. p x ≡ true) xs → list_all p xs ≡ true
+all_to p [] all = refl
+all_to p (x ∷ xs) all = and_both (p x) (list_all p xs) (All-head (λ x. p x ≡ true) x xs all) (all_to p xs (All-tail (λ x. p x ≡ true) x xs all))
 
-or_neither : (a b : Bool) → a ≡ false → b ≡ false → (a || b) ≡ false
-or_neither true b e f = e
-or_neither false b e f = f
+-- ---- order
+
+abbrev pub IsBehindAll : List DocRow → DocRow → Type 0
+IsBehindAll rows later = All (λ (row : DocRow). Precedes row later) rows
+
+pub rise_apart : (xs ys : List DocRow) → RowsRise (xs ++ ys) → All (IsBehindAll xs) ys
+rise_apart [] ys rise = all_nil ys
+  where
+    all_nil : (ys : List DocRow) → All (IsBehindAll []) ys
+    all_nil [] = All-nil (IsBehindAll [])
+    all_nil (y ∷ ys) = All-cons (IsBehindAll []) y ys (All-nil (λ (row : DocRow). Precedes row y)) (all_nil ys)
+rise_apart (x ∷ xs) ys rise =
+    all_weaker (λ (y : DocRow). Precedes x y × IsBehindAll xs y) (IsBehindAll (x ∷ xs)) ys (λ y both. All-cons (λ (row : DocRow). Precedes row y) x xs both.0 both.1)
+    (all_both (Precedes x) (IsBehindAll xs) ys (all_right (Precedes x) xs ys rise.0) (rise_apart xs ys rise.1))
 
 order_read : (root : Root) (levels : List Tables) (rows : List DocRow) → All (IsBehindAll (rows_in levels)) rows → AreBelow root rows → are_in_order root levels rows ≡ true
 order_read root levels rows behind below =
