@@ -99,6 +99,10 @@ QUERIES = [
     ("and", [("or", [RED, QUICK]), DOG]),
     ("and", [("title", FOX), QUICK, ("not", ("word", "lazy"))]),
 ]
+# each term of the spelled indexes but that of a document's start, by a query of its own; and with the queries above
+TERMS = [("word", word) for word in ("the", "quick", "red", "fox", "dog", "brown", "lazy", "over", "jumps", "Red", "Fox", "Over")]
+TERMS += [("name", name) for name in (*"abcdef", *(f"n{i}" for i in range(LEVELS)))]
+COUNTED = QUERIES + [term for term in TERMS if term not in QUERIES]
 
 
 def asking(chance, count):
@@ -108,8 +112,8 @@ def asking(chance, count):
 
 
 def all_counts(chance):
-    """A count of each query, in any order, and the stats before or behind them."""
-    lines = [f"count {spelled(query)}" for query in chance.sample(QUERIES, len(QUERIES))]
+    """A count of each term and of each query, in any order, and the stats before or behind them."""
+    lines = [f"count {spelled(query)}" for query in chance.sample(COUNTED, len(COUNTED))]
     return ["stats", *lines] if chance.random() < 0.5 else [*lines, "stats"]
 
 
@@ -129,7 +133,7 @@ def joining(chance):
 
 
 def counting_or_joining(chance):
-    """A count of each query, or these behind a line that may join levels, or more such lines."""
+    """A count of each term and query, or these behind a line that may join levels, or more such lines."""
     kind = chance.random()
     if kind < 0.4:
         return all_counts(chance)
@@ -169,7 +173,7 @@ class OpenedMachine(Machine):
     def __init__(self, held):
         ends, rows = set(held.ends), [(of_level, row) for of_level in held.levels for row in of_level.rows]
         live = [LevelDocument(of_level, row) for of_level, row in rows if row.last not in ends]
-        super().__init__(QUERIES, live, held.root.next_number)
+        super().__init__(COUNTED, live, held.root.next_number)
         self.held = held
         for entry in held.entries:
             self.enter(entry)
