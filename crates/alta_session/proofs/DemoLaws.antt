@@ -9,20 +9,20 @@ use Rattle.alta_console.specs.declared.event.Event.{Event}
 use Rattle.alta_console.proofs.GivingLaws.{gives_none}
 use Rattle.alta_disk.specs.Disk.{DiskState, IsLawful}
 use Rattle.alta_disk.proofs.Moments.{stands_only}
-use Rattle.alta_images.specs.Holding.{Holding, IsHeld}
-use Rattle.alta_images.specs.Standing.{StandsFor, view_of}
+use Rattle.alta_images.specs.Holding.{Holding}
+use Rattle.alta_images.specs.Standing.{StandsFor}
 use Rattle.alta_images.specs.States.{empty}
-use Rattle.alta_root.specs.Root.{no_extent}
+use Rattle.alta_images.specs.Switching.{empty_held}
 use Rattle.alta_root.specs.Slots.{HasNoRoot}
 use Rattle.alta_session.specs.Agreement.{AgreesOn}
-use Rattle.alta_session.specs.Demo.{Obeyed, StopsObeying, ReportsFrom, IsFresh, EndsDemo, Demonstrates}
+use Rattle.alta_session.specs.Demo.{Obeyed, StopsObeying, ReportsFrom, EndsDemo, Demonstrates}
 use Rattle.alta_session.specs.Fed.{Fed, FedFrom}
 use Rattle.alta_session.specs.Fullness.{IsFullOnly, IsInterrupted, IsFull}
 use Rattle.alta_session.specs.Machine.{Machine, started_at, after, replies}
 use Rattle.alta_session.specs.Progress.{StopsWithin, StopsWithinFrom}
 use Rattle.alta_session.specs.Run.{KeepsDisk}
 use Rattle.alta_session.specs.Status.{EndsInit, EndsLine, StopsLine, IsOpened, IsUnmade, Completes, status_for}
-use Rattle.alta_session.specs.Tasks.{IsBy, IsFirst, IsWorked, worked_lines}
+use Rattle.alta_session.specs.Tasks.{IsBy, IsWorked, worked_lines}
 use Rattle.alta_session.specs.declared.session.Session.{Session}
 use Rattle.alta_session.specs.declared.status.Status.{Status}
 use Rattle.alta_session.specs.declared.status.Status.TheVariants.{Done, Usage, DiskFault, TakeFault, GiveFault, Damaged, Full, Exists}
@@ -31,26 +31,11 @@ use Rattle.alta_session.proofs.MachineLaws.{after_append, replies_append, length
 use Rattle.alta_session.proofs.ProgressLaws.{progress_begins}
 use Rattle.alta_session.proofs.StatusLaws.{ends_not_done, ends_whole, running_rooted, init_opened, init_never}
 use Rattle.alta_session.proofs.TaskLaws.{lines_on, worked_on_image}
-use Rattle.alta_store.proofs.Agreements.{opened_of}
 use Rattle.alta_store.specs.Answers.{IsOutside}
 use Rattle.alta_store.specs.declared.fault.StoreFault.{StoreFault}
 use Rattle.alta_store.specs.declared.fault.StoreFault.TheVariants.{NoRoot as StoreNoRoot, Damaged as StoreDamaged}
 
 -- ---- what is held of an index without documents
-
-pub fresh_held : (image : List ℕ) → StandsFor empty image → (held : Holding) × IsFresh held × IsFirst image held
-fresh_held image stands = (
-  record { view = view_of stands.opened stands.means.levels; list = stands.opened.root.deletions; job = None },
-  record { state_is = stands.means.state_is; jobless = refl },
-  record { is = record { opened = stands.opened; is = opened_of empty image stands; are = stands.means.are; view_is = refl; list_is = refl }; none = refl },
-)
-
-fresh : Holding
-fresh = record { view = record { next = 1; location = 1; levels = []; deleted = []; entries = [] }; list = no_extent; job = None }
-
-fresh_is : IsFresh fresh
-unfolding fresh
-fresh_is = record { state_is = refl; jobless = refl }
 
 -- ---- lines, and then others whose replies are given
 
@@ -170,9 +155,9 @@ line_not_exists status (inr (place, is)) other = cc
 
 -- no index was made
 init_reports : (tells : Type 0) (lines asked : List (List ℕ)) (d e : DiskState) (status : Status) → EndsInit status → status ≢ Done → (status ≡ Exists → HasNoRoot d.content → ⊥) → ((need gap : ℕ) → status ≡ Full need gap → d.limit < 2105344)
-    → HasNoRoot d.content → 2105344 ≤ d.limit → (held : Holding) × IsFresh held × ReportsFrom d.limit held (started_at empty) lines asked [] e status
+    → HasNoRoot d.content → 2105344 ≤ d.limit → ReportsFrom d.limit empty_held (started_at empty) lines asked [] e status
 init_reports tells lines asked d e status (inl done) not_done exists small none big = absurd (not_done done)
-init_reports tells lines asked d e status (inr (inl fault)) not_done exists small none big = (fresh, fresh_is, reports_none d.limit fresh (started_at empty) lines asked e status (inr (inl fault)))
+init_reports tells lines asked d e status (inr (inl fault)) not_done exists small none big = reports_none d.limit empty_held (started_at empty) lines asked e status (inr (inl fault))
 init_reports tells lines asked d e status (inr (inr (inl there))) not_done exists small none big = absurd (exists there none)
 init_reports tells lines asked d e status (inr (inr (inr (need, gap, is)))) not_done exists small none big = absurd (omega (arith, small need gap is, big))
 
@@ -212,13 +197,13 @@ is_made tells d status done found small = record {
 
 -- it was made
 pub demo_made : (tells : Type 0) (lines asked : List (List ℕ)) (told told_now : Option (List Event)) (d e : DiskState) (given : List ℕ) (status : Status) → IsLawful tells e → IsMade tells d → EndsDemo status → status ≢ Exists → Gives told told_now given
-    → (tells → (held : Holding) × IsFresh held × ReportsFrom d.limit held (started_at empty) lines asked given e status) → ((need gap : ℕ) → tells → status ≡ Full need gap → IsFull e need gap) → Demonstrates tells lines asked told told_now d e status
+    → (tells → ReportsFrom d.limit empty_held (started_at empty) lines asked given e status) → ((need gap : ℕ) → tells → status ≡ Full need gap → IsFull e need gap) → Demonstrates tells lines asked told told_now d e status
 demo_made tells lines asked told told_now d e given status lawful made ends never gave reports narrow = record {
   ends = ends;
   given = given;
   gave = gave;
-  begins = λ tell. (reports tell).2.begins;
-  opened = λ tell. (reports tell).2.opened;
+  begins = λ tell. (reports tell).begins;
+  opened = λ tell. (reports tell).opened;
   exists = λ tell is none. never is;
   found = λ tell rooted. absurd (made.rootless tell rooted);
   small = λ less. absurd (made.large less);
@@ -226,21 +211,21 @@ demo_made tells lines asked told told_now d e given status lawful made ends neve
   reports = λ tell none big. reports tell;
   narrow = λ need gap tell big is. narrow need gap tell is;
   stands = λ done.
-      stands_only tells e (StandsFor (after (started_at empty) (lines ++ asked)).state) lawful (λ c here. ((reports (lawful.told c here)).2.levels done).1 c here) (λ tell. (reports tell).2.stands done);
+      stands_only tells e (StandsFor (after (started_at empty) (lines ++ asked)).state) lawful (λ c here. ((reports (lawful.told c here)).2.levels done).1 c here) (λ tell. (reports tell).stands done);
 }
 
 -- the index was not opened
 pub demo_unopened : (tells : Type 0) (lines asked : List (List ℕ)) (told : Option (List Event)) (d e : DiskState) (status : Status) → IsLawful tells e → IsMade tells d → EndsDemo status → status ≢ Exists → (tells → IsInterrupted status) → ((need gap : ℕ) → status ≡ Full need gap → ⊥)
     → Demonstrates tells lines asked told told d e status
 demo_unopened tells lines asked told d e status lawful made ends never stopped not_full =
-    demo_made tells lines asked told told d e [] status lawful made ends never (gives_none told) (λ tell. (fresh, fresh_is, reports_none d.limit fresh (started_at empty) lines asked e status (stopped tell)))
+    demo_made tells lines asked told told d e [] status lawful made ends never (gives_none told) (λ tell. reports_none d.limit empty_held (started_at empty) lines asked e status (stopped tell))
     (λ need gap tell is. absurd (not_full need gap is))
 
 -- What opening an index without documents says.
 pub record IsNew (tells : Type 0) (d e : DiskState) (session : Session) : Type 0 where
   pub stands : tells → StandsFor empty e.content
   pub agrees : tells → AgreesOn tells e session (started_at empty)
-  pub first : tells → (held : Holding) → IsFirst e.content held → IsBy session e.content held
+  pub held : tells → IsBy session e.content empty_held
   pub same_limit : e.limit ≡ d.limit
 
 pub demo_early : (tells : Type 0) (lines asked : List (List ℕ)) (told : Option (List Event)) (d e f : DiskState) (session : Session) (status : Status) → IsLawful tells f → IsMade tells d → IsNew tells d e session → StopsObeying tells e f session lines status → EndsLine status
@@ -248,12 +233,8 @@ pub demo_early : (tells : Type 0) (lines asked : List (List ℕ)) (told : Option
 demo_early tells lines asked told d e f session status lawful made new stops ends narrow =
     demo_made tells lines asked told told d f [] status lawful made (inr (inl ends)) (line_not_exists status ends) (gives_none told)
     (λ tell.
-    let held = fresh_held e.content (new.stands tell) in (
-      held.0,
-      held.1,
-      subst (λ (limit : ℕ). ReportsFrom limit held.0 (started_at empty) lines asked [] f status) new.same_limit
-          (reports_early e f session held.0 (started_at empty) lines asked stops.given status (new.first tell held.0 held.2) (stops.each (started_at empty) tell (new.agrees tell)) ends),
-    ))
+    subst (λ (limit : ℕ). ReportsFrom limit empty_held (started_at empty) lines asked [] f status) new.same_limit
+    (reports_early e f session empty_held (started_at empty) lines asked stops.given status (new.held tell) (stops.each (started_at empty) tell (new.agrees tell)) ends))
     narrow
 
 pub demo_late : (tells : Type 0) (lines asked : List (List ℕ)) (told told_now : Option (List Event)) (d e f h : DiskState) (s0 s1 : Session) (status : Status) → IsLawful tells h → IsMade tells d → IsNew tells d e s0 → Obeyed tells e f s0 s1 lines → StopsWithin tells told told_now f h s1 asked status
@@ -261,13 +242,9 @@ pub demo_late : (tells : Type 0) (lines asked : List (List ℕ)) (told told_now 
 demo_late tells lines asked told told_now d e f h s0 s1 status lawful made new obeyed stops ends narrow =
     demo_made tells lines asked told told_now d h stops.given status lawful made (inr (inl ends)) (line_not_exists status ends) stops.gave
     (λ tell.
-    let held = fresh_held e.content (new.stands tell) in
-    let fed : FedFrom tells e f s0 s1 lines obeyed.given (started_at empty) = obeyed.each (started_at empty) tell (new.agrees tell) in (
-      held.0,
-      held.1,
-      subst (λ (limit : ℕ). ReportsFrom limit held.0 (started_at empty) lines asked stops.given h status) new.same_limit
-          (reports_late tells e f h s0 s1 held.0 (started_at empty) lines asked obeyed.given stops.given status (new.first tell held.0 held.2) fed obeyed.same_limit (stops.each (after (started_at empty) lines) tell fed.agrees) ends),
-    ))
+    let fed : FedFrom tells e f s0 s1 lines obeyed.given (started_at empty) = obeyed.each (started_at empty) tell (new.agrees tell) in
+    subst (λ (limit : ℕ). ReportsFrom limit empty_held (started_at empty) lines asked stops.given h status) new.same_limit
+    (reports_late tells e f h s0 s1 empty_held (started_at empty) lines asked obeyed.given stops.given status (new.held tell) fed obeyed.same_limit (stops.each (after (started_at empty) lines) tell fed.agrees) ends))
     narrow
 
 pub demo_done : (tells : Type 0) (lines asked : List (List ℕ)) (told told_now : Option (List Event)) (d e f h : DiskState) (s0 s1 s2 : Session) → IsLawful tells h → IsMade tells d → IsNew tells d e s0 → Obeyed tells e f s0 s1 lines → Fed tells told told_now f h s1 s2 asked
@@ -275,13 +252,9 @@ pub demo_done : (tells : Type 0) (lines asked : List (List ℕ)) (told told_now 
 demo_done tells lines asked told told_now d e f h s0 s1 s2 lawful made new obeyed later =
     demo_made tells lines asked told told_now d h later.given Done lawful made (inl (inl refl)) (λ is. cc) later.gave
     (λ tell.
-    let held = fresh_held e.content (new.stands tell) in
-    let fed : FedFrom tells e f s0 s1 lines obeyed.given (started_at empty) = obeyed.each (started_at empty) tell (new.agrees tell) in (
-      held.0,
-      held.1,
-      subst (λ (limit : ℕ). ReportsFrom limit held.0 (started_at empty) lines asked later.given h Done) new.same_limit
-          (reports_all tells e f h s0 s1 s2 held.0 (started_at empty) lines asked obeyed.given later.given tell (new.first tell held.0 held.2) fed obeyed.same_limit (later.each (after (started_at empty) lines) tell fed.agrees)),
-    ))
+    let fed : FedFrom tells e f s0 s1 lines obeyed.given (started_at empty) = obeyed.each (started_at empty) tell (new.agrees tell) in
+    subst (λ (limit : ℕ). ReportsFrom limit empty_held (started_at empty) lines asked later.given h Done) new.same_limit
+    (reports_all tells e f h s0 s1 s2 empty_held (started_at empty) lines asked obeyed.given later.given tell (new.held tell) fed obeyed.same_limit (later.each (after (started_at empty) lines) tell fed.agrees)))
     (λ need gap tell is. absurd cc)
 
 -- ---- statuses

@@ -57,13 +57,14 @@ keeps_none limit s c stands = record {
 }
 
 -- It was opened as far as its sync, and then it ended: from then on each image is the content of the start.
-since_sync : (tells : Type 0) (limit : ℕ) (d e : DiskState) (s : State) → IsLawful tells d → IsLawful tells e → Passes Same d e → e.content ≡ d.content → Only e.content e.images → StandsFor s d.content → KeepsSince limit (started_at s) [] d e
-since_sync tells limit d e s lawful lawful_now passes same only stands =
+since_sync : (tells : Type 0) (limit : ℕ) (d e : DiskState) (s : State) → IsLawful tells d → IsLawful tells e → Passes Same d e → tells → e.content ≡ d.content → Only e.content e.images → StandsFor s d.content → KeepsSince limit (started_at s) [] d e
+since_sync tells limit d e s lawful lawful_now passes tell same only stands =
     let here : (c : List ℕ) → e.images c → StandsFor s c = λ c left. subst (StandsFor s) (sym (only c left ∙ same)) stands in
     record {
       moment = e.clock;
       not_before = passes.later;
       not_after = omega arith;
+      still = subst (λ (c : List ℕ). e.since e.clock c) same (lawful_now.counts_now e.clock e.content (omega arith) (lawful_now.present tell));
       now = λ c left. keeps_none limit s c (here c left);
       since = λ c left. some_none (started_at s) [] c (here c (lawful_now.only_now c left));
       ever = λ c left. inl (older tells d e c lawful passes left);
@@ -86,7 +87,7 @@ serves_none tells limit told left d e status lawful lawful_now passes same settl
     now = λ c here. keeps_none limit s c (same_stands (StandsFor s) d e passes stands.images c here);
     ever = opens_only tells d e (StandsAfterSome (started_at s) []) lawful passes (λ c here. some_none (started_at s) [] c (stands.images c here));
   };
-  reopened = λ s tell stands. ⊎_elim (λ failed. inl (record { failed = failed; none = refl; same = passes })) (λ only. inr (since_sync tells limit d e s lawful lawful_now passes (same tell) only stands)) settled;
+  reopened = λ s tell stands. ⊎_elim (λ failed. inl (record { failed = failed; none = refl; same = passes })) (λ only. inr (since_sync tells limit d e s lawful lawful_now passes tell (same tell) only stands)) settled;
   reads = λ s tell stands all. omega (arith, read tell stands.opened.slot stands.opened.root stands.counts);
 }
 
@@ -155,6 +156,7 @@ serves_opened tells limit told told_now left left_now d m e session status lawfu
         moment = m.clock;
         not_before = passes.later;
         not_after = one.ever.later;
+        still = one.ever.keeps m.clock d.content (omega arith) (subst (λ (c : List ℕ). m.since m.clock c) (same tell) (lawful_now.counts_now m.clock m.content (omega arith) (lawful_now.present tell)));
         now = one.now;
         since = one.ever.each;
         ever = λ c here. ⊎_elim (λ old. inl (older tells d m c lawful passes old)) (λ some. inr some) (one.ever.between d.clock c passes.later here);

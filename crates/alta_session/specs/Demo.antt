@@ -8,7 +8,7 @@ use Rattle.alta_disk.specs.Disk.{DiskState, Stands}
 use Rattle.alta_images.specs.Holding.{Holding}
 use Rattle.alta_images.specs.Standing.{StandsFor}
 use Rattle.alta_images.specs.States.{empty}
-use Rattle.alta_images.specs.Views.{state_of}
+use Rattle.alta_images.specs.Switching.{empty_held}
 use Rattle.alta_root.specs.Slots.{HasNoRoot}
 use Rattle.alta_session.specs.Fed.{Fed}
 use Rattle.alta_session.specs.Fullness.{Overflows, IsInterrupted, IsFull}
@@ -59,11 +59,6 @@ pub record ReportsFrom (limit : ℕ) (held : Holding) (start : Machine) (lines a
 
 -- ---- all of it
 
--- It is held of an index without documents, and no job goes on.
-pub record IsFresh (held : Holding) : Type 0 where
-  pub state_is : state_of held.view ≡ empty
-  pub jobless : held.job ≡ None
-
 -- a status with which a demo may end
 abbrev pub EndsDemo : Status → Type 0
 EndsDemo status = EndsInit status ⊎ (EndsLine status ⊎ (status ≡ NoRoot))
@@ -82,8 +77,8 @@ pub record Demonstrates (tells : Type 0) (lines asked : List (List ℕ)) (told t
   pub found : tells → (HasNoRoot disk.content → ⊥) → (status ≡ Exists) ⊎ (status ≡ DiskFault)
   pub small : disk.limit < 2105344 → (status ≡ Exists) ⊎ ((status ≡ Full 2105344 disk.limit) ⊎ (status ≡ DiskFault))
   pub unmade : (status ≡ Exists) ⊎ ((disk.limit < 2105344) × IsUnmade status) → KeepsDisk tells disk disk_now × (given ≡ [])
-  -- where there is none, and the disk may have one
+  -- where there is none, and the disk may have one: from what a new index holds on
   pub reports : tells → HasNoRoot disk.content → 2105344 ≤ disk.limit
-      → (held : Holding) × IsFresh held × ReportsFrom disk.limit held (started_at empty) lines asked given disk_now status
+      → ReportsFrom disk.limit empty_held (started_at empty) lines asked given disk_now status
   pub narrow : (need gap : ℕ) → tells → 2105344 ≤ disk.limit → status ≡ Full need gap → IsFull disk_now need gap
   pub stands : status ≡ Done → Stands tells disk_now (StandsFor (after (started_at empty) (lines ++ asked)).state)

@@ -83,12 +83,13 @@ pub record NotOpened (disk disk_now : DiskState) (run : List Event) (status : St
   pub none : run ≡ []
   pub same : Passes Same disk disk_now
 
--- It was opened at this moment, and from then on no image stood for another state than that after some of the lines.
--- Before, each was one of the start.
+-- From this moment on no image stood for another state than that after some of the lines. The content of the start still was an image
+-- then, so it is no later than the first change. Before, each was one of the start.
 pub record KeepsSince (limit : ℕ) (start : Machine) (run : List Event) (disk disk_now : DiskState) : Type 0 where
   pub moment : ℕ
   pub not_before : disk.clock ≤ moment
   pub not_after : moment ≤ disk_now.clock
+  pub still : disk_now.since moment disk.content
   pub now : Each disk_now.images (KeepsAnswered limit start run)
   pub since : Each (disk_now.since moment) (StandsAfterSome start (lines_in limit run))
   pub ever : (image : List ℕ) → disk_now.since disk.clock image → disk.images image ⊎ StandsAfterSome start (lines_in limit run) image

@@ -10,8 +10,10 @@ ghost use Rattle.alta_session.specs.Loading.{HasBrokenList};
 ghost use Rattle.alta_session.specs.Status.{IsOpened, IsUnmade, Completes, Yields, EndsInit};
 ghost use Rattle.alta_root.specs.Slots.{HasNoRoot};
 ghost use Rattle.alta_images.specs.Broken.{IsBrokenAt};
+ghost use Rattle.alta_images.specs.Holding.{IsHeld};
 ghost use Rattle.alta_images.specs.Standing.{StandsFor};
 ghost use Rattle.alta_images.specs.States.{empty};
+ghost use Rattle.alta_images.specs.Switching.{empty_held};
 ghost use Rattle.alta_store.specs.Calls.{IsNarrow};
 
 use crate::demo::{demo, demo_size};
@@ -105,6 +107,7 @@ fn is_word(words: &[Text], word: &str) -> bool
 pub(crate) fn init<D: Disk>(disk: &mut D) -> Status
     ensures ends { EndsInit result }
     ensures made { result ≡ Status.Done → Stands D.tells (D.state disk.new) (StandsFor empty) }
+    ensures holds { result ≡ Status.Done → Stands D.tells (D.state disk.new) (IsHeld empty_held) }
     ensures exists { D.tells → result ≡ Status.Exists → ¬ (HasNoRoot (D.state disk.old).content) }
     ensures found { D.tells → ¬ (HasNoRoot (D.state disk.old).content) → (result ≡ Status.Exists) ⊎ (result ≡ Status.DiskFault) }
     ensures too_small { (need gap : ℕ) → result ≡ Status.Full need gap → (need ≡ 2105344) × (gap ≡ (D.state disk.old).limit) × ((D.state disk.old).limit < 2105344) }

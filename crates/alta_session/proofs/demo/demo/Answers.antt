@@ -1,4 +1,5 @@
 use Rattle.std.proofs.Common.{refl, ap, sym, subst, ◌∙◌, Err}
+use Rattle.alta_images.specs.Switching.{empty_held}
 use Rattle.alta_images.specs.Standing.{StandsFor}
 use Rattle.alta_images.specs.States.{empty}
 use Rattle.alta_make.specs.Script.{script, report}
@@ -37,7 +38,8 @@ returns-in-Err-obey_script-clause-demo g c =
     let new : IsNew g.D.Disk.tells (g.D.Disk.state c.args.disk.now) (g.D.Disk.state c.start.new.disk) c.in-Ok.session = record {
       stands = λ tell. subst (StandsFor empty) (sym (c.start.ensures.content tell)) ((c.init.ensures.made c.in-Done.is).content tell);
       agrees = λ tell. c.in-Ok.ensures.agrees empty (λ t. (c.init.ensures.made c.in-Done.is).content t);
-      first = λ tell held here. opened_by g.D.Disk.tells (g.D.Disk.state c.start.new.disk) (g.D.Disk.state c.start.new.disk) c.in-Ok.session held (g.met.D.Disk.lawful c.start.new.disk) tell c.in-Ok.ensures.job refl here;
+      held = λ tell. opened_by g.D.Disk.tells (g.D.Disk.state c.init.new.disk) (g.D.Disk.state c.start.new.disk) c.in-Ok.session empty_held (g.met.D.Disk.lawful c.start.new.disk) tell c.in-Ok.ensures.job (c.start.ensures.content tell)
+          (record { is = (c.init.ensures.holds c.in-Done.is).content tell; none = refl });
       same_limit = c.start.ensures.same_limit ∙ c.init.ensures.same_limit;
     } in
     demo_early g.D.Disk.tells (script c.args.n) report (g.C.Console.told c.args.console.now) (g.D.Disk.state c.args.disk.now) (g.D.Disk.state c.start.new.disk) (g.D.Disk.state c.obey_script.new.disk) c.in-Ok.session c.in-Err-obey_script.status (g.met.D.Disk.lawful c.obey_script.new.disk)
@@ -50,7 +52,8 @@ returns-in-Ok-report-clause-demo g c =
     let new : IsNew g.D.Disk.tells (g.D.Disk.state c.args.disk.now) (g.D.Disk.state c.start.new.disk) c.in-Ok.session = record {
       stands = λ tell. subst (StandsFor empty) (sym (c.start.ensures.content tell)) ((c.init.ensures.made c.in-Done.is).content tell);
       agrees = λ tell. c.in-Ok.ensures.agrees empty (λ t. (c.init.ensures.made c.in-Done.is).content t);
-      first = λ tell held here. opened_by g.D.Disk.tells (g.D.Disk.state c.start.new.disk) (g.D.Disk.state c.start.new.disk) c.in-Ok.session held (g.met.D.Disk.lawful c.start.new.disk) tell c.in-Ok.ensures.job refl here;
+      held = λ tell. opened_by g.D.Disk.tells (g.D.Disk.state c.init.new.disk) (g.D.Disk.state c.start.new.disk) c.in-Ok.session empty_held (g.met.D.Disk.lawful c.start.new.disk) tell c.in-Ok.ensures.job (c.start.ensures.content tell)
+          (record { is = (c.init.ensures.holds c.in-Done.is).content tell; none = refl });
       same_limit = c.start.ensures.same_limit ∙ c.init.ensures.same_limit;
     } in
     demo_done g.D.Disk.tells (script c.args.n) report (g.C.Console.told c.args.console.now) (g.C.Console.told c.report.new.console) (g.D.Disk.state c.args.disk.now) (g.D.Disk.state c.start.new.disk) (g.D.Disk.state c.obey_script.new.disk) (g.D.Disk.state c.report.new.disk)
@@ -63,7 +66,8 @@ returns-clause-demo g c =
     let new : IsNew g.D.Disk.tells (g.D.Disk.state c.args.disk.now) (g.D.Disk.state c.start.new.disk) c.in-Ok.session = record {
       stands = λ tell. subst (StandsFor empty) (sym (c.start.ensures.content tell)) ((c.init.ensures.made c.in-Done.is).content tell);
       agrees = λ tell. c.in-Ok.ensures.agrees empty (λ t. (c.init.ensures.made c.in-Done.is).content t);
-      first = λ tell held here. opened_by g.D.Disk.tells (g.D.Disk.state c.start.new.disk) (g.D.Disk.state c.start.new.disk) c.in-Ok.session held (g.met.D.Disk.lawful c.start.new.disk) tell c.in-Ok.ensures.job refl here;
+      held = λ tell. opened_by g.D.Disk.tells (g.D.Disk.state c.init.new.disk) (g.D.Disk.state c.start.new.disk) c.in-Ok.session empty_held (g.met.D.Disk.lawful c.start.new.disk) tell c.in-Ok.ensures.job (c.start.ensures.content tell)
+          (record { is = (c.init.ensures.holds c.in-Done.is).content tell; none = refl });
       same_limit = c.start.ensures.same_limit ∙ c.init.ensures.same_limit;
     } in
     demo_late g.D.Disk.tells (script c.args.n) report (g.C.Console.told c.args.console.now) (g.C.Console.told c.report.new.console) (g.D.Disk.state c.args.disk.now) (g.D.Disk.state c.start.new.disk) (g.D.Disk.state c.obey_script.new.disk) (g.D.Disk.state c.report.new.disk)
