@@ -17,6 +17,3 @@ pub use serving::serve;
 pub use session::Session;
 pub use status::{Status, status_line};
 pub use top::alta;
-
-#[cfg(test)]
-mod tests;

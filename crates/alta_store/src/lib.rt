@@ -6,8 +6,6 @@ mod formatting;
 mod laws;
 mod opening;
 mod store;
-#[cfg(test)]
-mod tests;
 
 pub use alta_catalog::{NameRow, Names};
 pub use fault::StoreFault;

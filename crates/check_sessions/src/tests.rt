@@ -2,7 +2,7 @@
 ghost use Rattle.std.specs.Prelude.{◌≡◌, ◌≤◌};
 ghost use Rattle.alta_disk.specs.Memory.{memory_state};
 
-use crate::*;
+use alta_session::{Status, alta, serve, status_line};
 use alta_codec::Text;
 use alta_console::MemoryConsole;
 use alta_disk::{Disk, FuseDisk, MemoryDisk};

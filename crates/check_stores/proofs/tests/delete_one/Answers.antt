@@ -2,7 +2,7 @@ use Rattle.std.proofs.Common.{arith, ap, sym, subst, ◌∙◌, Err}
 use Rattle.alta_disk.specs.Disk.{DiskState}
 use Rattle.alta_store.specs.Agreement.{CanAdd}
 use Rattle.alta_store.specs.declared.store.Store.{Store}
-use Rattle.alta_store.proofs.tests.delete_one.Goals as goal
+use Rattle.check_stores.proofs.tests.delete_one.Goals as goal
 
 pub returns-in-Ok : goal.returns-in-Ok
 returns-in-Ok g c =

@@ -1,0 +1,5 @@
+//! Stores over a disk in memory: opened, damaged, added to and stopped. It holds no product, only tests.
+#![tactic(auto)]
+
+#[cfg(test)]
+mod tests;
