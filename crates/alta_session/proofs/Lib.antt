@@ -14,6 +14,7 @@ pub mod KeepingLaws
 pub mod LoadingLaws
 pub mod MachineLaws
 pub mod ObeyingLaws
+pub mod OpeningLaws
 pub mod ProgressLaws
 pub mod QueryingLaws
 pub mod RunLaws

@@ -1,23 +1,18 @@
 // A session: a line changes the state, and has a reply.
-ghost use Rattle.std.specs.Prelude.{◌≡◌, ◌⊎◌, ◌+◌, ◌≤◌, ◌++◌, ℕ, codes, decimal, Result, Err, None, Some, IfOk, IfErr, OnErr, IsTrue, ◌↔◌};
-ghost use Rattle.alta_codec.specs.Faults.{Rose};
+ghost use Rattle.std.specs.Prelude.{◌≡◌, ◌⊎◌, ◌+◌, ◌++◌, codes, decimal, Result, Err, None, Some, IfOk, IfErr, OnErr, IsTrue, ◌↔◌};
 ghost use Rattle.alta_codec.specs.Name.{IsName};
 ghost use Rattle.alta_console.specs.Lines.{NoNewline};
-ghost use Rattle.alta_disk.specs.Disk.{DiskState, Only, Same, Passes};
+ghost use Rattle.alta_disk.specs.Disk.{DiskState, Only};
 ghost use Rattle.alta_meta.specs.declared.document.State.{State};
 ghost use Rattle.alta_session.specs.Agreement.{AgreesOn, IsSound};
 ghost use Rattle.alta_session.specs.Answering.{Answers, CanAnswer, IsReply};
 ghost use Rattle.alta_session.specs.Asking.{Asks};
 ghost use Rattle.alta_session.specs.Loading.{Loads, session_loads};
 ghost use Rattle.alta_session.specs.Machine.{Machine, started_at, step, changed_by, adding, deleting, Looks, Searches};
-ghost use Rattle.alta_session.specs.Spending.{OnlyReads, opening_bytes};
+ghost use Rattle.alta_session.specs.Spending.{OnlyReads};
 ghost use Rattle.alta_session.specs.Tasks.{task_of, task_of_add, task_of_delete};
 ghost use Rattle.alta_store.specs.Agreement.{Keeps};
-ghost use Rattle.alta_store.specs.Answers.{IsOutside, AnswersFault};
-ghost use Rattle.alta_root.specs.Slots.{Counts, HasNoRoot};
-ghost use Rattle.alta_root.specs.declared.root.Root.{Root};
-ghost use Rattle.alta_root.specs.declared.slot.Slot.{Slot};
-ghost use Rattle.alta_images.specs.Broken.{IsBrokenAt};
+ghost use Rattle.alta_store.specs.Opening.{Opens};
 ghost use Rattle.alta_images.specs.Opened.{Opened, IsOpened};
 ghost use Rattle.alta_images.specs.Standing.{StandsFor};
 ghost use Rattle.alta_images.specs.States.{IsDocument};
@@ -53,22 +48,8 @@ impl Session {
         ensures can { IfOk result (λ session. CanAnswer D.tells (D.state disk.new) session) }
         ensures job { IfOk result (λ session. session.store.job ≡ None) }
         ensures keeps { (o : Opened) → D.tells → IsOpened o (D.state disk.old).content → IfOk result (λ session. Keeps session.store o) }
-
-        ensures opened { (o : Opened) → D.tells → IsOpened o (D.state disk.old).content → IfErr result IsOutside }
-        ensures no_root { D.tells → result ≡ Err StoreFault.NoRoot → HasNoRoot (D.state disk.old).content }
-        ensures rooted { D.tells → HasNoRoot (D.state disk.old).content → AnswersFault result StoreFault.NoRoot }
-        ensures damaged { (place : ℕ) → D.tells → result ≡ Err (StoreFault.Damaged place) → IsBrokenAt (D.state disk.old).content place }
-        ensures undamaged { (place : ℕ) → D.tells → IsBrokenAt (D.state disk.old).content place → AnswersFault result (StoreFault.Damaged place) }
-        ensures only { IfErr result (λ e. IsOutside e ⊎ ((e ≡ StoreFault.NoRoot) ⊎ ((place : ℕ) × (e ≡ StoreFault.Damaged place)))) }
-
+        ensures opens { Opens D.tells (D.state disk.old) (D.state disk.new) result }
         ensures settled { IfErr result (λ e. (e ≡ StoreFault.Disk) ⊎ Only (D.state disk.new).content (D.state disk.new).images) }
-        ensures content { D.tells → (D.state disk.new).content ≡ (D.state disk.old).content }
-        ensures images { Passes Same (D.state disk.old) (D.state disk.new) }
-        ensures read { D.tells → (slot : Slot) → (root : Root) → Counts slot root (D.state disk.old).content
-            → (D.state disk.new).taken ≤ (D.state disk.old).taken + opening_bytes root (D.state disk.old).content }
-        ensures cause { result ≡ Err StoreFault.Disk → Rose (D.state disk.old).faults (D.state disk.new).faults }
-        ensures faults { (D.state disk.old).faults ≤ (D.state disk.new).faults }
-        ensures same_limit { (D.state disk.new).limit ≡ (D.state disk.old).limit }
     {
         match Store::open(alloc, disk) {
             Ok(store) => Ok(Session {

@@ -163,26 +163,10 @@ impl Store {
         ensures agrees { IfOk result (λ store. Agrees D.tells (D.state disk.new) store) }
         ensures sound { IfOk result (λ store. is_sound store ≡ true) }
         ensures job { IfOk result (λ store. store.job ≡ None) }
-        ensures limit { OnOk result (HEAD_BYTES ≤ (D.state disk.new).limit) }
-
         ensures opens { Opens D.tells (D.state disk.old) (D.state disk.new) result }
-        ensures opened { (o : Opened) → D.tells → IsOpened o (D.state disk.old).content → IfErr result IsOutside }
-        ensures no_root { D.tells → result ≡ Err NoRoot → HasNoRoot (D.state disk.old).content }
-        ensures rooted { D.tells → HasNoRoot (D.state disk.old).content → AnswersFault result NoRoot }
-        ensures damaged { (place : ℕ) → D.tells → result ≡ Err (Damaged place) → IsBrokenAt (D.state disk.old).content place }
-        ensures undamaged { (place : ℕ) → D.tells → IsBrokenAt (D.state disk.old).content place → AnswersFault result (Damaged place) }
-        ensures only { IfErr result (λ e. IsOutside e ⊎ ((e ≡ NoRoot) ⊎ ((place : ℕ) × (e ≡ Damaged place)))) }
-
         ensures durable { OnOk result (Only (D.state disk.new).content (D.state disk.new).images) }
         ensures settled { IfErr result (λ e. (e ≡ DiskFault) ⊎ Only (D.state disk.new).content (D.state disk.new).images) }
         ensures keeps { (opened : Opened) → D.tells → IsOpened opened (D.state disk.old).content → IfOk result (λ store. Keeps store opened) }
-        ensures content { D.tells → (D.state disk.new).content ≡ (D.state disk.old).content }
-        ensures images { Passes Same (D.state disk.old) (D.state disk.new) }
-        ensures cause { result ≡ Err DiskFault → Rose (D.state disk.old).faults (D.state disk.new).faults }
-        ensures faults { (D.state disk.old).faults ≤ (D.state disk.new).faults }
-        ensures read { D.tells → (slot : Slot) → (root : Root) → Counts slot root (D.state disk.old).content
-            → (D.state disk.new).taken ≤ (D.state disk.old).taken + (592 + named_bytes root (D.state disk.old).content + HALF_BYTES) }
-        ensures same_limit { (D.state disk.new).limit ≡ (D.state disk.old).limit }
     {
         let Ok(()) = disk.sync() else {
             return Err(StoreFault::Disk);

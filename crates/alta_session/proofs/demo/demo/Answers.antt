@@ -25,22 +25,22 @@ pub returns-in-Err-clause-demo : goal.returns-in-Err-clause-demo
 returns-in-Err-clause-demo g c =
     let made : IsMade g.D.Disk.tells (g.D.Disk.state c.args.disk.now) = is_made g.D.Disk.tells (g.D.Disk.state c.args.disk.now) c.init.result c.in-Done.is c.init.ensures.found c.init.ensures.small in
     demo_unopened g.D.Disk.tells (script c.args.n) report (g.C.Console.told c.args.console.now) (g.D.Disk.state c.args.disk.now) (g.D.Disk.state c.start.new.disk) c.status_of.result (g.met.D.Disk.lawful c.start.new.disk) made
-    (start_ends c.status_of.result c.in-Err.fault c.status_of.ensures c.in-Err.ensures.only) (status_not c.status_of.result c.in-Err.fault c.status_of.ensures Exists tt)
+    (start_ends c.status_of.result c.in-Err.fault c.status_of.ensures c.in-Err.ensures.opens.only) (status_not c.status_of.result c.in-Err.fault c.status_of.ensures Exists tt)
     (λ tell.
     let stands : StandsFor empty (g.D.Disk.state c.init.new.disk).content = (c.init.ensures.made c.in-Done.is).content tell in
-    start_interrupted c.status_of.result c.in-Err.fault c.status_of.ensures (c.in-Err.ensures.opened stands.opened tell (opened_of empty (g.D.Disk.state c.init.new.disk).content stands)))
-    (λ need gap is. opening_not_full c.in-Err.fault c.status_of.result need gap c.in-Err.ensures.only c.status_of.ensures is)
+    start_interrupted c.status_of.result c.in-Err.fault c.status_of.ensures (c.in-Err.ensures.opens.opened stands.opened tell (opened_of empty (g.D.Disk.state c.init.new.disk).content stands)))
+    (λ need gap is. opening_not_full c.in-Err.fault c.status_of.result need gap c.in-Err.ensures.opens.only c.status_of.ensures is)
 
 -- a line of the script was not answered
 pub returns-in-Err-obey_script-clause-demo : goal.returns-in-Err-obey_script-clause-demo
 returns-in-Err-obey_script-clause-demo g c =
     let made : IsMade g.D.Disk.tells (g.D.Disk.state c.args.disk.now) = is_made g.D.Disk.tells (g.D.Disk.state c.args.disk.now) c.init.result c.in-Done.is c.init.ensures.found c.init.ensures.small in
     let new : IsNew g.D.Disk.tells (g.D.Disk.state c.args.disk.now) (g.D.Disk.state c.start.new.disk) c.in-Ok.session = record {
-      stands = λ tell. subst (StandsFor empty) (sym (c.start.ensures.content tell)) ((c.init.ensures.made c.in-Done.is).content tell);
+      stands = λ tell. subst (StandsFor empty) (sym (c.start.ensures.opens.content tell)) ((c.init.ensures.made c.in-Done.is).content tell);
       agrees = λ tell. c.in-Ok.ensures.agrees empty (λ t. (c.init.ensures.made c.in-Done.is).content t);
-      held = λ tell. opened_by g.D.Disk.tells (g.D.Disk.state c.init.new.disk) (g.D.Disk.state c.start.new.disk) c.in-Ok.session empty_held (g.met.D.Disk.lawful c.start.new.disk) tell c.in-Ok.ensures.job (c.start.ensures.content tell)
+      held = λ tell. opened_by g.D.Disk.tells (g.D.Disk.state c.init.new.disk) (g.D.Disk.state c.start.new.disk) c.in-Ok.session empty_held (g.met.D.Disk.lawful c.start.new.disk) tell c.in-Ok.ensures.job (c.start.ensures.opens.content tell)
           (record { is = (c.init.ensures.holds c.in-Done.is).content tell; none = refl });
-      same_limit = c.start.ensures.same_limit ∙ c.init.ensures.same_limit;
+      same_limit = c.start.ensures.opens.same_limit ∙ c.init.ensures.same_limit;
     } in
     demo_early g.D.Disk.tells (script c.args.n) report (g.C.Console.told c.args.console.now) (g.D.Disk.state c.args.disk.now) (g.D.Disk.state c.start.new.disk) (g.D.Disk.state c.obey_script.new.disk) c.in-Ok.session c.in-Err-obey_script.status (g.met.D.Disk.lawful c.obey_script.new.disk)
     made new c.in-Err-obey_script.ensures.err c.in-Err-obey_script.ensures.ends (λ need gap tell is. c.obey_script.ensures.full need gap tell (c.in-Err-obey_script.is ∙ ap Err is))
@@ -50,11 +50,11 @@ pub returns-in-Ok-report-clause-demo : goal.returns-in-Ok-report-clause-demo
 returns-in-Ok-report-clause-demo g c =
     let made : IsMade g.D.Disk.tells (g.D.Disk.state c.args.disk.now) = is_made g.D.Disk.tells (g.D.Disk.state c.args.disk.now) c.init.result c.in-Done.is c.init.ensures.found c.init.ensures.small in
     let new : IsNew g.D.Disk.tells (g.D.Disk.state c.args.disk.now) (g.D.Disk.state c.start.new.disk) c.in-Ok.session = record {
-      stands = λ tell. subst (StandsFor empty) (sym (c.start.ensures.content tell)) ((c.init.ensures.made c.in-Done.is).content tell);
+      stands = λ tell. subst (StandsFor empty) (sym (c.start.ensures.opens.content tell)) ((c.init.ensures.made c.in-Done.is).content tell);
       agrees = λ tell. c.in-Ok.ensures.agrees empty (λ t. (c.init.ensures.made c.in-Done.is).content t);
-      held = λ tell. opened_by g.D.Disk.tells (g.D.Disk.state c.init.new.disk) (g.D.Disk.state c.start.new.disk) c.in-Ok.session empty_held (g.met.D.Disk.lawful c.start.new.disk) tell c.in-Ok.ensures.job (c.start.ensures.content tell)
+      held = λ tell. opened_by g.D.Disk.tells (g.D.Disk.state c.init.new.disk) (g.D.Disk.state c.start.new.disk) c.in-Ok.session empty_held (g.met.D.Disk.lawful c.start.new.disk) tell c.in-Ok.ensures.job (c.start.ensures.opens.content tell)
           (record { is = (c.init.ensures.holds c.in-Done.is).content tell; none = refl });
-      same_limit = c.start.ensures.same_limit ∙ c.init.ensures.same_limit;
+      same_limit = c.start.ensures.opens.same_limit ∙ c.init.ensures.same_limit;
     } in
     demo_done g.D.Disk.tells (script c.args.n) report (g.C.Console.told c.args.console.now) (g.C.Console.told c.report.new.console) (g.D.Disk.state c.args.disk.now) (g.D.Disk.state c.start.new.disk) (g.D.Disk.state c.obey_script.new.disk) (g.D.Disk.state c.report.new.disk)
     c.in-Ok.session c.obey_script.new.session c.report.new.session (g.met.D.Disk.lawful c.report.new.disk) made new c.in-Ok-obey_script.ensures.ok c.in-Ok-report.ensures.ok
@@ -64,11 +64,11 @@ pub returns-clause-demo : goal.returns-clause-demo
 returns-clause-demo g c =
     let made : IsMade g.D.Disk.tells (g.D.Disk.state c.args.disk.now) = is_made g.D.Disk.tells (g.D.Disk.state c.args.disk.now) c.init.result c.in-Done.is c.init.ensures.found c.init.ensures.small in
     let new : IsNew g.D.Disk.tells (g.D.Disk.state c.args.disk.now) (g.D.Disk.state c.start.new.disk) c.in-Ok.session = record {
-      stands = λ tell. subst (StandsFor empty) (sym (c.start.ensures.content tell)) ((c.init.ensures.made c.in-Done.is).content tell);
+      stands = λ tell. subst (StandsFor empty) (sym (c.start.ensures.opens.content tell)) ((c.init.ensures.made c.in-Done.is).content tell);
       agrees = λ tell. c.in-Ok.ensures.agrees empty (λ t. (c.init.ensures.made c.in-Done.is).content t);
-      held = λ tell. opened_by g.D.Disk.tells (g.D.Disk.state c.init.new.disk) (g.D.Disk.state c.start.new.disk) c.in-Ok.session empty_held (g.met.D.Disk.lawful c.start.new.disk) tell c.in-Ok.ensures.job (c.start.ensures.content tell)
+      held = λ tell. opened_by g.D.Disk.tells (g.D.Disk.state c.init.new.disk) (g.D.Disk.state c.start.new.disk) c.in-Ok.session empty_held (g.met.D.Disk.lawful c.start.new.disk) tell c.in-Ok.ensures.job (c.start.ensures.opens.content tell)
           (record { is = (c.init.ensures.holds c.in-Done.is).content tell; none = refl });
-      same_limit = c.start.ensures.same_limit ∙ c.init.ensures.same_limit;
+      same_limit = c.start.ensures.opens.same_limit ∙ c.init.ensures.same_limit;
     } in
     demo_late g.D.Disk.tells (script c.args.n) report (g.C.Console.told c.args.console.now) (g.C.Console.told c.report.new.console) (g.D.Disk.state c.args.disk.now) (g.D.Disk.state c.start.new.disk) (g.D.Disk.state c.obey_script.new.disk) (g.D.Disk.state c.report.new.disk)
     c.in-Ok.session c.obey_script.new.session c.in-Err-report.status (g.met.D.Disk.lawful c.report.new.disk) made new c.in-Ok-obey_script.ensures.ok c.in-Err-report.ensures.err c.in-Err-report.ensures.ends

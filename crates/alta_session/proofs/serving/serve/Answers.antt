@@ -9,39 +9,39 @@ use Rattle.alta_store.specs.declared.fault.StoreFault.TheVariants.{NoRoot as Sto
 use Rattle.alta_session.proofs.serving.serve.Goals as goal
 
 pub status_of-requires : goal.status_of-requires
-status_of-requires g c = opening_ends c.in-Err.fault c.in-Err.ensures.only
+status_of-requires g c = opening_ends c.in-Err.fault c.in-Err.ensures.opens.only
 
 -- it could not be opened
 pub returns-in-Err : goal.returns-in-Err
 returns-in-Err g c = record {
   run = serves_none g.D.Disk.tells c.args.limit (g.C.Console.told c.args.console.now) (g.C.Console.left c.args.console.now) (g.D.Disk.state c.args.disk.now) (g.D.Disk.state c.start.new.disk) c.status_of.result (g.met.D.Disk.lawful c.args.disk.now) (g.met.D.Disk.lawful c.start.new.disk)
-      c.start.ensures.images c.start.ensures.content (start_settled c.status_of.result c.in-Err.fault _ c.status_of.ensures c.in-Err.ensures.settled) c.start.ensures.read (status_not _ c.in-Err.fault c.status_of.ensures Done tt) (status_not _ c.in-Err.fault c.status_of.ensures TooLong tt)
-      (λ need gap is. opening_not_full c.in-Err.fault c.status_of.result need gap c.in-Err.ensures.only c.status_of.ensures is);
+      c.start.ensures.opens.images c.start.ensures.opens.content (start_settled c.status_of.result c.in-Err.fault _ c.status_of.ensures c.in-Err.ensures.settled) c.start.ensures.opens.read (status_not _ c.in-Err.fault c.status_of.ensures Done tt) (status_not _ c.in-Err.fault c.status_of.ensures TooLong tt)
+      (λ need gap is. opening_not_full c.in-Err.fault c.status_of.result need gap c.in-Err.ensures.opens.only c.status_of.ensures is);
   read_all = λ is. absurd (status_not _ c.in-Err.fault c.status_of.ensures Done tt is);
-  no_root = λ tell is. c.start.ensures.no_root tell (c.in-Err.is ∙ ap Err (status_rooted _ c.in-Err.fault c.status_of.ensures is));
-  rooted = λ tell none. answers_status _ c.in-Err.fault StoreNoRoot c.status_of.ensures c.start.result c.in-Err.is (c.start.ensures.rooted tell none);
+  no_root = λ tell is. c.start.ensures.opens.no_root tell (c.in-Err.is ∙ ap Err (status_rooted _ c.in-Err.fault c.status_of.ensures is));
+  rooted = λ tell none. answers_status _ c.in-Err.fault StoreNoRoot c.status_of.ensures c.start.result c.in-Err.is (c.start.ensures.opens.rooted tell none);
   undamaged = λ place tell broken. (
     refl,
-    record { content = c.start.ensures.content; images = c.start.ensures.images },
-    answers_status _ c.in-Err.fault (StoreDamaged place) c.status_of.ensures c.start.result c.in-Err.is (c.start.ensures.undamaged place tell broken),
+    record { content = c.start.ensures.opens.content; images = c.start.ensures.opens.images },
+    answers_status _ c.in-Err.fault (StoreDamaged place) c.status_of.ensures c.start.result c.in-Err.is (c.start.ensures.opens.undamaged place tell broken),
   );
-  unopened = λ is. (refl, record { content = c.start.ensures.content; images = c.start.ensures.images });
+  unopened = λ is. (refl, record { content = c.start.ensures.opens.content; images = c.start.ensures.opens.images });
   damaged = λ place is. inl (
     refl,
-    record { content = c.start.ensures.content; images = c.start.ensures.images },
-    λ tell. c.start.ensures.damaged place tell (c.in-Err.is ∙ ap Err (status_damaged _ c.in-Err.fault place c.status_of.ensures is)),
+    record { content = c.start.ensures.opens.content; images = c.start.ensures.opens.images },
+    λ tell. c.start.ensures.opens.damaged place tell (c.in-Err.is ∙ ap Err (status_damaged _ c.in-Err.fault place c.status_of.ensures is)),
   );
-  stands = λ s tell stands. outside_opened _ c.in-Err.fault c.status_of.ensures (c.in-Err.ensures.opened stands.opened tell (opened_of s (g.D.Disk.state c.args.disk.now).content stands));
+  stands = λ s tell stands. outside_opened _ c.in-Err.fault c.status_of.ensures (c.in-Err.ensures.opens.opened stands.opened tell (opened_of s (g.D.Disk.state c.args.disk.now).content stands));
   never = (status_not _ c.in-Err.fault c.status_of.ensures Usage tt, status_not _ c.in-Err.fault c.status_of.ensures Exists tt);
-  full = λ need gap tell is. absurd (opening_not_full c.in-Err.fault c.status_of.result need gap c.in-Err.ensures.only c.status_of.ensures is);
-  complete = λ s tell stands takes gives disk. outside_completes _ c.in-Err.fault _ c.status_of.ensures (c.in-Err.ensures.opened stands.opened tell (opened_of s (g.D.Disk.state c.args.disk.now).content stands)) (λ is. c.start.ensures.cause (c.in-Err.is ∙ ap Err is)) disk;
+  full = λ need gap tell is. absurd (opening_not_full c.in-Err.fault c.status_of.result need gap c.in-Err.ensures.opens.only c.status_of.ensures is);
+  complete = λ s tell stands takes gives disk. outside_completes _ c.in-Err.fault _ c.status_of.ensures (c.in-Err.ensures.opens.opened stands.opened tell (opened_of s (g.D.Disk.state c.args.disk.now).content stands)) (λ is. c.start.ensures.opens.cause (c.in-Err.is ∙ ap Err is)) disk;
   take_fault = λ is. absurd (status_not _ c.in-Err.fault c.status_of.ensures TakeFault tt is);
   give_fault = λ is. absurd (status_not _ c.in-Err.fault c.status_of.ensures GiveFault tt is);
-  disk_fault = λ is. c.start.ensures.cause (c.in-Err.is ∙ ap Err (status_disk _ c.in-Err.fault c.status_of.ensures is));
+  disk_fault = λ is. c.start.ensures.opens.cause (c.in-Err.is ∙ ap Err (status_disk _ c.in-Err.fault c.status_of.ensures is));
   take_count = omega arith;
   give_count = omega arith;
-  disk_count = c.start.ensures.faults;
-  same_limit = c.start.ensures.same_limit;
+  disk_count = c.start.ensures.opens.faults;
+  same_limit = c.start.ensures.opens.same_limit;
 }
 
 pub answer_lines-requires : goal.answer_lines-requires
@@ -51,11 +51,11 @@ answer_lines-requires g c = record { can = c.in-Ok.ensures.can }
 pub returns : goal.returns
 returns g c = record {
   run = serves_opened g.D.Disk.tells c.args.limit (g.C.Console.told c.args.console.now) (g.C.Console.told c.answer_lines.new.console) (g.C.Console.left c.args.console.now) (g.C.Console.left c.answer_lines.new.console) (g.D.Disk.state c.args.disk.now) (g.D.Disk.state c.start.new.disk)
-      (g.D.Disk.state c.answer_lines.new.disk) c.in-Ok.session c.answer_lines.result (g.met.D.Disk.lawful c.args.disk.now) (g.met.D.Disk.lawful c.start.new.disk) c.in-Ok.ensures.job c.start.ensures.images (λ s tell stands. c.in-Ok.ensures.agrees s (λ t. stands)) c.start.ensures.content c.start.ensures.same_limit c.in-Ok.ensures.keeps c.start.ensures.read c.answer_lines.ensures.run;
+      (g.D.Disk.state c.answer_lines.new.disk) c.in-Ok.session c.answer_lines.result (g.met.D.Disk.lawful c.args.disk.now) (g.met.D.Disk.lawful c.start.new.disk) c.in-Ok.ensures.job c.start.ensures.opens.images (λ s tell stands. c.in-Ok.ensures.agrees s (λ t. stands)) c.start.ensures.opens.content c.start.ensures.opens.same_limit c.in-Ok.ensures.keeps c.start.ensures.opens.read c.answer_lines.ensures.run;
   read_all = c.answer_lines.ensures.read_all;
   no_root = λ tell is. absurd (running_rooted c.answer_lines.result c.answer_lines.ensures.ends is);
-  rooted = λ tell none. absurd (ok_answers c.in-Ok.session StoreNoRoot c.start.result c.in-Ok.is (c.start.ensures.rooted tell none));
-  undamaged = λ place tell broken. absurd (ok_answers c.in-Ok.session (StoreDamaged place) c.start.result c.in-Ok.is (c.start.ensures.undamaged place tell broken));
+  rooted = λ tell none. absurd (ok_answers c.in-Ok.session StoreNoRoot c.start.result c.in-Ok.is (c.start.ensures.opens.rooted tell none));
+  undamaged = λ place tell broken. absurd (ok_answers c.in-Ok.session (StoreDamaged place) c.start.result c.in-Ok.is (c.start.ensures.opens.undamaged place tell broken));
   unopened = λ is. absurd (running_rooted c.answer_lines.result c.answer_lines.ensures.ends is);
   damaged = λ place is. inr (λ tell. c.answer_lines.ensures.caused.broken place tell is);
   stands = λ s tell stands. record {
@@ -66,13 +66,13 @@ returns g c = record {
   full = c.answer_lines.ensures.caused.full;
   complete = λ s tell stands takes gives disk.
       running_completes c.answer_lines.result _ _ (Rose (g.D.Disk.state c.args.disk.now).faults (g.D.Disk.state c.answer_lines.new.disk).faults) c.answer_lines.ensures.ends c.answer_lines.ensures.take_fault c.answer_lines.ensures.caused.give_fault
-      (λ is. omega (arith, c.answer_lines.ensures.caused.disk_fault is, c.start.ensures.faults)) takes gives disk
+      (λ is. omega (arith, c.answer_lines.ensures.caused.disk_fault is, c.start.ensures.opens.faults)) takes gives disk
       (c.answer_lines.ensures.run.each (started_at s) tell (c.in-Ok.ensures.agrees s (λ t. stands))).undamaged;
   take_fault = c.answer_lines.ensures.take_fault;
   give_fault = c.answer_lines.ensures.caused.give_fault;
-  disk_fault = λ is. omega (arith, c.answer_lines.ensures.caused.disk_fault is, c.start.ensures.faults);
+  disk_fault = λ is. omega (arith, c.answer_lines.ensures.caused.disk_fault is, c.start.ensures.opens.faults);
   take_count = c.answer_lines.ensures.counts.takes;
   give_count = c.answer_lines.ensures.counts.gives;
-  disk_count = omega (arith, c.start.ensures.faults, c.answer_lines.ensures.counts.faults);
-  same_limit = c.answer_lines.ensures.counts.limit ∙ c.start.ensures.same_limit;
+  disk_count = omega (arith, c.start.ensures.opens.faults, c.answer_lines.ensures.counts.faults);
+  same_limit = c.answer_lines.ensures.counts.limit ∙ c.start.ensures.opens.same_limit;
 }

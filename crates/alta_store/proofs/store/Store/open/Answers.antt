@@ -6,12 +6,10 @@ use Rattle.std.proofs.lemmas.Result.{IfOk-at_ok}
 use Rattle.alta_disk.proofs.Moments.{only_same, passes_same}
 use Rattle.alta_store.specs.Agreement.{Agrees, Holds, IsIntact, Keeps, levels_of}
 use Rattle.alta_images.specs.Opened.{IsOpened}
-use Rattle.alta_root.specs.Slots.{HasNoRoot}
-use Rattle.alta_images.specs.Broken.{IsBrokenAt}
 use Rattle.alta_store.specs.declared.store.Store.{Store}
 use Rattle.alta_store.proofs.Agreements.{kept}
 use Rattle.alta_store.proofs.GoingOn.{none_goes_on}
-use Rattle.alta_store.proofs.Loads.{if_ok, if_err, only_synced, held, outside, rooted, broken_at, opens_by}
+use Rattle.alta_store.proofs.Loads.{if_ok, if_err, only_synced, held, opens_by}
 use Rattle.alta_rewrite.proofs.RunLaws.{done_as}
 use Rattle.alta_disk.specs.Disk.{Same}
 use Rattle.alta_journal.specs.declared.places.TheConstants.{HEAD_BYTES}
@@ -30,27 +28,6 @@ returns-clause-agrees g c =
           none_goes_on (g.D.Disk.state c.load.new.disk).content (levels_of store) (gone_of store.catalog) store.job (IfOk-at_ok IsIntact is c.load.ensures.intact).joining (IfOk-at_ok (λ (s : Store). s.job ≡ None) is c.load.ensures.job);
     })
 
-pub returns-clause-opened : goal.returns-clause-opened
-returns-clause-opened g c = λ o told opened.
-    outside g.D.Disk.tells (g.D.Disk.state c.sync.new.self).content c.load.result c.load.ensures.loaded c.load.ensures.no_root c.load.ensures.damaged c.load.ensures.only
-    o told (subst (IsOpened o) (sym (c.sync.ensures.content told)) opened)
-
-pub returns-clause-no_root : goal.returns-clause-no_root
-returns-clause-no_root g c = λ told e. subst HasNoRoot (c.sync.ensures.content told) (c.load.ensures.no_root told e)
-
-pub returns-clause-rooted : goal.returns-clause-rooted
-returns-clause-rooted g c = λ told none.
-    rooted g.D.Disk.tells (g.D.Disk.state c.sync.new.self).content c.load.result c.load.ensures.loaded c.load.ensures.no_root c.load.ensures.damaged c.load.ensures.only
-    told (subst HasNoRoot (sym (c.sync.ensures.content told)) none)
-
-pub returns-clause-damaged : goal.returns-clause-damaged
-returns-clause-damaged g c = λ place told e. subst (λ (image : List ℕ). IsBrokenAt image place) (c.sync.ensures.content told) (c.load.ensures.damaged told place e)
-
-pub returns-clause-undamaged : goal.returns-clause-undamaged
-returns-clause-undamaged g c = λ place told broken.
-    broken_at g.D.Disk.tells (g.D.Disk.state c.sync.new.self).content c.load.result c.load.ensures.loaded c.load.ensures.no_root c.load.ensures.damaged c.load.ensures.only
-    place told (subst (λ (image : List ℕ). IsBrokenAt image place) (sym (c.sync.ensures.content told)) broken)
-
 pub returns-clause-keeps : goal.returns-clause-keeps
 returns-clause-keeps g c = λ opened told there.
     if_ok c.load.result (λ (store : Store). Keeps store opened) (λ store is.
@@ -64,12 +41,6 @@ returns-clause-settled g c =
     only_same g.D.Disk.tells (g.D.Disk.state c.sync.new.self) (g.met.D.Disk.lawful c.sync.new.self)
     (only_synced g.D.Disk.tells (g.D.Disk.state c.args.disk.now) (g.D.Disk.state c.sync.new.self) (g.met.D.Disk.lawful c.sync.new.self) c.in-Ok.ensures.durable c.sync.ensures.content)
     (g.D.Disk.state c.load.new.disk) c.load.ensures.images c.load.ensures.content))
-
-pub returns-clause-read : goal.returns-clause-read
-returns-clause-read g c = λ told slot root counts.
-    let same = c.sync.ensures.content told in
-    let read = c.load.ensures.read told slot root (subst (Counts slot root) (sym same) counts) in
-    omega (arith, read, ap (λ (image : List ℕ). named_bytes root image) same, c.sync.ensures.taken)
 
 pub returns-clause-opens : goal.returns-clause-opens
 returns-clause-opens g c =
