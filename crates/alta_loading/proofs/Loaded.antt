@@ -20,7 +20,7 @@ use Rattle.alta_search.specs.Lists.{TermKey, keys_at, lists_at, test_at, test_in
 use Rattle.alta_search.specs.Order.{IsOrder, Order, used}
 use Rattle.alta_search.specs.View.{View}
 use Rattle.alta_search.specs.declared.lists.TestLists.{TestLists}
-use Rattle.alta_search.proofs.NewestLoads.{at-uses}
+use Rattle.alta_search.proofs.Loads.{at-uses}
 use Rattle.alta_table.specs.Tables.{Tables}
 
 -- the tests that are loaded are those that are used, each once

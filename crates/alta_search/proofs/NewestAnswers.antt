@@ -1,22 +1,18 @@
--- The answers over the snapshot of the newest documents.
-use Rattle.std.proofs.Common.{◌≡◌, ⊎_elim, inl, ℕ, ◌+◌, ◌-◌, ◌<◌, ◌≤◌, Bool, true, false, not, cond, ◌&&◌, ◌||◌, List, [], ◌∷◌, map, length, get_or, refl, sym, subst, ap, ◌∙◌, arith, append-nil, lit≤}
-use Rattle.std.specs.Prelude.{◌↔◌, Contains, IsTrue, nat_eq}
+-- The space of documents that were added, and which of them are answers.
+use Rattle.std.proofs.Common.{◌≡◌, ⊎_elim, inl, ℕ, ◌+◌, ◌-◌, ◌<◌, ◌≤◌, Bool, true, false, not, cond, ◌&&◌, List, [], ◌∷◌, map, length, get_or, refl, sym, subst, ap, ◌∙◌, arith, append-nil, lit≤}
+use Rattle.std.specs.Prelude.{◌↔◌, Contains, IsTrue}
 use Rattle.std.specs.List.{All, filter}
-use Rattle.std.proofs.lemmas.Bool.{or_cases, true≢false}
-use Rattle.std.proofs.lemmas.List.{get_or-map, length-map}
 use Rattle.std.proofs.lemmas.List.Elements.{All-nil, All-cons, All-head, All-tail, All-weaker}
 use Rattle.alta_codec.specs.declared.location.TheConstants.{TOP}
-use Rattle.alta_codec.proofs.Places.{Contains-head, Contains-tail, Contains-cases, not-Contains-nil}
-use Rattle.alta_compile.specs.Space.{Placed, AreApart, IsSpace, document_end, locations, list_of, past}
+use Rattle.alta_codec.proofs.Places.{Contains-head, Contains-cases, not-Contains-nil}
+use Rattle.alta_compile.specs.Space.{Placed, AreApart, IsSpace, document_end, list_of, past}
 use Rattle.alta_compile.specs.Space as space
 use Rattle.alta_compile.specs.Tree.{plan_list}
 use Rattle.alta_compile.specs.PlanOf.{plan_of}
 use Rattle.alta_compile.proofs.Spaces.{Has, HasAt, has_contains, list-has, has-list, at_met, met_at}
 use Rattle.alta_content.specs.Rows.{end_of, ends_among}
-use Rattle.alta_content.specs.declared.content.Content.{Content}
 use Rattle.alta_content.specs.declared.document.DocRow.{DocRow}
-use Rattle.alta_docread.specs.KeptLaws.{true_or_false}
-use Rattle.alta_memlevel.specs.Added.{Added, HasContent, IsDocument, live_of, places_of}
+use Rattle.alta_memlevel.specs.Added.{Added, live_of, places_of}
 use Rattle.alta_memlevel.specs.Added as mem
 use Rattle.alta_memlevel.specs.Documents.{AreMade, IsMade, document_in}
 use Rattle.alta_memlevel.proofs.Cells.{end_places}
@@ -25,15 +21,11 @@ use Rattle.alta_model.specs.Deciding.{answers, is_match}
 use Rattle.alta_query.specs.Matches.{Matches}
 use Rattle.alta_query.specs.Patterns.{IsMet}
 use Rattle.alta_query.specs.Shape.{Shape}
-use Rattle.alta_query.specs.declared.test.Test.{Test}
-use Rattle.alta_search.specs.Answers.{is_answer, answers_in}
+use Rattle.alta_search.specs.Answers.{is_answer}
 use Rattle.alta_search.specs.Documents.{told}
-use Rattle.alta_search.specs.Lists.{test_list}
-use Rattle.alta_search.specs.Newest.{newest_lists, newest_view}
-use Rattle.alta_search.specs.Readers.{Each}
 use Rattle.alta_search.specs.Told.{answer_of}
-use Rattle.alta_search.specs.View.{IsRowOf, Shows, View}
-use Rattle.alta_search.proofs.NewestLists.{placed_of, space_of, lists-same, newest-list}
+use Rattle.alta_search.specs.View.{Shows, View}
+use Rattle.alta_search.proofs.NewestLists.{placed_of, space_of, lists-same}
 
 -- ---- the space
 
@@ -96,69 +88,11 @@ added-space added s made = record {
   ended = λ d c place. ended-each added made d (has_contains (space_of added) d c) place;
 }
 
--- ---- the snapshot shows the space
-
-rows-each : (added : List Added) → mem.IsSpace added → Each IsRowOf (map (λ a. a.row) added) (space_of added)
-rows-each [] s = tt
-rows-each (a ∷ more) (d, numbers, behind, rest) = ((refl, d.counted), rows-each more rest)
-
-lists-each : (added : List Added) (content : Content) → HasContent added content → (tests : List Test)
-    → map test_list (map (newest_lists content.lists) tests) ≡ map (list_of (space_of added)) tests
-lists-each added content h [] = refl
-lists-each added content h (t ∷ ts) =
-    ap (λ l. l ∷ map test_list (map (newest_lists content.lists) ts)) (newest-list added content.lists h.lists t (added-apart added h.space))
-    ∙ ap (λ ls. list_of (space_of added) t ∷ ls) (lists-each added content h ts)
-
-pub newest-shows : (added : List Added) (content : Content) (gone : List ℕ) (tests : List Test) → HasContent added content → AreMade added
-    → Shows (space_of added) (newest_view tests gone content)
-newest-shows added content gone tests h made = record {
-  lawful = added-space added h.space made;
-  lists = lists-each added content h tests;
-  rows = subst (λ rows. Each IsRowOf rows (space_of added)) (sym h.documents) (rows-each added h.space);
-}
-
 -- ---- which documents are answers
-
-same-bool : (b c : Bool) → (b ≡ true → c ≡ true) → (c ≡ true → b ≡ true) → b ≡ c
-same-bool true c h k = sym (h refl)
-same-bool false true h k = absurd (true≢false (sym (k refl)))
-same-bool false false h k = refl
-
-among-contains : (ends : List ℕ) (row : DocRow) → ends_among ends row ≡ true → Contains ends (end_of row)
-among-contains [] row h = absurd (true≢false (sym h))
-among-contains (e ∷ es) row h =
-    ⊎_elim
-    (λ yes. let same : e ≡ end_of row = grind (arith, yes) in subst (λ x. Contains (e ∷ es) x) same (Contains-head e es))
-    (λ n. Contains-tail e es (end_of row) (among-contains es row n))
-    (or_cases (nat_eq e (end_of row)) (ends_among es row) h)
-
-or-right : (a b : Bool) → b ≡ true → (a || b) ≡ true
-or-right true b h = refl
-or-right false b h = h
-
-contains-among : (ends : List ℕ) (row : DocRow) → Contains ends (end_of row) → ends_among ends row ≡ true
-contains-among [] row m = absurd (not-Contains-nil (end_of row) m)
-contains-among (e ∷ es) row m =
-    ⊎_elim
-    (λ same. let yes : nat_eq e (end_of row) ≡ true = grind (arith, same) in ap (λ b. b || ends_among es row) yes)
-    (λ n. or-right (nat_eq e (end_of row)) (ends_among es row) (contains-among es row n))
-    (Contains-cases e es (end_of row) m)
 
 -- whether a document that was added is left and matches
 abbrev is_left : List ℕ → Shape → Added → Bool
 is_left gone q a = not (ends_among gone a.row) && is_match a.cells q
-
-left-is : (gone : List ℕ) (q : Shape) (a : Added) → (is_match a.cells q ≡ true) ↔ Matches a.cells q → (b : Bool)
-    → IsTrue b ↔ (Matches a.cells q × (Contains gone (end_of a.row) → ⊥)) → b ≡ is_left gone q a
-left-is gone q a decided b is =
-    same-bool b (is_left gone q a)
-    (λ h. let (m, n) = is.0 h in
-    let free : ends_among gone a.row ≡ false = ⊎_elim (λ yes. absurd (n (among-contains gone a.row yes))) (λ no. no) (true_or_false (ends_among gone a.row)) in
-    ap (λ e. not e && is_match a.cells q) free ∙ decided.1 m)
-    (λ h. ⊎_elim
-    (λ yes. absurd (true≢false (sym h ∙ ap (λ e. not e && is_match a.cells q) yes)))
-    (λ no. is.1 (decided.0 (sym (ap (λ e. not e && is_match a.cells q) no) ∙ h), λ m. absurd (true≢false (sym (contains-among gone a.row m) ∙ no))))
-    (true_or_false (ends_among gone a.row)))
 
 -- a document more, which is an answer or is none
 module _ (p : DocRow → Bool) (gone : List ℕ) (q : Shape) where
@@ -188,9 +122,8 @@ module _ (p : DocRow → Bool) (gone : List ℕ) (q : Shape) where
   answers-all (a ∷ more) h =
       answers-more a more (answers-all more (All-tail (λ b. p b.row ≡ is_left gone q b) a more h)) (All-head (λ b. p b.row ≡ is_left gone q b) a more h)
 
--- ---- the law
+-- ---- the laws that the answers over a snapshot stand on: what an answer is, and that a match is decided
 
--- the laws that it stands on: what an answer over a snapshot is, and that a match is decided
 abbrev pub AnswersMatch : Type 0
 AnswersMatch = (ds : List Placed) (v : View) (q : Shape) (k : ℕ) (row : DocRow) (d : Placed) → Shows ds v → k < length ds
     → IsTrue (is_answer (plan_list ds (plan_of q)) v.gone 0 (get_or v.rows k row))
@@ -198,31 +131,3 @@ AnswersMatch = (ds : List Placed) (v : View) (q : Shape) (k : ℕ) (row : DocRow
 
 abbrev pub MatchesAreDecided : Type 0
 MatchesAreDecided = (cells : List (List (List ℕ))) (q : Shape) → (is_match cells q ≡ true) ↔ Matches cells q
-
-counted-each : (added : List Added) → mem.IsSpace added → All IsDocument added
-counted-each [] s = All-nil IsDocument
-counted-each (a ∷ more) (d, numbers, behind, rest) = All-cons IsDocument a more d (counted-each more rest)
-
-module _ (answers_match : AnswersMatch) (decided : MatchesAreDecided) (gone : List ℕ) (added : List Added) (content : Content) (tests : List Test) (q : Shape)
-    (h : HasContent added content) (made : AreMade added) where
-  abbrev pub list : List ℕ
-  list = plan_list (space_of added) (plan_of q)
-
-  each-left : All (λ a. is_answer list gone 0 a.row ≡ is_left gone q a) added
-  each-left k d l =
-      let a = get_or added k d in
-      let row : get_or (map (λ b. b.row) added) k d.row ≡ a.row = get_or-map (λ (b : Added). b.row) added k d d.row l in
-      let document : get_or (space_of added) k (placed_of d) ≡ placed_of a = get_or-map placed_of added k d (placed_of d) l in
-      let rows : get_or content.documents k d.row ≡ a.row = ap (λ rs. get_or rs k d.row) h.documents ∙ row in
-      let counted : a.row.cells ≡ length a.cells = (counted-each added h.space k d l).counted in
-      let ends : space.end_of (placed_of a) ≡ end_of a.row = omega (arith, counted) in
-      let is = answers_match (space_of added) (newest_view tests gone content) q k d.row (placed_of d) (newest-shows added content gone tests h made)
-      (omega (arith, l, length-map added placed_of)) in
-      left-is gone q a (decided a.cells q) (is_answer list gone 0 a.row)
-      (subst (λ e. IsTrue (is_answer list gone 0 a.row) ↔ (Matches a.cells q × (Contains gone e → ⊥))) ends
-      (subst (λ r. IsTrue (is_answer list gone 0 r) ↔ (Matches a.cells q × (Contains gone (space.end_of (placed_of a)) → ⊥))) rows
-      (subst (λ y. IsTrue (is_answer list gone 0 (get_or content.documents k d.row)) ↔ (Matches y.cells q × (Contains gone (space.end_of y) → ⊥))) document is)))
-
-  pub newest-answers : map answer_of (answers_in list gone 0 content.documents) ≡ map told (answers (map document_in (live_of gone added)) q)
-  newest-answers =
-      ap (λ rs. map answer_of (answers_in list gone 0 rs)) h.documents ∙ answers-all (is_answer list gone 0) gone q added each-left

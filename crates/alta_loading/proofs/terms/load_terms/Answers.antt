@@ -4,7 +4,7 @@ use Rattle.alta_loading.proofs.Runs.{tells_fault, tells_value}
 use Rattle.alta_loading.proofs.TermRuns.{terms_cost, terms_ended, terms_on}
 use Rattle.alta_loading.specs.Loads.{Tells, loads_from}
 use Rattle.alta_loading.specs.Terms.{loads_of}
-use Rattle.alta_search.proofs.NewestLoads.{front-all, front-more}
+use Rattle.alta_search.proofs.Loads.{front-all, front-more}
 use Rattle.alta_search.specs.Lists.{TermKey, key_of, term_lists}
 use Rattle.alta_search.specs.declared.lists.TermLists.{TermLists}
 use Rattle.alta_loading.proofs.terms.load_terms.Goals as goal
