@@ -2,46 +2,9 @@
 ghost use Rattle.std.specs.Prelude.{◌≡◌, ℕ, ◌+◌, ◌<◌, ◌≤◌, length, slice_index};
 ghost use Rattle.alta_codec.specs.Rising.{IsRising};
 
-/// The first of four indexes from `from` on whose element is at or above `to`, the index behind them where none is.
-/// It compares all four, so that no branch depends on which it is.
-#[inline(always)]
-fn near_from(list: &[u64], from: usize, to: u64) -> usize
-    requires rising { IsRising list.now }
-    requires within { from + 4 ≤ length list.now }
-    ensures after { from ≤ result }
-    ensures near { result ≤ from + 4 }
-    ensures before { (k : ℕ) → from ≤ k → k < result → slice_index list.now k < to }
-    ensures found { result < from + 4 → to ≤ slice_index list.now result }
-{
-    from + usize::from(list[from] < to)
-        + usize::from(list[from + 1] < to)
-        + usize::from(list[from + 2] < to)
-        + usize::from(list[from + 3] < to)
-}
-
-/// The first index whose element is at or above `to`, the length where there is none. Mostly it is one of the next four.
-#[inline(always)]
+/// The first index whose element is at or above `to`, the length where there is none.
+/// It looks at about 2 log d elements, d being the distance from `from` to the answer.
 pub(crate) fn index_from(list: &[u64], from: usize, to: u64) -> usize
-    requires rising { IsRising list.now }
-    requires within { from ≤ length list.now }
-    requires passed { (k : ℕ) → k < from → slice_index list.now k < to }
-    ensures within { result ≤ length list.now }
-    ensures after { from ≤ result }
-    ensures before { (k : ℕ) → k < result → slice_index list.now k < to }
-    ensures found { result < length list.now → to ≤ slice_index list.now result }
-{
-    if list.len() - from >= 4 {
-        let near = near_from(list, from, to);
-        if near < from + 4 {
-            return near;
-        }
-    }
-    far_from(list, from, to)
-}
-
-/// The same, however far it is. It looks at about 2 log d elements, d being the distance from `from` to the answer.
-#[inline(never)]
-fn far_from(list: &[u64], from: usize, to: u64) -> usize
     requires rising { IsRising list.now }
     requires within { from ≤ length list.now }
     requires passed { (k : ℕ) → k < from → slice_index list.now k < to }
