@@ -263,7 +263,8 @@ fn left_by(alloc: Global, lines: &[u8]) -> Result<Vec<u8>, Fail> {
     }
 }
 
-// The status of a run over a content with these bytes in place of its own, and what was given.
+// The status of a run over a content with these bytes in place of its own, or cut at their place where there are none, and what was
+// given.
 fn answer_with(
     alloc: Global,
     content: &[u8],
@@ -272,6 +273,9 @@ fn answer_with(
     lines: &[u8],
 ) -> Result<(Status, Vec<u8>), Fail> {
     let mut changed = content.to_vec(alloc)?;
+    if bytes.is_empty() {
+        changed.truncate(at);
+    }
     for (i, byte) in bytes.iter().enumerate() {
         if let Some(place) = changed.get_mut(at.wrapping_add(i)) {
             *place = *byte;
@@ -280,88 +284,78 @@ fn answer_with(
     call(alloc, &mut disk_of(alloc, changed)?, "run", lines, &[])
 }
 
+// What comes of a row: what is given by a run with status 0, or the status.
+type Answer = Result<&'static [u8], Status>;
+
+fn damaged(place: u64) -> Answer {
+    Err(Status::Damaged { place })
+}
+
 // The level of one document stands at 2,105,344: its row at 32, its terms from 37 on, and its lists from 114 on. The slot that
-// counts is the second.
+// counts is the second. With the document deleted, the deletion list is the byte 9 behind the level, and the first slot counts.
 #[test]
 fn damages_have_their_places(rt: HostRuntime) -> Result<(), Fail> {
     let alloc = rt.alloc();
-    let level = left_by(alloc, b"add a\tRed Fox\tthe quick red fox\nflush\n")?;
-    // Where bytes are written, which, the lines that are run, and the place of the damage, or what is given.
-    let rows: [(usize, &[u8], &[u8], Result<&[u8], u64>); 18] = [
-        (4_097, b"\x03", b"count fox", Err(4_097)),
-        (4_098, b"\x07", b"count fox", Err(4_098)),
-        (4_099, b"\x11", b"count fox", Err(4_099)),
-        (4_100, b"\x01", b"count fox", Err(4_100)),
-        (4_151, b"\x1f", b"count fox", Err(4_136)),
-        (2_105_376, b"\0", b"count fox", Err(2_105_376)),
-        (2_105_377, b"\0", b"count fox", Err(2_105_377)),
-        (2_105_378, b"\x02", b"count fox", Err(2_105_378)),
-        (2_105_380, b"\x20", b"count fox", Err(2_105_380)),
-        (2_105_381, b"\x01", b"count fox", Err(2_105_381)),
-        (2_105_384, b"\0", b"count fox", Err(2_105_384)),
-        (2_105_458, b"\x08", b"count fox", Err(2_105_458)),
-        (2_105_463, b"\0", b"count fox", Err(2_105_463)),
+    let flushed = left_by(alloc, b"add a\tRed Fox\tthe quick red fox\nflush\n")?;
+    let deleted = left_by(
+        alloc,
+        b"add a\tRed Fox\tthe quick red fox\nflush\ndelete a\nflush\n",
+    )?;
+    let (level, list) = (flushed.as_slice(), deleted.as_slice());
+    let stats = b"documents 1 words 6 next 2\n".as_slice();
+    // The content, where bytes are written, which, or none where it is cut, the lines, and what comes.
+    let rows: [(&[u8], usize, &[u8], &[u8], Answer); 24] = [
+        (level, 4_097, b"\x03", b"count fox", damaged(4_097)),
+        (level, 4_098, b"\x07", b"count fox", damaged(4_098)),
+        (level, 4_099, b"\x11", b"count fox", damaged(4_099)),
+        (level, 4_100, b"\x01", b"count fox", damaged(4_100)),
+        (level, 4_151, b"\x1f", b"count fox", damaged(4_136)),
+        (level, 2_105_376, b"\0", b"count fox", damaged(2_105_376)),
+        (level, 2_105_377, b"\0", b"count fox", damaged(2_105_377)),
+        (level, 2_105_378, b"\x02", b"count fox", damaged(2_105_378)),
+        (level, 2_105_380, b"\x20", b"count fox", damaged(2_105_380)),
+        (level, 2_105_381, b"\x01", b"count fox", damaged(2_105_381)),
+        (level, 2_105_384, b"\0", b"count fox", damaged(2_105_384)),
+        (level, 2_105_458, b"\x08", b"count fox", damaged(2_105_458)),
+        (level, 2_105_463, b"\0", b"count fox", damaged(2_105_463)),
         (
+            level,
             1_056_768,
             b"\xa5\0\0\0\x01\x04",
             b"count fox",
-            Err(1_056_773),
+            damaged(1_056_773),
         ),
+        (level, 2_105_469, b"", b"count fox", damaged(4_136)),
+        (level, 2_105_343, b"", b"count fox", damaged(2_105_343)),
+        (level, 8_191, b"", b"count fox", Err(Status::NoRoot)),
         // The first slot counts, whose half has the document.
-        (4_096, b"\0", b"count fox", Ok(b"found 1\n")),
-        (
-            2_105_458,
-            b"\x08",
-            b"stats",
-            Ok(b"documents 1 words 6 next 2\n"),
-        ),
-        (
-            2_105_463,
-            b"\0",
-            b"stats",
-            Ok(b"documents 1 words 6 next 2\n"),
-        ),
-        (2_105_463, b"\0", b"count name:b", Ok(b"found 0\n")),
+        (level, 4_096, b"\0", b"count fox", Ok(b"found 1\n")),
+        // A list that is not loaded is not looked at.
+        (level, 2_105_458, b"\x08", b"stats", Ok(stats)),
+        (level, 2_105_463, b"\0", b"stats", Ok(stats)),
+        (level, 2_105_463, b"\0", b"count name:b", Ok(b"found 0\n")),
+        (list, 2_105_470, b"\x09", b"count fox", Ok(b"found 0\n")),
+        (list, 2_105_470, b"\x08", b"count fox", damaged(2_105_470)),
+        (list, 2_105_470, b"\x08", b"stats", damaged(2_105_470)),
     ];
-    for (at, bytes, lines, want) in rows {
-        let (status, given) = answer_with(alloc, &level, at, bytes, lines)?;
+    assert_eq!(rt; list.get(2_105_470).copied(), Some(9));
+    for (content, at, bytes, lines, want) in rows {
+        let (status, given) = answer_with(alloc, content, at, bytes, lines)?;
         let found = match status {
             Status::Done => Ok(given.as_slice()),
-            Status::Damaged { place } => Err(place),
-            _ => Err(0),
+            fault => Err(fault),
         };
         assert_eq!(rt; found, want, "at {at}");
         assert_eq!(rt; given.is_empty(), want.is_err(), "at {at}");
     }
-    // To how many bytes the content is cut.
-    let cuts: [(usize, Status); 3] = [
-        (2_105_469, Status::Damaged { place: 4_136 }),
-        (2_105_343, Status::Damaged { place: 2_105_343 }),
-        (8_191, Status::NoRoot),
-    ];
-    for (length, want) in cuts {
-        let mut cut = level.to_vec(alloc)?;
-        cut.truncate(length);
-        let (status, _) = call(alloc, &mut disk_of(alloc, cut)?, "run", b"count fox", &[])?;
-        assert_eq!(rt; status, want, "cut to {length}");
-    }
     Ok(())
 }
 
-// A level and a deletion list of one byte behind it, and three levels, of which a line joins some: the lists of the first begin at
-// 2,105,458, those of the second at 2,105,578, and those of the third at 2,105,666.
+// Three levels, of which a line joins some: the lists of the first begin at 2,105,458, those of the second at 2,105,578, and those of
+// the third at 2,105,666.
 #[test]
 fn damages_of_what_is_joined_have_their_places(rt: HostRuntime) -> Result<(), Fail> {
     let alloc = rt.alloc();
-    let listed = left_by(
-        alloc,
-        b"add a\tRed Fox\tthe quick red fox\nflush\ndelete a\nflush\n",
-    )?;
-    assert_eq!(rt; listed.get(2_105_470).copied(), Some(9));
-    let (status, given) = answer_with(alloc, &listed, 2_105_470, b"\x08", b"stats")?;
-    assert_eq!(rt; status, Status::Damaged { place: 2_105_470 });
-    assert!(rt; given.is_empty());
-
     let levels = left_by(
         alloc,
         b"add a\tRed Fox\tthe quick red fox\nflush\nadd b\tFox\tquick brown dog\nflush\nadd c\t\tred dog\nflush\n",
