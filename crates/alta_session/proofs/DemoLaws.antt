@@ -211,7 +211,7 @@ demo_made tells lines asked told told_now d e given status lawful made ends neve
   reports = λ tell none big. reports tell;
   narrow = λ need gap tell big is. narrow need gap tell is;
   stands = λ done.
-      stands_only tells e (StandsFor (after (started_at empty) (lines ++ asked)).state) lawful (λ c here. ((reports (lawful.told c here)).2.levels done).1 c here) (λ tell. (reports tell).stands done);
+      stands_only tells e (StandsFor (after (started_at empty) (lines ++ asked)).state) lawful (λ c here. ((reports (lawful.told c here)).levels done).1 c here) (λ tell. (reports tell).stands done);
 }
 
 -- the index was not opened
