@@ -1,10 +1,10 @@
 #!/usr/bin/env python3
 """Measures how large an index is beside its text, and how long opening it takes, beside SQLite's full-text index.
 
-usage: bench/opening.py [--program PATH] [--count N] [--word WORD] [--turns N] --lines FILE
+usage: bench/opening.py [--program PATH] [--count N] [--word WORD] [--turns N] [--merge] --lines FILE
 
 FILE has `add` lines, as `examples/packages.py - /var/lib/dpkg/status` writes them. The first N go into a new index of the
-program, with `flush` behind them, and into a new FTS5 table on disk that keeps no texts and is optimized. Sizes are those of
+program, with `flush` (or `merge`) behind them, and into a new FTS5 table on disk that keeps no texts and is optimized. Sizes are those of
 the files, the program's without its slots and journal, so that gaps between levels count. A time is the processor time of one
 process: that which opens the index and counts the word, less that of a process that opens nothing. The least of all turns
 counts; both take turns in one run.
@@ -60,6 +60,7 @@ def main():
     parser.add_argument("--count", type=int, default=60000)
     parser.add_argument("--word", default="library")
     parser.add_argument("--turns", type=int, default=9)
+    parser.add_argument("--merge", action="store_const", const=b"merge\n", default=b"flush\n", dest="last")
     options = parser.parse_args()
     with open(options.lines, "rb") as file:
         lines = file.readlines()[: options.count]
@@ -69,7 +70,7 @@ def main():
     with tempfile.TemporaryDirectory() as folder:
         path, table = os.path.join(folder, "x.alta"), os.path.join(folder, "x.db")
         subprocess.run([options.program, path, "init"], check=True)
-        subprocess.run([options.program, path, "run"], input=b"".join(lines) + b"flush\n", stdout=subprocess.DEVNULL, check=True)
+        subprocess.run([options.program, path, "run"], input=b"".join(lines) + options.last, stdout=subprocess.DEVNULL, check=True)
         fill_table(table, documents)
         for name, size in ("index", os.path.getsize(path) - LEVELS_START), ("FTS5", os.path.getsize(table)):
             print(f"{name}: {size} bytes, {size / text:.3f} of the text")

@@ -1,18 +1,20 @@
 #!/usr/bin/env python3
 """Measures counts of queries beside SQLite's full-text index over the same documents, in the same run.
 
-usage: bench/searches.py [--program PATH] [--lines FILE] [--count N] [--repeat N]
+usage: bench/searches.py [--program PATH] --lines FILE [--count N] [--repeat N] [--merged]
 
 FILE has `add` lines, as `examples/packages.py - /var/lib/dpkg/status` writes them. As many of its first N documents as fit in one journal half go
-into a new index of the program and into a new FTS5 table of Python's sqlite3, whose words are cut by its `unicode61`. Each
-query is asked so many times in one run of the program, and as often of SQLite; the time of the same run without it is
-taken off. Prints the milliseconds a query of both, and what both count; the counts differ where the two cut words in
+into a new index of the program and into a new FTS5 table in memory of Python's sqlite3, whose words are cut by its `unicode61`. With
+--merged all N go in, and a `merge` behind them makes them one level; then the FTS5 table stands on disk, keeps no texts and is
+optimized. Each query is asked so many times in one run of the program, and as often of SQLite; the processor time of the same run
+without it is taken off. Prints the milliseconds a query of both, and what both count; the counts differ where the two cut words in
 other ways.
 """
 
 import argparse
 import itertools
 import os
+import resource
 import sqlite3
 import subprocess
 import sys
@@ -41,18 +43,19 @@ def fitting(lines):
 
 
 def run(program, path, data):
-    """The seconds of a run that has to end with status 0, and what it printed."""
-    begun = time.perf_counter()
+    """The processor seconds of a run that has to end with status 0, and what it printed."""
+    before = resource.getrusage(resource.RUSAGE_CHILDREN)
     done = subprocess.run([program, path, "run"], input=data, stdout=subprocess.PIPE, check=True)
-    return time.perf_counter() - begun, done.stdout
+    after = resource.getrusage(resource.RUSAGE_CHILDREN)
+    return after.ru_utime + after.ru_stime - before.ru_utime - before.ru_stime, done.stdout
 
 
-def table_of(lines):
-    base = sqlite3.connect(":memory:")
-    base.execute("create virtual table mail using fts5(title, body, tokenize = 'unicode61 remove_diacritics 0')")
+def table_of(lines, path, kept):
+    base = sqlite3.connect(path)
+    base.execute(f"create virtual table mail using fts5(title, body, {kept}tokenize = 'unicode61 remove_diacritics 0')")
     for line in lines:
-        _, title, body = line[4:].rstrip(b"\n").decode().split("\t", 2)
-        base.execute("insert into mail values (?, ?)", (title, body))
+        base.execute("insert into mail(title, body) values (?, ?)", line[4:].rstrip(b"\n").decode().split("\t", 2)[1:])
+    base.execute("insert into mail(mail) values ('optimize')")
     base.commit()
     return base
 
@@ -64,24 +67,26 @@ def main():
     parser.add_argument("--lines", required=True)
     parser.add_argument("--count", type=int, default=10000)
     parser.add_argument("--repeat", type=int, default=100)
+    parser.add_argument("--merged", action="store_true")
     options = parser.parse_args()
     with open(options.lines, "rb") as file:
-        lines = fitting(file.readlines()[: options.count])
+        lines = file.readlines()[: options.count]
+    lines = lines if options.merged else fitting(lines)
     print(f"{len(lines)} documents, {sum(map(len, lines))} bytes of input")
     with tempfile.TemporaryDirectory() as folder:
         path = os.path.join(folder, "x.alta")
         subprocess.run([options.program, path, "init"], check=True)
-        run(options.program, path, b"".join(lines))
+        run(options.program, path, b"".join(lines) + (b"merge\n" if options.merged else b""))
         opening = min(run(options.program, path, b"")[0] for _ in range(5))
         print(f"opening {opening * 1e3:.1f} ms")
-        base = table_of(lines)
+        base = table_of(lines, os.path.join(folder, "x.db"), "content='', ") if options.merged else table_of(lines, ":memory:", "")
         for ours, theirs in QUERIES:
             seconds, out = run(options.program, path, f"count {ours}\n".encode() * options.repeat)
             ask = "select count(*) from mail where mail match ?"
-            begun = time.perf_counter()
+            begun = time.process_time()
             for _ in range(options.repeat):
                 (found,) = base.execute(ask, (theirs,)).fetchone()
-            peer = time.perf_counter() - begun
+            peer = time.process_time() - begun
             mine = (seconds - opening) / options.repeat
             counted = out.split(b"\n")[0].decode()
             print(f"{ours}: {mine * 1e3:.3f} ms ({counted}), FTS5 {peer / options.repeat * 1e3:.3f} ms (found {found})")

@@ -7,7 +7,7 @@ Each round makes an index, and runs scripts of adds, deletes, flushes, merges, s
 reply has to be that of `answers.py`, which tries each document, also between the slices of a join. Behind each run the file has
 to be the one of `held.py`, which works on levels as docs/FORMAT.md says: what is written anew stands at the first gap that holds
 it, the levels in their order and then the deletion list, all else stays where it was, and a join in progress ends with its run.
-Some rounds fill the journal, so that an add or a delete flushes first; some have as many levels as a root may, so that a flush
+Some rounds fill the journal, one of them three times in two runs, so that an add or a delete flushes first; some have as many levels as a root may, so that a flush
 joins the oldest two, by the join in progress or by a new one. Ends with status 0 where all of that holds.
 """
 
@@ -214,6 +214,13 @@ def seventeen():
     yield [[line for pair in pairs[:16] for line in pair] + ["step 2", "delete n1", "delete n9", *pairs[16], "step 1", "count red"]], 16
 
 
+def three_halves():
+    """A text over three halves of the journal, added in two runs, and then each search: three levels stand."""
+    texts = [" ".join(WORDS[number * place % 8] for place in range(1, 2 + number % 7)) for number in range(60)]
+    lines = [f"add d{number}\t{WORDS[number % 5]}\t{text} {'y' * 60000}" for number, text in enumerate(texts)]
+    yield [lines[:30], lines[30:] + [f"{word} {spelled(query)}" for query in QUERIES for word in ("search", "count")]], 3
+
+
 def try_round(path, program, chance, style):
     """Some runs over a new index."""
     tried = Round(program, path)
@@ -253,7 +260,7 @@ def main():
     sums = Sums()
     with tempfile.TemporaryDirectory(dir=memory) as folder:
         path = os.path.join(folder, "index")
-        for runs, levels in (*STEADY, *seventeen()):
+        for runs, levels in (*STEADY, *seventeen(), *three_halves()):
             sums.add(steady(path, program, runs, levels))
             os.remove(path)
         stop = time.monotonic() + options.seconds
