@@ -10,6 +10,7 @@ pub mod FedLaws
 pub mod FeedLaws
 pub mod FullnessLaws
 pub mod GivenLaws
+pub mod JoiningLaws
 pub mod KeepingLaws
 pub mod LoadingLaws
 pub mod MachineLaws

@@ -7,6 +7,7 @@ pub mod Ending
 pub mod Fed
 pub mod Fullness
 pub mod Going
+pub mod Joining
 pub mod Keeping
 pub mod Loading
 pub mod Machine

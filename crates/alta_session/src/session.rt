@@ -7,6 +7,9 @@ ghost use Rattle.alta_meta.specs.declared.document.State.{State};
 ghost use Rattle.alta_session.specs.Agreement.{AgreesOn, IsSound};
 ghost use Rattle.alta_session.specs.Answering.{Answers, CanAnswer, IsReply};
 ghost use Rattle.alta_session.specs.Asking.{Asks};
+ghost use Rattle.alta_model.specs.Command.{adds, deletes, flushes as asks_flush, merges as asks_merge, steps as asks_step};
+ghost use Rattle.alta_model.specs.Lines.{asks, reading_of};
+ghost use Rattle.alta_session.specs.Joining.{Works};
 ghost use Rattle.alta_session.specs.Loading.{Loads, session_loads};
 ghost use Rattle.alta_session.specs.Machine.{Machine, started_at, step, changed_by, adding, deleting, Looks, Searches};
 ghost use Rattle.alta_session.specs.Spending.{OnlyReads};
@@ -93,6 +96,7 @@ impl Session {
         ensures no_disk { Looks line.now → (disk.new ≡ disk.old) × IfErr result (λ e. e ≡ StoreFault.Memory) }
         ensures loads { Searches line.now → Loads D.tells (session_loads self.old line.now) (D.state disk.old) (D.state disk.new) result }
         ensures kept { OnlyReads line.now → self.new.store ≡ self.old.store }
+        ensures works { Works D.tells D.state disk.old disk.new self.old.store (reading_of line.now) result }
     {
         match self.reply(alloc, disk, line) {
             Ok(reply) => Ok(reply),
@@ -116,6 +120,7 @@ impl Session {
         ensures no_disk { Looks line.now → (disk.new ≡ disk.old) × IfErr result (λ e. e ≡ StoreFault.Memory) }
         ensures loads { Searches line.now → Loads D.tells (session_loads self.old line.now) (D.state disk.old) (D.state disk.new) result }
         ensures kept { OnlyReads line.now → self.new.store ≡ self.old.store }
+        ensures works { Works D.tells D.state disk.old disk.new self.old.store (reading_of line.now) result }
     {
         match asked(line) {
             Ask::Add { name, title, body } => self.add(alloc, disk, name, title, body),
@@ -145,7 +150,8 @@ impl Session {
     ) -> Result<Text, StoreFault>
         requires document { IsName name.now → IsDocument name.now title.now body.now }
         requires can { CanAnswer D.tells (D.state disk.old) self.old }
-        ensures { Answers D.tells D.state disk.old disk.new self.old self.new result (λ m. changed_by m (adding name.now title.now body.now m.state)) (λ m. task_of_add name.now title.now body.now m.state) }
+        ensures answers { Answers D.tells D.state disk.old disk.new self.old self.new result (λ m. changed_by m (adding name.now title.now body.now m.state)) (λ m. task_of_add name.now title.now body.now m.state) }
+        ensures works { Works D.tells D.state disk.old disk.new self.old.store (asks (adds name.now title.now body.now)) result }
     {
         if !name_ok(name.as_bytes()) {
             return text(alloc, "! bad name\n");
@@ -168,7 +174,8 @@ impl Session {
         name: &str,
     ) -> Result<Text, StoreFault>
         requires { CanAnswer D.tells (D.state disk.old) self.old }
-        ensures { Answers D.tells D.state disk.old disk.new self.old self.new result (λ m. changed_by m (deleting name.now m.state)) (λ m. task_of_delete name.now m.state) }
+        ensures answers { Answers D.tells D.state disk.old disk.new self.old self.new result (λ m. changed_by m (deleting name.now m.state)) (λ m. task_of_delete name.now m.state) }
+        ensures works { Works D.tells D.state disk.old disk.new self.old.store (asks (deletes name.now)) result }
     {
         if !name_ok(name.as_bytes()) {
             return text(alloc, "! bad name\n");
@@ -185,7 +192,8 @@ impl Session {
     // Makes the newest documents a level.
     fn flush<D: Disk>(&mut self, alloc: Global, disk: &mut D) -> Result<Text, StoreFault>
         requires { CanAnswer D.tells (D.state disk.old) self.old }
-        ensures { Answers D.tells D.state disk.old disk.new self.old self.new result (λ m. (m, codes "ok\n")) (λ m. Some flushes) }
+        ensures answers { Answers D.tells D.state disk.old disk.new self.old self.new result (λ m. (m, codes "ok\n")) (λ m. Some flushes) }
+        ensures works { Works D.tells D.state disk.old disk.new self.old.store (asks asks_flush) result }
     {
         match self.store.flush(disk) {
             Ok(()) => text(alloc, "ok\n"),
@@ -196,7 +204,8 @@ impl Session {
     // Joins all levels and the newest documents to one.
     fn merge<D: Disk>(&mut self, alloc: Global, disk: &mut D) -> Result<Text, StoreFault>
         requires { CanAnswer D.tells (D.state disk.old) self.old }
-        ensures { Answers D.tells D.state disk.old disk.new self.old self.new result (λ m. (m, codes "ok\n")) (λ m. Some merges) }
+        ensures answers { Answers D.tells D.state disk.old disk.new self.old self.new result (λ m. (m, codes "ok\n")) (λ m. Some merges) }
+        ensures works { Works D.tells D.state disk.old disk.new self.old.store (asks asks_merge) result }
     {
         match self.store.merge(disk) {
             Ok(()) => text(alloc, "ok\n"),
@@ -207,7 +216,8 @@ impl Session {
     // Moves the join of the two oldest levels on by `n` terms.
     fn step<D: Disk>(&mut self, alloc: Global, disk: &mut D, n: u64) -> Result<Text, StoreFault>
         requires { CanAnswer D.tells (D.state disk.old) self.old }
-        ensures { Answers D.tells D.state disk.old disk.new self.old self.new result (λ m. (m, codes "ok\n")) (λ m. Some (steps n)) }
+        ensures answers { Answers D.tells D.state disk.old disk.new self.old self.new result (λ m. (m, codes "ok\n")) (λ m. Some (steps n)) }
+        ensures works { Works D.tells D.state disk.old disk.new self.old.store (asks (asks_step n)) result }
     {
         match self.store.step(disk, n) {
             Ok(()) => text(alloc, "ok\n"),

@@ -10,6 +10,9 @@ use Rattle.alta_session.specs.Tasks.{task_of_add}
 use Rattle.alta_store.specs.Agreement.{Has}
 use Rattle.alta_store.specs.Calls.{RefusesAdd}
 use Rattle.alta_store.specs.declared.fault.StoreFault.TheVariants.{Damaged, Disk, Taken, Numbers, Full}
+use Rattle.alta_model.specs.Command.{adds}
+use Rattle.alta_model.specs.Lines.{asks}
+use Rattle.alta_session.proofs.JoiningLaws.{works_done, works_failed, works_still}
 use Rattle.alta_session.proofs.AddingLaws.{adding_bad, adding_taken, adding_full, adding_added, added_is_none, leaves_adding, refused_for, room_left}
 use Rattle.alta_session.proofs.AgreementLaws.{knows_state}
 use Rattle.alta_session.proofs.AnsweringLaws.{same_fault, same_store, looked, answers_same, changed, changed_rests}
@@ -20,13 +23,13 @@ use Rattle.alta_session.proofs.session.Session.add.Goals as goal
 pub add-requires-clause-agrees : goal.add-requires-clause-agrees
 add-requires-clause-agrees g c = c.requires.can.agrees
 
-pub returns-then-not-name_ok : goal.returns-then-not-name_ok
-returns-then-not-name_ok g c =
+pub returns-then-not-name_ok-clause-answers : goal.returns-then-not-name_ok-clause-answers
+returns-then-not-name_ok-clause-answers g c =
     looked g.D.Disk.tells g.D.Disk.state c.args.disk.now c.args.self.now c.text.result _ _ _ (g.met.D.Disk.lawful c.args.disk.now) c.requires.can c.text.ensures
     (λ m tell agrees. changed_rests m _ _ _ (adding_bad c.args.name.now c.args.title.now c.args.body.now m.state (search rules)) (add_bad c.args.name.now c.args.title.now c.args.body.now m.state (search rules)))
 
-pub returns-in-Ok : goal.returns-in-Ok
-returns-in-Ok g c =
+pub returns-in-Ok-clause-answers : goal.returns-in-Ok-clause-answers
+returns-in-Ok-clause-answers g c =
     changed g.D.Disk.tells g.D.Disk.state c.args.disk.now c.add.new.disk c.args.self.now _ c.added.result (adding c.args.name.now c.args.title.now c.args.body.now) (λ m. task_of_add c.args.name.now c.args.title.now c.args.body.now m.state) _ c.added.ensures (added_is_none c.in-Ok.number) refl
     (record {
       sound = search rules;
@@ -46,8 +49,8 @@ returns-in-Ok g c =
           (add_enters c.args.name.now c.args.title.now c.args.body.now m.state (search rules) number.1 number.2) (c.in-Ok.ensures.obeys.works held tell here);
     })
 
-pub returns-in-Taken : goal.returns-in-Taken
-returns-in-Taken g c =
+pub returns-in-Taken-clause-answers : goal.returns-in-Taken-clause-answers
+returns-in-Taken-clause-answers g c =
     let is : c.add.result ≡ Err Taken = c.in-Err.is ∙ ap Err c.in-Taken.is in
     let same = c.add.ensures.refused (inl is) in
     answers_same g.D.Disk.tells g.D.Disk.state c.args.disk.now c.add.new.disk c.args.self.now _ c.text-in-Taken.result _ _ same.0 (same_store c.args.self.now c.add.new.self same.1)
@@ -56,8 +59,8 @@ returns-in-Taken g c =
     let taken = (c.add.ensures.taken m.state (knows_state g.D.Disk.tells (g.D.Disk.state c.args.disk.now) c.args.self.now m agrees tell)).0 is in
     changed_rests m _ _ _ (adding_taken c.args.name.now c.args.title.now c.args.body.now m.state (search rules) taken) (add_taken c.args.name.now c.args.title.now c.args.body.now m.state taken)))
 
-pub returns-in-Numbers : goal.returns-in-Numbers
-returns-in-Numbers g c =
+pub returns-in-Numbers-clause-answers : goal.returns-in-Numbers-clause-answers
+returns-in-Numbers-clause-answers g c =
     let is : c.add.result ≡ Err Numbers = c.in-Err.is ∙ ap Err c.in-Numbers.is in
     let same = c.add.ensures.refused (inr is) in
     answers_same g.D.Disk.tells g.D.Disk.state c.args.disk.now c.add.new.disk c.args.self.now _ c.text-in-Numbers.result _ _ same.0 (same_store c.args.self.now c.add.new.self same.1)
@@ -67,8 +70,8 @@ returns-in-Numbers g c =
     changed_rests m _ _ _ (adding_full c.args.name.now c.args.title.now c.args.body.now m.state (search rules) full.0 full.1) (add_full c.args.name.now c.args.title.now c.args.body.now m.state full.1)))
 
 -- the addition failed
-pub returns-in_default : goal.returns-in_default
-returns-in_default g c = record {
+pub returns-in_default-clause-answers : goal.returns-in_default-clause-answers
+returns-in_default-clause-answers g c = record {
   from = λ m tell agrees.
       let knows = knows_state g.D.Disk.tells (g.D.Disk.state c.args.disk.now) c.args.self.now m agrees tell in
       let not_taken : has_name c.args.name.now m.state ≡ true → ⊥ = λ taken. c.in_default.not-Taken (same_fault _ _ _ c.in-Err.is ((c.add.ensures.taken m.state knows).1 taken)) in
@@ -101,3 +104,19 @@ returns-in_default g c = record {
   faults = c.add.ensures.obeys.costs.faults;
   same_limit = c.add.ensures.obeys.costs.limit;
 }
+
+pub returns-then-not-name_ok-clause-works : goal.returns-then-not-name_ok-clause-works
+returns-then-not-name_ok-clause-works g c = works_still g.D.Disk.tells g.D.Disk.state c.args.disk.now c.args.self.now.store (asks (adds c.args.name.now c.args.title.now c.args.body.now)) c.text.result c.text.ensures.memory
+
+pub returns-in-Ok-clause-works : goal.returns-in-Ok-clause-works
+returns-in-Ok-clause-works g c = works_done g.D.Disk.tells g.D.Disk.state c.args.disk.now c.add.new.disk c.args.self.now.store (asks (adds c.args.name.now c.args.title.now c.args.body.now)) c.added.result c.added.ensures.memory (λ none. absurd none)
+
+pub returns-in-Taken-clause-works : goal.returns-in-Taken-clause-works
+returns-in-Taken-clause-works g c = works_done g.D.Disk.tells g.D.Disk.state c.args.disk.now c.add.new.disk c.args.self.now.store (asks (adds c.args.name.now c.args.title.now c.args.body.now)) c.text-in-Taken.result c.text-in-Taken.ensures.memory (λ none. absurd none)
+
+pub returns-in-Numbers-clause-works : goal.returns-in-Numbers-clause-works
+returns-in-Numbers-clause-works g c = works_done g.D.Disk.tells g.D.Disk.state c.args.disk.now c.add.new.disk c.args.self.now.store (asks (adds c.args.name.now c.args.title.now c.args.body.now)) c.text-in-Numbers.result c.text-in-Numbers.ensures.memory (λ none. absurd none)
+
+pub returns-in_default-clause-works : goal.returns-in_default-clause-works
+returns-in_default-clause-works g c =
+    works_failed g.D.Disk.tells g.D.Disk.state c.args.disk.now c.add.new.disk c.args.self.now.store (asks (adds c.args.name.now c.args.title.now c.args.body.now)) c.in-Err.fault (λ place tell is. (c.add.ensures.obeys.damage tell).broken place (c.in-Err.is ∙ ap Err is)) (λ none. absurd none)

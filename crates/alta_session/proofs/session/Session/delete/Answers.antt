@@ -11,6 +11,11 @@ use Rattle.alta_session.specs.Tasks.{task_of_delete}
 use Rattle.alta_store.specs.Agreement.{Has}
 use Rattle.alta_store.specs.Calls.{NoRefusal}
 use Rattle.alta_store.specs.declared.fault.StoreFault.TheVariants.{Damaged, Disk, Missing, Full}
+use Rattle.alta_images.specs.Broken.{IsBrokenAmong}
+use Rattle.alta_model.specs.Command.{deletes}
+use Rattle.alta_model.specs.Lines.{asks}
+use Rattle.alta_table.specs.Tables.{Tables}
+use Rattle.alta_session.proofs.JoiningLaws.{delete_joins, works_done, works_failed, works_still}
 use Rattle.alta_session.proofs.AgreementLaws.{knows_state}
 use Rattle.alta_session.proofs.AnsweringLaws.{same_fault, same_store, looked, answers_same, changed, changed_rests}
 use Rattle.alta_session.proofs.DeletingLaws.{deleting_bad, deleting_missing, deleting_deleted, leaves_deleting, missing_for, deleted_where, deleted_is_none}
@@ -21,13 +26,13 @@ use Rattle.alta_session.proofs.session.Session.delete.Goals as goal
 pub delete-requires-clause-agrees : goal.delete-requires-clause-agrees
 delete-requires-clause-agrees g c = c.requires.agrees
 
-pub returns-then-not-name_ok : goal.returns-then-not-name_ok
-returns-then-not-name_ok g c =
+pub returns-then-not-name_ok-clause-answers : goal.returns-then-not-name_ok-clause-answers
+returns-then-not-name_ok-clause-answers g c =
     looked g.D.Disk.tells g.D.Disk.state c.args.disk.now c.args.self.now c.text.result _ _ _ (g.met.D.Disk.lawful c.args.disk.now) c.requires c.text.ensures
     (λ m tell agrees. changed_rests m _ _ _ (deleting_bad c.args.name.now m.state (search rules)) (delete_bad c.args.name.now m.state (search rules)))
 
-pub returns-in-Ok : goal.returns-in-Ok
-returns-in-Ok g c =
+pub returns-in-Ok-clause-answers : goal.returns-in-Ok-clause-answers
+returns-in-Ok-clause-answers g c =
     let intact = c.requires.agrees.intact in
     let obeys = c.in-Ok.ensures.obeys intact.state c.in-Ok.number intact.knows (c.in-Ok.ensures.number intact.state intact.knows) in
     changed g.D.Disk.tells g.D.Disk.state c.args.disk.now c.delete.new.disk c.args.self.now _ c.deleted.result (deleting c.args.name.now) (λ m. task_of_delete c.args.name.now m.state) _ c.deleted.ensures (deleted_is_none c.in-Ok.number) refl
@@ -49,8 +54,8 @@ returns-in-Ok g c =
           (delete_enters c.args.name.now m.state c.in-Ok.number (search rules) numbered) (obeys.works held tell here);
     })
 
-pub returns-in-Missing : goal.returns-in-Missing
-returns-in-Missing g c =
+pub returns-in-Missing-clause-answers : goal.returns-in-Missing-clause-answers
+returns-in-Missing-clause-answers g c =
     let is : c.delete.result ≡ Err Missing = c.in-Err.is ∙ ap Err c.in-Missing.is in
     let same = c.delete.ensures.refused is in
     answers_same g.D.Disk.tells g.D.Disk.state c.args.disk.now c.delete.new.disk c.args.self.now _ c.text-in-Missing.result _ _ same.0 (same_store c.args.self.now c.delete.new.self same.1)
@@ -60,8 +65,8 @@ returns-in-Missing g c =
     changed_rests m _ _ _ (deleting_missing c.args.name.now m.state (search rules) none) (delete_missing c.args.name.now m.state (search rules) none)))
 
 -- the deletion failed
-pub returns-in_default : goal.returns-in_default
-returns-in_default g c =
+pub returns-in_default-clause-answers : goal.returns-in_default-clause-answers
+returns-in_default-clause-answers g c =
     let intact = c.requires.agrees.intact in
     let there : has_name c.args.name.now intact.state ≡ false → ⊥ = λ none. c.in_default.not-Missing (same_fault _ _ _ c.in-Err.is ((c.delete.ensures.missing intact.state intact.knows).1 none)) in
     let n = deleted_where c.args.name.now intact.state there in
@@ -94,3 +99,21 @@ returns-in_default g c =
       faults = obeys.costs.faults;
       same_limit = obeys.costs.limit;
     }
+
+pub returns-then-not-name_ok-clause-works : goal.returns-then-not-name_ok-clause-works
+returns-then-not-name_ok-clause-works g c = works_still g.D.Disk.tells g.D.Disk.state c.args.disk.now c.args.self.now.store (asks (deletes c.args.name.now)) c.text.result c.text.ensures.memory
+
+pub returns-in-Ok-clause-works : goal.returns-in-Ok-clause-works
+returns-in-Ok-clause-works g c = works_done g.D.Disk.tells g.D.Disk.state c.args.disk.now c.delete.new.disk c.args.self.now.store (asks (deletes c.args.name.now)) c.deleted.result c.deleted.ensures.memory (λ none. absurd none)
+
+pub returns-in-Missing-clause-works : goal.returns-in-Missing-clause-works
+returns-in-Missing-clause-works g c = works_done g.D.Disk.tells g.D.Disk.state c.args.disk.now c.delete.new.disk c.args.self.now.store (asks (deletes c.args.name.now)) c.text-in-Missing.result c.text-in-Missing.ensures.memory (λ none. absurd none)
+
+pub returns-in_default-clause-works : goal.returns-in_default-clause-works
+returns-in_default-clause-works g c =
+    let intact = c.requires.agrees.intact in
+    let there : has_name c.args.name.now intact.state ≡ false → ⊥ = λ none. c.in_default.not-Missing (same_fault _ _ _ c.in-Err.is ((c.delete.ensures.missing intact.state intact.knows).1 none)) in
+    let n = deleted_where c.args.name.now intact.state there in
+    let obeys = c.in-Err.ensures.obeys intact.state n.0 intact.knows n.1 in
+    works_failed g.D.Disk.tells g.D.Disk.state c.args.disk.now c.delete.new.disk c.args.self.now.store (asks (deletes c.args.name.now)) c.in-Err.fault
+    (λ place tell is. subst (λ (levels : List Tables). IsBrokenAmong levels (g.D.Disk.state c.args.disk.now).content place) (delete_joins c.args.self.now.store n.0) ((obeys.damage tell).broken place (ap Err is))) (λ none. absurd none)

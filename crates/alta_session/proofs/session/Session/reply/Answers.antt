@@ -13,6 +13,8 @@ use Rattle.alta_session.specs.Searching.{IsNoQuery, searching, counting}
 use Rattle.alta_session.specs.Tasks.{task_of, task_of_add, task_of_delete}
 use Rattle.alta_images.specs.States.{words_in}
 use Rattle.alta_session.specs.Spending.{OnlyReads, ReadsIn}
+use Rattle.alta_session.specs.Joining.{Works}
+use Rattle.alta_session.proofs.JoiningLaws.{works_searching, works_still}
 use Rattle.alta_session.proofs.AgreementLaws.{knows_state}
 use Rattle.alta_session.proofs.AnsweringLaws.{if_so, looked, answers_by, step_rests, turned}
 use Rattle.alta_session.proofs.AskLaws.{adds_more, deletes_more}
@@ -28,28 +30,28 @@ returns-in-Add-clause-answers g c =
     let title : List ℕ = c.in-Add.title.now in
     let body : List ℕ = c.in-Add.body.now in
     answers_by g.D.Disk.tells g.D.Disk.state c.args.disk.now c.add.new.disk c.args.self.now c.add.new.self c.add.result (λ m. changed_by m (adding name title body m.state)) (λ m. step m c.args.line.now) (λ m. task_of_add name title body m.state) (λ m. task_of m c.args.line.now)
-    (λ m. sym (c.in-Add.ensures.0 m)) (λ m. sym (task_reads m c.args.line.now (asks (adds name title body)) c.in-Add.ensures.2)) c.add.ensures
+    (λ m. sym (c.in-Add.ensures.0 m)) (λ m. sym (task_reads m c.args.line.now (asks (adds name title body)) c.in-Add.ensures.2)) c.add.ensures.answers
 
 pub returns-in-Delete-clause-answers : goal.returns-in-Delete-clause-answers
 returns-in-Delete-clause-answers g c =
     let name : List ℕ = c.in-Delete.name.now in
     answers_by g.D.Disk.tells g.D.Disk.state c.args.disk.now c.delete.new.disk c.args.self.now c.delete.new.self c.delete.result (λ m. changed_by m (deleting name m.state)) (λ m. step m c.args.line.now) (λ m. task_of_delete name m.state) (λ m. task_of m c.args.line.now)
-    (λ m. sym (c.in-Delete.ensures.0 m)) (λ m. sym (task_reads m c.args.line.now (asks (deletes name)) c.in-Delete.ensures.1)) c.delete.ensures
+    (λ m. sym (c.in-Delete.ensures.0 m)) (λ m. sym (task_reads m c.args.line.now (asks (deletes name)) c.in-Delete.ensures.1)) c.delete.ensures.answers
 
 pub returns-in-Flush-clause-answers : goal.returns-in-Flush-clause-answers
 returns-in-Flush-clause-answers g c =
     answers_by g.D.Disk.tells g.D.Disk.state c.args.disk.now c.flush.new.disk c.args.self.now c.flush.new.self c.flush.result (λ m. (m, codes "ok\n")) (λ m. step m c.args.line.now) (λ m. Some flushes) (λ m. task_of m c.args.line.now)
-    (λ m. sym (c.in-Flush.ensures.0 m)) (λ m. sym (task_reads m c.args.line.now (asks asks_flush) c.in-Flush.ensures.1)) c.flush.ensures
+    (λ m. sym (c.in-Flush.ensures.0 m)) (λ m. sym (task_reads m c.args.line.now (asks asks_flush) c.in-Flush.ensures.1)) c.flush.ensures.answers
 
 pub returns-in-Merge-clause-answers : goal.returns-in-Merge-clause-answers
 returns-in-Merge-clause-answers g c =
     answers_by g.D.Disk.tells g.D.Disk.state c.args.disk.now c.merge.new.disk c.args.self.now c.merge.new.self c.merge.result (λ m. (m, codes "ok\n")) (λ m. step m c.args.line.now) (λ m. Some merges) (λ m. task_of m c.args.line.now)
-    (λ m. sym (c.in-Merge.ensures.0 m)) (λ m. sym (task_reads m c.args.line.now (asks asks_merge) c.in-Merge.ensures.1)) c.merge.ensures
+    (λ m. sym (c.in-Merge.ensures.0 m)) (λ m. sym (task_reads m c.args.line.now (asks asks_merge) c.in-Merge.ensures.1)) c.merge.ensures.answers
 
 pub returns-in-Step-clause-answers : goal.returns-in-Step-clause-answers
 returns-in-Step-clause-answers g c =
     answers_by g.D.Disk.tells g.D.Disk.state c.args.disk.now c.step.new.disk c.args.self.now c.step.new.self c.step.result (λ m. (m, codes "ok\n")) (λ m. step m c.args.line.now) (λ m. Some (steps c.in-Step.count)) (λ m. task_of m c.args.line.now)
-    (λ m. sym (c.in-Step.ensures.0 m)) (λ m. sym (task_reads m c.args.line.now (asks (asks_step c.in-Step.count)) c.in-Step.ensures.1)) c.step.ensures
+    (λ m. sym (c.in-Step.ensures.0 m)) (λ m. sym (task_reads m c.args.line.now (asks (asks_step c.in-Step.count)) c.in-Step.ensures.1)) c.step.ensures.answers
 
 -- a line that changes documents or levels does not look
 pub returns-in-Add-clause-no_disk : goal.returns-in-Add-clause-no_disk
@@ -210,3 +212,47 @@ returns-in-Merge-clause-kept g c = λ reads. absurd (subst ReadsIn c.in-Merge.en
 pub returns-in-Step-clause-kept : goal.returns-in-Step-clause-kept
 unfolding OnlyReads
 returns-in-Step-clause-kept g c = λ reads. absurd (subst ReadsIn c.in-Step.ensures.1 reads)
+
+-- ---- what a line does to levels
+
+pub returns-in-Add-clause-works : goal.returns-in-Add-clause-works
+returns-in-Add-clause-works g c = subst (λ (r : Reading). Works g.D.Disk.tells g.D.Disk.state c.args.disk.now c.add.new.disk c.args.self.now.store r c.add.result) (sym c.in-Add.ensures.2) c.add.ensures.works
+
+pub returns-in-Delete-clause-works : goal.returns-in-Delete-clause-works
+returns-in-Delete-clause-works g c = subst (λ (r : Reading). Works g.D.Disk.tells g.D.Disk.state c.args.disk.now c.delete.new.disk c.args.self.now.store r c.delete.result) (sym c.in-Delete.ensures.1) c.delete.ensures.works
+
+pub returns-in-Flush-clause-works : goal.returns-in-Flush-clause-works
+returns-in-Flush-clause-works g c = subst (λ (r : Reading). Works g.D.Disk.tells g.D.Disk.state c.args.disk.now c.flush.new.disk c.args.self.now.store r c.flush.result) (sym c.in-Flush.ensures.1) c.flush.ensures.works
+
+pub returns-in-Merge-clause-works : goal.returns-in-Merge-clause-works
+returns-in-Merge-clause-works g c = subst (λ (r : Reading). Works g.D.Disk.tells g.D.Disk.state c.args.disk.now c.merge.new.disk c.args.self.now.store r c.merge.result) (sym c.in-Merge.ensures.1) c.merge.ensures.works
+
+pub returns-in-Step-clause-works : goal.returns-in-Step-clause-works
+returns-in-Step-clause-works g c = subst (λ (r : Reading). Works g.D.Disk.tells g.D.Disk.state c.args.disk.now c.step.new.disk c.args.self.now.store r c.step.result) (sym c.in-Step.ensures.1) c.step.ensures.works
+
+pub returns-in-Search-clause-works : goal.returns-in-Search-clause-works
+returns-in-Search-clause-works g c =
+    subst (λ (r : Reading). Works g.D.Disk.tells g.D.Disk.state c.args.disk.now c.search.new.disk c.args.self.now.store r c.search.result) (sym c.in-Search.ensures.1) (works_searching g.D.Disk.tells g.D.Disk.state c.args.disk.now c.search.new.disk c.args.self.now.store (asks (searches c.in-Search.text.now)) c.search.result tt (λ none. absurd none))
+
+pub returns-in-Count-clause-works : goal.returns-in-Count-clause-works
+returns-in-Count-clause-works g c =
+    subst (λ (r : Reading). Works g.D.Disk.tells g.D.Disk.state c.args.disk.now c.count.new.disk c.args.self.now.store r c.count.result) (sym c.in-Count.ensures.1) (works_searching g.D.Disk.tells g.D.Disk.state c.args.disk.now c.count.new.disk c.args.self.now.store (asks (asks_count c.in-Count.text.now)) c.count.result tt (λ none. absurd none))
+
+pub returns-in-Open-clause-works : goal.returns-in-Open-clause-works
+returns-in-Open-clause-works g c =
+    subst (λ (r : Reading). Works g.D.Disk.tells g.D.Disk.state c.args.disk.now c.open.new.disk c.args.self.now.store r c.open.result) (sym c.in-Open.ensures.1) (works_searching g.D.Disk.tells g.D.Disk.state c.args.disk.now c.open.new.disk c.args.self.now.store (asks (opens c.in-Open.text.now)) c.open.result tt (λ none. absurd none))
+
+pub returns-in-Explain-clause-works : goal.returns-in-Explain-clause-works
+returns-in-Explain-clause-works g c = works_still g.D.Disk.tells g.D.Disk.state c.args.disk.now c.args.self.now.store _ c.explain.result c.explain.ensures.memory
+
+pub returns-in-Fetch-clause-works : goal.returns-in-Fetch-clause-works
+returns-in-Fetch-clause-works g c = works_still g.D.Disk.tells g.D.Disk.state c.args.disk.now c.args.self.now.store _ c.fetch.result c.fetch.ensures.memory
+
+pub returns-in-Close-clause-works : goal.returns-in-Close-clause-works
+returns-in-Close-clause-works g c = works_still g.D.Disk.tells g.D.Disk.state c.args.disk.now c.args.self.now.store _ c.close.result c.close.ensures.memory
+
+pub returns-in-Stats-clause-works : goal.returns-in-Stats-clause-works
+returns-in-Stats-clause-works g c = works_still g.D.Disk.tells g.D.Disk.state c.args.disk.now c.args.self.now.store _ c.stats.result c.stats.ensures.memory
+
+pub returns-in-Refused-clause-works : goal.returns-in-Refused-clause-works
+returns-in-Refused-clause-works g c = works_still g.D.Disk.tells g.D.Disk.state c.args.disk.now c.args.self.now.store _ c.text.result c.text.ensures.memory

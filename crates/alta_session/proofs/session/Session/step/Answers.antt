@@ -6,6 +6,9 @@ use Rattle.alta_session.specs.Machine.{IsRefusal}
 use Rattle.alta_store.specs.Agreement.{Has}
 use Rattle.alta_store.specs.Calls.{NoRefusal}
 use Rattle.alta_store.specs.declared.fault.StoreFault.TheVariants.{Damaged, Disk, Full}
+use Rattle.alta_model.specs.Command.{steps as asks_step}
+use Rattle.alta_model.specs.Lines.{asks}
+use Rattle.alta_session.proofs.JoiningLaws.{failed_done, works_done, works_failed}
 use Rattle.alta_session.proofs.AnsweringLaws.{changed}
 use Rattle.alta_session.proofs.ObeyingLaws.{obeyed_works, obeyed_full, narrow_at, some_only, task_broken}
 use Rattle.alta_session.proofs.session.Session.step.Goals as goal
@@ -16,8 +19,8 @@ step-requires-clause-agrees g c = c.requires.agrees
 ok_is_none : IsRefusal (codes "ok\n") → ⊥
 ok_is_none refusal = cc
 
-pub returns-in-Ok : goal.returns-in-Ok
-returns-in-Ok g c =
+pub returns-in-Ok-clause-answers : goal.returns-in-Ok-clause-answers
+returns-in-Ok-clause-answers g c =
     let obeys = c.in-Ok.ensures.obeys in
     changed g.D.Disk.tells g.D.Disk.state c.args.disk.now c.step.new.disk c.args.self.now _ c.text.result (λ (s : State). (s, codes "ok\n")) (λ m. Some (steps c.args.n)) _ c.text.ensures ok_is_none refl
     (record {
@@ -33,8 +36,8 @@ returns-in-Ok g c =
     })
 
 -- the step failed
-pub returns-in-Err : goal.returns-in-Err
-returns-in-Err g c =
+pub returns-in-Err-clause-answers : goal.returns-in-Err-clause-answers
+returns-in-Err-clause-answers g c =
     let obeys = c.in-Err.ensures.obeys in
     record {
       from = λ m tell agrees. record {
@@ -59,3 +62,10 @@ returns-in-Err g c =
       faults = obeys.costs.faults;
       same_limit = obeys.costs.limit;
     }
+
+pub returns-in-Ok-clause-works : goal.returns-in-Ok-clause-works
+returns-in-Ok-clause-works g c = works_done g.D.Disk.tells g.D.Disk.state c.args.disk.now c.step.new.disk c.args.self.now.store (asks (asks_step c.args.n)) c.text.result c.text.ensures.memory (λ idle. (c.step.ensures.idle idle).1)
+
+pub returns-in-Err-clause-works : goal.returns-in-Err-clause-works
+returns-in-Err-clause-works g c =
+    works_failed g.D.Disk.tells g.D.Disk.state c.args.disk.now c.step.new.disk c.args.self.now.store (asks (asks_step c.args.n)) c.in-Err.fault (λ place tell is. (c.in-Err.ensures.obeys.damage tell).broken place (ap Err is)) (λ idle. failed_done c.in-Err.fault c.step.result c.in-Err.is (c.step.ensures.idle idle).0)

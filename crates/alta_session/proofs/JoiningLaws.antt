@@ -1,0 +1,58 @@
+-- Laws of what lines do to levels.
+use Rattle.std.proofs.Common.{◌≡◌, ℕ, List, Result, Ok, Err, refl, ap, subst, sym, ◌∙◌}
+use Rattle.std.specs.Prelude.{IfErr, [], cond, nat_le}
+use Rattle.alta_disk.specs.Disk.{DiskState}
+use Rattle.alta_images.specs.Broken.{IsBrokenAmong}
+use Rattle.alta_images.specs.Work.{enters}
+use Rattle.alta_journal.specs.declared.entry.Entry.TheVariants.{Delete}
+use Rattle.alta_model.specs.Lines.{Reading}
+use Rattle.alta_session.specs.Joining.{IdlesIn, Works, joins_in}
+use Rattle.alta_session.specs.Machine.{SearchesIn}
+use Rattle.alta_store.specs.Agreement.{room_of}
+use Rattle.alta_store.specs.Calls.{flush_joins, joined_by}
+use Rattle.alta_store.specs.declared.fault.StoreFault.{StoreFault}
+use Rattle.alta_store.specs.declared.fault.StoreFault.TheVariants.{Damaged, Memory}
+use Rattle.alta_store.specs.declared.store.Store.{Store}
+use Rattle.alta_session.proofs.AnsweringLaws.{is_memory}
+use Rattle.alta_store.proofs.Commits.{delete_bytes}
+
+-- no disk was called, and memory alone may have been wanting
+pub works_still : {D : Type 0} (tells : Type 0) (state : D → DiskState) (disk : D) (store : Store) (reading : Reading) (result : Result (List ℕ) StoreFault) → IfErr result (λ e. e ≡ Memory) → Works tells state disk disk store reading result
+works_still tells state disk store reading result memory = record {
+  joins = λ other place tell is. let wanting : Damaged place ≡ Memory = is_memory result (Damaged place) memory is in absurd cc;
+  idle = λ idle. (refl, memory);
+}
+
+-- and so where it came out as it was
+pub works_same : {D : Type 0} (tells : Type 0) (state : D → DiskState) (disk disk_now : D) (store : Store) (reading : Reading) (result : Result (List ℕ) StoreFault) → disk_now ≡ disk → IfErr result (λ e. e ≡ Memory) → Works tells state disk disk_now store reading result
+works_same {D} tells state disk disk_now store reading result same memory = subst (λ (d : D). Works tells state disk d store reading result) (sym same) (works_still tells state disk store reading result memory)
+
+-- it was done, and memory alone may have been wanting behind it
+pub works_done : {D : Type 0} (tells : Type 0) (state : D → DiskState) (disk disk_now : D) (store : Store) (reading : Reading) (result : Result (List ℕ) StoreFault) → IfErr result (λ e. e ≡ Memory) → (IdlesIn store reading → disk_now ≡ disk) → Works tells state disk disk_now store reading result
+works_done tells state disk disk_now store reading result memory idle = record {
+  joins = λ other place tell is. let wanting : Damaged place ≡ Memory = is_memory result (Damaged place) memory is in absurd cc;
+  idle = λ here. (idle here, memory);
+}
+
+-- what is done has not failed
+pub failed_done : {T : Type 0} {x : T} (fault : StoreFault) (result : Result T StoreFault) → result ≡ Err fault → result ≡ Ok x → ⊥
+failed_done fault result is done = cc
+
+-- it searches
+pub works_searching : {D : Type 0} (tells : Type 0) (state : D → DiskState) (disk disk_now : D) (store : Store) (reading : Reading) (result : Result (List ℕ) StoreFault) → SearchesIn reading → (IdlesIn store reading → ⊥) → Works tells state disk disk_now store reading result
+works_searching tells state disk disk_now store reading result searches busy = record {
+  joins = λ other place tell is. absurd (other searches);
+  idle = λ here. absurd (busy here);
+}
+
+-- it failed
+pub works_failed : {D : Type 0} (tells : Type 0) (state : D → DiskState) (disk disk_now : D) (store : Store) (reading : Reading) (fault : StoreFault) → ((place : ℕ) → tells → fault ≡ Damaged place → IsBrokenAmong (joins_in store reading) (state disk).content place) → (IdlesIn store reading → ⊥)
+    → Works tells state disk disk_now store reading (Err fault)
+works_failed tells state disk disk_now store reading fault broken busy = record {
+  joins = λ other place tell is. let same : fault ≡ Damaged place = cc in broken place tell same;
+  idle = λ here. absurd (busy here);
+}
+
+-- to delete takes as many bytes for each number
+pub delete_joins : (store : Store) (number : ℕ) → joined_by store (enters (Delete number)) ≡ joined_by store (enters (Delete 0))
+delete_joins store number = ap (λ (n : ℕ). cond (nat_le n (room_of store)) [] (flush_joins store)) (delete_bytes number ∙ sym (delete_bytes 0))
