@@ -2,10 +2,10 @@
 ghost use Rattle.std.specs.Prelude.{◌≡◌, ◌≤◌};
 ghost use Rattle.alta_disk.specs.Memory.{memory_state};
 
-use alta_session::{Status, alta, serve, status_line};
 use alta_codec::Text;
 use alta_console::MemoryConsole;
 use alta_disk::{Disk, FuseDisk, MemoryDisk};
+use alta_session::{Status, alta, serve, status_line};
 use std::alloc::{AllocError, Global};
 use std::test::Fail;
 

@@ -5,9 +5,9 @@ ghost use Rattle.alta_disk.specs.Disk.{DiskState};
 ghost use Rattle.alta_journal.specs.declared.places.TheConstants.{HEAD_BYTES};
 ghost use Rattle.alta_store.specs.Agreement.{Agrees, CanAdd, is_sound};
 
-use alta_store::{Names, Store, StoreFault, format};
 use alta_codec::name_ok;
 use alta_disk::{Disk, FuseDisk, MemoryDisk};
+use alta_store::{Names, Store, StoreFault, format};
 use std::alloc::Global;
 use std::test::Fail;
 

@@ -5,4 +5,4 @@ use Rattle.check_search.proofs.worked.coded.Goals as goal
 
 pub returns-in-Ok : goal.returns-in-Ok
 returns-in-Ok c =
-    ap locations_of (c.in-Ok.ensures.stream ∙ c.into_vec-stream.ensures) ∙ (spelling_reads c.in_ok-encode.field-0.bytes c.args.list.now c.in_ok-encode.ensures.bytes).1
+    c.in-Ok.ensures.list ∙ ap locations_of c.into_vec-stream.ensures ∙ (spelling_reads c.in_ok-encode.field-0.bytes c.args.list.now c.in_ok-encode.ensures.bytes).1
