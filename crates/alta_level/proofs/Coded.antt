@@ -1,5 +1,6 @@
 -- Stream and summary of a list, and what the check of a coded list finds.
 use Rattle.std.proofs.Common.{◌≡◌, ⊎_elim, ℕ, zero, suc, ◌+◌, ◌-◌, ◌*◌, ◌/◌, ◌^◌, ◌<◌, ◌≤◌, min, List, [], ◌∷◌, map, length, take, get_or, refl, sym, subst, ap, ◌∙◌, arith, length-append}
+use Rattle.std.specs.Prelude.{Err, IfOk, Ok, Result}
 use Rattle.std.proofs.lemmas.Bool.{cases_lt}
 use Rattle.std.proofs.lemmas.Bool.Decides.{nat_tests}
 use Rattle.std.proofs.lemmas.List.{get_or-map}
@@ -12,7 +13,9 @@ use Rattle.alta_postings.proofs.Reading.{spelling_reads}
 use Rattle.alta_summary.specs.declared.summary.Row.{Row}
 use Rattle.alta_summary.specs.Table.{field_at, groups_of, last_row, firsts_of, lasts_of, places_of, kept_of, IsSummary, AreRows, HasRowValues, HasGroupFields, IsTableOf}
 use Rattle.alta_summary.proofs.Growing.{table_is}
+use Rattle.alta_words.specs.declared.checking.PostingFault.{PostingFault}
 use Rattle.alta_words.specs.Word.{IsPosting, IsRowOf}
+use Rattle.alta_level.specs.declared.walking.Walked.{Walked}
 use Rattle.alta_level.specs.Coded.{block_of, blocks_of, table_fields, summary_bytes, IsCoded}
 use Rattle.alta_level.proofs.Fields.{fields_bytes, fields_long, field_of_fields, bytes_of_fields}
 use Rattle.alta_level.proofs.Tables.{each_field, fields_many, first_field, last_field, place_field, group_field}
@@ -137,6 +140,10 @@ posting_coded stream summary b p are =
           ∙ sym (long_summary list (omega arith)))
           (cases_lt (length list) 65);
     }
+
+pub read_coded : (stream summary : List ℕ) (r : Result Walked PostingFault) → AreBytes summary → IfOk r (λ w. IsPosting stream summary w.bounds.rows) → IfOk r (λ w. IsCoded stream summary (locations_of stream))
+read_coded stream summary (Ok w) are p = posting_coded stream summary w.bounds.rows p are
+read_coded stream summary (Err e) are p = tt
 
 -- ---- and stream and summary of a list belong together
 

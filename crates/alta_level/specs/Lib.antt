@@ -3,3 +3,4 @@ pub mod Decoded
 pub mod Stored
 pub mod Segments
 pub mod Damage
+pub mod Fitting

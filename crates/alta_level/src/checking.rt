@@ -1,23 +1,23 @@
 // One list of a level, tested and read.
-ghost use Rattle.std.specs.Prelude.{◌≡◌, ℕ, ◌+◌, ◌<◌, ◌^◌, List, length, Err, IfOk, IfErr};
+ghost use Rattle.std.specs.Prelude.{◌≡◌, ℕ, ◌+◌, ◌<◌, ◌^◌, List, length, Err, IfOk};
 ghost use Rattle.alta_postings.specs.Deltas.{locations_of};
 ghost use Rattle.alta_table.specs.Answers.{IfDamaged, IsDamaged, IsFound};
 ghost use Rattle.alta_content.specs.Rows.{AreDocuments};
 ghost use Rattle.alta_content.specs.declared.document.DocRow.{DocRow};
 ghost use Rattle.alta_words.specs.Fault.{IsPostingFault};
-ghost use Rattle.alta_words.specs.Word.{IsPosting};
+ghost use Rattle.alta_words.specs.Word.{HasBounds, IsPosting};
 ghost use Rattle.alta_level.specs.Coded.{IsCoded};
 ghost use Rattle.alta_level.specs.Stored.{AreApart, IsListFault, IsListOf, stored_of};
 
 use crate::comparing::compare;
 use crate::decoding::{DecodeFault, decode};
-use crate::ranges::fits;
+use crate::ranges::{fits, is_end_term};
 use crate::stored::StoredList;
-use crate::walking::stream_fits;
+use crate::walking::walk_list;
 use alta_codec::Loc;
 use alta_content::DocRow;
 use alta_table::LevelFault;
-use alta_words::{PostingFault, check};
+use alta_words::{Bounds, PostingFault};
 use std::alloc::Global;
 
 // The place on the disk of a fault of a stream or a summary.
@@ -31,35 +31,6 @@ fn place_of(list: &StoredList<'_>, fault: PostingFault) -> u64
         PostingFault::Stream(at) => list.stream_place + at as u64,
         PostingFault::Summary(at) => list.summary_place + at as u64,
         PostingFault::Differ(row) => list.summary_place + 24 * row as u64,
-    }
-}
-
-// How many locations the list has of which the bytes are the stream and the summary, or why they do not belong together.
-fn coded(stream: &[u8], summary: &[u8]) -> Result<u64, PostingFault>
-    ensures coded { IfOk result (λ x. IsCoded stream.now summary.now (locations_of stream.now)) }
-    ensures posting { IfOk result (λ x. (b : ℕ) × IsPosting stream.now summary.now b) }
-    ensures counted { IfOk result (λ n. n ≡ length (locations_of stream.now)) }
-    ensures fault { IfErr result (IsPostingFault stream.now summary.now) }
-{
-    match check(stream, summary) {
-        Ok(bounds) => Ok(bounds.count),
-        Err(fault) => Err(fault),
-    }
-}
-
-// The same of a list on the disk, with the place of the first fault.
-fn check_coded(list: &StoredList<'_>) -> Result<u64, LevelFault>
-    requires stream { list.now.stream_place + length list.now.stream.now < 2 ^ 64 }
-    requires summary { list.now.summary_place + length list.now.summary.now < 2 ^ 64 }
-    ensures coded { IfOk result (λ x. IsCoded list.now.stream.now list.now.summary.now (locations_of list.now.stream.now)) }
-    ensures posting { IfOk result (λ x. (b : ℕ) × IsPosting list.now.stream.now list.now.summary.now b) }
-    ensures counted { IfOk result (λ n. n ≡ length (locations_of list.now.stream.now)) }
-    ensures lean { result ≡ Err LevelFault.Memory → ⊥ }
-    ensures fault { IfDamaged result (λ p. (documents : List DocRow) → IsListFault documents (stored_of list.now) p) }
-{
-    match coded(list.stream, list.summary) {
-        Ok(count) => Ok(count),
-        Err(fault) => Err(LevelFault::Damaged(place_of(list, fault))),
     }
 }
 
@@ -118,34 +89,43 @@ fn misfit(list: &StoredList<'_>) -> LevelFault
     LevelFault::Damaged(list.stream_place)
 }
 
-// A list is whole, or its first fault.
-fn tested(list: &StoredList<'_>, documents: &[DocRow]) -> Result<(), LevelFault>
+// A list is whole, and has these bounds, or its first fault.
+fn tested(list: &StoredList<'_>, documents: &[DocRow]) -> Result<Bounds, LevelFault>
     requires stream { list.now.stream_place + length list.now.stream.now < 2 ^ 64 }
     requires summary { list.now.summary_place + length list.now.summary.now < 2 ^ 64 }
     requires documents { AreDocuments documents.now }
     ensures whole { IfOk result (λ x. IsListOf documents.now (stored_of list.now) (locations_of list.now.stream.now)) }
+    ensures posting { IfOk result (λ bounds. IsPosting list.now.stream.now list.now.summary.now bounds.rows) }
+    ensures bounds { IfOk result (λ bounds. HasBounds (locations_of list.now.stream.now) bounds.count bounds.first bounds.last) }
     ensures first { IfDamaged result (IsListFault documents.now (stored_of list.now)) }
     ensures lean { result ≡ Err LevelFault.Memory → ⊥ }
 {
-    match check_coded(list) {
-        Err(fault) => Err(fault),
-        Ok(count) => {
-            if stream_fits(documents, list.term, list.count, list.stream, count) {
-                Ok(())
+    let ends = is_end_term(list.term);
+    match walk_list(list.stream, list.summary, documents, ends) {
+        Ok(walked) => {
+            if walked.bounds.count != list.count {
+                return Err(misfit(list));
+            }
+            if walked.fits {
+                Ok(walked.bounds)
             } else {
                 Err(misfit(list))
             }
         }
+        Err(fault) => Err(LevelFault::Damaged(place_of(list, fault))),
     }
 }
 
-/// Tests a list as [`read_list`] does, with the same faults, and keeps none of its locations. It takes no memory, and
-/// never answers `Memory`. Each number of the stream is read twice, of the term `D` three times.
-pub fn check_list(list: &StoredList<'_>, documents: &[DocRow]) -> Result<(), LevelFault>
+/// Tests a list as [`read_list`] does, with the same faults, and keeps none of its locations: it answers what a
+/// [`Posting`](alta_words::Posting) of its bytes is made with. It takes no memory, and never answers `Memory`. Each number of the stream
+/// is read once.
+pub fn check_list(list: &StoredList<'_>, documents: &[DocRow]) -> Result<Bounds, LevelFault>
     requires stream { list.now.stream_place + length list.now.stream.now < 2 ^ 64 }
     requires summary { list.now.summary_place + length list.now.summary.now < 2 ^ 64 }
     requires documents { AreDocuments documents.now }
     ensures whole { IfOk result (λ x. IsListOf documents.now (stored_of list.now) (locations_of list.now.stream.now)) }
+    ensures posting { IfOk result (λ bounds. IsPosting list.now.stream.now list.now.summary.now bounds.rows) }
+    ensures bounds { IfOk result (λ bounds. HasBounds (locations_of list.now.stream.now) bounds.count bounds.first bounds.last) }
     ensures only { (locations : List ℕ) → IsListOf documents.now (stored_of list.now) locations → IsFound (λ x. locations_of list.now.stream.now) result locations }
     ensures first { IfDamaged result (IsListFault documents.now (stored_of list.now)) }
     ensures broken { (p : ℕ) → IsListFault documents.now (stored_of list.now) p → IsDamaged result p }

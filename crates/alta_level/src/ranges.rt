@@ -1,9 +1,10 @@
 // Locations and the ranges of documents.
-ghost use Rattle.std.specs.Prelude.{◌≡◌, ◌↔◌, ℕ, ◌+◌, ◌<◌, ◌≤◌, length, slice_index, IsTrue, MatchOption};
+ghost use Rattle.std.specs.Prelude.{◌≡◌, ◌↔◌, ℕ, ◌+◌, ◌<◌, ◌≤◌, true, false, length, slice_index, None, IfSome, IsTrue, MatchOption};
 ghost use Rattle.alta_codec.specs.Rising.{IsRising};
 ghost use Rattle.alta_level.specs.Stored.{AreApart, Fits};
-ghost use Rattle.alta_content.specs.Lists.{AreInRanges, IsInRange, end_term};
-ghost use Rattle.alta_content.specs.Rows.{ends_of, firsts_of};
+ghost use Rattle.alta_content.specs.Lists.{IsInRange, end_term};
+ghost use Rattle.alta_content.specs.Rows.{AreDocuments, ends_of, firsts_of};
+ghost use Rattle.alta_level.specs.Fitting.{AreEndsTo, AreInRangesTo, HasOther, HasOutside, IsFit};
 
 use alta_codec::Loc;
 use alta_content::DocRow;
@@ -77,50 +78,98 @@ pub fn holder(documents: &[DocRow], from: usize, location: Loc) -> Option<usize>
     Some(row)
 }
 
-// Whether each location of a rising list lies in the range of a document.
-fn are_in_ranges(documents: &[DocRow], locations: &[Loc]) -> bool
+// The row of the last location from a row on, where each location of a rising list lies in the range of a document.
+fn ranges_from(documents: &[DocRow], from: usize, locations: &[Loc]) -> Option<usize>
     requires apart { AreApart documents.now }
+    requires within { from ≤ length documents.now }
     requires rising { IsRising locations.now }
-    ensures { IsTrue result ↔ AreInRanges documents.now locations.now }
+    requires passed { (i k : ℕ) → i < from → k < length locations.now → slice_index (ends_of documents.now) i < slice_index locations.now k }
+    ensures { MatchOption result (HasOutside documents.now locations.now) (AreInRangesTo documents.now locations.now) }
 {
-    let mut row = 0;
+    let mut row = from;
     for location in locations {
         match holder(documents, row, *location) {
             Some(here) => row = here,
-            None => return false,
+            None => return None,
         }
     }
-    true
+    Some(row)
 }
 
-// Whether the locations are the ends of the documents.
-fn are_ends(documents: &[DocRow], locations: &[Loc]) -> bool
-    requires { AreApart documents.now }
-    ensures { IsTrue result ↔ locations.now ≡ ends_of documents.now }
+// The row behind the last location, where the locations are the ends of the documents from a row on.
+fn ends_from(documents: &[DocRow], from: usize, locations: &[Loc]) -> Option<usize>
+    requires apart { AreApart documents.now }
+    requires within { from ≤ length documents.now }
+    ensures { MatchOption result (HasOther documents.now from locations.now) (AreEndsTo documents.now from locations.now) }
 {
-    if locations.len() != documents.len() {
-        return false;
+    if locations.len() > documents.len() - from {
+        return None;
     }
-    for i in 0..documents.len() {
-        if locations[i] != end_at(documents, i) {
-            return false;
+    for i in 0..locations.len() {
+        if locations[i] != end_at(documents, from + i) {
+            return None;
         }
     }
-    true
+    Some(from + locations.len())
+}
+
+/// Goes on beside the documents from a row, which is none where something did not fit before: the row where it goes on,
+/// none where these locations do not fit. Of the term `D` they have to be the ends of the documents.
+pub fn row_after(
+    documents: &[DocRow],
+    ends: bool,
+    row: Option<usize>,
+    locations: &[Loc],
+) -> Option<usize>
+    requires apart { AreApart documents.now }
+    requires rising { IsRising locations.now }
+    requires within { IfSome row (λ from. from ≤ length documents.now) }
+    requires passed { IfSome row (λ from. ends ≡ false → (i k : ℕ) → i < from → k < length locations.now → slice_index (ends_of documents.now) i < slice_index locations.now k) }
+    ensures none { row ≡ None → result ≡ None }
+    ensures ranges { IfSome row (λ from. ends ≡ false → MatchOption result (HasOutside documents.now locations.now) (AreInRangesTo documents.now locations.now)) }
+    ensures ends { IfSome row (λ from. ends ≡ true → MatchOption result (HasOther documents.now from locations.now) (AreEndsTo documents.now from locations.now)) }
+{
+    let Some(from) = row else {
+        return None;
+    };
+    if ends {
+        ends_from(documents, from, locations)
+    } else {
+        ranges_from(documents, from, locations)
+    }
+}
+
+/// Whether nothing that did not fit was met before this row, and of the term `D` no end is missing.
+pub fn is_fit(documents: &[DocRow], ends: bool, row: Option<usize>) -> bool
+    ensures { IsFit documents.now ends row result }
+{
+    match row {
+        Some(at) => !ends || at == documents.len(),
+        None => false,
+    }
+}
+
+/// Whether it is the term `D`, which stands at the end of each document.
+pub fn is_end_term(term: &[u8]) -> bool
+    ensures { IsTrue result ↔ term.now ≡ end_term }
+{
+    term == b"D".as_slice()
 }
 
 /// Whether the locations of a term are as many as its row states, lie in the ranges of documents, and, of the term `D`,
 /// are the ends of the documents.
 pub fn fits(documents: &[DocRow], term: &[u8], count: u64, locations: &[Loc]) -> bool
-    requires apart { AreApart documents.now }
+    requires documents { AreDocuments documents.now }
     requires rising { IsRising locations.now }
     ensures { IsTrue result ↔ Fits documents.now term.now count locations.now }
 {
     if locations.len() as u64 != count {
         return false;
     }
-    if term == b"D".as_slice() && !are_ends(documents, locations) {
-        return false;
-    }
-    are_in_ranges(documents, locations)
+    let ends = is_end_term(term);
+    is_fit(
+        documents,
+        ends,
+        row_after(documents, ends, Some(0), locations),
+    )
 }

@@ -1,92 +1,80 @@
-// A stream beside the ranges of documents, read location by location and not kept.
-ghost use Rattle.std.specs.Prelude.{◌≡◌, ◌↔◌, ◌<◌, length, drop, None, IsTrue};
-ghost use Rattle.alta_codec.specs.declared.location.TheConstants.{TOP};
-ghost use Rattle.alta_postings.specs.Deltas.{IsStep, Spells, fault_from, locations_of};
-ghost use Rattle.alta_level.specs.Stored.{AreApart, Fits};
-ghost use Rattle.alta_content.specs.Lists.{AreInRanges};
-ghost use Rattle.alta_content.specs.Rows.{ends_of};
+// A stream beside the rows of its summary and the ranges of documents, each number read once and none kept.
+ghost use Rattle.std.specs.Prelude.{◌↔◌, IfErr, IfOk, IsTrue};
+ghost use Rattle.alta_content.specs.Rows.{AreDocuments};
+ghost use Rattle.alta_level.specs.Coded.{IsCoded};
+ghost use Rattle.alta_level.specs.Fitting.{AreFitting};
+ghost use Rattle.alta_postings.specs.Deltas.{locations_of};
+ghost use Rattle.alta_words.specs.Fault.{IsPostingFault};
+ghost use Rattle.alta_words.specs.Word.{HasBounds, IsPosting};
 
-use crate::ranges::{end_at, holder};
-use alta_codec::{Loc, get_number};
+use crate::ranges::{is_fit, row_after};
 use alta_content::DocRow;
+use alta_postings::fill_block;
+use alta_summary::Summary;
+use alta_words::{Bounds, Compared, PostingFault, summary_fault};
+use arrayvec::ArrayVec;
 
-// The location that is spelled at a place of a stream, behind the location `before`, and the place after it.
-fn location_at(stream: &[u8], at: usize, before: Loc) -> (Loc, usize)
-    requires within { at < length stream.now }
-    requires low { before < TOP }
-    requires spelled { fault_from at 0 before (drop at stream.now) ≡ None }
-    ensures { IsStep stream.now at before result.0 result.1 }
-{
-    match get_number(stream, at) {
-        Ok((difference, next)) => (before + difference, next),
-        Err(_) => (before, at),
-    }
+/// What was read of a list whose stream and summary belong together.
+#[derive(Drop)]
+pub struct Walked {
+    /// Its bounds.
+    pub bounds: Bounds,
+    /// Whether its locations fit the documents.
+    pub fits: bool,
 }
 
-// Whether each location of a stream lies in the range of a document.
-fn is_in_ranges(documents: &[DocRow], stream: &[u8]) -> bool
-    requires apart { AreApart documents.now }
-    requires spelled { Spells stream.now (locations_of stream.now) }
-    ensures { IsTrue result ↔ AreInRanges documents.now (locations_of stream.now) }
-{
-    let mut row = 0;
-    let mut at = 0;
-    let mut last: Loc = 0;
-    'locations: while at < stream.len() {
-        let (location, next) = location_at(stream, at, last);
-        match holder(documents, row, location) {
-            Some(here) => row = here,
-            None => return false,
-        }
-        last = location;
-        at = next;
-    }
-    true
-}
-
-// Whether the locations of a stream are the ends of the documents.
-fn is_ends(documents: &[DocRow], stream: &[u8]) -> bool
-    requires apart { AreApart documents.now }
-    requires spelled { Spells stream.now (locations_of stream.now) }
-    ensures { IsTrue result ↔ locations_of stream.now ≡ ends_of documents.now }
-{
-    let mut row: usize = 0;
-    let mut at = 0;
-    let mut last: Loc = 0;
-    'locations: while at < stream.len() {
-        let (location, next) = location_at(stream, at, last);
-        if row == documents.len() {
-            return false;
-        }
-        if location != end_at(documents, row) {
-            return false;
-        }
-        row += 1;
-        last = location;
-        at = next;
-    }
-    row == documents.len()
-}
-
-/// Whether the locations of a stream, of which there are so many, are as many as the row of their term states, lie in
-/// the ranges of documents, and, of the term `D`, are the ends of the documents. It takes no memory.
-pub fn stream_fits(
-    documents: &[DocRow],
-    term: &[u8],
-    count: u64,
+// Reads a stream block by block, beside the rows of its summary and the documents.
+fn walk(
     stream: &[u8],
-    locations: u64,
-) -> bool
-    requires apart { AreApart documents.now }
-    requires spelled { Spells stream.now (locations_of stream.now) }
-    requires counted { locations ≡ length (locations_of stream.now) }
-    ensures { IsTrue result ↔ Fits documents.now term.now count (locations_of stream.now) }
+    table: &Summary<'_>,
+    documents: &[DocRow],
+    ends: bool,
+) -> Result<Walked, PostingFault>
+    requires documents { AreDocuments documents.now }
+    ensures posting { IfOk result (λ walked. IsPosting stream.now table.now.bytes walked.bounds.rows) }
+    ensures bounds { IfOk result (λ walked. HasBounds (locations_of stream.now) walked.bounds.count walked.bounds.first walked.bounds.last) }
+    ensures fits { IfOk result (λ walked. IsTrue walked.fits ↔ AreFitting documents.now ends (locations_of stream.now)) }
+    ensures fault { IfErr result (IsPostingFault stream.now table.now.bytes) }
 {
-    if locations != count {
-        return false;
+    let mut read = Compared::none();
+    let mut row = Some(0);
+    let mut block = ArrayVec::new();
+    'whole: while read.at < stream.len() {
+        match fill_block(stream, read.at, read.last, &mut block) {
+            Ok(span) => {
+                row = row_after(documents, ends, row, block.as_slice());
+                read = read.with(stream, table, &span);
+            }
+            Err(fault) => return Err(PostingFault::Stream(fault.place)),
+        }
     }
-    if term == b"D".as_slice() && !is_ends(documents, stream) {
-        return false;
+    match read.end(stream, table) {
+        Ok(bounds) => Ok(Walked {
+            bounds,
+            fits: is_fit(documents, ends, row),
+        }),
+        Err(fault) => Err(fault),
     }
-    is_in_ranges(documents, stream)
+}
+
+/// Reads a stream and a summary once each, as [`alta_words::check`] does, and looks at each location beside the documents:
+/// whether it lies in the range of one, and, where they have to be the `ends` of the documents, whether they are. It takes
+/// no memory.
+pub fn walk_list(
+    stream: &[u8],
+    summary: &[u8],
+    documents: &[DocRow],
+    ends: bool,
+) -> Result<Walked, PostingFault>
+    requires documents { AreDocuments documents.now }
+    ensures coded { IfOk result (λ walked. IsCoded stream.now summary.now (locations_of stream.now)) }
+    ensures posting { IfOk result (λ walked. IsPosting stream.now summary.now walked.bounds.rows) }
+    ensures bounds { IfOk result (λ walked. HasBounds (locations_of stream.now) walked.bounds.count walked.bounds.first walked.bounds.last) }
+    ensures fits { IfOk result (λ walked. IsTrue walked.fits ↔ AreFitting documents.now ends (locations_of stream.now)) }
+    ensures fault { IfErr result (IsPostingFault stream.now summary.now) }
+{
+    match Summary::open(summary) {
+        Ok(table) => walk(stream, &table, documents, ends),
+        Err(wrong) => Err(summary_fault(stream, summary, wrong.place)),
+    }
 }

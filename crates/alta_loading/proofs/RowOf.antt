@@ -5,7 +5,10 @@ use Rattle.std.specs.Str.{bytes_eq}
 use Rattle.alta_codec.specs.Order.{Precedes}
 use Rattle.alta_content.proofs.Order.{itself, less_differs, less_on, same_term}
 use Rattle.alta_images.proofs.Tests.{by_test}
+use Rattle.alta_level.specs.Stored.{Stored}
+use Rattle.alta_loading.specs.Lists.{stored_as}
 use Rattle.alta_loading.specs.Loads.{row_from}
+use Rattle.alta_table.specs.Tables.{Tables}
 use Rattle.alta_table.specs.Terms.{AreTerms, AreTermsBehind, counts_of, terms_of}
 use Rattle.alta_table.specs.declared.term.TermRow.{TermRow}
 
@@ -64,3 +67,7 @@ counted_behind before (row ∷ rows) (suc i) (m, more) l = counted_behind row.te
 
 pub row_counted : (rows : List TermRow) (i : ℕ) → AreTerms rows → i < length rows → 0 < get_or (counts_of rows) i 0
 row_counted rows i a l = counted_behind [] rows i a l
+
+-- the list of a row by its bytes
+pub stored_same : (level : Tables) (row : ℕ) (s : Stored) (x y stream summary : List ℕ) → s ≡ stored_as level row x y → x ≡ stream → y ≡ summary → s ≡ stored_as level row stream summary
+stored_same level row s x y stream summary is a b = is ∙ ap (λ z. stored_as level row z y) a ∙ ap (λ z. stored_as level row stream z) b

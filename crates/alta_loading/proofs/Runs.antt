@@ -9,7 +9,6 @@ use Rattle.alta_disk.specs.Disk.{DiskState, Same}
 use Rattle.alta_disk.proofs.Moments.{passes_same}
 use Rattle.alta_level.specs.Stored.{IsListFault, IsListOf}
 use Rattle.alta_loading.specs.Answers.{IfDamaged, IsDamaged, IsFound}
-use Rattle.alta_loading.specs.Lists.{list_of}
 use Rattle.alta_loading.specs.Loads.{IsFirstFault, IsWhole, KeepRows, Load, Tells, list_at, load_in, load_size, load_sizes, loads_from, number_of, stored_by}
 use Rattle.alta_table.specs.Tables.{Tables}
 use Rattle.alta_words.specs.declared.posting.Posting.{Posting}
@@ -141,7 +140,7 @@ keep_join (l ∷ ls) b (x ∷ xs) ys (h, hs) k = (h, keep_join ls b xs ys hs k)
 
 -- a list that is not loaded
 pub tells_list : {X : Type 0} (image : List ℕ) (load : Load) (e : LoadFault) → IfDamaged {X = Posting} (Err e) (IsListFault load.level.documents (stored_by image load))
-    → ((list : List ℕ) → IsListOf load.level.documents (stored_by image load) list → IsFound {X = Posting} list_of (Err e) list)
+    → ((list : List ℕ) → IsListOf load.level.documents (stored_by image load) list → IsFound {X = Posting} (λ posting. posting) (Err e) list)
     → ((p : ℕ) → IsListFault load.level.documents (stored_by image load) p → IsDamaged {X = Posting} (Err e) p) → Tells {X = X} image (load ∷ []) (Err e)
 tells_list image load faults.Disk first only damaged = record { whole = tt; first = tt; only = λ w. tt; damaged = λ p f. tt }
 tells_list image load faults.Memory first only damaged = record { whole = tt; first = tt; only = λ w. tt; damaged = λ p f. tt }

@@ -6,7 +6,6 @@ use Rattle.alta_level.specs.Stored.{Stored, Fits}
 use Rattle.alta_table.specs.Places.{stream_place}
 use Rattle.alta_table.specs.Tables.{Tables, total_of}
 use Rattle.alta_table.specs.Terms.{counts_of, streams_of, summaries_of, terms_of}
-use Rattle.alta_words.specs.declared.posting.Posting.{Posting}
 
 -- the segment of the level lies within the image
 abbrev pub LiesWithin : Tables → List ℕ → Type 0
@@ -37,10 +36,6 @@ abbrev pub stored_in : Tables → ℕ → List ℕ → Stored
 stored_in level row image = stored_as level row (part (stream_place level row) (stream_size level row) image) (part (stream_place level row + stream_size level row) (summary_size level row) image)
 
 -- ---- in memory
-
--- the locations of a list that was loaded
-abbrev pub list_of : Posting → List ℕ
-list_of posting = posting
 
 -- The list is not empty, rises, and keeps what its row and the documents of its level say, whatever the disk tells.
 pub record KeepsRow (level : Tables) (row : ℕ) (list : List ℕ) : Type 0 where

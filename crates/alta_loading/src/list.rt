@@ -7,11 +7,9 @@ ghost use Rattle.alta_disk.specs.Disk.{DiskState};
 ghost use Rattle.alta_images.specs.Broken.{IsBrokenIn};
 ghost use Rattle.alta_level.specs.Stored.{IsListFault, IsListOf, stored_of};
 ghost use Rattle.alta_loading.specs.Answers.{IfDamaged, IsDamaged, IsFound};
-ghost use Rattle.alta_loading.specs.Lists.{KeepsRow, LiesWithin, list_of, stored_as, stored_in, stream_size, summary_size};
+ghost use Rattle.alta_loading.specs.Lists.{KeepsRow, LiesWithin, stored_as, stored_in, stream_size, summary_size};
 ghost use Rattle.alta_loading.specs.declared.fault.LoadFault.TheVariants.{Disk as DiskFault};
-ghost use Rattle.alta_postings.specs.Deltas.{locations_of};
 ghost use Rattle.alta_table.specs.Places.{stream_place};
-ghost use Rattle.alta_words.specs.Word.{IsPosting};
 
 use crate::fault::LoadFault;
 use alta_disk::Disk;
@@ -22,8 +20,7 @@ use std::alloc::{AllocError, Global};
 
 /// Loads the list of a term of a level, by the row of the term. Stream and summary stand one behind the other, and are
 /// read by one read of the disk. The list is tested as [`alta_level::check_list`] tests it, against its own rules, the row
-/// of its term and the documents of the level, and once more as it is made a [`Posting`]: each number of a stream is
-/// read three times, of the term `D` four times. The summary alone is copied.
+/// of its term and the documents of the level: each number of the stream is read once. The summary alone is copied.
 ///
 /// # Errors
 ///
@@ -38,15 +35,15 @@ pub fn load_list<D: Disk>(
     requires row { row < length table.now.terms }
     requires within { D.tells → LiesWithin table.now (D.state disk.old).content }
     // What is loaded is the list that stands there, and if there is one it is loaded.
-    ensures list { D.tells → IfOk result (λ posting. IsListOf table.now.documents (stored_in table.now row (D.state disk.old).content) (list_of posting)) }
-    ensures only { D.tells → (list : List ℕ) → IsListOf table.now.documents (stored_in table.now row (D.state disk.old).content) list → IsFound list_of result list }
+    ensures list { D.tells → IfOk result (λ posting. IsListOf table.now.documents (stored_in table.now row (D.state disk.old).content) posting) }
+    ensures only { D.tells → (list : List ℕ) → IsListOf table.now.documents (stored_in table.now row (D.state disk.old).content) list → IsFound (λ posting. posting) result list }
     // The damage is the first of the list, and if there is one that is the answer.
     ensures first { D.tells → IfDamaged result (IsListFault table.now.documents (stored_in table.now row (D.state disk.old).content)) }
     ensures damaged { D.tells → (p : ℕ) → IsListFault table.now.documents (stored_in table.now row (D.state disk.old).content) p → IsDamaged result p }
     // It is a damage of the level.
     ensures broken { D.tells → IfDamaged result (IsBrokenIn table.now (D.state disk.old).content) }
     // Whatever the disk tells, what is loaded keeps what its row and the documents say.
-    ensures kept { IfOk result (λ posting. KeepsRow table.now row (list_of posting)) }
+    ensures kept { IfOk result (λ posting. KeepsRow table.now row posting) }
     ensures cause { result ≡ Err DiskFault → Rose (D.state disk.old).faults (D.state disk.new).faults }
     ensures reads { Reads D.tells (stream_size table.now row + summary_size table.now row) (D.state disk.old) (D.state disk.new) }
 {
@@ -98,29 +95,18 @@ fn checked(
     requires row { row < length table.now.terms }
     requires sizes { (length stream.items ≡ stream_size table.now row) × (length summary.items ≡ summary_size table.now row) }
     requires below { stream_place table.now row + stream_size table.now row + summary_size table.now row < 2 ^ 64 }
-    ensures list { IfOk result (λ posting. IsListOf table.now.documents (stored_as table.now row stream.items summary.items) (list_of posting)) }
+    ensures list { IfOk result (λ posting. IsListOf table.now.documents (stored_as table.now row stream.items summary.items) posting) }
     ensures first { IfDamaged result (IsListFault table.now.documents (stored_as table.now row stream.items summary.items)) }
-    ensures only { (list : List ℕ) → IsListOf table.now.documents (stored_as table.now row stream.items summary.items) list → IsFound list_of result list }
+    ensures only { (list : List ℕ) → IsListOf table.now.documents (stored_as table.now row stream.items summary.items) list → IsFound (λ posting. posting) result list }
     ensures damaged { (p : ℕ) → IsListFault table.now.documents (stored_as table.now row stream.items summary.items) p → IsDamaged result p }
-    ensures some { IfOk result (λ posting. 0 < length (list_of posting)) }
+    ensures some { IfOk result (λ posting. 0 < length posting) }
     ensures lean { result ≡ Err DiskFault → ⊥ }
 {
     let list = stored(table, row, &stream, &summary);
     match check_list(&list, table.documents()) {
-        Ok(()) => Ok(made(stream, summary)),
+        Ok(bounds) => Ok(Posting::of(stream, summary, bounds)),
         Err(LevelFault::Damaged(place)) => Err(LoadFault::Damaged(place)),
         Err(LevelFault::Memory) => Err(LoadFault::Memory),
-    }
-}
-
-// A list that was tested.
-fn made(stream: Vec<u8>, summary: Vec<u8>) -> Posting
-    requires { (b : ℕ) × IsPosting stream.items summary.items b }
-    ensures { result ≡ locations_of stream.items }
-{
-    match Posting::check(stream, summary) {
-        Ok(posting) => posting,
-        Err(_fault) => unreachable!(),
     }
 }
 

@@ -2,3 +2,4 @@ pub mod Above
 pub mod Encoding
 pub mod Reading
 pub mod Short
+pub mod Filling

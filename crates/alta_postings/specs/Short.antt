@@ -1,6 +1,7 @@
 -- Numbers of one or of two bytes, and what was read of a block.
-use Rattle.std.specs.Prelude.{◌≡◌, ℕ, ◌+◌, ◌-◌, ◌*◌, ◌<◌, ◌≤◌, List, length, drop, slice_index}
+use Rattle.std.specs.Prelude.{◌≡◌, ℕ, ◌+◌, ◌-◌, ◌*◌, ◌<◌, ◌≤◌, List, length, drop, take, slice_index}
 use Rattle.alta_codec.specs.declared.location.TheConstants.{TOP}
+use Rattle.alta_codec.specs.Rising.{IsRising}
 use Rattle.alta_postings.specs.Deltas.{fault_from, list_from}
 
 -- At a place stands a number of one or of two bytes, if none is spelled too long: this number, up to this place.
@@ -23,3 +24,10 @@ pub record IsReadTo (s : List ℕ) (at before first last count next : ℕ) : Typ
   pub low : last < TOP
   pub long : at + count ≤ next
   pub within : next ≤ length s
+
+-- what was read of a block so far, and its locations, which rise above `before`
+pub record IsFilled (s : List ℕ) (at before first last next : ℕ) (out : List ℕ) : Type 0 where
+  pub read : IsReadTo s at before first last (length out) next
+  pub filled : out ≡ take (length out) (list_from at 0 before (drop at s))
+  pub rising : IsRising out
+  pub above : before < slice_index out 0

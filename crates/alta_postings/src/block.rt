@@ -1,10 +1,11 @@
 // One block of a stream.
-ghost use Rattle.std.specs.Prelude.{◌≡◌, ◌<◌, ◌≤◌, length, take, drop, Some, None, IfOk, IfErr};
+ghost use Rattle.std.specs.Prelude.{◌≡◌, ◌<◌, ◌≤◌, length, take, drop, slice_index, Some, None, IfOk, IfErr};
+ghost use Rattle.alta_codec.specs.Rising.{IsRising};
 ghost use Rattle.alta_codec.specs.declared.location.TheConstants.{TOP};
 ghost use Rattle.alta_postings.specs.Deltas.{fault_from, list_from, IsBlockRead};
 
 use crate::fault::StreamFault;
-use crate::runs::{read_runs, scan_runs};
+use crate::runs::{fill_runs, read_runs, scan_runs};
 use crate::step::{next_location, read_location};
 use alta_codec::TOP;
 use arrayvec::ArrayVec;
@@ -49,6 +50,47 @@ pub fn scan_block(bytes: &[u8], at: usize, before: u64) -> Result<BlockSpan, Str
         first,
         last,
         count,
+        next,
+    })
+}
+
+/// Reads the block as [`scan_block`] does, and fills `out` with its locations, which rise above `before`.
+pub fn fill_block(
+    bytes: &[u8],
+    at: usize,
+    before: u64,
+    out: &mut ArrayVec<u64, 64>,
+) -> Result<BlockSpan, StreamFault>
+    requires within { at < length bytes.now }
+    requires low { before < TOP }
+    ensures read { IfOk result (λ span. IsBlockRead bytes.now at before span.first span.last span.count span.next) }
+    ensures filled { IfOk result (λ span. out.new.items ≡ take span.count (list_from at 0 before (drop at bytes.now))) }
+    ensures rising { IfOk result (λ span. IsRising out.new.items) }
+    ensures above { IfOk result (λ span. before < slice_index out.new.items 0) }
+    ensures counted { IfOk result (λ span. length out.new.items ≡ span.count) }
+    ensures fault { IfErr result (λ fault. fault_from at 0 before (drop at bytes.now) ≡ Some fault) }
+{
+    out.clear();
+    let (first, second) = match read_location(bytes, at, before) {
+        Ok(step) => step,
+        Err(fault) => return Err(fault),
+    };
+    out.push(first);
+    let (mut next, mut last) = fill_runs(bytes, second, first, out);
+    'numbers: while next < bytes.len() && out.len() < 64 {
+        match read_location(bytes, next, last) {
+            Ok((location, after)) => {
+                out.push(location);
+                last = location;
+                next = after;
+            }
+            Err(fault) => return Err(fault),
+        }
+    }
+    Ok(BlockSpan {
+        first,
+        last,
+        count: out.len(),
         next,
     })
 }

@@ -11,7 +11,7 @@ mod stream;
 #[cfg(test)]
 mod tests;
 
-pub use block::{BlockSpan, scan_block};
+pub use block::{BlockSpan, fill_block, scan_block};
 pub use coding::{Coded, encode, mark, put_stream};
 pub use fault::{StreamCause, StreamFault};
 pub use places::Places;

@@ -10,30 +10,9 @@ use Rattle.alta_postings.proofs.Reading.{fault_end, list_end, reading_spells, no
 use Rattle.alta_summary.specs.Table.{HasRows, IsSummary, IsFault}
 use Rattle.alta_words.specs.declared.checking.PostingFault.{PostingFault}
 use Rattle.alta_words.specs.declared.checking.PostingFault.TheVariants as wrong
+use Rattle.alta_words.specs.Compared.{IsSameTo, IsWalked}
 use Rattle.alta_words.specs.Fault.{Agrees, IsFirstDifferent, IsPostingFault, HasRow, IsSameAfter, AreAllSame}
 use Rattle.alta_words.specs.Word.{IsRowOf, IsPosting, HasBounds}
-
--- the first rows that are the blocks of their number: so many, and of the blocks read the next one is not
-pub record IsSameTo (list summary : List ℕ) (b blocks same : ℕ) : Type 0 where
-  pub within : same ≤ blocks
-  pub rows : (i : ℕ) → i < same → (i < b) × IsRowOf list summary i
-  pub broken : same < blocks → same < b → IsRowOf list summary same → ⊥
-
--- what was read so far
-pub record IsWalked (bytes summary : List ℕ) (b at last first count blocks same : ℕ) : Type 0 where
-  pub fault : first_fault bytes ≡ fault_from at 0 last (drop at bytes)
-  pub list : list_from at 0 last (drop at bytes) ≡ drop count (locations_of bytes)
-  pub counted : count ≤ length (locations_of bytes)
-  pub blocks_are : blocks ≡ (count + 63) / 64
-  pub full : at < length bytes → count ≡ 64 * blocks
-  pub low : last < TOP
-  pub within : at ≤ length bytes
-  pub short : count ≤ at
-  pub first_is : 0 < count → first ≡ get_or (locations_of bytes) 0 0
-  pub first_none : count ≡ 0 → first ≡ 0
-  pub last_is : last ≡ get_or (0 ∷ locations_of bytes) count 0
-  pub compared : same ≤ blocks
-  pub rows : first_fault bytes ≡ None → IsSameTo (locations_of bytes) summary b blocks same
 
 pub walk_start : (bytes summary : List ℕ) (b : ℕ) → IsWalked bytes summary b 0 0 0 0 0 0
 unfolding first_fault locations_of

@@ -4,3 +4,4 @@ pub mod Held
 pub mod Leaf
 pub mod Leaves
 pub mod Word
+pub mod Compared

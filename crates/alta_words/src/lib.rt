@@ -5,6 +5,7 @@ mod chain;
 mod checking;
 #[cfg(test)]
 mod coded_tests;
+mod compared;
 mod gallop;
 mod leaf;
 mod plain;
@@ -14,7 +15,8 @@ mod tests;
 mod word;
 
 pub use chain::ChainReader;
-pub use checking::{Bounds, PostingFault, check};
+pub use checking::{Bounds, PostingFault, check, summary_fault};
+pub use compared::Compared;
 pub use leaf::Leaf;
 pub use plain::PlainReader;
 pub use posting::Posting;

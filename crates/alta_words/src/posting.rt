@@ -6,7 +6,7 @@ ghost use Rattle.alta_postings.specs.Deltas.{locations_of};
 ghost use Rattle.alta_words.specs.Fault.{IsPostingFault};
 ghost use Rattle.alta_words.specs.Word.{IsPosting, HasBounds};
 
-use crate::checking::{PostingFault, check};
+use crate::checking::{Bounds, PostingFault, check};
 use crate::word::WordReader;
 use alta_codec::{Steps, TOP};
 use alta_postings::Stream;
@@ -47,15 +47,24 @@ impl Posting {
         ensures fault { IfErr result (λ fault. IsPostingFault stream.items summary.items fault) }
     {
         match check(&stream, &summary) {
-            Ok(bounds) => Ok(Posting {
-                stream,
-                summary,
-                rows: bounds.rows,
-                count: bounds.count,
-                first: bounds.first,
-                last: bounds.last,
-            }),
+            Ok(bounds) => Ok(Posting::of(stream, summary, bounds)),
             Err(fault) => Err(fault),
+        }
+    }
+
+    /// A stream and its summary that were tested, with the bounds that were found. It reads neither.
+    pub fn of(stream: Vec<u8>, summary: Vec<u8>, bounds: Bounds) -> Posting
+        requires agrees { IsPosting stream.items summary.items bounds.rows }
+        requires bounds { HasBounds (locations_of stream.items) bounds.count bounds.first bounds.last }
+        ensures { result ≡ locations_of stream.items }
+    {
+        Posting {
+            stream,
+            summary,
+            rows: bounds.rows,
+            count: bounds.count,
+            first: bounds.first,
+            last: bounds.last,
         }
     }
 

@@ -2,12 +2,8 @@ use Rattle.std.proofs.Common.{ℕ, List, Vec, Global, Err, sym, subst}
 use Rattle.alta_table.specs.declared.fault.LevelFault.{LevelFault}
 use Rattle.alta_table.specs.Answers.{IfDamaged}
 use Rattle.alta_level.specs.Stored.{Fits, IsListFault, stored_of}
-use Rattle.alta_level.proofs.Apart.{apart_from}
 use Rattle.alta_level.proofs.Faults.{list_found, list_misfits}
 use Rattle.alta_level.proofs.checking.locations_at.Goals as goal
-
-pub fits-requires-clause-apart : goal.fits-requires-clause-apart
-fits-requires-clause-apart c = apart_from c.args.documents.now c.requires.documents
 
 pub returns-then-fits-clause-found : goal.returns-then-fits-clause-found
 returns-then-fits-clause-found c =

@@ -1,17 +1,28 @@
-use Rattle.std.proofs.Common.{Err, sym, subst, refl}
+use Rattle.std.proofs.Common.{Err, ◌∙◌, sym, subst, refl}
 use Rattle.alta_postings.specs.Deltas.{locations_of}
+use Rattle.alta_words.specs.declared.checking.Bounds.{Bounds}
 use Rattle.alta_table.specs.declared.fault.LevelFault.{LevelFault}
 use Rattle.alta_table.specs.Answers.{IfDamaged}
 use Rattle.alta_level.specs.Stored.{IsListFault, stored_of}
-use Rattle.alta_level.proofs.Apart.{apart_from}
-use Rattle.alta_level.proofs.Faults.{list_misfits}
+use Rattle.alta_level.proofs.Faults.{list_found, list_misfits}
+use Rattle.alta_level.proofs.Walks.{fits_row, row_fits}
 use Rattle.alta_level.proofs.checking.tested.Goals as goal
 
-pub stream_fits-requires-clause-apart : goal.stream_fits-requires-clause-apart
-stream_fits-requires-clause-apart c = apart_from c.args.documents.now c.requires.documents
-
-pub returns-else-stream_fits-clause-first : goal.returns-else-stream_fits-clause-first
-returns-else-stream_fits-clause-first c =
+pub returns-then-walked-list-clause-first : goal.returns-then-walked-list-clause-first
+returns-then-walked-list-clause-first c =
     let s = stored_of c.args.list.now in
-    subst (λ (e : LevelFault). IfDamaged {X = Unit {0}} (Err e) (IsListFault c.args.documents.now s)) (sym c.misfit.ensures)
-    (list_misfits c.args.documents.now s (locations_of s.stream) c.in-Ok.ensures.posting refl (λ f. let t = c.stream_fits.ensures.1 f in cc (t, c.if-stream_fits.false)))
+    subst (λ (e : LevelFault). IfDamaged {X = Bounds} (Err e) (IsListFault c.args.documents.now s)) (sym c.misfit.ensures)
+    (list_misfits c.args.documents.now s (locations_of s.stream) (c.in-Ok.walked.bounds.rows, c.in-Ok.ensures.posting) refl (λ f. c.if-walked-list.true (c.in-Ok.ensures.bounds.counted ∙ f.counted)))
+
+pub returns-then-walked-clause-whole : goal.returns-then-walked-clause-whole
+returns-then-walked-clause-whole c =
+    let s = stored_of c.args.list.now in
+    list_found c.args.documents.now s (locations_of s.stream) c.in-Ok.ensures.coded refl
+    (row_fits c.args.documents.now c.is_end_term-ends.result s.term (locations_of s.stream) s.count c.is_end_term-ends.ensures (c.in-Ok.ensures.fits.0 c.if-walked.true) (sym c.in-Ok.ensures.bounds.counted ∙ c.if-walked-list.false))
+
+pub returns-else-walked-clause-first : goal.returns-else-walked-clause-first
+returns-else-walked-clause-first c =
+    let s = stored_of c.args.list.now in
+    subst (λ (e : LevelFault). IfDamaged {X = Bounds} (Err e) (IsListFault c.args.documents.now s)) (sym c.misfit-else-walked.ensures)
+    (list_misfits c.args.documents.now s (locations_of s.stream) (c.in-Ok.walked.bounds.rows, c.in-Ok.ensures.posting) refl
+    (λ f. let t = c.in-Ok.ensures.fits.1 (fits_row c.args.documents.now c.is_end_term-ends.result s.term (locations_of s.stream) s.count c.is_end_term-ends.ensures f) in cc (t, c.if-walked.false)))
