@@ -1,7 +1,7 @@
 #!/usr/bin/env python3
 """Damages index files, and compares what the program says of each with a reading of docs/FORMAT.md that shares nothing with it.
 
-usage: tests/damage.py [--program PATH] [--seconds S] [--seed N] [--all] [--keep FOLDER]
+usage: tests/damage.py [--program PATH] [--seconds S] [--seed N] [--all [--part K/N]] [--keep FOLDER]
 
 In each case a file with some bytes changed, or cut, is opened by `run` with some lines. Status, replies and the line on
 standard error have to be those that `reading.py` and `answers.py` work out: the first broken place in the order of opening, or
@@ -10,8 +10,8 @@ byte by byte: as before, but for the work of the lines that were answered. The c
 spelled indexes with levels, deletions and records in both halves, one of them with sixteen levels, changed to each of several
 values, and these cut at each place; spelled indexes that break rules between their parts; lists broken at several places; and
 files that the program itself has written, changed at random. In `--seconds` as many
-of them are tried as the seed picks; with `--all` each byte, and the rest for as long. With `--keep` the files of the
-cases that are told stand in that folder. Ends with status 0 where all is as it has to be.
+of them are tried as the seed picks; with `--all` each byte, and the rest for as long; with `--part 2/4` the second of four
+parts of the bytes, which several runs can try side by side. With `--keep` the files of the cases that are told stand in that folder. Ends with status 0 where all is as it has to be.
 """
 
 import argparse
@@ -760,10 +760,19 @@ def until(seconds, cases, trial):
         trial.try_case(case)
 
 
-def try_bytes(chance, seconds, trial, is_all):
-    """Each byte and each length in any order; all of them, or as many as there is time for."""
+def part(words):
+    """Which part of how many, of `2/4`."""
+    which, _, parts = words.partition("/")
+    which, parts = int(which), int(parts)
+    if not 1 <= which <= parts:
+        raise ValueError(words)
+    return which, parts
+
+
+def try_bytes(chance, seconds, trial, is_all, which, parts):
+    """Each byte and each length of a part in any order; all of them, or as many as there is time for."""
     indexes = [both_slots(), one_slot(), sixteen_levels()]
-    tried = [change for index in indexes for change in (*byte_changes(index), *cuts(index))]
+    tried = [change for index in indexes for change in (*byte_changes(index), *cuts(index))][which - 1 :: parts]
     chance.shuffle(tried)
     for index in indexes:
         for lines in (all_counts(chance), joining(chance), ["merge", *all_counts(chance)], [*all_counts(chance), "step 1000000", "stats"]):
@@ -793,6 +802,7 @@ def main():
     parser.add_argument("--seconds", type=float, default=20.0)
     parser.add_argument("--seed", type=int, default=None)
     parser.add_argument("--all", action="store_true")
+    parser.add_argument("--part", type=part, default=(1, 1), metavar="K/N")
     parser.add_argument("--keep", metavar="FOLDER")
     options = parser.parse_args()
     seed = options.seed if options.seed is not None else random.randrange(1 << 32)
@@ -804,7 +814,7 @@ def main():
         try_table(trial)
         try_edges(trial)
         try_long(trial)
-        try_bytes(chance, options.seconds * 0.4, trial, options.all)
+        try_bytes(chance, options.seconds * 0.4, trial, options.all, *options.part)
         try_lists(chance, options.seconds * 0.1, trial)
         try_invented(chance, options.seconds * 0.1, trial)
         try_random(chance, options.seconds * 0.4, trial, trial.program, folder)
