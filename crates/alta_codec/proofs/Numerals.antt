@@ -1,8 +1,7 @@
 -- Laws of the shortest spelling of numbers in base 128.
-use Rattle.std.proofs.Common.{◌≡◌, ◌⊎◌, ⊎_elim, inl, inr, ℕ, zero, suc, ◌+◌, ◌-◌, ◌*◌, ◌/◌, ◌%◌, ◌^◌, ◌<◌, ◌≤◌, List, [], ◌∷◌, ◌++◌, length, take, drop, get_or, set, refl, sym, subst, ap, ◌∙◌, arith, drop-cons, append_assoc}
+use Rattle.std.proofs.Common.{◌≡◌, ◌⊎◌, ⊎_elim, inl, inr, ℕ, zero, suc, ◌+◌, ◌-◌, ◌*◌, ◌/◌, ◌%◌, ◌^◌, ◌<◌, ◌≤◌, List, [], ◌∷◌, ◌++◌, length, drop, get_or, refl, sym, subst, ap, ◌∙◌, arith, drop-cons, append_assoc}
 use Rattle.std.specs.Prelude.{Result, Ok, Err}
 use Rattle.std.proofs.Math.Nat.{mul-le-mul_left, pow-succ'}
-use Rattle.std.proofs.Math.Seq.{take-suc-set}
 use Rattle.std.proofs.Math.ListN.{drop_of_length-le}
 use Rattle.std.proofs.lemmas.Bool.{cases_lt}
 use Rattle.std.proofs.lemmas.Bool.Decides.{nat_tests}
@@ -111,23 +110,18 @@ small_step r (suc m) h l =
     let q : suc m - 1 ≡ m = omega arith in
     (omega arith, rw q (omega (arith, p)))
 
--- one more byte in the buffer
-pub spelled_more : (buffer : List ℕ) (len n rest : ℕ) (whole : List ℕ) → whole ≡ take len buffer ++ spelling (10 - len) rest → len < 10 → len < length buffer → 128 ≤ rest
-    → whole ≡ take (len + 1) (set buffer len (128 + rest % 128)) ++ spelling (10 - (len + 1)) (rest / 128)
-spelled_more buffer len n rest whole e few l h =
-    let a : suc len ≡ len + 1 = omega arith in
-    let b : 10 - len - 1 ≡ 10 - (len + 1) = omega arith in
+-- one more byte at the end
+pub spelled_more : (out new total : List ℕ) (left rest : ℕ) → 0 < left → 128 ≤ rest → new ≡ out ++ (128 + rest % 128) ∷ []
+    → out ++ spelling (left + 1) rest ≡ total → new ++ spelling (left - 1 + 1) (rest / 128) ≡ total
+spelled_more out new total left rest some h put so_far =
     let byte = 128 + rest % 128 in
-    let t : take (len + 1) (set buffer len byte) ≡ take len buffer ++ (byte ∷ []) = subst (λ i. take i (set buffer len byte) ≡ take len buffer ++ (byte ∷ [])) a (take-suc-set buffer len byte l) in
-    let m : spelling (10 - len) rest ≡ byte ∷ spelling (10 - (len + 1)) (rest / 128) =
-    spelling_more (10 - len) rest (omega arith) h ∙ ap (λ k. byte ∷ spelling k (rest / 128)) b in
-    e ∙ ap (λ x. take len buffer ++ x) m ∙ sym (ap (λ x. x ++ spelling (10 - (len + 1)) (rest / 128)) t ∙ append_assoc (take len buffer) (byte ∷ []) (spelling (10 - (len + 1)) (rest / 128)))
+    let q : left + 1 - 1 ≡ left - 1 + 1 = omega arith in
+    let m : spelling (left + 1) rest ≡ byte ∷ spelling (left - 1 + 1) (rest / 128) =
+    spelling_more (left + 1) rest (omega arith) h ∙ ap (λ k. byte ∷ spelling k (rest / 128)) q in
+    ap (λ x. x ++ spelling (left - 1 + 1) (rest / 128)) put ∙ append_assoc out (byte ∷ []) (spelling (left - 1 + 1) (rest / 128)) ∙ sym (ap (λ x. out ++ x) m) ∙ so_far
 
-pub spelled_last : (buffer : List ℕ) (len rest : ℕ) (whole : List ℕ) → whole ≡ take len buffer ++ spelling (10 - len) rest → len < 10 → len < length buffer → rest < 128
-    → whole ≡ take (len + 1) (set buffer len rest)
-spelled_last buffer len rest whole e few l h =
-    let a : suc len ≡ len + 1 = omega arith in
-    e ∙ ap (λ x. take len buffer ++ x) (spelling_last (10 - len) rest (omega arith) h) ∙ sym (subst (λ i. take i (set buffer len rest) ≡ take len buffer ++ (rest ∷ [])) a (take-suc-set buffer len rest l))
+pub spelled_last : (out new total : List ℕ) (left rest : ℕ) → rest < 128 → new ≡ out ++ rest ∷ [] → out ++ spelling (left + 1) rest ≡ total → new ≡ total
+spelled_last out new total left rest h put so_far = put ∙ sym (ap (λ x. out ++ x) (spelling_last (left + 1) rest (omega arith) h)) ∙ so_far
 
 abbrev pub read_ok : ℕ → ℕ → Result (ℕ × ℕ) CodeFault
 read_ok n e = Ok (n, e)

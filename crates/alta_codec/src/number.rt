@@ -17,25 +17,49 @@ pub enum CodeFault {
 
 /// Appends the shortest spelling of a number in unsigned LEB128 (DWARF 5, section 7.6): seven bits a byte, low bits
 /// first, the top bit set on all bytes but the last. That is 1 to 10 bytes. For want of memory `out` stays as it was.
+#[inline(always)]
 pub fn put_number(out: &mut Vec<u8>, n: u64) -> Result<(), AllocError>
     ensures { out.new.items ≡ (if is_ok result then out.old.items ++ number_bytes n else out.old.items) }
 {
-    let mut buffer = [0u8; 10];
-    let mut len = 0;
-    let mut rest = n;
-    'sevens: while rest >= 128 {
-        buffer[len] = 128 + (rest % 128) as u8;
-        rest /= 128;
-        len += 1;
+    if n < 128 {
+        out.push(n as u8)?;
+        return Ok(());
     }
-    buffer[len] = rest as u8;
-    out.extend_from_slice(&buffer[..len + 1])
+    put_long(out, n)
+}
+
+// The same for a number of more than one byte.
+fn put_long(out: &mut Vec<u8>, n: u64) -> Result<(), AllocError>
+    ensures { out.new.items ≡ (if is_ok result then out.old.items ++ number_bytes n else out.old.items) }
+{
+    out.reserve(10)?;
+    let mut rest = n;
+    let mut left: usize = 9;
+    'sevens: while rest >= 128 {
+        out.push_reserved(128 + (rest % 128) as u8);
+        rest /= 128;
+        left -= 1;
+    }
+    out.push_reserved(rest as u8);
+    Ok(())
 }
 
 /// Reads the number whose shortest spelling stands at `from`, which is at most the length: the number and the place
 /// after it. The bytes are looked at in order, and the first that decides gives the answer; each cause of a fault
 /// names the place of that byte, and `Cut` the length.
+#[inline(always)]
 pub fn get_number(bytes: &[u8], from: usize) -> Result<(u64, usize), CodeFault>
+    requires { from ≤ length bytes.now }
+    ensures { result ≡ number_from 9 from (drop from bytes.now) }
+{
+    if from < bytes.len() && bytes[from] < 128 {
+        return Ok((u64::from(bytes[from]), from + 1));
+    }
+    get_long(bytes, from)
+}
+
+// The same for a number of any length.
+fn get_long(bytes: &[u8], from: usize) -> Result<(u64, usize), CodeFault>
     requires { from ≤ length bytes.now }
     ensures { result ≡ number_from 9 from (drop from bytes.now) }
 {

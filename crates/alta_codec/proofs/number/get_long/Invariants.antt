@@ -1,7 +1,7 @@
 use Rattle.std.proofs.Common.{◌≡◌, ◌-◌, ◌*◌, ◌^◌, ◌<◌, ◌≤◌, drop, length}
 use Rattle.alta_codec.specs.Numbers.{number_from}
 use Rattle.alta_codec.proofs.Numerals.{raised}
-use Rattle.alta_codec.proofs.number.get_number.Given as goal
+use Rattle.alta_codec.proofs.number.get_long.Given as goal
 
 abbrev pub invariant-bytes : goal.invariant-bytes
 invariant-bytes l =
