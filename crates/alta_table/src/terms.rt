@@ -42,10 +42,10 @@ fn is_kind_byte(b: u8) -> bool
 }
 
 fn is_length(shared: usize, len: u64) -> bool
-    requires { shared ≤ 129 }
+    requires { shared ≤ LONGEST }
     ensures { result ≡ is_rest_len shared len }
 {
-    0 < len && len <= 129 - shared as u64
+    0 < len && len <= (LONGEST - shared) as u64
 }
 
 fn is_next(before: &[u8], shared: usize, rest: &[u8]) -> bool
@@ -74,10 +74,10 @@ fn entry_at<'a>(
     room: u64,
     bytes: &'a [u8],
 ) -> Result<(Entry<'a>, &'a [u8]), ReadFault>
-    requires { length before.now ≤ 129 }
+    requires { length before.now ≤ LONGEST }
     ensures gives { Gives (λ x. (entry_row before.now x.0, x.1.now)) result (read (term_format (record { term = before.now; room = room })) bytes.now) }
     ensures shared { IfOk result (λ x. x.0.shared ≤ length before.now) }
-    ensures short { IfOk result (λ x. x.0.shared + length x.0.rest.now ≤ 129) }
+    ensures short { IfOk result (λ x. x.0.shared + length x.0.rest.now ≤ LONGEST) }
     ensures fits { IfOk result (λ x. x.0.stream + x.0.summary ≤ room) }
 {
     let (shared, behind_shared) = packed_at(bytes)?;
@@ -119,7 +119,7 @@ fn entry_at<'a>(
 
 // Writes the rest of a term behind the front that it shares with the term before.
 fn replace(before: &mut [u8; LONGEST], shared: usize, rest: &[u8])
-    requires { shared + length rest.now ≤ 129 }
+    requires { shared + length rest.now ≤ LONGEST }
     ensures { take (shared + length rest.now) before.new ≡ take shared before.old ++ rest.now }
 {
     before[shared..shared + rest.len()].copy_from_slice(rest);
@@ -135,12 +135,12 @@ fn term_at<'a>(
     end: u64,
     bytes: &'a [u8],
 ) -> Result<(TermSpan, &'a [u8]), ReadFault>
-    requires len { len ≤ 129 }
+    requires len { len ≤ LONGEST }
     requires room { room ≤ end }
     ensures gives { Gives (λ x. (row_in text.new.items x.0, x.1.now)) result (read (term_format (record { term = take len before.old; room = room })) bytes.now) }
     ensures grown { IfOk result (λ x. GrowsBy text.old.items text.new.items x.0) }
     ensures last { IfOk result (λ x. take x.0.len before.new ≡ term_in text.new.items x.0) }
-    ensures short { IfOk result (λ x. x.0.len ≤ 129) }
+    ensures short { IfOk result (λ x. x.0.len ≤ LONGEST) }
     ensures place { IfOk result (λ x. x.0.place ≡ end - room) }
     ensures fits { IfOk result (λ x. x.0.stream + x.0.summary ≤ room) }
 {
