@@ -1,5 +1,5 @@
 // The term part of a segment.
-ghost use Rattle.std.specs.Prelude.{◌≡◌, ℕ, ◌+◌, ◌-◌, ◌<◌, ◌≤◌, ◌^◌, ◌++◌, List, [], length, take, IfOk};
+ghost use Rattle.std.specs.Prelude.{◌≡◌, ℕ, ◌+◌, ◌-◌, ◌<◌, ◌≤◌, ◌^◌, ◌++◌, List, [], length, take, IfOk, OnOk};
 ghost use Rattle.alta_format.specs.Gives.{Gives};
 ghost use Rattle.alta_format.specs.Format.{read, part};
 ghost use Rattle.alta_table.specs.Answers.{Answers};
@@ -10,7 +10,7 @@ ghost use Rattle.alta_content.specs.Lists.{is_kind};
 use crate::fault::LevelFault;
 use crate::span::TermSpan;
 use alta_format::{ReadFault, packed_at, text_at};
-use std::alloc::Global;
+use std::alloc::{AllocError, Global};
 
 // The longest term.
 const LONGEST: usize = 129;
@@ -125,6 +125,18 @@ fn replace(before: &mut [u8; LONGEST], shared: usize, rest: &[u8])
     before[shared..shared + rest.len()].copy_from_slice(rest);
 }
 
+// Appends a term. Terms are short: the loop becomes a copy in place, where `extend_from_slice` is a call.
+#[inline(always)]
+fn append(text: &mut Vec<u8>, term: &[u8]) -> Result<(), AllocError>
+    ensures { OnOk result (text.new.items ≡ text.old.items ++ term.now) }
+{
+    text.reserve(term.len())?;
+    for b in term {
+        text.push_reserved(*b);
+    }
+    Ok(())
+}
+
 // The row at the front, behind one of the term that is the first `len` bytes of `before`, with so much room for streams
 // and summaries, which ends at a place of the disk. Its term goes behind the text, and takes the place of the one before.
 fn term_at<'a>(
@@ -148,7 +160,7 @@ fn term_at<'a>(
     let start = text.len();
     let size = entry.shared + entry.rest.len();
     replace(before, entry.shared, entry.rest);
-    text.extend_from_slice(&before[..size])?;
+    append(text, &before[..size])?;
     Ok((
         TermSpan {
             start,
