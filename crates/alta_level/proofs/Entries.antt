@@ -100,3 +100,32 @@ assembled content head b0 b1 b2 b3 b4 first second streams e0 e1 e2 e3 e4 d t s 
     ∙ ap (λ z. (h ++ (first ++ second)) ++ z) s ∙ ap (λ z. (h ++ (first ++ z)) ++ flat_map list_bytes content.lists) t
     ∙ ap (λ z. (h ++ (z ++ terms_bytes (rows_of content.lists))) ++ flat_map list_bytes content.lists) d
     ∙ ap (λ z. (head_bytes z ++ (documents_bytes content.documents ++ terms_bytes (rows_of content.lists))) ++ flat_map list_bytes content.lists) same
+
+-- what is left to spell of lists that are used up, behind the term `before`
+pub record Leaves (all : List TermList) (terms_before streams_before terms streams before : List ℕ) (left : List TermList) : Type 0 where
+  pub entries : terms ++ terms_bytes_behind before (rows_of left) ≡ terms_before ++ terms_bytes (rows_of all)
+  pub written : streams ++ flat_map list_bytes left ≡ streams_before ++ flat_map list_bytes all
+  pub rise : (k : ℕ) → (d : TermList) → k < length left → IsRising (get_or left k d).locations
+
+pub leaves_all : (lists : List TermList) (terms streams : List ℕ) → ((k : ℕ) (d : TermList) → k < length lists → IsRising (get_or lists k d).locations)
+    → Leaves lists terms streams terms streams [] lists
+leaves_all lists terms streams rise = record { entries = refl; written = refl; rise = rise }
+
+pub leaves_rest : (all : List TermList) (t s terms streams before : List ℕ) (l : TermList) (ls : List TermList) (more most : List ℕ) → Leaves all t s terms streams before (l ∷ ls)
+    → more ≡ terms ++ entry_bytes before (row_of l) → most ≡ streams ++ list_bytes l → Leaves all t s more most l.term ls
+unfolding terms_bytes_behind
+leaves_rest all t s terms streams before l ls more most leaves m w = record {
+  entries = ap (λ x. x ++ terms_bytes_behind l.term (rows_of ls)) m ∙ append_assoc terms (entry_bytes before (row_of l)) (terms_bytes_behind l.term (rows_of ls)) ∙ leaves.entries;
+  written = ap (λ x. x ++ flat_map list_bytes ls) w ∙ append_assoc streams (list_bytes l) (flat_map list_bytes ls) ∙ leaves.written;
+  rise = λ k d less. leaves.rise (suc k) d (omega (arith, less));
+}
+
+pub leaves_none : (all : List TermList) (t s terms streams before : List ℕ) → Leaves all t s terms streams before [] → (terms ≡ t ++ terms_bytes (rows_of all)) × (streams ≡ s ++ flat_map list_bytes all)
+unfolding terms_bytes_behind
+leaves_none all t s terms streams before leaves = (sym (append-nil terms) ∙ leaves.entries, sym (append-nil streams) ∙ leaves.written)
+
+pub one_entry : (l : TermList) (old new before : List ℕ) (row : TermRow) → row.term ≡ l.term → row.count ≡ length l.locations
+    → row.stream ≡ length (stream_bytes 0 l.locations) → row.summary ≡ length (summary_bytes l.locations) → new ≡ old ++ entry_bytes before row → new ≡ old ++ entry_bytes before (row_of l)
+one_entry l old new before row t c s m n =
+    let same : row ≡ row_of l = ap (λ (x : List ℕ). let r : TermRow = record { term = x; count = row.count; stream = row.stream; summary = row.summary } in r) t ∙ row_same l row.count row.stream row.summary c s m in
+    n ∙ ap (λ x. old ++ entry_bytes before x) same

@@ -20,7 +20,7 @@ mod writing;
 
 pub use alta_content::{Content, DocRow, DocRows, Locations, TermList, TermLists};
 pub use alta_table::{Head, LevelFault, Table, head};
-pub use building::build;
+pub use building::{build, build_from};
 pub use checking::{check_list, read_list};
 pub use laws::segments_read_back;
 pub use reading::read_content;
