@@ -110,7 +110,7 @@ names_as slot again slot_is root pieces others pieces_are coming old names =
 
 -- so many levels at most
 abbrev pub AreFew : NextLevels → Root → Type 0
-AreFew levels root = length (coming levels.oldest.now) + (length root.levels.items - levels.stay_from) + length (coming levels.newest.now) ≤ 16
+AreFew levels root = length (coming levels.oldest) + (length root.levels.items - levels.stay_from) + length (coming levels.newest) ≤ 16
 
 pub record IsNaming (o : Opened) (levels : NextLevels) (ends : Ends) (next location limit : ℕ) (slot : Slot) (draft : Draft) (pieces : List Piece) (old : List ℕ) : Type 0 where
   pub slot_is : slot ≡ o.slot
@@ -200,14 +200,14 @@ pub tables_done : (levels : NextLevels) (there : List Level) (limit : ℕ) (root
     → map tables_by (levels_then levels there draft.places) ≡ tables_between draft.oldest_level levels.stay_from (map tables_by there) draft.newest_level
 tables_done levels there limit root ends next location draft is =
     tables_then levels there draft.places
-    ∙ ap (λ (t : Option Tables). tables_between t levels.stay_from (map tables_by there) (table_to_come draft.places.newest levels.newest.now)) (sym is.oldest_level)
+    ∙ ap (λ (t : Option Tables). tables_between t levels.stay_from (map tables_by there) (table_to_come draft.places.newest levels.newest)) (sym is.oldest_level)
     ∙ ap (λ (t : Option Tables). tables_between draft.oldest_level levels.stay_from (map tables_by there) t) (sym is.newest_level)
 
 -- the same of what is opened
 pub tables_opened : (levels : NextLevels) (o : Opened) (limit : ℕ) (root : Root) (ends : Ends) (next location : ℕ) (draft : Draft) → IsDraft limit root levels ends next location draft
     → (coming_at o levels ends next location draft.places).levels ≡ tables_between draft.oldest_level levels.stay_from o.levels draft.newest_level
 tables_opened levels o limit root ends next location draft is =
-    ap (λ (t : Option Tables). tables_between t levels.stay_from o.levels (table_to_come draft.places.newest levels.newest.now)) (sym is.oldest_level)
+    ap (λ (t : Option Tables). tables_between t levels.stay_from o.levels (table_to_come draft.places.newest levels.newest)) (sym is.oldest_level)
     ∙ ap (λ (t : Option Tables). tables_between draft.oldest_level levels.stay_from o.levels t) (sym is.newest_level)
 
 -- ---- what stays as it was

@@ -37,7 +37,7 @@ replaced n oldest newest view = coming oldest ++ (map stays (drop n view.levels)
 
 to_come : (levels : NextLevels) (n : ℕ) (oldest newest : Content) (view : View) → Replaces levels n oldest newest → levels_to_come levels view ≡ replaced n oldest newest view
 to_come levels n oldest newest view is =
-    ap (λ (c : Content). replaced levels.stay_from c levels.newest.now view) is.oldest_is ∙ ap (λ (c : Content). replaced levels.stay_from oldest c view) is.newest_is ∙ ap (λ k. replaced k oldest newest view) is.stay_from_is
+    ap (λ (c : Content). replaced levels.stay_from c levels.newest view) is.oldest_is ∙ ap (λ (c : Content). replaced levels.stay_from oldest c view) is.newest_is ∙ ap (λ k. replaced k oldest newest view) is.stay_from_is
 
 stay_is : (levels : NextLevels) (view : View) → Replaces levels 0 no_content (newest_content view) → levels_to_come levels view ≡ map stays view.levels ++ coming (newest_content view)
 stay_is levels view is = to_come levels 0 no_content (newest_content view) view is

@@ -170,7 +170,7 @@ read_drop (suc n) (e ∷ es) (t ∷ ts) image read = read_drop n es ts image rea
 -- ---- what comes
 
 module _ (o : Opened) (there : List Level) (levels : NextLevels) (ends : Ends) (next location : ℕ) (old : List ℕ) (may : MayRewriteOpened o there levels ends next location old) (fits : AreBytes old) (limit : ℕ) (draft : Draft)
-    (is : IsDraft limit o.root levels ends next location draft) (few : length (coming levels.oldest.now) + (length o.root.levels.items - levels.stay_from) + length (coming levels.newest.now) ≤ 16) (pieces : List Piece)
+    (is : IsDraft limit o.root levels ends next location draft) (few : length (coming levels.oldest) + (length o.root.levels.items - levels.stay_from) + length (coming levels.newest) ≤ 16) (pieces : List Piece)
     (are : pairs_in pieces ≡ pieces_of draft) (number : (1 ≤ next) × (next ≤ LAST_NEXT)) (bounded : (1 ≤ location) × (location ≤ 1 + (next - 1) * DOCUMENT_CELLS)) (rising : IsRising ends.deleted.now) (short : limit < 2 ^ 64) where
   abbrev come : Root
   come = root_to_come o.root ends levels.stay_from next location draft.places
@@ -178,10 +178,10 @@ module _ (o : Opened) (there : List Level) (levels : NextLevels) (ends : Ends) (
   may_put : MayPut (other o.slot) draft.root pieces limit old
   may_put = draft_may limit o.root levels ends next location draft is pieces are o.slot old may.is.counts few number bounded
 
-  placed : ArePlaces limit o.root (length (segment_of levels.oldest.now)) (length (segment_of levels.newest.now)) (length (list_of ends)) draft.places
+  placed : ArePlaces limit o.root (length (segment_of levels.oldest)) (length (segment_of levels.newest)) (length (list_of ends)) draft.places
   placed = draft_places limit o.root levels ends next location draft is
 
-  put : ArePut o.root limit (segment_of levels.oldest.now) (segment_of levels.newest.now) (list_of ends) draft.places pieces
+  put : ArePut o.root limit (segment_of levels.oldest) (segment_of levels.newest) (list_of ends) draft.places pieces
   put = draft_put limit o.root levels ends next location draft is pieces are
 
   list : ListComes o.root pieces old come.deletions ends.deleted.now
@@ -229,12 +229,12 @@ module _ (o : Opened) (there : List Level) (levels : NextLevels) (ends : Ends) (
 
     all_read : AreRead come.levels.items coming_is.levels middle
     all_read =
-        read_append (as_list draft.places.oldest) (drop levels.stay_from o.root.levels.items ++ as_list draft.places.newest) (tables_in (table_to_come draft.places.oldest levels.oldest.now))
-        (drop levels.stay_from o.levels ++ tables_in (table_to_come draft.places.newest levels.newest.now)) middle
-        (new_read levels.oldest.now is.parts.0 (taken_by o.root []) draft.places.oldest put.oldest_there placed.oldest_is)
-        (read_append (drop levels.stay_from o.root.levels.items) (as_list draft.places.newest) (drop levels.stay_from o.levels) (tables_in (table_to_come draft.places.newest levels.newest.now)) middle
+        read_append (as_list draft.places.oldest) (drop levels.stay_from o.root.levels.items ++ as_list draft.places.newest) (tables_in (table_to_come draft.places.oldest levels.oldest))
+        (drop levels.stay_from o.levels ++ tables_in (table_to_come draft.places.newest levels.newest)) middle
+        (new_read levels.oldest is.parts.0 (taken_by o.root []) draft.places.oldest put.oldest_there placed.oldest_is)
+        (read_append (drop levels.stay_from o.root.levels.items) (as_list draft.places.newest) (drop levels.stay_from o.levels) (tables_in (table_to_come draft.places.newest levels.newest)) middle
         (read_drop levels.stay_from o.root.levels.items o.levels middle old_read)
-        (new_read levels.newest.now is.parts.1 (taken_by o.root (as_list draft.places.oldest)) draft.places.newest put.newest_there placed.newest_is))
+        (new_read levels.newest is.parts.1 (taken_by o.root (as_list draft.places.oldest)) draft.places.newest put.newest_there placed.newest_is))
 
     is_named : IsNamed coming_is middle
     is_named =
@@ -269,11 +269,11 @@ module _ (o : Opened) (there : List Level) (levels : NextLevels) (ends : Ends) (
 
     extents_come : come.levels.items ≡ map (λ (l : Level). l.extent) later.view.levels
     extents_come =
-        ap (λ (es : List Extent). es ++ (drop levels.stay_from o.root.levels.items ++ as_list draft.places.newest)) (new draft.places.oldest levels.oldest.now)
-        ∙ ap (λ (es : List Extent). map extent_of (new_levels levels.oldest.now draft.places.oldest) ++ (es ++ as_list draft.places.newest)) (ap (drop levels.stay_from) may.have.extents ∙ drop-map extent_of levels.stay_from there)
-        ∙ ap (λ (es : List Extent). map extent_of (new_levels levels.oldest.now draft.places.oldest) ++ (map extent_of (drop levels.stay_from there) ++ es)) (new draft.places.newest levels.newest.now)
-        ∙ sym (map-append extent_of (new_levels levels.oldest.now draft.places.oldest) (drop levels.stay_from there ++ new_levels levels.newest.now draft.places.newest)
-        ∙ ap (λ (es : List Extent). map extent_of (new_levels levels.oldest.now draft.places.oldest) ++ es) (map-append extent_of (drop levels.stay_from there) (new_levels levels.newest.now draft.places.newest)))
+        ap (λ (es : List Extent). es ++ (drop levels.stay_from o.root.levels.items ++ as_list draft.places.newest)) (new draft.places.oldest levels.oldest)
+        ∙ ap (λ (es : List Extent). map extent_of (new_levels levels.oldest draft.places.oldest) ++ (es ++ as_list draft.places.newest)) (ap (drop levels.stay_from) may.have.extents ∙ drop-map extent_of levels.stay_from there)
+        ∙ ap (λ (es : List Extent). map extent_of (new_levels levels.oldest draft.places.oldest) ++ (map extent_of (drop levels.stay_from there) ++ es)) (new draft.places.newest levels.newest)
+        ∙ sym (map-append extent_of (new_levels levels.oldest draft.places.oldest) (drop levels.stay_from there ++ new_levels levels.newest draft.places.newest)
+        ∙ ap (λ (es : List Extent). map extent_of (new_levels levels.oldest draft.places.oldest) ++ es) (map-append extent_of (drop levels.stay_from there) (new_levels levels.newest draft.places.newest)))
       where
         new : (found : Option Extent) (content : Content) → as_list found ≡ map extent_of (new_levels content found)
         new None content = refl
@@ -300,10 +300,10 @@ module _ (o : Opened) (there : List Level) (levels : NextLevels) (ends : Ends) (
       extents = extents_come;
       tables = refl;
       segments =
-          All-append (LevelComes o.root pieces old) (new_levels levels.oldest.now draft.places.oldest) (drop levels.stay_from there ++ new_levels levels.newest.now draft.places.newest)
-          (new_level_comes levels.oldest.now is.parts.0 (taken_by o.root []) draft.places.oldest put.oldest_there placed.oldest_is)
-          (All-append (LevelComes o.root pieces old) (drop levels.stay_from there) (new_levels levels.newest.now draft.places.newest) (All-drop (LevelComes o.root pieces old) levels.stay_from there old_levels_come)
-          (new_level_comes levels.newest.now is.parts.1 (taken_by o.root (as_list draft.places.oldest)) draft.places.newest put.newest_there placed.newest_is));
+          All-append (LevelComes o.root pieces old) (new_levels levels.oldest draft.places.oldest) (drop levels.stay_from there ++ new_levels levels.newest draft.places.newest)
+          (new_level_comes levels.oldest is.parts.0 (taken_by o.root []) draft.places.oldest put.oldest_there placed.oldest_is)
+          (All-append (LevelComes o.root pieces old) (drop levels.stay_from there) (new_levels levels.newest draft.places.newest) (All-drop (LevelComes o.root pieces old) levels.stay_from there old_levels_come)
+          (new_level_comes levels.newest is.parts.1 (taken_by o.root (as_list draft.places.oldest)) draft.places.newest put.newest_there placed.newest_is));
       list = list;
       entries = refl;
       tail = refl;

@@ -74,7 +74,7 @@ between : {X Y : Type 0} (f : X → Y) (xs ys zs : List X) → map f (xs ++ (ys 
 between f xs ys zs = map-append f xs (ys ++ zs) ∙ ap (λ ws. map f xs ++ ws) (map-append f ys zs)
 
 abbrev pub come_of : NextLevels → List Tables → Places → List Tables
-come_of levels tables places = tables_between (table_to_come places.oldest levels.oldest.now) levels.stay_from tables (table_to_come places.newest levels.newest.now)
+come_of levels tables places = tables_between (table_to_come places.oldest levels.oldest) levels.stay_from tables (table_to_come places.newest levels.newest)
 
 new_rows : (content : Content) (found : Option Extent) → map rows_of_table (tables_in (table_to_come found content)) ≡ map rows_of_level (new_levels content found)
 new_rows content None = refl
@@ -87,20 +87,20 @@ new_tables content (Some extent) = refl
 come_rows : (levels : NextLevels) (there : List Level) (tables : List Tables) (places : Places) → map rows_of_table tables ≡ map rows_of_level there → rows_in (come_of levels tables places) ≡ level_rows (levels_then levels there places)
 come_rows levels there tables places same =
     rows_by (come_of levels tables places) (levels_then levels there places)
-    (between rows_of_table (tables_in (table_to_come places.oldest levels.oldest.now)) (drop levels.stay_from tables) (tables_in (table_to_come places.newest levels.newest.now))
-    ∙ ap (λ (xs : List (List DocRow)). xs ++ (map rows_of_table (drop levels.stay_from tables) ++ map rows_of_table (tables_in (table_to_come places.newest levels.newest.now)))) (new_rows levels.oldest.now places.oldest)
-    ∙ ap (λ (xs : List (List DocRow)). map rows_of_level (new_levels levels.oldest.now places.oldest) ++ (xs ++ map rows_of_table (tables_in (table_to_come places.newest levels.newest.now))))
+    (between rows_of_table (tables_in (table_to_come places.oldest levels.oldest)) (drop levels.stay_from tables) (tables_in (table_to_come places.newest levels.newest))
+    ∙ ap (λ (xs : List (List DocRow)). xs ++ (map rows_of_table (drop levels.stay_from tables) ++ map rows_of_table (tables_in (table_to_come places.newest levels.newest)))) (new_rows levels.oldest places.oldest)
+    ∙ ap (λ (xs : List (List DocRow)). map rows_of_level (new_levels levels.oldest places.oldest) ++ (xs ++ map rows_of_table (tables_in (table_to_come places.newest levels.newest))))
     (sym (drop-map rows_of_table levels.stay_from tables) ∙ ap (drop levels.stay_from) same ∙ drop-map rows_of_level levels.stay_from there)
-    ∙ ap (λ (xs : List (List DocRow)). map rows_of_level (new_levels levels.oldest.now places.oldest) ++ (map rows_of_level (drop levels.stay_from there) ++ xs)) (new_rows levels.newest.now places.newest)
-    ∙ sym (between rows_of_level (new_levels levels.oldest.now places.oldest) (drop levels.stay_from there) (new_levels levels.newest.now places.newest)))
+    ∙ ap (λ (xs : List (List DocRow)). map rows_of_level (new_levels levels.oldest places.oldest) ++ (map rows_of_level (drop levels.stay_from there) ++ xs)) (new_rows levels.newest places.newest)
+    ∙ sym (between rows_of_level (new_levels levels.oldest places.oldest) (drop levels.stay_from there) (new_levels levels.newest places.newest)))
 
 -- the tables of the levels to come
 pub tables_then : (levels : NextLevels) (there : List Level) (places : Places) → map tables_by (levels_then levels there places) ≡ come_of levels (map tables_by there) places
 tables_then levels there places =
-    between tables_by (new_levels levels.oldest.now places.oldest) (drop levels.stay_from there) (new_levels levels.newest.now places.newest)
-    ∙ ap (λ (xs : List Tables). xs ++ (map tables_by (drop levels.stay_from there) ++ map tables_by (new_levels levels.newest.now places.newest))) (new_tables levels.oldest.now places.oldest)
-    ∙ ap (λ (xs : List Tables). tables_in (table_to_come places.oldest levels.oldest.now) ++ (xs ++ map tables_by (new_levels levels.newest.now places.newest))) (sym (drop-map tables_by levels.stay_from there))
-    ∙ ap (λ (xs : List Tables). tables_in (table_to_come places.oldest levels.oldest.now) ++ (drop levels.stay_from (map tables_by there) ++ xs)) (new_tables levels.newest.now places.newest)
+    between tables_by (new_levels levels.oldest places.oldest) (drop levels.stay_from there) (new_levels levels.newest places.newest)
+    ∙ ap (λ (xs : List Tables). xs ++ (map tables_by (drop levels.stay_from there) ++ map tables_by (new_levels levels.newest places.newest))) (new_tables levels.oldest places.oldest)
+    ∙ ap (λ (xs : List Tables). tables_in (table_to_come places.oldest levels.oldest) ++ (xs ++ map tables_by (new_levels levels.newest places.newest))) (sym (drop-map tables_by levels.stay_from there))
+    ∙ ap (λ (xs : List Tables). tables_in (table_to_come places.oldest levels.oldest) ++ (drop levels.stay_from (map tables_by there) ++ xs)) (new_tables levels.newest places.newest)
 
 -- ---- what is opened
 

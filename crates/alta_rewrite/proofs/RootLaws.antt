@@ -117,7 +117,7 @@ abbrev by_same : Root → Ends → Bool → Extent
 by_same root ends b = cond b root.deletions no_extent
 
 module _ (root : Root) (levels : NextLevels) (ends : Ends) (limit size : ℕ) (sound : IsSound size root) (places : Places)
-    (are : ArePlaces limit root (length (segment_of levels.oldest.now)) (length (segment_of levels.newest.now)) (length (list_of ends)) places) where
+    (are : ArePlaces limit root (length (segment_of levels.oldest)) (length (segment_of levels.newest)) (length (list_of ends)) places) where
   abbrev staying : List Extent
   staying = drop levels.stay_from root.levels.items
 
@@ -129,39 +129,39 @@ module _ (root : Root) (levels : NextLevels) (ends : Ends) (limit size : ℕ) (s
   all_come P old first last =
       All-append P (as_list places.oldest) (staying ++ as_list places.newest) first (All-append P staying (as_list places.newest) (All-drop P levels.stay_from root.levels.items old) last)
 
-  few_come : length (coming levels.oldest.now) + (length root.levels.items - levels.stay_from) + length (coming levels.newest.now) ≤ 16 → length come ≤ 16
+  few_come : length (coming levels.oldest) + (length root.levels.items - levels.stay_from) + length (coming levels.newest) ≤ 16 → length come ≤ 16
   few_come few =
       omega (
         arith,
         few,
-        one_level levels.oldest.now (taken_by root []) limit places.oldest are.oldest_is,
-        one_level levels.newest.now (taken_by root (as_list places.oldest)) limit places.newest are.newest_is,
+        one_level levels.oldest (taken_by root []) limit places.oldest are.oldest_is,
+        one_level levels.newest (taken_by root (as_list places.oldest)) limit places.newest are.newest_is,
         length-append (as_list places.oldest) (staying ++ as_list places.newest),
         length-append staying (as_list places.newest),
         length-drop levels.stay_from root.levels.items,
       )
 
   -- ---- the levels
-  oldest_apart : (x : Extent) → IsPlaceFor (taken_by root []) (length (segment_of levels.oldest.now)) limit (Some x) → All (AreApart x) (extents_of root)
-  oldest_apart x is = subst (All (AreApart x)) (append-nil (extents_of root)) (placed_apart (taken_by root []) (length (segment_of levels.oldest.now)) limit x is.1)
+  oldest_apart : (x : Extent) → IsPlaceFor (taken_by root []) (length (segment_of levels.oldest)) limit (Some x) → All (AreApart x) (extents_of root)
+  oldest_apart x is = subst (All (AreApart x)) (append-nil (extents_of root)) (placed_apart (taken_by root []) (length (segment_of levels.oldest)) limit x is.1)
 
-  newest_apart : (oldest : Option Extent) (y : Extent) → IsPlaceFor (taken_by root (as_list oldest)) (length (segment_of levels.newest.now)) limit (Some y) → All (AreApart y) (taken_by root (as_list oldest))
-  newest_apart oldest y is = placed_apart (taken_by root (as_list oldest)) (length (segment_of levels.newest.now)) limit y is.1
+  newest_apart : (oldest : Option Extent) (y : Extent) → IsPlaceFor (taken_by root (as_list oldest)) (length (segment_of levels.newest)) limit (Some y) → All (AreApart y) (taken_by root (as_list oldest))
+  newest_apart oldest y is = placed_apart (taken_by root (as_list oldest)) (length (segment_of levels.newest)) limit y is.1
 
-  behind_apart : (oldest newest : Option Extent) → IsPlaceFor (taken_by root (as_list oldest)) (length (segment_of levels.newest.now)) limit newest → AllApart (staying ++ as_list newest)
+  behind_apart : (oldest newest : Option Extent) → IsPlaceFor (taken_by root (as_list oldest)) (length (segment_of levels.newest)) limit newest → AllApart (staying ++ as_list newest)
   behind_apart oldest None is = subst AllApart (sym (append-nil staying)) (apart_drop levels.stay_from root.levels.items (all_apart size (root.deletions ∷ []) root.levels.items sound.levels))
   behind_apart oldest (Some y) is =
       apart_push staying y (apart_drop levels.stay_from root.levels.items (all_apart size (root.deletions ∷ []) root.levels.items sound.levels))
       (All-drop (AreApart y) levels.stay_from root.levels.items
       (All-tail (AreApart y) root.deletions root.levels.items (all_left (AreApart y) (extents_of root) (as_list oldest) (newest_apart oldest y is))))
 
-  in_front : (oldest newest : Option Extent) → IsPlaceFor (taken_by root []) (length (segment_of levels.oldest.now)) limit oldest → IsPlaceFor (taken_by root (as_list oldest)) (length (segment_of levels.newest.now)) limit newest
+  in_front : (oldest newest : Option Extent) → IsPlaceFor (taken_by root []) (length (segment_of levels.oldest)) limit oldest → IsPlaceFor (taken_by root (as_list oldest)) (length (segment_of levels.newest)) limit newest
       → AllApart (as_list oldest ++ (staying ++ as_list newest))
   in_front None newest first last = behind_apart None newest last
   in_front (Some x) newest first last =
       (All-append (AreApart x) staying (as_list newest) (All-drop (AreApart x) levels.stay_from root.levels.items (All-tail (AreApart x) root.deletions root.levels.items (oldest_apart x first))) (beside newest last), behind_apart (Some x) newest last)
     where
-      beside : (newest : Option Extent) → IsPlaceFor (taken_by root (x ∷ [])) (length (segment_of levels.newest.now)) limit newest → All (AreApart x) (as_list newest)
+      beside : (newest : Option Extent) → IsPlaceFor (taken_by root (x ∷ [])) (length (segment_of levels.newest)) limit newest → All (AreApart x) (as_list newest)
       beside None is = All-nil (AreApart x)
       beside (Some y) is =
           All-cons (AreApart x) y [] (swapped y x (All-head (AreApart y) x [] (all_right (AreApart y) (extents_of root) (x ∷ []) (newest_apart (Some x) y is)))) (All-nil (AreApart x))
@@ -175,12 +175,12 @@ module _ (root : Root) (levels : NextLevels) (ends : Ends) (limit size : ℕ) (s
       (All-weaker (MeetsNone (root.deletions ∷ [])) (AreApart root.deletions) (λ e meets. swapped e root.deletions (All-head (AreApart e) root.deletions [] meets)) root.levels.items (levels_apart size (root.deletions ∷ []) root.levels.items sound.levels))
       (first places.oldest are.oldest_is) (last places.newest are.newest_is)
     where
-      first : (oldest : Option Extent) → IsPlaceFor (taken_by root []) (length (segment_of levels.oldest.now)) limit oldest → All (AreApart root.deletions) (as_list oldest)
+      first : (oldest : Option Extent) → IsPlaceFor (taken_by root []) (length (segment_of levels.oldest)) limit oldest → All (AreApart root.deletions) (as_list oldest)
       first None is = All-nil (AreApart root.deletions)
       first (Some x) is =
           All-cons (AreApart root.deletions) x [] (swapped x root.deletions (All-head (AreApart x) root.deletions root.levels.items (oldest_apart x is))) (All-nil (AreApart root.deletions))
 
-      last : (newest : Option Extent) → IsPlaceFor (taken_by root (as_list places.oldest)) (length (segment_of levels.newest.now)) limit newest → All (AreApart root.deletions) (as_list newest)
+      last : (newest : Option Extent) → IsPlaceFor (taken_by root (as_list places.oldest)) (length (segment_of levels.newest)) limit newest → All (AreApart root.deletions) (as_list newest)
       last None is = All-nil (AreApart root.deletions)
       last (Some y) is =
           All-cons (AreApart root.deletions) y [] (swapped y root.deletions (All-head (AreApart y) root.deletions (root.levels.items ++ as_list places.oldest) (newest_apart places.oldest y is))) (All-nil (AreApart root.deletions))
@@ -197,7 +197,7 @@ module _ (root : Root) (levels : NextLevels) (ends : Ends) (limit size : ℕ) (s
       (λ others. subst (λ (x : Extent). All (AreApart x) come) (sym (ap (by_same root ends) others)) (none_apart come))
 
   -- ---- what is placed
-  module _ (pieces : List Piece) (put : ArePut root limit (segment_of levels.oldest.now) (segment_of levels.newest.now) (list_of ends) places pieces) where
+  module _ (pieces : List Piece) (put : ArePut root limit (segment_of levels.oldest) (segment_of levels.newest) (list_of ends) places pieces) where
     among : All (Contains (extents_in pieces)) (as_list places.oldest ++ (as_list places.newest ++ as_list places.list))
     among = subst (All (Contains (extents_in pieces))) put.extents (All-contains_itself (extents_in pieces))
 
@@ -217,8 +217,8 @@ module _ (root : Root) (levels : NextLevels) (ends : Ends) (limit size : ℕ) (s
         (All-weaker (λ (e : Extent). IsExtent LEVEL_BYTES size [] e × Contains (extents_of root) e) (IsPlaced LEVEL_BYTES root pieces) (λ e both. (both.0.long, inr both.1)) root.levels.items
         (all_both (IsExtent LEVEL_BYTES size []) (Contains (extents_of root)) root.levels.items (levels_inside size (root.deletions ∷ []) root.levels.items sound.levels)
         (All-tail (Contains (extents_of root)) root.deletions root.levels.items (All-contains_itself (extents_of root)))))
-        (new_placed levels.oldest.now (taken_by root []) places.oldest are.oldest_is (all_left (Contains (extents_in pieces)) (as_list places.oldest) (as_list places.newest ++ as_list places.list) among))
-        (new_placed levels.newest.now (taken_by root (as_list places.oldest)) places.newest are.newest_is (all_left (Contains (extents_in pieces)) (as_list places.newest) (as_list places.list) behind))
+        (new_placed levels.oldest (taken_by root []) places.oldest are.oldest_is (all_left (Contains (extents_in pieces)) (as_list places.oldest) (as_list places.newest ++ as_list places.list) among))
+        (new_placed levels.newest (taken_by root (as_list places.oldest)) places.newest are.newest_is (all_left (Contains (extents_in pieces)) (as_list places.newest) (as_list places.list) behind))
 
     list_placed : (list : Option Extent) → IsPlaceFor (taken_by root (as_list places.oldest ++ as_list places.newest)) (length (list_of ends)) limit list → All (Contains (extents_in pieces)) (as_list list)
         → (list_to_come root ends list ≡ no_extent) ⊎ IsPlaced 1 root pieces (list_to_come root ends list)
@@ -233,7 +233,7 @@ module _ (root : Root) (levels : NextLevels) (ends : Ends) (limit size : ℕ) (s
         (λ others. inl (ap (by_same root ends) others))
 
     pub is_made : (next location : ℕ) → (1 ≤ next) × (next ≤ LAST_NEXT) → (1 ≤ location) × (location ≤ 1 + (next - 1) * DOCUMENT_CELLS)
-        → length (coming levels.oldest.now) + (length root.levels.items - levels.stay_from) + length (coming levels.newest.now) ≤ 16 → IsMade root (root_to_come root ends levels.stay_from next location places) pieces
+        → length (coming levels.oldest) + (length root.levels.items - levels.stay_from) + length (coming levels.newest) ≤ 16 → IsMade root (root_to_come root ends levels.stay_from next location places) pieces
     is_made next location number place few = record {
       next = refl;
       few = few_come few;
@@ -247,10 +247,10 @@ module _ (root : Root) (levels : NextLevels) (ends : Ends) (limit size : ℕ) (s
 -- ---- it may be put
 
 pub may_put : (slot : Slot) (root : Root) (levels : NextLevels) (ends : Ends) (limit : ℕ) (old : List ℕ) (next location : ℕ) (places : Places) (pieces : List Piece) → Counts slot root old
-    → length (coming levels.oldest.now) + (length root.levels.items - levels.stay_from) + length (coming levels.newest.now) ≤ 16
+    → length (coming levels.oldest) + (length root.levels.items - levels.stay_from) + length (coming levels.newest) ≤ 16
     → (1 ≤ next) × (next ≤ LAST_NEXT) → (1 ≤ location) × (location ≤ 1 + (next - 1) * DOCUMENT_CELLS)
-    → ArePlaces limit root (length (segment_of levels.oldest.now)) (length (segment_of levels.newest.now)) (length (list_of ends)) places
-    → ArePut root limit (segment_of levels.oldest.now) (segment_of levels.newest.now) (list_of ends) places pieces
+    → ArePlaces limit root (length (segment_of levels.oldest)) (length (segment_of levels.newest)) (length (list_of ends)) places
+    → ArePut root limit (segment_of levels.oldest) (segment_of levels.newest) (list_of ends) places pieces
     → MayPut (other slot) (root_to_come root ends levels.stay_from next location places) pieces limit old
 may_put slot root levels ends limit old next location places pieces counts few number place are put =
     may_be_put (other slot) (root_to_come root ends levels.stay_from next location places) root pieces limit old (twice slot counts)

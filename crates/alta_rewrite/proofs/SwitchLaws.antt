@@ -35,7 +35,7 @@ new_levels content (Some extent) = record { extent = extent; content = content }
 
 -- the levels to come, by the places of the new ones
 abbrev pub levels_then : NextLevels → List Level → Places → List Level
-levels_then levels there places = new_levels levels.oldest.now places.oldest ++ (drop levels.stay_from there ++ new_levels levels.newest.now places.newest)
+levels_then levels there places = new_levels levels.oldest places.oldest ++ (drop levels.stay_from there ++ new_levels levels.newest places.newest)
 
 -- what is held then
 abbrev pub then_of : Holding → Root → NextLevels → Ends → Option Job → Places → Holding
@@ -115,36 +115,36 @@ last_placed limit content taken =
 module _ (limit : ℕ) (root : Root) (levels : NextLevels) (there : List Level) where
   abbrev pub now_of : Option Extent → Option Extent → Placed
   now_of first last = record {
-    levels = new_levels levels.oldest.now first ++ (drop levels.stay_from there ++ new_levels levels.newest.now last);
+    levels = new_levels levels.oldest first ++ (drop levels.stay_from there ++ new_levels levels.newest last);
     taken = taken_by root (as_list first ++ as_list last);
   }
 
   abbrev second_place : Option Extent → Result (Option Extent) Full
-  second_place first = place_for (taken_by root (as_list first)) (length (segment_of levels.newest.now)) limit
+  second_place first = place_for (taken_by root (as_list first)) (length (segment_of levels.newest)) limit
 
   abbrev first_place : Result (Option Extent) Full
-  first_place = place_for (taken_by root []) (length (segment_of levels.oldest.now)) limit
+  first_place = place_for (taken_by root []) (length (segment_of levels.oldest)) limit
 
-  all_placed : placed_levels limit (extents_of root) (coming levels.oldest.now ++ (map stays (drop levels.stay_from there) ++ coming levels.newest.now))
+  all_placed : placed_levels limit (extents_of root) (coming levels.oldest ++ (map stays (drop levels.stay_from there) ++ coming levels.newest))
       ≡ (first_place >>= λ first. second_place first >>= λ last. Ok (now_of first last))
   all_placed =
-      front_placed limit levels.oldest.now (extents_of root) (map stays (drop levels.stay_from there) ++ coming levels.newest.now)
-      ∙ ap (λ (es : List Extent). place_for es (length (segment_of levels.oldest.now)) limit >>= front_of limit levels.oldest.now (extents_of root) (map stays (drop levels.stay_from there) ++ coming levels.newest.now))
+      front_placed limit levels.oldest (extents_of root) (map stays (drop levels.stay_from there) ++ coming levels.newest)
+      ∙ ap (λ (es : List Extent). place_for es (length (segment_of levels.oldest)) limit >>= front_of limit levels.oldest (extents_of root) (map stays (drop levels.stay_from there) ++ coming levels.newest))
       (sym (append-nil (extents_of root)))
       ∙ by_first first_place
     where
       by_last : (first : Option Extent) (r : Result (Option Extent) Full)
-          → (((r >>= last_of levels.newest.now (taken_by root (as_list first))) >>= behind (drop levels.stay_from there)) >>= behind (new_levels levels.oldest.now first)) ≡ (r >>= λ last. Ok (now_of first last))
+          → (((r >>= last_of levels.newest (taken_by root (as_list first))) >>= behind (drop levels.stay_from there)) >>= behind (new_levels levels.oldest first)) ≡ (r >>= λ last. Ok (now_of first last))
       by_last first (Ok last) =
-          ap (λ (es : List Extent). fine (record { levels = new_levels levels.oldest.now first ++ (drop levels.stay_from there ++ new_levels levels.newest.now last); taken = es })) (append_assoc (extents_of root) (as_list first) (as_list last))
+          ap (λ (es : List Extent). fine (record { levels = new_levels levels.oldest first ++ (drop levels.stay_from there ++ new_levels levels.newest last); taken = es })) (append_assoc (extents_of root) (as_list first) (as_list last))
       by_last first (Err full) = refl
 
-      by_first : (r : Result (Option Extent) Full) → (r >>= front_of limit levels.oldest.now (extents_of root) (map stays (drop levels.stay_from there) ++ coming levels.newest.now))
+      by_first : (r : Result (Option Extent) Full) → (r >>= front_of limit levels.oldest (extents_of root) (map stays (drop levels.stay_from there) ++ coming levels.newest))
           ≡ (r >>= λ first. second_place first >>= λ last. Ok (now_of first last))
       by_first (Ok first) =
-          ap (λ (r : Result Placed Full). r >>= behind (new_levels levels.oldest.now first))
-          (stay_placed limit (taken_by root (as_list first)) (drop levels.stay_from there) (coming levels.newest.now)
-          ∙ ap (λ (r : Result Placed Full). r >>= behind (drop levels.stay_from there)) (last_placed limit levels.newest.now (taken_by root (as_list first))))
+          ap (λ (r : Result Placed Full). r >>= behind (new_levels levels.oldest first))
+          (stay_placed limit (taken_by root (as_list first)) (drop levels.stay_from there) (coming levels.newest)
+          ∙ ap (λ (r : Result Placed Full). r >>= behind (drop levels.stay_from there)) (last_placed limit levels.newest (taken_by root (as_list first))))
           ∙ by_last first (second_place first)
       by_first (Err full) = refl
 
@@ -229,7 +229,7 @@ module _ (limit : ℕ) (held : Holding) (root : Root) (levels : NextLevels) (end
 
       by_first : (r : Result (Option Extent) Full)
           → ((r >>= λ first. second_place limit root levels held.view.levels first >>= λ last. Ok (now_of limit root levels held.view.levels first last)) >>= switch_by ends.deleted.now)
-          ≡ ((r >>= λ first. place_for (taken_by root (as_list first)) (length (segment_of levels.newest.now)) limit >>= λ last. place_for (taken_by root (as_list first ++ as_list last)) (length (list_of ends)) limit >>= λ found. Ok (record { oldest = first; newest = last; list = found }))
+          ≡ ((r >>= λ first. place_for (taken_by root (as_list first)) (length (segment_of levels.newest)) limit >>= λ last. place_for (taken_by root (as_list first ++ as_list last)) (length (list_of ends)) limit >>= λ found. Ok (record { oldest = first; newest = last; list = found }))
           >>= λ places. Ok (then_of held root levels ends job places))
       by_first (Ok first) = by_last first (second_place limit root levels held.view.levels first)
       by_first (Err full) = refl

@@ -59,18 +59,18 @@ table_to_come (Some extent) content = Some (record { place = extent.place; docum
 
 -- the places of what is written anew
 abbrev pub rewrite_places : ℕ → Root → NextLevels → Ends → Result Places Full
-rewrite_places limit root levels ends = places_for limit root (length (segment_of levels.oldest.now)) (length (segment_of levels.newest.now)) (length (list_of ends))
+rewrite_places limit root levels ends = places_for limit root (length (segment_of levels.oldest)) (length (segment_of levels.newest)) (length (list_of ends))
 
 -- what is written anew, and the root to come
 pub record IsDraft (limit : ℕ) (root : Root) (levels : NextLevels) (ends : Ends) (next location : ℕ) (draft : Draft) : Type 0 where
-  pub parts : IsPart levels.oldest.now × IsPart levels.newest.now
-  pub oldest : draft.oldest.items ≡ segment_of levels.oldest.now
-  pub newest : draft.newest.items ≡ segment_of levels.newest.now
+  pub parts : IsPart levels.oldest × IsPart levels.newest
+  pub oldest : draft.oldest.items ≡ segment_of levels.oldest
+  pub newest : draft.newest.items ≡ segment_of levels.newest
   pub list : draft.list ≡ list_of ends
   pub places : rewrite_places limit root levels ends ≡ Ok draft.places
   pub root_is : draft.root ≡ root_to_come root ends levels.stay_from next location draft.places
-  pub oldest_level : draft.oldest_level ≡ table_to_come draft.places.oldest levels.oldest.now
-  pub newest_level : draft.newest_level ≡ table_to_come draft.places.newest levels.newest.now
+  pub oldest_level : draft.oldest_level ≡ table_to_come draft.places.oldest levels.oldest
+  pub newest_level : draft.newest_level ≡ table_to_come draft.places.newest levels.newest
 
 -- the draft, or why there is none
 abbrev pub Drafts : ℕ → Root → NextLevels → Ends → ℕ → ℕ → Result Draft RewriteFault → Type 0

@@ -27,7 +27,7 @@ use Rattle.alta_rewrite.specs.declared.rewriting.Rewritten.{Rewritten}
 
 -- the levels to come of a view: those from an index on stay, one content comes in place of those before, and one behind all
 abbrev pub levels_to_come : NextLevels → View → List Coming
-levels_to_come levels view = coming levels.oldest.now ++ (map stays (drop levels.stay_from view.levels) ++ coming levels.newest.now)
+levels_to_come levels view = coming levels.oldest ++ (map stays (drop levels.stay_from view.levels) ++ coming levels.newest)
 
 abbrev pub contents_to_come : NextLevels → View → List Content
 contents_to_come levels view = map content_to_come (levels_to_come levels view)
@@ -81,8 +81,8 @@ no_content = record { documents = []; lists = [] }
 -- these levels put a content in place of the n oldest, and another behind all
 pub record Replaces (levels : NextLevels) (n : ℕ) (oldest newest : Content) : Type 0 where
   pub stay_from_is : levels.stay_from ≡ n
-  pub oldest_is : levels.oldest.now ≡ oldest
-  pub newest_is : levels.newest.now ≡ newest
+  pub oldest_is : levels.oldest ≡ oldest
+  pub newest_is : levels.newest ≡ newest
 
 -- ---- what is opened, whatever the streams of levels that stay are
 
@@ -105,7 +105,7 @@ pub record IsComing (limit : ℕ) (o coming : Opened) (levels : NextLevels) (end
   pub slot_is : coming.slot ≡ other o.slot
   pub root_is : coming.root ≡ root_to_come o.root ends levels.stay_from next location places
   pub deleted_are : coming.deleted ≡ ends.deleted.now
-  pub levels_are : coming.levels ≡ tables_between (table_to_come places.oldest levels.oldest.now) levels.stay_from o.levels (table_to_come places.newest levels.newest.now)
+  pub levels_are : coming.levels ≡ tables_between (table_to_come places.oldest levels.oldest) levels.stay_from o.levels (table_to_come places.newest levels.newest)
   pub entries_are : coming.entries ≡ []
   pub tail_is : coming.tail ≡ journal_of coming.slot
 

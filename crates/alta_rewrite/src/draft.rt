@@ -2,10 +2,10 @@
 ghost use Rattle.std.specs.Prelude.{◌≡◌, ◌≤◌, ◌+◌, ◌-◌, ◌++◌, ◌^◌, ◌<◌, length, drop, IfOk, IfSome, Some};
 ghost use Rattle.std.specs.Str.{bytes_eq};
 ghost use Rattle.alta_codec.specs.Rising.{IsRising};
-ghost use Rattle.alta_content.specs.Lists.{IsContent};
 ghost use Rattle.alta_content.specs.Parts.{IsPart};
+ghost use Rattle.alta_content.specs.declared.content.Content.{Content};
 ghost use Rattle.alta_images.specs.Work.{coming};
-ghost use Rattle.alta_level.specs.Segments.{segment_bytes};
+ghost use Rattle.alta_level.specs.Segments.{IsSegment};
 ghost use Rattle.alta_rewrite.specs.Drafts.{Drafts, extents_to_come, list_of, list_to_come, pairs_in, pieces_of, root_to_come, segment_of, table_to_come};
 ghost use Rattle.alta_rewrite.specs.Places.{as_list};
 
@@ -14,7 +14,7 @@ use crate::places::{Places, find_places};
 use crate::{Ends, NextLevels, RewriteFault};
 use alta_codec::{Bytes, DocNumber, Extent, Loc};
 use alta_content::Content;
-use alta_level::{LevelFault, Table, build, head};
+use alta_level::{LevelFault, Table, build_from, head};
 use alta_postings::encode;
 use alta_root::Root;
 use arrayvec::ArrayVec;
@@ -39,15 +39,15 @@ pub(crate) struct Draft {
 
 // ---- bytes
 
-// The segment of a content, without bytes where there are no documents.
-fn spell_segment(alloc: Global, content: &Content) -> Result<Vec<u8>, AllocError>
-    requires { IsPart content.now }
-    ensures { IfOk result (λ segment. segment.items ≡ segment_of content.now) }
+// The segment of a content, without bytes where there are no documents. The content is used up.
+fn spell_segment(alloc: Global, content: Content) -> Result<Vec<u8>, AllocError>
+    requires { IsPart content }
+    ensures { IfOk result (λ segment. segment.items ≡ segment_of content) }
 {
     if content.documents.len() == 0 {
         return Ok(Vec::new(alloc));
     }
-    build(alloc, content)
+    build_from(alloc, content)
 }
 
 fn are_same(some: &[Loc], others: &[Loc]) -> bool
@@ -128,18 +128,12 @@ fn next_root(
 
 // ---- the levels
 
-// The tables of a content's segment, which stands at a place.
-fn open_segment(
-    alloc: Global,
-    content: &Content,
-    segment: &[u8],
-    extent: Extent,
-) -> Result<Table, AllocError>
-    requires content { IsContent content.now }
-    requires segment { segment.now ≡ segment_bytes content.now }
+// The tables of a segment, which stands at a place.
+fn open_segment(alloc: Global, segment: &[u8], extent: Extent) -> Result<Table, AllocError>
+    requires segment { (content : Content) × IsSegment segment.now content }
     requires bytes { extent.bytes ≡ length segment.now }
     requires below { extent.place + extent.bytes < 2 ^ 64 }
-    ensures { IfOk result (λ table. Some table ≡ table_to_come (Some extent) content.now) }
+    ensures { (content : Content) → IsSegment segment.now content → IfOk result (λ table. Some table ≡ table_to_come (Some extent) content) }
 {
     let Ok(found) = head(segment, extent.place, extent.bytes) else {
         unreachable!()
@@ -156,41 +150,40 @@ fn open_segment(
 // The tables of a new level, where there is one.
 fn open_level(
     alloc: Global,
-    content: &Content,
     segment: &[u8],
     place: Option<Extent>,
 ) -> Result<Option<Table>, AllocError>
-    requires content { IfSome place (λ _. IsContent content.now) }
-    requires segment { IfSome place (λ _. segment.now ≡ segment_bytes content.now) }
+    requires segment { IfSome place (λ _. (content : Content) × IsSegment segment.now content) }
     requires bytes { IfSome place (λ extent. extent.bytes ≡ length segment.now) }
     requires below { IfSome place (λ extent. extent.place + extent.bytes < 2 ^ 64) }
-    ensures { IfOk result (λ level. level ≡ table_to_come place content.now) }
+    ensures { (content : Content) → IfSome place (λ _. IsSegment segment.now content) → IfOk result (λ level. level ≡ table_to_come place content) }
 {
     match place {
-        Some(extent) => Ok(Some(open_segment(alloc, content, segment, extent)?)),
+        Some(extent) => Ok(Some(open_segment(alloc, segment, extent)?)),
         None => Ok(None),
     }
 }
 
 // ---- all of it
 
-/// What a switch to these levels writes, in memory.
+/// What a switch to these levels writes, in memory. The contents are used up before the tables are opened.
 pub(crate) fn make_draft(
     alloc: Global,
     root: &Root,
-    levels: NextLevels<'_>,
+    levels: NextLevels,
     ends: Ends<'_>,
     next: DocNumber,
     location: Loc,
     limit: u64,
 ) -> Result<Draft, RewriteFault>
-    requires oldest { IsPart levels.oldest.now }
-    requires newest { IsPart levels.newest.now }
+    requires oldest { IsPart levels.oldest }
+    requires newest { IsPart levels.newest }
     requires index { levels.stay_from ≤ length root.now.levels.items }
-    requires few { length (coming levels.oldest.now) + (length root.now.levels.items - levels.stay_from) + length (coming levels.newest.now) ≤ 16 }
+    requires few { length (coming levels.oldest) + (length root.now.levels.items - levels.stay_from) + length (coming levels.newest) ≤ 16 }
     requires rising { IsRising ends.deleted.now }
-    ensures { Drafts limit root.now levels.entry ends.entry next location result }
+    ensures { Drafts limit root.now levels ends.entry next location result }
 {
+    let stay_from = levels.stay_from;
     let oldest = spell_segment(alloc, levels.oldest)?;
     let newest = spell_segment(alloc, levels.newest)?;
     let list = spell_list(alloc, ends)?;
@@ -199,9 +192,9 @@ pub(crate) fn make_draft(
         Ok(places) => places,
         Err(fault) => return Err(fault),
     };
-    let oldest_level = open_level(alloc, levels.oldest, &oldest, places.oldest)?;
-    let newest_level = open_level(alloc, levels.newest, &newest, places.newest)?;
-    let root = next_root(root, ends, levels.stay_from, next, location, places);
+    let oldest_level = open_level(alloc, &oldest, places.oldest)?;
+    let newest_level = open_level(alloc, &newest, places.newest)?;
+    let root = next_root(root, ends, stay_from, next, location, places);
     Ok(Draft {
         oldest,
         newest,

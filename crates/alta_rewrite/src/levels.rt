@@ -3,12 +3,12 @@
 use alta_content::Content;
 
 /// The levels of a root to come. A content without documents has no level.
-#[derive(Clone, Copy)]
-pub struct NextLevels<'a> {
+#[derive(Drop)]
+pub struct NextLevels {
     /// What comes in place of the levels that do not stay.
-    pub oldest: &'a Content,
+    pub oldest: Content,
     /// The index of the first level that stays; those behind it stay too.
     pub stay_from: usize,
     /// What comes behind them.
-    pub newest: &'a Content,
+    pub newest: Content,
 }

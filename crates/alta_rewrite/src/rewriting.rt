@@ -60,7 +60,7 @@ pub fn rewrite<D: Disk>(
     disk: &mut D,
     slot: Slot,
     root: &Root,
-    levels: NextLevels<'_>,
+    levels: NextLevels,
     ends: Ends<'_>,
     next: DocNumber,
     location: Loc,
@@ -68,42 +68,42 @@ pub fn rewrite<D: Disk>(
     requires settled { Only (D.state disk.old).content (D.state disk.old).images }
     requires counts { D.tells → Counts slot root.now (D.state disk.old).content }
     requires limit { HEAD_BYTES ≤ (D.state disk.old).limit }
-    requires oldest { IsPart levels.oldest.now }
-    requires newest { IsPart levels.newest.now }
+    requires oldest { IsPart levels.oldest }
+    requires newest { IsPart levels.newest }
     requires index { levels.stay_from ≤ length root.now.levels.items }
-    requires few { length (coming levels.oldest.now) + (length root.now.levels.items - levels.stay_from) + length (coming levels.newest.now) ≤ 16 }
+    requires few { length (coming levels.oldest) + (length root.now.levels.items - levels.stay_from) + length (coming levels.newest) ≤ 16 }
     requires rising { IsRising ends.deleted.now }
     requires number { (1 ≤ next) × (next ≤ LAST_NEXT) }
     requires location { (1 ≤ location) × (location ≤ 1 + (next - 1) * DOCUMENT_CELLS) }
 
     // What is held then, and why no place is left.
-    ensures works { (held : Holding) → (job : Option Job) → D.tells → MayRewrite held levels.entry ends.entry next location (D.state disk.old).content
-        → IfOk result (λ done. (then : Holding) × IsRewritten (D.state disk.old).limit slot held levels.entry job then done (D.state disk.new).content) }
-    ensures full { (held : Holding) → (job : Option Job) → D.tells → MayRewrite held levels.entry ends.entry next location (D.state disk.old).content → (need gap : ℕ)
-        → result ≡ Err (Full need gap) → switched (D.state disk.old).limit held (levels_to_come levels.entry held.view) job ≡ Err (record { need = need; gap = gap }) }
-    ensures why { (need gap : ℕ) → result ≡ Err (Full need gap) → rewrite_places (D.state disk.old).limit root.now levels.entry ends.entry ≡ Err (record { need = need; gap = gap }) }
+    ensures works { (held : Holding) → (job : Option Job) → D.tells → MayRewrite held levels ends.entry next location (D.state disk.old).content
+        → IfOk result (λ done. (then : Holding) × IsRewritten (D.state disk.old).limit slot held levels job then done (D.state disk.new).content) }
+    ensures full { (held : Holding) → (job : Option Job) → D.tells → MayRewrite held levels ends.entry next location (D.state disk.old).content → (need gap : ℕ)
+        → result ≡ Err (Full need gap) → switched (D.state disk.old).limit held (levels_to_come levels held.view) job ≡ Err (record { need = need; gap = gap }) }
+    ensures why { (need gap : ℕ) → result ≡ Err (Full need gap) → rewrite_places (D.state disk.old).limit root.now levels ends.entry ≡ Err (record { need = need; gap = gap }) }
 
     // At each moment of the call.
-    ensures stands { (held : Holding) → (D.tells → MayRewrite held levels.entry ends.entry next location (D.state disk.old).content)
+    ensures stands { (held : Holding) → (D.tells → MayRewrite held levels ends.entry next location (D.state disk.old).content)
         → LeavesOnly (StandsFor (state_of held.view)) (D.state disk.old) (D.state disk.new) }
 
     // The same where the streams of levels that stay may be damaged.
-    ensures opened { (o : Opened) → (there : List Level) → (D.tells → MayRewriteOpened o there levels.entry ends.entry next location (D.state disk.old).content)
-        → LeavesOnly (MayBecome (D.state disk.old).limit o levels.entry ends.entry next location) (D.state disk.old) (D.state disk.new) }
-    ensures opened_then { (o : Opened) → (there : List Level) → D.tells → MayRewriteOpened o there levels.entry ends.entry next location (D.state disk.old).content
-        → IfOk result (λ done. (coming : Opened) × IsRewrittenOpened (D.state disk.old).limit o coming levels.entry ends.entry next location done (D.state disk.new).content) }
+    ensures opened { (o : Opened) → (there : List Level) → (D.tells → MayRewriteOpened o there levels ends.entry next location (D.state disk.old).content)
+        → LeavesOnly (MayBecome (D.state disk.old).limit o levels ends.entry next location) (D.state disk.old) (D.state disk.new) }
+    ensures opened_then { (o : Opened) → (there : List Level) → D.tells → MayRewriteOpened o there levels ends.entry next location (D.state disk.old).content
+        → IfOk result (λ done. (coming : Opened) × IsRewrittenOpened (D.state disk.old).limit o coming levels ends.entry next location done (D.state disk.new).content) }
 
     // What counts then; and where nothing was written.
     ensures counts { IfOk result (λ done. (done.slot ≡ other slot) × (done.root.next_number ≡ next) × (done.root.next_location ≡ location)) }
     // The answered tables have the rows of the levels that came anew, and the extents of the root are theirs and those that stay.
-    ensures rows { IfOk result (λ done. (rows_in (tables_in done.oldest) ≡ levels.entry.oldest.now.documents) × (rows_in (tables_in done.newest) ≡ levels.entry.newest.now.documents)) }
+    ensures rows { IfOk result (λ done. (rows_in (tables_in done.oldest) ≡ levels.oldest.documents) × (rows_in (tables_in done.newest) ≡ levels.newest.documents)) }
     ensures extents { IfOk result (λ done. done.root.levels.items ≡ map extent_of (tables_in done.oldest)
-        ++ (drop levels.entry.stay_from root.now.levels.items ++ map extent_of (tables_in done.newest))) }
+        ++ (drop levels.stay_from root.now.levels.items ++ map extent_of (tables_in done.newest))) }
     ensures memory { result ≡ Err Memory → disk.new ≡ disk.old }
     ensures unwritten { (need gap : ℕ) → result ≡ Err (Full need gap) → disk.new ≡ disk.old }
 
     // A new level is there only where it has documents; the bytes of the levels of before stay.
-    ensures none { levels.entry.oldest.now.documents ≡ [] → IfOk result (λ done. done.oldest ≡ None) }
+    ensures none { levels.oldest.documents ≡ [] → IfOk result (λ done. done.oldest ≡ None) }
     ensures spared { D.tells → OnOk result (All (λ (e : Extent). bytes_at e (D.state disk.new).content ≡ bytes_at e (D.state disk.old).content) root.now.levels.items) }
 
     // Each image at any moment comes from one of before.

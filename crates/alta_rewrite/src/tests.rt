@@ -115,14 +115,14 @@ fn content(alloc: Global, some: bool) -> Option<Content>
 fn rewrite_on(
     alloc: Global,
     disk: &mut MemoryDisk,
-    oldest: &Content,
+    oldest: Content,
     stay_from: usize,
-    newest: &Content,
+    newest: Content,
 ) -> Option<Result<Rewritten, RewriteFault>>
     requires settled { Only (memory_state disk.old).content (memory_state disk.old).images }
     requires limit { HEAD_BYTES ≤ (memory_state disk.old).limit }
-    requires oldest { IsPart oldest.now }
-    requires newest { IsPart newest.now }
+    requires oldest { IsPart oldest }
+    requires newest { IsPart newest }
 {
     let Ok(Roots { slot, root }) = read_roots(disk) else {
         return None;
@@ -220,7 +220,7 @@ fn levels_take_the_first_gaps(rt: HostRuntime) -> Result<(), Fail> {
         let Some(last) = content(alloc, newest) else {
             return Err("no content".into());
         };
-        let Some(done) = rewrite_on(alloc, &mut disk, &first, stay_from, &last) else {
+        let Some(done) = rewrite_on(alloc, &mut disk, first, stay_from, last) else {
             return Err("no root".into());
         };
         assert_eq!(rt; answer(&done), wanted, "call {call}, {room} bytes");

@@ -70,17 +70,17 @@ use Rattle.alta_images.proofs.FullLaws.{full_is, gap_short, ok_err}
 -- ---- rows
 
 -- the rows of the levels to come are those of the new ones, and those of the levels that stay between them
-rows_come : (levels : NextLevels) (view : View) → rows_to_come levels view ≡ levels.oldest.now.documents ++ (level_rows (drop levels.stay_from view.levels) ++ levels.newest.now.documents)
+rows_come : (levels : NextLevels) (view : View) → rows_to_come levels view ≡ levels.oldest.documents ++ (level_rows (drop levels.stay_from view.levels) ++ levels.newest.documents)
 rows_come levels view =
-    let first = coming levels.oldest.now in
+    let first = coming levels.oldest in
     let old = map stays (drop levels.stay_from view.levels) in
-    let last = coming levels.newest.now in
+    let last = coming levels.newest in
     ap content_rows (map-append content_to_come first (old ++ last))
     ∙ flat_map-append (λ (x : Content). x.documents) (map content_to_come first) (map content_to_come (old ++ last))
-    ∙ ap₂ (λ (xs ys : List DocRow). xs ++ ys) (coming_rows levels.oldest.now)
+    ∙ ap₂ (λ (xs ys : List DocRow). xs ++ ys) (coming_rows levels.oldest)
     (ap content_rows (map-append content_to_come old last)
     ∙ flat_map-append (λ (x : Content). x.documents) (map content_to_come old) (map content_to_come last)
-    ∙ ap₂ (λ (xs ys : List DocRow). xs ++ ys) (ap content_rows (stay_contents (drop levels.stay_from view.levels)) ∙ rows_by_levels (drop levels.stay_from view.levels)) (coming_rows levels.newest.now))
+    ∙ ap₂ (λ (xs ys : List DocRow). xs ++ ys) (ap content_rows (stay_contents (drop levels.stay_from view.levels)) ∙ rows_by_levels (drop levels.stay_from view.levels)) (coming_rows levels.newest))
 
 abbrev rows_of_table : Tables → List DocRow
 rows_of_table t = t.documents
@@ -116,24 +116,24 @@ pub have_rows : (held : Holding) (image : List ℕ) → (has : IsHeld held image
 have_rows held image has = record { extents = has.are.extents; rows = ap (map rows_of_table) has.are.tables ∙ tables_rows held.view.levels }
 
 -- what was prepared for the rows of these levels
-pub prepared_as : (c : Catalog) (levels : NextLevels) (prepared : PreparedLevels) (oldest newest : List DocRow) → oldest ≡ levels.oldest.now.documents → newest ≡ levels.newest.now.documents
-    → IsPrepared c oldest levels.stay_from newest prepared → IsPrepared c levels.oldest.now.documents levels.stay_from levels.newest.now.documents prepared
+pub prepared_as : (c : Catalog) (levels : NextLevels) (prepared : PreparedLevels) (oldest newest : List DocRow) → oldest ≡ levels.oldest.documents → newest ≡ levels.newest.documents
+    → IsPrepared c oldest levels.stay_from newest prepared → IsPrepared c levels.oldest.documents levels.stay_from levels.newest.documents prepared
 prepared_as c levels prepared oldest newest first last is =
-    subst (λ (rows : List DocRow). IsPrepared c rows levels.stay_from levels.newest.now.documents prepared) first (subst (λ (rows : List DocRow). IsPrepared c oldest levels.stay_from rows prepared) last is)
+    subst (λ (rows : List DocRow). IsPrepared c rows levels.stay_from levels.newest.documents prepared) first (subst (λ (rows : List DocRow). IsPrepared c oldest levels.stay_from rows prepared) last is)
 
 -- ---- what a rewrite is given
 
 module _ (tells : Type 0) (a : DiskState) (before now : Store) (levels : NextLevels) (may : MayPut tells a before now levels) (prepared : PreparedLevels)
-    (is_prepared : IsPrepared now.catalog levels.oldest.now.documents levels.stay_from levels.newest.now.documents prepared) (ends : Ends) (listed_is : ends.listed.now ≡ now.listed.items)
+    (is_prepared : IsPrepared now.catalog levels.oldest.documents levels.stay_from levels.newest.documents prepared) (ends : Ends) (listed_is : ends.listed.now ≡ now.listed.items)
     (deleted_is : ends.deleted.now ≡ deleted_of prepared) (next location : ℕ) (next_is : next ≡ next_of now.catalog) (location_is : location ≡ location_of now.catalog) where
   abbrev coming_rows_are : List DocRow
-  coming_rows_are = rows_between levels.oldest.now.documents levels.stay_from (levels_of before) levels.newest.now.documents
+  coming_rows_are = rows_between levels.oldest.documents levels.stay_from (levels_of before) levels.newest.documents
 
   deleted_before : ends.deleted.now ≡ ends_in (gone_of before.catalog) coming_rows_are
   deleted_before =
       deleted_is ∙ is_prepared.deleted
-      ∙ ap (λ (g : List ℕ). ends_in g (rows_between levels.oldest.now.documents levels.stay_from now.catalog.levels.items levels.newest.now.documents)) may.drained.catalog.gone
-      ∙ ap (λ (v : Vec Tables Global). ends_in before.catalog.gone (rows_between levels.oldest.now.documents levels.stay_from v.items levels.newest.now.documents)) may.drained.catalog.levels
+      ∙ ap (λ (g : List ℕ). ends_in g (rows_between levels.oldest.documents levels.stay_from now.catalog.levels.items levels.newest.documents)) may.drained.catalog.gone
+      ∙ ap (λ (v : Vec Tables Global). ends_in before.catalog.gone (rows_between levels.oldest.documents levels.stay_from v.items levels.newest.documents)) may.drained.catalog.levels
 
   agrees_opened : (told : tells) (o : Opened) → IsOpened o a.content → (there : List Level) → HaveRows o there → AgreesWith (view_of o there) levels ends next location
   agrees_opened told o is there have =
@@ -148,7 +148,7 @@ module _ (tells : Type 0) (a : DiskState) (before now : Store) (levels : NextLev
       (All-filter may.kept (Contains (level_rows there ++ map (λ (a : Added). a.row) (newest view))) (rows_of before)
       (subst (λ (rs : List DocRow). All (Contains rs) (rows_of before)) all (All-contains_itself (rows_of before)))) in
       let same : coming_rows_are ≡ rows_to_come levels view =
-      ap (λ (rs : List DocRow). levels.oldest.now.documents ++ (rs ++ levels.newest.now.documents))
+      ap (λ (rs : List DocRow). levels.oldest.documents ++ (rs ++ levels.newest.documents))
       (ap (λ (ts : List Tables). rows_in (drop levels.stay_from ts)) keeps.levels ∙ sym (rows_from levels.stay_from o.levels there have.rows)) ∙ sym (rows_come levels view) in
       record {
         listed = listed_is ∙ ap (λ (v : Vec ℕ Global). v.items) may.drained.listed ∙ keeps.listed;
@@ -206,7 +206,7 @@ places_short limit root oldest newest list full e =
 -- ---- the root was not switched
 
 module _ (tells : Type 0) (a b : DiskState) (before now : Store) (levels : NextLevels) (may : MayPut tells a before now levels) (prepared : PreparedLevels)
-    (is_prepared : IsPrepared now.catalog levels.oldest.now.documents levels.stay_from levels.newest.now.documents prepared) (ends : Ends) (listed_is : ends.listed.now ≡ now.listed.items)
+    (is_prepared : IsPrepared now.catalog levels.oldest.documents levels.stay_from levels.newest.documents prepared) (ends : Ends) (listed_is : ends.listed.now ≡ now.listed.items)
     (deleted_is : ends.deleted.now ≡ deleted_of prepared) (next location : ℕ) (next_is : next ≡ next_of now.catalog) (location_is : location ≡ location_of now.catalog)
     (passes : Passes (λ old new. ⊤) a b) (stands : (held : Holding) → (tells → MayRewrite held levels ends next location a.content) → LeavesOnly (StandsFor (state_of held.view)) a b) where
   images_put : (held : Holding) → (tells → IsHeld held a.content × IsGivenBy held.view levels) → LeavesOnly (StandsFor (state_of held.view)) a b
@@ -245,7 +245,7 @@ module _ (tells : Type 0) (a b : DiskState) (before now : Store) (levels : NextL
     narrow_is need gap told is =
         let holds = may.agrees.content told in
         let err = ap (λ (f : RewriteFault). Err f) is in
-        let short = places_short a.limit now.root (length (segment_of levels.oldest.now)) (length (segment_of levels.newest.now)) (length (list_of ends)) (record { need = need; gap = gap }) (why need gap err) in
+        let short = places_short a.limit now.root (length (segment_of levels.oldest)) (length (segment_of levels.newest)) (length (list_of ends)) (record { need = need; gap = gap }) (why need gap err) in
         let root_is : now.root ≡ holds.opened.root = may.drained.root ∙ holds.keeps.root in
         record {
           opened = holds.opened;
@@ -326,15 +326,15 @@ rows_in_between oldest newest n tables =
     ∙ ap (λ (rows : List DocRow). rows_in (level_in oldest) ++ rows) (flat_map-append (λ (t : Tables). t.documents) (drop n tables) (level_in newest))
 
 module _ (tells : Type 0) (a b : DiskState) (lawful_a : IsLawful tells a) (lawful_b : IsLawful tells b) (before now : Store) (levels : NextLevels) (may : MayPut tells a before now levels) (prepared : PreparedLevels)
-    (is_prepared : IsPrepared now.catalog levels.oldest.now.documents levels.stay_from levels.newest.now.documents prepared) (ends : Ends) (listed_is : ends.listed.now ≡ now.listed.items)
+    (is_prepared : IsPrepared now.catalog levels.oldest.documents levels.stay_from levels.newest.documents prepared) (ends : Ends) (listed_is : ends.listed.now ≡ now.listed.items)
     (deleted_is : ends.deleted.now ≡ deleted_of prepared) (next location : ℕ) (next_is : next ≡ next_of now.catalog) (location_is : location ≡ location_of now.catalog)
     (all_documents : AreDocuments (rows_of before)) (done : Rewritten) (later : Store)
     (slot_later : later.slot ≡ done.slot) (root_later : later.root ≡ done.root) (listed_later : later.listed.items ≡ ends.deleted.now) (half_later : later.tail.half ≡ half_of done.slot)
     (place_later : later.tail.place ≡ journal_of done.slot) (job_later : later.job ≡ now.job)
     (number_done : done.root.next_number ≡ next) (location_done : done.root.next_location ≡ location)
-    (rows_done : (rows_in (tables_in done.oldest) ≡ levels.oldest.now.documents) × (rows_in (tables_in done.newest) ≡ levels.newest.now.documents))
+    (rows_done : (rows_in (tables_in done.oldest) ≡ levels.oldest.documents) × (rows_in (tables_in done.newest) ≡ levels.newest.documents))
     (extents_done : done.root.levels.items ≡ map extent_of (tables_in done.oldest) ++ (drop levels.stay_from now.root.levels.items ++ map extent_of (tables_in done.newest)))
-    (none_done : levels.oldest.now.documents ≡ [] → done.oldest ≡ None) (spared : tells → All (IsSame a.content b.content) now.root.levels.items)
+    (none_done : levels.oldest.documents ≡ [] → done.oldest ≡ None) (spared : tells → All (IsSame a.content b.content) now.root.levels.items)
     (same : (c : Catalog) → (s : State) → (n : ℕ) → IsEmptied c now.catalog → CatalogKnows c s → IsPrepared now.catalog (rows_in (level_in done.oldest)) n (rows_in (level_in done.newest)) prepared → MayReplace c done.oldest n done.newest
     → CatalogKnows later.catalog s)
     (levels_are : levels_in later.catalog ≡ tables_between done.oldest (stay_from_of prepared) (levels_in now.catalog) done.newest) (gone_are : gone_of later.catalog ≡ deleted_of prepared)
@@ -342,7 +342,7 @@ module _ (tells : Type 0) (a b : DiskState) (lawful_a : IsLawful tells a) (lawfu
   prepared_here : IsPrepared now.catalog (rows_in (level_in done.oldest)) levels.stay_from (rows_in (level_in done.newest)) prepared
   prepared_here =
       subst (λ (rows : List DocRow). IsPrepared now.catalog rows levels.stay_from (rows_in (level_in done.newest)) prepared) (sym (ap rows_in (sym (same_level done.oldest)) ∙ rows_done.0))
-      (subst (λ (rows : List DocRow). IsPrepared now.catalog levels.oldest.now.documents levels.stay_from rows prepared) (sym (ap rows_in (sym (same_level done.newest)) ∙ rows_done.1)) is_prepared)
+      (subst (λ (rows : List DocRow). IsPrepared now.catalog levels.oldest.documents levels.stay_from rows prepared) (sym (ap rows_in (sym (same_level done.newest)) ∙ rows_done.1)) is_prepared)
 
   replaces : MayReplace before.catalog done.oldest levels.stay_from done.newest
   replaces = record {
@@ -369,7 +369,7 @@ module _ (tells : Type 0) (a b : DiskState) (lawful_a : IsLawful tells a) (lawfu
       ∙ ap (λ (es : List Extent). map extent_of (tables_in done.oldest) ++ (drop levels.stay_from es ++ map extent_of (tables_in done.newest))) (may.agrees.intact.extents ∙ ap (λ (r : Root). r.levels.items) (sym may.drained.root))
       ∙ sym extents_done ∙ ap (λ (r : Root). r.levels.items) (sym root_later)
 
-  deleted_then : gone_of later.catalog ≡ ends_in (gone_of before.catalog) (rows_between levels.oldest.now.documents levels.stay_from (levels_of before) levels.newest.now.documents)
+  deleted_then : gone_of later.catalog ≡ ends_in (gone_of before.catalog) (rows_between levels.oldest.documents levels.stay_from (levels_of before) levels.newest.documents)
   deleted_then = gone_are ∙ sym deleted_is ∙ deleted_before tells a before now levels may prepared is_prepared ends listed_is deleted_is next location next_is location_is
 
   -- the join that goes on, if one does
@@ -381,18 +381,18 @@ module _ (tells : Type 0) (a b : DiskState) (lawful_a : IsLawful tells a) (lawfu
       ⊎_elim (λ (none : now.job ≡ None). subst GoesOn (sym (job_later ∙ none)) (tt, λ told. tt))
       (λ (all, empty, same_job). subst GoesOn (sym (job_later ∙ same_job)) (by_job before.job refl all empty may.agrees.intact.joining may.agrees.joins)) may.goes_on
     where
-      by_job : (job : Option Merging) → before.job ≡ job → levels.stay_from ≡ 0 → levels.oldest.now.documents ≡ [] → (joining : MayGoOn (levels_of before) (gone_of before.catalog) job)
+      by_job : (job : Option Merging) → before.job ≡ job → levels.stay_from ≡ 0 → levels.oldest.documents ≡ [] → (joining : MayGoOn (levels_of before) (gone_of before.catalog) job)
           → (tells → GoesOnOver a.content (levels_of before) (gone_of before.catalog) job joining) → GoesOn job
       by_job None is all empty joining joins = (tt, λ told. tt)
       by_job (Some merging) is all empty joining joins =
           let more : levels_of later ≡ levels_of before ++ level_in done.newest =
           levels_then ∙ ap₂ (λ (o : Option Tables) (n : ℕ). tables_between o n (levels_of before) done.newest) (none_done empty) all in
           let oldest : levels_of later ≡ joining.older ∷ joining.newer ∷ (joining.more ++ level_in done.newest) = more ∙ ap (λ (ls : List Tables). ls ++ level_in done.newest) joining.oldest in
-          let rows : rows_between levels.oldest.now.documents levels.stay_from (levels_of before) levels.newest.now.documents ≡ rows_in (levels_of before) ++ levels.newest.now.documents =
-          ap₂ (λ (xs : List DocRow) (n : ℕ). rows_between xs n (levels_of before) levels.newest.now.documents) empty all in
+          let rows : rows_between levels.oldest.documents levels.stay_from (levels_of before) levels.newest.documents ≡ rows_in (levels_of before) ++ levels.newest.documents =
+          ap₂ (λ (xs : List DocRow) (n : ℕ). rows_between xs n (levels_of before) levels.newest.documents) empty all in
           let kept : DeadAreGone (gone_of before.catalog) (gone_of later.catalog) (rows_in (levels_of before)) =
           subst (λ (es : List ℕ). DeadAreGone (gone_of before.catalog) es (rows_in (levels_of before))) (sym (deleted_then ∙ ap (ends_in (gone_of before.catalog)) rows))
-          (all_left (λ (row : DocRow). ends_among (gone_of before.catalog) row ≡ true → ends_among (ends_in (gone_of before.catalog) (rows_in (levels_of before) ++ levels.newest.now.documents)) row ≡ true) (rows_in (levels_of before)) levels.newest.now.documents (still_gone (gone_of before.catalog) (rows_in (levels_of before) ++ levels.newest.now.documents))) in
+          (all_left (λ (row : DocRow). ends_among (gone_of before.catalog) row ≡ true → ends_among (ends_in (gone_of before.catalog) (rows_in (levels_of before) ++ levels.newest.documents)) row ≡ true) (rows_in (levels_of before)) levels.newest.documents (still_gone (gone_of before.catalog) (rows_in (levels_of before) ++ levels.newest.documents))) in
           let on = goes_on_over (levels_of before) (levels_of later) (gone_of before.catalog) (gone_of later.catalog) (Some merging) (ap (take 2) oldest ∙ ap (take 2) (sym joining.oldest)) kept joining in (
             on.0,
             λ told.

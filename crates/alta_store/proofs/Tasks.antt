@@ -85,9 +85,9 @@ module _ (tells : Type 0) (a : DiskState) (lawful : IsLawful tells a) (store : S
 
   module _ (now : Store) (drained : IsDrained store now) (job_is : now.job ≡ store.job) (newest : Content) (has_newest : HasNewest store newest) (part : IsPart newest) (levels : NextLevels)
       (replaces : Replaces levels 0 no_content newest) (no_part : IsPart no_content) (few : (length (levels_of store) < 16) ⊎ (length newest.documents ≡ 0)) (most : length (levels_of store) ≤ 16) where
-    few_come : length (coming levels.oldest.now) + (length (levels_of store) - levels.stay_from) + length (coming levels.newest.now) ≤ 16
+    few_come : length (coming levels.oldest) + (length (levels_of store) - levels.stay_from) + length (coming levels.newest) ≤ 16
     few_come =
-        subst (λ (c : Content). length (coming c) + (length (levels_of store) - levels.stay_from) + length (coming levels.newest.now) ≤ 16) (sym replaces.oldest_is)
+        subst (λ (c : Content). length (coming c) + (length (levels_of store) - levels.stay_from) + length (coming levels.newest) ≤ 16) (sym replaces.oldest_is)
         (subst (λ (c : Content). 0 + (length (levels_of store) - levels.stay_from) + length (coming c) ≤ 16) (sym replaces.newest_is)
         (⊎_elim (λ less. omega (arith, less, at_most_one newest))
         (λ none. omega (arith, most, ap (λ (n : ℕ). length (cond (n == 0) [] (anew newest ∷ []))) none)) few))
@@ -148,8 +148,8 @@ module _ (tells : Type 0) (a : DiskState) (lawful : IsLawful tells a) (store : S
     at_least : 2 ≤ length (levels_of store)
     at_least = omega (arith, ap length joining.oldest)
 
-    few_two : length (coming levels.oldest.now) + (length (levels_of store) - levels.stay_from) + length (coming levels.newest.now) ≤ 16
-    few_two = omega (arith, at_most_one levels.oldest.now, at_most_one levels.newest.now, replaces.stay_from_is, most, at_least)
+    few_two : length (coming levels.oldest) + (length (levels_of store) - levels.stay_from) + length (coming levels.newest) ≤ 16
+    few_two = omega (arith, at_most_one levels.oldest, at_most_one levels.newest, replaces.stay_from_is, most, at_least)
 
     pub two_may : MayPut tells a store now levels
     two_may = record {
@@ -233,8 +233,8 @@ module _ (tells : Type 0) (a : DiskState) (lawful : IsLawful tells a) (store : S
       drained = drained;
       parts = (subst IsPart (sym replaces.oldest_is) part, subst IsPart (sym replaces.newest_is) no_part);
       index = omega (arith, replaces.stay_from_is);
-      few = subst (λ (c : Content). length (coming levels.oldest.now) + (length (levels_of store) - levels.stay_from) + length (coming c) ≤ 16) (sym replaces.newest_is)
-          (omega (arith, at_most_one levels.oldest.now, replaces.stay_from_is));
+      few = subst (λ (c : Content). length (coming levels.oldest) + (length (levels_of store) - levels.stay_from) + length (coming c) ≤ 16) (sym replaces.newest_is)
+          (omega (arith, at_most_one levels.oldest, replaces.stay_from_is));
       kept = λ row. not (ends_among (gone_of store.catalog) row);
       rows =
           ap₂ (λ (xs ys : List DocRow). rows_between xs levels.stay_from (levels_of store) ys) (ap (λ (c : Content). c.documents) replaces.oldest_is ∙ rows_are) (ap (λ (c : Content). c.documents) replaces.newest_is)

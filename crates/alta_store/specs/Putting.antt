@@ -65,14 +65,14 @@ IsGivenBy view levels = (ends : Ends) → (next location : ℕ) → AgreesWith v
 pub record MayPut (tells : Type 0) (disk : DiskState) (before now : Store) (levels : NextLevels) : Type 0 where
   pub agrees : Agrees tells disk before
   pub drained : IsDrained before now
-  pub parts : IsPart levels.oldest.now × IsPart levels.newest.now
+  pub parts : IsPart levels.oldest × IsPart levels.newest
   pub index : levels.stay_from ≤ length (levels_of before)
-  pub few : length (coming levels.oldest.now) + (length (levels_of before) - levels.stay_from) + length (coming levels.newest.now) ≤ 16
+  pub few : length (coming levels.oldest) + (length (levels_of before) - levels.stay_from) + length (coming levels.newest) ≤ 16
   pub kept : DocRow → Bool
-  pub rows : rows_between levels.oldest.now.documents levels.stay_from (levels_of before) levels.newest.now.documents ≡ filter kept (rows_of before)
+  pub rows : rows_between levels.oldest.documents levels.stay_from (levels_of before) levels.newest.documents ≡ filter kept (rows_of before)
   pub gone : All (λ (row : DocRow). kept row ≡ false → ends_among (gone_of before.catalog) row ≡ true) (rows_of before)
   pub given : (o : Opened) → tells → IsOpened o disk.content → (there : List Level) × HaveRows o there × IsGivenBy (view_of o there) levels
-  pub goes_on : (now.job ≡ None) ⊎ ((levels.stay_from ≡ 0) × (levels.oldest.now.documents ≡ []) × (now.job ≡ before.job))
+  pub goes_on : (now.job ≡ None) ⊎ ((levels.stay_from ≡ 0) × (levels.oldest.documents ≡ []) × (now.job ≡ before.job))
 
 -- What is opened becomes what these levels make of it.
 pub record IsPut (limit : ℕ) (levels : NextLevels) (view : View) (o p : Opened) : Type 0 where

@@ -482,9 +482,9 @@ impl Store {
         if self.root.levels.len() < LEVELS || newest.documents.len() == 0 {
             let nothing = no_content(self.alloc);
             let levels = NextLevels {
-                oldest: &nothing,
+                oldest: nothing,
                 stay_from: 0,
-                newest: &newest,
+                newest,
             };
             return self.put(disk, levels);
         }
@@ -493,9 +493,9 @@ impl Store {
             Err(fault) => return Err(fault),
         };
         let levels = NextLevels {
-            oldest: &oldest,
+            oldest,
             stay_from: 2,
-            newest: &newest,
+            newest,
         };
         self.put(disk, levels)
     }
@@ -523,9 +523,9 @@ impl Store {
         };
         let nothing = no_content(self.alloc);
         let levels = NextLevels {
-            oldest: &oldest,
+            oldest,
             stay_from,
-            newest: &nothing,
+            newest: nothing,
         };
         self.put(disk, levels)
     }
@@ -558,9 +558,9 @@ impl Store {
             Err(fault) => return Err(fault),
         };
         let levels = NextLevels {
-            oldest: &oldest,
+            oldest,
             stay_from: 2,
-            newest: &newest,
+            newest,
         };
         self.put(disk, levels)
     }
@@ -630,11 +630,11 @@ impl Store {
 
     // Switches the root to other levels. The newest documents were taken out, and the live ones stand in these levels. All memory is
     // taken before the first write.
-    fn put<D: Disk>(&mut self, disk: &mut D, levels: NextLevels<'_>) -> Result<(), StoreFault>
+    fn put<D: Disk>(&mut self, disk: &mut D, levels: NextLevels) -> Result<(), StoreFault>
         requires may { (before : Store) × MayPut D.tells (D.state disk.old) before self.old levels }
         requires limit { HEAD_BYTES ≤ (D.state disk.old).limit }
 
-        ensures puts { (before : Store) → MayPut D.tells (D.state disk.old) before self.old levels.entry → Puts D.tells levels.entry (D.state disk.old) (D.state disk.new) before self.new result }
+        ensures puts { (before : Store) → MayPut D.tells (D.state disk.old) before self.old levels → Puts D.tells levels (D.state disk.old) (D.state disk.new) before self.new result }
         ensures none { OnOk result (HasNoEntry self.new) }
         ensures job { OnOk result (self.new.job ≡ self.old.job) }
         ensures sound { OnOk result (is_sound self.new ≡ is_sound self.old) }

@@ -2,7 +2,8 @@ use Rattle.std.proofs.Common.{⊎_elim, inl, inr, ap, List, Ok, Err, refl, subst
 use Rattle.std.specs.Prelude.{⊤}
 use Rattle.std.specs.List.{All}
 use Rattle.alta_disk.specs.Parts.{Touches}
-use Rattle.alta_disk.proofs.Moments.{passes_as, passes_start}
+use Rattle.alta_disk.proofs.Moments.{leaves_start, passes_as, passes_start}
+use Rattle.alta_images.specs.Opened.{IsOpened}
 use Rattle.alta_images.specs.Views.{state_of}
 use Rattle.alta_root.specs.Places.{other}
 use Rattle.alta_root.specs.Slots.{Counts}
@@ -194,3 +195,10 @@ pub returns-clause-images : goal.returns-clause-images
 returns-clause-images g c =
     passes_as (g.D.Disk.state c.args.disk.now) (g.D.Disk.state c.put_root.new.disk) (Putting c.other.result c.in-Ok.draft.root c.deref.result.now) (λ old new. ⊤) c.put_root.ensures.images
     (λ z left. (left.0, left.1, tt))
+
+pub returns-in_err-pieces-clause-opened : goal.returns-in_err-pieces-clause-opened
+returns-in_err-pieces-clause-opened g c = λ o there may.
+    let now = g.D.Disk.state c.args.disk.now in
+    let lawful = g.met.D.Disk.lawful c.args.disk.now in
+    leaves_start g.D.Disk.tells now (MayBecome now.limit o c.args.levels c.args.ends c.args.next c.args.location) lawful
+    (λ z here. inl (subst (IsOpened o) (sym (c.requires.settled z here)) (may (lawful.told z here)).is))

@@ -16,7 +16,7 @@ prepare-requires-clause-rows g c =
     let may = c.requires.may.1 in
     subst RowsRise
     (sym (ap₂ (λ (xs ys : List DocRow). rows_between xs levels.stay_from (levels_of c.args.self.now) ys) c.as_slice-oldest.ensures c.as_slice-newest.ensures
-    ∙ ap (λ (v : Vec Tables Global). rows_between levels.oldest.now.documents levels.stay_from v.items levels.newest.now.documents) may.drained.catalog.levels ∙ may.rows))
+    ∙ ap (λ (v : Vec Tables Global). rows_between levels.oldest.documents levels.stay_from v.items levels.newest.documents) may.drained.catalog.levels ∙ may.rows))
     (kept_rise before.catalog may.agrees.intact.state may.kept may.agrees.intact.knows)
 
 pub returns-in-Err-clause-puts : goal.returns-in-Err-clause-puts
