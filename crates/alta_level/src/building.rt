@@ -130,14 +130,7 @@ pub fn build(alloc: Global, content: &Content) -> Result<Vec<u8>, AllocError>
     let mut terms = Vec::new(alloc);
     let mut streams = Vec::new(alloc);
     put_lists(alloc, &mut terms, &mut streams, lists)?;
-    assemble(
-        alloc,
-        rows.len(),
-        lists.len(),
-        &documents,
-        &terms,
-        &streams,
-    )
+    assemble(alloc, rows.len(), lists.len(), &documents, &terms, &streams)
 }
 
 /// The segment of a content, as [`build`] spells it. The content is used up: each list is dropped as soon as it is

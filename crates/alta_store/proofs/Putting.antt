@@ -22,12 +22,14 @@ use Rattle.alta_content.specs.declared.document.DocRow.{DocRow}
 use Rattle.alta_content.proofs.Kept.{rows_kept}
 use Rattle.alta_content.proofs.Rises.{Contains-head, Contains-tail}
 use Rattle.alta_disk.specs.Calls.{Costs}
+use Rattle.alta_disk.proofs.Moments.{leaves_start, passes_start}
 use Rattle.alta_disk.specs.Disk.{DiskState, IsLawful, LeavesOnly, Only, Passes}
 use Rattle.alta_images.specs.Chain.{◌>>=◌}
 use Rattle.alta_images.specs.Entries.{after_entries}
 use Rattle.alta_images.specs.Holding.{Holding, IsHeld}
 use Rattle.alta_images.specs.Levels.{Level}
 use Rattle.alta_images.specs.Opened.{Opened, IsOpened, half_of, journal_of, rows_in, extent_of}
+use Rattle.alta_images.proofs.WrittenLaws.{held_stands}
 use Rattle.alta_images.specs.Standing.{StandsFor, tables_by, view_of}
 use Rattle.alta_images.specs.Views.{View, state_of}
 use Rattle.alta_images.specs.Work.{Job, coming, gone_among, newest, rows_in as level_rows, stays}
@@ -276,6 +278,31 @@ module _ (tells : Type 0) (a b : DiskState) (before now : Store) (levels : NextL
         by_fault rewrite_faults.Disk = inl (inr refl)
         by_fault rewrite_faults.Memory = inl (inl refl)
         by_fault (rewrite_faults.Full n g) = inr (n, g, refl)
+
+-- ---- memory was wanting before any call of the disk
+
+pub put_nothing : (tells : Type 0) (a : DiskState) → IsLawful tells a → (before now : Store) (levels : NextLevels) → MayPut tells a before now levels → (later : Store)
+    → Puts {T = Unit {0}} tells levels a a before later (Err store_faults.Memory)
+put_nothing tells a lawful before now levels may later = record {
+  agrees = tt;
+  knows = λ s knows. tt;
+  works = λ held job told has given. tt;
+  full = λ held job need gap told has given e. absurd (not_full need gap e);
+  passes = passes_start tells a (λ old new. ⊤) lawful (λ c. tt);
+  images = λ held has. leaves_start tells a (StandsFor (state_of held.view)) lawful
+      (λ z here. subst (StandsFor (state_of held.view)) (sym (may.agrees.settled z here)) (held_stands held a.content (has (lawful.told z here)).0));
+  becomes = λ o there told opened have given. tt;
+  narrow = λ need gap told e. absurd (not_full need gap e);
+  only = inl (inl refl);
+  cause = λ e. absurd (not_disk e);
+  costs = record { faults = omega arith; taken_up = omega arith; taken = omega arith; limit = refl };
+}
+  where
+    not_full : (need gap : ℕ) → ◌≡◌ {A = Result (Unit {0}) StoreFault} (Err store_faults.Memory) (Err (store_faults.Full need gap)) → ⊥
+    not_full need gap e = absurd cc
+
+    not_disk : ◌≡◌ {A = Result (Unit {0}) StoreFault} (Err store_faults.Memory) (Err store_faults.Disk) → ⊥
+    not_disk e = absurd cc
 
 -- ---- the root was switched
 

@@ -4,7 +4,7 @@ use Rattle.alta_catalog.proofs.LevelLaws.{kept_rise}
 use Rattle.alta_content.specs.Rows.{RowsRise}
 use Rattle.alta_content.specs.declared.document.DocRow.{DocRow}
 use Rattle.alta_store.specs.Agreement.{levels_of}
-use Rattle.alta_store.proofs.Putting.{prepared_as, put_done, put_failed}
+use Rattle.alta_store.proofs.Putting.{prepared_as, put_done, put_failed, put_nothing}
 use Rattle.alta_store.proofs.Rows.{all_documents}
 use Rattle.alta_table.specs.Tables.{Tables}
 use Rattle.alta_store.proofs.store.Store.put.Goals as goal
@@ -37,3 +37,7 @@ returns-clause-puts g c = λ before may.
     c.in-Ok-rewrite.ensures.counts.1 c.in-Ok-rewrite.ensures.counts.2 c.in-Ok-rewrite.ensures.rows c.in-Ok-rewrite.ensures.extents c.in-Ok-rewrite.ensures.none c.in-Ok-rewrite.ensures.spared
     c.put_levels.ensures.same c.put_levels.ensures.levels c.put_levels.ensures.gone c.put_levels.ensures.follows c.put_levels.ensures.knows
     c.in-Ok-rewrite.ensures.durable c.rewrite.ensures.costs c.rewrite.ensures.images c.rewrite.ensures.stands c.in-Ok-rewrite.ensures.works c.in-Ok-rewrite.ensures.opened_then _
+
+pub returns-in_default-from_slice-clause-puts : goal.returns-in_default-from_slice-clause-puts
+returns-in_default-from_slice-clause-puts g c = λ before may.
+    put_nothing g.D.Disk.tells (g.D.Disk.state c.args.disk.now) (g.met.D.Disk.lawful c.args.disk.now) before c.args.self.now c.args.levels may _
