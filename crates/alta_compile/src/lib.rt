@@ -8,8 +8,6 @@ mod draft;
 mod explaining;
 mod laws;
 mod plan;
-#[cfg(test)]
-mod tests;
 
 pub use asked::Conjunction;
 pub use compiling::compile;

@@ -6,8 +6,6 @@ mod cell;
 mod document;
 pub mod kinds;
 mod lists;
-#[cfg(test)]
-mod tests;
 
 pub use build::{MetaFault, cells};
 pub use cell::Cell;

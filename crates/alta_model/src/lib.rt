@@ -8,8 +8,6 @@ mod line;
 mod matching;
 mod near;
 mod phrase;
-#[cfg(test)]
-mod tests;
 
 pub use laws::{a_line_is_read_one_way, a_match_is_decided};
 pub use line::{LINE_LIMIT, Line, LineFault, read_line};

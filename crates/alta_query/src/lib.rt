@@ -8,8 +8,6 @@ mod query;
 mod reading;
 mod scan;
 mod test;
-#[cfg(test)]
-mod tests;
 mod word;
 
 pub use fault::{Cause, QueryFault};

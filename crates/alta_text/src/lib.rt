@@ -2,8 +2,6 @@
 #![tactic(auto)]
 
 mod folding;
-#[cfg(test)]
-mod tests;
 mod word;
 
 pub use folding::{folded, put_folded};

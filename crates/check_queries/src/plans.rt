@@ -1,7 +1,7 @@
 // What a query compiles to, in the words of `explain`. The first row stands in the rules of the query language's plans;
 // the others follow from the rules word by word.
-use crate::{compile, conjunction, explain};
 use alta_codec::{Bytes, Text};
+use alta_compile::{compile, conjunction, explain};
 use alta_query::{Atom, Query, Test, Tests, parse};
 use std::alloc::Global;
 use std::test::Fail;

@@ -1,7 +1,7 @@
 // Each row stands in the rules of the language: a text with the place and the cause of its first fault, or with its
 // canonical spelling.
-use crate::{Atom, Cause, Query, QueryFault, Side, Test, a_query_has_members, parse, print};
 use alta_codec::Bytes;
+use alta_query::{Atom, Cause, Query, QueryFault, Side, Test, a_query_has_members, parse, print};
 use std::alloc::Global;
 use std::test::Fail;
 

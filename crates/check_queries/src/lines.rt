@@ -1,7 +1,7 @@
 // What no clause says: each call once, and examples from outside.
-use crate::*;
 use alta_codec::Text;
 use alta_meta::{Cells, Document, cells};
+use alta_model::*;
 use alta_query::parse;
 use std::alloc::Global;
 use std::test::Fail;

@@ -1,6 +1,6 @@
 // Cells of documents from outside, each public call once, and the list types.
-use crate::*;
 use alta_codec::{Bytes, Text};
+use alta_meta::*;
 use std::alloc::{AllocError, Global};
 use std::test::Fail;
 

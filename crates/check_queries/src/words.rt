@@ -1,5 +1,5 @@
 // Words and foldings from outside: the rules of Unicode's word boundaries, and its full case folding.
-use crate::*;
+use alta_text::*;
 use std::alloc::{AllocError, Global};
 use std::test::Fail;
 
