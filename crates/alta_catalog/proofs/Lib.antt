@@ -11,7 +11,6 @@ pub mod LevelLaws
 pub mod MayLaws
 pub mod Naming
 pub mod NotingLaws
-pub mod OneLevel
 pub mod PartLaws
 pub mod RisingLaws
 pub mod SettledLaws

@@ -12,8 +12,6 @@ mod replacing;
 mod replaying;
 mod sharing;
 mod starting;
-#[cfg(test)]
-mod tests;
 
 pub use catalog::Catalog;
 pub use fault::CatalogFault;

@@ -2,7 +2,5 @@
 #![tactic(auto)]
 
 mod deletions;
-#[cfg(test)]
-mod tests;
 
 pub use deletions::Deletions;

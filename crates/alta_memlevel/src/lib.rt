@@ -5,8 +5,6 @@ mod laws;
 mod level;
 mod lists;
 mod moving;
-#[cfg(test)]
-mod tests;
 
 pub use laws::drained_documents_are_kept;
 pub use level::MemLevel;

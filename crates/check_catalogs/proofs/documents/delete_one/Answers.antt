@@ -2,7 +2,7 @@ use Rattle.std.proofs.Common.{subst, sym}
 use Rattle.alta_images.specs.States.{without}
 use Rattle.alta_catalog.specs.Knowing.{Knows}
 use Rattle.alta_catalog.specs.declared.catalog.Catalog.{Catalog}
-use Rattle.alta_catalog.proofs.tests.delete_one.Goals as goal
+use Rattle.check_catalogs.proofs.documents.delete_one.Goals as goal
 
 pub returns-in-Ok-true : goal.returns-in-Ok-true
 returns-in-Ok-true c = (without c.args.number c.requires.0, (c.in-Ok-true.ensures.deleted c.in-Ok-true.field-0-test c.requires.0 c.requires.1).1.0)

@@ -1,5 +1,8 @@
 // A level of one document, and documents that come and go behind it.
-ghost use Rattle.std.specs.Prelude.{◌≡◌, ◌<◌, ℕ, [], length, IfOk, IfSome, OnOk};
+ghost use Rattle.std.specs.BTreeMap.{get_by_text};
+ghost use Rattle.std.specs.Map.{update};
+ghost use Rattle.std.specs.Prelude.{◌≡◌, ◌<◌, ℕ, List, [], Some, length, IfOk, IfSome, OnOk};
+ghost use Rattle.std.specs.Str.{bytes_eq};
 ghost use Rattle.alta_content.specs.Rows.{AreDocuments};
 ghost use Rattle.alta_journal.specs.declared.entry.Entry.TheVariants.{Delete};
 ghost use Rattle.alta_meta.specs.declared.document.State.{State};
@@ -7,8 +10,7 @@ ghost use Rattle.alta_root.specs.Root.{IsSound};
 ghost use Rattle.alta_catalog.specs.Knowing.{Knows, levels_of};
 ghost use Rattle.alta_catalog.specs.Replacing.{IsPrepared};
 
-use crate::names::note;
-use crate::*;
+use alta_catalog::*;
 use alta_codec::{Extent, name_ok};
 use alta_journal::{Entry, Placed};
 use alta_meta::MetaFault;
@@ -61,6 +63,20 @@ fn later_level(alloc: Global) -> Result<Table, LevelFault>
     bytes[32] = 4;
     bytes[33] = 28;
     level(alloc, &bytes, 126)
+}
+
+// Notes the name of a document.
+fn note(
+    alloc: Global,
+    names: &mut BTreeMap<String, u64>,
+    name: &str,
+    number: u64,
+) -> Result<(), AllocError>
+    ensures { OnOk result ((q : List ℕ) → get_by_text names.new q ≡ update bytes_eq (get_by_text names.old) name.now (Some number) q) }
+{
+    let key = String::from_str(alloc, name)?;
+    names.insert(key, number)?;
+    Ok(())
 }
 
 // The catalog of a level with one document, which lies below the root.

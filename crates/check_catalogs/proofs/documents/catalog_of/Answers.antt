@@ -1,7 +1,7 @@
 use Rattle.std.proofs.Common.{[], arith, sym, ◌∙◌}
 use Rattle.alta_catalog.proofs.MayLaws.{may_start}
-use Rattle.alta_catalog.proofs.OneLevel.{one_name, only_one}
-use Rattle.alta_catalog.proofs.tests.catalog_of.Goals as goal
+use Rattle.check_catalogs.proofs.OneLevel.{one_name, only_one}
+use Rattle.check_catalogs.proofs.documents.catalog_of.Goals as goal
 
 pub new-requires-clause-names : goal.new-requires-clause-names
 new-requires-clause-names c =

@@ -1,6 +1,6 @@
 // Worked rows, and each call once.
-use crate::Deletions;
 use alta_codec::{Loc, TOP};
+use alta_deletions::Deletions;
 use std::test::Fail;
 
 #[test]

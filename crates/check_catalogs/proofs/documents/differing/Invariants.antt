@@ -1,6 +1,6 @@
 use Rattle.alta_meta.specs.declared.document.State.{State}
 use Rattle.alta_catalog.specs.Knowing.{Knows}
-use Rattle.alta_catalog.proofs.tests.differing.Given as goal
+use Rattle.check_catalogs.proofs.documents.differing.Given as goal
 
 abbrev pub invariant-loop-i : goal.invariant-loop-i
 invariant-loop-i l = (s : State) × Knows l.catalog s

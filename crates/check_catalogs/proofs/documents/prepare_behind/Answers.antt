@@ -2,8 +2,8 @@ use Rattle.std.proofs.Common.{◌≡◌, ◌<◌, ◌∙◌, List, [], ◌∷◌
 use Rattle.alta_content.specs.Rows.{AreDocuments, end_of}
 use Rattle.alta_content.specs.declared.document.DocRow.{DocRow}
 use Rattle.alta_table.specs.Tables.{Tables}
-use Rattle.alta_catalog.proofs.OneLevel.{one_behind, only_one, placed_one}
-use Rattle.alta_catalog.proofs.tests.prepare_behind.Goals as goal
+use Rattle.check_catalogs.proofs.OneLevel.{one_behind, only_one, placed_one}
+use Rattle.check_catalogs.proofs.documents.prepare_behind.Goals as goal
 
 pub prepare-requires-clause-rows : goal.prepare-requires-clause-rows
 prepare-requires-clause-rows c =

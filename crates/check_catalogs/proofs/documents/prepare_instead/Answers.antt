@@ -1,8 +1,8 @@
 use Rattle.std.proofs.Common.{List, ap, length, subst, sym}
 use Rattle.alta_content.specs.Rows.{AreDocuments}
 use Rattle.alta_table.specs.Tables.{Tables}
-use Rattle.alta_catalog.proofs.OneLevel.{all_replaced}
-use Rattle.alta_catalog.proofs.tests.prepare_instead.Goals as goal
+use Rattle.check_catalogs.proofs.OneLevel.{all_replaced}
+use Rattle.check_catalogs.proofs.documents.prepare_instead.Goals as goal
 
 pub prepare-requires-clause-rows : goal.prepare-requires-clause-rows
 prepare-requires-clause-rows c =

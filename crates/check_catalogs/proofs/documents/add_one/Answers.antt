@@ -1,6 +1,6 @@
 use Rattle.std.proofs.Common.{refl}
 use Rattle.alta_images.specs.States.{with_added}
-use Rattle.alta_catalog.proofs.tests.add_one.Goals as goal
+use Rattle.check_catalogs.proofs.documents.add_one.Goals as goal
 
 pub add-requires-clause-left : goal.add-requires-clause-left
 add-requires-clause-left c = λ s knows. (c.if-not-has_room.ensures s knows).0 refl

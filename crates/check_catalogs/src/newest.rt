@@ -1,9 +1,9 @@
 // The content of two documents from outside, and each public call once.
 ghost use Rattle.std.specs.Prelude.{◌≡◌, length, IfOk, IsTrue};
 
-use crate::MemLevel;
 use alta_codec::Text;
 use alta_content::{Content, DocRow};
+use alta_memlevel::MemLevel;
 use alta_meta::{Cell, cells};
 use std::alloc::{AllocError, Global};
 use std::test::Fail;

@@ -1,0 +1,9 @@
+//! What an index knows of its documents in memory: added, deleted, put into levels. It holds no product, only tests.
+#![tactic(auto)]
+
+#[cfg(test)]
+mod deletions;
+#[cfg(test)]
+mod documents;
+#[cfg(test)]
+mod newest;
