@@ -9,9 +9,9 @@ use Rattle.std.proofs.lemmas.Bool.{cases_lt, ltb-true, lt-ltb, leb-true, le-leb,
 use Rattle.alta_codec.specs.Numbers.{number_bytes}
 use Rattle.alta_format.specs.Format.{AreEntries, Spells, entries_bytes}
 use Rattle.alta_codec.specs.declared.location.TheConstants.{TOP}
-use Rattle.alta_codec.specs.Name.{IsGraphic}
+use Rattle.alta_codec.specs.Name.{IsGraphic, is_graphic}
 use Rattle.alta_content.specs.declared.document.DocRow.{DocRow}
-use Rattle.alta_table.specs.Documents.{rises, are_cells, is_name_len, is_graphic, is_graphic_text, row_format, row_bytes, documents_table}
+use Rattle.alta_table.specs.Documents.{rises, are_cells, is_name_len, is_graphic_text, row_format, row_bytes, documents_table}
 use Rattle.alta_content.specs.Rows.{AreDocumentsBehind, Before, MayFollow, behind_row}
 
 rises_is : (before more : ℕ) → IsTrue (rises before more) → (0 < more) × (before + more < TOP)

@@ -3,6 +3,7 @@
 use Rattle.std.specs.Prelude.{ℕ, ◌+◌, ◌-◌, List, [], ◌∷◌, ◌++◌, length, Bool, nat_lt, nat_le, ◌&&◌}
 use Rattle.std.specs.List.{list_all}
 use Rattle.alta_codec.specs.declared.location.TheConstants.{TOP}
+use Rattle.alta_codec.specs.Name.{is_graphic}
 use Rattle.alta_codec.specs.Numbers.{number_bytes}
 use Rattle.alta_format.specs.Format.{Format, packed, byte, ends, number_field, text_field, Repeats, repeated, entries_bytes}
 use Rattle.alta_content.specs.declared.document.DocRow.{DocRow}
@@ -20,9 +21,6 @@ are_cells first cells = nat_le 3 cells && nat_le cells 262146 && nat_lt (first +
 
 abbrev pub is_name_len : ℕ → Bool
 is_name_len len = nat_lt 0 len && nat_le len 64
-
-abbrev pub is_graphic : ℕ → Bool
-is_graphic b = nat_le 33 b && nat_le b 126
 
 abbrev pub is_graphic_text : List ℕ → Bool
 is_graphic_text text = list_all is_graphic text
