@@ -1,17 +1,14 @@
 -- Names in a map and in a state.
-use Rattle.std.proofs.Common.{◌≡◌, ◌≢◌, ℕ, Bool, true, false, cond, List, get_or, refl, sym, ◌∙◌, ap, rules}
-use Rattle.std.specs.Prelude.{◌||◌, ◌==◌, Some, Option, String, is_some}
-use Rattle.std.specs.List.{All}
+use Rattle.std.proofs.Common.{◌≡◌, ℕ, Bool, true, false, cond, List, refl, ◌∙◌, ap, rules}
+use Rattle.std.specs.Prelude.{◌||◌, Some, Option, String, is_some}
 use Rattle.std.specs.Str.{bytes_eq}
 use Rattle.std.specs.BTreeMap.{BTreeMap, get_by_text}
 use Rattle.std.specs.Map.{update}
-use Rattle.std.proofs.lemmas.Bool.{false≢true}
-use Rattle.std.proofs.lemmas.List.Folds.{list_any-append, list_any_at}
+use Rattle.std.proofs.lemmas.List.Folds.{list_any-append}
 use Rattle.std.proofs.lemmas.Slice.Eq.{bytes_eq-Decides}
 use Rattle.alta_meta.specs.declared.document.Document.{Document}
 use Rattle.alta_meta.specs.declared.document.State.{State}
-use Rattle.alta_images.specs.States.{has_byte, has_name, with_added}
-use Rattle.alta_images.proofs.Tests.{equal_test}
+use Rattle.alta_images.specs.States.{has_name, with_added}
 use Rattle.alta_content.proofs.Order.{iff_same}
 
 pub bytes_eq-swap : (xs ys : List ℕ) → bytes_eq xs ys ≡ bytes_eq ys xs
@@ -41,7 +38,3 @@ pub has_name-with_added : (q name title body : List ℕ) (s : State) → has_nam
 has_name-with_added q name title body s =
     list_any-append (λ (d : Document). bytes_eq q d.name) s.documents _
     ∙ or_swap (has_name q s) (bytes_eq q name)
-
--- a byte that a text has not is none of its bytes
-pub All-has_byte : (byte : ℕ) (text : List ℕ) → has_byte byte text ≡ false → All (λ b. b ≢ byte) text
-All-has_byte byte text none = λ k d inside is. absurd (false≢true (sym none ∙ list_any_at (λ b. b == byte) text k d inside (equal_test (get_or text k d) byte is)))

@@ -2,6 +2,7 @@
 use Rattle.std.specs.Prelude.{◌≡◌, ℕ, ◌+◌, ◌-◌, ◌≤◌, ◌==◌, Bool, false, not, List, [], ◌∷◌, ◌++◌, length, Option, option_map}
 use Rattle.std.specs.List.{list_any, find, filter, sum_by}
 use Rattle.std.specs.Str.{bytes_eq}
+use Rattle.alta_codec.specs.Bytes.{has_byte}
 use Rattle.alta_codec.specs.Name.{IsName}
 use Rattle.alta_meta.specs.Cells.{cells_of}
 use Rattle.alta_meta.specs.declared.document.Document.{Document}
@@ -55,10 +56,6 @@ without number s = record {
   next = s.next;
   documents = filter (λ (d : Document). not (d.number == number)) s.documents;
 }
-
--- the text has this byte
-abbrev pub has_byte : ℕ → List ℕ → Bool
-has_byte byte text = list_any (λ b. b == byte) text
 
 -- A document that the journal can hold: a name, a title of one line without tabs, a body of one line, and no more
 -- bytes in all than a record has room for.

@@ -29,7 +29,6 @@ use Rattle.alta_images.proofs.KnownLaws.{all_both, all_weaker, allows_replayed}
 use Rattle.alta_images.proofs.MergeLaws.{joins_are}
 use Rattle.alta_images.proofs.OrderLaws.{rooted_known}
 use Rattle.alta_images.proofs.SpacedLaws.{held_spaced}
-use Rattle.alta_joins.proofs.SameWords.{document-same, document_with}
 use Rattle.alta_joins.proofs.SpaceLaws.{rise_front, rising_join}
 use Rattle.alta_journal.specs.Entry.{IsSound}
 use Rattle.alta_journal.specs.Placed.{placed}
@@ -51,10 +50,13 @@ use Rattle.alta_root.proofs.Frames.{counts_sound}
 
 -- ---- joins keep documents
 
+-- the document of a row with its cells
+abbrev document_with : DocRow × List (List (List ℕ)) → Document
+document_with (row, cells) = record { number = row.number; name = row.name; cells = cells }
+
 map_rows : (lists : List TermList) (rows : List DocRow) → map document_with (map (with_cells lists) rows) ≡ map (document_of lists) rows
 map_rows lists [] = refl
-map_rows lists (row ∷ rows) =
-    ap (λ (d : Document). d ∷ map document_with (map (with_cells lists) rows)) (sym (document-same lists row)) ∙ ap (λ (ds : List Document). document_of lists row ∷ ds) (map_rows lists rows)
+map_rows lists (row ∷ rows) = ap (λ (ds : List Document). document_of lists row ∷ ds) (map_rows lists rows)
 
 map_contents : (deleted : List ℕ) (contents : List Content)
     → map document_with (flat_map (λ (c : Content). map (with_cells c.lists) (live_rows deleted c.documents)) contents) ≡ flat_map (documents_in deleted) contents

@@ -7,5 +7,4 @@ pub mod LevelRuns
 pub mod OldestLaws
 pub mod OpenedLaws
 pub mod RowSteps
-pub mod SameWords
 pub mod SpaceLaws

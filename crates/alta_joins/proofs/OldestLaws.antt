@@ -24,7 +24,6 @@ use Rattle.alta_joins.specs.Contents.{AreContentsOf, AreSegmentsOn, IsContentOf}
 use Rattle.alta_joins.specs.Damages.{FindsDamage, Tells}
 use Rattle.alta_joins.specs.Jobs.{AreJoinedOn, DeadAreGone, IsBegun, IsJoining, IsMerging, begun_job}
 use Rattle.alta_joins.specs.Newest.{IsNewest}
-use Rattle.alta_joins.specs.declared.fault.JoinFault.TheVariants as faults
 use Rattle.alta_memlevel.specs.Added.{Added, live_of}
 use Rattle.alta_memlevel.specs.Documents.{IsBefore, content_of}
 use Rattle.alta_memlevel.proofs.Behind.{may_join_behind}

@@ -7,6 +7,7 @@ use Rattle.alta_catalog.specs.Knowing.{Follows, KnowsBy, gone_of}
 use Rattle.alta_catalog.specs.declared.catalog.Catalog.{Catalog}
 use Rattle.alta_catalog.proofs.MayLaws.{may_be}
 use Rattle.alta_codec.specs.Faults.{Rose}
+use Rattle.alta_codec.proofs.ByteLaws.{lacks_byte}
 use Rattle.alta_content.specs.Rows.{AreDocuments, end_of, ends_among}
 use Rattle.alta_content.specs.declared.document.DocRow.{DocRow}
 use Rattle.alta_disk.specs.Calls.{Costs}
@@ -25,7 +26,6 @@ use Rattle.alta_images.specs.Working.{entered, flushed}
 use Rattle.alta_images.proofs.AppendLaws.{opened_appended, stands_appended, stands_appending}
 use Rattle.alta_images.proofs.Entering.{after_more}
 use Rattle.alta_images.proofs.HeldLaws.{held_appended}
-use Rattle.alta_images.proofs.NameLaws.{All-has_byte}
 use Rattle.alta_images.proofs.SwitchLaws.{extents_clear}
 use Rattle.alta_images.proofs.Untouched.{IsSame, extents_same}
 use Rattle.alta_images.proofs.WellLaws.{work_well}
@@ -62,9 +62,9 @@ use Rattle.alta_table.specs.Tables.{Tables}
 pub keeps_rules : (name title body : List ℕ) → IsDocument name title body → KeepsRules (Add name title body)
 keeps_rules name title body d = (
   d.named,
-  All-has_byte 9 title d.title_is_a_field,
-  All-has_byte 10 title d.title_is_a_line,
-  All-has_byte 10 body d.body_is_a_line,
+  lacks_byte 9 title d.title_is_a_field,
+  lacks_byte 10 title d.title_is_a_line,
+  lacks_byte 10 body d.body_is_a_line,
   omega (arith, add_long name title body, d.short),
 )
 
