@@ -3,8 +3,9 @@ use Rattle.std.proofs.Common.{◌≡◌, ◌≢◌, ℕ, ◌<◌, ◌≤◌, ◌
 use Rattle.std.proofs.lemmas.Bool.{cases_lt}
 use Rattle.std.proofs.lemmas.Grind.{common_steps}
 use Rattle.std.specs.List.{list_any}
+use Rattle.std.proofs.lemmas.List.Elements.{All-nil, All-cons, All-head, All-tail}
 use Rattle.alta_codec.specs.Name.{IsName}
-use Rattle.alta_console.specs.Lines.{NoNewline}
+use Rattle.alta_codec.specs.Bytes.{Lacks}
 use Rattle.alta_disk.specs.Disk.{DiskState, LeavesOnly}
 use Rattle.alta_meta.specs.declared.document.State.{State}
 use Rattle.alta_model.specs.Command.{Reads, adds}
@@ -93,30 +94,33 @@ room_left name s not_taken not_full =
     ] refl
 
 -- the parts of a line that adds
-free_left : (xs ys : List ℕ) → NoNewline (xs ++ ys) → NoNewline xs
-free_left [] ys free = tt
-free_left (x ∷ xs) ys free = (free.0, free_left xs ys free.1)
+abbrev IsOther : ℕ → Type 0
+IsOther byte = byte ≢ 10
 
-free_right : (xs ys : List ℕ) → NoNewline (xs ++ ys) → NoNewline ys
+free_left : (xs ys : List ℕ) → Lacks 10 (xs ++ ys) → Lacks 10 xs
+free_left [] ys free = All-nil IsOther
+free_left (x ∷ xs) ys free = All-cons IsOther x xs (All-head IsOther x (xs ++ ys) free) (free_left xs ys (All-tail IsOther x (xs ++ ys) free))
+
+free_right : (xs ys : List ℕ) → Lacks 10 (xs ++ ys) → Lacks 10 ys
 free_right [] ys free = free
-free_right (x ∷ xs) ys free = free_right xs ys free.1
+free_right (x ∷ xs) ys free = free_right xs ys (All-tail IsOther x (xs ++ ys) free)
 
 not_ten : (x : ℕ) → x ≢ 10 → (x == 10) ≡ false
 not_ten x other = grind (arith, common_steps)
 
-free_any : (xs : List ℕ) → NoNewline xs → list_any (λ b. b == 10) xs ≡ false
+free_any : (xs : List ℕ) → Lacks 10 xs → list_any (λ b. b == 10) xs ≡ false
 free_any [] free = refl
-free_any (x ∷ xs) free = ap (λ (b : Bool). b || list_any (λ b. b == 10) xs) (not_ten x free.0) ∙ free_any xs free.1
+free_any (x ∷ xs) free = ap (λ (b : Bool). b || list_any (λ b. b == 10) xs) (not_ten x (All-head IsOther x xs free)) ∙ free_any xs (All-tail IsOther x xs free)
 
-pub line_is_document : (line name title body : List ℕ) → NoNewline line → IsText line → Reads line (adds name title body) → IsName name → IsDocument name title body
+pub line_is_document : (line name title body : List ℕ) → Lacks 10 line → IsText line → Reads line (adds name title body) → IsName name → IsDocument name title body
 line_is_document line name title body free text reads named =
     let spells : codes "add " ++ (name ++ 9 ∷ (title ++ 9 ∷ body)) ≡ line = reads.spells in
-    let all : NoNewline (codes "add " ++ (name ++ 9 ∷ (title ++ 9 ∷ body))) = subst NoNewline (sym spells) free in
-    let rest : NoNewline (title ++ 9 ∷ body) = (free_right name (9 ∷ (title ++ 9 ∷ body)) (free_right (codes "add ") (name ++ 9 ∷ (title ++ 9 ∷ body)) all)).1 in
+    let all : Lacks 10 (codes "add " ++ (name ++ 9 ∷ (title ++ 9 ∷ body))) = subst (Lacks 10) (sym spells) free in
+    let rest : Lacks 10 (title ++ 9 ∷ body) = All-tail IsOther 9 (title ++ 9 ∷ body) (free_right name (9 ∷ (title ++ 9 ∷ body)) (free_right (codes "add ") (name ++ 9 ∷ (title ++ 9 ∷ body)) all)) in
     record {
       named = named;
       title_is_a_line = free_any title (free_left title (9 ∷ body) rest);
       title_is_a_field = reads.fine.1;
-      body_is_a_line = free_any body (free_right title (9 ∷ body) rest).1;
+      body_is_a_line = free_any body (All-tail IsOther 9 body (free_right title (9 ∷ body) rest));
       short = omega (arith, ap length spells, length-append (codes "add ") (name ++ 9 ∷ (title ++ 9 ∷ body)), length-append name (9 ∷ (title ++ 9 ∷ body)), length-append title (9 ∷ body), text.0);
     }

@@ -2,7 +2,8 @@
 use Rattle.std.proofs.Common.{◌≡◌, ℕ, ◌+◌, ◌-◌, List, [], ◌∷◌, ◌++◌, Option, length, take, drop, ap, sym, subst, ◌∙◌, arith}
 use Rattle.std.proofs.lemmas.List.{take_all, take-append-drop}
 use Rattle.std.proofs.Math.Seq.{take-add}
-use Rattle.alta_console.specs.Lines.{whole_from, begun_from, NoNewline}
+use Rattle.alta_codec.specs.Bytes.{Lacks}
+use Rattle.alta_console.specs.Lines.{whole_from, begun_from}
 use Rattle.alta_console.specs.declared.event.Event.{Event}
 use Rattle.alta_console.proofs.GivingLaws.{end_from}
 use Rattle.alta_console.proofs.LineLaws.{whole_from_append, begun_from_append}
@@ -19,11 +20,11 @@ all_taken : (bytes : List ℕ) → take (length bytes) bytes ≡ bytes
 all_taken bytes = take_all (length bytes) bytes (omega arith)
 
 -- bytes without a newline go on with a line
-pub fed_free : (tells : Type 0) (a : Option (List Event)) (d : DiskState) (session : Session) (p bytes : List ℕ) → IsLawful tells d → NoNewline bytes → Fed tells a a d d session session (whole_from p (take (length bytes) bytes))
+pub fed_free : (tells : Type 0) (a : Option (List Event)) (d : DiskState) (session : Session) (p bytes : List ℕ) → IsLawful tells d → Lacks 10 bytes → Fed tells a a d d session session (whole_from p (take (length bytes) bytes))
 fed_free tells a d session p bytes lawful free =
     subst (λ (l : List (List ℕ)). Fed tells a a d d session session l) (sym (ap (λ (l : List ℕ). whole_from p l) (all_taken bytes) ∙ whole_free p bytes free)) (fed_none tells a d session lawful)
 
-pub kept_free : (p now bytes : List ℕ) → now ≡ clip (p ++ bytes) → NoNewline bytes → clip now ≡ clip (begun_from p (take (length bytes) bytes))
+pub kept_free : (p now bytes : List ℕ) → now ≡ clip (p ++ bytes) → Lacks 10 bytes → clip now ≡ clip (begun_from p (take (length bytes) bytes))
 kept_free p now bytes is free = ap clip is ∙ clip_clip (p ++ bytes) ∙ ap clip (sym (ap (λ (l : List ℕ). begun_from p l) (all_taken bytes) ∙ begun_free p bytes free))
 
 -- bytes up to a newline end it

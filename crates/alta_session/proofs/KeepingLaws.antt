@@ -1,10 +1,12 @@
 -- Laws of what is kept of a line.
-use Rattle.std.proofs.Common.{◌≡◌, ℕ, zero, suc, ◌+◌, ◌<◌, ◌≤◌, ◌-◌, ◌==◌, lit<, inl, inr, true, Some, None, List, [], ◌∷◌, ◌++◌, length, take, drop, map, min, slice_index, ap, sym, ◌∙◌, append-nil, arith}
+use Rattle.std.proofs.Common.{◌≡◌, ◌≢◌, ℕ, zero, suc, ◌+◌, ◌<◌, ◌≤◌, ◌-◌, ◌==◌, lit<, inl, inr, true, Some, None, List, [], ◌∷◌, ◌++◌, length, take, drop, map, min, slice_index, ap, sym, ◌∙◌, append-nil, arith}
 use Rattle.std.proofs.lemmas.Grind.{common_steps}
 use Rattle.std.proofs.lemmas.Bool.{cases_lt}
 use Rattle.std.proofs.lemmas.List.{length-take, take_all}
 use Rattle.std.proofs.Math.Seq.{take-append-add}
-use Rattle.alta_console.specs.Lines.{whole_from, begun_from, last_piece, NoNewline}
+use Rattle.std.proofs.lemmas.List.Elements.{All-nil, All-cons, All-append, All-take}
+use Rattle.alta_codec.specs.Bytes.{Lacks}
+use Rattle.alta_console.specs.Lines.{whole_from, begun_from, last_piece}
 use Rattle.alta_console.proofs.LineLaws.{take_take, take_grow, whole_from_take, begun_from_take, last_piece_take, whole_from_none, begun_from_none}
 use Rattle.alta_session.specs.Keeping.{clip}
 use Rattle.memchr.specs.Find.{IsFirstByte, is_byte}
@@ -36,26 +38,26 @@ unfolding clip
 clip_short p = omega (arith, length-take 65536 p)
 
 -- no line that is kept has a newline
-free_take : (n : ℕ) (xs : List ℕ) → NoNewline xs → NoNewline (take n xs)
-free_take zero xs free = tt
-free_take (suc n) [] free = tt
-free_take (suc n) (x ∷ xs) free = (free.0, free_take n xs free.1)
+abbrev IsOther : ℕ → Type 0
+IsOther byte = byte ≢ 10
 
-pub free_clip : (xs : List ℕ) → NoNewline xs → NoNewline (clip xs)
+free_take : (n : ℕ) (xs : List ℕ) → Lacks 10 xs → Lacks 10 (take n xs)
+free_take n xs free = All-take IsOther n xs free
+
+pub free_clip : (xs : List ℕ) → Lacks 10 xs → Lacks 10 (clip xs)
 unfolding clip
 free_clip xs free = free_take 65536 xs free
 
-pub free_append : (xs ys : List ℕ) → NoNewline xs → NoNewline ys → NoNewline (xs ++ ys)
-free_append [] ys one two = two
-free_append (x ∷ xs) ys one two = (one.0, free_append xs ys one.1 two)
+pub free_append : (xs ys : List ℕ) → Lacks 10 xs → Lacks 10 ys → Lacks 10 (xs ++ ys)
+free_append xs ys one two = All-append IsOther xs ys one two
 
 -- bytes up to the first newline
 ten : (x : ℕ) → (x == 10) ≡ true → x ≡ 10
 ten x test = grind (arith, common_steps)
 
-none_found : (xs : List ℕ) → ((k : ℕ) → 0 ≤ k → k < length xs → (slice_index xs k == 10) ≡ true → ⊥) → NoNewline xs
-none_found [] none = tt
-none_found (x ∷ xs) none = (first, none_found xs rest)
+none_found : (xs : List ℕ) → ((k : ℕ) → 0 ≤ k → k < length xs → (slice_index xs k == 10) ≡ true → ⊥) → Lacks 10 xs
+none_found [] none = All-nil IsOther
+none_found (x ∷ xs) none = All-cons IsOther x xs first (none_found xs rest)
   where
     first : x ≡ 10 → ⊥
     first is = none 0 (omega arith) (omega arith) (ap (λ (n : ℕ). n == 10) is)
@@ -63,7 +65,7 @@ none_found (x ∷ xs) none = (first, none_found xs rest)
     rest : (k : ℕ) → 0 ≤ k → k < length xs → (slice_index xs k == 10) ≡ true → ⊥
     rest k le l is = none (suc k) (omega arith) (omega arith) is
 
-pub no_newline_found : (xs : List ℕ) → IsFirstByte (is_byte 10) xs None → NoNewline xs
+pub no_newline_found : (xs : List ℕ) → IsFirstByte (is_byte 10) xs None → Lacks 10 xs
 no_newline_found xs none = none_found xs none
 
 drop_next : (k x : ℕ) (xs : List ℕ) → drop (k + 1) xs ≡ drop (suc k + 1) (x ∷ xs)
@@ -75,18 +77,18 @@ take_next k x xs = let n : suc k + 1 ≡ suc (k + 1) = omega arith in ap (λ (m 
 -- the first newline cuts the bytes in two
 pub record IsCutAt (k : ℕ) (xs : List ℕ) : Type 0 where
   pub within : k < length xs
-  pub free : NoNewline (take k xs)
+  pub free : Lacks 10 (take k xs)
   pub line : take (k + 1) xs ≡ take k xs ++ 10 ∷ []
   pub all : xs ≡ take k xs ++ 10 ∷ drop (k + 1) xs
 
 found_at : (k : ℕ) (xs : List ℕ) → k < length xs → ((j : ℕ) → 0 ≤ j → j < k → (slice_index xs j == 10) ≡ true → ⊥) → (slice_index xs k == 10) ≡ true → IsCutAt k xs
 found_at k [] l none is = absurd (omega arith)
-found_at zero (x ∷ xs) l none is = record { within = l; free = tt; line = ap (λ (n : ℕ). n ∷ []) (ten x is); all = ap (λ (n : ℕ). n ∷ xs) (ten x is) }
+found_at zero (x ∷ xs) l none is = record { within = l; free = All-nil IsOther; line = ap (λ (n : ℕ). n ∷ []) (ten x is); all = ap (λ (n : ℕ). n ∷ xs) (ten x is) }
 found_at (suc k) (x ∷ xs) l none is =
     let rest : IsCutAt k xs = found_at k xs (omega arith) (λ j le less at. none (suc j) (omega arith) (omega arith) at) is in
     record {
       within = l;
-      free = (λ at. none 0 (omega arith) (omega arith) (ap (λ (n : ℕ). n == 10) at), rest.free);
+      free = All-cons IsOther x (take k xs) (λ at. none 0 (omega arith) (omega arith) (ap (λ (n : ℕ). n == 10) at)) rest.free;
       line = take_next k x xs ∙ ap (λ (l : List ℕ). x ∷ l) rest.line;
       all = ap (λ (l : List ℕ). x ∷ l) (rest.all ∙ ap (λ (l : List ℕ). take k xs ++ 10 ∷ l) (drop_next k x xs));
     }
@@ -112,14 +114,14 @@ unfolding clip
 clip_keep m line bytes short is = take_keep 65536 m line bytes short is
 
 -- a line of bytes without a newline, and one that ends at a newline
-pub whole_free : (p xs : List ℕ) → NoNewline xs → whole_from p xs ≡ []
+pub whole_free : (p xs : List ℕ) → Lacks 10 xs → whole_from p xs ≡ []
 whole_free p xs free = ap (λ (l : List ℕ). whole_from p l) (sym (append-nil xs)) ∙ whole_from_none p xs [] free
 
-pub begun_free : (p xs : List ℕ) → NoNewline xs → begun_from p xs ≡ p ++ xs
+pub begun_free : (p xs : List ℕ) → Lacks 10 xs → begun_from p xs ≡ p ++ xs
 begun_free p xs free = ap (λ (l : List ℕ). begun_from p l) (sym (append-nil xs)) ∙ begun_from_none p xs [] free
 
-pub whole_ended : (p xs ys : List ℕ) → NoNewline xs → whole_from p (xs ++ 10 ∷ ys) ≡ (p ++ xs) ∷ whole_from [] ys
+pub whole_ended : (p xs ys : List ℕ) → Lacks 10 xs → whole_from p (xs ++ 10 ∷ ys) ≡ (p ++ xs) ∷ whole_from [] ys
 whole_ended p xs ys free = whole_from_none p xs (10 ∷ ys) free
 
-pub begun_ended : (p xs ys : List ℕ) → NoNewline xs → begun_from p (xs ++ 10 ∷ ys) ≡ begun_from [] ys
+pub begun_ended : (p xs ys : List ℕ) → Lacks 10 xs → begun_from p (xs ++ 10 ∷ ys) ≡ begun_from [] ys
 begun_ended p xs ys free = begun_from_none p xs (10 ∷ ys) free

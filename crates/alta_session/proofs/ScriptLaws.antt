@@ -1,5 +1,5 @@
 -- Laws of lines that are answered by their index, and of the lines of a generated run.
-use Rattle.std.proofs.Common.{◌≡◌, ℕ, zero, suc, ◌+◌, ◌%◌, ◌<◌, ◌≤◌, ◌==◌, Bool, true, false, not, ◌&&◌, if◌then◌else◌, nat_le, List, [], ◌∷◌, ◌++◌, Option, Some, None, length, take, drop, codes, get_or, refl, ap, sym, subst, ◌∙◌, arith}
+use Rattle.std.proofs.Common.{◌≡◌, ◌≢◌, ℕ, zero, suc, ◌+◌, ◌%◌, ◌<◌, ◌≤◌, ◌==◌, Bool, true, false, not, ◌&&◌, if◌then◌else◌, nat_le, List, [], ◌∷◌, ◌++◌, Option, Some, None, length, take, drop, codes, get_or, refl, ap, sym, subst, ◌∙◌, arith}
 use Rattle.std.specs.Prelude.{slice_get, decimal, slice_index, IfSome, IfNone}
 use Rattle.std.specs.Char.{is_ascii_digit}
 use Rattle.std.specs.List.{list_all}
@@ -7,8 +7,10 @@ use Rattle.std.proofs.lemmas.Bool.{leb-true, le-leb}
 use Rattle.std.proofs.lemmas.Bool.Decides.{nat_tests}
 use Rattle.std.proofs.lemmas.Fmt.{decimal_digit, length-decimal-le}
 use Rattle.std.proofs.lemmas.List.{take_all, take-append-drop, length-append}
+use Rattle.std.proofs.lemmas.List.Elements.{All-nil, All-cons}
 use Rattle.alta_codec.specs.Decimal.{value_of, is_count, count_in}
-use Rattle.alta_console.specs.Lines.{NoNewline, AllWithoutNewline}
+use Rattle.alta_codec.specs.Bytes.{Lacks}
+use Rattle.alta_console.specs.Lines.{AllWithoutNewline}
 use Rattle.alta_console.specs.declared.event.Event.{Event}
 use Rattle.alta_disk.specs.Disk.{DiskState, IsLawful}
 use Rattle.alta_make.specs.Script.{parity, add_with, add_line, delete_line, behind, adds, deletes, script, report}
@@ -53,9 +55,9 @@ stops_before tells a b d e s0 s1 lines i status lawful not_full whole first =
 
 -- ---- no line has a newline
 
-free_at : (lines : List (List ℕ)) (i : ℕ) (line : List ℕ) → AllWithoutNewline lines → slice_get lines i ≡ Some line → NoNewline line
+free_at : (lines : List (List ℕ)) (i : ℕ) (line : List ℕ) → AllWithoutNewline lines → slice_get lines i ≡ Some line → Lacks 10 line
 free_at [] i line free at = absurd (none_is_not line at)
-free_at (x ∷ xs) zero line free at = let same : x ≡ line = cc in subst NoNewline same free.0
+free_at (x ∷ xs) zero line free at = let same : x ≡ line = cc in subst (Lacks 10) same free.0
 free_at (x ∷ xs) (suc i) line free at = free_at xs i line free.1 at
 
 all_append : (xs ys : List (List ℕ)) → AllWithoutNewline xs → AllWithoutNewline ys → AllWithoutNewline (xs ++ ys)
@@ -66,9 +68,13 @@ all_where : (b : Bool) (xs ys : List (List ℕ)) → AllWithoutNewline xs → Al
 all_where true xs ys one two = one
 all_where false xs ys one two = two
 
-free_where : (b : Bool) (xs ys : List ℕ) → NoNewline xs → NoNewline ys → NoNewline (if b then xs else ys)
+free_where : (b : Bool) (xs ys : List ℕ) → Lacks 10 xs → Lacks 10 ys → Lacks 10 (if b then xs else ys)
 free_where true xs ys one two = one
 free_where false xs ys one two = two
+
+-- not a newline
+abbrev IsOther : ℕ → Type 0
+IsOther byte = byte ≢ 10
 
 -- a test that computes
 lacks : List ℕ → Bool
@@ -77,25 +83,25 @@ lacks bytes = list_all (λ b. not (b == 10)) bytes
 not_ten : (x : ℕ) → not (x == 10) ≡ true → x ≡ 10 → ⊥
 not_ten x test is = grind (arith, nat_tests)
 
-free_by : (bytes : List ℕ) → lacks bytes ≡ true → NoNewline bytes
+free_by : (bytes : List ℕ) → lacks bytes ≡ true → Lacks 10 bytes
 unfolding lacks
-free_by [] test = tt
-free_by (x ∷ xs) test = let parts = both (not (x == 10)) (lacks xs) test in (not_ten x parts.0, free_by xs parts.1)
+free_by [] test = All-nil IsOther
+free_by (x ∷ xs) test = let parts = both (not (x == 10)) (lacks xs) test in All-cons IsOther x xs (not_ten x parts.0) (free_by xs parts.1)
 
 digit_free : (x : ℕ) → is_ascii_digit x ≡ true → x ≡ 10 → ⊥
 digit_free x digit is = grind (arith, nat_tests)
 
-digits_free : (digits : List ℕ) → list_all is_ascii_digit digits ≡ true → NoNewline digits
-digits_free [] all = tt
-digits_free (x ∷ xs) all = let parts = both (is_ascii_digit x) (list_all is_ascii_digit xs) all in (digit_free x parts.0, digits_free xs parts.1)
+digits_free : (digits : List ℕ) → list_all is_ascii_digit digits ≡ true → Lacks 10 digits
+digits_free [] all = All-nil IsOther
+digits_free (x ∷ xs) all = let parts = both (is_ascii_digit x) (list_all is_ascii_digit xs) all in All-cons IsOther x xs (digit_free x parts.0) (digits_free xs parts.1)
 
-number_free : (n : ℕ) → n ≤ 1000000 → NoNewline (decimal n)
-number_free zero most = subst NoNewline (sym (decimal_digit 0 (omega arith))) (λ is. omega arith, tt)
+number_free : (n : ℕ) → n ≤ 1000000 → Lacks 10 (decimal n)
+number_free zero most = subst (Lacks 10) (sym (decimal_digit 0 (omega arith))) (All-cons IsOther _ [] (λ is. omega arith) (All-nil IsOther))
 number_free (suc n) most = digits_free (decimal (suc n)) (count_digits (suc n) (omega arith, most))
 
 -- parts, one behind the other
 record IsFree (bytes : List ℕ) : Type 0 where
-  free : NoNewline bytes
+  free : Lacks 10 bytes
 
 free_then : {xs ys : List ℕ} → IsFree xs → IsFree ys → IsFree (xs ++ ys)
 free_then {xs} {ys} one two = record { free = free_append xs ys one.free two.free }
@@ -106,7 +112,7 @@ literal bytes test = record { free = free_by bytes test }
 number : (n : ℕ) → n ≤ 1000000 → IsFree (decimal n)
 number n most = record { free = number_free n most }
 
-add_free : (i : ℕ) (word : List ℕ) → i ≤ 1000000 → NoNewline word → NoNewline (add_with i word)
+add_free : (i : ℕ) (word : List ℕ) → i ≤ 1000000 → Lacks 10 word → Lacks 10 (add_with i word)
 unfolding lacks
 add_free i word most free =
     let named = free_then (literal (codes "add d") refl) (number i most) in
@@ -116,11 +122,11 @@ add_free i word most free =
     let last : IsFree word = record { free = free } in
     (free_then (free_then second (literal (codes " ") refl)) last).free
 
-delete_free : (i : ℕ) → i ≤ 1000000 → NoNewline (delete_line i)
+delete_free : (i : ℕ) → i ≤ 1000000 → Lacks 10 (delete_line i)
 unfolding lacks
 delete_free i most = free_append (codes "delete d") (decimal i) (free_by (codes "delete d") refl) (number_free i most)
 
-parity_free : (i : ℕ) → NoNewline (parity i)
+parity_free : (i : ℕ) → Lacks 10 (parity i)
 unfolding lacks
 parity_free i = free_where (i % 2 == 0) (codes "even") (codes "odd") (free_by (codes "even") refl) (free_by (codes "odd") refl)
 
@@ -159,10 +165,10 @@ report_free = (
   ),
 )
 
-pub script_line_free : (n i : ℕ) (line : List ℕ) → n ≤ 100000 → slice_get (script n) i ≡ Some line → NoNewline line
+pub script_line_free : (n i : ℕ) (line : List ℕ) → n ≤ 100000 → slice_get (script n) i ≡ Some line → Lacks 10 line
 script_line_free n i line most at = free_at (script n) i line (script_free n most) at
 
-pub report_line_free : (i : ℕ) (line : List ℕ) → slice_get report i ≡ Some line → NoNewline line
+pub report_line_free : (i : ℕ) (line : List ℕ) → slice_get report i ≡ Some line → Lacks 10 line
 report_line_free i line at = free_at report i line report_free at
 
 -- a script is short

@@ -1,7 +1,7 @@
 // A generated run over a new index, and the report on it.
 ghost use Rattle.std.specs.Prelude.{◌≡◌, ◌≢◌, ◌≤◌, ◌<◌, ◌∷◌, [], ℕ, None, Err, OnOk, IfErr, IfSome, IfNone};
 ghost use Rattle.alta_codec.specs.Faults.{Rose};
-ghost use Rattle.alta_console.specs.Lines.{NoNewline};
+ghost use Rattle.alta_codec.specs.Bytes.{Lacks};
 ghost use Rattle.alta_disk.specs.Disk.{DiskState};
 ghost use Rattle.alta_make.specs.Script.{script, report as asked};
 ghost use Rattle.alta_session.specs.Answering.{CanAnswer};
@@ -46,7 +46,7 @@ fn obey<D: Disk>(
     disk: &mut D,
     line: &[u8],
 ) -> Result<(), Status>
-    requires one_line { NoNewline line.now }
+    requires one_line { Lacks 10 line.now }
     requires can { CanAnswer D.tells (D.state disk.old) session.old }
     ensures ok { OnOk result (Obeyed D.tells (D.state disk.old) (D.state disk.new) session.old session.new (line.now ∷ [])) }
     ensures err { IfErr result (StopsObeying D.tells (D.state disk.old) (D.state disk.new) session.old (line.now ∷ [])) }

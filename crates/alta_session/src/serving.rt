@@ -1,7 +1,8 @@
 // Lines in, replies out.
 ghost use Rattle.std.specs.Prelude.{◌≡◌, ◌≢◌, ◌⊎◌, ◌+◌, ◌<◌, ◌≤◌, ◌^◌, ◌++◌, [], ◌∷◌, ℕ, length, take, Err, OnOk, OnErr, IfOk, IfErr, IfSome};
 ghost use Rattle.alta_codec.specs.Faults.{Rose};
-ghost use Rattle.alta_console.specs.Lines.{NoNewline, whole_from, begun_from, last_piece};
+ghost use Rattle.alta_codec.specs.Bytes.{Lacks};
+ghost use Rattle.alta_console.specs.Lines.{whole_from, begun_from, last_piece};
 ghost use Rattle.alta_disk.specs.Disk.{DiskState};
 ghost use Rattle.alta_meta.specs.declared.document.State.{State};
 ghost use Rattle.alta_session.specs.Answering.{CanAnswer};
@@ -41,7 +42,7 @@ pub(crate) fn answer<C: Console, D: Disk>(
     disk: &mut D,
     line: &[u8],
 ) -> Result<(), Status>
-    requires one_line { NoNewline line.now }
+    requires one_line { Lacks 10 line.now }
     requires can { CanAnswer D.tells (D.state disk.old) session.old }
     ensures ok { OnOk result (Fed D.tells (C.told console.old) (C.told console.new) (D.state disk.old) (D.state disk.new) session.old session.new (line.now ∷ [])) }
     ensures err { IfErr result (StopsWithin D.tells (C.told console.old) (C.told console.new) (D.state disk.old) (D.state disk.new) session.old (line.now ∷ [])) }
@@ -84,8 +85,8 @@ fn end_line<C: Console, D: Disk>(
     rest: &[u8],
 ) -> Result<(), Status>
     requires short { length begun.old.items ≤ LINE_LIMIT + 1 }
-    requires begun_free { NoNewline begun.old.items }
-    requires rest_free { NoNewline rest.now }
+    requires begun_free { Lacks 10 begun.old.items }
+    requires rest_free { Lacks 10 rest.now }
     requires can { CanAnswer D.tells (D.state disk.old) session.old }
     ensures ok { OnOk result (Fed D.tells (C.told console.old) (C.told console.new) (D.state disk.old) (D.state disk.new) session.old session.new ((begun.old.items ++ rest.now) ∷ [])) }
     ensures err { IfErr result (StopsWithin D.tells (C.told console.old) (C.told console.new) (D.state disk.old) (D.state disk.new) session.old ((begun.old.items ++ rest.now) ∷ [])) }
@@ -124,7 +125,7 @@ fn feed_line<C: Console, D: Disk>(
 ) -> Result<usize, Status>
     requires some_bytes { 0 < length bytes.now }
     requires short { length begun.old.items ≤ LINE_LIMIT + 1 }
-    requires free { NoNewline begun.old.items }
+    requires free { Lacks 10 begun.old.items }
     requires can { CanAnswer D.tells (D.state disk.old) session.old }
     ensures within { IfOk result (λ n. n ≤ length bytes.now) }
     ensures more { IfOk result (λ n. 0 < n) }
@@ -132,7 +133,7 @@ fn feed_line<C: Console, D: Disk>(
     ensures begun { IfOk result (λ n. clip begun.new.items ≡ clip (begun_from begun.old.items (take n bytes.now))) }
     ensures err { IfErr result (StopsWithin D.tells (C.told console.old) (C.told console.new) (D.state disk.old) (D.state disk.new) session.old (whole_from begun.old.items bytes.now)) }
     ensures short { OnOk result (length begun.new.items ≤ LINE_LIMIT + 1) }
-    ensures free { OnOk result (NoNewline begun.new.items) }
+    ensures free { OnOk result (Lacks 10 begun.new.items) }
     ensures can { OnOk result (CanAnswer D.tells (D.state disk.new) session.new) }
     ensures ends { IfErr result EndsLine }
     ensures caused { IfErr result (IsCaused D.tells C.give_faults console.old console.new (D.state disk.old) (D.state disk.new)) }
@@ -161,13 +162,13 @@ fn feed<C: Console, D: Disk>(
     piece: &[u8],
 ) -> Result<(), Status>
     requires short { length begun.old.items ≤ LINE_LIMIT + 1 }
-    requires free { NoNewline begun.old.items }
+    requires free { Lacks 10 begun.old.items }
     requires can { CanAnswer D.tells (D.state disk.old) session.old }
     ensures ok { OnOk result (Fed D.tells (C.told console.old) (C.told console.new) (D.state disk.old) (D.state disk.new) session.old session.new (whole_from begun.old.items piece.now)) }
     ensures begun { OnOk result (clip begun.new.items ≡ clip (begun_from begun.old.items piece.now)) }
     ensures err { IfErr result (StopsWithin D.tells (C.told console.old) (C.told console.new) (D.state disk.old) (D.state disk.new) session.old (whole_from begun.old.items piece.now)) }
     ensures short { OnOk result (length begun.new.items ≤ LINE_LIMIT + 1) }
-    ensures free { OnOk result (NoNewline begun.new.items) }
+    ensures free { OnOk result (Lacks 10 begun.new.items) }
     ensures can { OnOk result (CanAnswer D.tells (D.state disk.new) session.new) }
     ensures ends { IfErr result EndsLine }
     ensures caused { IfErr result (IsCaused D.tells C.give_faults console.old console.new (D.state disk.old) (D.state disk.new)) }
@@ -192,7 +193,7 @@ fn finish<C: Console, D: Disk>(
     disk: &mut D,
     begun: &[u8],
 ) -> Result<(), Status>
-    requires free { NoNewline begun.now }
+    requires free { Lacks 10 begun.now }
     requires can { CanAnswer D.tells (D.state disk.old) session.old }
     ensures ok { OnOk result (Fed D.tells (C.told console.old) (C.told console.new) (D.state disk.old) (D.state disk.new) session.old session.new (last_piece begun.now)) }
     ensures err { IfErr result (StopsWithin D.tells (C.told console.old) (C.told console.new) (D.state disk.old) (D.state disk.new) session.old (last_piece begun.now)) }

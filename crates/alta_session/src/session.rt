@@ -1,7 +1,7 @@
 // A session: a line changes the state, and has a reply.
 ghost use Rattle.std.specs.Prelude.{◌≡◌, ◌⊎◌, ◌+◌, ◌++◌, codes, decimal, Result, Err, None, Some, IfOk, IfErr, OnErr, IsTrue, ◌↔◌};
 ghost use Rattle.alta_codec.specs.Name.{IsName};
-ghost use Rattle.alta_console.specs.Lines.{NoNewline};
+ghost use Rattle.alta_codec.specs.Bytes.{Lacks};
 ghost use Rattle.alta_disk.specs.Disk.{DiskState, Only};
 ghost use Rattle.alta_meta.specs.declared.document.State.{State};
 ghost use Rattle.alta_session.specs.Agreement.{AgreesOn, IsSound};
@@ -89,7 +89,7 @@ impl Session {
         disk: &mut D,
         line: &[u8],
     ) -> Result<Text, StoreFault>
-        requires one_line { NoNewline line.now }
+        requires one_line { Lacks 10 line.now }
         requires can { CanAnswer D.tells (D.state disk.old) self.old }
         ensures answers { Answers D.tells D.state disk.old disk.new self.old self.new result (λ m. step m line.now) (λ m. task_of m line.now) }
         ensures not_sound { OnErr result (¬ (IsSound self.new)) }
@@ -114,7 +114,7 @@ impl Session {
         disk: &mut D,
         line: &[u8],
     ) -> Result<Text, StoreFault>
-        requires one_line { NoNewline line.now }
+        requires one_line { Lacks 10 line.now }
         requires can { CanAnswer D.tells (D.state disk.old) self.old }
         ensures answers { Answers D.tells D.state disk.old disk.new self.old self.new result (λ m. step m line.now) (λ m. task_of m line.now) }
         ensures no_disk { Looks line.now → (disk.new ≡ disk.old) × IfErr result (λ e. e ≡ StoreFault.Memory) }
@@ -253,7 +253,7 @@ enum Ask<'a> {
 
 // Reads a line.
 fn asked(bytes: &[u8]) -> Ask<'_>
-    requires { NoNewline bytes.now }
+    requires { Lacks 10 bytes.now }
     ensures { Asks bytes.now result }
 {
     match read_line(bytes) {

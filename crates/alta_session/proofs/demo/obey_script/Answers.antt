@@ -1,7 +1,7 @@
 use Rattle.std.proofs.Common.{◌≡◌, ℕ, ◌<◌, List, ◌∷◌, [], None, Some, length, refl, sym, subst, ◌∙◌, arith}
 use Rattle.std.specs.Prelude.{slice_get}
 use Rattle.std.proofs.lemmas.Option.{slice_get_within}
-use Rattle.alta_console.specs.Lines.{NoNewline}
+use Rattle.alta_codec.specs.Bytes.{Lacks}
 use Rattle.alta_make.specs.Script.{script}
 use Rattle.alta_session.specs.Demo.{Obeyed, StopsObeying}
 use Rattle.alta_session.specs.declared.status.Status.TheVariants.{Memory}
@@ -31,7 +31,7 @@ pub obey-requires-clause-one_line : goal.obey-requires-clause-one_line
 obey-requires-clause-one_line g c =
     let at : slice_get (script c.args.n) c.lines.index ≡ Some c.in-Ok-Some.line = sym c.in-Ok-Some.ensures ∙ c.in-Ok-Some.field-0-is in
     let bytes : c.as_bytes.result.now ≡ c.in-Ok-Some.line = c.as_bytes.ensures.value ∙ c.as_str.ensures in
-    subst NoNewline (sym bytes) (script_line_free c.args.n c.lines.index c.in-Ok-Some.line c.requires.few at)
+    subst (Lacks 10) (sym bytes) (script_line_free c.args.n c.lines.index c.in-Ok-Some.line c.requires.few at)
 
 pub overflow_add-index : goal.overflow_add-index
 overflow_add-index g c =

@@ -1,12 +1,13 @@
 use Rattle.std.proofs.Common.{◌≡◌, ℕ, ◌<◌, List, ◌∷◌, [], Some, length, refl, sym, subst, ◌∙◌, arith}
 use Rattle.std.specs.Prelude.{slice_get}
 use Rattle.std.proofs.lemmas.Option.{slice_get_within}
+use Rattle.alta_codec.specs.Bytes.{Lacks}
 use Rattle.alta_make.specs.Script.{report}
 use Rattle.alta_session.specs.Fed.{Fed}
 use Rattle.alta_session.specs.Progress.{StopsWithin}
 use Rattle.alta_session.proofs.EndingLaws.{caused_on, counts_none, counts_on}
 use Rattle.alta_session.proofs.FedLaws.{fed_none}
-use Rattle.alta_session.proofs.ScriptLaws.{fed_all, fed_next, stops_next}
+use Rattle.alta_session.proofs.ScriptLaws.{fed_all, fed_next, stops_next, report_line_free}
 use Rattle.alta_session.proofs.demo.report.Goals as goal
 
 pub lines-init : goal.lines-init
@@ -49,3 +50,6 @@ returns-in-Err-clause-caused g c =
 pub returns-in-Err-clause-counts : goal.returns-in-Err-clause-counts
 returns-in-Err-clause-counts g c =
     counts_on g.C.Console.take_faults g.C.Console.give_faults c.args.console.now c.lines.console c.answer.new.console (g.D.Disk.state c.args.disk.now) (g.D.Disk.state c.lines.disk) (g.D.Disk.state c.answer.new.disk) c.lines.invariant.counts c.answer.ensures.counts
+
+pub answer-requires-clause-one_line : goal.answer-requires-clause-one_line
+answer-requires-clause-one_line g c = subst (Lacks 10) (sym c.as_bytes.ensures.value) (report_line_free c.lines.index c.in-Some.line.now (sym c.in-Some.ensures))

@@ -1,5 +1,7 @@
-use Rattle.std.proofs.Common.{◌≡◌, refl, ◌≤◌, ◌+◌, ◌∙◌, List, ℕ, Option, [], length, take, ap, sym, subst, Err, rules, arith}
+use Rattle.std.proofs.Common.{◌≡◌, ◌≢◌, refl, ◌≤◌, ◌+◌, List, ℕ, Option, [], length, take, sym, subst, rules, arith}
 use Rattle.std.proofs.lemmas.List.{length-take}
+use Rattle.std.proofs.lemmas.List.Elements.{All-nil}
+use Rattle.alta_codec.specs.Bytes.{Lacks}
 use Rattle.alta_console.specs.Lines.{last_piece}
 use Rattle.alta_console.specs.Transcript.{Consumes}
 use Rattle.alta_session.specs.Fed.{Fed}
@@ -28,7 +30,7 @@ takes-init g c =
     record {
       goes = subst P (sym c.new-begun.ensures.items) (goes_none g.D.Disk.tells c.args.limit (g.C.Console.told c.args.console.now) (g.C.Console.left c.args.console.now) (g.D.Disk.state c.args.disk.now) c.args.session.now (g.met.D.Disk.lawful c.args.disk.now));
       short = search rules;
-      free = search rules;
+      free = subst (Lacks 10) (sym c.new-begun.ensures.items) (All-nil (λ (b : ℕ). b ≢ 10));
       can = c.requires.can;
       within = search rules;
       counts = counts_none g.C.Console.take_faults g.C.Console.give_faults c.args.console.now (g.D.Disk.state c.args.disk.now);

@@ -1,5 +1,5 @@
 use Rattle.std.proofs.Common.{◌≡◌, List, ℕ, [], ◌∷◌, ◌++◌, ap, sym, subst, ◌∙◌}
-use Rattle.alta_console.specs.Lines.{NoNewline}
+use Rattle.alta_codec.specs.Bytes.{Lacks}
 use Rattle.alta_session.specs.Keeping.{clip}
 use Rattle.alta_session.specs.declared.status.Status.TheVariants.{Memory}
 use Rattle.alta_session.proofs.EndingLaws.{caused_memory, counts_none}
@@ -13,7 +13,7 @@ returns-in-Err-clause-err g c = stops_none g.D.Disk.tells (g.C.Console.told c.ar
 
 pub answer-requires-2-clause-one_line : goal.answer-requires-2-clause-one_line
 answer-requires-2-clause-one_line g c =
-    subst NoNewline (sym (c.deref.ensures.value ∙ c.in-Ok.ensures.kept)) (free_clip (c.args.begun.now.items ++ c.args.rest.now) (free_append c.args.begun.now.items c.args.rest.now c.requires.begun_free c.requires.rest_free))
+    subst (Lacks 10) (sym (c.deref.ensures.value ∙ c.in-Ok.ensures.kept)) (free_clip (c.args.begun.now.items ++ c.args.rest.now) (free_append c.args.begun.now.items c.args.rest.now c.requires.begun_free c.requires.rest_free))
 
 pub returns-in-Ok-answer-clause-ok : goal.returns-in-Ok-answer-clause-ok
 returns-in-Ok-answer-clause-ok g c =

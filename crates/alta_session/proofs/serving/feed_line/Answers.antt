@@ -1,6 +1,6 @@
-use Rattle.std.proofs.Common.{◌≡◌, ◌++◌, ◌∙◌, length, ap, sym, subst, Err, arith}
-use Rattle.alta_console.specs.Lines.{NoNewline}
-use Rattle.alta_session.specs.declared.status.Status.TheVariants.{Damaged, Full, Memory}
+use Rattle.std.proofs.Common.{◌≡◌, ◌++◌, length, ap, sym, subst, arith}
+use Rattle.alta_codec.specs.Bytes.{Lacks}
+use Rattle.alta_session.specs.declared.status.Status.TheVariants.{Memory}
 use Rattle.alta_session.proofs.EndingLaws.{caused_memory, counts_none}
 use Rattle.alta_session.proofs.FedLaws.{stops_none}
 use Rattle.alta_session.proofs.FeedLaws.{fed_free, kept_free, fed_ended, kept_ended, stops_ended}
@@ -21,7 +21,7 @@ returns-in-Ok-clause-short g c = omega (arith, ap length c.in-Ok.ensures.kept, c
 
 pub returns-in-Ok-clause-free : goal.returns-in-Ok-clause-free
 returns-in-Ok-clause-free g c =
-    subst NoNewline (sym c.in-Ok.ensures.kept) (free_clip (c.args.begun.now.items ++ c.args.bytes.now) (free_append c.args.begun.now.items c.args.bytes.now c.requires.free (no_newline_found c.args.bytes.now c.in-None.ensures)))
+    subst (Lacks 10) (sym c.in-Ok.ensures.kept) (free_clip (c.args.begun.now.items ++ c.args.bytes.now) (free_append c.args.begun.now.items c.args.bytes.now c.requires.free (no_newline_found c.args.bytes.now c.in-None.ensures)))
 
 pub returns-in-Err-clause-err : goal.returns-in-Err-clause-err
 returns-in-Err-clause-err g c = stops_none g.D.Disk.tells (g.C.Console.told c.args.console.now) (g.D.Disk.state c.args.disk.now) c.args.session.now _ c.in-Err.status (g.met.D.Disk.lawful c.args.disk.now) (λ need gap is. let memory : c.in-Err.status ≡ Memory = c.in-Err.ensures.memory in cc)
