@@ -1,6 +1,8 @@
-//! Searches of snapshots that are made by hand, compared with the plain match of a query with a document.
+//! Searches of snapshots that are made by hand, compared with the plain match of a query with a document; and open cursors.
 #![tactic(auto)]
 
+#[cfg(test)]
+mod cursors;
 #[cfg(test)]
 mod tests;
 #[cfg(test)]

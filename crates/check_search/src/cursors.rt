@@ -7,17 +7,15 @@ ghost use Rattle.alta_rows.specs.All.{ends_of};
 ghost use Rattle.alta_search.specs.Lists.{test_in, test_lists, test_keys, IsCut, AreKeys};
 ghost use Rattle.alta_search.specs.Plans.{tests_of};
 
-use crate::cursor::Cursor;
-use crate::cursors::{CURSORS, Cursors};
-use crate::lists::{LevelList, Stored, TermLists, TestLists};
-use crate::page::Page;
-use crate::snapshot::Snapshot;
 use alta_codec::{Bytes, Loc, Steps, Text};
 use alta_compile::Plan;
 use alta_content::DocRow;
 use alta_meta::kinds::DOCUMENT_END;
 use alta_query::Test;
 use alta_rows::{AllRows, LevelRows};
+use alta_search::{
+    CURSORS, Cursor, Cursors, LevelList, Page, Snapshot, Stored, TermLists, TestLists,
+};
 use std::alloc::{AllocError, Global};
 use std::marker::Brand;
 use std::rc::Rc;

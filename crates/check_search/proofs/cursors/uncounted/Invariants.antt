@@ -1,4 +1,4 @@
-use Rattle.alta_search.proofs.cursors_tests.uncounted.Given as goal
+use Rattle.check_search.proofs.cursors.uncounted.Given as goal
 
 abbrev pub ghosts-paged : goal.ghosts-paged
 ghosts-paged a = record { name = a.blank.name; parts = a.blank.parts }

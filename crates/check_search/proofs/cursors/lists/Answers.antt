@@ -6,7 +6,7 @@ use Rattle.alta_search.specs.Lists.{AreKeys, key_of, level_in}
 use Rattle.alta_search.specs.declared.lists.LevelList.{LevelList}
 use Rattle.alta_search.specs.declared.lists.TermLists.{TermLists}
 use Rattle.alta_search.proofs.Cuts.{keys_none, keys_push}
-use Rattle.alta_search.proofs.cursors_tests.lists.Goals as goal
+use Rattle.check_search.proofs.cursors.lists.Goals as goal
 
 one : (n : ℕ) → IsStrictlyIncreasing (n ∷ [])
 one n = search rules
