@@ -1,5 +1,8 @@
-//! Worked contents through several crates: joins of segments in slices. It holds no product, only tests.
+//! Worked contents through several crates: a line as a segment, and joins of segments in slices. It holds no product,
+//! only tests.
 #![tactic(auto)]
 
 #[cfg(test)]
 mod joins;
+#[cfg(test)]
+mod worked;
