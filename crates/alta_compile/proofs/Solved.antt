@@ -8,7 +8,7 @@ use Rattle.alta_codec.specs.Rising.{IsPlace, pred_of}
 use Rattle.alta_query.specs.Patterns.{Bound, Pattern, AreMet, Satisfies}
 use Rattle.alta_query.specs.declared.test.Test.{Test}
 use Rattle.alta_solver.specs.Inequality.{Inequality}
-use Rattle.alta_solver.specs.Solution.{list_at, Holds, IsSolution}
+use Rattle.alta_solver.specs.Solution.{list_at, MeetsBound, IsSolution}
 use Rattle.alta_docread.specs.Solutions.{found_list, Leads}
 use Rattle.alta_docread.specs.SolutionLaws.{found-leads, leads-found}
 use Rattle.alta_compile.specs.Space.{Placed, end_of, list_of, ends_of, IsSpace}
@@ -24,7 +24,7 @@ by_index P n here rest (suc i) l = rest i (omega arith)
 -- each bound holds, by recursion
 abbrev EachHolds : List (List ℕ) → List ℕ → List Inequality → Type 0
 EachHolds lists x [] = Unit {0}
-EachHolds lists x (b ∷ bs) = Holds lists x b × EachHolds lists x bs
+EachHolds lists x (b ∷ bs) = MeetsBound lists x b × EachHolds lists x bs
 
 each-split : (lists : List (List ℕ)) (x : List ℕ) (cs bs : List Inequality) → EachHolds lists x (cs ++ bs) → EachHolds lists x cs × EachHolds lists x bs
 each-split lists x [] bs h = (tt, h)
@@ -34,13 +34,13 @@ each-join : (lists : List (List ℕ)) (x : List ℕ) (cs bs : List Inequality) �
 each-join lists x [] bs h k = k
 each-join lists x (a ∷ cs) bs (h, r) k = (h, each-join lists x cs bs r k)
 
-each-from : (lists : List (List ℕ)) (x : List ℕ) (bs : List Inequality) → All (λ b. Holds lists x b) bs → EachHolds lists x bs
+each-from : (lists : List (List ℕ)) (x : List ℕ) (bs : List Inequality) → All (λ b. MeetsBound lists x b) bs → EachHolds lists x bs
 each-from lists x [] h = tt
-each-from lists x (b ∷ bs) h = (All-head (λ b. Holds lists x b) b bs h, each-from lists x bs (All-tail (λ b. Holds lists x b) b bs h))
+each-from lists x (b ∷ bs) h = (All-head (λ b. MeetsBound lists x b) b bs h, each-from lists x bs (All-tail (λ b. MeetsBound lists x b) b bs h))
 
-from-each : (lists : List (List ℕ)) (x : List ℕ) (bs : List Inequality) → EachHolds lists x bs → All (λ b. Holds lists x b) bs
-from-each lists x [] h = All-nil (λ b. Holds lists x b)
-from-each lists x (b ∷ bs) (h, r) = All-cons (λ b. Holds lists x b) b bs h (from-each lists x bs r)
+from-each : (lists : List (List ℕ)) (x : List ℕ) (bs : List Inequality) → EachHolds lists x bs → All (λ b. MeetsBound lists x b) bs
+from-each lists x [] h = All-nil (λ b. MeetsBound lists x b)
+from-each lists x (b ∷ bs) (h, r) = All-cons (λ b. MeetsBound lists x b) b bs h (from-each lists x bs r)
 
 -- a variable between the end before and the end
 abbrev IsBetween : List (List ℕ) → List ℕ → ℕ → Type 0

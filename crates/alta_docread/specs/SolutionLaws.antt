@@ -10,7 +10,7 @@ use Rattle.alta_codec.specs.Rising.{IsRising, IsPlace, pred_of}
 use Rattle.alta_codec.proofs.Places.{Contains-head, Contains-tail, Contains-cases, not-Contains-nil, pred_of-greatest}
 use Rattle.alta_solver.specs.Inequality.{Inequality}
 use Rattle.alta_solver.specs.declared.form.Form.TheVariants.{LocLoc, PrevLoc}
-use Rattle.alta_solver.specs.Solution.{low_side, high_side, list_at, Holds, IsSolution}
+use Rattle.alta_solver.specs.Solution.{low_side, high_side, list_at, MeetsBound, IsSolution}
 use Rattle.alta_docread.specs.KeptLaws.{true_or_false, filter-has, filter-keeps, filter-rises}
 use Rattle.alta_docread.specs.Solutions.{some_row, keeps_all, leads, found_list, Leads, IsHeld, Walk, walk_list, IsSoundWalk}
 
@@ -77,18 +77,18 @@ row-from [] (x ∷ xs) e h = absurd (omega (arith, e))
 row-from (l ∷ ls) [] e h = absurd (omega (arith, e))
 row-from (l ∷ ls) (x ∷ xs) e h = (h zero (omega arith), row-from ls xs (omega (arith, e)) (λ i w. h (suc i) (omega arith)))
 
-keeps-holds : (lists : List (List ℕ)) (x : List ℕ) (bs : List Inequality) → keeps_all lists x bs ≡ true → All (λ b. Holds lists x b) bs
+keeps-holds : (lists : List (List ℕ)) (x : List ℕ) (bs : List Inequality) → keeps_all lists x bs ≡ true → All (λ b. MeetsBound lists x b) bs
 unfolding keeps_all
-keeps-holds lists x [] h = All-nil (λ b. Holds lists x b)
+keeps-holds lists x [] h = All-nil (λ b. MeetsBound lists x b)
 keeps-holds lists x (b ∷ bs) h =
-    All-cons (λ b. Holds lists x b) b bs (grind (arith, h)) (keeps-holds lists x bs (grind (arith, h)))
+    All-cons (λ b. MeetsBound lists x b) b bs (grind (arith, h)) (keeps-holds lists x bs (grind (arith, h)))
 
-holds-keeps : (lists : List (List ℕ)) (x : List ℕ) (bs : List Inequality) → All (λ b. Holds lists x b) bs → keeps_all lists x bs ≡ true
+holds-keeps : (lists : List (List ℕ)) (x : List ℕ) (bs : List Inequality) → All (λ b. MeetsBound lists x b) bs → keeps_all lists x bs ≡ true
 unfolding keeps_all
 holds-keeps lists x [] h = refl
 holds-keeps lists x (b ∷ bs) h =
-    let here = All-head (λ b. Holds lists x b) b bs h in
-    grind (arith, here, holds-keeps lists x bs (All-tail (λ b. Holds lists x b) b bs h))
+    let here = All-head (λ b. MeetsBound lists x b) b bs h in
+    grind (arith, here, holds-keeps lists x bs (All-tail (λ b. MeetsBound lists x b) b bs h))
 
 -- the list has the first places of all solutions, and no others
 pub found-leads : (lists : List (List ℕ)) (bounds : List Inequality) (e : ℕ) → Contains (found_list lists bounds) e → Leads lists bounds e
@@ -142,7 +142,7 @@ walk_place w s begun =
 pub walk_rises : (w : Walk) → IsSoundWalk w → IsRising (walk_list w)
 walk_rises w s = found-rises w.lists w.bounds s.rising
 
-bound_below : (lists : List (List ℕ)) (x : List ℕ) (b : Inequality) (i : ℕ) → b.form ≡ LocLoc → b.i ≡ i → b.j ≡ 0 → b.plus ≡ b.minus → Holds lists x b
+bound_below : (lists : List (List ℕ)) (x : List ℕ) (b : Inequality) (i : ℕ) → b.form ≡ LocLoc → b.i ≡ i → b.j ≡ 0 → b.plus ≡ b.minus → MeetsBound lists x b
     → slice_index x i ≤ slice_index x 0
 bound_below lists x b i form low high same h =
     let l : low_side b.form (list_at lists b.i) (slice_index x b.i) ≡ slice_index x i =
@@ -157,7 +157,7 @@ pub solution_below : (lists : List (List ℕ)) (bounds : List Inequality) (x : L
 solution_below lists bounds x zero h s l = omega arith
 solution_below lists bounds x (suc i) h s l =
     let (k, b, w, e, (form, low, high, same)) = h.upper (suc i) (omega arith) l in
-    bound_below lists x b (suc i) form low high same (subst (λ c. Holds lists x c) e (s.bounded k b w))
+    bound_below lists x b (suc i) form low high same (subst (λ c. MeetsBound lists x c) e (s.bounded k b w))
 
 -- below TOP the readers of a walk stand at its place or before it
 pub walk_within : (w : Walk) → IsSoundWalk w → 0 < w.at → w.at < TOP → All (λ x. x ≤ w.at) w.places
@@ -165,7 +165,7 @@ walk_within w s begun below k d l =
     let (x, e) = s.walking.stands begun below in
     omega (arith, e, get_or_default w.places k d 0 l, solution_below w.lists w.bounds w.places k s.held x (omega (arith, l, x.sized)))
 
-bound_above : (lists : List (List ℕ)) (x : List ℕ) (b : Inequality) (i : ℕ) → b.form ≡ PrevLoc → b.i ≡ 0 → b.j ≡ i → b.minus ≡ b.plus + 1 → Holds lists x b
+bound_above : (lists : List (List ℕ)) (x : List ℕ) (b : Inequality) (i : ℕ) → b.form ≡ PrevLoc → b.i ≡ 0 → b.j ≡ i → b.minus ≡ b.plus + 1 → MeetsBound lists x b
     → pred_of (list_at lists 0) (slice_index x 0) < slice_index x i
 bound_above lists x b i form low high same h =
     let l : low_side b.form (list_at lists b.i) (slice_index x b.i) ≡ pred_of (list_at lists 0) (slice_index x 0) =
@@ -181,6 +181,6 @@ solution_above lists bounds x i at h s some l m lt =
     let (k, b, w, e, (form, low, high, same)) = h.lower i some l in
     omega (
       arith,
-      bound_above lists x b i form low high same (subst (λ c. Holds lists x c) e (s.bounded k b w)),
+      bound_above lists x b i form low high same (subst (λ c. MeetsBound lists x c) e (s.bounded k b w)),
       pred_of-greatest (list_at lists 0) (slice_index x 0) at m lt,
     )

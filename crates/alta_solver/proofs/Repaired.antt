@@ -6,7 +6,7 @@ use Rattle.alta_solver.specs.Inequality.{Inequality}
 use Rattle.alta_solver.specs.declared.form.Form.{Form}
 use Rattle.alta_solver.specs.declared.form.Form.TheVariants.{LocLoc, PrevLoc, LocPrev, PrevPrev}
 use Rattle.alta_solver.specs.declared.least.Outcome.TheVariants.{Moved, Stuck}
-use Rattle.alta_solver.specs.Solution.{list_at, low_side, high_side, Holds, IsAtLeast, IsRaised}
+use Rattle.alta_solver.specs.Solution.{list_at, low_side, high_side, MeetsBound, IsAtLeast, IsRaised}
 use Rattle.alta_solver.specs.Repair.{IsRepaired}
 
 -- each side rises with its location
@@ -26,7 +26,7 @@ module _ (lists : List (List ℕ)) (b : Inequality) (old new : List ℕ) (need :
     (short : need + b.plus ≤ low_side b.form (list_at lists b.i) (slice_index old b.i) + b.minus)
     (enough : low_side b.form (list_at lists b.i) (slice_index old b.i) + b.minus ≤ need + b.plus) where
   -- where the bound holds from here on, the other side is at least `need`
-  reaches : (x : List ℕ) → IsAtLeast old x → Holds lists x b → need ≤ high_side b.form (list_at lists b.j) (slice_index x b.j)
+  reaches : (x : List ℕ) → IsAtLeast old x → MeetsBound lists x b → need ≤ high_side b.form (list_at lists b.j) (slice_index x b.j)
   reaches x h holds =
       omega (arith, holds, low_side-mono b.form (list_at lists b.i) (slice_index old b.i) (slice_index x b.i) (h b.i within))
 

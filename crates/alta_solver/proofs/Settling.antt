@@ -7,7 +7,7 @@ use Rattle.alta_codec.specs.Rising.{IsPlace}
 use Rattle.alta_solver.specs.declared.least.Outcome.{Outcome}
 use Rattle.alta_solver.specs.declared.least.Outcome.TheVariants.{Settled, Moved, Stuck}
 use Rattle.alta_solver.specs.Inequality.{Inequality, IsNamed}
-use Rattle.alta_solver.specs.Solution.{list_at, low_side, Holds, IsAtLeast, IsSolution, IsLeast}
+use Rattle.alta_solver.specs.Solution.{list_at, low_side, MeetsBound, IsAtLeast, IsSolution, IsLeast}
 use Rattle.alta_solver.specs.Repair.{IsMended}
 use Rattle.alta_solver.specs.Settling.{HoldFrom, IsSettling, IsTried}
 use Rattle.alta_solver.proofs.Raised.{same_or_not}
@@ -18,7 +18,7 @@ at_least_trans a b c e f h i l = omega (arith, f i l, h i (omega arith))
 
 -- a bound holds on, where the reader that is bounded stays and the other does not go back
 holds_on : (lists : List (List ℕ)) (c : Inequality) (now new : List ℕ) → slice_index new c.i ≡ slice_index now c.i
-    → slice_index now c.j ≤ slice_index new c.j → Holds lists now c → Holds lists new c
+    → slice_index now c.j ≤ slice_index new c.j → MeetsBound lists now c → MeetsBound lists new c
 holds_on lists c now new e h holds =
     omega (
       arith,
@@ -40,8 +40,8 @@ settling_none lists bounds old led =
 
 module _ (lists : List (List ℕ)) (bounds : List Inequality) (old new : List ℕ) (at : ℕ) (b : Inequality)
     (within : at < length bounds) (is : (d : Inequality) → get_or bounds at d ≡ b) (named : IsNamed (length lists) bounds) (sized : length old ≡ length lists) where
-  solution_holds : (x : List ℕ) → IsSolution lists bounds x → Holds lists x b
-  solution_holds x h = subst (λ c. Holds lists x c) (is b) (h.bounded at b within)
+  solution_holds : (x : List ℕ) → IsSolution lists bounds x → MeetsBound lists x b
+  solution_holds x h = subst (λ c. MeetsBound lists x c) (is b) (h.bounded at b within)
 
   solution_place : (x : List ℕ) → IsSolution lists bounds x → IsPlace (list_at lists b.j) (slice_index x b.j)
   solution_place x h = h.places b.j (subst (λ c. c.j < length lists) (is b) (named at b within).1)
@@ -58,8 +58,8 @@ module _ (lists : List (List ℕ)) (bounds : List Inequality) (old new : List �
         led = m.led (λ e. cc);
         hold = λ h k d l w.
             ⊎_elim
-            (λ e. subst (λ c. Holds lists new c) (sym (ap (λ n. get_or bounds n d) e ∙ is d)) (m.settled refl).1)
-            (λ n. subst (λ xs. Holds lists xs (get_or bounds k d)) (sym (m.settled refl).0) (h k d l (omega (arith, w, n))))
+            (λ e. subst (λ c. MeetsBound lists new c) (sym (ap (λ n. get_or bounds n d) e ∙ is d)) (m.settled refl).1)
+            (λ n. subst (λ xs. MeetsBound lists xs (get_or bounds k d)) (sym (m.settled refl).0) (h k d l (omega (arith, w, n))))
             (same_or_not k at);
         within = omega (arith, within);
         none = λ e. absurd cc;
@@ -77,7 +77,7 @@ module _ (lists : List (List ℕ)) (bounds : List Inequality) (old new : List �
         hold = λ h k d l w.
             ⊎_elim
             (λ e. let here : get_or bounds k d ≡ b = ap (λ n. get_or bounds n d) e ∙ is d in
-            subst (λ c. Holds lists new c) (sym here) (m.moved refl (subst (λ c. c.i ≢ b.j) here (free k d w l))))
+            subst (λ c. MeetsBound lists new c) (sym here) (m.moved refl (subst (λ c. c.i ≢ b.j) here (free k d w l))))
             (λ n. holds_on lists (get_or bounds k d) old new (m.others (get_or bounds k d).i (free k d w l))
             (m.forward (get_or bounds k d).j (omega (arith, (named k d l).1, sized))) (h k d l (omega (arith, after, w, n))))
             (same_or_not k at);

@@ -2,11 +2,11 @@
 use Rattle.std.specs.Prelude.{◌≡◌, ℕ, ◌<◌, ◌≤◌, List, length, slice_index, slice_index_or, Option, None, IfSome}
 use Rattle.alta_codec.specs.declared.location.TheConstants.{TOP}
 use Rattle.alta_solver.specs.Inequality.{Inequality}
-use Rattle.alta_solver.specs.Solution.{Holds, IsAtLeast, IsSolution}
+use Rattle.alta_solver.specs.Solution.{MeetsBound, IsAtLeast, IsSolution}
 
 -- the bounds from an index on hold
 abbrev pub HoldFrom : List (List ℕ) → List Inequality → ℕ → List ℕ → Type 0
-HoldFrom lists bounds at x = (k : ℕ) (d : Inequality) → k < length bounds → at ≤ k → Holds lists x (slice_index_or bounds k d)
+HoldFrom lists bounds at x = (k : ℕ) (d : Inequality) → k < length bounds → at ≤ k → MeetsBound lists x (slice_index_or bounds k d)
 
 -- What holds on the way: no place went back, and none passed a solution. The first place is below TOP, and the bounds from
 -- `at` on hold.

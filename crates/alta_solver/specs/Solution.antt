@@ -24,9 +24,9 @@ high_side PrevPrev list x = pred_of list x
 abbrev pub list_at : List (List ℕ) → ℕ → List ℕ
 list_at lists i = slice_index_or lists i []
 
--- the bound's inequality
-abbrev pub Holds : List (List ℕ) → List ℕ → Inequality → Type 0
-Holds lists x b =
+-- the places meet the bound's inequality
+abbrev pub MeetsBound : List (List ℕ) → List ℕ → Inequality → Type 0
+MeetsBound lists x b =
     low_side b.form (list_at lists b.i) (slice_index x b.i) + b.minus
     ≤ high_side b.form (list_at lists b.j) (slice_index x b.j) + b.plus
 
@@ -35,7 +35,7 @@ pub record IsSolution (lists : List (List ℕ)) (bounds : List Inequality) (x : 
   pub sized : length x ≡ length lists
   pub places : (i : ℕ) → i < length lists → IsPlace (list_at lists i) (slice_index x i)
   pub led : slice_index x 0 < TOP
-  pub bounded : All (λ b. Holds lists x b) bounds
+  pub bounded : All (λ b. MeetsBound lists x b) bounds
 
 -- each variable is at or above its start
 abbrev pub IsAtLeast : List ℕ → List ℕ → Type 0

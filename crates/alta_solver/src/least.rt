@@ -2,7 +2,7 @@
 ghost use Rattle.std.specs.Prelude.{◌≡◌, ◌≢◌, ◌↔◌, ℕ, ◌+◌, ◌<◌, ◌≤◌, ◌*◌, ◌⊎◌, List, [], map, length, slice_index, slice_index_or, slice_set, All, sum_by, IsTrue, IfSome, false};
 ghost use Rattle.alta_codec.specs.Rising.{IsRising, IsPlace, first_from, pred_of};
 ghost use Rattle.alta_codec.specs.declared.location.TheConstants.{TOP};
-ghost use Rattle.alta_solver.specs.Solution.{low_side, high_side, list_at, Holds, IsSolution, IsAtLeast, IsLeast, IsRaised};
+ghost use Rattle.alta_solver.specs.Solution.{low_side, high_side, list_at, MeetsBound, IsSolution, IsAtLeast, IsLeast, IsRaised};
 ghost use Rattle.alta_solver.specs.Inequality.{Inequality, upper, lower, IsNamed, IsPaired};
 ghost use Rattle.alta_solver.specs.Repair.{IsRepaired, IsMended};
 ghost use Rattle.alta_solver.specs.Settling.{IsTried};
