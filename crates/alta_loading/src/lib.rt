@@ -7,12 +7,8 @@ mod list;
 mod loading;
 mod meeting;
 mod snapshot;
-#[cfg(test)]
-mod snapshot_tests;
 mod term;
 mod terms;
-#[cfg(test)]
-mod tests;
 
 pub use fault::LoadFault;
 pub use laws::{levels_and_newest_documents_answer, loaded_lists_are_those_of_the_content};

@@ -1,5 +1,5 @@
 use Rattle.std.proofs.Common.{[]}
-use Rattle.alta_loading.proofs.snapshot_tests.newest.Goals as goal
+use Rattle.check_loading.proofs.snapshots.newest.Goals as goal
 
 pub returns : goal.returns
 returns c = record {

@@ -3,9 +3,9 @@ ghost use Rattle.std.specs.Prelude.{◌≡◌, ◌≤◌, ◌<◌, ◌+◌, ◌^
 ghost use Rattle.alta_loading.specs.Lists.{LiesWithin};
 ghost use Rattle.alta_table.specs.Tables.{total_of};
 
-use crate::*;
 use alta_codec::Bytes;
 use alta_disk::MemoryDisk;
+use alta_loading::*;
 use alta_memlevel::MemLevel;
 use alta_table::{LevelFault, Table, head, tables_in_front, tables_read_back};
 use std::alloc::{AllocError, Global};

@@ -10,12 +10,12 @@ ghost use Rattle.alta_loading.specs.Snapshots.{all_rows};
 ghost use Rattle.alta_search.specs.Newest.{HasAdded};
 ghost use Rattle.alta_search.specs.Plans.{tests_of};
 
-use crate::tests::{image_of, tables_of};
-use crate::*;
+use crate::lists::{image_of, tables_of};
 use alta_codec::{Bytes, Loc, Steps, TOP, Text};
 use alta_compile::{Plan, compile};
 use alta_content::DocRow;
 use alta_disk::MemoryDisk;
+use alta_loading::*;
 use alta_memlevel::MemLevel;
 use alta_meta::cells;
 use alta_query::{Query, Test, parse};

@@ -2,7 +2,7 @@ use Rattle.std.proofs.Common.{◌≡◌, true, List, map, subst, rules}
 use Rattle.alta_compound.specs.Unions.{RisesAbove, rising_from_above}
 use Rattle.alta_content.specs.Rows.{end_of}
 use Rattle.alta_content.specs.declared.document.DocRow.{DocRow}
-use Rattle.alta_loading.proofs.snapshot_tests.shared.Goals as goal
+use Rattle.check_loading.proofs.snapshots.shared.Goals as goal
 
 pub new-requires-2 : goal.new-requires-2
 new-requires-2 c =

@@ -1,7 +1,7 @@
 use Rattle.std.proofs.Common.{◌≡◌, ℕ, zero, suc, ◌+◌, List, [], ◌∷◌, ◌++◌, take, sym, ap, ◌∙◌, arith, append_assoc}
 use Rattle.std.specs.Prelude.{Some, slice_get}
 use Rattle.alta_content.specs.declared.document.DocRow.{DocRow}
-use Rattle.alta_loading.proofs.snapshot_tests.put_newest.Goals as goal
+use Rattle.check_loading.proofs.snapshots.put_newest.Goals as goal
 
 one_more : (rows : List DocRow) (i : ℕ) (row : DocRow) → slice_get rows i ≡ Some row → take (suc i) rows ≡ take i rows ++ row ∷ []
 one_more [] i row e = absurd (cc)
