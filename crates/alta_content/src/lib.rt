@@ -7,8 +7,6 @@ mod document;
 mod laws;
 mod lists;
 mod spans;
-#[cfg(test)]
-mod tests;
 
 pub use content::{Content, TermList};
 pub use document::DocRow;

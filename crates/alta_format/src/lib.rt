@@ -3,7 +3,5 @@
 #![tactic(auto)]
 
 mod field;
-#[cfg(test)]
-mod tests;
 
 pub use field::{ReadFault, byte_at, packed_at, text_at, wide_at};

@@ -16,8 +16,6 @@ mod span;
 mod table;
 mod term;
 mod terms;
-#[cfg(test)]
-mod tests;
 mod writers;
 
 pub use alta_content::DocRow;

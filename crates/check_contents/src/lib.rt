@@ -1,8 +1,11 @@
-//! Worked contents through several crates: a line as a segment, and joins of segments in slices. It holds no product,
-//! only tests.
+//! Fields, tables, lists, and worked contents through several crates: joins of segments in slices. It holds no product, only tests.
 #![tactic(auto)]
 
 #[cfg(test)]
+mod fields;
+#[cfg(test)]
 mod joins;
 #[cfg(test)]
-mod worked;
+mod lists;
+#[cfg(test)]
+mod tables;

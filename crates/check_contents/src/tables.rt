@@ -2,7 +2,7 @@
 ghost use Rattle.std.specs.Prelude.{◌<◌, IfOk};
 ghost use Rattle.alta_content.specs.Rows.{AreDocuments};
 
-use crate::*;
+use alta_table::*;
 use std::alloc::Global;
 use std::test::Fail;
 

@@ -1,5 +1,5 @@
 // Each field reader once.
-use crate::*;
+use alta_format::*;
 use std::test::Fail;
 
 // How many bytes are left where the field is broken.

@@ -1,6 +1,6 @@
 // Each list type at its members.
-use crate::*;
 use alta_codec::{Bytes, Text};
+use alta_content::*;
 use std::alloc::{AllocError, Global};
 use std::test::Fail;
 
