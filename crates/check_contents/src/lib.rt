@@ -1,4 +1,5 @@
-//! Fields, tables, lists, and worked contents through several crates: joins of segments in slices. It holds no product, only tests.
+//! Fields, tables, lists, and worked contents through several crates: a line as a segment, and joins of segments in
+//! slices. It holds no product, only tests.
 #![tactic(auto)]
 
 #[cfg(test)]
@@ -9,3 +10,5 @@ mod joins;
 mod lists;
 #[cfg(test)]
 mod tables;
+#[cfg(test)]
+mod worked;
