@@ -1,5 +1,6 @@
 // What a level has.
-use crate::lists::{DocRows, Locations, TermLists};
+use crate::lists::{DocRows, Locations};
+use crate::term_lists::TermLists;
 use alta_codec::Bytes;
 
 /// A term, and where it stands.

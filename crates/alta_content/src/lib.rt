@@ -7,9 +7,11 @@ mod document;
 mod laws;
 mod lists;
 mod spans;
+mod term_lists;
 
 pub use content::{Content, TermList};
 pub use document::DocRow;
 pub use laws::joins_keep_contents;
-pub use lists::{DocRows, Locations, TermLists};
+pub use lists::{DocRows, Locations};
 pub use spans::{Span, keep_locations, keep_rows, put_locations, spans_of};
+pub use term_lists::TermLists;

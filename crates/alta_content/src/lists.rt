@@ -1,8 +1,7 @@
-// Lists of rows, of locations and of terms, which contracts see as the lists of their members.
+// Lists of rows and of locations, which contracts see as the lists of their members.
 ghost use Rattle.std.specs.Prelude.{◌≡◌, ◌∷◌, ◌++◌, [], length, slice_get, OnOk, OnErr};
 ghost use Rattle.std.specs.Option.{option_copied};
 
-use crate::content::TermList;
 use crate::document::DocRow;
 use alta_codec::Loc;
 use std::alloc::{AllocError, Global};
@@ -141,76 +140,6 @@ impl Locations {
 
     /// The locations, borrowed.
     pub fn as_slice(&self) -> &[Loc]
-        ensures { result.now ≡ self.now }
-    {
-        &self.items
-    }
-}
-
-/// Terms with their locations.
-#[derive(Drop)]
-pub struct TermLists {
-    items: Vec<TermList>,
-}
-
-impl Model for TermLists {
-    ghost use Rattle.std.specs.Prelude.{List};
-    ghost use Rattle.alta_content.specs.declared.content.TermList.{TermList};
-
-    ghost Value = { List TermList };
-
-    ghost view = { λ a. a.items.items };
-}
-
-impl TermLists {
-    /// No terms.
-    pub fn new(alloc: Global) -> TermLists
-        ensures { result ≡ [] }
-    {
-        TermLists {
-            items: Vec::new(alloc),
-        }
-    }
-
-    /// These terms, without a copy.
-    pub fn from_vec(items: Vec<TermList>) -> TermLists
-        ensures { result ≡ items.items }
-    {
-        TermLists { items }
-    }
-
-    /// The vector that holds the terms, without a copy.
-    pub fn into_vec(self) -> Vec<TermList>
-        ensures { result.items ≡ self }
-    {
-        self.items
-    }
-
-    /// Adds a term at the end. Where memory is wanting the list stays.
-    pub fn push(&mut self, item: TermList) -> Result<(), AllocError>
-        ensures pushed { OnOk result (self.new ≡ self.old ++ item ∷ []) }
-        ensures kept { OnErr result (self.new ≡ self.old) }
-    {
-        self.items.push(item)?;
-        Ok(())
-    }
-
-    /// How many terms there are.
-    pub fn len(&self) -> usize
-        ensures { result ≡ length self.now }
-    {
-        self.items.len()
-    }
-
-    /// The term at an index, None past the end.
-    pub fn get(&self, i: usize) -> Option<&TermList>
-        ensures { option_copied result ≡ slice_get self.now i }
-    {
-        self.items.get(i)
-    }
-
-    /// The terms, borrowed.
-    pub fn as_slice(&self) -> &[TermList]
         ensures { result.now ≡ self.now }
     {
         &self.items
