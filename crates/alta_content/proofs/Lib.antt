@@ -7,6 +7,7 @@ mod JoinRows
 pub mod Kept
 pub mod Order
 pub mod Outside
+pub mod Packs
 pub mod Ranges
 pub mod Rises
 pub mod Searches

@@ -3,6 +3,7 @@ pub mod Fronts
 pub mod Joining
 pub mod Laws
 pub mod Lists
+pub mod Packed
 pub mod Parts
 pub mod Rows
 pub mod Spans

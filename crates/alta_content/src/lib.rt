@@ -6,6 +6,7 @@ mod content;
 mod document;
 mod laws;
 mod lists;
+mod packing;
 mod spans;
 mod term_lists;
 

@@ -1,28 +1,39 @@
-// The terms of a content with their locations.
+// The terms of a content with their locations, packed.
 ghost use Rattle.std.specs.Prelude.{◌≡◌, ◌<◌, ◌∷◌, ◌++◌, [], drop, length, MatchOption, OnOk, OnErr};
 ghost use Rattle.alta_content.specs.Fronts.{front_locations, front_term};
 
-use crate::content::TermList;
-use crate::lists::Locations;
-use alta_codec::{Bytes, Loc};
+use crate::packing::{put_gaps, put_locations_at, put_row, row_at};
+use alta_codec::Loc;
 use std::alloc::{AllocError, Global};
-use std::collections::VecDeque;
 use std::marker::Model;
 
-/// Terms with their locations, which are put at the end and read from the front.
+/// Terms with their locations, which are put at the end and read from the front. They are held packed: of each term its bytes and
+/// three numbers, and of each location its distance from the one before, all numbers as unsigned LEB128 (DWARF 5, section 7.6).
 #[derive(Drop)]
 pub struct TermLists {
-    lists: VecDeque<TermList>,
-    alloc: Global,
+    // How many terms are left.
+    count: usize,
+    // For each term its length, its bytes, how many locations it has, and how many bytes their gaps have.
+    rows: Vec<u8>,
+    // Where the first row begins that is left.
+    row: usize,
+    // The gaps of all locations.
+    gaps: Vec<u8>,
+    // Where those of the first term begin that is left.
+    gap: usize,
 }
 
 impl Model for TermLists {
-    ghost use Rattle.std.specs.Prelude.{List};
+    ghost use Rattle.std.specs.Prelude.{List, drop, length, ◌≤◌};
+    ghost use Rattle.alta_content.specs.Packed.{Packs, lists_in};
     ghost use Rattle.alta_content.specs.declared.content.TermList.{TermList};
 
     ghost Value = { List TermList };
 
-    ghost view = { λ a. a.lists.items };
+    ghost view = { λ a. lists_in a.count (drop a.row a.rows.items) (drop a.gap a.gaps.items) };
+
+    ghost invariant = { λ a. Packs (drop a.row a.rows.items) (drop a.gap a.gaps.items) (lists_in a.count (drop a.row a.rows.items) (drop a.gap a.gaps.items))
+        × (a.row ≤ length a.rows.items) × (a.gap ≤ length a.gaps.items) };
 }
 
 impl TermLists {
@@ -31,8 +42,11 @@ impl TermLists {
         ensures { result ≡ [] }
     {
         TermLists {
-            lists: VecDeque::from(Vec::new(alloc)),
-            alloc,
+            count: 0,
+            rows: Vec::new(alloc),
+            row: 0,
+            gaps: Vec::new(alloc),
+            gap: 0,
         }
     }
 
@@ -41,9 +55,14 @@ impl TermLists {
         ensures put { OnOk result (self.new ≡ self.old ++ (record { term = term.now; locations = locations.now }) ∷ []) }
         ensures kept { OnErr result (self.new ≡ self.old) }
     {
-        let term = Bytes::from_vec(Vec::from_slice(self.alloc, term)?);
-        let locations = Locations::from_vec(Vec::from_slice(self.alloc, locations)?);
-        self.lists.push_back(TermList { term, locations })?;
+        let gaps = self.gaps.len();
+        put_gaps(&mut self.gaps, locations)?;
+        let bytes = self.gaps.len() - gaps;
+        if put_row(&mut self.rows, term, locations.len(), bytes).is_err() {
+            self.gaps.truncate(gaps);
+            return Err(AllocError);
+        }
+        self.count += 1;
         Ok(())
     }
 
@@ -51,33 +70,41 @@ impl TermLists {
     pub fn len(&self) -> usize
         ensures { result ≡ length self.now }
     {
-        self.lists.len()
+        self.count
     }
 
     /// The first term, None where there is none.
     pub fn first(&self) -> Option<&[u8]>
         ensures { MatchOption result (self.now ≡ []) (λ term. (0 < length self.now) × (term.now ≡ front_term self.now)) }
     {
-        match self.lists.front() {
-            Some(list) => Some(list.term.as_slice()),
-            None => None,
+        if self.count == 0 {
+            return None;
         }
+        Some(row_at(&self.rows, self.row).term)
     }
 
     /// Appends the locations of the first term, none where there is no term.
     pub fn put_first(&self, all: &mut Vec<Loc>) -> Result<(), AllocError>
         ensures { OnOk result (all.new.items ≡ all.old.items ++ front_locations self.now) }
     {
-        if let Some(list) = self.lists.front() {
-            all.extend_from_slice(list.locations.as_slice())?;
+        if self.count == 0 {
+            return Ok(());
         }
-        Ok(())
+        let row = row_at(&self.rows, self.row);
+        put_locations_at(all, &self.gaps, self.gap, row.count)
     }
 
     /// Drops the first term, if there is one.
     pub fn skip(&mut self)
         ensures { self.new ≡ drop 1 self.old }
     {
-        let _ = self.lists.pop_front();
+        if self.count == 0 {
+            return;
+        }
+        let row = row_at(&self.rows, self.row);
+        let behind = self.gap.saturating_add(row.gaps as usize);
+        self.row = row.behind;
+        self.gap = behind.min(self.gaps.len());
+        self.count -= 1;
     }
 }

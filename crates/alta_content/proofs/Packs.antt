@@ -1,0 +1,196 @@
+-- Laws of packed lists: what is spelled is read.
+use Rattle.std.proofs.Common.{◌≡◌, ℕ, zero, suc, ◌+◌, ◌-◌, ◌%◌, ◌^◌, ◌<◌, ◌≤◌, List, [], ◌∷◌, ◌++◌, length, take, drop, min, refl, sym, ap, ◌∙◌, arith}
+use Rattle.std.specs.Prelude.{Ok}
+use Rattle.std.specs.List.{All, flat_map}
+use Rattle.std.proofs.Math.Nat.{add-mod-mod, add-mod_right, mod-eq_of_lt}
+use Rattle.std.proofs.Math.Seq.{drop-append_seam, take-append_seam}
+use Rattle.std.proofs.lemmas.Grind.{flat_map-append}
+use Rattle.std.proofs.lemmas.List.{append-nil, append_assoc, drop-append-le, drop-drop, drop_min, length-append, length-drop, length-take}
+use Rattle.std.proofs.lemmas.List.Elements.{All-append, All-cons, All-head, All-nil, All-tail}
+use Rattle.alta_codec.specs.Bytes.{AreBytes}
+use Rattle.alta_codec.specs.Numbers.{number_bytes, number_from}
+use Rattle.alta_codec.proofs.ByteLaws.{AreBytes-drop, AreBytes-take}
+use Rattle.alta_codec.proofs.Numerals.{number_read, number_size, reads_number}
+use Rattle.alta_content.specs.declared.content.TermList.{TermList}
+use Rattle.alta_content.specs.Packed as packed
+use Rattle.alta_content.specs.Packed.{Fits, Packs, Row, gap, gaps_bytes, list_gaps, lists_in, locations_in, number_in, row_bytes, row_in}
+
+-- a number that is read from a place on ends within the bytes
+pub read_within : (bytes : List ℕ) (at n e : ℕ) → AreBytes bytes → at ≤ length bytes → number_from 9 0 (take (length bytes - at) (drop at bytes)) ≡ Ok (n, e) → at + e ≤ length bytes
+read_within bytes at n e b l h =
+    let r = number_read 0 (take (length bytes - at) (drop at bytes)) n e (λ i l. AreBytes-take (length bytes - at) (drop at bytes) (AreBytes-drop at bytes b) i) h in
+    let long : length (take (length bytes - at) (drop at bytes)) ≡ length bytes - at = length-take (length bytes - at) (drop at bytes) ∙ grind (arith, length-drop at bytes) in
+    omega (arith, r.within, long)
+
+-- ---- numbers
+
+pub number_reads : (n : ℕ) (more : List ℕ) → n < 2 ^ 64 → number_in (number_bytes n ++ more) ≡ (n, more)
+number_reads n more small =
+    ap (packed.number_read (number_bytes n ++ more)) (reads_number 0 n more small)
+    ∙ ap (λ d. (n, d)) (ap (λ i. drop i (number_bytes n ++ more)) (omega arith) ∙ drop-append_seam (number_bytes n) more)
+
+-- ---- gaps
+
+gap_reads : (before x : ℕ) → before < 2 ^ 64 → x < 2 ^ 64 → (before + gap before x) % 2 ^ 64 ≡ x
+gap_reads before x b l =
+    let sum : before + (x + (2 ^ 64 - before)) ≡ x + 2 ^ 64 = omega (arith, b) in
+    add-mod-mod before (x + (2 ^ 64 - before)) (2 ^ 64)
+    ∙ ap (λ (s : ℕ). s % 2 ^ 64) sum
+    ∙ add-mod_right x (2 ^ 64)
+    ∙ mod-eq_of_lt l
+
+gap_small : (before x : ℕ) → gap before x < 2 ^ 64
+gap_small before x = omega arith
+
+gaps_read : (before : ℕ) (xs more : List ℕ) → before < 2 ^ 64 → All (λ x. x < 2 ^ 64) xs → locations_in (length xs) before (gaps_bytes before xs ++ more) ≡ xs
+gaps_read before [] more b h = refl
+gaps_read before (x ∷ xs) more b h =
+    let small : x < 2 ^ 64 = All-head (λ x. x < 2 ^ 64) x xs h in
+    let whole : (number_bytes (gap before x) ++ gaps_bytes x xs) ++ more ≡ number_bytes (gap before x) ++ (gaps_bytes x xs ++ more) = append_assoc (number_bytes (gap before x)) (gaps_bytes x xs) more in
+    let read : number_in ((number_bytes (gap before x) ++ gaps_bytes x xs) ++ more) ≡ (gap before x, gaps_bytes x xs ++ more) =
+    ap number_in whole ∙ number_reads (gap before x) (gaps_bytes x xs ++ more) (gap_small before x) in
+    ap (λ (r : ℕ × List ℕ). ((before + r.0) % 2 ^ 64) ∷ locations_in (length xs) ((before + r.0) % 2 ^ 64) r.1) read
+    ∙ ap (λ (y : ℕ). y ∷ locations_in (length xs) y (gaps_bytes x xs ++ more)) (gap_reads before x b small)
+    ∙ ap (λ ys. x ∷ ys) (gaps_read x xs more small (All-tail (λ x. x < 2 ^ 64) x xs h))
+
+-- one location is read
+pub next_location : (all : List ℕ) (n before : ℕ) (bytes : List ℕ) → 0 < n
+    → all ++ locations_in n before bytes ≡ (all ++ ((before + (number_in bytes).0) % 2 ^ 64) ∷ []) ++ locations_in (n - 1) ((before + (number_in bytes).0) % 2 ^ 64) (number_in bytes).1
+next_location all zero before bytes l = absurd (omega (arith, l))
+next_location all (suc n) before bytes l =
+    let x = (before + (number_in bytes).0) % 2 ^ 64 in
+    sym (append_assoc all (x ∷ []) (locations_in n x (number_in bytes).1))
+    ∙ ap (λ (m : ℕ). (all ++ x ∷ []) ++ locations_in m x (number_in bytes).1) (omega arith)
+
+-- ---- rows
+
+row_reads : (l : TermList) (more : List ℕ) → Fits l → row_in (row_bytes l ++ more) ≡ record { term = l.term; count = length l.locations; gaps = length (list_gaps l); behind = more }
+row_reads l more f =
+    let n = number_bytes (length l.locations) in
+    let g = number_bytes (length (list_gaps l)) in
+    let whole : (number_bytes (length l.term) ++ (l.term ++ (n ++ g))) ++ more ≡ number_bytes (length l.term) ++ (l.term ++ (n ++ (g ++ more))) =
+    append_assoc (number_bytes (length l.term)) (l.term ++ (n ++ g)) more
+    ∙ ap (λ r. number_bytes (length l.term) ++ r) (append_assoc l.term (n ++ g) more ∙ ap (λ r. l.term ++ r) (append_assoc n g more)) in
+    let size : number_in ((number_bytes (length l.term) ++ (l.term ++ (n ++ g))) ++ more) ≡ (length l.term, l.term ++ (n ++ (g ++ more))) =
+    ap number_in whole ∙ number_reads (length l.term) (l.term ++ (n ++ (g ++ more))) f.term in
+    let behind : drop (length l.term) (l.term ++ (n ++ (g ++ more))) ≡ n ++ (g ++ more) = drop-append_seam l.term (n ++ (g ++ more)) in
+    let count : number_in (drop (length l.term) (l.term ++ (n ++ (g ++ more)))) ≡ (length l.locations, g ++ more) =
+    ap number_in behind ∙ number_reads (length l.locations) (g ++ more) f.count in
+    let gaps : number_in (g ++ more) ≡ (length (list_gaps l), more) = number_reads (length (list_gaps l)) more f.gaps in
+    let from : (ℕ × List ℕ) → (ℕ × List ℕ) → (ℕ × List ℕ) → Row = λ s c k. record { term = take s.0 s.1; count = c.0; gaps = k.0; behind = k.1 } in
+    ap (λ (s : ℕ × List ℕ). from s (number_in (drop s.0 s.1)) (number_in (number_in (drop s.0 s.1)).1)) size
+    ∙ ap (λ (c : ℕ × List ℕ). from (length l.term, l.term ++ (n ++ (g ++ more))) c (number_in c.1)) count
+    ∙ ap (λ (k : ℕ × List ℕ). from (length l.term, l.term ++ (n ++ (g ++ more))) (length l.locations, g ++ more) k) gaps
+    ∙ ap (λ t. record { term = t; count = length l.locations; gaps = length (list_gaps l); behind = more }) (take-append_seam l.term (n ++ (g ++ more)))
+
+-- ---- lists
+
+-- a packed list in front of others is read
+list_reads : (l : TermList) (rows gaps : List ℕ) (n : ℕ) → Fits l → lists_in (suc n) (row_bytes l ++ rows) (list_gaps l ++ gaps) ≡ l ∷ lists_in n rows gaps
+list_reads l rows gaps n f =
+    let all = list_gaps l ++ gaps in
+    let from : Row → List TermList = λ r. (record { term = r.term; locations = locations_in r.count 0 all }) ∷ lists_in n r.behind (drop r.gaps all) in
+    ap from (row_reads l rows f)
+    ∙ ap (λ xs. (record { term = l.term; locations = xs }) ∷ lists_in n rows (drop (length (list_gaps l)) all)) (gaps_read 0 l.locations gaps (omega arith) f.locations)
+    ∙ ap (λ d. l ∷ lists_in n rows d) (drop-append_seam (list_gaps l) gaps)
+
+lists_read : (ls : List TermList) → All Fits ls → lists_in (length ls) (flat_map row_bytes ls) (flat_map list_gaps ls) ≡ ls
+lists_read [] h = refl
+lists_read (l ∷ ls) h =
+    list_reads l (flat_map row_bytes ls) (flat_map list_gaps ls) (length ls) (All-head Fits l ls h)
+    ∙ ap (λ k. l ∷ k) (lists_read ls (All-tail Fits l ls h))
+
+pub lists_length : (n : ℕ) (rows gaps : List ℕ) → length (lists_in n rows gaps) ≡ n
+lists_length zero rows gaps = refl
+lists_length (suc n) rows gaps = ap suc (lists_length n (row_in rows).behind (drop (row_in rows).gaps gaps))
+
+-- ---- one list more, one list less
+
+-- a list was put behind lists
+pub list_put : (n : ℕ) (rows gaps : List ℕ) (l : TermList) → Packs rows gaps (lists_in n rows gaps) → Fits l
+    → lists_in (n + 1) (rows ++ row_bytes l) (gaps ++ list_gaps l) ≡ lists_in n rows gaps ++ l ∷ []
+list_put n rows gaps l p f =
+    let ls = lists_in n rows gaps in
+    let r : rows ++ row_bytes l ≡ flat_map row_bytes (ls ++ l ∷ []) =
+    ap (λ x. x ++ row_bytes l) p.rows ∙ ap (λ x. flat_map row_bytes ls ++ x) (sym (append-nil (row_bytes l))) ∙ sym (flat_map-append row_bytes ls (l ∷ [])) in
+    let g : gaps ++ list_gaps l ≡ flat_map list_gaps (ls ++ l ∷ []) =
+    ap (λ x. x ++ list_gaps l) p.gaps ∙ ap (λ x. flat_map list_gaps ls ++ x) (sym (append-nil (list_gaps l))) ∙ sym (flat_map-append list_gaps ls (l ∷ [])) in
+    let k : n + 1 ≡ length (ls ++ l ∷ []) = sym (length-append ls (l ∷ []) ∙ grind (arith, lists_length n rows gaps)) in
+    ap (λ i. lists_in i (rows ++ row_bytes l) (gaps ++ list_gaps l)) k
+    ∙ ap (λ x. lists_in (length (ls ++ l ∷ [])) x (gaps ++ list_gaps l)) r
+    ∙ ap (λ x. lists_in (length (ls ++ l ∷ [])) (flat_map row_bytes (ls ++ l ∷ [])) x) g
+    ∙ lists_read (ls ++ l ∷ []) (All-append Fits ls (l ∷ []) p.fit (All-cons Fits l [] f (All-nil Fits)))
+
+pub packs_put : (n : ℕ) (rows gaps : List ℕ) (l : TermList) → Packs rows gaps (lists_in n rows gaps) → Fits l
+    → Packs (rows ++ row_bytes l) (gaps ++ list_gaps l) (lists_in (n + 1) (rows ++ row_bytes l) (gaps ++ list_gaps l))
+packs_put n rows gaps l p f =
+    let ls = lists_in n rows gaps in
+    rw (list_put n rows gaps l p f) (record {
+      rows = ap (λ x. x ++ row_bytes l) p.rows ∙ ap (λ x. flat_map row_bytes ls ++ x) (sym (append-nil (row_bytes l))) ∙ sym (flat_map-append row_bytes ls (l ∷ []));
+      gaps = ap (λ x. x ++ list_gaps l) p.gaps ∙ ap (λ x. flat_map list_gaps ls ++ x) (sym (append-nil (list_gaps l))) ∙ sym (flat_map-append list_gaps ls (l ∷ []));
+      fit = All-append Fits ls (l ∷ []) p.fit (All-cons Fits l [] f (All-nil Fits));
+    })
+
+-- the first list was taken away
+packs_rest : (l : TermList) (ls : List TermList) (rows gaps : List ℕ) → Packs rows gaps (l ∷ ls) → Packs (row_in rows).behind (drop (row_in rows).gaps gaps) ls
+packs_rest l ls rows gaps p =
+    let read = ap row_in p.rows ∙ row_reads l (flat_map row_bytes ls) (All-head Fits l ls p.fit) in
+    let behind : (row_in rows).behind ≡ flat_map row_bytes ls = ap (λ (r : Row). r.behind) read in
+    let size : (row_in rows).gaps ≡ length (list_gaps l) = ap (λ (r : Row). r.gaps) read in
+    record {
+      rows = behind;
+      gaps = ap (λ k. drop k gaps) size ∙ ap (λ g. drop (length (list_gaps l)) g) p.gaps ∙ drop-append_seam (list_gaps l) (flat_map list_gaps ls);
+      fit = All-tail Fits l ls p.fit;
+    }
+
+pub packs_skip : (n : ℕ) (rows gaps : List ℕ) → 0 < n → Packs rows gaps (lists_in n rows gaps)
+    → Packs (row_in rows).behind (drop (row_in rows).gaps gaps) (lists_in (n - 1) (row_in rows).behind (drop (row_in rows).gaps gaps))
+packs_skip zero rows gaps l p = absurd (omega (arith, l))
+packs_skip (suc n) rows gaps l p =
+    let e : suc n - 1 ≡ n = omega arith in
+    rw e (packs_rest _ _ rows gaps p)
+
+pub lists_skip : (n : ℕ) (rows gaps : List ℕ) → 0 < n → lists_in (n - 1) (row_in rows).behind (drop (row_in rows).gaps gaps) ≡ drop 1 (lists_in n rows gaps)
+lists_skip zero rows gaps l = absurd (omega (arith, l))
+lists_skip (suc n) rows gaps l =
+    let e : suc n - 1 ≡ n = omega arith in
+    rw e refl
+
+-- ---- how many there are
+
+-- a row has at least one byte
+rows_long : (ls : List TermList) → length ls ≤ length (flat_map row_bytes ls)
+rows_long [] = omega arith
+rows_long (l ∷ ls) =
+    omega (arith, rows_long ls, (number_size (length l.term)).0, length-append (row_bytes l) (flat_map row_bytes ls), length-append (number_bytes (length l.term)) (l.term ++ (number_bytes (length l.locations) ++ number_bytes (length (list_gaps l)))))
+
+pub few_lists : (n : ℕ) (rows gaps : List ℕ) → Packs rows gaps (lists_in n rows gaps) → n ≤ length rows
+few_lists n rows gaps p = omega (arith, rows_long (lists_in n rows gaps), lists_length n rows gaps, ap (λ (x : List ℕ). length x) p.rows)
+
+-- ---- in buffers whose front was read
+
+-- what holds once a list was put behind those that are left
+pub put_behind : (n row gap : ℕ) (rows rows' gaps gaps' : List ℕ) (l : TermList)
+    → Packs (drop row rows) (drop gap gaps) (lists_in n (drop row rows) (drop gap gaps)) → row ≤ length rows → gap ≤ length gaps
+    → rows' ≡ rows ++ row_bytes l → gaps' ≡ gaps ++ list_gaps l → Fits l
+    → (lists_in (n + 1) (drop row rows') (drop gap gaps') ≡ lists_in n (drop row rows) (drop gap gaps) ++ l ∷ [])
+    × (Packs (drop row rows') (drop gap gaps') (lists_in (n + 1) (drop row rows') (drop gap gaps')) × (row ≤ length rows') × (gap ≤ length gaps'))
+put_behind n row gap rows rows' gaps gaps' l p rl gl r g f =
+    let rs : drop row rows' ≡ drop row rows ++ row_bytes l = ap (λ x. drop row x) r ∙ drop-append-le row rows (row_bytes l) rl in
+    let gs : drop gap gaps' ≡ drop gap gaps ++ list_gaps l = ap (λ x. drop gap x) g ∙ drop-append-le gap gaps (list_gaps l) gl in
+    let rows_long : row ≤ length rows' = omega (arith, ap (λ (x : List ℕ). length x) r, length-append rows (row_bytes l)) in
+    let gaps_long : gap ≤ length gaps' = omega (arith, ap (λ (x : List ℕ). length x) g, length-append gaps (list_gaps l)) in
+    rw (rs, gs) (list_put n (drop row rows) (drop gap gaps) l p f, (packs_put n (drop row rows) (drop gap gaps) l p f, rows_long, gaps_long))
+
+-- what holds once the first list was dropped
+pub skipped : (n row gap row' gap' : ℕ) (rows gaps : List ℕ) → 0 < n
+    → Packs (drop row rows) (drop gap gaps) (lists_in n (drop row rows) (drop gap gaps))
+    → drop row' rows ≡ (row_in (drop row rows)).behind → drop gap' gaps ≡ drop (row_in (drop row rows)).gaps (drop gap gaps)
+    → (lists_in (n - 1) (drop row' rows) (drop gap' gaps) ≡ drop 1 (lists_in n (drop row rows) (drop gap gaps)))
+    × Packs (drop row' rows) (drop gap' gaps) (lists_in (n - 1) (drop row' rows) (drop gap' gaps))
+skipped n row gap row' gap' rows gaps l p r g =
+    rw (r, g) (lists_skip n (drop row rows) (drop gap gaps) l, packs_skip n (drop row rows) (drop gap gaps) l p)
+
+-- a place so far behind another, or at the end where there are fewer, leaves as much
+pub drop_again : {X : Type 0} (n m k : ℕ) (xs : List X) → k ≡ min (n + m) (length xs) → drop k xs ≡ drop m (drop n xs)
+drop_again n m k xs e = ap (λ (i : ℕ). drop i xs) e ∙ drop_min (n + m) xs ∙ sym (drop-drop m n xs)
