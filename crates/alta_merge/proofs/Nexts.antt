@@ -1,12 +1,12 @@
 -- The next term of parts.
-use Rattle.std.proofs.Common.{◌≡◌, ⊎_elim, ℕ, ◌+◌, ◌<◌, true, false, List, [], ◌∷◌, length, get_or, refl, sym, ap, subst, ◌∙◌, arith}
+use Rattle.std.proofs.Common.{◌≡◌, ⊎_elim, ℕ, ◌+◌, ◌<◌, true, List, [], ◌∷◌, length, get_or, refl, sym, ap, subst, ◌∙◌, arith}
 use Rattle.std.specs.Ordering.{is_le}
 use Rattle.std.specs.declared.cmp.Ordering.TheVariants.{Less, Greater}
 use Rattle.std.proofs.lemmas.Bool.{cases_lt, true≢false}
 use Rattle.std.proofs.lemmas.Cmp.{nat_list_cmp_total, tied_itself}
 use Rattle.alta_content.specs.declared.content.TermList.{TermList}
-use Rattle.alta_merge.specs.Fronts.{IsNext, against, front_term, next_term}
-use Rattle.alta_merge.specs.declared.fronts.Next.{Next}
+use Rattle.alta_content.specs.Fronts.{front_term}
+use Rattle.alta_merge.specs.Fronts.{IsNext, NoneLeft, against, next_term}
 use Rattle.alta_content.proofs.Order.{by_order, cmp, equal_same, greater_less, less_on}
 
 -- the term with which a part begins is not above it
@@ -24,32 +24,23 @@ below_low u t (l ∷ ls) h k =
     (λ e. absurd (true≢false (sym k ∙ ap is_le e)))
 
 -- a part with a term below those of all before it
-pub new_next : (parts : List (List TermList)) (i count : ℕ) (l : TermList) (rest : List TermList) → i < length parts → get_or parts i [] ≡ l ∷ rest
-    → ((k : ℕ) → k < i → against l.term (get_or parts k []) ≡ Less) → IsNext parts (i + 1) record { at = i; shared = false; count = count }
-new_next parts i count l rest within e before =
-    let next : Next = record { at = i; shared = false; count = count } in
-    let t = next_term parts next in
-    let own : t ≡ l.term = ap front_term e in
-    record {
-      within = omega arith;
-      some = subst (λ (p : List TermList). 0 < length p) (sym e) (omega arith);
-      lowest = λ k m. ⊎_elim
-          (λ w. subst (λ u. is_le (against u (get_or parts k [])) ≡ true) (sym own) (ap is_le (before k w)))
-          (λ w. let same : i ≡ k = omega (arith, m, w) in subst (λ j. is_le (against t (get_or parts j [])) ≡ true) same (self_low (get_or parts i [])))
-          (cases_lt k i);
-      alone = λ _ k m other. ⊎_elim
-          (λ w. subst (λ u. against u (get_or parts k []) ≡ Less) (sym own) (before k w))
-          (λ w. absurd (other (omega (arith, m, w))))
-          (cases_lt k i);
-    }
+new_next : (parts : List (List TermList)) (i : ℕ) → i < length parts → 0 < length (get_or parts i [])
+    → ((k : ℕ) → k < i → against (next_term parts i) (get_or parts k []) ≡ Less) → IsNext parts (i + 1) i
+new_next parts i within some before = record {
+  within = omega arith;
+  some = some;
+  lowest = λ k m. ⊎_elim
+      (λ w. ap is_le (before k w))
+      (λ w. let same : i ≡ k = omega (arith, m, w) in subst (λ j. is_le (against (next_term parts i) (get_or parts j [])) ≡ true) same (self_low (get_or parts i [])))
+      (cases_lt k i);
+  first = before;
+}
 
-pub lower_next : (parts : List (List TermList)) (i count : ℕ) (next : Next) (l : TermList) (rest : List TermList) → i < length parts → get_or parts i [] ≡ l ∷ rest
-    → IsNext parts i next → cmp (next_term parts next) l.term ≡ Greater → IsNext parts (i + 1) record { at = i; shared = false; count = count }
-lower_next parts i count next l rest within e is above =
-    new_next parts i count l rest within e
-    (λ k m. below_low l.term (next_term parts next) (get_or parts k []) (greater_less (next_term parts next) l.term above) (is.lowest k m))
+pub lower_next : (parts : List (List TermList)) (i next : ℕ) → i < length parts → 0 < length (get_or parts i []) → IsNext parts i next
+    → cmp (next_term parts next) (next_term parts i) ≡ Greater → IsNext parts (i + 1) i
+lower_next parts i next within some is above =
+    let less : cmp (next_term parts i) (next_term parts next) ≡ Less = greater_less (next_term parts next) (next_term parts i) above in
+    new_next parts i within some (λ k m. below_low (next_term parts i) (next_term parts next) (get_or parts k []) less (is.lowest k m))
 
-pub first_next : (parts : List (List TermList)) (i count : ℕ) (l : TermList) (rest : List TermList) → i < length parts → get_or parts i [] ≡ l ∷ rest
-    → ((k : ℕ) → k < i → get_or parts k [] ≡ []) → IsNext parts (i + 1) record { at = i; shared = false; count = count }
-first_next parts i count l rest within e none =
-    new_next parts i count l rest within e (λ k m. ap (against l.term) (none k m))
+pub first_next : (parts : List (List TermList)) (i : ℕ) → i < length parts → 0 < length (get_or parts i []) → NoneLeft parts i → IsNext parts (i + 1) i
+first_next parts i within some none = new_next parts i within some (λ k m. ap (against (next_term parts i)) (none k m))

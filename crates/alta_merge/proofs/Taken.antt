@@ -15,8 +15,9 @@ use Rattle.alta_content.specs.Spans.{lists_outside, outside_of}
 use Rattle.alta_content.specs.declared.spans.Span.{Span}
 use Rattle.alta_content.proofs.Outside.{left_of, outside_some, outside_none}
 use Rattle.alta_content.proofs.Gathered.{all_terms, nowhere}
-use Rattle.alta_merge.specs.Fronts.{against, begins, front_of, front_term, behind}
-use Rattle.alta_content.proofs.Order.{cmp, After, has, same_term, itself, less_differs, le_less, less_differs_back, after_weaker, after_has, after_from, has_append, one_list, in_order_sorted, has_in_order, map_after}
+use Rattle.alta_content.specs.Fronts.{front_term}
+use Rattle.alta_merge.specs.Fronts.{against, begins, behind, front_of, if_some}
+use Rattle.alta_content.proofs.Order.{cmp, After, has, same_term, itself, le_less, less_differs_back, after_weaker, after_has, after_from, has_append, one_list, in_order_sorted, has_in_order, map_after}
 
 -- ---- one part
 
@@ -178,10 +179,6 @@ gathered_next t parts h =
 
 pub rises_next : (t : List ℕ) (parts : List (List TermList)) → All TermsRise parts → All TermsRise (behind_all t parts)
 rises_next t parts s = All-map TermsRise (behind t) parts (All-weaker TermsRise (λ p. TermsRise (behind t p)) (λ p q. behind_rises t p q) parts s)
-
--- a list if it has a location
-abbrev pub if_some : TermList → List TermList
-if_some l = cond (nat_lt 0 (length l.locations)) (l ∷ []) []
 
 -- what is outside of the spans: of the next term, and then of what is left
 pub outside_next : (spans : List Span) (t : List ℕ) (parts : List (List TermList)) → IsLeast t parts

@@ -1,5 +1,5 @@
 -- The lists that come next, each the first of a part.
-use Rattle.std.specs.Prelude.{◌≡◌, ℕ, ◌<◌, nat_lt, Bool, true, false, cond, List, [], ◌∷◌, length, map, slice_index_or}
+use Rattle.std.specs.Prelude.{◌≡◌, ℕ, ◌<◌, nat_lt, Bool, true, false, cond, List, [], ◌∷◌, length, map, drop, slice_index_or}
 use Rattle.std.specs.Cmp.Lexicographic.{slice_cmp}
 use Rattle.std.specs.List.{All, flat_map}
 use Rattle.std.specs.Ordering.{nat_cmp, is_le}
@@ -7,15 +7,10 @@ use Rattle.std.specs.declared.cmp.Ordering.{Ordering}
 use Rattle.std.specs.declared.cmp.Ordering.TheVariants.{Less}
 use Rattle.std.specs.Str.{bytes_eq}
 use Rattle.alta_content.specs.declared.content.TermList.{TermList}
+use Rattle.alta_content.specs.Fronts.{front_locations, front_term}
 use Rattle.alta_content.specs.Lists.{TermsRise}
 use Rattle.alta_content.specs.Spans.{SpansRise, outside_of}
 use Rattle.alta_content.specs.declared.spans.Span.{Span}
-use Rattle.alta_merge.specs.declared.fronts.Next.{Next}
-
--- the term of the first list, none where there is no list
-abbrev pub front_term : List TermList → List ℕ
-front_term [] = []
-front_term (l ∷ ls) = l.term
 
 -- how the term stands to that of the first list; before it where there is none
 abbrev pub against : List ℕ → List TermList → Ordering
@@ -29,32 +24,29 @@ begins term (l ∷ ls) = bytes_eq term l.term
 
 -- the locations of the first list if it is the term's
 abbrev pub front_of : List ℕ → List TermList → List ℕ
-front_of term [] = []
-front_of term (l ∷ ls) = cond (bytes_eq term l.term) l.locations []
+front_of term lists = cond (begins term lists) (front_locations lists) []
 
 -- what is left once the first list is taken if it is the term's
 abbrev pub behind : List ℕ → List TermList → List TermList
-behind term [] = []
-behind term (l ∷ ls) = cond (bytes_eq term l.term) ls (l ∷ ls)
+behind term lists = cond (begins term lists) (drop 1 lists) lists
 
--- the term that comes next
-abbrev pub next_term : List (List TermList) → Next → List ℕ
-next_term parts next = front_term (slice_index_or parts next.at [])
+-- the term that comes next, with which the part at the place begins
+abbrev pub next_term : List (List TermList) → ℕ → List ℕ
+next_term parts next = front_term (slice_index_or parts next [])
 
 -- none of the first so many parts has a list left
 abbrev pub NoneLeft : List (List TermList) → ℕ → Type 0
 NoneLeft parts n = (k : ℕ) → k < n → slice_index_or parts k [] ≡ []
 
--- Of the first so many parts, the one at the place begins with the least term, and where that is not marked as shared no
--- other begins with it.
-pub record IsNext (parts : List (List TermList)) (n : ℕ) (next : Next) : Type 0 where
-  pub within : next.at < n
-  pub some : 0 < length (slice_index_or parts next.at [])
+-- of the first so many parts, the one at the place is the first that begins with the least term
+pub record IsNext (parts : List (List TermList)) (n : ℕ) (next : ℕ) : Type 0 where
+  pub within : next < n
+  pub some : 0 < length (slice_index_or parts next [])
   pub lowest : (k : ℕ) → k < n → is_le (against (next_term parts next) (slice_index_or parts k [])) ≡ true
-  pub alone : next.shared ≡ false → (k : ℕ) → k < n → (k ≡ next.at → ⊥) → against (next_term parts next) (slice_index_or parts k []) ≡ Less
+  pub first : (k : ℕ) → k < next → against (next_term parts next) (slice_index_or parts k []) ≡ Less
 
 -- the next term, with its locations outside of the spans
-abbrev pub next_list : List Span → List (List TermList) → Next → TermList
+abbrev pub next_list : List Span → List (List TermList) → ℕ → TermList
 next_list spans parts next = record { term = next_term parts next; locations = outside_of spans (flat_map (front_of (next_term parts next)) parts) }
 
 -- the list if it has a location
@@ -62,20 +54,10 @@ abbrev pub if_some : TermList → List TermList
 if_some list = cond (nat_lt 0 (length list.locations)) (list ∷ []) []
 
 -- what is left once the next term is taken
-abbrev pub behind_next : List (List TermList) → Next → List (List TermList)
+abbrev pub behind_next : List (List TermList) → ℕ → List (List TermList)
 behind_next parts next = map (behind (next_term parts next)) parts
 
 -- spans rise, and the terms of each part
 pub record AreSorted (spans : List Span) (parts : List (List TermList)) : Type 0 where
   pub spans_rise : SpansRise spans
   pub terms_rise : All TermsRise parts
-
--- the next term is known
-pub record HasNext (spans : List Span) (parts : List (List TermList)) (next : Next) : Type 0 where
-  pub sorted : AreSorted spans parts
-  pub comes : IsNext parts (length parts) next
-
--- the next term was taken, with this list
-pub record Takes (spans : List Span) (next : Next) (old new : List (List TermList)) (list : TermList) : Type 0 where
-  pub taken : list ≡ next_list spans old next
-  pub left : new ≡ behind_next old next

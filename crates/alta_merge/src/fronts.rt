@@ -1,139 +1,54 @@
-// The lists that are left of each content, and the term that comes next.
-ghost use Rattle.std.specs.Prelude.{◌≡◌, ◌+◌, ◌<◌, ◌∷◌, ◌++◌, [], false, length, map, drop, slice_index_or, flat_map, MatchOption, IfOk, OnOk, OnErr};
-ghost use Rattle.std.specs.Cmp.Lexicographic.{slice_cmp};
-ghost use Rattle.std.specs.Ordering.{nat_cmp};
-ghost use Rattle.alta_content.specs.Spans.{SpansRise, outside_of};
-ghost use Rattle.alta_merge.specs.Fronts.{HasNext, IsNext, NoneLeft, Takes, begins, behind, behind_next, front_of, front_term, if_some, next_list, next_term};
+// The term that comes next of the lists that are left of each content, and what it takes of them.
+ghost use Rattle.std.specs.Prelude.{◌≡◌, ◌+◌, ◌<◌, ◌++◌, [], length, flat_map, slice_index_or, slice_set, MatchOption, OnOk, OnErr};
+ghost use Rattle.alta_content.specs.Fronts.{front_term};
+ghost use Rattle.alta_content.specs.Spans.{SpansRise};
+ghost use Rattle.alta_merge.specs.Fronts.{IsNext, NoneLeft, begins, behind, behind_next, front_of, if_some, next_list, next_term};
 
 use alta_codec::Loc;
-use alta_content::{Locations, Span, TermList, TermLists, keep_locations, put_locations};
-use std::alloc::{AllocError, Global};
+use alta_content::{Span, TermLists, keep_locations};
+use std::alloc::AllocError;
 use std::cmp::Ordering;
-use std::collections::VecDeque;
-use std::marker::Model;
 
-/// The lists of a content that are left, the next one first. Contracts see them as a list.
-#[derive(Drop)]
-pub struct Rest {
-    lists: VecDeque<TermList>,
-}
-
-impl Model for Rest {
-    ghost use Rattle.std.specs.Prelude.{List};
-    ghost use Rattle.alta_content.specs.declared.content.TermList.{TermList};
-
-    ghost Value = { List TermList };
-
-    ghost view = { λ r. r.lists.items };
-}
-
-impl Rest {
-    /// All of these lists, without a copy.
-    pub fn of(lists: TermLists) -> Rest
-        ensures { result ≡ lists }
-    {
-        Rest {
-            lists: VecDeque::from(lists.into_vec()),
-        }
-    }
-
-    // The next list, borrowed.
-    fn front(&self) -> Option<&TermList>
-        ensures { MatchOption result (self.now ≡ []) (λ l. self.now ≡ l.now ∷ drop 1 self.now) }
-    {
-        self.lists.front()
-    }
-
-    // The term of the next list, empty where there is none.
-    fn term(&self) -> &[u8]
-        ensures { result.now ≡ front_term self.now }
-    {
-        match self.front() {
-            Some(list) => list.term.as_slice(),
-            None => &[],
-        }
-    }
-
-    // Takes the next list.
-    fn take(&mut self) -> Option<TermList>
-        ensures { MatchOption result (self.old ≡ []) (λ l. self.old ≡ l ∷ self.new) }
-    {
-        self.lists.pop_front()
-    }
-
-    // Drops the next list if it is the term's.
-    fn skip(&mut self, term: &[u8])
-        ensures { self.new ≡ behind term.now self.old }
-    {
-        if self.begins(term) {
-            let _ = self.take();
-        }
-    }
-
-    // Whether the next list is the term's.
-    fn begins(&self, term: &[u8]) -> bool
-        ensures { result ≡ begins term.now self.now }
-    {
-        match self.front() {
-            Some(list) => term == list.term.as_slice(),
-            None => false,
-        }
-    }
-}
-
-/// The term that comes next.
-#[derive(Clone, Copy)]
-pub struct Next {
-    /// The first of those that begin with the term.
-    pub at: usize,
-    /// Whether another may begin with it too.
-    pub shared: bool,
-    /// How many locations the term has in all of them.
-    pub count: usize,
-}
-
-// How the term of the next list stands to another.
-fn order(rest: &Rest, term: &[u8]) -> Ordering
-    requires { 0 < length rest.now }
-    ensures { result ≡ slice_cmp nat_cmp (front_term rest.now) term.now }
+// The first term that is left, empty where there is none.
+fn term_of(rest: &TermLists) -> &[u8]
+    ensures { result.now ≡ front_term rest.now }
 {
-    match rest.front() {
-        Some(list) => list.term.as_slice().cmp(term),
-        None => unreachable!(),
+    match rest.first() {
+        Some(term) => term,
+        None => &[],
     }
 }
 
-// The next term of one rest more, from that of those before it.
-fn with_rest(rests: &[Rest], i: usize, before: Option<Next>) -> Option<Next>
+// Whether the first term that is left is this one.
+fn begins(rest: &TermLists, term: &[u8]) -> bool
+    ensures { result ≡ begins term.now rest.now }
+{
+    match rest.first() {
+        Some(own) => term == own,
+        None => false,
+    }
+}
+
+// The first that begins with the least term, of one rest more than those before it.
+fn with_rest(rests: &[TermLists], i: usize, before: Option<usize>) -> Option<usize>
     requires within { i < length rests.now }
     requires before { MatchOption before (NoneLeft rests.now i) (IsNext rests.now i) }
     ensures { MatchOption result (NoneLeft rests.now (i + 1)) (IsNext rests.now (i + 1)) }
 {
-    let Some(list) = rests[i].front() else {
+    let Some(term) = rests[i].first() else {
         return before;
     };
-    let count = list.locations.len();
-    let alone = Next {
-        at: i,
-        shared: false,
-        count,
-    };
     let Some(next) = before else {
-        return Some(alone);
+        return Some(i);
     };
-    match order(&rests[next.at], list.term.as_slice()) {
-        Ordering::Less => Some(next),
-        Ordering::Equal => Some(Next {
-            at: next.at,
-            shared: true,
-            count: next.count.saturating_add(count),
-        }),
-        Ordering::Greater => Some(alone),
+    match term_of(&rests[next]).cmp(term) {
+        Ordering::Greater => Some(i),
+        _ => Some(next),
     }
 }
 
-/// The term that comes next, None where no list is left.
-pub fn next_of(rests: &[Rest]) -> Option<Next>
+/// The first rest that begins with the least term, None where no list is left.
+pub fn next_of(rests: &[TermLists]) -> Option<usize>
     ensures { MatchOption result (NoneLeft rests.now (length rests.now)) (IsNext rests.now (length rests.now)) }
 {
     let mut next = None;
@@ -143,125 +58,82 @@ pub fn next_of(rests: &[Rest]) -> Option<Next>
     next
 }
 
-// Appends what the next list has outside of the spans, if it is the term's.
-fn put_front(all: &mut Vec<Loc>, rest: &Rest, term: &[u8], spans: &[Span]) -> Result<(), AllocError>
-    requires { SpansRise spans.now }
-    ensures { OnOk result (all.new.items ≡ all.old.items ++ outside_of spans.now (front_of term.now rest.now)) }
+// Appends the locations of the first term that is left, if it is this one.
+fn put_front(all: &mut Vec<Loc>, rest: &TermLists, term: &[u8]) -> Result<(), AllocError>
+    ensures { OnOk result (all.new.items ≡ all.old.items ++ front_of term.now rest.now) }
 {
-    let Some(list) = rest.front() else {
+    if begins(rest, term) {
+        rest.put_first(all)?;
+    }
+    Ok(())
+}
+
+// The locations of the next term in place of what was there, of all rests that begin with it, one behind the other.
+fn gather(all: &mut Vec<Loc>, rests: &[TermLists], next: usize) -> Result<(), AllocError>
+    requires { IsNext rests.now (length rests.now) next }
+    ensures { OnOk result (all.new.items ≡ flat_map (front_of (next_term rests.now next)) rests.now) }
+{
+    all.clear();
+    rests[next].put_first(all)?;
+    let term = term_of(&rests[next]);
+    for i in next + 1..rests.len() {
+        put_front(all, &rests[i], term)?;
+    }
+    Ok(())
+}
+
+// Adds a term with its locations at the end, unless it has none. Where memory is wanting the lists stay.
+fn put_some(made: &mut TermLists, term: &[u8], locations: &[Loc]) -> Result<(), AllocError>
+    ensures put { OnOk result (made.new ≡ made.old ++ if_some (record { term = term.now; locations = locations.now })) }
+    ensures kept { OnErr result (made.new ≡ made.old) }
+{
+    if locations.is_empty() {
         return Ok(());
-    };
-    if term != list.term.as_slice() {
-        return Ok(());
     }
-    put_locations(all, list.locations.as_slice(), spans)
+    made.put(term, locations)
 }
 
-// The locations of the next term outside of the spans, of all that begin with it, one behind the other.
-fn shared_locations(
-    alloc: Global,
-    rests: &[Rest],
-    next: Next,
-    spans: &[Span],
-) -> Result<Vec<Loc>, AllocError>
-    requires { HasNext spans.now rests.now next }
-    ensures { IfOk result (λ all. all.items ≡ outside_of spans.now (flat_map (front_of (next_term rests.now next)) rests.now)) }
+// Drops the first term of a rest if the one at `next` begins with it too.
+fn skip_same(rests: &mut [TermLists], i: usize, next: usize)
+    requires within { i < length rests.old }
+    requires next { next < length rests.old }
+    ensures { rests.new ≡ slice_set rests.old i (behind (next_term rests.old next) (slice_index_or rests.old i [])) }
 {
-    let mut all = Vec::with_capacity(alloc, next.count)?;
-    let term = rests[next.at].term();
-    for rest in rests {
-        put_front(&mut all, rest, term, spans)?;
-    }
-    Ok(all)
-}
-
-// Drops the next list of each that begins with the term.
-fn skip_all(rests: &mut [Rest], term: &[u8])
-    ensures { rests.new ≡ map (behind term.now) rests.old }
-{
-    for i in 0..rests.len() {
-        rests[i].skip(term);
+    if begins(&rests[i], term_of(&rests[next])) {
+        rests[i].skip();
     }
 }
 
-// Takes the list of the next term, which is in one rest alone, and leaves its locations outside of the spans, in place.
-fn take_alone(rests: &mut [Rest], next: Next, spans: &[Span]) -> TermList
-    requires next { HasNext spans.now rests.old next }
-    requires alone { next.shared ≡ false }
-    ensures { Takes spans.now next rests.old rests.new result }
+// Drops the next term of all that begin with it, the one at `next` last.
+fn skip_all(rests: &mut [TermLists], next: usize)
+    requires { IsNext rests.old (length rests.old) next }
+    ensures { rests.new ≡ behind_next rests.old next }
 {
-    let Some(list) = rests[next.at].take() else {
-        unreachable!()
-    };
-    let mut locations = list.locations.into_vec();
-    keep_locations(&mut locations, spans);
-    TermList {
-        term: list.term,
-        locations: Locations::from_vec(locations),
+    for i in (next + 1..rests.len()).rev() {
+        skip_same(rests, i, next);
     }
+    rests[next].skip();
 }
 
-// Takes the lists of the next term, and gives one with all their locations outside of the spans, in memory of its own. Where
-// memory is wanting, nothing is taken.
-fn take_shared(
-    alloc: Global,
-    rests: &mut [Rest],
-    next: Next,
-    spans: &[Span],
-) -> Result<TermList, AllocError>
-    requires { HasNext spans.now rests.old next }
-    ensures taken { IfOk result (Takes spans.now next rests.old rests.new) }
-    ensures kept { OnErr result (rests.new ≡ rests.old) }
-{
-    let locations = shared_locations(alloc, rests, next, spans)?;
-    let Some(list) = rests[next.at].take() else {
-        unreachable!()
-    };
-    skip_all(rests, list.term.as_slice());
-    Ok(TermList {
-        term: list.term,
-        locations: Locations::from_vec(locations),
-    })
-}
-
-// Takes the lists of the next term, and gives one with all their locations outside of the spans.
-fn take_next(
-    alloc: Global,
-    rests: &mut [Rest],
-    next: Next,
-    spans: &[Span],
-) -> Result<TermList, AllocError>
-    requires { HasNext spans.now rests.old next }
-    ensures taken { IfOk result (Takes spans.now next rests.old rests.new) }
-    ensures kept { OnErr result (rests.new ≡ rests.old) }
-{
-    if next.shared {
-        return take_shared(alloc, rests, next, spans);
-    }
-    Ok(take_alone(rests, next, spans))
-}
-
-/// Merges the next term: takes its lists, and appends one with all their locations outside of the spans, unless there are none.
-/// Where memory is wanting, nothing is taken.
+/// Merges the next term: appends it with all its locations outside of the spans, unless there are none, and drops it from the
+/// rests. Where memory is wanting, nothing is taken. The locations are gathered in `room`, in place of what was there.
 pub fn merge_next(
-    alloc: Global,
-    made: &mut Vec<TermList>,
-    rests: &mut [Rest],
-    next: Next,
+    made: &mut TermLists,
+    rests: &mut [TermLists],
+    room: &mut Vec<Loc>,
+    next: usize,
     spans: &[Span],
 ) -> Result<(), AllocError>
-    requires { HasNext spans.now rests.old next }
-    ensures made { OnOk result (made.new.items ≡ made.old.items ++ if_some (next_list spans.now rests.old next)) }
+    requires rising { SpansRise spans.now }
+    requires next { IsNext rests.old (length rests.old) next }
+    ensures made { OnOk result (made.new ≡ made.old ++ if_some (next_list spans.now rests.old next)) }
     ensures left { OnOk result (rests.new ≡ behind_next rests.old next) }
-    ensures kept { OnErr result (made.new.items ≡ made.old.items) }
+    ensures kept { OnErr result (made.new ≡ made.old) }
     ensures rests_kept { OnErr result (rests.new ≡ rests.old) }
 {
-    made.reserve(1)?;
-    let list = take_next(alloc, rests, next, spans)?;
-    if list.locations.len() > 0 {
-        let Ok(()) = made.push(list) else {
-            unreachable!()
-        };
-    }
+    gather(room, rests, next)?;
+    keep_locations(room, spans);
+    put_some(made, term_of(&rests[next]), room)?;
+    skip_all(rests, next);
     Ok(())
 }

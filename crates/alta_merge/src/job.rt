@@ -3,9 +3,9 @@ ghost use Rattle.std.specs.Prelude.{◌≡◌, ◌↔◌, ℕ, ◌<◌, ◌∷�
 ghost use Rattle.alta_content.specs.Joining.{joined, joined_in, parts_of, rows_in, terms_in};
 ghost use Rattle.alta_content.specs.Parts.{MayJoin};
 
-use crate::fronts::{Rest, merge_next, next_of};
+use crate::fronts::{merge_next, next_of};
 use alta_codec::Loc;
-use alta_content::{Content, DocRow, DocRows, Span, TermList, TermLists, keep_rows, spans_of};
+use alta_content::{Content, DocRow, DocRows, Span, TermLists, keep_rows, spans_of};
 use std::alloc::{AllocError, Global};
 use std::marker::Model;
 
@@ -14,10 +14,11 @@ use std::marker::Model;
 #[derive(Drop)]
 pub struct Job {
     rows: DocRows,
-    made: Vec<TermList>,
-    rests: Vec<Rest>,
+    made: TermLists,
+    rests: Vec<TermLists>,
     spans: Vec<Span>,
-    alloc: Global,
+    // Where the locations of the next term are gathered, the same room for each.
+    room: Vec<Loc>,
 }
 
 impl Model for Job {
@@ -30,7 +31,7 @@ impl Model for Job {
     ghost Value = { Merging };
 
     ghost view = { λ j. record {
-      whole = record { documents = j.rows; lists = j.made.items ++ lists_outside j.spans.items (gathered j.rests.items) };
+      whole = record { documents = j.rows; lists = j.made ++ lists_outside j.spans.items (gathered j.rests.items) };
       left = terms_among j.rests.items;
     } };
 
@@ -41,9 +42,7 @@ impl Model for Job {
 #[derive(Drop)]
 struct Parts {
     rows: Vec<DocRow>,
-    rests: Vec<Rest>,
-    // How many terms the content has that has the most.
-    terms: usize,
+    rests: Vec<TermLists>,
 }
 
 // Takes contents apart.
@@ -53,14 +52,12 @@ fn take_apart(alloc: Global, contents: Vec<Content>) -> Result<Parts, AllocError
 {
     let mut rows = Vec::new(alloc);
     let mut rests = Vec::with_capacity(alloc, contents.len())?;
-    let mut terms = 0;
     for content in contents {
         let mut more = content.documents.into_vec();
         rows.append(&mut more)?;
-        terms = content.lists.len().max(terms);
-        rests.push(Rest::of(content.lists))?;
+        rests.push(content.lists)?;
     }
-    Ok(Parts { rows, rests, terms })
+    Ok(Parts { rows, rests })
 }
 
 impl Job {
@@ -75,8 +72,9 @@ impl Job {
         Job::over(alloc, contents, deleted)
     }
 
-    /// Begins the join of contents, each before the next, as `new` does that of two. Each location is moved or copied once,
-    /// however many contents there are; each term costs a comparison for each of them.
+    /// Begins the join of contents, each before the next, as `new` does that of two. Each location is copied to those of its
+    /// term that are gathered, and from there to the list that is made, however many contents there are; each term costs a few
+    /// comparisons for each of them.
     pub fn over(alloc: Global, contents: Vec<Content>, deleted: &[Loc]) -> Result<Job, AllocError>
         requires { MayJoin contents.items }
         ensures whole { IfOk result (λ job. job.whole ≡ joined_in contents.items deleted.now) }
@@ -84,15 +82,14 @@ impl Job {
     {
         let parts = take_apart(alloc, contents)?;
         let spans = spans_of(alloc, &parts.rows, deleted)?;
-        let made = Vec::with_capacity(alloc, parts.terms)?;
         let mut rows = parts.rows;
         keep_rows(&mut rows, &spans);
         Ok(Job {
             rows: DocRows::from_vec(rows),
-            made,
+            made: TermLists::new(alloc),
             rests: parts.rests,
             spans,
-            alloc,
+            room: Vec::new(alloc),
         })
     }
 
@@ -108,9 +105,9 @@ impl Job {
             return Ok(false);
         };
         merge_next(
-            self.alloc,
             &mut self.made,
             &mut self.rests,
+            &mut self.room,
             next,
             &self.spans,
         )?;
@@ -147,7 +144,7 @@ impl Job {
     {
         Content {
             documents: self.rows,
-            lists: TermLists::from_vec(self.made),
+            lists: self.made,
         }
     }
 }

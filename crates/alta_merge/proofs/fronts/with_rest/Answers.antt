@@ -1,9 +1,10 @@
-use Rattle.std.proofs.Common.{◌≡◌, ◌<◌, ◌∷◌, [], length, drop, sym, ap, subst, ◌∙◌, arith}
+use Rattle.std.proofs.Common.{◌≡◌, ◌<◌, [], length, get_or, sym, ap, subst, ◌∙◌, arith}
 use Rattle.std.specs.Prelude.{MatchOption}
 use Rattle.std.specs.declared.cmp.Ordering.TheVariants.{Greater}
 use Rattle.std.proofs.lemmas.List.{get_or_default}
-use Rattle.alta_merge.specs.Fronts.{IsNext, NoneLeft, front_term, next_term}
+use Rattle.alta_content.specs.Fronts.{front_term}
 use Rattle.alta_content.proofs.Order.{cmp}
+use Rattle.alta_merge.specs.Fronts.{IsNext, NoneLeft, next_term}
 use Rattle.alta_merge.proofs.Nexts.{first_next, lower_next}
 use Rattle.alta_merge.proofs.fronts.with_rest.Goals as goal
 
@@ -13,8 +14,8 @@ returns-in_default-before c =
     let i = c.args.i in
     let x = c.index-rests-i.result in
     let none : NoneLeft parts i = subst (λ o. MatchOption o (NoneLeft parts i) (IsNext parts i)) c.in_default-before.is c.requires.before in
-    let e : x ≡ c.in-Some.list.now ∷ drop 1 x = c.in-Some.ensures in
-    first_next parts i c.len-count.result c.in-Some.list.now (drop 1 x) c.requires.within (get_or_default parts i [] x c.requires.within ∙ sym c.index-rests-i.is ∙ e) none
+    let e : get_or parts i [] ≡ x = get_or_default parts i [] x c.requires.within ∙ sym c.index-rests-i.is in
+    first_next parts i c.requires.within (subst (λ p. 0 < length p) (sym e) c.in-Some.ensures.0) none
 
 pub returns-in-Greater : goal.returns-in-Greater
 returns-in-Greater c =
@@ -23,11 +24,11 @@ returns-in-Greater c =
     let x = c.index-rests-i.result in
     let next = c.in-Some-before.next in
     let y = c.index-rests-next.result in
-    let term = c.in-Some.list.now.term in
     let is : IsNext parts i next = subst (λ o. MatchOption o (NoneLeft parts i) (IsNext parts i)) c.in-Some-before.is c.requires.before in
-    let e : x ≡ c.in-Some.list.now ∷ drop 1 x = c.in-Some.ensures in
-    let within : next.at < length parts = omega (arith, is.within, c.requires.within) in
-    let above : cmp (next_term parts next) term ≡ Greater =
-    ap (λ p. cmp (front_term p) term) (get_or_default parts next.at [] y within ∙ sym c.index-rests-next.is)
-    ∙ ap (cmp (front_term y)) (sym c.as_slice.ensures) ∙ sym c.order.ensures ∙ c.in-Greater.is in
-    lower_next parts i c.len-count.result next c.in-Some.list.now (drop 1 x) c.requires.within (get_or_default parts i [] x c.requires.within ∙ sym c.index-rests-i.is ∙ e) is above
+    let e : get_or parts i [] ≡ x = get_or_default parts i [] x c.requires.within ∙ sym c.index-rests-i.is in
+    let f : get_or parts next [] ≡ y = get_or_default parts next [] y (omega (arith, is.within, c.requires.within)) ∙ sym c.index-rests-next.is in
+    let above : cmp (next_term parts next) (next_term parts i) ≡ Greater =
+    ap (λ t. cmp t (next_term parts i)) (ap front_term f ∙ sym c.term_of.ensures)
+    ∙ ap (cmp c.term_of.result.now) (ap front_term e ∙ sym c.in-Some.ensures.1)
+    ∙ sym c.cmp.ensures ∙ c.in-Greater.is in
+    lower_next parts i next c.requires.within (subst (λ p. 0 < length p) (sym e) c.in-Some.ensures.0) is above

@@ -64,15 +64,15 @@ returns-clause-whole c =
     let parts = c.self.inside.rests.items in
     let next = c.in-Some.next in
     let spans = c.self.inside.spans.items in
-    let made = c.self.inside.made.items in
+    let made = c.self.inside.made in
     let list = if_some (next_list spans parts next) in
     let rest = lists_outside spans (gathered (behind_next parts next)) in
     let build : List TermList → Content = λ l. record { documents = c.self.inside.rows; lists = l } in
-    let pushed : c.merge_next.new.made.items ≡ made ++ list =
+    let pushed : c.merge_next.new.made ≡ made ++ list =
     c.in_ok-merge_next.ensures.made
     ∙ ap (λ s. made ++ if_some (next_list s c.deref_mut.result.now next)) c.deref-2.ensures.value
     ∙ ap (λ p. made ++ if_some (next_list spans p next)) c.deref_mut.ensures.value in
-    ap (λ p. build (c.merge_next.new.made.items ++ lists_outside spans (gathered p))) (now c)
+    ap (λ p. build (c.merge_next.new.made ++ lists_outside spans (gathered p))) (now c)
     ∙ ap (λ m. build (m ++ rest)) pushed
     ∙ ap build (append_assoc made list rest)
     ∙ ap (λ l. build (made ++ l)) (sym (outside_next spans (next_term parts next) parts (least c)))
