@@ -1,69 +1,17 @@
--- Entries of terms, and their data, one more at a time.
-use Rattle.std.proofs.Common.{◌≡◌, ℕ, zero, suc, ◌+◌, ◌<◌, List, [], ◌∷◌, ◌++◌, length, take, get_or, refl, sym, ap, ◌∙◌, arith, append_assoc, append-nil}
+-- Entries of terms, and their data, one list after the other.
+use Rattle.std.proofs.Common.{◌≡◌, ℕ, zero, suc, ◌<◌, List, [], ◌∷◌, ◌++◌, length, drop, get_or, refl, sym, ap, ◌∙◌, arith, append_assoc, append-nil}
 use Rattle.std.specs.Prelude.{flat_map}
 use Rattle.alta_codec.specs.Rising.{IsRising}
-use Rattle.alta_postings.specs.Deltas.{stream_bytes}
 use Rattle.alta_content.specs.declared.document.DocRow.{DocRow}
-use Rattle.alta_table.specs.declared.term.TermRow.{TermRow}
 use Rattle.alta_table.specs.declared.sizes.Head.{Head}
 use Rattle.alta_table.specs.Documents.{documents_bytes}
 use Rattle.alta_table.specs.Tables.{head_bytes, head_of}
 use Rattle.alta_table.specs.Terms.{entry_bytes, terms_bytes, terms_bytes_behind}
 use Rattle.alta_content.specs.declared.content.Content.{Content}
 use Rattle.alta_content.specs.declared.content.TermList.{TermList}
-use Rattle.alta_content.specs.Lists.{AreListsBehind, terms_of}
-use Rattle.alta_level.specs.Coded.{summary_bytes}
+use Rattle.alta_content.specs.Fronts.{front_locations, front_term}
+use Rattle.alta_content.specs.Lists.{AreListsBehind}
 use Rattle.alta_level.specs.Segments.{list_bytes, row_of, rows_of, segment_bytes}
-
-entries_suc : (before : List ℕ) (lists : List TermList) (i : ℕ) (d : TermList) → i < length lists
-    → terms_bytes_behind before (rows_of (take (suc i) lists)) ≡ terms_bytes_behind before (rows_of (take i lists)) ++ entry_bytes (get_or (before ∷ terms_of lists) i []) (row_of (get_or lists i d))
-unfolding terms_bytes_behind
-entries_suc before [] i d l = absurd (omega arith)
-entries_suc before (x ∷ xs) zero d l = append-nil (entry_bytes before (row_of x))
-entries_suc before (x ∷ xs) (suc i) d l =
-    let a = entry_bytes before (row_of x) in
-    ap (λ t. a ++ t) (entries_suc x.term xs i d (omega arith))
-    ∙ sym (append_assoc a (terms_bytes_behind x.term (rows_of (take i xs))) (entry_bytes (get_or (x.term ∷ terms_of xs) i []) (row_of (get_or xs i d))))
-
-row_same : (l : TermList) (count stream summary : ℕ) → count ≡ length l.locations → stream ≡ length (stream_bytes 0 l.locations) → summary ≡ length (summary_bytes l.locations)
-    → record { term = l.term; count = count; stream = stream; summary = summary } ≡ row_of l
-row_same l count stream summary a b c =
-    let f : ℕ → TermRow = λ x. record { term = l.term; count = x; stream = stream; summary = summary } in
-    let g : ℕ → TermRow = λ x. record { term = l.term; count = length l.locations; stream = x; summary = summary } in
-    let h : ℕ → TermRow = λ x. record { term = l.term; count = length l.locations; stream = length (stream_bytes 0 l.locations); summary = x } in
-    ap f a ∙ ap g b ∙ ap h c
-
-pub entry_more : (lists : List TermList) (i : ℕ) (l : TermList) (start old new before : List ℕ) (row : TermRow) → i < length lists → l ≡ get_or lists i l
-    → old ≡ start ++ terms_bytes (rows_of (take i lists)) → before ≡ get_or ([] ∷ terms_of lists) i [] → row.term ≡ l.term → row.count ≡ length l.locations
-    → row.stream ≡ length (stream_bytes 0 l.locations) → row.summary ≡ length (summary_bytes l.locations) → new ≡ old ++ entry_bytes before row → new ≡ start ++ terms_bytes (rows_of (take (i + 1) lists))
-entry_more lists i l start old new before row lt is o b t c s m n =
-    let e : suc i ≡ i + 1 = omega arith in
-    let here = terms_bytes (rows_of (take i lists)) in
-    let same : row ≡ row_of l = ap (λ (x : List ℕ). let r : TermRow = record { term = x; count = row.count; stream = row.stream; summary = row.summary } in r) t ∙ row_same l row.count row.stream row.summary c s m in
-    n ∙ ap (λ x. x ++ entry_bytes before row) o ∙ append_assoc start here (entry_bytes before row)
-    ∙ ap (λ x. start ++ (here ++ x)) (ap (λ x. entry_bytes x row) b ∙ ap (λ x. entry_bytes (get_or ([] ∷ terms_of lists) i []) x) (same ∙ ap row_of is))
-    ∙ ap (λ x. start ++ x) (sym (entries_suc [] lists i l lt) ∙ ap (λ k. terms_bytes (rows_of (take k lists))) e)
-
-data_suc : (lists : List TermList) (i : ℕ) (d : TermList) → i < length lists → flat_map list_bytes (take (suc i) lists) ≡ flat_map list_bytes (take i lists) ++ list_bytes (get_or lists i d)
-data_suc [] i d l = absurd (omega arith)
-data_suc (x ∷ xs) zero d l = append-nil (list_bytes x)
-data_suc (x ∷ xs) (suc i) d l =
-    ap (λ t. list_bytes x ++ t) (data_suc xs i d (omega arith)) ∙ sym (append_assoc (list_bytes x) (flat_map list_bytes (take i xs)) (list_bytes (get_or xs i d)))
-
-pub data_more : (lists : List TermList) (i : ℕ) (l : TermList) (start old new : List ℕ) → i < length lists → l ≡ get_or lists i l → old ≡ start ++ flat_map list_bytes (take i lists)
-    → new ≡ old ++ list_bytes l → new ≡ start ++ flat_map list_bytes (take (i + 1) lists)
-data_more lists i l start old new lt is o n =
-    let e : suc i ≡ i + 1 = omega arith in
-    let here = flat_map list_bytes (take i lists) in
-    n ∙ ap (λ x. x ++ list_bytes l) o ∙ append_assoc start here (list_bytes l) ∙ ap (λ x. start ++ (here ++ list_bytes x)) is
-    ∙ ap (λ x. start ++ x) (sym (data_suc lists i l lt) ∙ ap (λ k. flat_map list_bytes (take k lists)) e)
-
-pub nothing_spelled : (lists : List TermList) (start : List ℕ) → start ≡ start ++ terms_bytes (rows_of (take 0 lists))
-unfolding terms_bytes_behind
-nothing_spelled lists start = sym (append-nil start)
-
-pub term_first : (lists : List TermList) → get_or ([] ∷ terms_of lists) 0 [] ≡ []
-term_first lists = refl
 
 pub lists_rise : (documents : List DocRow) (before : List ℕ) (lists : List TermList) → AreListsBehind documents before lists
     → (k : ℕ) (d : TermList) → k < length lists → IsRising (get_or lists k d).locations
@@ -107,25 +55,30 @@ pub record Leaves (all : List TermList) (terms_before streams_before terms strea
   pub written : streams ++ flat_map list_bytes left ≡ streams_before ++ flat_map list_bytes all
   pub rise : (k : ℕ) → (d : TermList) → k < length left → IsRising (get_or left k d).locations
 
-pub leaves_all : (lists : List TermList) (terms streams : List ℕ) → ((k : ℕ) (d : TermList) → k < length lists → IsRising (get_or lists k d).locations)
-    → Leaves lists terms streams terms streams [] lists
-leaves_all lists terms streams rise = record { entries = refl; written = refl; rise = rise }
+-- the first of lists
+abbrev pub front_list : List TermList → TermList
+front_list lists = record { term = front_term lists; locations = front_locations lists }
 
-pub leaves_rest : (all : List TermList) (t s terms streams before : List ℕ) (l : TermList) (ls : List TermList) (more most : List ℕ) → Leaves all t s terms streams before (l ∷ ls)
-    → more ≡ terms ++ entry_bytes before (row_of l) → most ≡ streams ++ list_bytes l → Leaves all t s more most l.term ls
+pub front_same : (term locations : List ℕ) (lists : List TermList) → term ≡ front_term lists → locations ≡ front_locations lists
+    → record { term = term; locations = locations } ≡ front_list lists
+front_same term locations lists t l =
+    ap (λ (x : List ℕ). let y : TermList = record { term = x; locations = locations } in y) t
+    ∙ ap (λ (x : List ℕ). let y : TermList = record { term = front_term lists; locations = x } in y) l
+
+pub leaves_rest : (all : List TermList) (t s terms streams before : List ℕ) (left : List TermList) (more most : List ℕ) → Leaves all t s terms streams before left → 0 < length left
+    → more ≡ terms ++ entry_bytes before (row_of (front_list left)) → most ≡ streams ++ list_bytes (front_list left) → Leaves all t s more most (front_term left) (drop 1 left)
 unfolding terms_bytes_behind
-leaves_rest all t s terms streams before l ls more most leaves m w = record {
+leaves_rest all t s terms streams before [] more most leaves some m w = absurd (omega (arith, some))
+leaves_rest all t s terms streams before (l ∷ ls) more most leaves some m w = record {
   entries = ap (λ x. x ++ terms_bytes_behind l.term (rows_of ls)) m ∙ append_assoc terms (entry_bytes before (row_of l)) (terms_bytes_behind l.term (rows_of ls)) ∙ leaves.entries;
   written = ap (λ x. x ++ flat_map list_bytes ls) w ∙ append_assoc streams (list_bytes l) (flat_map list_bytes ls) ∙ leaves.written;
   rise = λ k d less. leaves.rise (suc k) d (omega (arith, less));
 }
 
+pub first_rises : (all : List TermList) (t s terms streams before : List ℕ) (left : List TermList) → Leaves all t s terms streams before left → 0 < length left → IsRising (front_locations left)
+first_rises all t s terms streams before [] leaves some = absurd (omega (arith, some))
+first_rises all t s terms streams before (l ∷ ls) leaves some = leaves.rise 0 l (omega arith)
+
 pub leaves_none : (all : List TermList) (t s terms streams before : List ℕ) → Leaves all t s terms streams before [] → (terms ≡ t ++ terms_bytes (rows_of all)) × (streams ≡ s ++ flat_map list_bytes all)
 unfolding terms_bytes_behind
 leaves_none all t s terms streams before leaves = (sym (append-nil terms) ∙ leaves.entries, sym (append-nil streams) ∙ leaves.written)
-
-pub one_entry : (l : TermList) (old new before : List ℕ) (row : TermRow) → row.term ≡ l.term → row.count ≡ length l.locations
-    → row.stream ≡ length (stream_bytes 0 l.locations) → row.summary ≡ length (summary_bytes l.locations) → new ≡ old ++ entry_bytes before row → new ≡ old ++ entry_bytes before (row_of l)
-one_entry l old new before row t c s m n =
-    let same : row ≡ row_of l = ap (λ (x : List ℕ). let r : TermRow = record { term = x; count = row.count; stream = row.stream; summary = row.summary } in r) t ∙ row_same l row.count row.stream row.summary c s m in
-    n ∙ ap (λ x. old ++ entry_bytes before x) same

@@ -9,64 +9,10 @@ ghost use Rattle.alta_content.specs.declared.content.Content.{Content};
 ghost use Rattle.alta_level.specs.Segments.{list_bytes, row_of, rows_of, segment_bytes};
 
 use crate::writing::put_list;
-use alta_codec::Bytes;
-use alta_content::{Content, TermList};
+use alta_codec::Loc;
+use alta_content::{Content, TermLists};
 use alta_table::{Head, put_documents, put_head, put_term};
 use std::alloc::{AllocError, Global};
-
-// The term before one, the empty one before the first.
-fn term_before(lists: &[TermList], i: usize) -> &[u8]
-    requires { i < length lists.now }
-    ensures { result.now ≡ slice_index_or ([] ∷ terms_of lists.now) i [] }
-{
-    if i == 0 {
-        return &[];
-    }
-    lists[i - 1].term.as_slice()
-}
-
-// Appends the entries of terms to one buffer, and their streams and summaries to another.
-fn put_lists(
-    alloc: Global,
-    terms: &mut Vec<u8>,
-    streams: &mut Vec<u8>,
-    lists: &[TermList],
-) -> Result<(), AllocError>
-    requires { All (λ l. IsRising l.locations) lists.now }
-    ensures terms { OnOk result (terms.new.items ≡ terms.old.items ++ terms_bytes (rows_of lists.now)) }
-    ensures streams { OnOk result (streams.new.items ≡ streams.old.items ++ flat_map list_bytes lists.now) }
-{
-    let mut places = Vec::new(alloc);
-    for i in 0..lists.len() {
-        let list = &lists[i];
-        let size = put_list(alloc, streams, &mut places, list.locations.as_slice())?;
-        let count = list.locations.len() as u64;
-        let before = term_before(lists, i);
-        let term = list.term.as_slice();
-        put_term(terms, before, term, count, size.stream, size.summary)?;
-    }
-    Ok(())
-}
-
-// The same of lists each of which is dropped as soon as it is spelled.
-fn put_away(
-    alloc: Global,
-    terms: &mut Vec<u8>,
-    streams: &mut Vec<u8>,
-    lists: Vec<TermList>,
-) -> Result<(), AllocError>
-    requires { All (λ l. IsRising l.locations) lists.items }
-    ensures terms { OnOk result (terms.new.items ≡ terms.old.items ++ terms_bytes (rows_of lists.items)) }
-    ensures streams { OnOk result (streams.new.items ≡ streams.old.items ++ flat_map list_bytes lists.items) }
-{
-    let mut places = Vec::new(alloc);
-    let mut before = Bytes::from_vec(Vec::new(alloc));
-    for list in lists {
-        put_one(alloc, terms, streams, &mut places, before.as_slice(), &list)?;
-        before = list.term;
-    }
-    Ok(())
-}
 
 // Appends the entry of a term behind the one before it, and its stream and summary. `places` is room to work in.
 fn put_one(
@@ -75,16 +21,51 @@ fn put_one(
     streams: &mut Vec<u8>,
     places: &mut Vec<u64>,
     before: &[u8],
-    list: &TermList,
+    term: &[u8],
+    locations: &[Loc],
 ) -> Result<(), AllocError>
-    requires { IsRising list.now.locations }
-    ensures terms { OnOk result (terms.new.items ≡ terms.old.items ++ entry_bytes before.now (row_of list.now)) }
-    ensures streams { OnOk result (streams.new.items ≡ streams.old.items ++ list_bytes list.now) }
+    requires { IsRising locations.now }
+    ensures terms { OnOk result (terms.new.items ≡ terms.old.items ++ entry_bytes before.now (row_of (record { term = term.now; locations = locations.now }))) }
+    ensures streams { OnOk result (streams.new.items ≡ streams.old.items ++ list_bytes (record { term = term.now; locations = locations.now })) }
 {
-    let size = put_list(alloc, streams, places, list.locations.as_slice())?;
-    let count = list.locations.len() as u64;
-    let term = list.term.as_slice();
+    let size = put_list(alloc, streams, places, locations)?;
+    let count = locations.len() as u64;
     put_term(terms, before, term, count, size.stream, size.summary)?;
+    Ok(())
+}
+
+// Appends the entries of terms to one buffer, and their streams and summaries to another. Each list is skipped once it is
+// spelled, and no list takes memory of its own.
+fn put_lists(
+    alloc: Global,
+    terms: &mut Vec<u8>,
+    streams: &mut Vec<u8>,
+    lists: TermLists,
+) -> Result<(), AllocError>
+    requires { All (λ l. IsRising l.locations) lists }
+    ensures terms { OnOk result (terms.new.items ≡ terms.old.items ++ terms_bytes (rows_of lists)) }
+    ensures streams { OnOk result (streams.new.items ≡ streams.old.items ++ flat_map list_bytes lists) }
+{
+    let mut left = lists;
+    let mut places = Vec::new(alloc);
+    let mut locations = Vec::new(alloc);
+    let mut before = Vec::new(alloc);
+    while let Some(term) = left.first() {
+        locations.clear();
+        left.put_first(&mut locations)?;
+        put_one(
+            alloc,
+            terms,
+            streams,
+            &mut places,
+            &before,
+            term,
+            &locations,
+        )?;
+        before.clear();
+        before.extend_from_slice(term)?;
+        left.skip();
+    }
     Ok(())
 }
 
@@ -118,35 +99,17 @@ fn assemble(
 }
 
 /// The segment of a content: its head, its documents, its terms, then the stream and the summary of each term. It makes
-/// one pass over the lists.
-pub fn build(alloc: Global, content: &Content) -> Result<Vec<u8>, AllocError>
-    requires { IsContent content.now }
-    ensures { IfOk result (λ bytes. bytes.items ≡ segment_bytes content.now) }
-{
-    let rows = content.documents.as_slice();
-    let lists = content.lists.as_slice();
-    let mut documents = Vec::new(alloc);
-    put_documents(&mut documents, rows)?;
-    let mut terms = Vec::new(alloc);
-    let mut streams = Vec::new(alloc);
-    put_lists(alloc, &mut terms, &mut streams, lists)?;
-    assemble(alloc, rows.len(), lists.len(), &documents, &terms, &streams)
-}
-
-/// The segment of a content, as [`build`] spells it. The content is used up: each list is dropped as soon as it is
-/// spelled, so that content and segment never stand in memory both whole.
-pub fn build_from(alloc: Global, content: Content) -> Result<Vec<u8>, AllocError>
+/// one pass over the lists. The content is used up: its lists are gone before the parts are put together.
+pub fn build(alloc: Global, content: Content) -> Result<Vec<u8>, AllocError>
     requires { IsContent content }
     ensures { IfOk result (λ bytes. bytes.items ≡ segment_bytes content) }
 {
-    let rows = content.documents.as_slice();
+    let rows = content.documents.len();
+    let lists = content.lists.len();
     let mut documents = Vec::new(alloc);
-    put_documents(&mut documents, rows)?;
-    let rows = rows.len();
-    let lists = content.lists.into_vec();
-    let count = lists.len();
+    put_documents(&mut documents, content.documents.as_slice())?;
     let mut terms = Vec::new(alloc);
     let mut streams = Vec::new(alloc);
-    put_away(alloc, &mut terms, &mut streams, lists)?;
-    assemble(alloc, rows, count, &documents, &terms, &streams)
+    put_lists(alloc, &mut terms, &mut streams, content.lists)?;
+    assemble(alloc, rows, lists, &documents, &terms, &streams)
 }

@@ -34,22 +34,23 @@ fn place_of(list: &StoredList<'_>, fault: PostingFault) -> u64
     }
 }
 
-// The locations of a list on the disk that is coded as it should be, or the place of the first fault.
+// Leaves in `locations` those of a list on the disk that is coded as it should be, or answers the place of the first
+// fault.
 fn read_coded(
-    alloc: Global,
+    locations: &mut Vec<Loc>,
     places: &mut Vec<u64>,
     list: &StoredList<'_>,
-) -> Result<Vec<Loc>, LevelFault>
+) -> Result<(), LevelFault>
     requires stream { list.now.stream_place + length list.now.stream.now < 2 ^ 64 }
     requires summary { list.now.summary_place + length list.now.summary.now < 2 ^ 64 }
-    ensures coded { IfOk result (λ locations. IsCoded list.now.stream.now list.now.summary.now (locations_of list.now.stream.now)) }
-    ensures posting { IfOk result (λ locations. (b : ℕ) × IsPosting list.now.stream.now list.now.summary.now b) }
-    ensures read { IfOk result (λ locations. locations.items ≡ locations_of list.now.stream.now) }
+    ensures coded { IfOk result (λ x. IsCoded list.now.stream.now list.now.summary.now (locations_of list.now.stream.now)) }
+    ensures posting { IfOk result (λ x. (b : ℕ) × IsPosting list.now.stream.now list.now.summary.now b) }
+    ensures read { IfOk result (λ x. locations.new.items ≡ locations_of list.now.stream.now) }
     ensures fault { IfDamaged result (λ p. (documents : List DocRow) → IsListFault documents (stored_of list.now) p) }
 {
-    match decode(alloc, places, list.count, list.stream) {
-        Ok(locations) => match compare(list.summary, &locations, places.as_slice()) {
-            Ok(()) => Ok(locations),
+    match decode(locations, places, list.stream) {
+        Ok(()) => match compare(list.summary, locations, places.as_slice()) {
+            Ok(()) => Ok(()),
             Err(fault) => Err(LevelFault::Damaged(place_of(list, fault))),
         },
         Err(DecodeFault::Memory) => Err(LevelFault::Memory),
@@ -60,23 +61,22 @@ fn read_coded(
     }
 }
 
-/// The locations of a list, or the first fault, as [`read_list`] reads it. `places` is room to work in, which lists may
-/// share.
-pub fn locations_at(
-    alloc: Global,
+// Leaves in `locations` those of a list, or answers the first fault, as [`read_list`] does.
+fn read_whole(
+    locations: &mut Vec<Loc>,
     places: &mut Vec<u64>,
     list: &StoredList<'_>,
     documents: &[DocRow],
-) -> Result<Vec<Loc>, LevelFault>
+) -> Result<(), LevelFault>
     requires stream { list.now.stream_place + length list.now.stream.now < 2 ^ 64 }
     requires summary { list.now.summary_place + length list.now.summary.now < 2 ^ 64 }
     requires documents { AreDocuments documents.now }
-    ensures found { IfOk result (λ locations. IsListOf documents.now (stored_of list.now) locations.items) }
+    ensures found { IfOk result (λ x. IsListOf documents.now (stored_of list.now) locations.new.items) }
     ensures first { IfDamaged result (IsListFault documents.now (stored_of list.now)) }
 {
-    let locations = read_coded(alloc, places, list)?;
-    if fits(documents, list.term, list.count, &locations) {
-        Ok(locations)
+    read_coded(locations, places, list)?;
+    if fits(documents, list.term, list.count, locations) {
+        Ok(())
     } else {
         Err(misfit(list))
     }
@@ -152,6 +152,32 @@ pub fn read_list(
     ensures first { IfDamaged result (IsListFault documents.now (stored_of list.now)) }
     ensures broken { (p : ℕ) → IsListFault documents.now (stored_of list.now) p → IsDamaged result p }
 {
+    let most = (list.stream.len() as u64).min(list.count) as usize;
+    let Ok(mut locations) = Vec::with_capacity(alloc, most) else {
+        return Err(LevelFault::Memory);
+    };
     let mut places = Vec::new(alloc);
-    locations_at(alloc, &mut places, list, documents)
+    match read_list_into(&mut locations, &mut places, list, documents) {
+        Ok(()) => Ok(locations),
+        Err(fault) => Err(fault),
+    }
+}
+
+/// Reads a list as [`read_list`] does, with the same faults, into a vector that lists may share: on Ok `locations` has those
+/// of the list alone, whatever it held. `places` is room to work in, which lists may share too.
+pub fn read_list_into(
+    locations: &mut Vec<Loc>,
+    places: &mut Vec<u64>,
+    list: &StoredList<'_>,
+    documents: &[DocRow],
+) -> Result<(), LevelFault>
+    requires stream { list.now.stream_place + length list.now.stream.now < 2 ^ 64 }
+    requires summary { list.now.summary_place + length list.now.summary.now < 2 ^ 64 }
+    requires documents { AreDocuments documents.now }
+    ensures found { IfOk result (λ x. IsListOf documents.now (stored_of list.now) locations.new.items) }
+    ensures only { (whole : List ℕ) → IsListOf documents.now (stored_of list.now) whole → IsFound (λ x. locations.new.items) result whole }
+    ensures first { IfDamaged result (IsListFault documents.now (stored_of list.now)) }
+    ensures broken { (p : ℕ) → IsListFault documents.now (stored_of list.now) p → IsDamaged result p }
+{
+    read_whole(locations, places, list, documents)
 }

@@ -5,7 +5,7 @@ ghost use Rattle.alta_level.specs.Decoded.{IsDecodeFault};
 
 use alta_codec::Loc;
 use alta_postings::{mark, read_location};
-use std::alloc::{AllocError, Global};
+use std::alloc::AllocError;
 
 /// Why a stream was not decoded.
 #[derive(Drop)]
@@ -33,31 +33,26 @@ fn keep(
     Ok(())
 }
 
-/// The locations of a stream, of which `count` are stated; `places` is left with where each block of 64 of them begins
-/// in the stream, the last of which may be shorter. Each number is read once. A fault of the stream is the first number
-/// that shows that it spells no list. A location takes one byte at least, so no false count takes more memory than the
-/// stream.
+/// Leaves the locations of a stream in `locations`, and in `places` where each block of 64 of them begins in the stream,
+/// the last of which may be shorter; what the two held goes. Each number is read once. A fault of the stream is the first
+/// number that shows that it spells no list.
 pub fn decode(
-    alloc: Global,
+    locations: &mut Vec<Loc>,
     places: &mut Vec<u64>,
-    count: u64,
     stream: &[u8],
-) -> Result<Vec<Loc>, DecodeFault>
-    ensures spelled { IfOk result (λ locations. Spells stream.now locations.items) }
-    ensures places { IfOk result (λ locations. HasPlaces locations.items (length locations.items) places.new.items) }
+) -> Result<(), DecodeFault>
+    ensures spelled { IfOk result (λ x. Spells stream.now locations.new.items) }
+    ensures places { IfOk result (λ x. HasPlaces locations.new.items (length locations.new.items) places.new.items) }
     ensures fault { IfErr result (IsDecodeFault stream.now) }
 {
-    let most = (stream.len() as u64).min(count) as usize;
-    let Ok(mut locations) = Vec::with_capacity(alloc, most) else {
-        return Err(DecodeFault::Memory);
-    };
+    locations.clear();
     places.clear();
     let mut at = 0;
     let mut last: Loc = 0;
     'numbers: while at < stream.len() {
         match read_location(stream, at, last) {
             Ok((location, next)) => {
-                let Ok(()) = keep(&mut locations, places, location, at) else {
+                let Ok(()) = keep(locations, places, location, at) else {
                     return Err(DecodeFault::Memory);
                 };
                 last = location;
@@ -66,5 +61,5 @@ pub fn decode(
             Err(fault) => return Err(DecodeFault::Stream(fault.place)),
         }
     }
-    Ok(locations)
+    Ok(())
 }

@@ -18,10 +18,10 @@ mod stored;
 mod walking;
 mod writing;
 
-pub use alta_content::{Content, DocRow, DocRows, Locations, TermList, TermLists};
+pub use alta_content::{Content, DocRow, DocRows, TermLists};
 pub use alta_table::{Head, LevelFault, Table, head};
-pub use building::{build, build_from};
-pub use checking::{check_list, read_list};
+pub use building::build;
+pub use checking::{check_list, read_list, read_list_into};
 pub use laws::segments_read_back;
 pub use reading::read_content;
 pub use stored::StoredList;

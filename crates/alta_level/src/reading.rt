@@ -1,5 +1,5 @@
 // A content, read from its segment.
-ghost use Rattle.std.specs.Prelude.{◌≡◌, ◌+◌, ◌<◌, ◌≤◌, ◌^◌, length, IfOk, ℕ};
+ghost use Rattle.std.specs.Prelude.{◌≡◌, ◌+◌, ◌++◌, ◌∷◌, [], ◌<◌, ◌≤◌, ◌^◌, length, IfOk, ℕ};
 ghost use Rattle.alta_table.specs.Answers.{IfDamaged, IsDamaged, IsFound};
 ghost use Rattle.alta_content.specs.Rows.{AreDocuments};
 ghost use Rattle.alta_table.specs.Tables.{AreTables, IsDamage, tables_bytes};
@@ -9,10 +9,11 @@ ghost use Rattle.alta_level.specs.Segments.{IsSegment};
 ghost use Rattle.alta_level.specs.Stored.{IsListFault, IsListOf};
 ghost use Rattle.alta_content.specs.declared.content.Content.{Content};
 
-use crate::checking::locations_at;
+use crate::checking::read_list_into;
 use crate::laws::segments_read_back;
 use crate::stored::StoredList;
-use alta_content::{Content, DocRow, DocRows, Locations, TermList, TermLists};
+use alta_codec::Loc;
+use alta_content::{Content, DocRow, DocRows, TermLists};
 use alta_table::{LevelFault, Table, TermRow, head, tables_in_front, tables_read_back};
 use std::alloc::Global;
 
@@ -39,21 +40,22 @@ fn tables_at(alloc: Global, bytes: &[u8], place: u64) -> Result<(Table, usize), 
     }
 }
 
-// The list of a row, whose stream begins the bytes, which begin at a place.
-fn list_at(
-    alloc: Global,
+// Puts the list of a row, whose stream begins the bytes, which begin at a place. Its locations are left in `locations`.
+fn put_row(
+    lists: &mut TermLists,
+    locations: &mut Vec<Loc>,
     places: &mut Vec<u64>,
-    row: TermRow,
+    row: &TermRow,
     bytes: &[u8],
     place: u64,
     documents: &[DocRow],
-) -> Result<TermList, LevelFault>
-    requires whole { row.stream + row.summary ≤ length bytes.now }
+) -> Result<(), LevelFault>
+    requires whole { row.now.stream + row.now.summary ≤ length bytes.now }
     requires below { place + length bytes.now < 2 ^ 64 }
     requires documents { AreDocuments documents.now }
-    ensures term { IfOk result (λ l. l.term ≡ row.term) }
-    ensures found { IfOk result (λ l. IsListOf documents.now (stored_at row bytes.now place) l.locations) }
-    ensures first { IfDamaged result (IsListFault documents.now (stored_at row bytes.now place)) }
+    ensures put { IfOk result (λ x. lists.new ≡ lists.old ++ (record { term = row.now.term; locations = locations.new.items }) ∷ []) }
+    ensures found { IfOk result (λ x. IsListOf documents.now (stored_at row.now bytes.now place) locations.new.items) }
+    ensures first { IfDamaged result (IsListFault documents.now (stored_at row.now bytes.now place)) }
 {
     let (stream, behind) = bytes.split_at(row.stream as usize);
     let (summary, _rest) = behind.split_at(row.summary as usize);
@@ -65,42 +67,47 @@ fn list_at(
         term: row.term.as_slice(),
         count: row.count,
     };
-    match locations_at(alloc, places, &stored, documents) {
-        Ok(locations) => Ok(TermList {
-            term: row.term,
-            locations: Locations::from_vec(locations),
-        }),
+    match read_list_into(locations, places, &stored, documents) {
+        Ok(()) => match lists.put(row.term.as_slice(), locations) {
+            Ok(()) => Ok(()),
+            Err(_none) => Err(LevelFault::Memory),
+        },
         Err(fault) => Err(fault),
     }
 }
 
-// The lists of all rows, whose streams and summaries stand one behind the other.
+// The lists of all rows, whose streams and summaries stand one behind the other. No list takes memory of its own.
 fn lists_at(
     alloc: Global,
     rows: Vec<TermRow>,
     streams: &[u8],
     place: u64,
     documents: &[DocRow],
-) -> Result<Vec<TermList>, LevelFault>
+) -> Result<TermLists, LevelFault>
     requires whole { data_bytes rows.items ≤ length streams.now }
     requires below { place + length streams.now < 2 ^ 64 }
     requires documents { AreDocuments documents.now }
-    ensures found { IfOk result (λ lists. AreListsOf documents.now rows.items streams.now place lists.items) }
+    ensures found { IfOk result (AreListsOf documents.now rows.items streams.now place) }
     ensures first { IfDamaged result (IsFaultInLists documents.now rows.items streams.now place) }
 {
-    let mut lists = Vec::new(alloc);
+    let mut lists = TermLists::new(alloc);
+    let mut locations = Vec::new(alloc);
     let mut places = Vec::new(alloc);
     let mut rest = streams;
     let mut at = place;
     for row in rows {
         let len = row.stream + row.summary;
-        match list_at(alloc, &mut places, row, rest, at, documents) {
+        match put_row(
+            &mut lists,
+            &mut locations,
+            &mut places,
+            &row,
+            rest,
+            at,
+            documents,
+        ) {
+            Ok(()) => {}
             Err(fault) => return Err(fault),
-            Ok(list) => {
-                let Ok(()) = lists.push(list) else {
-                    return Err(LevelFault::Memory);
-                };
-            }
         }
         let (_list, behind) = rest.split_at(len as usize);
         rest = behind;
@@ -130,7 +137,7 @@ fn content_of(
     match lists_at(alloc, rows, streams, place + len as u64, &documents) {
         Ok(lists) => Ok(Content {
             documents: DocRows::from_vec(documents),
-            lists: TermLists::from_vec(lists),
+            lists,
         }),
         Err(fault) => Err(fault),
     }
@@ -152,7 +159,8 @@ fn content_at(alloc: Global, bytes: &[u8], place: u64) -> Result<Content, LevelF
 /// rule: of the head, then of the documents, then of the terms, then the first byte behind the last stream and summary,
 /// then the head's number of terms where the term `D` is missing. Then come the lists in the order of the terms, each as
 /// [`read_list`] tests it. `Memory` comes only where memory is wanting. Each field of the tables is read once, but for
-/// the head, which is read twice; each number of a stream is read once, each term is copied once, and no name or list is.
+/// the head, which is read twice; each number of a stream is read once, no name is copied, and no list takes memory of its
+/// own.
 pub fn read_content(alloc: Global, bytes: &[u8], place: u64) -> Result<Content, LevelFault>
     requires { place + length bytes.now < 2 ^ 64 }
     // What is read is spelled so.

@@ -57,18 +57,34 @@ fn a_document_is_read_and_built_again(rt: HostRuntime) -> Result<(), Fail> {
                 Some((1, 1, 9))
             );
             assert_eq!(rt; content.lists.len(), 10);
-            for (i, (term, first)) in TERMS.iter().enumerate() {
-                let list = content.lists.get(i);
-                assert_eq!(rt;
-                    list.map(|list| list.term.as_slice()),
-                    Some(term.as_bytes())
-                );
-                assert_eq!(rt;
-                    list.and_then(|list| list.locations.get(0).copied()),
-                    Some(*first)
-                );
+            assert_eq!(rt; build(alloc, content)?.as_slice(), SEGMENT);
+        }
+        Err(fault) => assert!(rt; false, "{fault:?}"),
+    }
+    Ok(())
+}
+
+// The first location of the first list, if it is the list of this term.
+fn first_of(alloc: Global, lists: &TermLists, term: &str) -> Result<Option<u64>, AllocError> {
+    let mut locations = Vec::new(alloc);
+    lists.put_first(&mut locations)?;
+    match lists.first() {
+        Some(first) if first == term.as_bytes() => Ok(locations.first().copied()),
+        _ => Ok(None),
+    }
+}
+
+#[test]
+fn the_lists_are_read_in_the_order_of_their_terms(rt: HostRuntime) -> Result<(), Fail> {
+    let alloc = rt.alloc();
+    match read_content(alloc, SEGMENT, PLACE) {
+        Ok(content) => {
+            let mut lists = content.lists;
+            for (term, first) in TERMS {
+                assert_eq!(rt; first_of(alloc, &lists, term)?, Some(first));
+                lists.skip();
             }
-            assert_eq!(rt; build(alloc, &content)?.as_slice(), SEGMENT);
+            assert_eq!(rt; lists.len(), 0);
         }
         Err(fault) => assert!(rt; false, "{fault:?}"),
     }
@@ -76,15 +92,27 @@ fn a_document_is_read_and_built_again(rt: HostRuntime) -> Result<(), Fail> {
 }
 
 #[test]
-fn a_list_of_two_blocks_is_read_and_built_again(rt: HostRuntime) -> Result<(), Fail> {
+fn a_list_of_two_blocks_is_read(rt: HostRuntime) -> Result<(), Fail> {
     let alloc = rt.alloc();
     match read_content(alloc, LONG, PLACE) {
         Ok(content) => {
-            assert_eq!(rt;
-                content.lists.get(1).map(|list| list.locations.len()),
-                Some(65)
-            );
-            assert_eq!(rt; build(alloc, &content)?.as_slice(), LONG);
+            let mut lists = content.lists;
+            lists.skip();
+            let mut locations = Vec::new(alloc);
+            lists.put_first(&mut locations)?;
+            assert_eq!(rt; locations.len(), 65);
+        }
+        Err(fault) => assert!(rt; false, "{fault:?}"),
+    }
+    Ok(())
+}
+
+#[test]
+fn a_list_of_two_blocks_is_built_again(rt: HostRuntime) -> Result<(), Fail> {
+    let alloc = rt.alloc();
+    match read_content(alloc, LONG, PLACE) {
+        Ok(content) => {
+            assert_eq!(rt; build(alloc, content)?.as_slice(), LONG);
         }
         Err(fault) => assert!(rt; false, "{fault:?}"),
     }

@@ -1,10 +1,6 @@
-use Rattle.std.proofs.Common.{ℕ, List, ◌<◌, [], length, get_or, sym, subst}
-use Rattle.alta_codec.specs.Rising.{IsRising}
-use Rattle.alta_content.specs.declared.content.TermList.{TermList}
+use Rattle.std.proofs.Common.{[]}
 use Rattle.alta_level.proofs.Entries.{lists_rise}
 use Rattle.alta_level.proofs.building.build.Goals as goal
 
 pub put_lists-requires : goal.put_lists-requires
-put_lists-requires c =
-    subst (λ (ls : List TermList). (k : ℕ) → (d : TermList) → k < length ls → IsRising (get_or ls k d).locations) (sym c.as_slice-lists.ensures)
-    (lists_rise c.args.content.now.documents [] c.args.content.now.lists c.requires.lists_stand)
+put_lists-requires c = lists_rise c.args.content.documents [] c.args.content.lists c.requires.lists_stand

@@ -1,25 +1,42 @@
-use Rattle.std.proofs.Common.{ℕ, List, ◌≡◌, ◌++◌, length, sym, ap, ◌∙◌, append-nil, append_assoc}
-use Rattle.alta_postings.specs.Deltas.{stream_bytes}
-use Rattle.alta_level.specs.Coded.{summary_bytes}
-use Rattle.alta_level.proofs.Entries.{entry_more, data_more, nothing_spelled}
+use Rattle.std.proofs.Common.{◌≡◌, ℕ, List, ◌++◌, drop, sym, subst, ap, ◌∙◌}
+use Rattle.alta_codec.specs.Rising.{IsRising}
+use Rattle.alta_content.specs.Fronts.{front_locations, front_term}
+use Rattle.alta_content.specs.declared.content.TermList.{TermList}
+use Rattle.alta_level.specs.Segments.{list_bytes, row_of}
+use Rattle.alta_table.specs.Terms.{entry_bytes}
+use Rattle.alta_level.proofs.Entries.{Leaves, first_rises, front_same, leaves_none, leaves_rest}
 use Rattle.alta_level.proofs.building.put_lists.Goals as goal
 
-pub loop-i-init : goal.loop-i-init
-loop-i-init c = record {
-  spelled = nothing_spelled c.args.lists.now c.args.terms.now.items;
-  written = sym (append-nil c.args.streams.now.items);
-}
+pub put_one-requires : goal.put_one-requires
+put_one-requires c =
+    let left = c.loop-term.left in
+    let locations = c.deref-in-Some.ensures.value ∙ c.in_ok-put_first.ensures ∙ ap (λ (x : List ℕ). x ++ front_locations left) c.clear.ensures.items in
+    subst IsRising (sym locations)
+    (first_rises c.args.lists c.args.terms.now.items c.args.streams.now.items c.loop-term.terms.items c.loop-term.streams.items c.loop-term.before.items left c.loop-term.invariant c.in-Some.ensures.0)
 
-pub loop-i-preserved : goal.loop-i-preserved
-loop-i-preserved c =
-    let list = c.index-lists-i.result in
-    let locations : c.as_slice.result.now ≡ list.locations = c.as_slice.ensures in
-    record {
-      spelled = entry_more c.args.lists.now c.loop-i.i list c.args.terms.now.items c.loop-i.terms.items c.put_term.new.out.items c.term_before-before.result.now _ c.loop-i-test.true c.index-lists-i.is c.loop-i.invariant.spelled
-          c.term_before-before.ensures c.as_slice-term.ensures c.len-count.ensures
-          (c.in_ok-size.ensures.stream ∙ ap (λ (x : List ℕ). length (stream_bytes 0 x)) locations)
-          (c.in_ok-size.ensures.summary ∙ ap (λ (x : List ℕ). length (summary_bytes x)) locations)
-          c.in_ok-put_term.ensures.ok;
-      written = data_more c.args.lists.now c.loop-i.i list c.args.streams.now.items c.loop-i.streams.items c.put_list.new.out.items c.loop-i-test.true c.index-lists-i.is c.loop-i.invariant.written
-          (c.in_ok-size.ensures.bytes ∙ append_assoc c.loop-i.streams.items (stream_bytes 0 c.as_slice.result.now) (summary_bytes c.as_slice.result.now) ∙ ap (λ (x : List ℕ). c.loop-i.streams.items ++ (stream_bytes 0 x ++ summary_bytes x)) locations);
-    }
+pub loop-term-preserved : goal.loop-term-preserved
+loop-term-preserved c =
+    let left = c.loop-term.left in
+    let terms = c.loop-term.terms.items in
+    let streams = c.loop-term.streams.items in
+    let before = c.loop-term.before.items in
+    let locations = c.deref-in-Some.ensures.value ∙ c.in_ok-put_first.ensures ∙ ap (λ (x : List ℕ). x ++ front_locations left) c.clear.ensures.items in
+    let list : TermList = record { term = c.in-Some.term.now; locations = c.deref-in-Some.result.now } in
+    let same = front_same c.in-Some.term.now c.deref-in-Some.result.now left c.in-Some.ensures.1 locations in
+    let next : c.extend_from_slice.new.self.items ≡ front_term left =
+    c.in_ok-extend_from_slice.ensures.items ∙ ap (λ (x : List ℕ). x ++ c.in-Some.term.now) c.clear-in-Some.ensures.items ∙ c.in-Some.ensures.1 in
+    let spelled = leaves_rest c.args.lists c.args.terms.now.items c.args.streams.now.items terms streams before left c.put_one.new.terms.items c.put_one.new.streams.items c.loop-term.invariant c.in-Some.ensures.0
+    (c.in_ok-put_one.ensures.terms ∙ ap (λ (x : List ℕ). terms ++ entry_bytes x (row_of list)) c.deref.ensures.value ∙ ap (λ (l : TermList). terms ++ entry_bytes before (row_of l)) same)
+    (c.in_ok-put_one.ensures.streams ∙ ap (λ (l : TermList). streams ++ list_bytes l) same) in
+    subst (λ (x : List TermList). Leaves c.args.lists c.args.terms.now.items c.args.streams.now.items c.put_one.new.terms.items c.put_one.new.streams.items c.extend_from_slice.new.self.items x) (sym c.skip.ensures)
+    (subst (λ (x : List ℕ). Leaves c.args.lists c.args.terms.now.items c.args.streams.now.items c.put_one.new.terms.items c.put_one.new.streams.items x (drop 1 left)) (sym next) spelled)
+
+pub returns-clause-terms : goal.returns-clause-terms
+returns-clause-terms c =
+    (leaves_none c.args.lists c.args.terms.now.items c.args.streams.now.items c.loop-term.terms.items c.loop-term.streams.items c.loop-term.before.items
+    (subst (λ (x : List TermList). Leaves c.args.lists c.args.terms.now.items c.args.streams.now.items c.loop-term.terms.items c.loop-term.streams.items c.loop-term.before.items x) c.in_default.ensures c.loop-term.invariant)).0
+
+pub returns-clause-streams : goal.returns-clause-streams
+returns-clause-streams c =
+    (leaves_none c.args.lists c.args.terms.now.items c.args.streams.now.items c.loop-term.terms.items c.loop-term.streams.items c.loop-term.before.items
+    (subst (λ (x : List TermList). Leaves c.args.lists c.args.terms.now.items c.args.streams.now.items c.loop-term.terms.items c.loop-term.streams.items c.loop-term.before.items x) c.in_default.ensures c.loop-term.invariant)).1

@@ -1,12 +1,9 @@
-use Rattle.std.proofs.Common.{◌≡◌, ◌++◌, take}
-use Rattle.std.specs.Prelude.{flat_map}
-use Rattle.alta_table.specs.Terms.{terms_bytes}
-use Rattle.alta_level.specs.Segments.{list_bytes, rows_of}
+use Rattle.std.proofs.Common.{length}
+use Rattle.alta_level.proofs.Entries.{Leaves}
 use Rattle.alta_level.proofs.building.put_lists.Given as goal
 
-abbrev pub invariant-loop-i : goal.invariant-loop-i
-invariant-loop-i l =
-    record {
-      spelled : l.terms.items ≡ l.initial.terms.items ++ terms_bytes (rows_of (take l.i l.lists));
-      written : l.streams.items ≡ l.initial.streams.items ++ flat_map list_bytes (take l.i l.lists);
-    }
+abbrev pub invariant-loop-term : goal.invariant-loop-term
+invariant-loop-term l = Leaves l.fn.lists l.initial.terms.items l.initial.streams.items l.terms.items l.streams.items l.before.items l.left
+
+abbrev pub decreases-loop-term : goal.decreases-loop-term
+decreases-loop-term l = length l.left

@@ -8,4 +8,4 @@ returns-in-Ok-compare-clause-coded c =
     c.in-Ok-compare.ensures.coded c.args.list.now.stream.now (subst (λ (l : List ℕ). Spells c.args.list.now.stream.now l) (sym c.deref.ensures.value) c.in-Ok.ensures.spelled)
 
 pub returns-in-Ok-compare-clause-read : goal.returns-in-Ok-compare-clause-read
-returns-in-Ok-compare-clause-read c = sym (spelling_reads c.args.list.now.stream.now c.in-Ok.locations.items c.in-Ok.ensures.spelled).1
+returns-in-Ok-compare-clause-read c = sym (spelling_reads c.args.list.now.stream.now c.decode.new.locations.items c.in-Ok.ensures.spelled).1

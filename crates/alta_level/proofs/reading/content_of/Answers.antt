@@ -1,4 +1,4 @@
-use Rattle.std.proofs.Common.{ℕ, List, Vec, Global, drop, sym, subst, ap, ◌∙◌, arith}
+use Rattle.std.proofs.Common.{ℕ, List, drop, ap, ◌∙◌, arith}
 use Rattle.alta_table.specs.Tables.{Tables}
 use Rattle.alta_content.specs.declared.content.Content.{Content}
 use Rattle.alta_content.specs.declared.content.TermList.{TermList}
@@ -14,16 +14,15 @@ returns-in-Ok-lists_at-clause-found c =
     let t : Tables = c.args.table in
     let bytes = c.args.bytes.now in
     let documents = c.in-Ok.ensures.documents in
-    segment_found bytes c.args.place t (record { documents = c.from_vec.result; lists = c.from_vec-in-Ok-lists_at.result }) c.requires.tables (c.from_vec.ensures ∙ documents)
-    (subst (λ (ls : List TermList). AreListsOf t.documents t.terms (data_in bytes t) (data_place t) ls) (sym c.from_vec-in-Ok-lists_at.ensures)
-    (moved (λ d r s p. AreListsOf d r s p c.in-Ok-lists_at.lists.items) c.deref.result.now t.documents _ t.terms c.split_at.result.1.now (data_in bytes t) _ (data_place t)
-    (c.deref.ensures.value ∙ documents) c.in-Ok.ensures.terms (c.split_at.ensures.back ∙ ap (λ (i : ℕ). drop i bytes) c.requires.len) (omega (arith, c.requires.len, c.requires.tables.at)) c.in-Ok-lists_at.ensures.found))
+    segment_found bytes c.args.place t (record { documents = c.from_vec.result; lists = c.in-Ok-lists_at.lists }) c.requires.tables (c.from_vec.ensures ∙ documents)
+    (moved (λ d r s p. AreListsOf d r s p c.in-Ok-lists_at.lists) c.deref.result.now t.documents _ t.terms c.split_at.result.1.now (data_in bytes t) _ (data_place t)
+    (c.deref.ensures.value ∙ documents) c.in-Ok.ensures.terms (c.split_at.ensures.back ∙ ap (λ (i : ℕ). drop i bytes) c.requires.len) (omega (arith, c.requires.len, c.requires.tables.at)) c.in-Ok-lists_at.ensures.found)
 
 pub returns-in-Err-clause-first : goal.returns-in-Err-clause-first
 returns-in-Err-clause-first c =
     let t : Tables = c.args.table in
     let bytes = c.args.bytes.now in
-    fault_goes (Vec TermList Global) Content c.in-Err.fault _ (IsSegmentFault bytes c.args.place)
+    fault_goes (List TermList) Content c.in-Err.fault _ (IsSegmentFault bytes c.args.place)
     (λ p f. in_lists t p c.requires.tables
     (moved (λ d r s q. IsFaultInLists d r s q p) c.deref.result.now t.documents _ t.terms c.split_at.result.1.now (data_in bytes t) _ (data_place t)
     (c.deref.ensures.value ∙ c.in-Ok.ensures.documents) c.in-Ok.ensures.terms (c.split_at.ensures.back ∙ ap (λ (i : ℕ). drop i bytes) c.requires.len) (omega (arith, c.requires.len, c.requires.tables.at)) f))

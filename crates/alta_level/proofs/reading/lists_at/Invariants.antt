@@ -6,6 +6,6 @@ use Rattle.alta_level.proofs.reading.lists_at.Given as goal
 abbrev pub invariant-loop-row : goal.invariant-loop-row
 invariant-loop-row l =
     record {
-      reads : Progress l.documents l.fn.rows.items l.fn.streams l.fn.place l.lists.items (into_iter_items l.row-iterator) l.rest l.at;
+      reads : Progress l.documents l.fn.rows.items l.fn.streams l.fn.place l.lists (into_iter_items l.row-iterator) l.rest l.at;
       counted : into_iter_len l.row-iterator ≡ length (into_iter_items l.row-iterator);
     }

@@ -2,18 +2,18 @@ use Rattle.std.proofs.Common.{arith}
 use Rattle.alta_level.specs.Stored.{IsListOf, IsListFault, stored_of}
 use Rattle.alta_level.proofs.Faults.{list_fault_once, list_once, list_or_fault}
 use Rattle.alta_level.proofs.Joins.{only_of, broken_of}
-use Rattle.alta_level.proofs.checking.read_list.Goals as goal
+use Rattle.alta_level.proofs.checking.read_list_into.Goals as goal
 
 pub returns-clause-only : goal.returns-clause-only
 returns-clause-only c =
     let documents = c.args.documents.now in
     let s = stored_of c.args.list.now in
-    only_of (λ x. x.items) (IsListOf documents s) (IsListFault documents s) c.locations_at.result c.locations_at.ensures.found c.locations_at.ensures.first
+    only_of {X = Unit} (λ x. c.read_whole.new.locations.items) (IsListOf documents s) (IsListFault documents s) c.read_whole.result c.read_whole.ensures.found c.read_whole.ensures.first
     (list_once documents s) (λ x p. list_or_fault documents s x p (omega (arith, c.requires.stream)))
 
 pub returns-clause-broken : goal.returns-clause-broken
 returns-clause-broken c =
     let documents = c.args.documents.now in
     let s = stored_of c.args.list.now in
-    broken_of (λ x. x.items) (IsListOf documents s) (IsListFault documents s) c.locations_at.result c.locations_at.ensures.found c.locations_at.ensures.first
+    broken_of {X = Unit} (λ x. c.read_whole.new.locations.items) (IsListOf documents s) (IsListFault documents s) c.read_whole.result c.read_whole.ensures.found c.read_whole.ensures.first
     (list_fault_once documents s) (λ x p. list_or_fault documents s x p (omega (arith, c.requires.stream)))
