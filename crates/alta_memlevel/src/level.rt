@@ -11,16 +11,15 @@ ghost use Rattle.alta_content.specs.Rows.{end_of};
 ghost use Rattle.alta_memlevel.specs.Added.{Added, HasContent, live_of};
 ghost use Rattle.alta_rows.specs.All.{joined, rows_in};
 
+use crate::copying::copy_lists;
 use crate::lists::{Lists, put_cells, terms_from};
-use crate::moving::move_lists;
 use alta_codec::{Bytes, Loc};
-use alta_content::{Content, DocRow, DocRows, TermLists, keep_rows, spans_of};
+use alta_content::{Content, DocRow, DocRows, keep_rows, spans_of};
 use alta_meta::Cell;
 use alta_rows::{AllRows, LevelRows, RowRuns};
 use std::alloc::{AllocError, Global};
 use std::collections::BTreeMap;
 use std::marker::Model;
-use std::mem;
 use std::rc::Rc;
 
 /// The newest documents as an inverted index in memory. Contracts see the content of the documents that were added,
@@ -147,9 +146,8 @@ impl MemLevel {
     }
 
     /// Takes the content out without the documents whose end is deleted, and leaves a level of no documents. The ends
-    /// may stand in any order, and may be ends of no document. A term that no other document has is left out; the
-    /// lists move, and a list of which no location falls away is not written; the rows are copied, since others may share
-    /// them. Where memory is wanting, the level stays as it was.
+    /// may stand in any order, and may be ends of no document. A term that no other document has is left out. Rows and
+    /// lists are copied before the level lets them go. Where memory is wanting, the level stays as it was.
     #[tactic(auto, using(crate::proofs::Contents::content_empty))]
     pub fn drain_content(&mut self, deleted: &[Loc]) -> Result<Content, AllocError>
         requires { IsTrue self.old.sound }
@@ -162,13 +160,13 @@ impl MemLevel {
     {
         let mut rows = self.rows.copy()?;
         let spans = spans_of(self.alloc, &rows, deleted)?;
-        let room = Vec::with_capacity(self.alloc, self.lists.len())?;
-        let lists = mem::replace(&mut self.lists, BTreeMap::new(self.alloc));
+        let lists = copy_lists(self.alloc, &self.lists, &spans)?;
+        self.lists = BTreeMap::new(self.alloc);
         self.rows = RowRuns::new(self.alloc);
         keep_rows(&mut rows, &spans);
         Ok(Content {
             documents: DocRows::from_vec(rows),
-            lists: TermLists::from_vec(move_lists(room, lists, &spans)),
+            lists,
         })
     }
 }

@@ -14,14 +14,14 @@ spans_of-requires c =
     let whole : IsTrue c.self.inside.whole = subst (λ v. IsTrue v.sound) (sym c.self.view_is) c.requires in
     subst RowsRise (sym (c.deref.ensures.value ∙ c.in_ok-rows.ensures)) (c.self.invariant whole).1
 
-pub keep_rows-requires : goal.keep_rows-requires
-keep_rows-requires c =
+pub copy_lists-requires : goal.copy_lists-requires
+copy_lists-requires c =
     let whole : IsTrue c.self.inside.whole = subst (λ v. IsTrue v.sound) (sym c.self.view_is) c.requires in
     let rise : RowsRise c.deref.result.now = subst RowsRise (sym (c.deref.ensures.value ∙ c.in_ok-rows.ensures)) (c.self.invariant whole).1 in
     subst SpansRise (sym (c.deref-2.ensures.value ∙ c.in_ok-spans.ensures)) (spans_rise c.args.deleted.now c.deref.result.now rise)
 
-pub move_lists-requires-clause-rising : goal.move_lists-requires-clause-rising
-move_lists-requires-clause-rising c =
+pub keep_rows-requires : goal.keep_rows-requires
+keep_rows-requires c =
     let whole : IsTrue c.self.inside.whole = subst (λ v. IsTrue v.sound) (sym c.self.view_is) c.requires in
     let rise : RowsRise c.deref.result.now = subst RowsRise (sym (c.deref.ensures.value ∙ c.in_ok-rows.ensures)) (c.self.invariant whole).1 in
     subst SpansRise (sym (c.deref-3.ensures.value ∙ c.in_ok-spans.ensures)) (spans_rise c.args.deleted.now c.deref.result.now rise)
@@ -31,19 +31,17 @@ returns-clause-content c =
     let whole : IsTrue c.self.inside.whole = subst (λ v. IsTrue v.sound) (sym c.self.view_is) c.requires in
     let rise : RowsRise c.self.inside.rows = (c.self.invariant whole).1 in
     let old : Content = record { documents = c.self.inside.rows; lists = term_lists c.self.inside.lists.entries } in
-    let new : Content = record { documents = c.from_vec.result; lists = c.from_vec-2.result } in
+    let new : Content = record { documents = c.from_vec.result; lists = c.in_ok-lists.lists } in
     let spans : c.in_ok-spans.spans.items ≡ deleted_spans c.args.deleted.now old.documents =
     c.in_ok-spans.ensures ∙ ap (deleted_spans c.args.deleted.now) (c.deref.ensures.value ∙ c.in_ok-rows.ensures) in
     let documents : new.documents ≡ filter (λ r. not (is_within (deleted_spans c.args.deleted.now old.documents) r.first)) old.documents =
     c.from_vec.ensures ∙ c.keep_rows.ensures
-    ∙ ap (λ s. filter (λ r. not (is_within s r.first)) c.in_ok-rows.rows.items) (c.deref-2.ensures.value ∙ spans)
+    ∙ ap (λ s. filter (λ r. not (is_within s r.first)) c.in_ok-rows.rows.items) (c.deref-3.ensures.value ∙ spans)
     ∙ ap (filter (λ r. not (is_within (deleted_spans c.args.deleted.now old.documents) r.first))) c.in_ok-rows.ensures in
     let lists : new.lists ≡ lists_outside (deleted_spans c.args.deleted.now old.documents) old.lists =
-    c.from_vec-2.ensures ∙ c.move_lists.ensures
-    ∙ ap (λ s. lists_outside s (term_lists c.replace-lists.result.entries)) (c.deref-3.ensures.value ∙ spans)
-    ∙ ap (λ m. lists_outside (deleted_spans c.args.deleted.now old.documents) (term_lists m.entries)) c.replace-lists.ensures.value in
+    c.in_ok-lists.ensures ∙ ap (λ s. lists_outside s old.lists) (c.deref-2.ensures.value ∙ spans) in
     λ added h. content_live c.args.deleted.now added old new (subst (λ v. HasContent added v.content) (sym c.self.view_is) h) rise documents lists
 
 pub returns-clause-rising : goal.returns-clause-rising
 returns-clause-rising c =
-    λ added h. lists_rise (live_of c.args.deleted.now added) (record { documents = c.from_vec.result; lists = c.from_vec-2.result }) (returns-clause-content c added h)
+    λ added h. lists_rise (live_of c.args.deleted.now added) (record { documents = c.from_vec.result; lists = c.in_ok-lists.lists }) (returns-clause-content c added h)
