@@ -6,12 +6,10 @@ ghost use Rattle.alta_content.specs.Packed.{gaps_bytes, locations_in, number_in,
 use alta_codec::{Loc, get_number, put_number};
 use std::alloc::AllocError;
 
-// A row, as it stands in a buffer.
-#[derive(Drop)]
-pub(crate) struct RowAt<'a> {
-    // The term.
-    pub term: &'a [u8],
-    // How many locations it has.
+// What stands in a row behind its term.
+#[derive(Clone, Copy)]
+pub(crate) struct RowAt {
+    // How many locations the term has.
     pub count: u64,
     // How many bytes their gaps have.
     pub gaps: u64,
@@ -32,21 +30,30 @@ fn number_at(bytes: &[u8], at: usize) -> (u64, usize)
     }
 }
 
-// The row at a place.
-pub(crate) fn row_at(rows: &[u8], at: usize) -> RowAt<'_>
+// The term of the row at a place, and the place behind it.
+pub(crate) fn term_at(rows: &[u8], at: usize) -> (&[u8], usize)
     requires { at ≤ length rows.now }
-    ensures term { result.term.now ≡ (row_in (drop at rows.now)).term }
+    ensures term { result.0.now ≡ (row_in (drop at rows.now)).term }
+    ensures behind { drop result.1 rows.now ≡ drop (number_in (drop at rows.now)).0 (number_in (drop at rows.now)).1 }
+    ensures within { result.1 ≤ length rows.now }
+{
+    let (size, from) = number_at(rows, at);
+    let size = (size as usize).min(rows.len() - from);
+    (&rows[from..from + size], from + size)
+}
+
+// What stands in the row at a place behind its term.
+pub(crate) fn row_at(rows: &[u8], at: usize) -> RowAt
+    requires { at ≤ length rows.now }
     ensures count { result.count ≡ (row_in (drop at rows.now)).count }
     ensures gaps { result.gaps ≡ (row_in (drop at rows.now)).gaps }
     ensures behind { drop result.behind rows.now ≡ (row_in (drop at rows.now)).behind }
     ensures within { result.behind ≤ length rows.now }
 {
-    let (size, from) = number_at(rows, at);
-    let size = (size as usize).min(rows.len() - from);
-    let (count, next) = number_at(rows, from + size);
+    let (_term, numbers) = term_at(rows, at);
+    let (count, next) = number_at(rows, numbers);
     let (gaps, behind) = number_at(rows, next);
     RowAt {
-        term: &rows[from..from + size],
         count,
         gaps,
         behind,

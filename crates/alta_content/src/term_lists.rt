@@ -2,7 +2,7 @@
 ghost use Rattle.std.specs.Prelude.{◌≡◌, ◌<◌, ◌∷◌, ◌++◌, [], drop, length, MatchOption, OnOk, OnErr};
 ghost use Rattle.alta_content.specs.Fronts.{front_locations, front_term};
 
-use crate::packing::{put_gaps, put_locations_at, put_row, row_at};
+use crate::packing::{put_gaps, put_locations_at, put_row, row_at, term_at};
 use alta_codec::Loc;
 use std::alloc::{AllocError, Global};
 use std::marker::Model;
@@ -80,7 +80,8 @@ impl TermLists {
         if self.count == 0 {
             return None;
         }
-        Some(row_at(&self.rows, self.row).term)
+        let (term, _behind) = term_at(&self.rows, self.row);
+        Some(term)
     }
 
     /// Appends the locations of the first term, none where there is no term.
