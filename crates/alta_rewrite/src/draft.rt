@@ -14,7 +14,7 @@ use crate::places::{Places, find_places};
 use crate::{Ends, NextLevels, RewriteFault};
 use alta_codec::{Bytes, DocNumber, Extent, Loc};
 use alta_content::Content;
-use alta_level::{LevelFault, Table, build_from, head};
+use alta_level::{LevelFault, Table, build, head};
 use alta_postings::encode;
 use alta_root::Root;
 use arrayvec::ArrayVec;
@@ -47,7 +47,7 @@ fn spell_segment(alloc: Global, content: Content) -> Result<Vec<u8>, AllocError>
     if content.documents.len() == 0 {
         return Ok(Vec::new(alloc));
     }
-    build_from(alloc, content)
+    build(alloc, content)
 }
 
 fn are_same(some: &[Loc], others: &[Loc]) -> bool
