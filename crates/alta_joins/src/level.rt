@@ -1,5 +1,5 @@
 // The content of a level, read from its segment.
-ghost use Rattle.std.specs.Prelude.{◌≡◌, ◌≢◌, ◌+◌, ◌++◌, ◌<◌, ◌≤◌, ◌^◌, ℕ, length, Err, IfErr, IfOk};
+ghost use Rattle.std.specs.Prelude.{◌≡◌, ◌≢◌, ◌+◌, ◌++◌, ◌∷◌, [], ◌<◌, ◌≤◌, ◌^◌, ℕ, length, Err, IfErr, IfOk};
 ghost use Rattle.alta_codec.specs.Faults.{Rose};
 ghost use Rattle.alta_content.specs.declared.content.Content.{Content};
 ghost use Rattle.alta_disk.specs.Calls.{Reads};
@@ -17,16 +17,16 @@ ghost use Rattle.alta_table.specs.Tables.{tables_bytes};
 ghost use Rattle.alta_table.specs.Terms.{data_bytes};
 
 use crate::fault::JoinFault;
-use alta_codec::{Bytes, Extent};
-use alta_content::{Content, DocRow, DocRows, Locations, TermList, TermLists};
+use alta_codec::{Extent, Loc};
+use alta_content::{Content, DocRow, DocRows, TermLists};
 use alta_disk::Disk;
-use alta_level::{StoredList, read_list, segments_read_back};
+use alta_level::{StoredList, read_list_into, segments_read_back};
 use alta_table::{LevelFault, Table};
 use std::alloc::{AllocError, Global};
 
 /// Reads the content of a level. Its streams and summaries stand one behind the other, and are read by one read of the disk. The
 /// rows are those of the tables that were opened, and are copied. Each list is tested as [`alta_level::read_list`] tests it, and
-/// each number of a stream is read once. The memory is that of what is read and of the content.
+/// each number of a stream is read once. The memory is that of what is read, of the content and of the longest list.
 ///
 /// # Errors
 ///
@@ -112,36 +112,37 @@ fn content_in(alloc: Global, level: &Table, bytes: &[u8], place: u64) -> Result<
     let documents = copy_rows(alloc, level.documents())?;
     Ok(Content {
         documents: DocRows::from_vec(documents),
-        lists: TermLists::from_vec(lists),
+        lists,
     })
 }
 
-// The lists of all rows, whose streams and summaries stand one behind the other.
-fn lists_in(
-    alloc: Global,
-    level: &Table,
-    bytes: &[u8],
-    place: u64,
-) -> Result<Vec<TermList>, JoinFault>
+// The lists of all rows, whose streams and summaries stand one behind the other. No list takes memory of its own.
+fn lists_in(alloc: Global, level: &Table, bytes: &[u8], place: u64) -> Result<TermLists, JoinFault>
     requires whole { data_bytes level.now.terms ≤ length bytes.now }
     requires below { place + length bytes.now < 2 ^ 64 }
-    ensures found { IfOk result (λ lists. AreListsOf level.now.documents level.now.terms bytes.now place lists.items) }
+    ensures found { IfOk result (AreListsOf level.now.documents level.now.terms bytes.now place) }
     ensures first { IfDamaged result (IsFaultInLists level.now.documents level.now.terms bytes.now place) }
     ensures lean { result ≢ Err DiskFault }
 {
-    let mut lists = Vec::with_capacity(alloc, level.terms())?;
+    let mut lists = TermLists::new(alloc);
+    let mut locations = Vec::new(alloc);
+    let mut places = Vec::new(alloc);
     let mut rest = bytes;
     let mut at = place;
     for row in 0..level.terms() {
         let (stream, summary) = level.stream_place(row);
         let len = stream.bytes + summary.bytes;
-        match list_at(alloc, level, row, rest, at) {
+        match put_row(
+            &mut lists,
+            &mut locations,
+            &mut places,
+            level,
+            row,
+            rest,
+            at,
+        ) {
+            Ok(()) => {}
             Err(fault) => return Err(fault),
-            Ok(list) => {
-                let Ok(()) = lists.push(list) else {
-                    return Err(JoinFault::Memory);
-                };
-            }
         }
         let (_list, behind) = rest.split_at(len as usize);
         rest = behind;
@@ -150,30 +151,29 @@ fn lists_in(
     Ok(lists)
 }
 
-// The list of a row, whose stream begins the bytes, which begin at a place.
-fn list_at(
-    alloc: Global,
+// Puts the list of a row, whose stream begins the bytes, which begin at a place. Its locations are left in `locations`.
+fn put_row(
+    lists: &mut TermLists,
+    locations: &mut Vec<Loc>,
+    places: &mut Vec<u64>,
     level: &Table,
     row: usize,
     bytes: &[u8],
     place: u64,
-) -> Result<TermList, JoinFault>
+) -> Result<(), JoinFault>
     requires row { row < length level.now.terms }
     requires whole { (row_at level.now row).stream + (row_at level.now row).summary ≤ length bytes.now }
     requires below { place + length bytes.now < 2 ^ 64 }
-    ensures term { IfOk result (λ l. l.term ≡ (row_at level.now row).term) }
-    ensures found { IfOk result (λ l. IsListOf level.now.documents (stored_at (row_at level.now row) bytes.now place) l.locations) }
+    ensures put { IfOk result (λ x. lists.new ≡ lists.old ++ (record { term = (row_at level.now row).term; locations = locations.new.items }) ∷ []) }
+    ensures found { IfOk result (λ x. IsListOf level.now.documents (stored_at (row_at level.now row) bytes.now place) locations.new.items) }
     ensures first { IfDamaged result (IsListFault level.now.documents (stored_at (row_at level.now row) bytes.now place)) }
     ensures lean { result ≢ Err DiskFault }
 {
     let list = stored(level, row, bytes, place);
-    match read_list(alloc, &list, level.documents()) {
-        Ok(locations) => {
-            let term = Vec::from_slice(alloc, level.term(row))?;
-            Ok(TermList {
-                term: Bytes::from_vec(term),
-                locations: Locations::from_vec(locations),
-            })
+    match read_list_into(locations, places, &list, level.documents()) {
+        Ok(()) => {
+            lists.put(list.term, locations)?;
+            Ok(())
         }
         Err(LevelFault::Damaged(place)) => Err(JoinFault::Damaged(place)),
         Err(LevelFault::Memory) => Err(JoinFault::Memory),

@@ -3,4 +3,4 @@ use Rattle.alta_level.proofs.Progress.{Progress}
 use Rattle.alta_joins.proofs.level.lists_in.Given as goal
 
 abbrev pub invariant-loop-row : goal.invariant-loop-row
-invariant-loop-row l = Progress l.level.documents l.level.terms l.fn.bytes l.fn.place l.lists.items (drop l.row l.level.terms) l.rest l.at
+invariant-loop-row l = Progress l.level.documents l.level.terms l.fn.bytes l.fn.place l.lists (drop l.row l.level.terms) l.rest l.at
