@@ -27,28 +27,22 @@ fn is_deleted(deleted: &[Loc], row: &DocRow) -> bool
     deleted.binary_search(&end).is_ok()
 }
 
-// Notes the name of a document.
+// Notes the name of a document, in place of one that has it, and answers whether there was one.
 fn note(
     alloc: Global,
     names: &mut BTreeMap<String, u64>,
     name: &str,
     number: u64,
-) -> Result<(), AllocError>
-    ensures { OnOk result ((q : List ℕ) → get_by_text names.new q ≡ update bytes_eq (get_by_text names.old) name.now (Some number) q) }
+) -> Result<bool, AllocError>
+    ensures taken { (live : List Named) → AreNames names.old live → IfOk result (λ taken. taken ≡ is_taken name.now live) }
+    ensures noted { OnOk result ((q : List ℕ) → get_by_text names.new q ≡ update bytes_eq (get_by_text names.old) name.now (Some number) q) }
 {
     let key = String::from_str(alloc, name)?;
-    names.insert(key, number)?;
-    Ok(())
+    let before = names.insert(key, number)?;
+    Ok(before.is_some())
 }
 
-// Whether none of these has the name.
-fn is_free(names: &BTreeMap<String, u64>, name: &str) -> bool
-    ensures { (live : List Named) → AreNames names.now live → result ≡ not (is_taken name.now live) }
-{
-    !names.contains_key(name)
-}
-
-// Whether a row's document is deleted, or no live one has its name; its name is then noted.
+// Whether a row's document is deleted, or no live one before has its name. The name of one that is not deleted is noted.
 fn join(
     alloc: Global,
     names: &mut BTreeMap<String, u64>,
@@ -63,11 +57,8 @@ fn join(
     if is_deleted(deleted, row) {
         return Ok(true);
     }
-    if !is_free(names, row.name.as_str()) {
-        return Ok(false);
-    }
-    note(alloc, names, row.name.as_str(), row.number)?;
-    Ok(true)
+    let taken = note(alloc, names, row.name.as_str(), row.number)?;
+    Ok(!taken)
 }
 
 /// Notes the names of a level's live documents. A name that a live document before has is damage at its place. After an error

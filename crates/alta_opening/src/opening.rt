@@ -41,7 +41,8 @@ pub struct OpenLevels {
 /// journal nor a stream or a summary is read, and nothing is written.
 ///
 /// The list is one call of the disk, and a level is two: 32 bytes, then its documents and terms. Each row is looked at in one walk beside
-/// the deleted ends, and once more to look its end up among them and a live name in the map; of the order, the first row and the last.
+/// the deleted ends, and once more to look its end up among them and to put a live name into the map, one search of it each; of the
+/// order, the first row and the last.
 ///
 /// # Errors
 ///

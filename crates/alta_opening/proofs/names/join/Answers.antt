@@ -1,4 +1,4 @@
-use Rattle.std.proofs.Common.{◌≡◌, List, ℕ, true, false, not, sym, ap, ◌∙◌}
+use Rattle.std.proofs.Common.{◌≡◌, List, ℕ, false, sym, ap, ◌∙◌}
 use Rattle.std.specs.Prelude.{Some}
 use Rattle.std.specs.BTreeMap.{get_by_text}
 use Rattle.std.specs.Map.{update}
@@ -10,10 +10,10 @@ use Rattle.alta_images.proofs.Tests.{not_true}
 use Rattle.alta_opening.proofs.names.join.Goals as goal
 
 pub returns-clause-names : goal.returns-clause-names
-returns-clause-names c = λ live are _.
+returns-clause-names c = λ live are joins.
     let row = c.args.row.now in
     let lives : ends_among c.args.deleted.now row ≡ false = sym c.is_deleted.ensures ∙ c.if-is_deleted.false in
-    let tested : not (is_taken row.name live) ≡ true = ap (λ (name : List ℕ). not (is_taken name live)) (sym c.as_str.ensures) ∙ sym (c.is_free.ensures live are) ∙ c.if-not-is_free.false in
-    let free : is_taken row.name live ≡ false = not_true (is_taken row.name live) tested in
+    let taken = ap (λ (name : List ℕ). is_taken name live) (sym c.as_str.ensures) ∙ sym (c.in_ok-taken.ensures.taken live are) in
+    let free : is_taken row.name live ≡ false = taken ∙ not_true c.in_ok-taken.taken joins in
     names_live c.args.names.now c.note.new.names c.args.deleted.now live row lives are free
-    (λ q. c.in_ok-note.ensures q ∙ ap (λ (name : List ℕ). update bytes_eq (get_by_text c.args.names.now) name (Some row.number) q) c.as_str-2.ensures)
+    (λ q. c.in_ok-taken.ensures.noted q ∙ ap (λ (name : List ℕ). update bytes_eq (get_by_text c.args.names.now) name (Some row.number) q) c.as_str.ensures)
