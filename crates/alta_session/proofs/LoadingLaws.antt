@@ -37,7 +37,7 @@ use Rattle.alta_session.specs.Loading.{HasBrokenList, Loads, Queries, loads_of_t
 use Rattle.alta_session.specs.Machine.{IsRefusal}
 use Rattle.alta_session.specs.Searching.{IsNoQuery}
 use Rattle.alta_session.proofs.StatusLaws.{ok_answers, err_answers}
-use Rattle.alta_store.specs.Agreement.{Agrees, GoesOnOver, Holds, levels_of}
+use Rattle.alta_store.specs.Agreement.{Agrees, GoesOnOver, KeepsOpened, levels_of}
 use Rattle.alta_store.specs.Answers.{IsOutside}
 use Rattle.alta_store.specs.declared.fault.StoreFault.{StoreFault}
 use Rattle.alta_store.specs.declared.fault.StoreFault.TheVariants.{Disk, Memory, Damaged}
@@ -226,7 +226,7 @@ fault_among levels image (load ∷ loads) p of_them (inl fault) = record { level
 fault_among levels image (load ∷ loads) p of_them (inr later) = fault_among levels image loads p of_them.2 later.1
 
 -- where store and image hold the same
-pub broken_list : (store : Store) (image : List ℕ) (loads : List Load) (p : ℕ) → Holds store image → AreOf (levels_of store) loads → IsFirstFault image loads p → HasBrokenList image p
+pub broken_list : (store : Store) (image : List ℕ) (loads : List Load) (p : ℕ) → KeepsOpened store image → AreOf (levels_of store) loads → IsFirstFault image loads p → HasBrokenList image p
 broken_list store image loads p holds of_them fault = record {
   opened = holds.opened;
   is = holds.is;
@@ -237,7 +237,7 @@ broken_list store image loads p holds of_them fault = record {
 pub agrees_read : (tells : Type 0) (bytes : ℕ) (d e : DiskState) (store : Store) → IsLawful tells d → Agrees tells d store → Reads tells bytes d e → Agrees tells e store
 agrees_read tells bytes d e store lawful agrees reads = record {
   settled = only_same tells d lawful agrees.settled e reads.images reads.content;
-  content = λ tell. subst (Holds store) (sym (reads.content tell)) (agrees.content tell);
+  content = λ tell. subst (KeepsOpened store) (sym (reads.content tell)) (agrees.content tell);
   intact = agrees.intact;
   joins = λ tell. subst (λ (image : List ℕ). GoesOnOver image (levels_of store) (gone_of store.catalog) store.job agrees.intact.joining) (sym (reads.content tell)) (agrees.joins tell);
 }

@@ -6,7 +6,7 @@ use Rattle.alta_images.specs.Opened.{Opened, IsOpened}
 use Rattle.alta_images.specs.Standing.{StandsFor}
 use Rattle.alta_images.proofs.OneReading.{one_opened}
 use Rattle.alta_meta.specs.declared.document.State.{State}
-use Rattle.alta_store.specs.Agreement.{Agrees, Holds, Keeps, Knows}
+use Rattle.alta_store.specs.Agreement.{Agrees, KeepsOpened, Keeps, Knows}
 use Rattle.alta_store.specs.declared.store.Store.{Store}
 
 -- what an image stands for is opened
@@ -14,7 +14,7 @@ abbrev pub opened_of : (s : State) (image : List ℕ) (stands : StandsFor s imag
 opened_of s image stands = record { counts = stands.counts; named = stands.means.named }
 
 -- what an image is opened as is what the store goes on with
-pub kept : (store : Store) (image : List ℕ) → Holds store image → (opened : Opened) → IsOpened opened image → Keeps store opened
+pub kept : (store : Store) (image : List ℕ) → KeepsOpened store image → (opened : Opened) → IsOpened opened image → Keeps store opened
 kept store image holds opened is = subst (Keeps store) (one_opened image holds.opened opened holds.is is) holds.keeps
 
 -- a store that agrees with its disk knows the state that the disk stands for

@@ -35,7 +35,7 @@ use Rattle.alta_root.specs.declared.fault.RootFault.TheVariants.{Disk as RootDis
 use Rattle.alta_root.specs.declared.root.Root.{Root}
 use Rattle.alta_root.specs.declared.slot.Slot.{Slot}
 use Rattle.alta_catalog.specs.Knowing.{Follows, KnowsBy}
-use Rattle.alta_store.specs.Agreement.{Holds, levels_of}
+use Rattle.alta_store.specs.Agreement.{KeepsOpened, levels_of}
 use Rattle.alta_store.specs.Answers.{IsOutside, AnswersFault, of_catalog, of_levels, of_opening, of_root}
 use Rattle.alta_store.specs.declared.fault.StoreFault.{StoreFault}
 use Rattle.alta_store.specs.declared.fault.StoreFault.TheVariants.{NoRoot, Damaged, Disk}
@@ -86,7 +86,7 @@ module _ (content : List ℕ) (slot : Slot) (root : Root) (deleted : List ℕ) (
   replays s starts found r is = ap (λ (k : Known). replayed k found) (sym (start_known root deleted levels s starts)) ∙ is
 
   pub loads : (store : Store) (found : List Placed) → store.slot ≡ slot → store.root ≡ root → store.listed.items ≡ deleted → Follows store.catalog root (entries_in found) → store.tail.half ≡ half_of slot → levels_of store ≡ levels → map extent_of levels ≡ root.levels.items → IsReplay (journal_of slot) found store.tail.place content
-      → KnowsAll store.catalog root levels found deleted → Holds store content
+      → KnowsAll store.catalog root levels found deleted → KeepsOpened store content
   loads store found slot_is root_is listed follows half levels_are extents (entries, is, ends) applied =
       let same : entries_in found ≡ entries = ap entries_in is ∙ entries_in-placed (journal_of slot) entries in
       let some = may_start root deleted levels in
@@ -214,13 +214,13 @@ pub only_synced : (tells : Type 0) (a b : DiskState) → IsLawful tells b → On
 only_synced tells a b lawful only same = λ c here. only c here ∙ sym (same (lawful.told c here))
 
 module _ (tells : Type 0) (content : List ℕ) (r : Result Store StoreFault)
-    (loaded : IfOk r (λ store. tells → Holds store content))
+    (loaded : IfOk r (λ store. tells → KeepsOpened store content))
     (no_root : tells → r ≡ Err NoRoot → HasNoRoot content)
     (damaged : tells → (place : ℕ) → r ≡ Err (Damaged place) → IsBrokenAt content place)
     (only : IfErr r (λ e. IsOutside e ⊎ ((e ≡ NoRoot) ⊎ ((place : ℕ) × (e ≡ Damaged place))))) where
   -- what a store goes on with that came of it
-  pub held : (store : Store) → r ≡ Ok store → tells → Holds store content
-  held store e told = IfOk-at_ok (λ store. tells → Holds store content) e loaded told
+  pub held : (store : Store) → r ≡ Ok store → tells → KeepsOpened store content
+  held store e told = IfOk-at_ok (λ store. tells → KeepsOpened store content) e loaded told
 
   by_error : (e : StoreFault) → r ≡ Err e → IsOutside e ⊎ ((e ≡ NoRoot) ⊎ ((place : ℕ) × (e ≡ Damaged place)))
   by_error e is = IfErr-at_err (λ e. IsOutside e ⊎ ((e ≡ NoRoot) ⊎ ((place : ℕ) × (e ≡ Damaged place)))) is only

@@ -20,7 +20,7 @@ use Rattle.alta_merge.specs.Merging.{Merging}
 use Rattle.alta_meta.specs.declared.document.State.{State}
 use Rattle.alta_rewrite.specs.Rewrites.{levels_to_come}
 use Rattle.alta_rewrite.specs.declared.levels.NextLevels.{NextLevels}
-use Rattle.alta_store.specs.Agreement.{Agrees, GoesOnOver, Has, Holds, IsJobIn, Keeps, levels_of}
+use Rattle.alta_store.specs.Agreement.{Agrees, GoesOnOver, Has, KeepsOpened, IsJobIn, Keeps, levels_of}
 use Rattle.alta_catalog.specs.Knowing.{gone_of}
 use Rattle.alta_store.specs.Calls.{Becomes, Changes, IsNarrow, IsRewrite, NoRefusal}
 use Rattle.alta_store.specs.Putting.{IsGivenBy, MayPut, Puts, ReadsLevels}
@@ -129,7 +129,7 @@ module _ (tells : Type 0) (a b : DiskState) (lawful_a : IsLawful tells a) (lawfu
   pub agrees_read : Agrees tells b store
   agrees_read = record {
     settled = only_same tells a lawful_a agrees.settled b reads.images reads.content;
-    content = λ told. subst (Holds store) (sym (reads.content told)) (agrees.content told);
+    content = λ told. subst (KeepsOpened store) (sym (reads.content told)) (agrees.content told);
     intact = agrees.intact;
     joins = λ told. subst (λ (image : List ℕ). GoesOnOver image (levels_of store) (gone_of store.catalog) store.job agrees.intact.joining) (sym (reads.content told)) (agrees.joins told);
   }

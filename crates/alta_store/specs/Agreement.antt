@@ -40,7 +40,7 @@ pub record Keeps (store : Store) (opened : Opened) : Type 0 where
   pub knows : (s : State) → (may : MayBe s opened) → KnowsBy store.catalog may.starts.olds s
 
 -- The image is opened, and the store goes on with what it is opened as.
-pub record Holds (store : Store) (image : List ℕ) : Type 0 where
+pub record KeepsOpened (store : Store) (image : List ℕ) : Type 0 where
   pub opened : Opened
   pub is : IsOpened opened image
   pub keeps : Keeps store opened
@@ -70,7 +70,7 @@ pub record IsIntact (store : Store) : Type 0 where
 -- Store and disk agree: nothing is pending, the store goes on with what the content is opened as, and joins what is there.
 pub record Agrees (tells : Type 0) (disk : DiskState) (store : Store) : Type 0 where
   pub settled : Only disk.content disk.images
-  pub content : tells → Holds store disk.content
+  pub content : tells → KeepsOpened store disk.content
   pub intact : IsIntact store
   pub joins : tells → GoesOnOver disk.content (levels_of store) (gone_of store.catalog) store.job intact.joining
 

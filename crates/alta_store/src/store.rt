@@ -33,7 +33,7 @@ ghost use Rattle.alta_root.specs.Root.{IsSound};
 ghost use Rattle.alta_root.specs.Slots.{Counts, HasNoRoot};
 ghost use Rattle.alta_root.specs.declared.root.Root.{Root};
 ghost use Rattle.alta_root.specs.declared.slot.Slot.{Slot};
-ghost use Rattle.alta_store.specs.Agreement.{Agrees, HasNoEntry, Holds, IsIntact, Keeps, is_sound, room_of};
+ghost use Rattle.alta_store.specs.Agreement.{Agrees, HasNoEntry, KeepsOpened, IsIntact, Keeps, is_sound, room_of};
 ghost use Rattle.alta_store.specs.Answers.{IsOutside, AnswersFault};
 ghost use Rattle.alta_store.specs.Calls.{Enters, MakesRoom, NoRefusal, Obeys, RefusesAdd, is_one, unless_read};
 ghost use Rattle.alta_store.specs.Opening.{Opens};
@@ -736,7 +736,7 @@ fn half_of(slot: Slot) -> Half
 
 // Reads the store that a disk holds.
 fn load<D: Disk>(alloc: Global, disk: &mut D) -> Result<Store, StoreFault>
-    ensures loaded { IfOk result (λ store. D.tells → Holds store (D.state disk.old).content) }
+    ensures loaded { IfOk result (λ store. D.tells → KeepsOpened store (D.state disk.old).content) }
     ensures intact { IfOk result IsIntact }
     ensures sound { IfOk result (λ store. is_sound store ≡ true) }
     ensures job { IfOk result (λ store. store.job ≡ None) }

@@ -15,7 +15,7 @@ use Rattle.alta_journal.specs.Places.{start_of}
 use Rattle.alta_journal.specs.declared.half.Half.{Half}
 use Rattle.alta_journal.specs.declared.placed.Placed.{Placed}
 use Rattle.alta_root.specs.Slots.{Counts}
-use Rattle.alta_store.specs.Agreement.{Holds}
+use Rattle.alta_store.specs.Agreement.{KeepsOpened}
 use Rattle.alta_store.proofs.Loads.{KnowsAll, damaged_record, loads, of_catalog_damaged, of_damaged, of_levels_damaged, of_root_damaged, refused_entry, same_error, small_places}
 use Rattle.alta_store.proofs.Reading.{shown_broken}
 use Rattle.alta_store.proofs.store.load.Goals as goal
@@ -52,7 +52,7 @@ returns-in-Ok-catalog_of-clause-loaded g c = λ told.
     let middle = (g.D.Disk.state c.read_roots.new.disk).content in
     let counts = subst (Counts slot root) (sym (c.read_roots.ensures.reads.content told)) (c.in-Ok.ensures.counts told) in
     let has = c.in-Ok-open_levels.ensures.levels told slot counts in
-    subst (Holds _) (c.read_roots.ensures.reads.content told)
+    subst (KeepsOpened _) (c.read_roots.ensures.reads.content told)
     (loads middle slot root _ _ has c.in-Ok-open_levels.ensures.ends _ found refl refl refl c.in-Ok-catalog_of.ensures.follows (c.in-Ok-replay.ensures.half ∙ c.half_of.ensures) c.in-Ok-catalog_of.ensures.levels
     c.in-Ok-open_levels.ensures.extents
     (subst (λ (image : List ℕ). IsReplay (journal_of slot) found c.in-Ok-replay.read.1.place image) (c.open_levels.ensures.reads.content told)

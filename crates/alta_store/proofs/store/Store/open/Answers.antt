@@ -4,7 +4,7 @@ use Rattle.alta_opening.specs.Costs.{named_bytes}
 use Rattle.alta_root.specs.Slots.{Counts}
 use Rattle.std.proofs.lemmas.Result.{IfOk-at_ok}
 use Rattle.alta_disk.proofs.Moments.{only_same, passes_same}
-use Rattle.alta_store.specs.Agreement.{Agrees, Holds, IsIntact, Keeps, levels_of}
+use Rattle.alta_store.specs.Agreement.{Agrees, KeepsOpened, IsIntact, Keeps, levels_of}
 use Rattle.alta_images.specs.Opened.{IsOpened}
 use Rattle.alta_store.specs.declared.store.Store.{Store}
 use Rattle.alta_store.proofs.Agreements.{kept}
@@ -21,7 +21,7 @@ returns-clause-agrees g c =
       settled = only_same g.D.Disk.tells (g.D.Disk.state c.sync.new.self) (g.met.D.Disk.lawful c.sync.new.self)
           (only_synced g.D.Disk.tells (g.D.Disk.state c.args.disk.now) (g.D.Disk.state c.sync.new.self) (g.met.D.Disk.lawful c.sync.new.self) c.in-Ok.ensures.durable c.sync.ensures.content)
           (g.D.Disk.state c.load.new.disk) c.load.ensures.images c.load.ensures.content;
-      content = λ told. subst (Holds store) (sym (c.load.ensures.content told))
+      content = λ told. subst (KeepsOpened store) (sym (c.load.ensures.content told))
           (held g.D.Disk.tells (g.D.Disk.state c.sync.new.self).content c.load.result c.load.ensures.loaded c.load.ensures.no_root c.load.ensures.damaged c.load.ensures.only store is told);
       intact = IfOk-at_ok IsIntact is c.load.ensures.intact;
       joins = λ told.
