@@ -18,7 +18,7 @@ use Rattle.alta_session.specs.Agreement.{AgreesOn}
 use Rattle.alta_session.specs.Demo.{Obeyed, StopsObeying, ReportsFrom, EndsDemo, Demonstrates}
 use Rattle.alta_session.specs.Fed.{Fed, FedFrom}
 use Rattle.alta_session.specs.Fullness.{IsFullOnly, IsInterrupted, IsFull}
-use Rattle.alta_session.specs.Machine.{Machine, started_at, after, replies}
+use Rattle.alta_session.specs.Machine.{Machine, started_at, machine_after, replies}
 use Rattle.alta_session.specs.Progress.{StopsWithin, StopsWithinFrom}
 use Rattle.alta_session.specs.Run.{KeepsDisk}
 use Rattle.alta_session.specs.Status.{EndsInit, EndsLine, StopsLine, IsOpened, IsUnmade, Completes, status_for}
@@ -46,10 +46,10 @@ none_given m xs ys k within =
     sym (ap concat (drop_of_length-le (take k all) {i = length xs} (omega (arith, within, length-take k all))))
 
 -- and then those to the others
-given_behind_all : (m : Machine) (xs ys : List (List ℕ)) (k : ℕ) → concat (take k (replies (after m xs) ys)) ≡ concat (drop (length xs) (take (length xs + k) (replies m (xs ++ ys))))
+given_behind_all : (m : Machine) (xs ys : List (List ℕ)) (k : ℕ) → concat (take k (replies (machine_after m xs) ys)) ≡ concat (drop (length xs) (take (length xs + k) (replies m (xs ++ ys))))
 given_behind_all m xs ys k =
     let first : List (List ℕ) = replies m xs in
-    let later : List (List ℕ) = replies (after m xs) ys in
+    let later : List (List ℕ) = replies (machine_after m xs) ys in
     let taken : take (length xs + k) (replies m (xs ++ ys)) ≡ first ++ take k later =
     ap (λ (l : List (List ℕ)). take (length xs + k) l) (replies_append m xs ys) ∙ ap (λ (n : ℕ). take (n + k) (first ++ later)) (sym (length_replies m xs)) ∙ take-append-add first later k in
     sym (ap concat (ap (λ (l : List (List ℕ)). drop (length xs) l) taken ∙ drop_at first (take k later) (length xs) (length_replies m xs)))
@@ -75,7 +75,7 @@ interrupted_not_full status need gap (inr (inr is)) other = cc
 
 pub reports_none : (limit : ℕ) (held : Holding) (m : Machine) (lines asked : List (List ℕ)) (e : DiskState) (status : Status) → IsInterrupted status → ReportsFrom limit held m lines asked [] e status
 reports_none limit held m lines asked e status stopped = record {
-  begins = (concat (replies (after m lines) asked), refl);
+  begins = (concat (replies (machine_after m lines) asked), refl);
   all = λ done. absurd (interrupted_not_done status stopped done);
   stands = λ done. absurd (interrupted_not_done status stopped done);
   levels = λ done. absurd (interrupted_not_done status stopped done);
@@ -92,7 +92,7 @@ reports_early d e session held m lines asked given status here stops ends =
     let stopped : StopsLine status = ends_whole status ends stops.undamaged in
     let only : IsFullOnly d.limit held m lines given status = stops.full held here in
     record {
-      begins = (concat (replies (after m lines) asked), refl);
+      begins = (concat (replies (machine_after m lines) asked), refl);
       all = λ done. absurd (ends_not_done status ends done);
       stands = λ done. absurd (ends_not_done status ends done);
       levels = λ done. absurd (ends_not_done status ends done);
@@ -107,13 +107,13 @@ reports_early d e session held m lines asked given status here stops ends =
 
 -- it stopped in the others
 pub reports_late : (tells : Type 0) (d e f : DiskState) (s0 s1 : Session) (held : Holding) (m : Machine) (lines asked : List (List ℕ)) (silent given : List ℕ) (status : Status) → IsBy s0 d.content held → FedFrom tells d e s0 s1 lines silent m → e.limit ≡ d.limit
-    → StopsWithinFrom e f s1 asked given status (after m lines) → EndsLine status → ReportsFrom d.limit held m lines asked given f status
+    → StopsWithinFrom e f s1 asked given status (machine_after m lines) → EndsLine status → ReportsFrom d.limit held m lines asked given f status
 reports_late tells d e f s0 s1 held m lines asked silent given status here fed same stops ends =
     let stopped : StopsLine status = ends_whole status ends stops.undamaged in
     let done : IsWorked (worked_lines d.limit m held lines) (IsBy s1 e.content) = fed.works held here in
-    let only : IsFullOnly e.limit done.now (after m lines) asked given status = stops.full done.now done.held in
+    let only : IsFullOnly e.limit done.now (machine_after m lines) asked given status = stops.full done.now done.held in
     record {
-      begins = progress_begins (after m lines) asked given f.images stops.progress;
+      begins = progress_begins (machine_after m lines) asked given f.images stops.progress;
       all = λ is. absurd (ends_not_done status ends is);
       stands = λ is. absurd (ends_not_done status ends is);
       levels = λ is. absurd (ends_not_done status ends is);
@@ -128,7 +128,7 @@ reports_late tells d e f s0 s1 held m lines asked silent given status here fed s
 
 -- all were answered
 pub reports_all : (tells : Type 0) (d e f : DiskState) (s0 s1 s2 : Session) (held : Holding) (m : Machine) (lines asked : List (List ℕ)) (silent given : List ℕ) → tells → IsBy s0 d.content held → FedFrom tells d e s0 s1 lines silent m → e.limit ≡ d.limit
-    → FedFrom tells e f s1 s2 asked given (after m lines) → ReportsFrom d.limit held m lines asked given f Done
+    → FedFrom tells e f s1 s2 asked given (machine_after m lines) → ReportsFrom d.limit held m lines asked given f Done
 reports_all tells d e f s0 s1 s2 held m lines asked silent given tell here fed same later =
     let done : IsWorked (worked_lines d.limit m held lines) (IsBy s1 e.content) = fed.works held here in
     let all : IsWorked (worked_lines d.limit m held (lines ++ asked)) (IsBy s2 f.content) = lines_on d.limit e.limit m held done.now lines asked (IsBy s2 f.content) same done.is (later.works done.now done.held) in
@@ -172,7 +172,7 @@ demo_unmade tells lines asked told d e status ends not_done exists found narrow 
   ends = inl ends;
   given = [];
   gave = gives_none told;
-  begins = λ tell. (concat (replies (after (started_at empty) lines) asked), refl);
+  begins = λ tell. (concat (replies (machine_after (started_at empty) lines) asked), refl);
   opened = λ tell. init_opened status ends;
   exists = exists;
   found = found;
@@ -211,7 +211,7 @@ demo_made tells lines asked told told_now d e given status lawful made ends neve
   reports = λ tell none big. reports tell;
   narrow = λ need gap tell big is. narrow need gap tell is;
   stands = λ done.
-      stands_only tells e (StandsFor (after (started_at empty) (lines ++ asked)).state) lawful (λ c here. ((reports (lawful.told c here)).levels done).1 c here) (λ tell. (reports tell).stands done);
+      stands_only tells e (StandsFor (machine_after (started_at empty) (lines ++ asked)).state) lawful (λ c here. ((reports (lawful.told c here)).levels done).1 c here) (λ tell. (reports tell).stands done);
 }
 
 -- the index was not opened
@@ -244,7 +244,7 @@ demo_late tells lines asked told told_now d e f h s0 s1 status lawful made new o
     (λ tell.
     let fed : FedFrom tells e f s0 s1 lines obeyed.given (started_at empty) = obeyed.each (started_at empty) tell (new.agrees tell) in
     subst (λ (limit : ℕ). ReportsFrom limit empty_held (started_at empty) lines asked stops.given h status) new.same_limit
-    (reports_late tells e f h s0 s1 empty_held (started_at empty) lines asked obeyed.given stops.given status (new.held tell) fed obeyed.same_limit (stops.each (after (started_at empty) lines) tell fed.agrees) ends))
+    (reports_late tells e f h s0 s1 empty_held (started_at empty) lines asked obeyed.given stops.given status (new.held tell) fed obeyed.same_limit (stops.each (machine_after (started_at empty) lines) tell fed.agrees) ends))
     narrow
 
 pub demo_done : (tells : Type 0) (lines asked : List (List ℕ)) (told told_now : Option (List Event)) (d e f h : DiskState) (s0 s1 s2 : Session) → IsLawful tells h → IsMade tells d → IsNew tells d e s0 → Obeyed tells e f s0 s1 lines → Fed tells told told_now f h s1 s2 asked
@@ -254,7 +254,7 @@ demo_done tells lines asked told told_now d e f h s0 s1 s2 lawful made new obeye
     (λ tell.
     let fed : FedFrom tells e f s0 s1 lines obeyed.given (started_at empty) = obeyed.each (started_at empty) tell (new.agrees tell) in
     subst (λ (limit : ℕ). ReportsFrom limit empty_held (started_at empty) lines asked later.given h Done) new.same_limit
-    (reports_all tells e f h s0 s1 s2 empty_held (started_at empty) lines asked obeyed.given later.given tell (new.held tell) fed obeyed.same_limit (later.each (after (started_at empty) lines) tell fed.agrees)))
+    (reports_all tells e f h s0 s1 s2 empty_held (started_at empty) lines asked obeyed.given later.given tell (new.held tell) fed obeyed.same_limit (later.each (machine_after (started_at empty) lines) tell fed.agrees)))
     (λ need gap tell is. absurd cc)
 
 -- ---- statuses

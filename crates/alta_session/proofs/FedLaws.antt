@@ -12,7 +12,7 @@ use Rattle.alta_session.specs.Agreement.{AgreesOn}
 use Rattle.alta_session.specs.Fed.{Fed, FedFrom}
 use Rattle.alta_session.specs.Fullness.{IsFullOnly}
 use Rattle.alta_session.specs.Keeping.{clip}
-use Rattle.alta_session.specs.Machine.{Machine, step, after, replies}
+use Rattle.alta_session.specs.Machine.{Machine, step, machine_after, replies}
 use Rattle.alta_session.specs.Progress.{StandsAfterSome, Progress, StopsWithin, StopsWithinFrom}
 use Rattle.alta_session.specs.Tasks.{IsBy, IsDone, IsOn, IsWorked, task_of, worked_lines, worked_where}
 use Rattle.alta_session.specs.Spending.{KeepsStore, Spends}
@@ -33,10 +33,10 @@ pub leaves_now : (tells : Type 0) (a b : DiskState) (P : List ℕ → Type 0) �
 leaves_now tells a b P lawful leaves = λ c here. leaves.each c (lawful.counts_now a.clock c leaves.later here)
 
 -- from one machine on, images of lines and then of more
-pub leaves_on : (a b c : DiskState) (m : Machine) (xs ys : List (List ℕ)) → LeavesOnly (StandsAfterSome m xs) a b → LeavesOnly (StandsAfterSome (after m xs) ys) b c → LeavesOnly (StandsAfterSome m (xs ++ ys)) a c
+pub leaves_on : (a b c : DiskState) (m : Machine) (xs ys : List (List ℕ)) → LeavesOnly (StandsAfterSome m xs) a b → LeavesOnly (StandsAfterSome (machine_after m xs) ys) b c → LeavesOnly (StandsAfterSome m (xs ++ ys)) a c
 leaves_on a b c m xs ys one two =
     leaves_then a b c (StandsAfterSome m (xs ++ ys)) (leaves_as a b (StandsAfterSome m xs) (StandsAfterSome m (xs ++ ys)) one (λ z here. some_more m xs ys z here))
-    (leaves_as b c (StandsAfterSome (after m xs) ys) (StandsAfterSome m (xs ++ ys)) two (λ z here. some_on m xs ys z here))
+    (leaves_as b c (StandsAfterSome (machine_after m xs) ys) (StandsAfterSome m (xs ++ ys)) two (λ z here. some_on m xs ys z here))
 
 pub leaves_none : (tells : Type 0) (d : DiskState) (session : Session) (m : Machine) (lines : List (List ℕ)) → IsLawful tells d → AgreesOn tells d session m → LeavesOnly (StandsAfterSome m lines) d d
 leaves_none tells d session m lines lawful agrees = leaves_start tells d (StandsAfterSome m lines) lawful (λ c here. some_none m lines c (images_stand tells d m.state lawful agrees.store.settled agrees.stands c here))
@@ -73,9 +73,9 @@ fed_on tells a b c d e f s0 s1 s2 xs ys first then_ = record {
   keeps = keeps_on s0 s1 s2 xs ys first.keeps then_.keeps;
   each = λ m tell agrees.
       let one : FedFrom tells d e s0 s1 xs first.given m = first.each m tell agrees in
-      let two : FedFrom tells e f s1 s2 ys then_.given (after m xs) = then_.each (after m xs) tell one.agrees in
+      let two : FedFrom tells e f s1 s2 ys then_.given (machine_after m xs) = then_.each (machine_after m xs) tell one.agrees in
       record {
-        given_is = ap (λ (l : List ℕ). l ++ then_.given) one.given_is ∙ ap (λ (l : List ℕ). concat (replies m xs) ++ l) two.given_is ∙ sym (joined_append (replies m xs) (replies (after m xs) ys)) ∙ ap concat (sym (replies_append m xs ys));
+        given_is = ap (λ (l : List ℕ). l ++ then_.given) one.given_is ∙ ap (λ (l : List ℕ). concat (replies m xs) ++ l) two.given_is ∙ sym (joined_append (replies m xs) (replies (machine_after m xs) ys)) ∙ ap concat (sym (replies_append m xs ys));
         agrees = subst (λ (t : Machine). AgreesOn tells f s2 t) (sym (after_append m xs ys)) two.agrees;
         images = leaves_on d e f m xs ys one.images two.images;
         works = λ held here.
@@ -86,7 +86,7 @@ fed_on tells a b c d e f s0 s1 s2 xs ys first then_ = record {
 }
 
 -- the work of lines, and of more behind them
-pub done_on : (limit later : ℕ) (m : Machine) (held now : Holding) (xs ys : List (List ℕ)) (d : DiskState) → later ≡ limit → worked_lines limit m held xs ≡ Ok now → IsDone (worked_lines later (after m xs) now ys) d → IsDone (worked_lines limit m held (xs ++ ys)) d
+pub done_on : (limit later : ℕ) (m : Machine) (held now : Holding) (xs ys : List (List ℕ)) (d : DiskState) → later ≡ limit → worked_lines limit m held xs ≡ Ok now → IsDone (worked_lines later (machine_after m xs) now ys) d → IsDone (worked_lines limit m held (xs ++ ys)) d
 done_on limit later m held now xs ys d same first more = (lines_on limit later m held now xs ys (IsOn d.content) same first more.0, more.1)
 
 -- it stopped in later lines
@@ -96,7 +96,7 @@ stops_on tells a b c d e f s0 s1 xs ys status first stops = record {
   gave = gives_on a b c first.given stops.given first.gave stops.gave;
   each = λ m tell agrees.
       let one : FedFrom tells d e s0 s1 xs first.given m = first.each m tell agrees in
-      let two : StopsWithinFrom e f s1 ys stops.given status (after m xs) = stops.each (after m xs) tell one.agrees in
+      let two : StopsWithinFrom e f s1 ys stops.given status (machine_after m xs) = stops.each (machine_after m xs) tell one.agrees in
       record {
         progress = subst (λ (l : List ℕ). Progress m (xs ++ ys) (l ++ stops.given) f.images) (sym one.given_is) (progress_on m xs ys stops.given f.images two.progress);
         images = leaves_on d e f m xs ys one.images two.images;
@@ -170,7 +170,7 @@ stops_full tells a b d e s0 s1 lines status lawful not_full whole fed = record {
   given = fed.given;
   gave = fed.gave;
   each = λ m tell agrees. let one : FedFrom tells d e s0 s1 lines fed.given m = fed.each m tell agrees in record {
-    progress = subst (λ (l : List ℕ). Progress m lines l e.images) (sym one.given_is) (progress_full m lines e.images (images_stand tells e (after m lines).state lawful one.agrees.store.settled one.agrees.stands));
+    progress = subst (λ (l : List ℕ). Progress m lines l e.images) (sym one.given_is) (progress_full m lines e.images (images_stand tells e (machine_after m lines).state lawful one.agrees.store.settled one.agrees.stands));
     images = one.images;
     full = λ held here need gap is. absurd (not_full need gap is);
     works = λ held here all. (worked_on_image (worked_lines d.limit m held lines) s1 e.content (one.works held here), one.agrees.store.settled);

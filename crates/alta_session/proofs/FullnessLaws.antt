@@ -9,7 +9,7 @@ use Rattle.alta_images.specs.Holding.{Holding}
 use Rattle.alta_images.specs.Working.{Full as Place}
 use Rattle.alta_session.specs.Fullness.{Overflows, IsFullOnly, IsInterrupted, IsFullExactly}
 use Rattle.alta_session.specs.Keeping.{clip}
-use Rattle.alta_session.specs.Machine.{Machine, after, replies}
+use Rattle.alta_session.specs.Machine.{Machine, machine_after, replies}
 use Rattle.alta_session.specs.Status.{StopsLine}
 use Rattle.alta_session.specs.Tasks.{worked_lines}
 use Rattle.alta_session.specs.declared.status.Status.{Status}
@@ -22,17 +22,17 @@ place need gap = record { need = need; gap = gap }
 
 -- behind lines that were answered
 work_on : (limit later : ℕ) (m : Machine) (held now : Holding) (xs ys : List (List ℕ)) (k : ℕ) → later ≡ limit → worked_lines limit m held xs ≡ Ok now
-    → worked_lines limit m held (take (length xs + k) (xs ++ ys)) ≡ worked_lines later (after m xs) now (take k ys)
+    → worked_lines limit m held (take (length xs + k) (xs ++ ys)) ≡ worked_lines later (machine_after m xs) now (take k ys)
 work_on limit later m held now xs ys k same done =
-    ap (λ (l : List (List ℕ)). worked_lines limit m held l) (take-append-add xs ys k) ∙ worked_on limit m held now xs (take k ys) done ∙ sym (ap (λ (n : ℕ). worked_lines n (after m xs) now (take k ys)) same)
+    ap (λ (l : List (List ℕ)). worked_lines limit m held l) (take-append-add xs ys k) ∙ worked_on limit m held now xs (take k ys) done ∙ sym (ap (λ (n : ℕ). worked_lines n (machine_after m xs) now (take k ys)) same)
 
 work_on_next : (limit later : ℕ) (m : Machine) (held now : Holding) (xs ys : List (List ℕ)) (k : ℕ) → later ≡ limit → worked_lines limit m held xs ≡ Ok now
-    → worked_lines limit m held (take (length xs + k + 1) (xs ++ ys)) ≡ worked_lines later (after m xs) now (take (k + 1) ys)
+    → worked_lines limit m held (take (length xs + k + 1) (xs ++ ys)) ≡ worked_lines later (machine_after m xs) now (take (k + 1) ys)
 work_on_next limit later m held now xs ys k same done =
     let sum : length xs + k + 1 ≡ length xs + (k + 1) = omega arith in
     ap (λ (n : ℕ). worked_lines limit m held (take n (xs ++ ys))) sum ∙ work_on limit later m held now xs ys (k + 1) same done
 
-pub over_on : (limit later : ℕ) (m : Machine) (held now : Holding) (xs ys : List (List ℕ)) (k need gap : ℕ) → later ≡ limit → worked_lines limit m held xs ≡ Ok now → Overflows later now (after m xs) ys k need gap
+pub over_on : (limit later : ℕ) (m : Machine) (held now : Holding) (xs ys : List (List ℕ)) (k need gap : ℕ) → later ≡ limit → worked_lines limit m held xs ≡ Ok now → Overflows later now (machine_after m xs) ys k need gap
     → Overflows limit held m (xs ++ ys) (length xs + k) need gap
 over_on limit later m held now xs ys k need gap same done over = record {
   within = omega (arith, over.within, length-append xs ys);
@@ -41,13 +41,13 @@ over_on limit later m held now xs ys k need gap same done over = record {
   wanting = work_on_next limit later m held now xs ys k same done ∙ over.wanting;
 }
 
-given_on : (m : Machine) (xs ys : List (List ℕ)) (k : ℕ) → concat (replies m xs) ++ concat (take k (replies (after m xs) ys)) ≡ concat (take (length xs + k) (replies m (xs ++ ys)))
+given_on : (m : Machine) (xs ys : List (List ℕ)) (k : ℕ) → concat (replies m xs) ++ concat (take k (replies (machine_after m xs) ys)) ≡ concat (take (length xs + k) (replies m (xs ++ ys)))
 given_on m xs ys k =
     let first : List (List ℕ) = replies m xs in
-    let later : List (List ℕ) = replies (after m xs) ys in
+    let later : List (List ℕ) = replies (machine_after m xs) ys in
     sym (joined_append first (take k later)) ∙ ap concat (sym (take-append-add first later k) ∙ ap (λ (n : ℕ). take (n + k) (first ++ later)) (length_replies m xs) ∙ ap (λ (l : List (List ℕ)). take (length xs + k) l) (sym (replies_append m xs ys)))
 
-pub full_on : (limit later : ℕ) (m : Machine) (held now : Holding) (xs ys : List (List ℕ)) (given : List ℕ) (status : Status) → later ≡ limit → worked_lines limit m held xs ≡ Ok now → IsFullOnly later now (after m xs) ys given status
+pub full_on : (limit later : ℕ) (m : Machine) (held now : Holding) (xs ys : List (List ℕ)) (given : List ℕ) (status : Status) → later ≡ limit → worked_lines limit m held xs ≡ Ok now → IsFullOnly later now (machine_after m xs) ys given status
     → IsFullOnly limit held m (xs ++ ys) (concat (replies m xs) ++ given) status
 full_on limit later m held now xs ys given status same done only = λ need gap is.
     let found = only need gap is in
@@ -67,7 +67,7 @@ over_more limit m held xs ys k need gap over = record {
 
 given_more : (m : Machine) (xs ys : List (List ℕ)) (k : ℕ) → k ≤ length xs → take k (replies m xs) ≡ take k (replies m (xs ++ ys))
 given_more m xs ys k within =
-    sym (take-append-le k (replies m xs) (replies (after m xs) ys) (omega (arith, within, length_replies m xs))) ∙ ap (λ (l : List (List ℕ)). take k l) (sym (replies_append m xs ys))
+    sym (take-append-le k (replies m xs) (replies (machine_after m xs) ys) (omega (arith, within, length_replies m xs))) ∙ ap (λ (l : List (List ℕ)). take k l) (sym (replies_append m xs ys))
 
 pub full_more : (limit : ℕ) (m : Machine) (held : Holding) (xs ys : List (List ℕ)) (given : List ℕ) (status : Status) → IsFullOnly limit held m xs given status → IsFullOnly limit held m (xs ++ ys) given status
 full_more limit m held xs ys given status only = λ need gap is.

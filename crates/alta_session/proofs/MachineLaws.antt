@@ -9,16 +9,16 @@ use Rattle.alta_model.specs.Lines.{Reading, asks, refuses, reading_of}
 use Rattle.alta_model.specs.declared.line.LineFault.{LineFault}
 use Rattle.alta_model.specs.declared.line.LineFault.TheVariants.{TooLong, NotUtf8, Unknown, Bad}
 use Rattle.alta_session.specs.Keeping.{clip}
-use Rattle.alta_session.specs.Machine.{Machine, refusal, adding, obeyed, answered, step, after, replies}
+use Rattle.alta_session.specs.Machine.{Machine, refusal, adding, obeyed, answered, step, machine_after, replies}
 use Rattle.alta_session.proofs.CursorLaws.{opening_some, fetching_some, closing_some}
 use Rattle.alta_session.proofs.DeletingLaws.{deleting_some, stats_some}
 use Rattle.alta_session.proofs.SearchLaws.{searching_some, counting_some, explaining_some}
 
-pub after_append : (m : Machine) (xs ys : List (List ℕ)) → after m (xs ++ ys) ≡ after (after m xs) ys
+pub after_append : (m : Machine) (xs ys : List (List ℕ)) → machine_after m (xs ++ ys) ≡ machine_after (machine_after m xs) ys
 after_append m [] ys = refl
 after_append m (x ∷ xs) ys = after_append (step m x).0 xs ys
 
-pub replies_append : (m : Machine) (xs ys : List (List ℕ)) → replies m (xs ++ ys) ≡ replies m xs ++ replies (after m xs) ys
+pub replies_append : (m : Machine) (xs ys : List (List ℕ)) → replies m (xs ++ ys) ≡ replies m xs ++ replies (machine_after m xs) ys
 replies_append m [] ys = refl
 replies_append m (x ∷ xs) ys = ap (λ (l : List (List ℕ)). (step m x).1 ∷ l) (replies_append (step m x).0 xs ys)
 
@@ -93,21 +93,21 @@ replies_clip m [] = refl
 replies_clip m (x ∷ xs) =
     ap (λ (p : Machine × List ℕ). p.1 ∷ replies p.0 (map clip xs)) (step_clip m x) ∙ ap (λ (l : List (List ℕ)). (step m x).1 ∷ l) (replies_clip (step m x).0 xs)
 
-pub after_clip : (m : Machine) (lines : List (List ℕ)) → after m (map clip lines) ≡ after m lines
+pub after_clip : (m : Machine) (lines : List (List ℕ)) → machine_after m (map clip lines) ≡ machine_after m lines
 after_clip m [] = refl
-after_clip m (x ∷ xs) = ap (λ (t : Machine). after t (map clip xs)) (ap (λ (p : Machine × List ℕ). p.0) (step_clip m x)) ∙ after_clip (step m x).0 xs
+after_clip m (x ∷ xs) = ap (λ (t : Machine). machine_after t (map clip xs)) (ap (λ (p : Machine × List ℕ). p.0) (step_clip m x)) ∙ after_clip (step m x).0 xs
 
 -- lines that are the same up to a clip have the same replies, and leave the same state
 pub replies_same : (m : Machine) (xs ys : List (List ℕ)) → map clip xs ≡ map clip ys → replies m xs ≡ replies m ys
 replies_same m xs ys same = sym (replies_clip m xs) ∙ ap (λ (l : List (List ℕ)). replies m l) same ∙ replies_clip m ys
 
-pub after_same : (m : Machine) (xs ys : List (List ℕ)) → map clip xs ≡ map clip ys → after m xs ≡ after m ys
-after_same m xs ys same = sym (after_clip m xs) ∙ ap (λ (l : List (List ℕ)). after m l) same ∙ after_clip m ys
+pub after_same : (m : Machine) (xs ys : List (List ℕ)) → map clip xs ≡ map clip ys → machine_after m xs ≡ machine_after m ys
+after_same m xs ys same = sym (after_clip m xs) ∙ ap (λ (l : List (List ℕ)). machine_after m l) same ∙ after_clip m ys
 
 -- the states after the first of lines that are the same up to a clip
-pub after_take : (m : Machine) (k : ℕ) (xs ys : List (List ℕ)) → map clip xs ≡ map clip ys → after m (take k xs) ≡ after m (take k ys)
+pub after_take : (m : Machine) (k : ℕ) (xs ys : List (List ℕ)) → map clip xs ≡ map clip ys → machine_after m (take k xs) ≡ machine_after m (take k ys)
 after_take m k xs ys same =
-    sym (after_clip m (take k xs)) ∙ ap (λ (l : List (List ℕ)). after m l) (sym (take-map clip k xs) ∙ ap (λ (l : List (List ℕ)). take k l) same ∙ take-map clip k ys) ∙ after_clip m (take k ys)
+    sym (after_clip m (take k xs)) ∙ ap (λ (l : List (List ℕ)). machine_after m l) (sym (take-map clip k xs) ∙ ap (λ (l : List (List ℕ)). take k l) same ∙ take-map clip k ys) ∙ after_clip m (take k ys)
 
 pub length_same : (m : Machine) (xs ys : List (List ℕ)) → map clip xs ≡ map clip ys → length xs ≡ length ys
 length_same m xs ys same = sym (length_replies m xs) ∙ ap length (sym (replies_clip m xs) ∙ ap (λ (l : List (List ℕ)). replies m l) same ∙ replies_clip m ys) ∙ length_replies m ys

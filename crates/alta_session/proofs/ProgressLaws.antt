@@ -6,7 +6,7 @@ use Rattle.std.specs.List.{concat}
 use Rattle.alta_console.specs.Replies.{IsPrefix, IsAcked, IsPartOfFirst}
 use Rattle.alta_console.proofs.ReplyLaws.{joined_append, joined_parts, part_begins, acked_part}
 use Rattle.alta_session.specs.Keeping.{clip}
-use Rattle.alta_session.specs.Machine.{Machine, step, after, replies}
+use Rattle.alta_session.specs.Machine.{Machine, step, machine_after, replies}
 use Rattle.alta_session.specs.Progress.{StandsAfterSome, StandsAfter, Progress}
 use Rattle.alta_session.proofs.MachineLaws.{after_append, replies_append, length_replies, reply_some, replies_clip, after_take, length_same}
 use Rattle.alta_images.specs.Standing.{StandsFor, StandsForEither}
@@ -25,11 +25,11 @@ some_either m line lines image (inl before) = record { reached = 0; within = ome
 some_either m line lines image (inr later) = record { reached = 1; within = omega arith; stands = later }
 
 -- behind lines that were answered
-pub some_on : (m : Machine) (xs ys : List (List ℕ)) (image : List ℕ) → StandsAfterSome (after m xs) ys image → StandsAfterSome m (xs ++ ys) image
+pub some_on : (m : Machine) (xs ys : List (List ℕ)) (image : List ℕ) → StandsAfterSome (machine_after m xs) ys image → StandsAfterSome m (xs ++ ys) image
 some_on m xs ys image some = record {
   reached = length xs + some.reached;
   within = omega (arith, length-append xs ys, some.within);
-  stands = subst (λ (t : Machine). StandsFor t.state image) (sym (ap (λ (l : List (List ℕ)). after m l) (take-append-add xs ys some.reached) ∙ after_append m xs (take some.reached ys))) some.stands;
+  stands = subst (λ (t : Machine). StandsFor t.state image) (sym (ap (λ (l : List (List ℕ)). machine_after m l) (take-append-add xs ys some.reached) ∙ after_append m xs (take some.reached ys))) some.stands;
 }
 
 -- with more lines behind
@@ -37,7 +37,7 @@ pub some_more : (m : Machine) (xs ys : List (List ℕ)) (image : List ℕ) → S
 some_more m xs ys image some = record {
   reached = some.reached;
   within = omega (arith, length-append xs ys, some.within);
-  stands = subst (λ (l : List (List ℕ)). StandsFor (after m l).state image) (sym (take-append-le some.reached xs ys some.within)) some.stands;
+  stands = subst (λ (l : List (List ℕ)). StandsFor (machine_after m l).state image) (sym (take-append-le some.reached xs ys some.within)) some.stands;
 }
 
 -- of lines that are the same up to a clip
@@ -76,20 +76,20 @@ pub progress_stop : (m : Machine) (line : List ℕ) (lines : List (List ℕ)) (p
     → Progress m (line ∷ lines) part images
 progress_stop m line lines part left images whole some either = record { answered = 0; part = part; some = omega arith; given_is = refl; started = (left, whole, some); stand = λ t h. before_or_after m line lines t (either t h) }
 
-after_on : (answered : ℕ) (m : Machine) (xs ys : List (List ℕ)) (image : List ℕ) → StandsAfter answered (after m xs) ys image → StandsAfter (length xs + answered) m (xs ++ ys) image
+after_on : (answered : ℕ) (m : Machine) (xs ys : List (List ℕ)) (image : List ℕ) → StandsAfter answered (machine_after m xs) ys image → StandsAfter (length xs + answered) m (xs ++ ys) image
 after_on answered m xs ys image r = record {
   reached = length xs + r.reached;
   least = omega (arith, r.least);
   most = omega (arith, r.most);
   within = omega (arith, length-append xs ys, r.within);
-  stands = subst (λ (t : Machine). StandsFor t.state image) (sym (ap (λ (l : List (List ℕ)). after m l) (take-append-add xs ys r.reached) ∙ after_append m xs (take r.reached ys))) r.stands;
+  stands = subst (λ (t : Machine). StandsFor t.state image) (sym (ap (λ (l : List (List ℕ)). machine_after m l) (take-append-add xs ys r.reached) ∙ after_append m xs (take r.reached ys))) r.stands;
 }
 
 -- lines that were answered before
-pub progress_on : (m : Machine) (xs ys : List (List ℕ)) (given : List ℕ) (images : List ℕ → Type 0) → Progress (after m xs) ys given images → Progress m (xs ++ ys) (concat (replies m xs) ++ given) images
+pub progress_on : (m : Machine) (xs ys : List (List ℕ)) (given : List ℕ) (images : List ℕ → Type 0) → Progress (machine_after m xs) ys given images → Progress m (xs ++ ys) (concat (replies m xs) ++ given) images
 progress_on m xs ys given images p =
     let first : List (List ℕ) = replies m xs in
-    let later : List (List ℕ) = replies (after m xs) ys in
+    let later : List (List ℕ) = replies (machine_after m xs) ys in
     let long : length first ≡ length xs = length_replies m xs in
     let taken : take (length xs + p.answered) (replies m (xs ++ ys)) ≡ first ++ take p.answered later =
     ap (λ (l : List (List ℕ)). take (length xs + p.answered) l) (replies_append m xs ys) ∙ ap (λ (n : ℕ). take (n + p.answered) (first ++ later)) (sym long) ∙ take-append-add first later p.answered in
@@ -107,11 +107,11 @@ progress_on m xs ys given images p =
     }
 
 -- all lines were answered
-pub progress_full : (m : Machine) (lines : List (List ℕ)) (images : List ℕ → Type 0) → ((image : List ℕ) → images image → StandsFor (after m lines).state image) → Progress m lines (concat (replies m lines)) images
+pub progress_full : (m : Machine) (lines : List (List ℕ)) (images : List ℕ → Type 0) → ((image : List ℕ) → images image → StandsFor (machine_after m lines).state image) → Progress m lines (concat (replies m lines)) images
 progress_full m lines images stand =
     let P : List (List ℕ) → Type 0 = λ l. Progress m l (concat (replies m lines) ++ []) images in
     let Q : List ℕ → Type 0 = λ g. Progress m lines g images in
-    subst Q (append-nil (concat (replies m lines))) (subst P (append-nil lines) (progress_on m lines [] [] images (progress_none (after m lines) [] images stand)))
+    subst Q (append-nil (concat (replies m lines))) (subst P (append-nil lines) (progress_on m lines [] [] images (progress_none (machine_after m lines) [] images stand)))
 
 after_clipped : (answered : ℕ) (m : Machine) (xs ys : List (List ℕ)) (image : List ℕ) → map clip xs ≡ map clip ys → StandsAfter answered m xs image → StandsAfter answered m ys image
 after_clipped answered m xs ys image same r = record {
@@ -147,14 +147,14 @@ after_more answered m xs ys image r = record {
   least = r.least;
   most = r.most;
   within = omega (arith, length-append xs ys, r.within);
-  stands = subst (λ (l : List (List ℕ)). StandsFor (after m l).state image) (sym (take-append-le r.reached xs ys r.within)) r.stands;
+  stands = subst (λ (l : List (List ℕ)). StandsFor (machine_after m l).state image) (sym (take-append-le r.reached xs ys r.within)) r.stands;
 }
 
 -- lines that were not reached
 pub progress_more : (m : Machine) (xs ys : List (List ℕ)) (given : List ℕ) (images : List ℕ → Type 0) → Progress m xs given images → Progress m (xs ++ ys) given images
 progress_more m xs ys given images p =
     let first : List (List ℕ) = replies m xs in
-    let later : List (List ℕ) = replies (after m xs) ys in
+    let later : List (List ℕ) = replies (machine_after m xs) ys in
     let long : length first ≡ length xs = length_replies m xs in
     let within : p.answered ≤ length first = omega (arith, p.some, long) in
     let taken : take p.answered (replies m (xs ++ ys)) ≡ take p.answered first =
@@ -167,6 +167,6 @@ progress_more m xs ys given images p =
       part = p.part;
       some = omega (arith, length-append xs ys, p.some);
       given_is = p.given_is ∙ ap (λ (l : List (List ℕ)). concat l ++ p.part) (sym taken);
-      started = subst P (sym dropped) (part_more (drop p.answered first) (after m xs) ys p.part p.started);
+      started = subst P (sym dropped) (part_more (drop p.answered first) (machine_after m xs) ys p.part p.started);
       stand = λ t h. after_more p.answered m xs ys t (p.stand t h);
     }

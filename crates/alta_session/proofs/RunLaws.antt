@@ -17,7 +17,7 @@ use Rattle.alta_session.specs.Fed.{Fed, FedFrom}
 use Rattle.alta_session.specs.Fullness.{IsFullOnly, IsFullExactly}
 use Rattle.alta_session.specs.Going.{Goes, GoingFrom}
 use Rattle.alta_session.specs.Keeping.{clip}
-use Rattle.alta_session.specs.Machine.{Machine, after, replies}
+use Rattle.alta_session.specs.Machine.{Machine, machine_after, replies}
 use Rattle.alta_session.specs.Progress.{StandsAfterSome, Progress, StopsWithin, StopsWithinFrom}
 use Rattle.alta_session.specs.Run.{AnswersAll, AnswersInTime, Runs, RunsFrom}
 use Rattle.alta_session.specs.Status.{StopsLine, EndsLine}
@@ -75,7 +75,7 @@ runs_from limit d e session run status m time p done leaves full levels never sp
 }
 
 -- it ended in answering a line, or the work of all that came before was done too
-ends_on : (limit later : ℕ) (m : Machine) (held now : Holding) (xs ys : List (List ℕ)) (status : Status) (Here : Holding → Type 0) → later ≡ limit → worked_lines limit m held xs ≡ Ok now → StopsLine status ⊎ IsWorked (worked_lines later (after m xs) now ys) Here
+ends_on : (limit later : ℕ) (m : Machine) (held now : Holding) (xs ys : List (List ℕ)) (status : Status) (Here : Holding → Type 0) → later ≡ limit → worked_lines limit m held xs ≡ Ok now → StopsLine status ⊎ IsWorked (worked_lines later (machine_after m xs) now ys) Here
     → StopsLine status ⊎ ((z : Holding) × (worked_lines limit m held (xs ++ ys) ≡ Ok z))
 ends_on limit later m held now xs ys status Here same first (inl ends) = inl ends
 ends_on limit later m held now xs ys status Here same first (inr more) = let all : IsWorked (worked_lines limit m held (xs ++ ys)) Here = lines_on limit later m held now xs ys Here same first more in inr (all.now, all.is)
@@ -92,9 +92,9 @@ given_on run gives event given none is =
     given_in_append run (event ∷ gives) ∙ ap (λ (l : List ℕ). given_in run ++ l) (given_in_append (event ∷ []) gives ∙ ap (λ (l : List ℕ). l ++ given_in gives) none ∙ is)
 
 after_from : (tells : Type 0) (limit : ℕ) (d e f : DiskState) (s0 s1 : Session) (run gives : List Event) (event : Event) (given : List ℕ) (later : List (List ℕ)) (status : Status) (m : Machine) → GoingFrom tells d e s0 s1 run m
-    → KeepsStore s0 s1 (whole (taken_in run)) → e.limit ≡ d.limit → StopsWithinFrom e f s1 later given status (after m (whole (taken_in run))) → AllGiven gives → given_in gives ≡ given → given_in (event ∷ []) ≡ [] → lines_in limit (run ++ event ∷ gives) ≡ whole (taken_in run) ++ later
-    → (status ≡ Done → (has_ended (run ++ event ∷ gives) ≡ true) × (given ≡ concat (replies (after m (whole (taken_in run))) later)))
-    → StopsLine status ⊎ ((held : Holding) → IsBy s1 e.content held → IsWorked (worked_lines e.limit (after m (whole (taken_in run))) held later) (IsOn f.content)) → RunsFrom limit d f s0 (run ++ event ∷ gives) status m
+    → KeepsStore s0 s1 (whole (taken_in run)) → e.limit ≡ d.limit → StopsWithinFrom e f s1 later given status (machine_after m (whole (taken_in run))) → AllGiven gives → given_in gives ≡ given → given_in (event ∷ []) ≡ [] → lines_in limit (run ++ event ∷ gives) ≡ whole (taken_in run) ++ later
+    → (status ≡ Done → (has_ended (run ++ event ∷ gives) ≡ true) × (given ≡ concat (replies (machine_after m (whole (taken_in run))) later)))
+    → StopsLine status ⊎ ((held : Holding) → IsBy s1 e.content held → IsWorked (worked_lines e.limit (machine_after m (whole (taken_in run))) held later) (IsOn f.content)) → RunsFrom limit d f s0 (run ++ event ∷ gives) status m
 after_from tells limit d e f s0 s1 run gives event given later status m going kept same stops all_given gave none lines done ends =
     let before : List (List ℕ) = whole (taken_in run) in
     let now : List Event = run ++ event ∷ gives in
@@ -108,13 +108,13 @@ after_from tells limit d e f s0 s1 run gives event given later status m going ke
     let S : List (List ℕ) → Type 0 = λ l. Spends d f s0 m l in
     runs_from limit d f s0 now status m (in_time_on m run event gives going.in_time going.given_is all_given)
     (subst P (sym lines) (subst Q (sym given_is) (progress_on m before later given f.images stops.progress)))
-    (λ is. ((done is).0, given_is ∙ ap (λ (l : List ℕ). concat (replies m before) ++ l) (done is).1 ∙ sym (joined_append (replies m before) (replies (after m before) later)) ∙ ap concat (sym (replies_append m before later) ∙ ap (λ (l : List (List ℕ)). replies m l) (sym lines))))
+    (λ is. ((done is).0, given_is ∙ ap (λ (l : List ℕ). concat (replies m before) ++ l) (done is).1 ∙ sym (joined_append (replies m before) (replies (machine_after m before) later)) ∙ ap concat (sym (replies_append m before later) ∙ ap (λ (l : List (List ℕ)). replies m l) (sym lines))))
     (subst R (sym lines) (leaves_on d e f m before later going.images stops.images))
     (λ held here.
     let done : IsWorked (worked_lines d.limit m held before) (IsBy s1 e.content) = going.works held here in
     subst (F held) (sym lines) (full_exactly d.limit m held (before ++ later) (given_in now) status
     (subst (G held) (sym given_is) (full_on d.limit e.limit m held done.now before later given status same done.is (stops.full done.now done.held)))
-    (ends_on d.limit e.limit m held done.now before later status (IsOn f.content) same done.is (ends_at status e.limit (after m before) later (IsBy s1 e.content) (IsOn f.content) done.now done.held ends))))
+    (ends_on d.limit e.limit m held done.now before later status (IsOn f.content) same done.is (ends_at status e.limit (machine_after m before) later (IsBy s1 e.content) (IsOn f.content) done.now done.held ends))))
     (λ held here all.
     let done : IsWorked (worked_lines d.limit m held before) (IsBy s1 e.content) = going.works held here in
     subst (D held) (sym lines) (done_on d.limit e.limit m held done.now before later f same done.is
@@ -183,13 +183,13 @@ goes_on tells limit a b c d la lb lc ld e f h s0 s1 s2 kept kept_now taken piece
       keeps = subst (λ (l : List (List ℕ)). KeepsStore s0 s2 l) (sym lines) (keeps_on s0 s1 s2 (whole bytes) later goes.keeps fed_now.keeps);
       each = λ m tell agrees.
           let one : GoingFrom tells e f s0 s1 run m = goes.each m tell agrees in
-          let two : FedFrom tells f h s1 s2 later fed_now.given (after m (whole bytes)) = fed_now.each (after m (whole bytes)) tell one.agrees in
+          let two : FedFrom tells f h s1 s2 later fed_now.given (machine_after m (whole bytes)) = fed_now.each (machine_after m (whole bytes)) tell one.agrees in
           record {
             given_is = given_on run gives (Taken piece) fed_now.given refl fed_now.gave.3 ∙ ap (λ (l : List ℕ). l ++ fed_now.given) one.given_is
-                ∙ ap (λ (l : List ℕ). concat (replies m (whole bytes)) ++ l) two.given_is ∙ sym (joined_append (replies m (whole bytes)) (replies (after m (whole bytes)) later))
+                ∙ ap (λ (l : List ℕ). concat (replies m (whole bytes)) ++ l) two.given_is ∙ sym (joined_append (replies m (whole bytes)) (replies (machine_after m (whole bytes)) later))
                 ∙ ap concat (sym (replies_append m (whole bytes) later) ∙ ap (λ (l : List (List ℕ)). replies m l) (sym lines));
             in_time = in_time_on m run (Taken piece) gives one.in_time one.given_is fed_now.gave.2;
-            agrees = subst (λ (t : Machine). AgreesOn tells h s2 t) (sym (after_append m (whole bytes) later) ∙ ap (λ (l : List (List ℕ)). after m l) (sym lines)) two.agrees;
+            agrees = subst (λ (t : Machine). AgreesOn tells h s2 t) (sym (after_append m (whole bytes) later) ∙ ap (λ (l : List (List ℕ)). machine_after m l) (sym lines)) two.agrees;
             images = subst (λ (l : List (List ℕ)). LeavesOnly (StandsAfterSome m l) e h) (sym lines) (leaves_on e f h m (whole bytes) later one.images two.images);
             works = λ held here.
                 let done : IsWorked (worked_lines e.limit m held (whole bytes)) (IsBy s1 f.content) = one.works held here in
@@ -219,7 +219,7 @@ runs_stopped tells limit a b c d la lb lc ld e f h s0 s1 kept taken piece status
       too_long = (λ long. absurd (ends_not_long status ends long), λ past. absurd (omega arith));
       last = λ past. absurd (omega arith);
       each = λ m tell agrees. let one : GoingFrom tells e f s0 s1 run m = goes.each m tell agrees in
-          after_from tells limit e f h s0 s1 run gives (Taken piece) stops.given later status m one goes.keeps goes.same_limit (stops.each (after m (whole bytes)) tell one.agrees) stops.gave.2 stops.gave.3 refl lines (λ done. absurd (ends_not_done status ends done)) (inl (ends_whole status ends (stops.each (after m (whole bytes)) tell one.agrees).undamaged));
+          after_from tells limit e f h s0 s1 run gives (Taken piece) stops.given later status m one goes.keeps goes.same_limit (stops.each (machine_after m (whole bytes)) tell one.agrees) stops.gave.2 stops.gave.3 refl lines (λ done. absurd (ends_not_done status ends done)) (inl (ends_whole status ends (stops.each (machine_after m (whole bytes)) tell one.agrees).undamaged));
     }
 
 -- a piece passed the limit
@@ -241,7 +241,7 @@ runs_past tells limit a b c la lb lc e f s0 s1 kept taken piece lawful goes took
       too_long = (λ long. omega (arith, goes.taken_is, ap length taken_now, length-append bytes piece), λ over. refl);
       last = λ over. record { before = run; piece = piece; run_is = refl; within = goes.within };
       each = λ m tell agrees. let one : GoingFrom tells e f s0 s1 run m = goes.each m tell agrees in
-          after_from tells limit e f f s0 s1 run [] (Taken piece) stops.given [] TooLong m one goes.keeps goes.same_limit (stops.each (after m (whole bytes)) tell one.agrees) tt refl refl lines (λ done. absurd cc) (inr (λ held here. record { now = held; is = refl; held = here.is }));
+          after_from tells limit e f f s0 s1 run [] (Taken piece) stops.given [] TooLong m one goes.keeps goes.same_limit (stops.each (machine_after m (whole bytes)) tell one.agrees) tt refl refl lines (λ done. absurd cc) (inr (λ held here. record { now = held; is = refl; held = here.is }));
     }
 
 ended_on : (run gives : List Event) → AllGiven gives → taken_in (run ++ Ended ∷ gives) ≡ taken_in run ++ []
@@ -269,8 +269,8 @@ ended_with tells limit a b c d la lb lc ld e f h s0 s1 kept taken status goes to
       too_long = (λ long. absurd (not_long long), λ past. absurd (omega arith));
       last = λ past. absurd (omega arith);
       each = λ m tell agrees. let one : GoingFrom tells e f s0 s1 run m = goes.each m tell agrees in
-          after_from tells limit e f h s0 s1 run gives Ended stops.given later status m one goes.keeps goes.same_limit (stops.each (after m (whole bytes)) tell one.agrees) stops.gave.2 stops.gave.3 refl lines (λ done. (ended, all (after m (whole bytes)) tell one.agrees done))
-          (ends (after m (whole bytes)) tell one.agrees);
+          after_from tells limit e f h s0 s1 run gives Ended stops.given later status m one goes.keeps goes.same_limit (stops.each (machine_after m (whole bytes)) tell one.agrees) stops.gave.2 stops.gave.3 refl lines (λ done. (ended, all (machine_after m (whole bytes)) tell one.agrees done))
+          (ends (machine_after m (whole bytes)) tell one.agrees);
     }
 
 pub runs_ended : (tells : Type 0) (limit : ℕ) (a b c d : Option (List Event)) (la lb lc ld : Option (List ℕ)) (e f h : DiskState) (s0 s1 : Session) (kept : List ℕ) (taken : ℕ) (status : Status) → Goes tells limit a b la lb e f s0 s1 kept taken → Grows b c (Ended ∷ []) → Consumes lb lc []
@@ -307,7 +307,7 @@ runs_failed tells limit a b c la lb lc e f s0 s1 kept taken status lawful goes s
       last = λ past. absurd (omega (arith, goes.within));
       each = λ m tell agrees. let one : GoingFrom tells e f s0 s1 run m = goes.each m tell agrees in
           runs_from limit e f s0 run status m one.in_time
-          (subst (λ (l : List (List ℕ)). Progress m l (given_in run) f.images) (sym lines) (subst (λ (l : List ℕ). Progress m (whole bytes) l f.images) (sym one.given_is) (progress_full m (whole bytes) f.images (images_stand tells f (after m (whole bytes)).state lawful one.agrees.store.settled one.agrees.stands))))
+          (subst (λ (l : List (List ℕ)). Progress m l (given_in run) f.images) (sym lines) (subst (λ (l : List ℕ). Progress m (whole bytes) l f.images) (sym one.given_is) (progress_full m (whole bytes) f.images (images_stand tells f (machine_after m (whole bytes)).state lawful one.agrees.store.settled one.agrees.stands))))
           (λ done. absurd (not_done done)) (subst (λ (l : List (List ℕ)). LeavesOnly (StandsAfterSome m l) e f) (sym lines) one.images)
           (λ held here.
           let done : IsWorked (worked_lines e.limit m held (lines_in limit run)) (IsBy s1 f.content) = subst (λ (l : List (List ℕ)). IsWorked (worked_lines e.limit m held l) (IsBy s1 f.content)) (sym lines) (one.works held here) in

@@ -11,7 +11,7 @@ use Rattle.alta_search.specs.Open.{AreOpen, OpenAnswers}
 use Rattle.alta_search.specs.declared.cursors.OpenCursor.{OpenCursor}
 use Rattle.alta_session.specs.Keeping.{clip}
 use Rattle.alta_session.specs.Loading.{Loads, line_loads, loads_in, newest_in, session_loads}
-use Rattle.alta_session.specs.Machine.{Looks, LooksIn, Machine, Searches, SearchesIn, step, after}
+use Rattle.alta_session.specs.Machine.{Looks, LooksIn, Machine, Searches, SearchesIn, step, machine_after}
 use Rattle.alta_session.specs.Spending.{KeepsStore, OnlyReads, ReadsIn, Spends, line_bytes, lines_bytes}
 use Rattle.alta_session.specs.declared.session.Session.{Session}
 use Rattle.alta_store.specs.Agreement.{levels_of}
@@ -65,7 +65,7 @@ bytes_same : (levels : List Tables) (newest : Content) (m : Machine) (xs ys : Li
 bytes_same levels newest m xs ys same =
     sym (lines_clip levels newest m xs) ∙ ap (λ (l : List (List ℕ)). lines_bytes levels newest m l) same ∙ lines_clip levels newest m ys
 
-bytes_append : (levels : List Tables) (newest : Content) (m : Machine) (xs ys : List (List ℕ)) → lines_bytes levels newest m (xs ++ ys) ≡ lines_bytes levels newest m xs + lines_bytes levels newest (after m xs) ys
+bytes_append : (levels : List Tables) (newest : Content) (m : Machine) (xs ys : List (List ℕ)) → lines_bytes levels newest m (xs ++ ys) ≡ lines_bytes levels newest m xs + lines_bytes levels newest (machine_after m xs) ys
 bytes_append levels newest m [] ys = omega arith
 bytes_append levels newest m (x ∷ xs) ys = omega (arith, bytes_append levels newest (step m x).0 xs ys)
 
@@ -79,9 +79,9 @@ spends_clip d e session m xs ys same spends all = omega (arith, spends (all_same
 pub spends_more : (d e : DiskState) (session : Session) (m : Machine) (xs ys : List (List ℕ)) → Spends d e session m xs → Spends d e session m (xs ++ ys)
 spends_more d e session m xs ys spends all = omega (arith, spends (all_first OnlyReads xs ys all), bytes_append (levels_of session.store) (newest_in session.store) m xs ys)
 
-pub spends_on : (d e f : DiskState) (s0 s1 : Session) (m : Machine) (xs ys : List (List ℕ)) → Spends d e s0 m xs → KeepsStore s0 s1 xs → Spends e f s1 (after m xs) ys → Spends d f s0 m (xs ++ ys)
+pub spends_on : (d e f : DiskState) (s0 s1 : Session) (m : Machine) (xs ys : List (List ℕ)) → Spends d e s0 m xs → KeepsStore s0 s1 xs → Spends e f s1 (machine_after m xs) ys → Spends d f s0 m (xs ++ ys)
 spends_on d e f s0 s1 m xs ys one kept two all =
-    let P : Store → Type 0 = λ store. f.taken ≤ e.taken + lines_bytes (levels_of store) (newest_in store) (after m xs) ys in
+    let P : Store → Type 0 = λ store. f.taken ≤ e.taken + lines_bytes (levels_of store) (newest_in store) (machine_after m xs) ys in
     let more : P s0.store = subst P (kept (all_first OnlyReads xs ys all)) (two (all_later OnlyReads xs ys all)) in
     omega (arith, one (all_first OnlyReads xs ys all), more, bytes_append (levels_of s0.store) (newest_in s0.store) m xs ys)
 

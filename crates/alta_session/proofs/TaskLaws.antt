@@ -14,7 +14,7 @@ use Rattle.alta_journal.specs.declared.entry.Entry.TheVariants.{Add, Delete}
 use Rattle.alta_meta.specs.declared.document.State.{State}
 use Rattle.alta_model.specs.Lines.{Reading, reading_of}
 use Rattle.alta_session.specs.Keeping.{clip}
-use Rattle.alta_session.specs.Machine.{Machine, step, after}
+use Rattle.alta_session.specs.Machine.{Machine, step, machine_after}
 use Rattle.alta_session.specs.Tasks.{task_of_add, task_of_delete, task_in, task_of, worked_where, worked_line, worked_lines, IsBy, IsOn, IsWorked}
 use Rattle.alta_session.specs.declared.session.Session.{Session}
 use Rattle.alta_session.proofs.DeletingLaws.{not_numbered}
@@ -130,19 +130,19 @@ pub one_worked : (limit : ℕ) (m : Machine) (held : Holding) (line : List ℕ) 
 one_worked limit m held line = chain_ok (worked_line limit m held line) ∙ line_works limit m held line
 
 -- lines, and then more
-worked_append : (limit : ℕ) (m : Machine) (held : Holding) (xs ys : List (List ℕ)) → worked_lines limit m held (xs ++ ys) ≡ (worked_lines limit m held xs >>= λ now. worked_lines limit (after m xs) now ys)
+worked_append : (limit : ℕ) (m : Machine) (held : Holding) (xs ys : List (List ℕ)) → worked_lines limit m held (xs ++ ys) ≡ (worked_lines limit m held xs >>= λ now. worked_lines limit (machine_after m xs) now ys)
 worked_append limit m held [] ys = refl
 worked_append limit m held (x ∷ xs) ys =
-    chain_same (worked_line limit m held x) (λ now. worked_lines limit (step m x).0 now (xs ++ ys)) (λ now. worked_lines limit (step m x).0 now xs >>= λ z. worked_lines limit (after (step m x).0 xs) z ys)
+    chain_same (worked_line limit m held x) (λ now. worked_lines limit (step m x).0 now (xs ++ ys)) (λ now. worked_lines limit (step m x).0 now xs >>= λ z. worked_lines limit (machine_after (step m x).0 xs) z ys)
     (λ now. worked_append limit (step m x).0 now xs ys)
-    ∙ chain_chain (worked_line limit m held x) (λ now. worked_lines limit (step m x).0 now xs) (λ z. worked_lines limit (after (step m x).0 xs) z ys)
+    ∙ chain_chain (worked_line limit m held x) (λ now. worked_lines limit (step m x).0 now xs) (λ z. worked_lines limit (machine_after (step m x).0 xs) z ys)
 
 -- where the first are done, and where they find no place
-pub worked_on : (limit : ℕ) (m : Machine) (held now : Holding) (xs ys : List (List ℕ)) → worked_lines limit m held xs ≡ Ok now → worked_lines limit m held (xs ++ ys) ≡ worked_lines limit (after m xs) now ys
-worked_on limit m held now xs ys done = worked_append limit m held xs ys ∙ ap (λ (r : Result Holding Full). r >>= λ z. worked_lines limit (after m xs) z ys) done
+pub worked_on : (limit : ℕ) (m : Machine) (held now : Holding) (xs ys : List (List ℕ)) → worked_lines limit m held xs ≡ Ok now → worked_lines limit m held (xs ++ ys) ≡ worked_lines limit (machine_after m xs) now ys
+worked_on limit m held now xs ys done = worked_append limit m held xs ys ∙ ap (λ (r : Result Holding Full). r >>= λ z. worked_lines limit (machine_after m xs) z ys) done
 
 pub wanting_on : (limit : ℕ) (m : Machine) (held : Holding) (full : Full) (xs ys : List (List ℕ)) → worked_lines limit m held xs ≡ Err full → worked_lines limit m held (xs ++ ys) ≡ Err full
-wanting_on limit m held full xs ys wanting = worked_append limit m held xs ys ∙ ap (λ (r : Result Holding Full). r >>= λ z. worked_lines limit (after m xs) z ys) wanting
+wanting_on limit m held full xs ys wanting = worked_append limit m held xs ys ∙ ap (λ (r : Result Holding Full). r >>= λ z. worked_lines limit (machine_after m xs) z ys) wanting
 
 -- lines that are the same up to a clip
 worked_clip : (limit : ℕ) (m : Machine) (held : Holding) (lines : List (List ℕ)) → worked_lines limit m held (map clip lines) ≡ worked_lines limit m held lines
@@ -162,10 +162,10 @@ worked_take limit m held k xs ys same = worked_same limit m held (take k xs) (ta
 pub worked_as : (work other : Result Holding Full) (Here : Holding → Type 0) → work ≡ other → IsWorked work Here → IsWorked other Here
 worked_as work other Here is done = record { now = done.now; is = sym is ∙ done.is; held = done.held }
 
-pub lines_on : (limit later : ℕ) (m : Machine) (held now : Holding) (xs ys : List (List ℕ)) (Here : Holding → Type 0) → later ≡ limit → worked_lines limit m held xs ≡ Ok now → IsWorked (worked_lines later (after m xs) now ys) Here
+pub lines_on : (limit later : ℕ) (m : Machine) (held now : Holding) (xs ys : List (List ℕ)) (Here : Holding → Type 0) → later ≡ limit → worked_lines limit m held xs ≡ Ok now → IsWorked (worked_lines later (machine_after m xs) now ys) Here
     → IsWorked (worked_lines limit m held (xs ++ ys)) Here
 lines_on limit later m held now xs ys Here same done more =
-    worked_as _ _ Here (ap (λ (n : ℕ). worked_lines n (after m xs) now ys) same ∙ sym (worked_on limit m held now xs ys done)) more
+    worked_as _ _ Here (ap (λ (n : ℕ). worked_lines n (machine_after m xs) now ys) same ∙ sym (worked_on limit m held now xs ys done)) more
 
 -- what a session holds then the image has
 pub worked_on_image : (work : Result Holding Full) (session : Session) (image : List ℕ) → IsWorked work (IsBy session image) → IsWorked work (IsOn image)

@@ -12,7 +12,7 @@ use Rattle.alta_images.specs.Switching.{empty_held}
 use Rattle.alta_root.specs.Slots.{HasNoRoot}
 use Rattle.alta_session.specs.Fed.{Fed}
 use Rattle.alta_session.specs.Fullness.{Overflows, IsInterrupted, IsFull}
-use Rattle.alta_session.specs.Machine.{Machine, started_at, after, replies}
+use Rattle.alta_session.specs.Machine.{Machine, started_at, machine_after, replies}
 use Rattle.alta_session.specs.Progress.{StopsWithin}
 use Rattle.alta_session.specs.Run.{KeepsDisk}
 use Rattle.alta_session.specs.Status.{EndsInit, EndsLine, IsOpened, IsUnmade}
@@ -49,9 +49,9 @@ pub record IsFullBehind (limit : ℕ) (held : Holding) (start : Machine) (lines 
 -- Over an open index that has this: the replies to `asked` were given, and the disk has what the work of all lines makes of it, or it ended
 -- before.
 pub record ReportsFrom (limit : ℕ) (held : Holding) (start : Machine) (lines asked : List (List ℕ)) (given : List ℕ) (disk_now : DiskState) (status : Status) : Type 0 where
-  pub begins : IsPrefix given (concat (replies (after start lines) asked))
-  pub all : status ≡ Done → given ≡ concat (replies (after start lines) asked)
-  pub stands : status ≡ Done → StandsFor (after start (lines ++ asked)).state disk_now.content
+  pub begins : IsPrefix given (concat (replies (machine_after start lines) asked))
+  pub all : status ≡ Done → given ≡ concat (replies (machine_after start lines) asked)
+  pub stands : status ≡ Done → StandsFor (machine_after start (lines ++ asked)).state disk_now.content
   -- nothing is pending then
   pub levels : status ≡ Done → IsDone (worked_lines limit start held (lines ++ asked)) disk_now
   pub full : IsFullBehind limit held start lines asked given status
@@ -70,7 +70,7 @@ pub record Demonstrates (tells : Type 0) (lines asked : List (List ℕ)) (told t
   pub given : List ℕ
   pub gave : Gives told told_now given
   -- at every status
-  pub begins : tells → IsPrefix given (concat (replies (after (started_at empty) lines) asked))
+  pub begins : tells → IsPrefix given (concat (replies (machine_after (started_at empty) lines) asked))
   pub opened : tells → IsOpened status
   -- where there is an index already, or the disk is too small for one
   pub exists : tells → status ≡ Exists → HasNoRoot disk.content → ⊥
@@ -81,4 +81,4 @@ pub record Demonstrates (tells : Type 0) (lines asked : List (List ℕ)) (told t
   pub reports : tells → HasNoRoot disk.content → 2105344 ≤ disk.limit
       → ReportsFrom disk.limit empty_held (started_at empty) lines asked given disk_now status
   pub narrow : (need gap : ℕ) → tells → 2105344 ≤ disk.limit → status ≡ Full need gap → IsFull disk_now need gap
-  pub stands : status ≡ Done → Stands tells disk_now (StandsFor (after (started_at empty) (lines ++ asked)).state)
+  pub stands : status ≡ Done → Stands tells disk_now (StandsFor (machine_after (started_at empty) (lines ++ asked)).state)

@@ -6,7 +6,7 @@ use Rattle.alta_console.specs.declared.event.Event.{Event}
 use Rattle.alta_disk.specs.Disk.{DiskState, LeavesOnly}
 use Rattle.alta_images.specs.Holding.{Holding}
 use Rattle.alta_session.specs.Agreement.{AgreesOn}
-use Rattle.alta_session.specs.Machine.{Machine, after, replies}
+use Rattle.alta_session.specs.Machine.{Machine, machine_after, replies}
 use Rattle.alta_session.specs.Progress.{StandsAfterSome}
 use Rattle.alta_session.specs.Spending.{KeepsStore, Spends}
 use Rattle.alta_session.specs.Tasks.{IsBy, IsWorked, worked_lines}
@@ -16,7 +16,7 @@ use Rattle.alta_session.specs.declared.session.Session.{Session}
 -- there an image of another state than after some.
 pub record FedFrom (tells : Type 0) (disk disk_now : DiskState) (session session_now : Session) (lines : List (List ℕ)) (given : List ℕ) (m : Machine) : Type 0 where
   pub given_is : given ≡ concat (replies m lines)
-  pub agrees : AgreesOn tells disk_now session_now (after m lines)
+  pub agrees : AgreesOn tells disk_now session_now (machine_after m lines)
   pub images : LeavesOnly (StandsAfterSome m lines) disk disk_now
   pub works : (held : Holding) → IsBy session disk.content held → IsWorked (worked_lines disk.limit m held lines) (IsBy session_now disk_now.content)
   pub spends : Spends disk disk_now session m lines

@@ -8,7 +8,7 @@ use Rattle.alta_disk.specs.Disk.{DiskState, LeavesOnly}
 use Rattle.alta_images.specs.Holding.{Holding}
 use Rattle.alta_session.specs.Agreement.{AgreesOn}
 use Rattle.alta_session.specs.Keeping.{clip}
-use Rattle.alta_session.specs.Machine.{Machine, after, replies}
+use Rattle.alta_session.specs.Machine.{Machine, machine_after, replies}
 use Rattle.alta_session.specs.Progress.{StandsAfterSome}
 use Rattle.alta_session.specs.Run.{AnswersInTime}
 use Rattle.alta_session.specs.Spending.{KeepsStore, Spends}
@@ -19,7 +19,7 @@ use Rattle.alta_session.specs.declared.session.Session.{Session}
 pub record GoingFrom (tells : Type 0) (disk disk_now : DiskState) (session session_now : Session) (run : List Event) (m : Machine) : Type 0 where
   pub given_is : given_in run ≡ concat (replies m (whole (taken_in run)))
   pub in_time : AnswersInTime m run
-  pub agrees : AgreesOn tells disk_now session_now (after m (whole (taken_in run)))
+  pub agrees : AgreesOn tells disk_now session_now (machine_after m (whole (taken_in run)))
   pub images : LeavesOnly (StandsAfterSome m (whole (taken_in run))) disk disk_now
   pub works : (held : Holding) → IsBy session disk.content held → IsWorked (worked_lines disk.limit m held (whole (taken_in run))) (IsBy session_now disk_now.content)
   pub spends : Spends disk disk_now session m (whole (taken_in run))

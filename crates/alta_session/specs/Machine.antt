@@ -83,9 +83,9 @@ unfoldable pub step : Machine → List ℕ → Machine × List ℕ
 step m line = answered m (reading_of line)
 
 -- the machine after lines
-abbrev pub after : Machine → List (List ℕ) → Machine
-after m [] = m
-after m (line ∷ lines) = after (step m line).0 lines
+abbrev pub machine_after : Machine → List (List ℕ) → Machine
+machine_after m [] = m
+machine_after m (line ∷ lines) = machine_after (step m line).0 lines
 
 -- the replies to lines
 abbrev pub replies : Machine → List (List ℕ) → List (List ℕ)

@@ -7,7 +7,7 @@ use Rattle.alta_console.specs.declared.event.Event.{Event}
 use Rattle.alta_disk.specs.Disk.{DiskState, LeavesOnly}
 use Rattle.alta_session.specs.Agreement.{AgreesOn}
 use Rattle.alta_session.specs.Fullness.{IsFullOnly}
-use Rattle.alta_session.specs.Machine.{Machine, after, replies}
+use Rattle.alta_session.specs.Machine.{Machine, machine_after, replies}
 use Rattle.alta_session.specs.Spending.{Spends}
 use Rattle.alta_session.specs.Tasks.{IsBy, IsDone, worked_lines}
 use Rattle.alta_session.specs.declared.session.Session.{Session}
@@ -20,7 +20,7 @@ use Rattle.alta_images.specs.Standing.{StandsFor}
 pub record StandsAfterSome (start : Machine) (lines : List (List ℕ)) (image : List ℕ) : Type 0 where
   pub reached : ℕ
   pub within : reached ≤ length lines
-  pub stands : StandsFor (after start (take reached lines)).state image
+  pub stands : StandsFor (machine_after start (take reached lines)).state image
 
 -- the image stands for the state after this many of the lines, or after one more
 pub record StandsAfter (answered : ℕ) (start : Machine) (lines : List (List ℕ)) (image : List ℕ) : Type 0 where
@@ -28,7 +28,7 @@ pub record StandsAfter (answered : ℕ) (start : Machine) (lines : List (List �
   pub least : answered ≤ reached
   pub most : reached ≤ answered + 1
   pub within : reached ≤ length lines
-  pub stands : StandsFor (after start (take reached lines)).state image
+  pub stands : StandsFor (machine_after start (take reached lines)).state image
 
 -- Of the replies to lines some were given whole, and then less than the whole next one. Each of the images stands for
 -- the state after the lines of the whole replies, or after one more.
