@@ -15,5 +15,5 @@ pub record AgreesOn (tells : Type 0) (disk : DiskState) (session : Session) (m :
   pub cursors : AreOpen session.cursors m.cursors
 
 -- no call of the session has failed
-abbrev pub IsSound : Session → Type 0
-IsSound session = (session.sound ≡ true) × (is_sound session.store ≡ true)
+abbrev pub HasNotFailed : Session → Type 0
+HasNotFailed session = (session.sound ≡ true) × (is_sound session.store ≡ true)

@@ -3,7 +3,7 @@ use Rattle.std.specs.Prelude.{◌≡◌, ◌⊎◌, ◌≤◌, ℕ, List, Option
 use Rattle.alta_codec.specs.Faults.{Rose}
 use Rattle.alta_disk.specs.Disk.{DiskState, LeavesOnly}
 use Rattle.alta_journal.specs.declared.places.TheConstants.{HEAD_BYTES}
-use Rattle.alta_session.specs.Agreement.{AgreesOn, IsSound}
+use Rattle.alta_session.specs.Agreement.{AgreesOn, HasNotFailed}
 use Rattle.alta_session.specs.Fullness.{IsFull}
 use Rattle.alta_session.specs.Machine.{Machine, IsRefusal}
 use Rattle.alta_session.specs.Loading.{HasBrokenList}
@@ -20,7 +20,7 @@ use Rattle.alta_store.specs.declared.fault.StoreFault.TheVariants.{Disk, Memory,
 -- A line may be answered: no call of the session has failed, its store agrees with its disk, and the disk may be as long as the
 -- smallest index.
 pub record CanAnswer (tells : Type 0) (disk : DiskState) (session : Session) : Type 0 where
-  pub sound : IsSound session
+  pub sound : HasNotFailed session
   pub agrees : Agrees tells disk session.store
   pub limit : HEAD_BYTES ≤ disk.limit
 

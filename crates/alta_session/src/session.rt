@@ -4,7 +4,7 @@ ghost use Rattle.alta_codec.specs.Name.{IsName};
 ghost use Rattle.alta_codec.specs.Bytes.{Lacks};
 ghost use Rattle.alta_disk.specs.Disk.{DiskState, Only};
 ghost use Rattle.alta_meta.specs.declared.document.State.{State};
-ghost use Rattle.alta_session.specs.Agreement.{AgreesOn, IsSound};
+ghost use Rattle.alta_session.specs.Agreement.{AgreesOn, HasNotFailed};
 ghost use Rattle.alta_session.specs.Answering.{Answers, CanAnswer, IsReply};
 ghost use Rattle.alta_session.specs.Asking.{Asks};
 ghost use Rattle.alta_model.specs.Command.{adds, deletes, flushes as asks_flush, merges as asks_merge, steps as asks_step};
@@ -66,7 +66,7 @@ impl Session {
 
     /// Whether lines may be answered: false once one was not.
     pub fn sound(&self) -> bool
-        ensures { IsTrue result ↔ IsSound self.now }
+        ensures { IsTrue result ↔ HasNotFailed self.now }
     {
         self.sound && self.store.sound()
     }
@@ -92,7 +92,7 @@ impl Session {
         requires one_line { Lacks 10 line.now }
         requires can { CanAnswer D.tells (D.state disk.old) self.old }
         ensures answers { Answers D.tells D.state disk.old disk.new self.old self.new result (λ m. step m line.now) (λ m. task_of m line.now) }
-        ensures not_sound { OnErr result (¬ (IsSound self.new)) }
+        ensures not_sound { OnErr result (¬ (HasNotFailed self.new)) }
         ensures no_disk { Looks line.now → (disk.new ≡ disk.old) × IfErr result (λ e. e ≡ StoreFault.Memory) }
         ensures loads { Searches line.now → Loads D.tells (session_loads self.old line.now) (D.state disk.old) (D.state disk.new) result }
         ensures kept { OnlyReads line.now → self.new.store ≡ self.old.store }
