@@ -1,6 +1,6 @@
 // The documents that the entries of a journal leave.
 ghost use Rattle.std.specs.Prelude.{◌≡◌, ◌⊎◌, ◌+◌, ◌++◌, ◌∷◌, [], ◌<◌, ℕ, List, true, false, Err, IfOk, IfErr, OnOk, All};
-ghost use Rattle.alta_journal.specs.Entry.{IsSound};
+ghost use Rattle.alta_journal.specs.Entry.{MayBeRecorded};
 ghost use Rattle.alta_journal.specs.declared.entry.Entry.{Entry};
 ghost use Rattle.alta_journal.specs.declared.entry.Entry.TheVariants.{Add};
 ghost use Rattle.alta_meta.specs.declared.document.State.{State};
@@ -32,7 +32,7 @@ pub fn apply_entries(
     found: &[Placed],
 ) -> Result<(), CatalogFault>
     requires knows { (s : State) × Knows catalog.old s }
-    requires sound { All (λ p. IsSound p.entry) found.now }
+    requires sound { All (λ p. MayBeRecorded p.entry) found.now }
     ensures applied { (s : State) → (knows : Knows catalog.old s) → OnOk result (AllowsAll s (entries_in found.now) × KnowsBy catalog.new knows.olds (after_entries s (entries_in found.now))) }
     ensures damaged { (s : State) → Knows catalog.old s → All (λ p. p.place < 4294967296) found.now → (place : ℕ) → result ≡ Err (Damaged place) → IsRefusedAt s found.now place }
     ensures levels { levels_of catalog.new ≡ levels_of catalog.old }
@@ -59,7 +59,7 @@ fn payload_place(placed: &Placed) -> u64
 // Applies an entry, if it is allowed here.
 fn apply_entry(alloc: Global, catalog: &mut Catalog, entry: &Entry) -> Result<bool, MetaFault>
     requires knows { (s : State) × Knows catalog.old s }
-    requires sound { IsSound entry.now }
+    requires sound { MayBeRecorded entry.now }
     ensures allowed { (s : State) → (knows : Knows catalog.old s) → IfOk result (λ allowed. allowed ≡ true → Allows s entry.now × KnowsBy catalog.new knows.olds (after_entry s entry.now)) }
     ensures refused { (s : State) → Knows catalog.old s → IfOk result (λ allowed. allowed ≡ false → Allows s entry.now → ⊥) }
     ensures levels { levels_of catalog.new ≡ levels_of catalog.old }
@@ -82,7 +82,7 @@ fn add(
     body: &str,
 ) -> Result<bool, MetaFault>
     requires knows { (s : State) × Knows catalog.old s }
-    requires sound { IsSound (Add name.now title.now body.now) }
+    requires sound { MayBeRecorded (Add name.now title.now body.now) }
     ensures allowed { (s : State) → (knows : Knows catalog.old s) → IfOk result (λ allowed. allowed ≡ true → Allows s (Add name.now title.now body.now) × KnowsBy catalog.new knows.olds (with_added name.now title.now body.now s)) }
     ensures refused { (s : State) → Knows catalog.old s → IfOk result (λ allowed. allowed ≡ false → Allows s (Add name.now title.now body.now) → ⊥) }
     ensures levels { levels_of catalog.new ≡ levels_of catalog.old }

@@ -1,7 +1,7 @@
 -- A disk that was formatted stands for the state without documents.
 use Rattle.std.proofs.Common.{inl, ℕ, List, [], length, take, refl, ap, ◌∙◌, arith}
 use Rattle.std.proofs.lemmas.List.Elements.{All-nil, All-cons}
-use Rattle.alta_journal.specs.Entry.{IsSound as IsSoundEntry}
+use Rattle.alta_journal.specs.Entry.{MayBeRecorded}
 use Rattle.alta_level.specs.Segments.{IsSegment}
 use Rattle.alta_postings.specs.Deltas.{fault_from, first_fault, list_from, locations_of}
 use Rattle.alta_root.specs.Places.{fields_at}
@@ -37,7 +37,7 @@ formatted_named image is = record {
   ends = refl;
   journal = record {
     starts = omega arith;
-    begins = record { records = refl; sound = All-nil IsSoundEntry; gate = is.closed.0 };
+    begins = record { records = refl; sound = All-nil MayBeRecorded; gate = is.closed.0 };
     closed = is.closed;
     whole = is.whole;
   };

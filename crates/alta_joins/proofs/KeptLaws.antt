@@ -30,7 +30,7 @@ use Rattle.alta_images.proofs.MergeLaws.{joins_are}
 use Rattle.alta_images.proofs.OrderLaws.{rooted_known}
 use Rattle.alta_images.proofs.SpacedLaws.{held_spaced}
 use Rattle.alta_joins.proofs.SpaceLaws.{rise_front, rising_join}
-use Rattle.alta_journal.specs.Entry.{IsSound}
+use Rattle.alta_journal.specs.Entry.{MayBeRecorded}
 use Rattle.alta_journal.specs.Placed.{placed}
 use Rattle.alta_journal.specs.declared.entry.Entry.{Entry}
 use Rattle.alta_journal.specs.declared.entry.Entry.TheVariants.{Add, Delete}
@@ -45,7 +45,7 @@ use Rattle.alta_memlevel.proofs.One as one
 use Rattle.alta_meta.specs.Cells.{cells_of}
 use Rattle.alta_meta.specs.declared.document.Document.{Document}
 use Rattle.alta_meta.specs.declared.document.State.{State}
-use Rattle.alta_root.specs.Root.{IsSound as IsSoundRoot}
+use Rattle.alta_root.specs.Root.{IsSound}
 use Rattle.alta_root.proofs.Frames.{counts_sound}
 
 -- ---- joins keep documents
@@ -84,7 +84,7 @@ module _ (contents : List Content) (added : List Added) (gone : List ℕ) (space
 
 -- ---- the documents that entries add
 
-few_cells : (name title body : List ℕ) → IsSound (Add name title body) → length (cells_of name title body) ≤ 262146
+few_cells : (name title body : List ℕ) → MayBeRecorded (Add name title body) → length (cells_of name title body) ≤ 262146
 few_cells name title body s = omega (arith, cells_few name title body s.1.0 s.1.1, add_long name title body, s.0.4)
 
 -- no more are added than numbers are left
@@ -98,27 +98,27 @@ added_from_here : (number location : ℕ) (entries : List Entry) → All (IsFrom
 added_from_here number location entries =
     all_both (λ (a : Added). number ≤ a.row.number) (λ (a : Added). location ≤ a.row.first) (added_from number location entries) (added_high number location entries) (added_behind number location entries)
 
-added_space : (number location : ℕ) (entries : List Entry) → All IsSound entries → 1 ≤ location → location ≤ 1 + (number - 1) * 262146 → 1 ≤ number
+added_space : (number location : ℕ) (entries : List Entry) → All MayBeRecorded entries → 1 ≤ location → location ≤ 1 + (number - 1) * 262146 → 1 ≤ number
     → number + length (added_from number location entries) ≤ 4294967296 → IsSpace (added_from number location entries)
 added_space number location [] s l r p fits = tt
 added_space number location (Add name title body ∷ entries) s l r p fits =
     let cells = cells_of name title body in
-    let few = few_cells name title body (All-head IsSound (Add name title body) entries s) in
+    let few = few_cells name title body (All-head MayBeRecorded (Add name title body) entries s) in
     let long = cells_long name title body in
     let later = added_from (number + 1) (location + length cells) entries in
     let behind = added_from_here (number + 1) (location + length cells) entries in (
       record { positive = l; some = omega (arith, long); counted = refl; below = omega (arith, few, long, r, fits) },
       All-weaker (IsFrom (number + 1) (location + length cells)) (λ (b : Added). number < b.row.number) (λ b h. omega (arith, h.0)) later behind,
       All-weaker (IsFrom (number + 1) (location + length cells)) (λ (b : Added). end_of (added_at number location name cells).row < b.row.first) (λ b h. omega (arith, h.1, long)) later behind,
-      added_space (number + 1) (location + length cells) entries (All-tail IsSound (Add name title body) entries s) (omega (arith, l)) (omega (arith, r, few, p)) (omega arith) (omega (arith, fits)),
+      added_space (number + 1) (location + length cells) entries (All-tail MayBeRecorded (Add name title body) entries s) (omega (arith, l)) (omega (arith, r, few, p)) (omega arith) (omega (arith, fits)),
     )
-added_space number location (Delete n ∷ entries) s l r p fits = added_space number location entries (All-tail IsSound (Delete n) entries s) l r p fits
+added_space number location (Delete n ∷ entries) s l r p fits = added_space number location entries (All-tail MayBeRecorded (Delete n) entries s) l r p fits
 
-added_made : (number location : ℕ) (entries : List Entry) → All IsSound entries → 1 ≤ number → number + length (added_from number location entries) ≤ 4294967296 → AreMade (added_from number location entries)
+added_made : (number location : ℕ) (entries : List Entry) → All MayBeRecorded entries → 1 ≤ number → number + length (added_from number location entries) ≤ 4294967296 → AreMade (added_from number location entries)
 added_made number location [] s p fits = All-nil IsMade
 added_made number location (Add name title body ∷ entries) s p fits =
     let cells = cells_of name title body in
-    let own = All-head IsSound (Add name title body) entries s in
+    let own = All-head MayBeRecorded (Add name title body) entries s in
     All-cons IsMade (added_at number location name cells) (added_from (number + 1) (location + length cells) entries)
     (record {
       title = title;
@@ -129,11 +129,11 @@ added_made number location (Add name title body ∷ entries) s p fits =
       numbered = p;
       number_below = omega (arith, fits);
     })
-    (added_made (number + 1) (location + length cells) entries (All-tail IsSound (Add name title body) entries s) (omega arith) (omega (arith, fits)))
-added_made number location (Delete n ∷ entries) s p fits = added_made number location entries (All-tail IsSound (Delete n) entries s) p fits
+    (added_made (number + 1) (location + length cells) entries (All-tail MayBeRecorded (Add name title body) entries s) (omega arith) (omega (arith, fits)))
+added_made number location (Delete n ∷ entries) s p fits = added_made number location entries (All-tail MayBeRecorded (Delete n) entries s) p fits
 
 -- the documents that the entries of an image add stand behind its levels
-module _ (o : Opened) (levels : List Level) (image : List ℕ) (sound : IsSoundRoot (length image) o.root) (named : IsNamed o image) (are : AreLevels o levels image) where
+module _ (o : Opened) (levels : List Level) (image : List ℕ) (sound : IsSound (length image) o.root) (named : IsNamed o image) (are : AreLevels o levels image) where
   opened_room : o.root.next_number + length (newest (view_of o levels)) ≤ 4294967296
   opened_room =
       let known = rooted_known o levels are.tables in
@@ -154,7 +154,7 @@ parts_of_levels levels image all =
     All-map IsPart (λ (l : Level). l.content) levels (all_weaker (λ (l : Level). IsSegment (bytes_at l.extent image) l.content) (λ (l : Level). IsPart l.content) levels (λ l is. inl is.stands) all)
 
 module _ (held : Holding) (image : List ℕ) (is : IsHeld held image) where
-  held_sound : IsSoundRoot (length image) is.opened.root
+  held_sound : IsSound (length image) is.opened.root
   held_sound = counts_sound is.opened.slot is.opened.root image is.is.counts
 
   pub held_added : AreAdded held.view.next held.view.location (newest held.view)

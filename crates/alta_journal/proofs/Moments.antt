@@ -2,7 +2,7 @@
 use Rattle.std.proofs.Common.{ℕ, ◌+◌, ◌≤◌, List, [], ◌∷◌, length, subst, arith}
 use Rattle.alta_disk.specs.Disk.{DiskState, Each, After, Only, Holds, Torn, Passes, IsLawful}
 use Rattle.alta_disk.proofs.Moments.{passes_as, passes_then}
-use Rattle.alta_journal.specs.Entry.{IsSound}
+use Rattle.alta_journal.specs.Entry.{MayBeRecorded}
 use Rattle.alta_disk.specs.Writes.{holds_torn}
 use Rattle.alta_journal.specs.Journal.{Appended, Appends}
 use Rattle.alta_journal.specs.Places.{HasClosedGate}
@@ -11,7 +11,7 @@ use Rattle.alta_journal.specs.declared.entry.Entry.{Entry}
 use Rattle.alta_journal.specs.declared.places.TheConstants.{GATE_OPEN, HALF_BYTES, HEAD_BYTES}
 use Rattle.alta_journal.proofs.Steps.{body_step, gate_step, byte_written, has_body, next_closed, opened}
 
-module _ (tells : Type 0) (start place : ℕ) (entry : Entry) (sound : IsSound entry) (from : start ≤ place) (to : place + 1 + length (body_of entry) ≤ start + HALF_BYTES) (disk : start + HALF_BYTES ≤ HEAD_BYTES)
+module _ (tells : Type 0) (start place : ℕ) (entry : Entry) (sound : MayBeRecorded entry) (from : start ≤ place) (to : place + 1 + length (body_of entry) ≤ start + HALF_BYTES) (disk : start + HALF_BYTES ≤ HEAD_BYTES)
     (a b : DiskState) (closed : Each a.images (HasClosedGate place)) where
   pub body_passes : Passes (Torn (place + 1) (length (body_of entry))) a b → Passes (Appends start place entry) a b
   body_passes run =
@@ -32,7 +32,7 @@ module _ (tells : Type 0) (start place : ℕ) (entry : Entry) (sound : IsSound e
           (a.content, content, gate_step start place entry sound from to disk a.content b.content z (closed a.content content) (written told) torn_content)
 
 -- the two writes when they are done
-module _ (start place : ℕ) (entry : Entry) (sound : IsSound entry) (from : start ≤ place) (to : place + 1 + length (body_of entry) ≤ start + HALF_BYTES) (disk : start + HALF_BYTES ≤ HEAD_BYTES)
+module _ (start place : ℕ) (entry : Entry) (sound : MayBeRecorded entry) (from : start ≤ place) (to : place + 1 + length (body_of entry) ≤ start + HALF_BYTES) (disk : start + HALF_BYTES ≤ HEAD_BYTES)
     (d b z : List ℕ) (closed : HasClosedGate place d) (written : Holds d (place + 1) (body_of entry) b) (gate : Holds b place (GATE_OPEN ∷ []) z) where
   inside : place ≤ length b
   inside = let torn = holds_torn d (place + 1) (body_of entry) b (omega (arith, closed.0)) written in omega (arith, torn.no_shorter, closed.0)

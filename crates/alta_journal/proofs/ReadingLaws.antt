@@ -3,7 +3,7 @@ use Rattle.std.proofs.Common.{◌≡◌, ⊎_elim, ℕ, suc, ◌+◌, ◌-◌, �
 use Rattle.std.specs.Prelude.{nat_le}
 use Rattle.std.proofs.lemmas.Bool.{cases_lt, cases_eq, le-leb, lt-leb, eq-eqb, ne_eqb}
 use Rattle.std.proofs.lemmas.List.{take_at, drop_at, append-nil, length-take, length-take-le, get_or-take, get_or-drop, get_or_past, nil_from_length}
-use Rattle.alta_journal.specs.Entry.{four_bytes, eight_bytes, measured, payload_of, IsSound}
+use Rattle.alta_journal.specs.Entry.{four_bytes, eight_bytes, measured, payload_of, MayBeRecorded}
 use Rattle.alta_journal.specs.Reading.{of_four, of_eight, cut, name_in, text_in, ◌>>=◌, add_in, delete_in, entry_in, entry_of_body}
 use Rattle.alta_journal.specs.Record.{body_of}
 use Rattle.alta_journal.specs.declared.entry.Entry.{Entry}
@@ -44,7 +44,7 @@ pub delete_back : (number : ℕ) → number < 2 ^ 64 → delete_in (eight_bytes 
 unfolding delete_in
 delete_back number small = rw (eight_long number, of_eight-eight number small) refl
 
-pub entry_back : (entry : Entry) → IsSound entry → entry_in (payload_of entry) ≡ Some entry
+pub entry_back : (entry : Entry) → MayBeRecorded entry → entry_in (payload_of entry) ≡ Some entry
 unfolding entry_in
 entry_back (Add name title body) sound =
     let long = add_long name title body in
@@ -52,7 +52,7 @@ entry_back (Add name title body) sound =
     add_back name title body (omega (arith, long, short)) (omega (arith, long, short))
 entry_back (Delete number) sound = delete_back number sound.1
 
-pub body_back : (entry : Entry) → IsSound entry → entry_of_body (body_of entry) ≡ entry
+pub body_back : (entry : Entry) → MayBeRecorded entry → entry_of_body (body_of entry) ≡ entry
 unfolding entry_of_body
 body_back entry sound =
     let payload = payload_of entry in

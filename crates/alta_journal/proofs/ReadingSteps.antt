@@ -4,7 +4,7 @@ use Rattle.std.specs.List.{flat_map}
 use Rattle.std.specs.Result.{MatchResult, IfOk, IfErr}
 use Rattle.std.proofs.lemmas.List.{drop_more, drop-drop, take_at, drop_at, length-take-le}
 use Rattle.alta_disk.specs.Parts.{part}
-use Rattle.alta_journal.specs.Entry.{IsSound, four_bytes, measured, payload_of}
+use Rattle.alta_journal.specs.Entry.{MayBeRecorded, four_bytes, measured, payload_of}
 use Rattle.alta_journal.specs.Found.{IsFound}
 use Rattle.alta_journal.specs.Journal.{Begins, EndsAt, IsDamaged, IsBroken}
 use Rattle.alta_journal.specs.Placed.{placed, IsReading, IsReplay}
@@ -51,7 +51,7 @@ stands at bytes payload is long room =
     }
 
 -- a sound record that stands here is what its payload reads as
-pub reads_here : (at : ℕ) (bytes payload : List ℕ) → Stands at bytes payload → (entry : Entry) → IsSound entry → part at (length (record_of entry)) bytes ≡ record_of entry → entry_in payload ≡ Some entry
+pub reads_here : (at : ℕ) (bytes payload : List ℕ) → Stands at bytes payload → (entry : Entry) → MayBeRecorded entry → part at (length (record_of entry)) bytes ≡ record_of entry → entry_in payload ≡ Some entry
 reads_here at bytes payload here entry sound stands_here =
     let after = drop (length (record_of entry)) (drop at bytes) in
     let whole : drop at bytes ≡ record_of entry ++ after = sym (take-append-drop (length (record_of entry)) (drop at bytes)) ∙ ap (λ (l : List ℕ). l ++ after) stands_here in

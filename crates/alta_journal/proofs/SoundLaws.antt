@@ -2,18 +2,18 @@
 use Rattle.std.proofs.Common.{◌≡◌, ℕ, ◌+◌, List, [], ◌∷◌, length, sym, subst}
 use Rattle.std.specs.List.{All}
 use Rattle.std.proofs.lemmas.List.Elements.{All-nil, All-cons, All-head, All-tail}
-use Rattle.alta_journal.specs.Entry.{IsSound}
+use Rattle.alta_journal.specs.Entry.{MayBeRecorded}
 use Rattle.alta_journal.specs.Placed.{placed, IsReading}
 use Rattle.alta_journal.specs.Record.{record_of}
 use Rattle.alta_journal.specs.declared.entry.Entry.{Entry}
 use Rattle.alta_journal.specs.declared.placed.Placed.{Placed}
 
 -- entries with places keep the rules that the entries keep
-placed_sound : (place : ℕ) (entries : List Entry) → All IsSound entries → All (λ (p : Placed). IsSound p.entry) (placed place entries)
-placed_sound place [] sound = All-nil (λ (p : Placed). IsSound p.entry)
+placed_sound : (place : ℕ) (entries : List Entry) → All MayBeRecorded entries → All (λ (p : Placed). MayBeRecorded p.entry) (placed place entries)
+placed_sound place [] sound = All-nil (λ (p : Placed). MayBeRecorded p.entry)
 placed_sound place (entry ∷ entries) sound =
-    All-cons (λ (p : Placed). IsSound p.entry) (record { place = place; entry = entry }) (placed (place + length (record_of entry)) entries)
-    (All-head IsSound entry entries sound) (placed_sound (place + length (record_of entry)) entries (All-tail IsSound entry entries sound))
+    All-cons (λ (p : Placed). MayBeRecorded p.entry) (record { place = place; entry = entry }) (placed (place + length (record_of entry)) entries)
+    (All-head MayBeRecorded entry entries sound) (placed_sound (place + length (record_of entry)) entries (All-tail MayBeRecorded entry entries sound))
 
-pub reading_sound : (start at : ℕ) (found : List Placed) (half : List ℕ) → IsReading start found at half → All (λ (p : Placed). IsSound p.entry) found
-reading_sound start at found half (entries, is, begins) = subst (All (λ (p : Placed). IsSound p.entry)) (sym is) (placed_sound start entries begins.sound)
+pub reading_sound : (start at : ℕ) (found : List Placed) (half : List ℕ) → IsReading start found at half → All (λ (p : Placed). MayBeRecorded p.entry) found
+reading_sound start at found half (entries, is, begins) = subst (All (λ (p : Placed). MayBeRecorded p.entry)) (sym is) (placed_sound start entries begins.sound)

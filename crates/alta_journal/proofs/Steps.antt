@@ -8,7 +8,7 @@ use Rattle.alta_disk.specs.Disk.{Holds, Torn}
 use Rattle.alta_disk.specs.Parts.{part}
 use Rattle.alta_disk.specs.Writes.{holds_torn, take_less, drop_less}
 use Rattle.alta_disk.proofs.PartLaws.{part_torn, part_written}
-use Rattle.alta_journal.specs.Entry.{IsSound, measured, payload_of}
+use Rattle.alta_journal.specs.Entry.{MayBeRecorded, measured, payload_of}
 use Rattle.alta_journal.specs.Journal.{Begins, EndsAt, Appended, Appends}
 use Rattle.alta_journal.specs.Places.{half_at, HasClosedGate}
 use Rattle.alta_journal.specs.Record.{record_of, body_of}
@@ -22,7 +22,7 @@ take_sum m n xs =
     sym (take-append-drop m (take (m + n) xs)) ∙ ap (λ (l : List ℕ). l ++ drop m (take (m + n) xs)) (take-take m (m + n) xs (omega arith)) ∙ ap (λ (l : List ℕ). take m xs ++ l) (drop-take m n xs)
 
 -- one record more
-pub begins_more : (entries : List Entry) (entry : Entry) (at next : ℕ) (half : List ℕ) → Begins entries at half → IsSound entry
+pub begins_more : (entries : List Entry) (entry : Entry) (at next : ℕ) (half : List ℕ) → Begins entries at half → MayBeRecorded entry
     → take (length (record_of entry)) (drop at half) ≡ record_of entry → next ≡ at + length (record_of entry) → next < length half
     → Begins (entries ++ entry ∷ []) next half
 begins_more entries entry at next half begins sound here next_is inside = record {
@@ -30,7 +30,7 @@ begins_more entries entry at next half begins sound here next_is inside = record
       ∙ ap (λ (l : List ℕ). l ++ take (length (record_of entry)) (drop at half)) begins.records
       ∙ ap (λ (l : List ℕ). flat_map record_of entries ++ l) here
       ∙ flat_map_more record_of [] entries entry;
-  sound = All-push IsSound entries entry begins.sound sound;
+  sound = All-push MayBeRecorded entries entry begins.sound sound;
   gate = inside;
 }
 
@@ -55,7 +55,7 @@ torn_then at n a b c one two = record {
 byte_before : (at i : ℕ) (old new : List ℕ) → i < at → take at new ≡ take at old → get_or new i 0 ≡ get_or old i 0
 byte_before at i old new inside same = sym (get_or-take at new i 0 inside) ∙ ap (λ (l : List ℕ). get_or l i 0) same ∙ get_or-take at old i 0 inside
 
-module _ (start place : ℕ) (entry : Entry) (sound : IsSound entry) (from : start ≤ place) (to : place + 1 + length (body_of entry) ≤ start + HALF_BYTES) (disk : start + HALF_BYTES ≤ HEAD_BYTES) where
+module _ (start place : ℕ) (entry : Entry) (sound : MayBeRecorded entry) (from : start ≤ place) (to : place + 1 + length (body_of entry) ≤ start + HALF_BYTES) (disk : start + HALF_BYTES ≤ HEAD_BYTES) where
   -- the record from here up to the next gate, and the half's bytes before it
   sizes : (length (body_of entry) ≡ length (record_of entry)) × (start + (place - start) ≡ place) × (place - start + length (record_of entry) < HALF_BYTES)
   sizes = let same : length (body_of entry) ≡ length (record_of entry) = omega (arith, record_long entry, body_long entry) in (same, omega arith, omega arith)
@@ -192,7 +192,7 @@ formatted start d c inside whole holds =
       starts = omega arith;
       begins = record {
         records = ap (λ (n : ℕ). take n (half_at start c)) none;
-        sound = All-nil IsSound;
+        sound = All-nil MayBeRecorded;
         gate = omega arith;
       };
       closed = (omega arith, λ is_open. absurd (omega (arith, byte, is_open)));

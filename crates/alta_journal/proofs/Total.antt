@@ -9,7 +9,7 @@ use Rattle.std.proofs.lemmas.List.Elements.{All-nil, All-cons, All-head, All-tai
 use Rattle.std.proofs.lemmas.Str.{IsUtf8-from_is_utf8, is_utf8-from_IsUtf8}
 use Rattle.alta_disk.specs.Parts.{part}
 use Rattle.alta_codec.specs.Name.{IsGraphic}
-use Rattle.alta_journal.specs.Entry.{IsSound, Lacks, payload_of}
+use Rattle.alta_journal.specs.Entry.{MayBeRecorded, Lacks, payload_of}
 use Rattle.alta_journal.specs.Journal.{Begins, EndsAt, IsDamaged, IsBroken, LeavesNoRoom, HasNoRecord}
 use Rattle.alta_journal.specs.Places.{start_of, half_at, HasClosedGate}
 use Rattle.alta_journal.specs.Reading.{of_four, or_none, entry_in}
@@ -62,7 +62,7 @@ same_list (x ∷ xs) (y ∷ ys) =
     ⊎_elim (λ head. ⊎_elim (λ tail. inl (ap (λ (k : ℕ). k ∷ xs) head ∙ ap (λ (l : List ℕ). y ∷ l) tail)) (λ no. inr (λ e. no (cc (e)))) (same_list xs ys))
     (λ no. inr (λ e. no (cc (e)))) (cases_eq x y)
 
-sound_or_not : (entry : Entry) → Decided (IsSound entry)
+sound_or_not : (entry : Entry) → Decided (MayBeRecorded entry)
 sound_or_not (Delete number) = ⊎_elim (λ small. inl (tt, small)) (λ large. inr (λ sound. absurd (omega (arith, sound.1)))) (cases_lt number (2 ^ 64))
 sound_or_not (Add name title body) =
     let short = less (length (payload_of (Add name title body))) PAYLOAD_BYTES in
@@ -83,21 +83,21 @@ sound_or_not (Add name title body) =
 
 -- a sound entry whose record stands there, or none
 module _ (at : ℕ) (half payload : List ℕ) (here : Stands at half payload) where
-  record_of_found : (entry : Entry) → entry_in payload ≡ Some entry → ((found : Entry) × IsSound found × (part at (length (record_of found)) half ≡ record_of found)) ⊎ HasNoRecord at half
+  record_of_found : (entry : Entry) → entry_in payload ≡ Some entry → ((found : Entry) × MayBeRecorded found × (part at (length (record_of found)) half ≡ record_of found)) ⊎ HasNoRecord at half
   record_of_found entry is =
       ⊎_elim
       (λ sound. ⊎_elim (λ stands_here. inl (entry, sound, stands_here))
       (λ other. inr (λ e good stands_e. other (subst (λ (x : Entry). part at (length (record_of x)) half ≡ record_of x) (same e good stands_e) stands_e))) (same_list (part at (length (record_of entry)) half) (record_of entry)))
-      (λ bad. inr (λ e good stands_e. bad (subst IsSound (same e good stands_e) good))) (sound_or_not entry)
+      (λ bad. inr (λ e good stands_e. bad (subst MayBeRecorded (same e good stands_e) good))) (sound_or_not entry)
     where
-      same : (e : Entry) → IsSound e → part at (length (record_of e)) half ≡ record_of e → e ≡ entry
+      same : (e : Entry) → MayBeRecorded e → part at (length (record_of e)) half ≡ record_of e → e ≡ entry
       same e good stands_e = ap or_none (sym (reads_here at half payload here e good stands_e) ∙ is)
 
-  record_by : (o : Option Entry) → entry_in payload ≡ o → ((found : Entry) × IsSound found × (part at (length (record_of found)) half ≡ record_of found)) ⊎ HasNoRecord at half
+  record_by : (o : Option Entry) → entry_in payload ≡ o → ((found : Entry) × MayBeRecorded found × (part at (length (record_of found)) half ≡ record_of found)) ⊎ HasNoRecord at half
   record_by None is = inr (λ e good stands_e. let clash : None ≡ Some e = sym is ∙ reads_here at half payload here e good stands_e in absurd (cc (clash)))
   record_by (Some entry) is = record_of_found entry is
 
-  record_here : ((found : Entry) × IsSound found × (part at (length (record_of found)) half ≡ record_of found)) ⊎ HasNoRecord at half
+  record_here : ((found : Entry) × MayBeRecorded found × (part at (length (record_of found)) half ≡ record_of found)) ⊎ HasNoRecord at half
   record_here = record_by (entry_in payload) refl
 
 -- ---- the half, record by record
@@ -114,7 +114,7 @@ abbrev pub IsKnown : List ℕ → Type 0
 IsKnown half = IsEnded half ⊎ ((place : ℕ) × IsDamaged place half)
 
 -- how long a record is that stands here
-size_here : (at : ℕ) (half : List ℕ) (entry : Entry) → IsSound entry → part at (length (record_of entry)) half ≡ record_of entry → length (record_of entry) ≡ 5 + of_four (part (at + 1) 4 half)
+size_here : (at : ℕ) (half : List ℕ) (entry : Entry) → MayBeRecorded entry → part at (length (record_of entry)) half ≡ record_of entry → length (record_of entry) ≡ 5 + of_four (part (at + 1) 4 half)
 size_here at half entry sound stands_here =
     let after = drop (length (record_of entry)) (drop at half) in
     let whole : drop at half ≡ record_of entry ++ after = sym (take-append-drop (length (record_of entry)) (drop at half)) ∙ ap (λ (l : List ℕ). l ++ after) stands_here in
@@ -153,7 +153,7 @@ read_or_broken half image whole =
     let start = start_of half in
     let bytes = half_at start image in
     let long : length bytes ≡ HALF_BYTES = half_long start image (omega (arith, start_fits half)) in
-    let empty : Begins [] 0 bytes = record { records = refl; sound = All-nil IsSound; gate = omega arith } in
+    let empty : Begins [] 0 bytes = record { records = refl; sound = All-nil MayBeRecorded; gate = omega arith } in
     ⊎_elim
     (λ ended. inl (start + ended.at, ended.entries, ends ended))
     (λ (place, damaged). inr (start + place, broken place damaged))

@@ -4,7 +4,7 @@ use Rattle.std.specs.List.{All, flat_map}
 use Rattle.std.proofs.lemmas.List.{take_at, drop_more, drop-drop, length-take-le}
 use Rattle.std.proofs.lemmas.List.Elements.{All-head, All-tail}
 use Rattle.alta_disk.specs.Parts.{part}
-use Rattle.alta_journal.specs.Entry.{IsSound, four_bytes, measured, payload_of}
+use Rattle.alta_journal.specs.Entry.{MayBeRecorded, four_bytes, measured, payload_of}
 use Rattle.alta_journal.specs.Journal.{Begins, EndsAt, IsDamaged, IsBroken, BreaksAt}
 use Rattle.alta_journal.specs.Places.{half_at, HasClosedGate}
 use Rattle.alta_journal.specs.Reading.{or_none, of_four, text_in, entry_in}
@@ -16,7 +16,7 @@ use Rattle.alta_journal.proofs.ReadingLaws.{text_back, entry_back}
 use Rattle.alta_journal.proofs.Spelling.{four_long, delete_long, record_long, of_four-four}
 
 -- a payload's length fits its four bytes
-pub payload_short : (entry : Entry) → IsSound entry → length (payload_of entry) < 2 ^ 32
+pub payload_short : (entry : Entry) → MayBeRecorded entry → length (payload_of entry) < 2 ^ 32
 payload_short (Add name title body) sound = omega (arith, sound.0.4)
 payload_short (Delete number) sound = omega (arith, delete_long number)
 
@@ -30,7 +30,7 @@ rest_of None = []
 rest_of (Some x) = x.1
 
 -- one record, and what follows
-record_same : (x y : Entry) (r s : List ℕ) → IsSound x → IsSound y → record_of x ++ r ≡ record_of y ++ s → (x ≡ y) × (r ≡ s)
+record_same : (x y : Entry) (r s : List ℕ) → MayBeRecorded x → MayBeRecorded y → record_of x ++ r ≡ record_of y ++ s → (x ≡ y) × (r ≡ s)
 record_same x y r s sound_x sound_y same =
     let inner : measured (payload_of x) ++ r ≡ measured (payload_of y) ++ s = ap (λ (l : List ℕ). drop 1 l) same in
     let read : Some (payload_of x, r) ≡ Some (payload_of y, s) =
@@ -41,19 +41,19 @@ record_same x y r s sound_x sound_y same =
 
 -- no record that leaves a gate behind it begins here
 abbrev pub Ended : List ℕ → Type 0
-Ended rest = (entry : Entry) (after : List ℕ) → IsSound entry → rest ≡ record_of entry ++ after → 0 < length after → ⊥
+Ended rest = (entry : Entry) (after : List ℕ) → MayBeRecorded entry → rest ≡ record_of entry ++ after → 0 < length after → ⊥
 
-records_same : (xs ys : List Entry) (u v : List ℕ) → All IsSound xs → All IsSound ys → Ended u → Ended v → 0 < length u → 0 < length v
+records_same : (xs ys : List Entry) (u v : List ℕ) → All MayBeRecorded xs → All MayBeRecorded ys → Ended u → Ended v → 0 < length u → 0 < length v
     → flat_map record_of xs ++ u ≡ flat_map record_of ys ++ v → (xs ≡ ys) × (u ≡ v)
 records_same [] [] u v sx sy eu ev nu nv same = (refl, same)
 records_same [] (y ∷ ys) u v sx sy eu ev nu nv same =
-    absurd (eu y (flat_map record_of ys ++ v) (All-head IsSound y ys sy) (same ∙ append_assoc (record_of y) (flat_map record_of ys) v) (omega (arith, length-append (flat_map record_of ys) v)))
+    absurd (eu y (flat_map record_of ys ++ v) (All-head MayBeRecorded y ys sy) (same ∙ append_assoc (record_of y) (flat_map record_of ys) v) (omega (arith, length-append (flat_map record_of ys) v)))
 records_same (x ∷ xs) [] u v sx sy eu ev nu nv same =
-    absurd (ev x (flat_map record_of xs ++ u) (All-head IsSound x xs sx) (sym same ∙ append_assoc (record_of x) (flat_map record_of xs) u) (omega (arith, length-append (flat_map record_of xs) u)))
+    absurd (ev x (flat_map record_of xs ++ u) (All-head MayBeRecorded x xs sx) (sym same ∙ append_assoc (record_of x) (flat_map record_of xs) u) (omega (arith, length-append (flat_map record_of xs) u)))
 records_same (x ∷ xs) (y ∷ ys) u v sx sy eu ev nu nv same =
-    let one = record_same x y (flat_map record_of xs ++ u) (flat_map record_of ys ++ v) (All-head IsSound x xs sx) (All-head IsSound y ys sy)
+    let one = record_same x y (flat_map record_of xs ++ u) (flat_map record_of ys ++ v) (All-head MayBeRecorded x xs sx) (All-head MayBeRecorded y ys sy)
     (sym (append_assoc (record_of x) (flat_map record_of xs) u) ∙ same ∙ append_assoc (record_of y) (flat_map record_of ys) v) in
-    let rest = records_same xs ys u v (All-tail IsSound x xs sx) (All-tail IsSound y ys sy) eu ev nu nv one.1 in
+    let rest = records_same xs ys u v (All-tail MayBeRecorded x xs sx) (All-tail MayBeRecorded y ys sy) eu ev nu nv one.1 in
     (ap (λ (e : Entry). e ∷ xs) one.0 ∙ ap (λ (l : List Entry). y ∷ l) rest.0, rest.1)
 
 -- two readings that have both ended are one
@@ -75,7 +75,7 @@ ended_closed at half closed = λ entry after sound is more.
     closed.1 (cc (first))
 
 -- the length of a record that stands here
-pub length_here : (at : ℕ) (half : List ℕ) (entry : Entry) (after : List ℕ) → IsSound entry → drop at half ≡ record_of entry ++ after → of_four (part (at + 1) 4 half) ≡ length (payload_of entry)
+pub length_here : (at : ℕ) (half : List ℕ) (entry : Entry) (after : List ℕ) → MayBeRecorded entry → drop at half ≡ record_of entry ++ after → of_four (part (at + 1) 4 half) ≡ length (payload_of entry)
 length_here at half entry after sound is =
     let payload = payload_of entry in
     let behind : drop (at + 1) half ≡ four_bytes (length payload) ++ (payload ++ after) =

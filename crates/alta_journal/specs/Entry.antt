@@ -36,5 +36,5 @@ IsTyped (Add name title body) = IsUtf8 title × IsUtf8 body
 IsTyped (Delete number) = number < 2 ^ 64
 
 -- an entry that a record may hold
-abbrev pub IsSound : Entry → Type 0
-IsSound entry = KeepsRules entry × IsTyped entry
+abbrev pub MayBeRecorded : Entry → Type 0
+MayBeRecorded entry = KeepsRules entry × IsTyped entry

@@ -3,7 +3,7 @@ use Rattle.std.specs.Prelude.{◌≡◌, ◌≢◌, ◌⊎◌, ℕ, ◌+◌, ◌
 use Rattle.std.specs.List.{All, flat_map}
 use Rattle.alta_disk.specs.Disk.{Torn}
 use Rattle.alta_disk.specs.Parts.{part}
-use Rattle.alta_journal.specs.Entry.{IsSound}
+use Rattle.alta_journal.specs.Entry.{MayBeRecorded}
 use Rattle.alta_journal.specs.Places.{half_at, HasClosedGate}
 use Rattle.alta_journal.specs.Reading.{of_four}
 use Rattle.alta_journal.specs.Record.{record_of, body_of}
@@ -13,7 +13,7 @@ use Rattle.alta_journal.specs.declared.places.TheConstants.{GATE_OPEN, HEAD_BYTE
 -- The half begins with the records of these entries, one behind the other, and behind them, at `at`, there is a gate.
 pub record Begins (entries : List Entry) (at : ℕ) (half : List ℕ) : Type 0 where
   pub records : take at half ≡ flat_map record_of entries
-  pub sound : All IsSound entries
+  pub sound : All MayBeRecorded entries
   pub gate : at < length half
 
 -- The half that starts at `start` has these entries, and at `place` its first closed gate.
@@ -41,7 +41,7 @@ LeavesNoRoom at half = length half ≤ at + 5 + of_four (part (at + 1) 4 half)
 
 -- No record of a sound entry stands at `at`.
 abbrev pub HasNoRecord : ℕ → List ℕ → Type 0
-HasNoRecord at half = (entry : Entry) → IsSound entry → part at (length (record_of entry)) half ≢ record_of entry
+HasNoRecord at half = (entry : Entry) → MayBeRecorded entry → part at (length (record_of entry)) half ≢ record_of entry
 
 -- The record whose gate stands at `at` breaks a rule at this place: at its length, where that leaves no room, and else
 -- at its payload.

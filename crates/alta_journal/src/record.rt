@@ -1,6 +1,6 @@
 // A record that is ready to be written, so that an append takes no memory.
 ghost use Rattle.std.specs.Prelude.{◌≡◌};
-ghost use Rattle.alta_journal.specs.Entry.{IsSound};
+ghost use Rattle.alta_journal.specs.Entry.{MayBeRecorded};
 ghost use Rattle.alta_journal.specs.Record.{Record, body_of};
 
 use std::marker::Model;
@@ -14,7 +14,7 @@ pub struct Ready {
 
 impl Model for Ready {
     ghost use Rattle.std.specs.Prelude.{◌≡◌};
-    ghost use Rattle.alta_journal.specs.Entry.{IsSound};
+    ghost use Rattle.alta_journal.specs.Entry.{MayBeRecorded};
     ghost use Rattle.alta_journal.specs.Record.{Record, body_of};
     ghost use Rattle.alta_journal.specs.Reading.{entry_of_body};
 
@@ -22,14 +22,14 @@ impl Model for Ready {
 
     ghost view = { λ r. record { entry = entry_of_body r.bytes.items; bytes = r.bytes.items } };
 
-    ghost invariant = { λ r. IsSound (entry_of_body r.bytes.items) × (r.bytes.items ≡ body_of (entry_of_body r.bytes.items)) };
+    ghost invariant = { λ r. MayBeRecorded (entry_of_body r.bytes.items) × (r.bytes.items ≡ body_of (entry_of_body r.bytes.items)) };
 }
 
 impl Ready {
     ghost use Rattle.alta_journal.specs.Reading.{entry_of_body};
 
     pub(crate) fn of_bytes(bytes: Vec<u8>) -> Ready
-        requires sound { IsSound (entry_of_body bytes.items) }
+        requires sound { MayBeRecorded (entry_of_body bytes.items) }
         requires spells { bytes.items ≡ body_of (entry_of_body bytes.items) }
         ensures { result ≡ record { entry = entry_of_body bytes.items; bytes = bytes.items } }
     {
@@ -38,7 +38,7 @@ impl Ready {
 
     pub(crate) fn bytes(&self) -> &[u8]
         ensures bytes { result.now ≡ body_of self.now.entry }
-        ensures sound { IsSound self.now.entry }
+        ensures sound { MayBeRecorded self.now.entry }
     {
         &self.bytes
     }

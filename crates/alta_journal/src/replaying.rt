@@ -4,7 +4,7 @@ ghost use Rattle.alta_codec.specs.Faults.{Rose};
 ghost use Rattle.alta_disk.specs.Disk.{DiskState, Same, Passes};
 ghost use Rattle.alta_disk.specs.Parts.{part};
 ghost use Rattle.alta_journal.specs.declared.replaying.OpenFault.TheVariants.{Memory, Disk as DiskFault};
-ghost use Rattle.alta_journal.specs.Entry.{IsSound};
+ghost use Rattle.alta_journal.specs.Entry.{MayBeRecorded};
 ghost use Rattle.alta_journal.specs.Journal.{EndsAt, IsBroken, IsDamaged};
 ghost use Rattle.alta_journal.specs.OpenFault.{IsNoDamage};
 ghost use Rattle.alta_journal.specs.declared.entry.Entry.{Entry};
@@ -73,7 +73,7 @@ pub fn replay<D: Disk>(
 
     ensures read { D.tells → IfOk result (λ r. IsReplay (start_of half) r.0.items r.1.place (D.state disk.old).content) }
     ensures half { IfOk result (λ r. r.1.half ≡ half) }
-    ensures rules { IfOk result (λ r. All (λ p. IsSound p.entry) r.0.items) }
+    ensures rules { IfOk result (λ r. All (λ p. MayBeRecorded p.entry) r.0.items) }
     ensures damaged { D.tells → IfErr result (λ e. (place : ℕ) → e ≡ OpenFault.Damaged place → IsBroken (start_of half) place (D.state disk.old).content) }
 
     // What the half says decides the answer, but for a fault of the disk and want of memory.
@@ -123,7 +123,7 @@ fn read_records(alloc: Global, half: Half, bytes: &[u8]) -> Result<(Vec<Placed>,
     requires { length bytes.now ≡ HALF_BYTES }
     ensures read { IfOk result (λ r. (start_of half ≤ r.1.place) × IsReading (start_of half) r.0.items (r.1.place - start_of half) bytes.now × HasClosedGate (r.1.place - start_of half) bytes.now) }
     ensures half { IfOk result (λ r. r.1.half ≡ half) }
-    ensures rules { IfOk result (λ r. All (λ p. IsSound p.entry) r.0.items) }
+    ensures rules { IfOk result (λ r. All (λ p. MayBeRecorded p.entry) r.0.items) }
     ensures damaged { IfErr result (λ e. (place : ℕ) → e ≡ OpenFault.Damaged place → (start_of half ≤ place) × IsDamaged (place - start_of half) bytes.now) }
     ensures disk { IfErr result (λ e. e ≢ DiskFault) }
 {

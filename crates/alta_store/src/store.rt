@@ -17,7 +17,7 @@ ghost use Rattle.alta_images.specs.States.{has_name, has_number, number_of, word
 ghost use Rattle.alta_images.specs.Work.{enters, flushes, merges, steps};
 ghost use Rattle.alta_joins.specs.Contents.{StandsOn};
 ghost use Rattle.alta_joins.specs.Jobs.{AreJoinedOn, IsBegun, IsJoining};
-ghost use Rattle.alta_journal.specs.Entry.{IsSound as IsEntry};
+ghost use Rattle.alta_journal.specs.Entry.{MayBeRecorded};
 ghost use Rattle.alta_journal.specs.Places.{left_behind, start_of};
 ghost use Rattle.alta_journal.specs.Record.{body_of};
 ghost use Rattle.alta_journal.specs.declared.entry.Entry.{Entry};
@@ -800,7 +800,7 @@ fn catalog_of(
     requires ends { have_ends levels.items deleted.now ≡ true }
     requires ordered { IsOrdered (known_at root.now deleted.now levels.items) }
     requires names { AreNames names (live_in deleted.now (rows_in levels.items)) }
-    requires entries { All (λ p. IsEntry p.entry) found.now }
+    requires entries { All (λ p. MayBeRecorded p.entry) found.now }
     ensures knows { (s : State) → (may : MayStart s root.now deleted.now levels.items)
         → IfOk result (λ catalog. AllowsAll s (entries_in found.now) × KnowsBy catalog may.olds (after_entries s (entries_in found.now))) }
     ensures levels { IfOk result (λ catalog. levels_in catalog ≡ levels.items) }

@@ -1,6 +1,6 @@
 use Rattle.std.proofs.Common.{◌≡◌, List, ℕ, refl, sym, ◌∙◌, ap, subst, arith}
 use Rattle.std.proofs.lemmas.Grind.{common_steps}
-use Rattle.alta_journal.specs.Entry.{four_bytes, IsSound}
+use Rattle.alta_journal.specs.Entry.{four_bytes, MayBeRecorded}
 use Rattle.alta_journal.specs.Reading.{entry_of_body}
 use Rattle.alta_journal.specs.Record.{body_of}
 use Rattle.alta_journal.specs.declared.entry.Entry.{Entry}
@@ -8,13 +8,13 @@ use Rattle.alta_journal.proofs.ReadingLaws.{body_back}
 use Rattle.alta_journal.proofs.preparing.ready.Goals as goal
 
 -- the bytes of a sound entry's record are read back
-read_back : (bytes : List ℕ) (entry : Entry) → IsSound entry → bytes ≡ body_of entry → entry_of_body bytes ≡ entry
+read_back : (bytes : List ℕ) (entry : Entry) → MayBeRecorded entry → bytes ≡ body_of entry → entry_of_body bytes ≡ entry
 read_back bytes entry sound made = ap entry_of_body made ∙ body_back entry sound
 
-sound_back : (bytes : List ℕ) (entry : Entry) → IsSound entry → bytes ≡ body_of entry → IsSound (entry_of_body bytes)
-sound_back bytes entry sound made = subst IsSound (sym (read_back bytes entry sound made)) sound
+sound_back : (bytes : List ℕ) (entry : Entry) → MayBeRecorded entry → bytes ≡ body_of entry → MayBeRecorded (entry_of_body bytes)
+sound_back bytes entry sound made = subst MayBeRecorded (sym (read_back bytes entry sound made)) sound
 
-spells_back : (bytes : List ℕ) (entry : Entry) → IsSound entry → bytes ≡ body_of entry → bytes ≡ body_of (entry_of_body bytes)
+spells_back : (bytes : List ℕ) (entry : Entry) → MayBeRecorded entry → bytes ≡ body_of entry → bytes ≡ body_of (entry_of_body bytes)
 spells_back bytes entry sound made = made ∙ ap body_of (sym (read_back bytes entry sound made))
 
 -- all was written
