@@ -82,7 +82,7 @@ abbrev pub text_loads : Store → List ℕ → List Load
 text_loads store text = loads_of_text (levels_of store) (newest_in store) text
 
 abbrev pub open_loads : Store → List OpenCursor → List ℕ → List Load
-open_loads store cursors text = if nat_le CURSORS (length cursors) then [] else text_loads store text
+open_loads store cursors text = command_loads (levels_of store) (newest_in store) (length cursors) (opens text)
 
 -- the lists that a session loads for a line
 abbrev pub session_loads : Session → List ℕ → List Load

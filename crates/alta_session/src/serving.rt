@@ -317,10 +317,7 @@ pub fn serve<C: Console, D: Disk>(
     ensures take_fault { result ≡ Status.TakeFault → Rose (C.take_faults console.old) (C.take_faults console.new) }
     ensures give_fault { result ≡ Status.GiveFault → Rose (C.give_faults console.old) (C.give_faults console.new) }
     ensures disk_fault { result ≡ Status.DiskFault → Rose (D.state disk.old).faults (D.state disk.new).faults }
-    ensures take_count { C.take_faults console.old ≤ C.take_faults console.new }
-    ensures give_count { C.give_faults console.old ≤ C.give_faults console.new }
-    ensures disk_count { (D.state disk.old).faults ≤ (D.state disk.new).faults }
-    ensures same_limit { (D.state disk.new).limit ≡ (D.state disk.old).limit }
+    ensures counts { KeepsCounts C.take_faults C.give_faults console.old console.new (D.state disk.old) (D.state disk.new) }
 {
     let mut session = match Session::start(alloc, disk) {
         Ok(session) => session,

@@ -2,6 +2,7 @@ use Rattle.std.proofs.Common.{inl, inr, refl, ◌∙◌, ap, Err, arith}
 use Rattle.alta_codec.specs.Faults.{Rose}
 use Rattle.alta_session.specs.Machine.{started_at}
 use Rattle.alta_session.specs.declared.status.Status.TheVariants.{Done, Usage, TakeFault, GiveFault, TooLong, Exists}
+use Rattle.alta_session.proofs.EndingLaws.{counts_disk, counts_on}
 use Rattle.alta_session.proofs.ServeLaws.{serves_none, serves_opened}
 use Rattle.alta_session.proofs.StatusLaws.{running_rooted, running_never, running_completes, opening_ends, opening_not_full, status_not, status_rooted, status_damaged, status_disk, answers_status, ok_answers, outside_opened, outside_completes, start_settled}
 use Rattle.alta_store.proofs.Agreements.{opened_of}
@@ -38,10 +39,7 @@ returns-in-Err g c = record {
   take_fault = λ is. absurd (status_not _ c.in-Err.fault c.status_of.ensures TakeFault tt is);
   give_fault = λ is. absurd (status_not _ c.in-Err.fault c.status_of.ensures GiveFault tt is);
   disk_fault = λ is. c.start.ensures.opens.cause (c.in-Err.is ∙ ap Err (status_disk _ c.in-Err.fault c.status_of.ensures is));
-  take_count = omega arith;
-  give_count = omega arith;
-  disk_count = c.start.ensures.opens.faults;
-  same_limit = c.start.ensures.opens.same_limit;
+  counts = counts_disk g.C.Console.take_faults g.C.Console.give_faults c.args.console.now (g.D.Disk.state c.args.disk.now) (g.D.Disk.state c.start.new.disk) c.start.ensures.opens.faults c.start.ensures.opens.same_limit;
 }
 
 pub answer_lines-requires : goal.answer_lines-requires
@@ -71,8 +69,6 @@ returns g c = record {
   take_fault = c.answer_lines.ensures.take_fault;
   give_fault = c.answer_lines.ensures.caused.give_fault;
   disk_fault = λ is. omega (arith, c.answer_lines.ensures.caused.disk_fault is, c.start.ensures.opens.faults);
-  take_count = c.answer_lines.ensures.counts.takes;
-  give_count = c.answer_lines.ensures.counts.gives;
-  disk_count = omega (arith, c.start.ensures.opens.faults, c.answer_lines.ensures.counts.faults);
-  same_limit = c.answer_lines.ensures.counts.limit ∙ c.start.ensures.opens.same_limit;
+  counts = counts_on g.C.Console.take_faults g.C.Console.give_faults c.args.console.now c.args.console.now c.answer_lines.new.console (g.D.Disk.state c.args.disk.now) (g.D.Disk.state c.start.new.disk) (g.D.Disk.state c.answer_lines.new.disk)
+      (counts_disk g.C.Console.take_faults g.C.Console.give_faults c.args.console.now (g.D.Disk.state c.args.disk.now) (g.D.Disk.state c.start.new.disk) c.start.ensures.opens.faults c.start.ensures.opens.same_limit) c.answer_lines.ensures.counts;
 }
