@@ -1,9 +1,10 @@
 -- Laws of lines.
 use Rattle.std.proofs.Common.{◌≡◌, ◌≢◌, ℕ, zero, suc, ◌<◌, Bool, true, false, List, [], ◌∷◌, ◌++◌, take, refl, ap, sym, subst, ◌∙◌, append_assoc, append-nil, arith, map, ◌==◌, if◌then◌else◌}
+use Rattle.std.specs.List.{All}
 use Rattle.std.proofs.lemmas.Grind.{common_steps}
 use Rattle.std.proofs.lemmas.List.Elements.{All-nil, All-cons, All-head, All-tail, All-append}
 use Rattle.alta_codec.specs.Bytes.{Lacks}
-use Rattle.alta_console.specs.Lines.{whole_from, begun_from, whole, begun, last_piece, lines_of, spelled, AllWithoutNewline, IsCut}
+use Rattle.alta_console.specs.Lines.{whole_from, begun_from, whole, begun, last_piece, lines_of, spelled, IsCut}
 
 pub whole_from_append : (p xs ys : List ℕ) → whole_from p (xs ++ ys) ≡ whole_from p xs ++ whole_from (begun_from p xs) ys
 whole_from_append p [] ys = refl
@@ -86,13 +87,13 @@ no_newline_more xs x p n = All-append IsOther xs (x ∷ []) p (All-cons IsOther 
 
 cut_byte : (p : List ℕ) (x : ℕ) (xs : List ℕ) → Lacks 10 p → IsCut xs (whole_from [] xs) (begun_from [] xs) → ((x ≡ 10 → ⊥) → IsCut ((p ++ x ∷ []) ++ xs) (whole_from (p ++ x ∷ []) xs) (begun_from (p ++ x ∷ []) xs)) → (b : Bool) → (x == 10) ≡ b
     → IsCut (p ++ x ∷ xs) (if b then p ∷ whole_from [] xs else whole_from (p ++ x ∷ []) xs) (if b then begun_from [] xs else begun_from (p ++ x ∷ []) xs)
-cut_byte p x xs none rest other true t = record { spells = ap (λ (l : List ℕ). p ++ 10 ∷ l) rest.spells ∙ ap (λ (n : ℕ). p ++ n ∷ xs) (sym (test_true x t)); each = (none, rest.each); last = rest.last }
+cut_byte p x xs none rest other true t = record { spells = ap (λ (l : List ℕ). p ++ 10 ∷ l) rest.spells ∙ ap (λ (n : ℕ). p ++ n ∷ xs) (sym (test_true x t)); each = All-cons (Lacks 10) p (whole_from [] xs) none rest.each; last = rest.last }
 cut_byte p x xs none rest other false t =
     let P : List ℕ → Type 0 = λ l. IsCut l (whole_from (p ++ x ∷ []) xs) (begun_from (p ++ x ∷ []) xs) in
     subst P (append_assoc p (x ∷ []) xs) (other (test_false x t))
 
 cut_from : (p xs : List ℕ) → Lacks 10 p → IsCut (p ++ xs) (whole_from p xs) (begun_from p xs)
-cut_from p [] none = record { spells = sym (append-nil p); each = tt; last = none }
+cut_from p [] none = record { spells = sym (append-nil p); each = All-nil (Lacks 10); last = none }
 cut_from p (x ∷ xs) none = cut_byte p x xs none (cut_from [] xs (All-nil IsOther)) (λ other. cut_from (p ++ x ∷ []) xs (no_newline_more p x none other)) (x == 10) refl
 
 -- the whole lines and what has begun are the bytes, cut at their newlines
@@ -112,13 +113,13 @@ begun_from_none p (x ∷ xs) ys none =
     ap (λ (b : Bool). if b then begun_from [] (xs ++ ys) else begun_from (p ++ x ∷ []) (xs ++ ys)) (not_newline x (All-head IsOther x xs none))
     ∙ begun_from_none (p ++ x ∷ []) xs ys (All-tail IsOther x xs none) ∙ ap (λ (l : List ℕ). begun_from l ys) (append_assoc p (x ∷ []) xs)
 
-whole_spelled : (lines : List (List ℕ)) (rest : List ℕ) → AllWithoutNewline lines → Lacks 10 rest → whole (spelled lines rest) ≡ lines
+whole_spelled : (lines : List (List ℕ)) (rest : List ℕ) → All (Lacks 10) lines → Lacks 10 rest → whole (spelled lines rest) ≡ lines
 whole_spelled [] rest each last = ap whole (sym (append-nil rest)) ∙ whole_from_none [] rest [] last
-whole_spelled (line ∷ lines) rest each last = whole_from_none [] line (10 ∷ spelled lines rest) each.0 ∙ ap (λ (l : List (List ℕ)). line ∷ l) (whole_spelled lines rest each.1 last)
+whole_spelled (line ∷ lines) rest each last = whole_from_none [] line (10 ∷ spelled lines rest) (All-head (Lacks 10) line lines each) ∙ ap (λ (l : List (List ℕ)). line ∷ l) (whole_spelled lines rest (All-tail (Lacks 10) line lines each) last)
 
-begun_spelled : (lines : List (List ℕ)) (rest : List ℕ) → AllWithoutNewline lines → Lacks 10 rest → begun (spelled lines rest) ≡ rest
+begun_spelled : (lines : List (List ℕ)) (rest : List ℕ) → All (Lacks 10) lines → Lacks 10 rest → begun (spelled lines rest) ≡ rest
 begun_spelled [] rest each last = ap begun (sym (append-nil rest)) ∙ begun_from_none [] rest [] last
-begun_spelled (line ∷ lines) rest each last = begun_from_none [] line (10 ∷ spelled lines rest) each.0 ∙ begun_spelled lines rest each.1 last
+begun_spelled (line ∷ lines) rest each last = begun_from_none [] line (10 ∷ spelled lines rest) (All-head (Lacks 10) line lines each) ∙ begun_spelled lines rest (All-tail (Lacks 10) line lines each) last
 
 -- there is one way to cut bytes at their newlines
 pub cut_is : (bytes : List ℕ) (lines : List (List ℕ)) (rest : List ℕ) → IsCut bytes lines rest → (whole bytes ≡ lines) × (begun bytes ≡ rest)

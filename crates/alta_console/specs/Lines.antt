@@ -1,5 +1,6 @@
 -- Bytes cut at newlines.
 use Rattle.std.specs.Prelude.{◌≡◌, ℕ, List, [], ◌∷◌, ◌++◌, if◌then◌else◌, ◌==◌}
+use Rattle.std.specs.List.{All}
 use Rattle.alta_codec.specs.Bytes.{Lacks}
 
 -- the lines that end in these bytes, where `begun` stands before them since the last newline
@@ -34,12 +35,8 @@ abbrev pub spelled : List (List ℕ) → List ℕ → List ℕ
 spelled [] rest = rest
 spelled (line ∷ lines) rest = line ++ 10 ∷ spelled lines rest
 
-abbrev pub AllWithoutNewline : List (List ℕ) → Type 0
-AllWithoutNewline [] = Unit {0}
-AllWithoutNewline (line ∷ lines) = Lacks 10 line × AllWithoutNewline lines
-
 -- these lines and this rest are the bytes, cut at their newlines
 pub record IsCut (bytes : List ℕ) (lines : List (List ℕ)) (rest : List ℕ) : Type 0 where
   pub spells : spelled lines rest ≡ bytes
-  pub each : AllWithoutNewline lines
+  pub each : All (Lacks 10) lines
   pub last : Lacks 10 rest

@@ -2,15 +2,14 @@
 use Rattle.std.proofs.Common.{◌≡◌, ◌≢◌, ℕ, zero, suc, ◌+◌, ◌%◌, ◌<◌, ◌≤◌, ◌==◌, Bool, true, false, not, ◌&&◌, if◌then◌else◌, nat_le, List, [], ◌∷◌, ◌++◌, Option, Some, None, length, take, drop, codes, get_or, refl, ap, sym, subst, ◌∙◌, arith}
 use Rattle.std.specs.Prelude.{slice_get, decimal, slice_index, IfSome, IfNone}
 use Rattle.std.specs.Char.{is_ascii_digit}
-use Rattle.std.specs.List.{list_all}
+use Rattle.std.specs.List.{All, list_all}
 use Rattle.std.proofs.lemmas.Bool.{leb-true, le-leb}
 use Rattle.std.proofs.lemmas.Bool.Decides.{nat_tests}
 use Rattle.std.proofs.lemmas.Fmt.{decimal_digit, length-decimal-le}
 use Rattle.std.proofs.lemmas.List.{take_all, take-append-drop, length-append}
-use Rattle.std.proofs.lemmas.List.Elements.{All-nil, All-cons}
+use Rattle.std.proofs.lemmas.List.Elements.{All-append, All-cons, All-head, All-nil, All-tail}
 use Rattle.alta_codec.specs.Decimal.{value_of, is_count, count_in}
 use Rattle.alta_codec.specs.Bytes.{Lacks}
-use Rattle.alta_console.specs.Lines.{AllWithoutNewline}
 use Rattle.alta_console.specs.declared.event.Event.{Event}
 use Rattle.alta_disk.specs.Disk.{DiskState, IsLawful}
 use Rattle.alta_make.specs.Script.{parity, add_with, add_line, delete_line, behind, adds, deletes, script, report}
@@ -55,16 +54,12 @@ stops_before tells a b d e s0 s1 lines i status lawful not_full whole first =
 
 -- ---- no line has a newline
 
-free_at : (lines : List (List ℕ)) (i : ℕ) (line : List ℕ) → AllWithoutNewline lines → slice_get lines i ≡ Some line → Lacks 10 line
+free_at : (lines : List (List ℕ)) (i : ℕ) (line : List ℕ) → All (Lacks 10) lines → slice_get lines i ≡ Some line → Lacks 10 line
 free_at [] i line free at = absurd (none_is_not line at)
-free_at (x ∷ xs) zero line free at = let same : x ≡ line = cc in subst (Lacks 10) same free.0
-free_at (x ∷ xs) (suc i) line free at = free_at xs i line free.1 at
+free_at (x ∷ xs) zero line free at = let same : x ≡ line = cc in subst (Lacks 10) same (All-head (Lacks 10) x xs free)
+free_at (x ∷ xs) (suc i) line free at = free_at xs i line (All-tail (Lacks 10) x xs free) at
 
-all_append : (xs ys : List (List ℕ)) → AllWithoutNewline xs → AllWithoutNewline ys → AllWithoutNewline (xs ++ ys)
-all_append [] ys first more = more
-all_append (x ∷ xs) ys first more = (first.0, all_append xs ys first.1 more)
-
-all_where : (b : Bool) (xs ys : List (List ℕ)) → AllWithoutNewline xs → AllWithoutNewline ys → AllWithoutNewline (if b then xs else ys)
+all_where : (b : Bool) (xs ys : List (List ℕ)) → All (Lacks 10) xs → All (Lacks 10) ys → All (Lacks 10) (if b then xs else ys)
 all_where true xs ys one two = one
 all_where false xs ys one two = two
 
@@ -87,6 +82,10 @@ free_by : (bytes : List ℕ) → lacks bytes ≡ true → Lacks 10 bytes
 unfolding lacks
 free_by [] test = All-nil IsOther
 free_by (x ∷ xs) test = let parts = both (not (x == 10)) (lacks xs) test in All-cons IsOther x xs (not_ten x parts.0) (free_by xs parts.1)
+
+lines_by : (lines : List (List ℕ)) → list_all lacks lines ≡ true → All (Lacks 10) lines
+lines_by [] test = All-nil (Lacks 10)
+lines_by (x ∷ xs) test = let parts = both (lacks x) (list_all lacks xs) test in All-cons (Lacks 10) x xs (free_by x parts.0) (lines_by xs parts.1)
 
 digit_free : (x : ℕ) → is_ascii_digit x ≡ true → x ≡ 10 → ⊥
 digit_free x digit is = grind (arith, nat_tests)
@@ -130,40 +129,33 @@ parity_free : (i : ℕ) → Lacks 10 (parity i)
 unfolding lacks
 parity_free i = free_where (i % 2 == 0) (codes "even") (codes "odd") (free_by (codes "even") refl) (free_by (codes "odd") refl)
 
-behind_free : (i : ℕ) → AllWithoutNewline (behind i)
+behind_free : (i : ℕ) → All (Lacks 10) (behind i)
 unfolding lacks
-behind_free i = all_where (i % 100 == 0) (codes "flush" ∷ codes "step 50" ∷ []) [] (free_by (codes "flush") refl, (free_by (codes "step 50") refl, tt)) tt
+behind_free i = all_where (i % 100 == 0) (codes "flush" ∷ codes "step 50" ∷ []) [] (lines_by (codes "flush" ∷ codes "step 50" ∷ []) refl) (All-nil (Lacks 10))
 
-adds_free : (n : ℕ) → n ≤ 1000000 → AllWithoutNewline (adds n)
+adds_free : (n : ℕ) → n ≤ 1000000 → All (Lacks 10) (adds n)
 unfolding adds
-adds_free zero most = tt
-adds_free (suc i) most = all_append (adds i) (add_line (suc i) ∷ behind (suc i)) (adds_free i (omega arith)) (add_free (suc i) (parity (suc i)) most (parity_free (suc i)), behind_free (suc i))
+adds_free zero most = All-nil (Lacks 10)
+adds_free (suc i) most =
+    let added = add_free (suc i) (parity (suc i)) most (parity_free (suc i)) in
+    All-append (Lacks 10) (adds i) (add_line (suc i) ∷ behind (suc i)) (adds_free i (omega arith)) (All-cons (Lacks 10) (add_line (suc i)) (behind (suc i)) added (behind_free (suc i)))
 
-deletes_free : (n : ℕ) → n ≤ 1000000 → AllWithoutNewline (deletes n)
+deletes_free : (n : ℕ) → n ≤ 1000000 → All (Lacks 10) (deletes n)
 unfolding deletes
-deletes_free zero most = tt
+deletes_free zero most = All-nil (Lacks 10)
 deletes_free (suc i) most =
-    all_append (deletes i) (if suc i % 5 == 0 then delete_line (suc i) ∷ [] else []) (deletes_free i (omega arith)) (all_where (suc i % 5 == 0) (delete_line (suc i) ∷ []) [] (delete_free (suc i) most, tt) tt)
+    let deleted = All-cons (Lacks 10) (delete_line (suc i)) [] (delete_free (suc i) most) (All-nil (Lacks 10)) in
+    All-append (Lacks 10) (deletes i) (if suc i % 5 == 0 then delete_line (suc i) ∷ [] else []) (deletes_free i (omega arith)) (all_where (suc i % 5 == 0) (delete_line (suc i) ∷ []) [] deleted (All-nil (Lacks 10)))
 
-script_free : (n : ℕ) → n ≤ 100000 → AllWithoutNewline (script n)
+script_free : (n : ℕ) → n ≤ 100000 → All (Lacks 10) (script n)
 unfolding lacks
-script_free n most = all_append (adds n) (deletes n ++ codes "merge" ∷ []) (adds_free n (omega arith)) (all_append (deletes n) (codes "merge" ∷ []) (deletes_free n (omega arith)) (free_by (codes "merge") refl, tt))
+script_free n most =
+    let behind_adds = All-append (Lacks 10) (deletes n) (codes "merge" ∷ []) (deletes_free n (omega arith)) (lines_by (codes "merge" ∷ []) refl) in
+    All-append (Lacks 10) (adds n) (deletes n ++ codes "merge" ∷ []) (adds_free n (omega arith)) behind_adds
 
-report_free : AllWithoutNewline report
+report_free : All (Lacks 10) report
 unfolding lacks
-report_free = (
-  free_by (codes "stats") refl,
-  (
-    free_by (codes "count even") refl,
-    (
-      free_by (codes "count \"w7 odd\"") refl,
-      (
-        free_by (codes "count w3 NOT even") refl,
-        (free_by (codes "count title:item w42") refl, (free_by (codes "count w2 NEAR/1 even") refl, (free_by (codes "search name:d1999") refl, tt))),
-      ),
-    ),
-  ),
-)
+report_free = lines_by report refl
 
 pub script_line_free : (n i : ℕ) (line : List ℕ) → n ≤ 100000 → slice_get (script n) i ≡ Some line → Lacks 10 line
 script_line_free n i line most at = free_at (script n) i line (script_free n most) at
