@@ -2,7 +2,7 @@
 use Rattle.std.specs.Prelude.{ℕ, List, map}
 use Rattle.alta_codec.specs.declared.extent.Extent.{Extent}
 use Rattle.alta_content.specs.declared.content.Content.{Content}
-pub use Rattle.alta_content.specs.Cells.{cell_at, cells_at}
+pub use Rattle.alta_content.specs.Cells.{cell_at}
 unfoldable pub use Rattle.alta_content.specs.Cells.{locations_from}
 pub use Rattle.alta_content.specs.Rows.{live_rows}
 pub use Rattle.alta_memlevel.specs.Documents.{document_of}
