@@ -8,7 +8,7 @@ use Rattle.alta_codec.specs.Rising.{IsRising, first_from, count_from}
 use Rattle.alta_compound.specs.Union.{put, union, union_of}
 use Rattle.alta_compound.specs.Unions.{RisesAbove, above_from_rising}
 use Rattle.alta_search.specs.Lists.{test_list, IsCut}
-use Rattle.alta_search.specs.Readers.{IsFresh}
+use Rattle.alta_search.specs.Readers.{IsAtStart, IsFresh}
 use Rattle.alta_search.specs.Words.{reader_list, reader_all, reader_place, reader_left}
 use Rattle.alta_search.specs.declared.test_reader.TestReader.{TestReader}
 use Rattle.alta_search.proofs.Counts.{below_or_from}
@@ -30,24 +30,24 @@ unfolding union_of
 lone_list l r = ap (λ xs. union xs []) (append-nil l) ∙ with_none 0 l (above_from_rising l r)
 
 -- a reader at the start of that list is a reader of the test
-pub lone_fresh : (l : List ℕ) (r : TestReader) → IsRising l → reader_list r ≡ l → reader_all r ≡ l → reader_place r ≡ first_from l 0
-    → reader_left r ≡ length l → IsFresh reader_list reader_all reader_place reader_left ((l ∷ []) ∷ []) r
-lone_fresh l r rising reads holds unmoved rest =
+pub lone_fresh : (l : List ℕ) (r : TestReader) → IsRising l → IsAtStart reader_list reader_all reader_place reader_left l r
+    → IsFresh reader_list reader_all reader_place reader_left ((l ∷ []) ∷ []) r
+lone_fresh l r rising start =
     let whole : test_list ((l ∷ []) ∷ []) ≡ l = lone_list l rising in
     let same : concat (l ∷ []) ≡ l = append-nil l in
     record {
-      reads = reads ∙ sym whole;
+      reads = start.reads ∙ sym whole;
       counts = λ place. omega (
         arith,
-        ap (λ xs. count_from xs place) (holds ∙ sym same),
+        ap (λ xs. count_from xs place) (start.holds ∙ sym same),
         below_or_from (concat (l ∷ [])) place,
         sum_by-cons (λ (levels : List (List ℕ)). count_by (λ x. nat_lt x place) (concat levels)) (l ∷ []) [],
         sum_by-cons (λ (levels : List (List ℕ)). length (concat levels)) (l ∷ []) [],
       );
-      unmoved = unmoved ∙ ap (λ xs. first_from xs 0) (sym whole);
+      unmoved = start.unmoved ∙ ap (λ xs. first_from xs 0) (sym whole);
       rest = omega (
         arith,
-        rest,
+        start.rest,
         ap length same,
         sum_by-cons (λ (levels : List (List ℕ)). length (concat levels)) (l ∷ []) [],
       );

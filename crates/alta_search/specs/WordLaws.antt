@@ -8,6 +8,7 @@ use Rattle.alta_search.specs.declared.term_reader.TermReader.{TermReader}
 use Rattle.alta_search.specs.declared.test_reader.TestReader.{TestReader}
 use Rattle.alta_search.specs.declared.test_reader.TestReader.TheVariants.{Coded, Plain, Any}
 use Rattle.alta_words.specs.Chain.{chain_place}
+use Rattle.alta_words.specs.Held.{word_rises, word_stands}
 use Rattle.alta_words.specs.Leaf.{leaf_list, leaf_place, leaf_rises, leaf_stands}
 use Rattle.alta_words.specs.declared.leaf.Leaf.TheVariants as leaf
 
@@ -17,12 +18,12 @@ term_stands s h =
     (chain_place (map leaf_list s.chain.leaves.items) (map leaf_place s.chain.leaves.items) s.chain.at h.0.1)
 
 pub reader_rises : (s : TestReader) → IsSoundReader s → IsRising (reader_list s)
-reader_rises (Coded r) h = leaf_rises (leaf.Coded r) h
+reader_rises (Coded r) h = word_rises r h
 reader_rises (Plain r) h = leaf_rises (leaf.Plain r) h
 reader_rises (Any r) h = union_of-rises term_list r.readers.items (λ k d l. (h.0 k d l).0.1.rising)
 
 pub reader_stands : (s : TestReader) → IsSoundReader s → IsPlace (reader_list s) (reader_place s)
-reader_stands (Coded r) h = leaf_stands (leaf.Coded r) h
+reader_stands (Coded r) h = word_stands r h
 reader_stands (Plain r) h = leaf_stands (leaf.Plain r) h
 reader_stands (Any r) h = in_step_place term_list term_place r.readers.items r.at h.1.in_step
 

@@ -1,15 +1,12 @@
 // A reader of the locations of a test.
-ghost use Rattle.std.specs.Prelude.{◌≡◌};
-ghost use Rattle.alta_codec.specs.Rising.{count_from};
 ghost use Rattle.alta_search.specs.Words.{IsSoundReader, reader_list, reader_all, reader_place, reader_left, reader_cost};
 ghost use Rattle.alta_search.specs.WordLaws.{reader_rises, reader_stands, reader_members, reader_left_is};
-ghost use Rattle.alta_words.specs.Leaf.{leaf_list, leaf_place, IsSoundLeaf};
 
 use crate::term_reader::TermReader;
 use alta_codec::{Loc, Steps};
 use alta_compound::AnyReader;
 use alta_reader::{BackReader, Reader};
-use alta_words::{Leaf, PlainReader, WordReader};
+use alta_words::{PlainReader, WordReader};
 use std::sync::ledger::Ledger;
 
 /// A reader of the locations of a test. Where the test has one list in all, it is that list's own.
@@ -21,23 +18,6 @@ pub(crate) enum TestReader<'a> {
     Plain(PlainReader<'a>),
     /// Of the union of its terms, each through all levels.
     Any(AnyReader<TermReader<'a>>),
-}
-
-impl<'a> TestReader<'a> {
-    /// The reader of one list, which stands where the leaf stands.
-    pub(crate) fn one(leaf: Leaf<'a>) -> TestReader<'a>
-        requires { IsSoundLeaf leaf }
-        ensures sound { IsSoundReader result }
-        ensures list { reader_list result ≡ leaf_list leaf.entry }
-        ensures all { reader_all result ≡ leaf_list leaf.entry }
-        ensures place { reader_place result ≡ leaf_place leaf.entry }
-        ensures left { reader_left result ≡ count_from (leaf_list leaf.entry) (leaf_place leaf.entry) }
-    {
-        match leaf {
-            Leaf::Coded(reader) => TestReader::Coded(reader),
-            Leaf::Plain(reader) => TestReader::Plain(reader),
-        }
-    }
 }
 
 impl<'a> Reader for TestReader<'a> {

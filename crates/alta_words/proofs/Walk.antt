@@ -1,11 +1,10 @@
 -- A pass over a stream beside the rows of its summary.
-use Rattle.std.proofs.Common.{◌≡◌, ⊎_elim, inl, inr, ℕ, suc, ◌+◌, ◌-◌, ◌*◌, ◌/◌, ◌<◌, ◌≤◌, min, List, [], ◌∷◌, length, take, drop, get_or, refl, sym, subst, ap, ◌∙◌, arith, length-drop}
+use Rattle.std.proofs.Common.{◌≡◌, ⊎_elim, inl, inr, ℕ, suc, ◌+◌, ◌-◌, ◌*◌, ◌<◌, ◌≤◌, min, List, [], ◌∷◌, length, take, drop, get_or, refl, sym, subst, ap, ◌∙◌, arith, length-drop}
 use Rattle.std.specs.Prelude.{None}
 use Rattle.std.proofs.lemmas.Bool.{cases_lt}
 use Rattle.std.proofs.lemmas.List.{get_or-drop, drop-drop}
-use Rattle.alta_codec.specs.declared.location.TheConstants.{TOP}
 use Rattle.alta_codec.proofs.Numerals.{AreBytes}
-use Rattle.alta_postings.specs.Deltas.{stream_bytes, fault_at, fault_from, list_from, first_fault, locations_of, IsBlockRead}
+use Rattle.alta_postings.specs.Deltas.{stream_bytes, fault_at, list_from, first_fault, locations_of, IsBlockRead}
 use Rattle.alta_postings.proofs.Reading.{fault_end, list_end, reading_spells, no_list, place_is}
 use Rattle.alta_summary.specs.Table.{HasRows, IsSummary, IsFault}
 use Rattle.alta_words.specs.declared.checking.PostingFault.{PostingFault}

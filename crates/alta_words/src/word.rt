@@ -1,11 +1,10 @@
 // A reader of a coded list, which holds one block.
 ghost use Rattle.std.specs.Prelude.{◌≡◌, refl, ℕ, ◌+◌, ◌-◌, ◌*◌, ◌<◌, ◌≤◌, List, ◌∷◌, length, slice_index, slice_index_or};
 ghost use Rattle.alta_codec.specs.Rising.{IsRising, first_from, pred_of, count_from};
-ghost use Rattle.alta_codec.proofs.ByIndex.{at_place};
 ghost use Rattle.alta_codec.specs.declared.location.TheConstants.{TOP};
 ghost use Rattle.alta_postings.specs.Deltas.{locations_of};
 ghost use Rattle.alta_summary.specs.Table.{field_at};
-ghost use Rattle.alta_words.specs.Held.{IsSoundWord, word_list, word_place};
+ghost use Rattle.alta_words.specs.Held.{IsSoundWord, word_list, word_place, word_rises, word_stands};
 ghost use Rattle.alta_words.specs.Word.{IsPosting, HoldsBlock};
 
 use crate::gallop::{index_from, near_from};
@@ -310,9 +309,9 @@ impl<'a> Reader for WordReader<'a> {
         self.at = self.here();
     }
 
-    ghost rises = { λ s h. h.1.rising };
+    ghost rises = { word_rises };
 
-    ghost stands = { λ s h. (at_place (word_list s) (64 * s.row + s.index) h.1.rising).0 };
+    ghost stands = { word_stands };
 }
 
 impl<'a> BackReader for WordReader<'a> {

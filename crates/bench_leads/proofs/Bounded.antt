@@ -1,5 +1,5 @@
 -- The bounds of two readers hold both.
-use Rattle.std.proofs.Common.{◌≡◌, ⊎_elim, ℕ, ◌<◌, List, [], ◌∷◌, length, refl, sym, subst, arith}
+use Rattle.std.proofs.Common.{◌≡◌, ⊎_elim, ℕ, List, [], ◌∷◌, refl, sym, subst, arith}
 use Rattle.std.proofs.lemmas.Bool.{cases_lt}
 use Rattle.alta_docread.specs.Solutions.{IsUpper, IsLower, IsHeld}
 use Rattle.alta_solver.specs.Inequality.{Inequality}

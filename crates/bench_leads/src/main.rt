@@ -208,9 +208,14 @@ fn search<L: Ledger>(
     requires shared { 0 < L.parts }
 {
     let mut steps = Steps::<L>::new(blank);
-    let ends = Counted::new(lists.0.reader(way.coded, &mut steps), moves);
-    let first = Counted::new(lists.1.reader(way.coded, &mut steps), moves);
-    let second = Counted::new(lists.2.reader(way.coded, &mut steps), moves);
+    let ends = lists.0.reader(alloc, way.coded, &mut steps)?;
+    let first = lists.1.reader(alloc, way.coded, &mut steps)?;
+    let second = lists.2.reader(alloc, way.coded, &mut steps)?;
+    let (ends, first, second) = (
+        Counted::new(ends, moves),
+        Counted::new(first, moves),
+        Counted::new(second, moves),
+    );
     if way.led {
         by_lead(alloc, ends, first, second, &mut steps)
     } else {

@@ -36,14 +36,20 @@ impl Word {
     }
 
     /// A reader of the coded list or of the plain one.
-    pub fn reader<'a, L: Ledger>(&'a self, coded: bool, steps: &mut Steps<L>) -> Leaf<'a>
-        ensures sound { IsSoundLeaf result }
-        ensures unmoved { leaf_place result ≡ first_from (leaf_list result) 0 }
+    pub fn reader<'a, L: Ledger>(
+        &'a self,
+        alloc: Global,
+        coded: bool,
+        steps: &mut Steps<L>,
+    ) -> Result<Leaf<'a>, AllocError>
+        ensures sound { IfOk result IsSoundLeaf }
+        ensures unmoved { IfOk result (λ leaf. leaf_place leaf ≡ first_from (leaf_list leaf) 0) }
     {
         if coded {
-            Leaf::Coded(self.posting.reader(steps))
+            let reader = Box::new(alloc, self.posting.reader(steps))?;
+            Ok(Leaf::Coded(reader))
         } else {
-            Leaf::Plain(PlainReader::new(&self.list, steps))
+            Ok(Leaf::Plain(PlainReader::new(&self.list, steps)))
         }
     }
 }

@@ -1,4 +1,3 @@
-use Rattle.std.proofs.Common.{arith}
 use Rattle.alta_words.proofs.checking.compare.Goals as goal
 
 pub whole-init : goal.whole-init
