@@ -9,7 +9,7 @@ use Rattle.alta_content.specs.Lists.{AreListsBehind, TermsRise, terms_of}
 use Rattle.alta_content.specs.Parts.{IsPart, MayJoin}
 use Rattle.alta_content.specs.Rows.{AreDocuments, AreDocumentsBehind, Before, IsPlaced, MayFollow, RowsRise, behind_row, end_of, start}
 use Rattle.alta_content.specs.declared.content.Content.{Content}
-use Rattle.alta_content.specs.declared.content.TermList.{TermList}
+use Rattle.alta_content.specs.TermList.{TermList}
 use Rattle.alta_content.proofs.Outside.{rows_placed}
 use Rattle.alta_content.proofs.Order.{After, after_weaker}
 

@@ -9,7 +9,7 @@ use Rattle.std.proofs.lemmas.List.Elements.{All-nil, All-cons, All-head, All-tai
 use Rattle.std.proofs.lemmas.List.{map-append}
 use Rattle.alta_content.specs.declared.document.DocRow.{DocRow}
 use Rattle.alta_content.specs.declared.content.Content.{Content}
-use Rattle.alta_content.specs.declared.content.TermList.{TermList}
+use Rattle.alta_content.specs.TermList.{TermList}
 use Rattle.alta_content.specs.Cells.{cell_at, cells_at, locations_from, with_cells}
 use Rattle.alta_content.specs.Joining.{joined_in, locations_among, parts_of, rows_in}
 use Rattle.alta_content.specs.Lists.{TermsRise, locations_of, terms_of}

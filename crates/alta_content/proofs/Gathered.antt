@@ -3,7 +3,7 @@ use Rattle.std.proofs.Common.{◌≡◌, ⊎_elim, ℕ, false, cond, List, [], �
 use Rattle.std.specs.List.{flat_map}
 use Rattle.std.specs.Str.{bytes_eq}
 use Rattle.std.proofs.lemmas.Bool.{cases_Bool, or_parts}
-use Rattle.alta_content.specs.declared.content.TermList.{TermList}
+use Rattle.alta_content.specs.TermList.{TermList}
 use Rattle.alta_content.specs.Joining.{gathered, locations_among, terms_among}
 use Rattle.alta_content.specs.Lists.{TermsRise, locations_of, terms_of}
 use Rattle.alta_content.specs.Spans.{lists_outside, outside_of}

@@ -2,7 +2,7 @@
 use Rattle.std.proofs.Common.{◌≡◌, ℕ, List, [], ◌∷◌, refl}
 use Rattle.alta_content.specs.declared.document.DocRow.{DocRow}
 use Rattle.alta_content.specs.declared.content.Content.{Content}
-use Rattle.alta_content.specs.declared.content.TermList.{TermList}
+use Rattle.alta_content.specs.TermList.{TermList}
 use Rattle.alta_content.specs.Joining.{joined, joined_in, terms_in}
 
 abbrev end_term : List ℕ

@@ -20,7 +20,7 @@ use Rattle.alta_content.specs.Parts.{IsEmpty, IsPart, MayJoin}
 use Rattle.alta_content.specs.Rows.{AreDocuments, AreDocumentsBehind, Before, MayFollow, RowsRise, behind_row, end_of, ends_among, ends_of, live_rows, start}
 use Rattle.alta_content.specs.Spans.{deleted_spans, is_within, lists_outside, outside_of}
 use Rattle.alta_content.specs.declared.content.Content.{Content}
-use Rattle.alta_content.specs.declared.content.TermList.{TermList}
+use Rattle.alta_content.specs.TermList.{TermList}
 use Rattle.alta_content.proofs.Rises.{RisesAbove, above_from_rising, filter-rises, rising_from_above}
 use Rattle.alta_content.specs.declared.spans.Span.{Span}
 use Rattle.alta_content.proofs.Outside.{Tells, left_of, some_outside, spans_tell}

@@ -11,7 +11,7 @@ use Rattle.std.proofs.lemmas.Bool.{cases_Bool, cond-true, cond-false, le-leb, lt
 use Rattle.std.proofs.lemmas.List.Elements.{All-nil, All-cons, All-head, All-tail, All-push, All-weaker, filter_passes}
 use Rattle.std.proofs.lemmas.Map.Text.{is_eq-slice_cmp}
 use Rattle.alta_content.specs.declared.document.DocRow.{DocRow}
-use Rattle.alta_content.specs.declared.content.TermList.{TermList}
+use Rattle.alta_content.specs.TermList.{TermList}
 use Rattle.alta_content.specs.declared.spans.Span.{Span}
 use Rattle.alta_content.specs.Lists.{locations_of, terms_of}
 use Rattle.alta_content.specs.Rows.{IsPlaced, RowsRise, end_of, ends_among}

@@ -11,7 +11,7 @@ use Rattle.alta_codec.specs.Bytes.{AreBytes}
 use Rattle.alta_codec.specs.Numbers.{number_bytes, number_from}
 use Rattle.alta_codec.proofs.ByteLaws.{AreBytes-drop, AreBytes-take}
 use Rattle.alta_codec.proofs.Numerals.{number_read, number_size, reads_number}
-use Rattle.alta_content.specs.declared.content.TermList.{TermList}
+use Rattle.alta_content.specs.TermList.{TermList}
 use Rattle.alta_content.specs.Packed as packed
 use Rattle.alta_content.specs.Packed.{Fits, Packs, Row, gap, gaps_bytes, list_gaps, lists_in, locations_in, number_in, row_bytes, row_in}
 

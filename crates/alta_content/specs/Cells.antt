@@ -1,7 +1,7 @@
 -- The cells of documents, read off the lists of a content.
 use Rattle.std.specs.Prelude.{ℕ, zero, suc, ◌+◌, nat_eq, List, [], ◌∷◌, map}
 use Rattle.std.specs.List.{filter, list_any}
-use Rattle.alta_content.specs.declared.content.TermList.{TermList}
+use Rattle.alta_content.specs.TermList.{TermList}
 use Rattle.alta_content.specs.declared.document.DocRow.{DocRow}
 
 -- so many locations, one behind the other from the first on

@@ -1,6 +1,6 @@
 -- The first of a content's lists.
 use Rattle.std.specs.Prelude.{ℕ, List, [], ◌∷◌}
-use Rattle.alta_content.specs.declared.content.TermList.{TermList}
+use Rattle.alta_content.specs.TermList.{TermList}
 
 -- the term of the first list, none where there is no list
 abbrev pub front_term : List TermList → List ℕ

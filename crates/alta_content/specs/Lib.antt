@@ -7,3 +7,4 @@ pub mod Packed
 pub mod Parts
 pub mod Rows
 pub mod Spans
+pub mod TermList

@@ -3,7 +3,7 @@ use Rattle.std.specs.Prelude.{◌≡◌, ℕ, zero, suc, ◌+◌, ◌-◌, ◌%�
 use Rattle.std.specs.List.{All}
 use Rattle.alta_codec.specs.Numbers.{number_bytes, number_from}
 use Rattle.alta_codec.specs.declared.number.CodeFault.{CodeFault}
-use Rattle.alta_content.specs.declared.content.TermList.{TermList}
+use Rattle.alta_content.specs.TermList.{TermList}
 
 -- ---- how they are spelled
 

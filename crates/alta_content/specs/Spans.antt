@@ -1,7 +1,7 @@
 -- The spans of locations that deleted documents leave, and what of the lists stands outside of them.
 use Rattle.std.specs.Prelude.{ℕ, ◌<◌, ◌≤◌, nat_le, nat_lt, Bool, ◌&&◌, not, List, [], ◌∷◌, length, map}
 use Rattle.std.specs.List.{All, filter, list_any}
-use Rattle.alta_content.specs.declared.content.TermList.{TermList}
+use Rattle.alta_content.specs.TermList.{TermList}
 use Rattle.alta_content.specs.declared.document.DocRow.{DocRow}
 use Rattle.alta_content.specs.declared.spans.Span.{Span}
 use Rattle.alta_content.specs.Rows.{end_of, ends_among}

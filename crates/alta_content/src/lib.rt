@@ -5,14 +5,14 @@
 mod content;
 mod document;
 mod laws;
-mod lists;
 mod packing;
+mod rows;
 mod spans;
 mod term_lists;
 
-pub use content::{Content, TermList};
+pub use content::Content;
 pub use document::DocRow;
 pub use laws::joins_keep_contents;
-pub use lists::{DocRows, Locations};
+pub use rows::DocRows;
 pub use spans::{Span, keep_locations, keep_rows, put_locations, spans_of};
 pub use term_lists::TermLists;

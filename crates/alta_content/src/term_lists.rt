@@ -26,7 +26,7 @@ pub struct TermLists {
 impl Model for TermLists {
     ghost use Rattle.std.specs.Prelude.{List, drop, length, ◌≤◌};
     ghost use Rattle.alta_content.specs.Packed.{Packs, lists_in};
-    ghost use Rattle.alta_content.specs.declared.content.TermList.{TermList};
+    ghost use Rattle.alta_content.specs.TermList.{TermList};
 
     ghost Value = { List TermList };
 

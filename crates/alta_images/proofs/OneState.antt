@@ -8,7 +8,7 @@ use Rattle.alta_level.specs.Coded.{summary_bytes}
 use Rattle.alta_level.specs.Segments.{IsSegment, row_of, rows_of, list_bytes, segment_bytes}
 use Rattle.alta_content.specs.Lists.{AreListsBehind, MayFollowList}
 use Rattle.alta_content.specs.declared.content.Content.{Content}
-use Rattle.alta_content.specs.declared.content.TermList.{TermList}
+use Rattle.alta_content.specs.TermList.{TermList}
 use Rattle.alta_meta.specs.declared.document.State.{State}
 use Rattle.alta_postings.specs.Deltas.{Spells, locations_of, stream_bytes}
 use Rattle.alta_postings.proofs.Reading.{spelling_reads}

@@ -13,7 +13,7 @@ use Rattle.alta_journal.specs.declared.entry.Entry.TheVariants.{Add, Delete}
 use Rattle.alta_level.specs.Coded.{summary_bytes, table_fields}
 use Rattle.alta_level.specs.Segments.{segment_bytes}
 use Rattle.alta_content.specs.declared.content.Content.{Content}
-use Rattle.alta_content.specs.declared.content.TermList.{TermList}
+use Rattle.alta_content.specs.TermList.{TermList}
 use Rattle.alta_meta.specs.declared.document.State.{State}
 use Rattle.alta_postings.specs.Deltas.{stream_bytes}
 use Rattle.alta_root.specs.Root.{no_extent}

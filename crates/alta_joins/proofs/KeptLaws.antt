@@ -9,7 +9,7 @@ use Rattle.alta_content.specs.Joining.{joined_in}
 use Rattle.alta_content.specs.Parts.{IsPart, MayJoin}
 use Rattle.alta_content.specs.Rows.{end_of, live_rows}
 use Rattle.alta_content.specs.declared.content.Content.{Content}
-use Rattle.alta_content.specs.declared.content.TermList.{TermList}
+use Rattle.alta_content.specs.TermList.{TermList}
 use Rattle.alta_content.specs.declared.document.DocRow.{DocRow}
 use Rattle.alta_content.proofs.Documents.{states_kept}
 use Rattle.alta_content.proofs.Folds.{join_of_join}

@@ -14,7 +14,7 @@ use Rattle.alta_content.specs.Lists.{IsContent, is_end_list, terms_of}
 use Rattle.alta_content.specs.Parts.{MayJoin}
 use Rattle.alta_content.specs.Rows.{AreDocuments, AreDocumentsBehind, Before, behind_row, ends_among, live_rows, start}
 use Rattle.alta_content.specs.declared.content.Content.{Content}
-use Rattle.alta_content.specs.declared.content.TermList.{TermList}
+use Rattle.alta_content.specs.TermList.{TermList}
 use Rattle.alta_content.specs.declared.document.DocRow.{DocRow}
 use Rattle.alta_images.specs.Opened.{rows_in}
 use Rattle.alta_images.specs.Working.{rows_of}

@@ -6,7 +6,7 @@ ghost use Rattle.alta_content.specs.Lists.{IsContent};
 ghost use Rattle.alta_content.specs.Parts.{IsPart, MayJoin};
 ghost use Rattle.alta_content.specs.Rows.{AreDocuments, live_rows};
 ghost use Rattle.alta_content.specs.declared.content.Content.{Content};
-ghost use Rattle.alta_content.specs.declared.content.TermList.{TermList};
+ghost use Rattle.alta_content.specs.TermList.{TermList};
 ghost use Rattle.alta_content.specs.declared.document.DocRow.{DocRow};
 ghost use Rattle.alta_images.specs.Broken.{HasLevels};
 ghost use Rattle.alta_images.specs.Holding.{Holding, IsHeld, IsJobOf, IsSpaced, IsWell};

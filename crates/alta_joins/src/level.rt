@@ -20,7 +20,7 @@ use crate::fault::JoinFault;
 use alta_codec::{Extent, Loc};
 use alta_content::{Content, DocRow, DocRows, TermLists};
 use alta_disk::Disk;
-use alta_level::{StoredList, read_list_into, segments_read_back};
+use alta_level::{StoredList, read_list, segments_read_back};
 use alta_table::{LevelFault, Table};
 use std::alloc::{AllocError, Global};
 
@@ -170,7 +170,7 @@ fn put_row(
     ensures lean { result ≢ Err DiskFault }
 {
     let list = stored(level, row, bytes, place);
-    match read_list_into(locations, places, &list, level.documents()) {
+    match read_list(locations, places, &list, level.documents()) {
         Ok(()) => {
             lists.put(list.term, locations)?;
             Ok(())

@@ -16,7 +16,7 @@ use Rattle.alta_table.specs.Terms.{data_of}
 use Rattle.alta_words.specs.Fault.{Agrees, IsFirstDifferent}
 use Rattle.alta_words.specs.Word.{IsPosting, IsRowOf}
 use Rattle.alta_content.specs.declared.content.Content.{Content}
-use Rattle.alta_content.specs.declared.content.TermList.{TermList}
+use Rattle.alta_content.specs.TermList.{TermList}
 use Rattle.alta_level.specs.Stored.{Stored, Fits, IsListOf, IsListFault}
 use Rattle.alta_content.specs.Lists.{IsInRange, end_term}
 use Rattle.alta_content.specs.Rows.{ends_of, firsts_of}

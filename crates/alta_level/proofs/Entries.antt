@@ -8,7 +8,7 @@ use Rattle.alta_table.specs.Documents.{documents_bytes}
 use Rattle.alta_table.specs.Tables.{head_bytes, head_of}
 use Rattle.alta_table.specs.Terms.{entry_bytes, terms_bytes, terms_bytes_behind}
 use Rattle.alta_content.specs.declared.content.Content.{Content}
-use Rattle.alta_content.specs.declared.content.TermList.{TermList}
+use Rattle.alta_content.specs.TermList.{TermList}
 use Rattle.alta_content.specs.Fronts.{front_locations, front_term}
 use Rattle.alta_content.specs.Lists.{AreListsBehind}
 use Rattle.alta_level.specs.Segments.{list_bytes, row_of, rows_of, segment_bytes}

@@ -7,7 +7,7 @@ use Rattle.alta_table.specs.declared.term.TermRow.{TermRow}
 use Rattle.alta_table.specs.Tables.{Tables, AreTables, IsDamage, tables_bytes, tables_of}
 use Rattle.alta_table.specs.Terms.{data_of}
 use Rattle.alta_content.specs.declared.content.Content.{Content}
-use Rattle.alta_content.specs.declared.content.TermList.{TermList}
+use Rattle.alta_content.specs.TermList.{TermList}
 use Rattle.alta_level.specs.Segments.{IsSegment, rows_of}
 use Rattle.alta_level.specs.Damage.{stored_at, AreListsOf, IsFaultInLists, IsSegmentFault, data_in, data_place}
 use Rattle.alta_level.specs.Damage.IsSegmentFault.{in_tables, in_lists}

@@ -16,7 +16,7 @@ use Rattle.alta_content.specs.Rows.{AreDocuments}
 use Rattle.alta_table.specs.Tables.{Tables, AreTables, tables_bytes}
 use Rattle.alta_table.specs.Terms.{data_of, data_bytes, is_end, AreTermsBehind, MayFollowTerm}
 use Rattle.alta_content.specs.declared.content.Content.{Content}
-use Rattle.alta_content.specs.declared.content.TermList.{TermList}
+use Rattle.alta_content.specs.TermList.{TermList}
 use Rattle.alta_level.specs.Coded.{summary_bytes}
 use Rattle.alta_level.specs.Segments.{IsSegment, row_of, rows_of, list_bytes, segment_bytes}
 use Rattle.alta_level.specs.Damage.{AreListsOf, data_in, data_place}

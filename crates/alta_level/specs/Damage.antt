@@ -4,7 +4,7 @@ use Rattle.alta_content.specs.declared.document.DocRow.{DocRow}
 use Rattle.alta_table.specs.declared.term.TermRow.{TermRow}
 use Rattle.alta_table.specs.Tables.{Tables, AreTables, IsDamage, tables_bytes}
 use Rattle.alta_table.specs.Terms.{data_of}
-use Rattle.alta_content.specs.declared.content.TermList.{TermList}
+use Rattle.alta_content.specs.TermList.{TermList}
 use Rattle.alta_level.specs.Stored.{Stored, IsListOf, IsListFault}
 
 -- the list of a row, whose stream begins at a place, and its summary behind the stream

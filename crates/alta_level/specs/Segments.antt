@@ -5,7 +5,7 @@ use Rattle.alta_table.specs.declared.term.TermRow.{TermRow}
 use Rattle.alta_content.specs.Lists.{IsContent}
 use Rattle.alta_table.specs.Tables.{tables_bytes}
 use Rattle.alta_content.specs.declared.content.Content.{Content}
-use Rattle.alta_content.specs.declared.content.TermList.{TermList}
+use Rattle.alta_content.specs.TermList.{TermList}
 use Rattle.alta_level.specs.Coded.{summary_bytes}
 
 -- ---- the spelling

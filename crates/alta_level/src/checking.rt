@@ -18,7 +18,6 @@ use alta_codec::Loc;
 use alta_content::DocRow;
 use alta_table::LevelFault;
 use alta_words::{Bounds, PostingFault};
-use std::alloc::Global;
 
 // The place on the disk of a fault of a stream or a summary.
 fn place_of(list: &StoredList<'_>, fault: PostingFault) -> u64
@@ -134,38 +133,13 @@ pub fn check_list(list: &StoredList<'_>, documents: &[DocRow]) -> Result<Bounds,
     tested(list, documents)
 }
 
-/// The locations of a list, whose level has these documents. Each number of the stream is read once. `Damaged` has the
-/// place of the first fault: the stream's own, else the summary's own, else the first row that is not the block of its
-/// number or is missing, which is 24 times its number behind the summary's first byte. Last comes the stream's first
-/// byte, where the stream has another number of locations than its row states, or one in no document's range, or where
-/// the term is `D` and the locations are not the ends of the documents. `Memory` comes only where memory is wanting.
+/// Leaves in `locations` those of a list, whose level has these documents, and nothing that it held. `places` is room to work
+/// in; lists may share both. Each number of the stream is read once. `Damaged` has the place of the first fault: the
+/// stream's own, else the summary's own, else the first row that is not the block of its number or is missing, which is 24
+/// times its number behind the summary's first byte. Last comes the stream's first byte, where the stream has another
+/// number of locations than its row states, or one in no document's range, or where the term is `D` and the locations are
+/// not the ends of the documents. `Memory` comes only where memory is wanting.
 pub fn read_list(
-    alloc: Global,
-    list: &StoredList<'_>,
-    documents: &[DocRow],
-) -> Result<Vec<Loc>, LevelFault>
-    requires stream { list.now.stream_place + length list.now.stream.now < 2 ^ 64 }
-    requires summary { list.now.summary_place + length list.now.summary.now < 2 ^ 64 }
-    requires documents { AreDocuments documents.now }
-    ensures found { IfOk result (λ locations. IsListOf documents.now (stored_of list.now) locations.items) }
-    ensures only { (locations : List ℕ) → IsListOf documents.now (stored_of list.now) locations → IsFound (λ x. x.items) result locations }
-    ensures first { IfDamaged result (IsListFault documents.now (stored_of list.now)) }
-    ensures broken { (p : ℕ) → IsListFault documents.now (stored_of list.now) p → IsDamaged result p }
-{
-    let most = (list.stream.len() as u64).min(list.count) as usize;
-    let Ok(mut locations) = Vec::with_capacity(alloc, most) else {
-        return Err(LevelFault::Memory);
-    };
-    let mut places = Vec::new(alloc);
-    match read_list_into(&mut locations, &mut places, list, documents) {
-        Ok(()) => Ok(locations),
-        Err(fault) => Err(fault),
-    }
-}
-
-/// Reads a list as [`read_list`] does, with the same faults, into a vector that lists may share: on Ok `locations` has those
-/// of the list alone, whatever it held. `places` is room to work in, which lists may share too.
-pub fn read_list_into(
     locations: &mut Vec<Loc>,
     places: &mut Vec<u64>,
     list: &StoredList<'_>,

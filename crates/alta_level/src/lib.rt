@@ -21,7 +21,7 @@ mod writing;
 pub use alta_content::{Content, DocRow, DocRows, TermLists};
 pub use alta_table::{Head, LevelFault, Table, head};
 pub use building::build;
-pub use checking::{check_list, read_list, read_list_into};
+pub use checking::{check_list, read_list};
 pub use laws::segments_read_back;
 pub use reading::read_content;
 pub use stored::StoredList;

@@ -9,7 +9,7 @@ ghost use Rattle.alta_level.specs.Segments.{IsSegment};
 ghost use Rattle.alta_level.specs.Stored.{IsListFault, IsListOf};
 ghost use Rattle.alta_content.specs.declared.content.Content.{Content};
 
-use crate::checking::read_list_into;
+use crate::checking::read_list;
 use crate::laws::segments_read_back;
 use crate::stored::StoredList;
 use alta_codec::Loc;
@@ -67,7 +67,7 @@ fn put_row(
         term: row.term.as_slice(),
         count: row.count,
     };
-    match read_list_into(locations, places, &stored, documents) {
+    match read_list(locations, places, &stored, documents) {
         Ok(()) => match lists.put(row.term.as_slice(), locations) {
             Ok(()) => Ok(()),
             Err(_none) => Err(LevelFault::Memory),

@@ -125,6 +125,8 @@ fn one_list_is_tested_and_read(rt: HostRuntime) -> Result<(), Fail> {
     match read_content(alloc, SEGMENT, PLACE) {
         Ok(content) => {
             let documents = content.documents.as_slice();
+            let mut locations = Vec::new(alloc);
+            let mut places = Vec::new(alloc);
             for (count, whole) in [(1, false), (2, true), (3, false)] {
                 let list = StoredList {
                     stream: &[3, 5],
@@ -134,9 +136,12 @@ fn one_list_is_tested_and_read(rt: HostRuntime) -> Result<(), Fail> {
                     term: b"Wfox",
                     count,
                 };
-                let locations = read_list(alloc, &list, documents).ok();
+                let read = read_list(&mut locations, &mut places, &list, documents);
+                assert_eq!(rt; read.is_ok(), whole);
                 assert_eq!(rt; check_list(&list, documents).is_ok(), whole);
-                assert_eq!(rt; locations.map(|list| list.len()), whole.then_some(2));
+                if whole {
+                    assert_eq!(rt; locations.as_slice(), &[3, 8]);
+                }
             }
         }
         Err(fault) => assert!(rt; false, "{fault:?}"),

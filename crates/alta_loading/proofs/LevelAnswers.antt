@@ -10,7 +10,7 @@ use Rattle.alta_compile.specs.Space as space
 use Rattle.alta_compile.specs.PlanOf.{plan_of}
 use Rattle.alta_compile.specs.Tree.{plan_list}
 use Rattle.alta_content.specs.Rows.{end_of, ends_among}
-use Rattle.alta_content.specs.declared.content.TermList.{TermList}
+use Rattle.alta_content.specs.TermList.{TermList}
 use Rattle.alta_content.specs.declared.document.DocRow.{DocRow}
 use Rattle.alta_content.proofs.Order.{iff_same}
 use Rattle.alta_images.specs.Levels.{Level, document_of, documents_of, live_rows}

@@ -11,7 +11,7 @@ use Rattle.alta_compile.proofs.Spaces.{Has, at_met, contains_has, has_contains, 
 use Rattle.alta_content.specs.Lists.{AreListsBehind, IsContent, end_term, is_end_list, locations_of}
 use Rattle.alta_content.specs.Rows.{RowsRise, end_of, ends_of}
 use Rattle.alta_content.specs.declared.content.Content.{Content}
-use Rattle.alta_content.specs.declared.content.TermList.{TermList}
+use Rattle.alta_content.specs.TermList.{TermList}
 use Rattle.alta_content.specs.declared.document.DocRow.{DocRow}
 use Rattle.alta_content.proofs.Contents.{lists_rise, rows_rise}
 use Rattle.alta_content.proofs.Order.{itself, same_term}

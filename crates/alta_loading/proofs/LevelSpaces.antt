@@ -13,7 +13,7 @@ use Rattle.alta_content.specs.Joining.{in_order}
 use Rattle.alta_content.specs.Lists.{locations_of}
 use Rattle.alta_content.specs.Lists as content
 use Rattle.alta_content.specs.declared.content.Content.{Content}
-use Rattle.alta_content.specs.declared.content.TermList.{TermList}
+use Rattle.alta_content.specs.TermList.{TermList}
 use Rattle.alta_content.specs.declared.document.DocRow.{DocRow}
 use Rattle.alta_content.proofs.Contents.{rows_rise}
 use Rattle.alta_content.proofs.Elements.{all_left}

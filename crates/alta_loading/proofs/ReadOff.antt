@@ -14,7 +14,7 @@ use Rattle.alta_compound.specs.Unions.{RisesAbove, above_from_rising}
 use Rattle.alta_content.specs.Lists.{AreListsBehind, IsContent, TermsRise, locations_of, terms_of}
 use Rattle.alta_content.specs.Rows.{RowsRise, end_of}
 use Rattle.alta_content.specs.declared.content.Content.{Content}
-use Rattle.alta_content.specs.declared.content.TermList.{TermList}
+use Rattle.alta_content.specs.TermList.{TermList}
 use Rattle.alta_content.specs.declared.document.DocRow.{DocRow}
 use Rattle.alta_content.proofs.Contents.{lists_rise, rows_rise}
 use Rattle.alta_content.proofs.Elements.{among_at}

@@ -14,7 +14,7 @@ use Rattle.std.proofs.lemmas.List.Kept.{Contains-dedup, Contains-from_dedup, IsS
 use Rattle.std.proofs.lemmas.List.Sorted.{list_any-IsPermutation}
 use Rattle.alta_content.specs.Joining.{in_order}
 use Rattle.alta_content.specs.Lists.{locations_of, terms_of}
-use Rattle.alta_content.specs.declared.content.TermList.{TermList}
+use Rattle.alta_content.specs.TermList.{TermList}
 use Rattle.alta_content.proofs.Order.{Sorted, has, has_append, has_head, has_in_order, has_more, iff_same, in_order_sorted, one_list, same_term}
 use Rattle.alta_loading.specs.Met.{is_among}
 use Rattle.alta_memlevel.proofs.Prefixes.{filter_rises}

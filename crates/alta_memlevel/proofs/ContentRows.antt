@@ -1,7 +1,7 @@
 -- Contents of small documents, worked out.
 use Rattle.std.proofs.Common.{◌≡◌, ℕ, List, [], ◌∷◌, length, refl}
 use Rattle.alta_content.specs.declared.content.Content.{Content}
-use Rattle.alta_content.specs.declared.content.TermList.{TermList}
+use Rattle.alta_content.specs.TermList.{TermList}
 use Rattle.alta_memlevel.specs.Added.{Added, live_of}
 use Rattle.alta_content.specs.Cells.{cell_at}
 use Rattle.alta_content.specs.Joining.{joined_in}

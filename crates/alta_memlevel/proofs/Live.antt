@@ -3,7 +3,7 @@ use Rattle.std.proofs.Common.{not, ◌≡◌, ℕ, List, [], ◌∷◌, ◌++◌
 use Rattle.std.proofs.lemmas.List.Elements.{All-filter}
 use Rattle.alta_content.specs.declared.document.DocRow.{DocRow}
 use Rattle.alta_content.specs.declared.content.Content.{Content}
-use Rattle.alta_content.specs.declared.content.TermList.{TermList}
+use Rattle.alta_content.specs.TermList.{TermList}
 use Rattle.alta_content.specs.Joining.{gathered, joined_in}
 use Rattle.alta_content.specs.Lists.{locations_of}
 use Rattle.alta_content.specs.Rows.{ends_among, live_rows}

@@ -16,7 +16,7 @@ use Rattle.alta_content.specs.Lists.{AreInRanges, AreListsBehind, IsContent, IsI
 use Rattle.alta_content.specs.Parts.{IsEmpty, IsPart}
 use Rattle.alta_content.specs.Rows.{AreDocuments, AreDocumentsBehind, Before, MayFollow, behind_row, end_of, ends_of, start}
 use Rattle.alta_content.specs.declared.content.Content.{Content}
-use Rattle.alta_content.specs.declared.content.TermList.{TermList}
+use Rattle.alta_content.specs.TermList.{TermList}
 use Rattle.alta_memlevel.specs.Added.{Added, HasContent, IsSpace, list_of, places_of}
 use Rattle.alta_memlevel.proofs.Contents.{list_of_rises}
 use Rattle.alta_meta.specs.Cells.{cells_of}

@@ -5,7 +5,7 @@ use Rattle.alta_codec.specs.declared.location.TheConstants.{TOP}
 use Rattle.alta_codec.specs.Name.{IsName}
 use Rattle.alta_codec.specs.Rising.{IsRising}
 use Rattle.alta_content.specs.declared.content.Content.{Content}
-use Rattle.alta_content.specs.declared.content.TermList.{TermList}
+use Rattle.alta_content.specs.TermList.{TermList}
 use Rattle.alta_content.specs.declared.document.DocRow.{DocRow}
 use Rattle.alta_content.specs.Cells.{cells_at}
 use Rattle.alta_content.specs.Joining.{in_order}

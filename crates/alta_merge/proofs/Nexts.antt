@@ -4,7 +4,7 @@ use Rattle.std.specs.Ordering.{is_le}
 use Rattle.std.specs.declared.cmp.Ordering.TheVariants.{Less, Greater}
 use Rattle.std.proofs.lemmas.Bool.{cases_lt, true≢false}
 use Rattle.std.proofs.lemmas.Cmp.{nat_list_cmp_total, tied_itself}
-use Rattle.alta_content.specs.declared.content.TermList.{TermList}
+use Rattle.alta_content.specs.TermList.{TermList}
 use Rattle.alta_content.specs.Fronts.{front_term}
 use Rattle.alta_merge.specs.Fronts.{IsNext, NoneLeft, against, next_term}
 use Rattle.alta_content.proofs.Order.{by_order, cmp, equal_same, greater_less, less_on}

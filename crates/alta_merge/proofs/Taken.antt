@@ -8,7 +8,7 @@ use Rattle.std.specs.Str.{bytes_eq}
 use Rattle.std.specs.Prelude.{nat_lt}
 use Rattle.std.proofs.lemmas.Bool.{cases_Bool, true≢false}
 use Rattle.std.proofs.lemmas.List.Elements.{All-head, All-tail, All-map, All-weaker}
-use Rattle.alta_content.specs.declared.content.TermList.{TermList}
+use Rattle.alta_content.specs.TermList.{TermList}
 use Rattle.alta_content.specs.Joining.{gathered, in_order, locations_among, terms_among}
 use Rattle.alta_content.specs.Lists.{TermsRise, locations_of, terms_of}
 use Rattle.alta_content.specs.Spans.{lists_outside, outside_of}

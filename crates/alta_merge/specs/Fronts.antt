@@ -6,7 +6,7 @@ use Rattle.std.specs.Ordering.{nat_cmp, is_le}
 use Rattle.std.specs.declared.cmp.Ordering.{Ordering}
 use Rattle.std.specs.declared.cmp.Ordering.TheVariants.{Less}
 use Rattle.std.specs.Str.{bytes_eq}
-use Rattle.alta_content.specs.declared.content.TermList.{TermList}
+use Rattle.alta_content.specs.TermList.{TermList}
 use Rattle.alta_content.specs.Fronts.{front_locations, front_term}
 use Rattle.alta_content.specs.Lists.{TermsRise}
 use Rattle.alta_content.specs.Spans.{SpansRise, outside_of}

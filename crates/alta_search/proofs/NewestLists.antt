@@ -13,7 +13,7 @@ use Rattle.alta_compile.proofs.Spaces.{HasAt, list-has, has-list, list-rises}
 use Rattle.alta_compound.specs.Union.{union_of}
 use Rattle.alta_compound.specs.Unions.{RisesAbove, above_from_rising, union-rises}
 use Rattle.alta_content.specs.Lists.{locations_of, terms_of}
-use Rattle.alta_content.specs.declared.content.TermList.{TermList}
+use Rattle.alta_content.specs.TermList.{TermList}
 use Rattle.alta_docread.specs.KeptLaws.{true_or_false}
 use Rattle.alta_memlevel.specs.Added.{Added, places_of}
 use Rattle.alta_memlevel.specs.Added as mem

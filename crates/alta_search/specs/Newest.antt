@@ -3,7 +3,7 @@ use Rattle.std.specs.Prelude.{ℕ, Bool, IsTrue, nat_eq, List, [], ◌∷◌, ma
 use Rattle.std.specs.List.{filter, starts_with}
 use Rattle.std.specs.Str.{bytes_eq}
 use Rattle.alta_content.specs.Lists.{locations_of, terms_of}
-use Rattle.alta_content.specs.declared.content.TermList.{TermList}
+use Rattle.alta_content.specs.TermList.{TermList}
 use Rattle.alta_memlevel.specs.Added.{Added, HasContent, Level}
 use Rattle.alta_query.specs.declared.test.Test.{Test}
 use Rattle.alta_query.specs.declared.test.Test.TheVariants.{Is, Begins}

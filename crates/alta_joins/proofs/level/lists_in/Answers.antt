@@ -1,6 +1,6 @@
 use Rattle.std.proofs.Common.{◌≡◌, ◌+◌, ℕ, List, drop, refl, subst, ap, ◌∙◌, arith}
 use Rattle.alta_codec.specs.declared.extent.Extent.{Extent}
-use Rattle.alta_content.specs.declared.content.TermList.{TermList}
+use Rattle.alta_content.specs.TermList.{TermList}
 use Rattle.alta_level.specs.Damage.{IsFaultInLists, stored_at}
 use Rattle.alta_level.specs.Stored.{IsListFault}
 use Rattle.alta_level.proofs.Progress.{Progress, ends_read, faulty, fits, goes_on}

@@ -1,7 +1,7 @@
 use Rattle.std.proofs.Common.{◌≡◌, ℕ, List, ◌++◌, drop, sym, subst, ap, ◌∙◌}
 use Rattle.alta_codec.specs.Rising.{IsRising}
 use Rattle.alta_content.specs.Fronts.{front_locations, front_term}
-use Rattle.alta_content.specs.declared.content.TermList.{TermList}
+use Rattle.alta_content.specs.TermList.{TermList}
 use Rattle.alta_level.specs.Segments.{list_bytes, row_of}
 use Rattle.alta_table.specs.Terms.{entry_bytes}
 use Rattle.alta_level.proofs.Entries.{Leaves, first_rises, front_same, leaves_none, leaves_rest}

@@ -1,7 +1,7 @@
 use Rattle.std.proofs.Common.{ℕ, List, drop, ap, ◌∙◌, arith}
 use Rattle.alta_table.specs.Tables.{Tables}
 use Rattle.alta_content.specs.declared.content.Content.{Content}
-use Rattle.alta_content.specs.declared.content.TermList.{TermList}
+use Rattle.alta_content.specs.TermList.{TermList}
 use Rattle.alta_level.specs.Damage.{AreListsOf, IsFaultInLists, IsSegmentFault, data_in, data_place}
 use Rattle.alta_level.specs.Damage.IsSegmentFault.{in_lists}
 use Rattle.alta_level.proofs.Joins.{fault_goes}

@@ -1,7 +1,7 @@
 use Rattle.std.proofs.Common.{List, length, refl, subst, ap, arith}
 use Rattle.std.specs.Vec.Iter.{into_iter_items}
 use Rattle.alta_table.specs.declared.term.TermRow.{TermRow}
-use Rattle.alta_content.specs.declared.content.TermList.{TermList}
+use Rattle.alta_content.specs.TermList.{TermList}
 use Rattle.alta_level.specs.Stored.{IsListFault}
 use Rattle.alta_level.specs.Damage.{IsFaultInLists, stored_at}
 use Rattle.alta_level.proofs.Joins.{fault_goes}

@@ -2,7 +2,7 @@ use Rattle.std.proofs.Common.{[], List, sym, subst, ap₂, ◌∙◌}
 use Rattle.std.specs.List.{All}
 use Rattle.std.proofs.lemmas.List.Elements.{All-nil}
 use Rattle.alta_content.specs.declared.content.Content.{Content}
-use Rattle.alta_content.specs.declared.content.TermList.{TermList}
+use Rattle.alta_content.specs.TermList.{TermList}
 use Rattle.alta_content.specs.declared.document.DocRow.{DocRow}
 use Rattle.alta_images.specs.Opened.{rows_in}
 use Rattle.alta_memlevel.specs.Documents.{IsBefore, IsFrom, IsMade}

@@ -2,7 +2,7 @@ use Rattle.std.proofs.Common.{◌≡◌, ℕ, ◌-◌, ◌<◌, ◌^◌, Bool, n
 use Rattle.std.proofs.lemmas.List.{length-append, length-drop}
 use Rattle.std.proofs.lemmas.List.Elements.{All-from_get_or}
 use Rattle.alta_codec.specs.Numbers.{number_bytes}
-use Rattle.alta_content.specs.declared.content.TermList.{TermList}
+use Rattle.alta_content.specs.TermList.{TermList}
 use Rattle.alta_content.specs.Packed.{Fits, list_gaps, row_bytes}
 use Rattle.alta_content.proofs.Packs.{few_lists, put_behind}
 use Rattle.alta_content.proofs.term_lists.TermLists.put.Goals as goal

@@ -1,5 +1,5 @@
 use Rattle.std.proofs.Common.{◌≡◌, ℕ, ◌<◌, ◌≤◌, List, length, drop, subst, ap, ◌∙◌, arith}
-use Rattle.alta_content.specs.declared.content.TermList.{TermList}
+use Rattle.alta_content.specs.TermList.{TermList}
 use Rattle.alta_content.specs.Packed.{row_in}
 use Rattle.alta_content.proofs.Packs.{drop_again, skipped}
 use Rattle.alta_content.proofs.term_lists.TermLists.skip.Goals as goal

@@ -2,7 +2,7 @@ use Rattle.std.proofs.Common.{◌≡◌, ℕ, ◌<◌, ◌++◌, [], List, lengt
 use Rattle.std.proofs.lemmas.Bool.{true≢false}
 use Rattle.std.proofs.lemmas.List.{length-map}
 use Rattle.alta_content.specs.declared.content.Content.{Content}
-use Rattle.alta_content.specs.declared.content.TermList.{TermList}
+use Rattle.alta_content.specs.TermList.{TermList}
 use Rattle.alta_content.specs.Joining.{gathered, terms_among}
 use Rattle.alta_content.specs.Spans.{lists_outside}
 use Rattle.alta_merge.specs.Fronts.{AreSorted, IsNext, NoneLeft, behind, behind_next, if_some, next_list, next_term}

@@ -2,7 +2,7 @@ use Rattle.std.proofs.Common.{arith}
 use Rattle.alta_level.specs.Stored.{IsListOf, IsListFault, stored_of}
 use Rattle.alta_level.proofs.Faults.{list_fault_once, list_once, list_or_fault}
 use Rattle.alta_level.proofs.Joins.{only_of, broken_of}
-use Rattle.alta_level.proofs.checking.read_list_into.Goals as goal
+use Rattle.alta_level.proofs.checking.read_list.Goals as goal
 
 pub returns-clause-only : goal.returns-clause-only
 returns-clause-only c =

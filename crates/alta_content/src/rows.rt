@@ -1,9 +1,8 @@
-// Lists of rows and of locations, which contracts see as the lists of their members.
+// Lists of rows, which contracts see as the lists of their members.
 ghost use Rattle.std.specs.Prelude.{◌≡◌, ◌∷◌, ◌++◌, [], length, slice_get, OnOk, OnErr};
 ghost use Rattle.std.specs.Option.{option_copied};
 
 use crate::document::DocRow;
-use alta_codec::Loc;
 use std::alloc::{AllocError, Global};
 use std::marker::Model;
 
@@ -71,75 +70,6 @@ impl DocRows {
 
     /// The rows, borrowed.
     pub fn as_slice(&self) -> &[DocRow]
-        ensures { result.now ≡ self.now }
-    {
-        &self.items
-    }
-}
-
-/// Locations, as those of a term.
-#[derive(Drop)]
-pub struct Locations {
-    items: Vec<Loc>,
-}
-
-impl Model for Locations {
-    ghost use Rattle.std.specs.Prelude.{List, ℕ};
-
-    ghost Value = { List ℕ };
-
-    ghost view = { λ a. a.items.items };
-}
-
-impl Locations {
-    /// No locations.
-    pub fn new(alloc: Global) -> Locations
-        ensures { result ≡ [] }
-    {
-        Locations {
-            items: Vec::new(alloc),
-        }
-    }
-
-    /// These locations, without a copy.
-    pub fn from_vec(items: Vec<Loc>) -> Locations
-        ensures { result ≡ items.items }
-    {
-        Locations { items }
-    }
-
-    /// The vector that holds the locations, without a copy.
-    pub fn into_vec(self) -> Vec<Loc>
-        ensures { result.items ≡ self }
-    {
-        self.items
-    }
-
-    /// Adds a location at the end. Where memory is wanting the list stays.
-    pub fn push(&mut self, item: Loc) -> Result<(), AllocError>
-        ensures pushed { OnOk result (self.new ≡ self.old ++ item ∷ []) }
-        ensures kept { OnErr result (self.new ≡ self.old) }
-    {
-        self.items.push(item)?;
-        Ok(())
-    }
-
-    /// How many locations there are.
-    pub fn len(&self) -> usize
-        ensures { result ≡ length self.now }
-    {
-        self.items.len()
-    }
-
-    /// The location at an index, None past the end.
-    pub fn get(&self, i: usize) -> Option<&Loc>
-        ensures { option_copied result ≡ slice_get self.now i }
-    {
-        self.items.get(i)
-    }
-
-    /// The locations, borrowed.
-    pub fn as_slice(&self) -> &[Loc]
         ensures { result.now ≡ self.now }
     {
         &self.items
