@@ -10,7 +10,7 @@ by default). The C program is compiled by `gcc -O2` in a temporary folder. It te
 
 open    reads head, documents and terms, and keeps the rows, with the names and the terms in one buffer each
 read    does that, tests each stream, its summary and its locations, and keeps all locations in one array
-build   writes the segment of what it read
+build   does that, and writes the segment of what it read
 
 Prints for each how many million bytes a second of processor time are read or written (of `open` the bytes of head and
 tables, else of the whole), for both. The time is that of ROUNDS rounds more, the best of some turns.
@@ -303,17 +303,10 @@ int main(int count, char **words) {
     uint8_t *bytes = malloc(total);
     if (fread(bytes, 1, total, file) != total) return 1;
     int lists = words[3][0] != 'o';
-    if (words[3][0] == 'b') {
-        segment s = {.bytes = bytes, .total = total};
-        if (open_tables(&s) >= 0 || read_lists(&s) >= 0) return 1;
-        for (long round = 0; round < rounds; round++) sum += build(&s);
-        printf("%lu\n", sum);
-        return 0;
-    }
     for (long round = 0; round < rounds; round++) {
         segment s = {.bytes = bytes, .total = total};
         if (open_tables(&s) >= 0 || (lists && read_lists(&s) >= 0)) return 1;
-        sum += s.documents + s.terms;
+        sum += words[3][0] == 'b' ? build(&s) : s.documents + s.terms;
         drop(&s);
     }
     printf("%lu\n", sum);

@@ -1,6 +1,7 @@
 //! Opens, reads or builds a segment again and again, so that the time of it can be measured: `bench_segments ROUNDS FILE
 //! MODE..` does for each mode, `open`, `read` or `build`, what it says so often. It prints for each how many documents
-//! and terms were opened or read, or how many bytes were built. bench/segments.py runs it.
+//! and terms were opened or read, or how many bytes were built. A segment is built of its content, which is used up, so each
+//! building reads it first. bench/segments.py runs it.
 #![tactic(auto)]
 
 ghost use Rattle.std.specs.Prelude.{◌≤◌, length};
@@ -85,16 +86,22 @@ fn reads(alloc: Global, bytes: &[u8], rounds: u64) -> Result<u64, AllocError>
     Ok(sum)
 }
 
-// How many bytes were built of the segment's content, which is read once.
+// How many bytes are built of the segment's content, 0 where it is damaged.
+fn build_again(alloc: Global, bytes: &[u8]) -> Result<u64, AllocError>
+    requires { length bytes.now ≤ MOST }
+{
+    match undamaged(read_content(alloc, bytes, START))? {
+        Some(content) => Ok(build(alloc, content)?.len() as u64),
+        None => Ok(0),
+    }
+}
+
 fn builds(alloc: Global, bytes: &[u8], rounds: u64) -> Result<u64, AllocError>
     requires { length bytes.now ≤ MOST }
 {
     let mut sum: u64 = 0;
-    if let Ok(content) = read_content(alloc, bytes, START) {
-        for _ in 0..rounds {
-            let built = build(alloc, &content)?;
-            sum = sum.wrapping_add(built.len() as u64);
-        }
+    for _ in 0..rounds {
+        sum = sum.wrapping_add(build_again(alloc, bytes)?);
     }
     Ok(sum)
 }

@@ -2,7 +2,7 @@
 ghost use Rattle.std.specs.Prelude.{◌≡◌, length, IfOk, IsTrue};
 
 use alta_codec::Text;
-use alta_content::{Content, DocRow};
+use alta_content::{Content, DocRow, TermLists};
 use alta_memlevel::MemLevel;
 use alta_meta::{Cell, cells};
 use std::alloc::{AllocError, Global};
@@ -103,8 +103,20 @@ fn the_content_is_that_of_the_documents(rt: HostRuntime) -> Result<(), Fail> {
     Ok(())
 }
 
+/// Whether the first list is this term's, with these locations.
+fn begins_with(
+    alloc: Global,
+    lists: &TermLists,
+    term: &[u8],
+    want: &[u64],
+) -> Result<bool, AllocError> {
+    let mut locations = Vec::new(alloc);
+    lists.put_first(&mut locations)?;
+    Ok(lists.first() == Some(term) && locations.as_slice() == want)
+}
+
 /// Whether the content has exactly the second document's row and lists.
-fn is_the_second(content: &Content) -> bool {
+fn is_the_second(alloc: Global, content: Content) -> Result<bool, AllocError> {
     let lists: [(&[u8], &[u64]); 9] = [
         (b"D", &[16]),
         (b"Nb", &[10]),
@@ -116,16 +128,18 @@ fn is_the_second(content: &Content) -> bool {
         (b"Wquick", &[13]),
         (b"XFox", &[11]),
     ];
-    for i in 0..lists.len() {
-        let Some(list) = content.lists.get(i) else {
-            return false;
-        };
-        if list.term.as_slice() != lists[i].0 || list.locations.as_slice() != lists[i].1 {
-            return false;
-        }
-    }
     let first = content.documents.get(0).map(|row| row.first);
-    content.lists.len() == lists.len() && content.documents.len() == 1 && first == Some(10)
+    if content.documents.len() != 1 || first != Some(10) {
+        return Ok(false);
+    }
+    let mut left = content.lists;
+    for (term, want) in lists {
+        if !begins_with(alloc, &left, term, want)? {
+            return Ok(false);
+        }
+        left.skip();
+    }
+    Ok(left.len() == 0)
 }
 
 /// Whether the level, drained without the first document, gives the second one, and has after a further add of a
@@ -146,7 +160,8 @@ fn drains(
     level.add(third, again)?;
     let added = level.get(b"D") == [23].as_slice() && level.get(b"Wfox") == [18].as_slice();
     let rest = level.drain_content(&[])?;
-    Ok(is_the_second(&content) && emptied && added && rest.documents.len() == 1)
+    let second = is_the_second(alloc, content)?;
+    Ok(second && emptied && added && rest.documents.len() == 1)
 }
 
 #[test]

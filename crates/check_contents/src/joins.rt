@@ -88,8 +88,8 @@ fn join(
     Ok(Some((job.finish(), steps)))
 }
 
-/// Whether two contents have the same rows and lists.
-fn are_same(a: &Content, b: &Content) -> bool {
+/// Whether two contents have the same rows.
+fn have_same_rows(a: &Content, b: &Content) -> bool {
     let rows = a.documents.as_slice().iter().zip(b.documents.as_slice());
     for (x, y) in rows {
         let numbers = (x.number, x.first, x.cells) == (y.number, y.first, y.cells);
@@ -97,16 +97,37 @@ fn are_same(a: &Content, b: &Content) -> bool {
             return false;
         }
     }
-    let lists = a.lists.as_slice().iter().zip(b.lists.as_slice());
-    for (x, y) in lists {
-        if x.term.as_slice() != y.term.as_slice() {
-            return false;
+    a.documents.len() == b.documents.len()
+}
+
+/// Whether both begin with the same list, or have none.
+fn begin_alike(alloc: Global, a: &TermLists, b: &TermLists) -> Result<bool, AllocError> {
+    let mut first = Vec::new(alloc);
+    let mut second = Vec::new(alloc);
+    a.put_first(&mut first)?;
+    b.put_first(&mut second)?;
+    Ok(a.first() == b.first() && first.as_slice() == second.as_slice())
+}
+
+/// Whether both have the same lists.
+fn have_same_lists(alloc: Global, a: TermLists, b: TermLists) -> Result<bool, AllocError> {
+    let mut first = a;
+    let mut second = b;
+    for _ in 0..first.len() {
+        if !begin_alike(alloc, &first, &second)? {
+            return Ok(false);
         }
-        if x.locations.as_slice() != y.locations.as_slice() {
-            return false;
-        }
+        first.skip();
+        second.skip();
     }
-    a.documents.len() == b.documents.len() && a.lists.len() == b.lists.len()
+    Ok(first.len() == 0 && second.len() == 0)
+}
+
+/// Whether two contents have the same rows and lists.
+fn are_same(alloc: Global, a: Content, b: Content) -> Result<bool, AllocError> {
+    let rows = have_same_rows(&a, &b);
+    let lists = have_same_lists(alloc, a.lists, b.lists)?;
+    Ok(rows && lists)
 }
 
 #[test]
@@ -124,11 +145,11 @@ fn contents_are_joined_in_steps(rt: HostRuntime) -> Result<(), Fail> {
         (THIRD, FOURTH, &[], SECOND, 10),
     ];
     for (first, second, deleted, want, terms) in rows {
-        let wanted = part(alloc, want)?;
         for n in [1, 5, u64::MAX] {
+            let wanted = part(alloc, want)?;
             match join(alloc, first, second, deleted, n)? {
                 Some((content, steps)) => {
-                    assert!(rt; are_same(&content, &wanted), "{deleted:?} by {n}");
+                    assert!(rt; are_same(alloc, content, wanted)?, "{deleted:?} by {n}");
                     assert_eq!(rt; steps, terms.div_ceil(n), "{deleted:?} by {n}");
                 }
                 None => assert!(rt; false, "{deleted:?} by {n}"),

@@ -1,5 +1,5 @@
 // Each list type at its members.
-use alta_codec::{Bytes, Text};
+use alta_codec::Text;
 use alta_content::*;
 use std::alloc::{AllocError, Global};
 use std::test::Fail;
@@ -11,6 +11,11 @@ fn row(alloc: Global, number: u64, first: u64) -> Result<DocRow, AllocError> {
         cells: 3,
         name: Text::from_string(String::from_str(alloc, "fox")?),
     })
+}
+
+/// Whether the first list is this term's.
+fn begins_with(lists: &TermLists, term: &[u8]) -> bool {
+    lists.first() == Some(term)
 }
 
 #[test]
@@ -38,14 +43,20 @@ fn rows_hold_what_is_pushed(rt: HostRuntime) -> Result<(), Fail> {
 }
 
 #[test]
-fn term_lists_hold_what_is_pushed(rt: HostRuntime) -> Result<(), Fail> {
+fn term_lists_are_read_from_the_front(rt: HostRuntime) -> Result<(), Fail> {
     let alloc = rt.alloc();
-    let term = Bytes::from_vec(Vec::from_slice(alloc, b"Wred")?);
-    let locations = Locations::from_vec(vec![in alloc; 5, 6]?);
     let mut lists = TermLists::new(alloc);
-    lists.push(TermList { term, locations })?;
-    let again = TermLists::from_vec(lists.into_vec());
-    assert_eq!(rt; again.len(), 1);
-    assert_eq!(rt; again.get(0).map(|list| list.locations.len()), Some(2));
+    lists.put(b"Wred", &[5, 6])?;
+    lists.put(b"Wthe", &[7])?;
+    let mut locations = Vec::new(alloc);
+    assert_eq!(rt; lists.len(), 2);
+    assert!(rt; begins_with(&lists, b"Wred"));
+    lists.put_first(&mut locations)?;
+    lists.skip();
+    assert!(rt; begins_with(&lists, b"Wthe"));
+    lists.put_first(&mut locations)?;
+    lists.skip();
+    assert_eq!(rt; lists.len(), 0);
+    assert_eq!(rt; locations.as_slice(), [5u64, 6, 7].as_slice());
     Ok(())
 }

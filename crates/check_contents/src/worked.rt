@@ -70,7 +70,7 @@ fn segment(alloc: Global, line: &[u8]) -> Option<Vec<u8>> {
     if content.documents.len() == 0 {
         return None;
     }
-    match build(alloc, &content) {
+    match build(alloc, content) {
         Ok(bytes) => Some(bytes),
         Err(_) => None,
     }

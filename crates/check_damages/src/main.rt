@@ -39,7 +39,7 @@ fn read(alloc: Global, bytes: &[u8]) -> Result<Reading, AllocError>
 {
     match read_content(alloc, bytes, START) {
         Ok(content) => {
-            let again = build(alloc, &content)?;
+            let again = build(alloc, content)?;
             Ok(if again.as_slice() == bytes {
                 Reading::Whole
             } else {

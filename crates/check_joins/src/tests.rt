@@ -113,8 +113,8 @@ fn count(alloc: Global, changes: &[(usize, u8)], fail: Vec<u64>) -> Result<usize
 }
 
 // The segment of a content that has a row.
-fn segment(alloc: Global, content: &Content) -> Result<Vec<u8>, AllocError>
-    requires { IsPart content.now }
+fn segment(alloc: Global, content: Content) -> Result<Vec<u8>, AllocError>
+    requires { IsPart content }
 {
     if content.documents.len() == 0 {
         return Ok(Vec::new(alloc));
@@ -128,7 +128,7 @@ fn joined(alloc: Global, dead: &[u64]) -> Result<Vec<u8>, JoinFault> {
     let image = image_of(alloc, &[])?;
     let contents = read(alloc, image, Vec::new(alloc))?;
     let content = join_levels(alloc, contents, dead)?;
-    Ok(segment(alloc, &content)?)
+    Ok(segment(alloc, content)?)
 }
 
 // The join of both levels as it begins, without what is dead.
@@ -150,7 +150,7 @@ fn stepped(alloc: Global, dead: &[u64]) -> Result<(Vec<u8>, u64), JoinFault> {
     for steps in 1..100u64 {
         if step_job(&mut job, 1)? {
             let content = finish_job(job);
-            return Ok((segment(alloc, &content)?, steps));
+            return Ok((segment(alloc, content)?, steps));
         }
     }
     Err(JoinFault::Damaged(3))
@@ -161,8 +161,8 @@ fn merged(alloc: Global, dead: &[u64]) -> Result<Vec<u8>, JoinFault> {
     let image = image_of(alloc, &[])?;
     let mut opening = opened(alloc, image, Vec::new(alloc))?;
     let newest = Content {
-        documents: DocRows::from_vec(Vec::new(alloc)),
-        lists: TermLists::from_vec(Vec::new(alloc)),
+        documents: DocRows::new(alloc),
+        lists: TermLists::new(alloc),
     };
     let content = merge_levels(
         alloc,
@@ -171,7 +171,7 @@ fn merged(alloc: Global, dead: &[u64]) -> Result<Vec<u8>, JoinFault> {
         newest,
         dead,
     )?;
-    Ok(segment(alloc, &content)?)
+    Ok(segment(alloc, content)?)
 }
 
 #[test]
