@@ -130,6 +130,27 @@ fn are_same(alloc: Global, a: Content, b: Content) -> Result<bool, AllocError> {
     Ok(rows && lists)
 }
 
+/// Whether the join of two segments is the content of a third, and in how many steps it was made. None where it is not
+/// made.
+fn join_is(
+    alloc: Global,
+    first: &[u8],
+    second: &[u8],
+    deleted: &[Loc],
+    n: u64,
+    want: &[u8],
+) -> Result<Option<(bool, u64)>, AllocError>
+    requires first { length first.now < 1000000 }
+    requires second { length second.now < 1000000 }
+    requires want { length want.now < 1000000 }
+{
+    let wanted = part(alloc, want)?;
+    match join(alloc, first, second, deleted, n)? {
+        Some((content, steps)) => Ok(Some((are_same(alloc, content, wanted)?, steps))),
+        None => Ok(None),
+    }
+}
+
 #[test]
 fn contents_are_joined_in_steps(rt: HostRuntime) -> Result<(), Fail> {
     let alloc = rt.alloc();
@@ -146,14 +167,12 @@ fn contents_are_joined_in_steps(rt: HostRuntime) -> Result<(), Fail> {
     ];
     for (first, second, deleted, want, terms) in rows {
         for n in [1, 5, u64::MAX] {
-            let wanted = part(alloc, want)?;
-            match join(alloc, first, second, deleted, n)? {
-                Some((content, steps)) => {
-                    assert!(rt; are_same(alloc, content, wanted)?, "{deleted:?} by {n}");
-                    assert_eq!(rt; steps, terms.div_ceil(n), "{deleted:?} by {n}");
-                }
-                None => assert!(rt; false, "{deleted:?} by {n}"),
-            }
+            let found = join_is(alloc, first, second, deleted, n, want)?;
+            assert_eq!(rt;
+                found,
+                Some((true, terms.div_ceil(n))),
+                "{deleted:?} by {n}"
+            );
         }
     }
     Ok(())
