@@ -1,3 +1,4 @@
+pub mod DocView
 pub mod FoundView
 pub mod Kept
 pub mod KeptLaws

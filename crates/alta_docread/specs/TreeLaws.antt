@@ -3,12 +3,12 @@ use Rattle.std.proofs.Common.{ℕ, ◌<◌, ◌≤◌, List, [], ◌∷◌}
 use Rattle.std.specs.Prelude.{All}
 use Rattle.std.proofs.lemmas.List.Elements.{All-nil, All-cons, All-head, All-tail}
 use Rattle.alta_codec.specs.declared.location.TheConstants.{TOP}
-use Rattle.alta_codec.specs.Rising.{IsRising, IsPlace, count_from}
+use Rattle.alta_codec.specs.Rising.{IsRising, IsPlace}
 use Rattle.alta_compound.specs.Union.{union_of, union}
 use Rattle.alta_compound.specs.Unions.{union-rises, above_from_rising, rising_from_above}
 use Rattle.alta_docread.specs.KeptLaws.{less-rises, common-rises}
 use Rattle.alta_docread.specs.SolutionLaws.{walk_rises, walk_place, walk_within}
-use Rattle.alta_docread.specs.Tree.{Tree, Trees, found, all_of, any_of, without, none, more, tree_list, lists_of, tree_place, reader_places, tree_all, tree_left, IsOneFound, IsSoundTree, AreSoundTrees}
+use Rattle.alta_docread.specs.Tree.{Tree, Trees, found, all_of, any_of, without, none, more, tree_list, lists_of, tree_place, reader_places, IsOneFound, IsSoundTree, AreSoundTrees}
 
 pub union-all-rises : (ls : List (List ℕ)) → All (λ l. IsRising l) ls → IsRising (union_of ls)
 unfolding union_of
@@ -40,13 +40,6 @@ tree_top (found w) s = s.top
 tree_top (all_of ts) s = s.1.standing.top
 tree_top (any_of ts) s = s.1.standing.top
 tree_top (without at r t) s = s.1.standing.top
-
--- one Found has passed no element of its leaves from its place on
-pub tree_unpassed : (t : Tree) → IsSoundTree t → IsOneFound t → 0 < tree_place t → tree_place t < TOP → count_from (tree_all t) (tree_place t) ≤ tree_left t
-tree_unpassed (found w) s one begun below = s.unpassed begun below
-tree_unpassed (all_of ts) s one begun below = absurd one
-tree_unpassed (any_of ts) s one begun below = absurd one
-tree_unpassed (without at r t) s one begun below = absurd one
 
 -- the readers of one Found stand at its place or before it
 pub tree_within : (t : Tree) → IsSoundTree t → IsOneFound t → 0 < tree_place t → tree_place t < TOP → All (λ x. x ≤ tree_place t) (reader_places t)

@@ -7,7 +7,6 @@ use Rattle.alta_docread.specs.declared.node.Node.{Node}
 use Rattle.alta_docread.specs.declared.node.Without.{Without}
 use Rattle.alta_docread.specs.declared.node.Node.TheFolds.{fold-Node}
 use Rattle.alta_docread.specs.declared.node.Node.TheOpen.{Node-F, Without-F}
-use Rattle.alta_docread.specs.declared.reader.DocReader.{DocReader}
 
 module _ {R : Type 0} (list all : R → List ℕ) (location left : R → ℕ) where
   abbrev pub reading_of : EndReader R → Reading
@@ -31,7 +30,3 @@ module _ {R : Type 0} (list all : R → List ℕ) (location left : R → ℕ) wh
   -- what a Without is
   abbrev pub apart_of : Without R → Tree
   apart_of w = without w.at (reading_of w.ends) (tree_of w.child)
-
-  -- the tree of a reader of documents
-  abbrev pub tree_in : DocReader R → Tree
-  tree_in reader = tree_of reader.node

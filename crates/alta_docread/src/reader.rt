@@ -1,23 +1,38 @@
 // A tree of document readers as one reader.
-ghost use Rattle.std.specs.Prelude.{◌≡◌, ℕ, ◌+◌, ◌<◌, ◌≤◌, All};
+ghost use Rattle.std.specs.Prelude.{◌≡◌, ℕ, ◌+◌, ◌<◌, ◌≤◌, All, IsTrue};
 ghost use Rattle.alta_codec.specs.Rising.{IsPlace, first_from, count_from};
 ghost use Rattle.alta_codec.specs.declared.location.TheConstants.{TOP};
-ghost use Rattle.alta_docread.specs.Tree.{tree_place, reader_places, tree_list, tree_all, tree_left, IsOneFound, IsSoundTree, IsUnmoved};
-ghost use Rattle.alta_docread.specs.TreeLaws.{tree_rises, tree_stands};
-ghost use Rattle.alta_docread.specs.View.{tree_of, tree_in};
+ghost use Rattle.alta_docread.specs.DocView.{IsReading};
+ghost use Rattle.alta_docread.specs.Tree.{tree_list, tree_all, tree_left, IsOneFound, IsUnmoved};
+ghost use Rattle.alta_docread.specs.View.{tree_of};
 
 use crate::moves::seek;
 use crate::node::Node;
 use alta_codec::{Loc, Steps, TOP};
 use alta_reader::{BackReader, Reader};
+use std::marker::Model;
 use std::sync::ledger::Ledger;
 
-/// A reader of the ends of the documents that a tree matches. Neither its making nor a move takes memory.
+/// A reader of the ends of the documents that a tree matches. Contracts see the lists and numbers of its tree. Neither its
+/// making nor a move takes memory.
 #[derive(Drop)]
 pub struct DocReader<R: BackReader> {
     node: Node<R>,
     /// Where the tree stands.
     at: Loc,
+}
+
+impl<R: BackReader> Model for DocReader<R> {
+    ghost use Rattle.std.specs.Prelude.{◌≡◌, ◌<◌};
+    ghost use Rattle.alta_docread.specs.DocView.{DocView, view_of};
+    ghost use Rattle.alta_docread.specs.Tree.{tree_place, IsSoundTree};
+    ghost use Rattle.alta_docread.specs.View.{tree_of};
+
+    ghost Value = { DocView };
+
+    ghost view = { λ s. view_of (tree_of R.list R.all R.location R.left s.node) };
+
+    ghost invariant = { λ s. IsSoundTree (tree_of R.list R.all R.location R.left s.node) × (0 < s.at) × (s.at ≡ tree_place (tree_of R.list R.all R.location R.left s.node)) };
 }
 
 impl<R: BackReader> DocReader<R> {
@@ -29,7 +44,7 @@ impl<R: BackReader> DocReader<R> {
         ensures list { ⟦<DocReader<R> as Reader>⟧.list result ≡ tree_list (tree_of R.list R.all R.location R.left node) }
         ensures all { ⟦<DocReader<R> as Reader>⟧.all result ≡ tree_all (tree_of R.list R.all R.location R.left node) }
         ensures location { ⟦<DocReader<R> as Reader>⟧.location result ≡ first_from (tree_list (tree_of R.list R.all R.location R.left node)) 1 }
-        ensures one_found { IsOneFound (tree_of R.list R.all R.location R.left node) → IsOneFound (tree_in R.list R.all R.location R.left result) }
+        ensures one_found { IsOneFound (tree_of R.list R.all R.location R.left node) → IsTrue result.one }
         ensures left { ⟦<DocReader<R> as Reader>⟧.left result ≤ tree_left (tree_of R.list R.all R.location R.left node) }
         ensures steps { steps.new + ⟦<DocReader<R> as Reader>⟧.left result ≤ steps.old + tree_left (tree_of R.list R.all R.location R.left node) }
     {
@@ -46,7 +61,7 @@ impl<R: BackReader> DocReader<R> {
         ensures list { ⟦<DocReader<R> as Reader>⟧.list result ≡ tree_list (tree_of R.list R.all R.location R.left node) }
         ensures all { ⟦<DocReader<R> as Reader>⟧.all result ≡ tree_all (tree_of R.list R.all R.location R.left node) }
         ensures location { ⟦<DocReader<R> as Reader>⟧.location result ≡ first_from (tree_list (tree_of R.list R.all R.location R.left node)) place }
-        ensures one_found { IsOneFound (tree_of R.list R.all R.location R.left node) → IsOneFound (tree_in R.list R.all R.location R.left result) }
+        ensures one_found { IsOneFound (tree_of R.list R.all R.location R.left node) → IsTrue result.one }
         ensures left { ⟦<DocReader<R> as Reader>⟧.left result ≤ tree_left (tree_of R.list R.all R.location R.left node) }
         ensures steps { steps.new + ⟦<DocReader<R> as Reader>⟧.left result ≤ steps.old + tree_left (tree_of R.list R.all R.location R.left node) }
     {
@@ -57,17 +72,17 @@ impl<R: BackReader> DocReader<R> {
 }
 
 impl<R: BackReader> Reader for DocReader<R> {
-    ghost sound = { λ s. IsSoundTree (tree_in R.list R.all R.location R.left s) × (0 < tree_place (tree_in R.list R.all R.location R.left s)) × (s.at ≡ tree_place (tree_in R.list R.all R.location R.left s)) };
+    ghost sound = { IsReading };
 
-    ghost list = { λ s. tree_list (tree_in R.list R.all R.location R.left s) };
+    ghost list = { λ s. s.list };
 
-    ghost location = { λ s. tree_place (tree_in R.list R.all R.location R.left s) };
+    ghost location = { λ s. s.place };
 
-    ghost all = { λ s. tree_all (tree_in R.list R.all R.location R.left s) };
+    ghost all = { λ s. s.all };
 
-    ghost left = { λ s. tree_left (tree_in R.list R.all R.location R.left s) };
+    ghost left = { λ s. s.left };
 
-    ghost cost = { λ s. tree_left (tree_in R.list R.all R.location R.left s) };
+    ghost cost = { λ s. s.left };
 
     /// Where it stands. Over one `Found` and below `TOP`, each reader stands there or before, and no element of the leaves at
     /// or above there was passed.
@@ -75,9 +90,9 @@ impl<R: BackReader> Reader for DocReader<R> {
         requires { ⟦<DocReader<R> as Reader>⟧.sound self.now }
         ensures location { result ≡ ⟦<DocReader<R> as Reader>⟧.location self.now }
         ensures place { IsPlace (⟦<DocReader<R> as Reader>⟧.list self.now) result }
-        ensures within { IsOneFound (tree_in R.list R.all R.location R.left self.now) → result < TOP
-            → All (λ x. x ≤ result) (reader_places (tree_in R.list R.all R.location R.left self.now)) }
-        ensures unpassed { IsOneFound (tree_in R.list R.all R.location R.left self.now) → result < TOP
+        ensures within { IsTrue self.now.one → result < TOP
+            → All (λ x. x ≤ result) self.now.places }
+        ensures unpassed { IsTrue self.now.one → result < TOP
             → count_from (⟦<DocReader<R> as Reader>⟧.all self.now) result ≤ ⟦<DocReader<R> as Reader>⟧.left self.now }
     {
         self.at
@@ -94,7 +109,7 @@ impl<R: BackReader> Reader for DocReader<R> {
         ensures falls { ⟦<DocReader<R> as Reader>⟧.left self.new < ⟦<DocReader<R> as Reader>⟧.left self.old }
         ensures steps { steps.new + ⟦<DocReader<R> as Reader>⟧.left self.new ≤ steps.old + ⟦<DocReader<R> as Reader>⟧.left self.old }
         ensures cost { steps.new ≤ steps.old + ⟦<DocReader<R> as Reader>⟧.cost self.old }
-        ensures one_found { IsOneFound (tree_in R.list R.all R.location R.left self.old) → IsOneFound (tree_in R.list R.all R.location R.left self.new) }
+        ensures one_found { IsTrue self.old.one → IsTrue self.new.one }
     {
         self.at = seek(&mut self.node, self.at + 1, steps);
     }
@@ -111,12 +126,12 @@ impl<R: BackReader> Reader for DocReader<R> {
         ensures falls { ⟦<DocReader<R> as Reader>⟧.left self.new < ⟦<DocReader<R> as Reader>⟧.left self.old }
         ensures steps { steps.new + ⟦<DocReader<R> as Reader>⟧.left self.new ≤ steps.old + ⟦<DocReader<R> as Reader>⟧.left self.old }
         ensures cost { steps.new ≤ steps.old + ⟦<DocReader<R> as Reader>⟧.cost self.old }
-        ensures one_found { IsOneFound (tree_in R.list R.all R.location R.left self.old) → IsOneFound (tree_in R.list R.all R.location R.left self.new) }
+        ensures one_found { IsTrue self.old.one → IsTrue self.new.one }
     {
         self.at = seek(&mut self.node, to, steps);
     }
 
-    ghost rises = { λ s h. tree_rises (tree_in R.list R.all R.location R.left s) h.0 };
+    ghost rises = { λ s h. h.rising };
 
-    ghost stands = { λ s h. tree_stands (tree_in R.list R.all R.location R.left s) h.0 h.1 };
+    ghost stands = { λ s h. h.stands };
 }

@@ -1,7 +1,6 @@
 use Rattle.std.proofs.Common.{map, length, sym, ap, ◌∙◌, arith}
 use Rattle.std.proofs.lemmas.List.{length-map}
 use Rattle.alta_compile.specs.View.{tree}
-use Rattle.alta_docread.specs.Tree.{tree_list, tree_place}
 use Rattle.alta_docread.specs.View.{tree_of}
 use Rattle.alta_rows.proofs.Levels.{rising_fits}
 use Rattle.alta_search.specs.Answers.{answers_in}
@@ -19,11 +18,11 @@ pub returns-clause-count : goal.returns-clause-count
 returns-clause-count g c = λ space shows.
     let read = tree_of reader_list reader_all reader_place reader_left in
     let s = c.args.snapshot.now in
-    let u = read c.start-reader.result.node in let v = read c.tally-count.new.reader.node in
+    let u = c.start-reader.result in let v = c.tally-count.new.reader in
     c.tally-count.ensures.count
-    ∙ ap (λ rows. length (answers_in (tree_list u) c.gone.result.now (tree_place u) rows)) (c.walk-walk.ensures.rows ∙ c.rows.ensures.value)
-    ∙ ap (λ gone. length (answers_in (tree_list u) gone (tree_place u) s.rows)) c.gone.ensures.value
+    ∙ ap (λ rows. length (answers_in u.list c.gone.result.now u.place rows)) (c.walk-walk.ensures.rows ∙ c.rows.ensures.value)
+    ∙ ap (λ gone. length (answers_in u.list gone u.place s.rows)) c.gone.ensures.value
     ∙ count_is (tree c.args.plan.now) s (map (lists_at c.uses.result.0.now) c.uses.result.1.now) (map (lists_at c.uses.result.0.now) c.in_ok-node._rest.now)
     (read c.in_ok-node.node) u v 0
-    c.args.steps.now c.node.new.steps c.start-reader.new.steps c.tally-count.new.steps c.in_ok-node.ensures.planted c.start-reader.ensures.started c.tally-count.ensures.onward (omega arith)
+    c.args.steps.now c.node.new.steps c.start-reader.new.steps c.tally-count.new.steps c.in_ok-node.ensures.planted c.start-reader.ensures c.tally-count.ensures.onward (omega arith)
     (sym c.uses.ensures.cuts) c.requires space shows
