@@ -1,4 +1,4 @@
-use Rattle.std.proofs.Common.{[], List, sym, subst, ap₂, ◌∙◌}
+use Rattle.std.proofs.Common.{[], List, sym, subst, ap₂}
 use Rattle.std.specs.List.{All}
 use Rattle.std.proofs.lemmas.List.Elements.{All-nil}
 use Rattle.alta_content.specs.declared.content.Content.{Content}
@@ -25,6 +25,6 @@ merge_levels-requires-clause-newest c =
         located = c.in_ok-opening.ensures.positive.1;
         behind = subst (λ (levels : List Tables). All (IsBefore root.next_number root.next_location) (rows_in levels)) (sym c.deref.ensures.value) c.in_ok-opening.ensures.below;
         are_added = record { space = tt; made = All-nil IsMade; behind = All-nil (IsFrom root.next_number root.next_location) };
-        content_is = ap₂ content_with (c.from_vec.ensures ∙ c.new-2.ensures.items) (c.from_vec-2.ensures ∙ c.new-3.ensures.items);
+        content_is = ap₂ content_with c.new-2.ensures c.new-3.ensures;
       },
     )
