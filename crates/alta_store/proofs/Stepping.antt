@@ -15,7 +15,7 @@ use Rattle.alta_images.specs.Holding.{Holding}
 use Rattle.alta_images.specs.Opened.{Opened, IsOpened, rows_in}
 use Rattle.alta_images.specs.Standing.{StandsForEither}
 use Rattle.alta_images.specs.Work.{Job, merges, steps}
-use Rattle.alta_images.specs.Working.{Full, moved, worked}
+use Rattle.alta_images.specs.Working.{moved, worked}
 use Rattle.alta_images.proofs.KeptStates.{added_behind, added_high}
 use Rattle.alta_images.proofs.KnownLaws.{all_both}
 use Rattle.alta_images.proofs.Tests.{by_test}

@@ -1,5 +1,5 @@
 -- A task that puts levels in place of others is a change of the store.
-use Rattle.std.proofs.Common.{◌≡◌, ◌⊎◌, inl, inr, ⊎_elim, ℕ, ◌+◌, List, [], refl, sym, ◌∙◌, ap, subst, arith, Result, Ok, Err}
+use Rattle.std.proofs.Common.{◌≡◌, inl, inr, ⊎_elim, ℕ, ◌+◌, List, [], refl, sym, ◌∙◌, ap, subst, arith, Result, Ok, Err}
 use Rattle.std.specs.Prelude.{Option, OnOk, ⊤}
 use Rattle.std.specs.List.{sum_by}
 use Rattle.alta_content.specs.declared.content.Content.{Content}
@@ -11,7 +11,7 @@ use Rattle.alta_images.specs.Opened.{Opened, IsOpened}
 use Rattle.alta_images.specs.Standing.{StandsFor, StandsForEither, view_of}
 use Rattle.alta_images.specs.Views.{View, state_of}
 use Rattle.alta_images.specs.Work.{Job, Task}
-use Rattle.alta_images.specs.Working.{Full, switched, worked}
+use Rattle.alta_images.specs.Working.{switched, worked}
 use Rattle.alta_images.proofs.WellLaws.{work_well}
 use Rattle.alta_joins.specs.Contents.{AreSegmentsOn, data_size}
 use Rattle.alta_joins.specs.Damages.{IsFirstDamage}
