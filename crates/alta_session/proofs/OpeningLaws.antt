@@ -1,5 +1,5 @@
 -- Laws of calls that open an index: the same of another value.
-use Rattle.std.proofs.Common.{◌≡◌, Result, Ok, Err, refl, ap}
+use Rattle.std.proofs.Common.{◌≡◌, Ok, Err, refl, ap}
 use Rattle.alta_disk.specs.Disk.{DiskState}
 use Rattle.alta_session.proofs.StatusLaws.{err_answers, ok_answers}
 use Rattle.alta_store.specs.Opening.{Opens}

@@ -31,7 +31,7 @@ use Rattle.alta_memlevel.proofs.One.{one_content}
 use Rattle.alta_root.specs.Slots.{Counts}
 use Rattle.alta_root.specs.declared.root.Root.{Root}
 use Rattle.alta_root.specs.declared.slot.Slot.{Slot}
-use Rattle.alta_store.specs.Agreement.{IsJobIn, Keeps as StoreKeeps, levels_of}
+use Rattle.alta_store.specs.Agreement.{IsJobIn, Keeps as StoreKeeps}
 use Rattle.alta_table.specs.Tables.{Tables}
 use Rattle.alta_store.proofs.Agreements.{opened_of}
 use Rattle.alta_store.proofs.Holdings.{content_bytes, well_held}

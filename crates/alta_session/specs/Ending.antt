@@ -1,5 +1,5 @@
 -- What a call that answers lines leaves of the counts, and why it ended.
-use Rattle.std.specs.Prelude.{◌≡◌, ◌≤◌, ℕ, List}
+use Rattle.std.specs.Prelude.{◌≡◌, ◌≤◌, ℕ}
 use Rattle.alta_codec.specs.Faults.{Rose}
 use Rattle.alta_disk.specs.Disk.{DiskState}
 use Rattle.alta_session.specs.Fullness.{IsFull}

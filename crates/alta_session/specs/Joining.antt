@@ -5,9 +5,8 @@ use Rattle.alta_images.specs.Broken.{IsBrokenAmong}
 use Rattle.alta_images.specs.Work.{enters, flushes as work_flush, merges as work_merge, steps as work_step}
 use Rattle.alta_journal.specs.declared.entry.Entry.TheVariants.{Add, Delete}
 use Rattle.alta_model.specs.Command.{Command, adds, deletes, searches, counts, explains, opens, fetches, closes, flushes, merges, steps, asks_stats}
-use Rattle.alta_model.specs.Lines.{Reading, asks, refuses, reading_of}
+use Rattle.alta_model.specs.Lines.{Reading, asks, refuses}
 use Rattle.alta_session.specs.Machine.{SearchesIn}
-use Rattle.alta_session.specs.declared.session.Session.{Session}
 use Rattle.alta_store.specs.Agreement.{HasNoEntry, levels_of}
 use Rattle.alta_store.specs.Calls.{is_one, joined_by}
 use Rattle.alta_store.specs.declared.fault.StoreFault.{StoreFault}

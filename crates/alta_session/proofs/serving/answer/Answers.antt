@@ -1,8 +1,8 @@
-use Rattle.std.proofs.Common.{[], ◌≡◌, ℕ, List, ap, sym, subst, ◌∙◌, Result, Ok, Err}
+use Rattle.std.proofs.Common.{[], ℕ, List, ap, sym, subst, ◌∙◌, Result, Ok, Err}
 use Rattle.alta_session.specs.Answering.{Answers}
 use Rattle.alta_session.specs.Machine.{step}
 use Rattle.alta_session.specs.Tasks.{task_of}
-use Rattle.alta_session.specs.declared.status.Status.TheVariants.{Damaged as StatusDamaged, DiskFault, GiveFault, Full as StatusFull}
+use Rattle.alta_session.specs.declared.status.Status.TheVariants.{GiveFault}
 use Rattle.std.proofs.lemmas.List.Elements.{All-head}
 use Rattle.alta_session.specs.Spending.{OnlyReads}
 use Rattle.alta_session.proofs.EndingLaws.{counts_disk}

@@ -1,5 +1,4 @@
-use Rattle.std.proofs.Common.{◌≡◌, ◌∙◌, refl, ap, Err, rules, arith}
-use Rattle.alta_session.specs.declared.status.Status.TheVariants.{Damaged, Full}
+use Rattle.std.proofs.Common.{refl, rules, arith}
 use Rattle.alta_session.proofs.EndingLaws.{caused_on, counts_none, counts_on}
 use Rattle.alta_session.proofs.FedLaws.{fed_none}
 use Rattle.alta_session.proofs.FeedLaws.{feed_on, kept_on, feed_stops}
