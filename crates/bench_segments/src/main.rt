@@ -90,9 +90,10 @@ fn reads(alloc: Global, bytes: &[u8], rounds: u64) -> Result<u64, AllocError>
 fn build_again(alloc: Global, bytes: &[u8]) -> Result<u64, AllocError>
     requires { length bytes.now ≤ MOST }
 {
-    match undamaged(read_content(alloc, bytes, START))? {
-        Some(content) => Ok(build(alloc, content)?.len() as u64),
-        None => Ok(0),
+    match read_content(alloc, bytes, START) {
+        Ok(content) => Ok(build(alloc, content)?.len() as u64),
+        Err(LevelFault::Damaged(_)) => Ok(0),
+        Err(LevelFault::Memory) => Err(AllocError),
     }
 }
 
