@@ -225,6 +225,27 @@ read_done {X} tells levels a b x finds reads = record {
     not_ok : (fault : StoreFault) → ◌≡◌ {A = Result X StoreFault} (Ok x) (Err fault) → ⊥
     not_ok fault e = absurd cc
 
+-- nothing but memory was wanting
+pub memory_wanting : {X : Type 0} (tells : Type 0) (levels : List Tables) (a b : DiskState) → Reads tells (sum_by data_size levels) a b → ReadsLevels {T = X} tells levels a b (Err faults.Memory)
+memory_wanting {X} tells levels a b reads = record {
+  damage = λ told. record {
+    first = λ place e. absurd (not_place place e);
+    broken = λ place e. absurd (not_place place e);
+    damaged = λ place damage. (tt, inr (inl (inl refl)));
+  };
+  whole = λ contents place told are e. not_place place e;
+  unread = λ told none place e. not_place place e;
+  only = inl (inl refl);
+  cause = λ e. absurd (not_disk e);
+  reads = reads;
+}
+  where
+    not_place : (place : ℕ) → ◌≡◌ {A = Result X StoreFault} (Err faults.Memory) (Err (faults.Damaged place)) → ⊥
+    not_place place e = absurd cc
+
+    not_disk : ◌≡◌ {A = Result X StoreFault} (Err faults.Memory) (Err faults.Disk) → ⊥
+    not_disk e = absurd cc
+
 pub read_failed : {X : Type 0} (tells : Type 0) (levels : List Tables) (a b : DiskState) (fault : JoinFault) (other : StoreFault) → other ≡ of_join fault → (tells → FindsDamage {X = X} a.content levels (Err fault))
     → (tells → IfDamaged {X = X} (Err fault) (IsBrokenAmong levels a.content)) → (◌≡◌ {A = Result X JoinFault} (Err fault) (Err join_faults.Disk) → Rose a.faults b.faults) → Reads tells (sum_by data_size levels) a b
     → ReadsLevels {T = X} tells levels a b (Err other)
@@ -236,14 +257,8 @@ read_failed {X} tells levels a b fault other is finds broken cause reads = subst
     disk_place : (place : ℕ) → faults.Disk ≡ faults.Damaged place → ⊥
     disk_place place e = absurd cc
 
-    memory_place : (place : ℕ) → faults.Memory ≡ faults.Damaged place → ⊥
-    memory_place place e = absurd cc
-
     one_place : (p q : ℕ) → faults.Damaged p ≡ faults.Damaged q → p ≡ q
     one_place p q e = cc
-
-    memory_disk : faults.Memory ≡ faults.Disk → ⊥
-    memory_disk e = absurd cc
 
     damaged_disk : (p : ℕ) → faults.Damaged p ≡ faults.Disk → ⊥
     damaged_disk p e = absurd cc
@@ -262,18 +277,7 @@ read_failed {X} tells levels a b fault other is finds broken cause reads = subst
       cause = λ e. cause refl;
       reads = reads;
     }
-    by_fault join_faults.Memory finds broken cause = record {
-      damage = λ told. record {
-        first = λ place e. absurd (memory_place place (same faults.Memory (faults.Damaged place) e));
-        broken = λ place e. absurd (memory_place place (same faults.Memory (faults.Damaged place) e));
-        damaged = λ place damage. (tt, inr (inl (inl refl)));
-      };
-      whole = λ contents place told are e. memory_place place (same faults.Memory (faults.Damaged place) e);
-      unread = λ told none place e. memory_place place (same faults.Memory (faults.Damaged place) e);
-      only = inl (inl refl);
-      cause = λ e. absurd (memory_disk (same faults.Memory faults.Disk e));
-      reads = reads;
-    }
+    by_fault join_faults.Memory finds broken cause = memory_wanting tells levels a b reads
     by_fault (join_faults.Damaged p) finds broken cause = record {
       damage = λ told. record {
         first = λ place e. subst (λ (q : ℕ). IsFirstDamage a.content levels q) (one_place p place (same (faults.Damaged p) (faults.Damaged place) e)) (finds told).first;

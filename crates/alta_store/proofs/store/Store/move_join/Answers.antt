@@ -3,9 +3,10 @@ use Rattle.alta_images.specs.Work.{steps}
 use Rattle.alta_store.specs.Calls.{NoRefusal, Obeys}
 use Rattle.alta_store.specs.Putting.{IsDrained}
 use Rattle.alta_store.specs.declared.fault.StoreFault.{StoreFault}
+use Rattle.alta_store.specs.declared.fault.StoreFault.TheVariants.{Memory}
 use Rattle.alta_store.specs.declared.store.Store.{Store}
 use Rattle.alta_store.proofs.Flushing.{ObeysOver, joined, step_joined, step_reads, two_of}
-use Rattle.alta_store.proofs.Joining.{join_answered, levels_stand, segments_read, undamaged_read}
+use Rattle.alta_store.proofs.Joining.{join_answered, levels_stand, memory_wanting, segments_read, undamaged_read}
 use Rattle.alta_store.proofs.Stepping.{given_up, step_moves, with_join}
 use Rattle.alta_store.proofs.Tasks.{HasNewest}
 use Rattle.alta_store.proofs.Working.{changes_unread}
@@ -38,6 +39,18 @@ returns-in-Ok-false-clause-obeys g c =
     (step_moves tells a b (g.met.D.Disk.lawful c.args.disk.now) (g.met.D.Disk.lawful c.take_join.new.disk) store c.requires.agrees c.in-Ok.ensures.reads.reads
     (undamaged_read tells (two_of store) a b c.in-Ok.job c.in-Ok.ensures.reads) c.requires.two c.in-Ok.job join c.args.n c.step_job.new.job c.in-Ok-false.ensures.moved
     (λ j is. sym (c.in-Ok-false.ensures.done j is) ∙ c.in-Ok-false.field-0-test) tt)
+
+pub returns-in-Err-drain-clause-obeys : goal.returns-in-Err-drain-clause-obeys
+returns-in-Err-drain-clause-obeys g c =
+    let tells = g.D.Disk.tells in
+    let a = g.D.Disk.state c.args.disk.now in
+    let b = g.D.Disk.state c.take_join.new.disk in
+    let store = c.args.self.now in
+    let failed : StoreFault → Result (Unit {0}) StoreFault = λ fault. Err fault in
+    subst (λ (joins : List Tables). ObeysOver tells (steps c.args.n) joins a b store c.drain.new.self (failed c.in-Err-drain.fault)) (sym (step_reads store c.requires.two))
+    (subst (λ (fault : StoreFault). ObeysOver tells (steps c.args.n) (two_of store) a b store c.drain.new.self (failed fault)) (sym c.in-Err-drain.ensures.memory)
+    (changes_unread {X = Unit {0}} tells _ _ 1 (two_of store) a b (g.met.D.Disk.lawful c.args.disk.now) (g.met.D.Disk.lawful c.take_join.new.disk) store c.drain.new.self Memory c.requires.agrees
+    (segments_read tells a (g.met.D.Disk.lawful c.args.disk.now) store c.requires.agrees store.job) (memory_wanting tells (two_of store) a b c.in-Ok.ensures.reads.reads)))
 
 pub put-requires-clause-may : goal.put-requires-clause-may
 put-requires-clause-may g c =

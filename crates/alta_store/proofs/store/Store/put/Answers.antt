@@ -41,3 +41,7 @@ returns-clause-puts g c = λ before may.
 pub returns-in_default-from_slice-clause-puts : goal.returns-in_default-from_slice-clause-puts
 returns-in_default-from_slice-clause-puts g c = λ before may.
     put_nothing g.D.Disk.tells (g.D.Disk.state c.args.disk.now) (g.met.D.Disk.lawful c.args.disk.now) before c.args.self.now c.args.levels may _
+
+pub returns-in_default-clause-puts : goal.returns-in_default-clause-puts
+returns-in_default-clause-puts g c = λ before may.
+    put_nothing g.D.Disk.tells (g.D.Disk.state c.args.disk.now) (g.met.D.Disk.lawful c.args.disk.now) before c.args.self.now c.args.levels may _
