@@ -140,7 +140,7 @@ fn one_list_is_tested_and_read(rt: HostRuntime) -> Result<(), Fail> {
                 assert_eq!(rt; read.is_ok(), whole);
                 assert_eq!(rt; check_list(&list, documents).is_ok(), whole);
                 if whole {
-                    assert_eq!(rt; locations.as_slice(), &[3, 8]);
+                    assert_eq!(rt; locations.as_slice(), [3u64, 8].as_slice());
                 }
             }
         }

@@ -19,18 +19,6 @@ fn begins_with(lists: &TermLists, term: &[u8]) -> bool {
 }
 
 #[test]
-fn locations_hold_what_is_pushed(rt: HostRuntime) -> Result<(), Fail> {
-    let mut locations = Locations::new(rt.alloc());
-    locations.push(4)?;
-    locations.push(7)?;
-    assert_eq!(rt; locations.get(1).copied(), Some(7));
-    assert_eq!(rt; locations.get(2).copied(), None);
-    let again = Locations::from_vec(locations.into_vec());
-    assert_eq!(rt; again.as_slice(), [4u64, 7].as_slice());
-    Ok(())
-}
-
-#[test]
 fn rows_hold_what_is_pushed(rt: HostRuntime) -> Result<(), Fail> {
     let alloc = rt.alloc();
     let mut rows = DocRows::new(alloc);
@@ -58,5 +46,19 @@ fn term_lists_are_read_from_the_front(rt: HostRuntime) -> Result<(), Fail> {
     lists.skip();
     assert_eq!(rt; lists.len(), 0);
     assert_eq!(rt; locations.as_slice(), [5u64, 6, 7].as_slice());
+    Ok(())
+}
+
+#[test]
+fn any_numbers_are_packed(rt: HostRuntime) -> Result<(), Fail> {
+    let alloc = rt.alloc();
+    let numbers = [9, 3, u64::MAX, 0, 128];
+    let mut lists = TermLists::new(alloc);
+    lists.put(b"", &[])?;
+    lists.put(b"Wfox", &numbers)?;
+    lists.skip();
+    let mut locations = Vec::new(alloc);
+    lists.put_first(&mut locations)?;
+    assert_eq!(rt; locations.as_slice(), numbers.as_slice());
     Ok(())
 }
