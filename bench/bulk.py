@@ -8,7 +8,7 @@ too, are cut at empty lines into documents of 400 bytes or more, in the order of
 (60,000) are added, and so are a half and a fourth of them (--parts gives other parts), each into a new index in FOLDER (a new one in
 the current folder by default), by:
 
-- the program, an add and its commit a line, and then by another run that merges;
+- the program, an add and its commit a line, then by a run that only opens the index, and then by another that merges;
 - FTS5, which keeps no texts, with a commit for each document, in WAL mode, synced each time; and then optimized (left out with --fast);
 - FTS5 in one transaction, and then optimized.
 
@@ -165,16 +165,19 @@ def tell(name, cost, count, text):
 
 
 def by_program(program, folder, source, count, text):
-    """Adds, and then merges."""
-    path, replies, nothing = (os.path.join(folder, name) for name in ("x.alta", "replies", "merge"))
-    with open(nothing, "wb") as file:
+    """Adds, opens, and then merges."""
+    path, replies, opening, merging = (os.path.join(folder, name) for name in ("x.alta", "replies", "stats", "merge"))
+    with open(opening, "wb") as file:
+        file.write(b"stats\n")
+    with open(merging, "wb") as file:
         file.write(f"merge\ncount {WORD}\nstats\n".encode())
     subprocess.run([program, path, "init"], check=True)
     added = cost_of([program, path, "run"], source, replies)
     with open(replies, "rb") as file:
         if file.read().count(b"added ") != count:
             raise SystemExit("bulk: not every line was answered by its number")
-    merged = cost_of([program, path, "run"], nothing, replies)
+    opened = cost_of([program, path, "run"], opening, replies)
+    merged = cost_of([program, path, "run"], merging, replies)
     with open(replies, encoding="ascii") as file:
         given = file.read().splitlines()
     if given[0] != "ok" or not given[2].startswith(f"documents {count} "):
@@ -182,11 +185,14 @@ def by_program(program, folder, source, count, text):
     with open(path, "rb") as file:
         content = file.read()
     tell("adds", added, count, text)
+    tell("opening", opened, count, text)
     tell("merge", merged, count, text)
     tell("adds with the merge", added.and_then(merged), count, text)
     levels = read_roots(content)[1].levels
     size = sum(extent.length for extent in levels)
     print(f"  index: {len(levels)} level of {size} bytes, {size / text:.3f} of the text; the file {(len(content) - HEAD) / text:.3f}")
+    beside = (merged.memory - opened.memory) * 1024 / size
+    print(f"  memory: the merge takes {merged.memory * 1024 / size:.1f} times the level, {beside:.1f} of them beside the open index")
     return given[1]
 
 
