@@ -10,8 +10,8 @@ use Rattle.alta_codec.specs.Rising.{IsRising}
 use Rattle.alta_content.specs.Rows.{IsPlaced, RowsRise, end_of}
 use Rattle.alta_content.specs.declared.document.DocRow.{DocRow}
 use Rattle.alta_content.proofs.Rises.{above_from_rising, filter-has, filter-keeps, filter-rises}
-use Rattle.alta_images.specs.Opened.{rows_in}
-use Rattle.alta_images.specs.Ordered.{Precedes, RowsRise as RowsPrecede}
+use Rattle.alta_images.specs.Opened.{table_rows}
+use Rattle.alta_images.specs.Ordered.{Precedes, RowsPrecede}
 use Rattle.alta_images.proofs.KeptStates.{map_filter}
 use Rattle.alta_images.proofs.KnownLaws.{all_weaker}
 use Rattle.alta_images.proofs.Tests.{apart_test, by_test, equal_test}
@@ -114,13 +114,13 @@ pub end_both : (xs ys : List DocRow) (end : ℕ) → is_end (xs ++ ys) end ≡ (
 end_both xs ys end = list_any-append (λ (row : DocRow). nat_eq (end_of row) end) xs ys
 
 -- a row of a level ends there
-pub ends_in_one : (levels : List Tables) (level : Tables) (end : ℕ) → Contains levels level → is_end level.documents end ≡ true → is_end (rows_in levels) end ≡ true
+pub ends_in_one : (levels : List Tables) (level : Tables) (end : ℕ) → Contains levels level → is_end level.documents end ≡ true → is_end (table_rows levels) end ≡ true
 ends_in_one [] level end has is = absurd (no_member level has)
 ends_in_one (t ∷ levels) level end has is =
-    end_both t.documents (rows_in levels) end
+    end_both t.documents (table_rows levels) end
     ∙ ⊎_elim
-    (λ (same : t ≡ level). ap (λ (b : Bool). b || is_end (rows_in levels) end) (ap (λ (l : Tables). is_end l.documents end) same ∙ is))
-    (λ more. or_right (is_end t.documents end) (is_end (rows_in levels) end) (ends_in_one levels level end more is))
+    (λ (same : t ≡ level). ap (λ (b : Bool). b || is_end (table_rows levels) end) (ap (λ (l : Tables). is_end l.documents end) same ∙ is))
+    (λ more. or_right (is_end t.documents end) (is_end (table_rows levels) end) (ends_in_one levels level end more is))
     (here_or_there t levels level has)
   where
     or_right : (a b : Bool) → b ≡ true → (a || b) ≡ true

@@ -7,7 +7,7 @@ use Rattle.std.proofs.lemmas.List.{map-append}
 use Rattle.std.proofs.lemmas.List.Elements.{All-nil, All-cons, All-head, All-tail, All-contains, filter-append}
 use Rattle.std.proofs.lemmas.List.Sums.{sum_by-cons}
 use Rattle.alta_content.specs.Rows.{end_of, ends_among}
-use Rattle.alta_memlevel.specs.Added.{Added, IsDocument, IsSpace}
+use Rattle.alta_memlevel.specs.Added.{Added, IsInSpace, IsSpace}
 use Rattle.alta_memlevel.specs.Documents.{document_in}
 use Rattle.alta_meta.specs.declared.document.Document.{Document}
 use Rattle.alta_catalog.specs.Knowing.{AreNumbered}
@@ -112,9 +112,9 @@ all_same (b ∷ more) a space has =
     (all_same more a space.3 behind))
     (here_or_there b more a has)
 
-pub space_all : (added : List Added) → IsSpace added → All IsDocument added
-space_all [] space = All-nil IsDocument
-space_all (a ∷ added) space = All-cons IsDocument a added space.0 (space_all added space.3)
+pub space_all : (added : List Added) → IsSpace added → All IsInSpace added
+space_all [] space = All-nil IsInSpace
+space_all (a ∷ added) space = All-cons IsInSpace a added space.0 (space_all added space.3)
 
 -- a document that is deleted is left out
 pub left_out : (gone later : List ℕ) (n e : ℕ) → ((x : ℕ) → is_among later x ≡ (is_among gone x || nat_eq e x)) → (added : List Added) → All (IsSame n e) added

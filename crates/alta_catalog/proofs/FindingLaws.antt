@@ -11,7 +11,7 @@ use Rattle.std.proofs.lemmas.List.{append-nil, take_all, take_more}
 use Rattle.std.proofs.lemmas.List.Elements.{All-append, Contains-append_left, Contains-append_right, Contains-get_or}
 use Rattle.alta_content.specs.Rows.{AreDocumentsBehind, Before, behind_row}
 use Rattle.alta_content.specs.declared.document.DocRow.{DocRow}
-use Rattle.alta_images.specs.Opened.{rows_in}
+use Rattle.alta_images.specs.Opened.{table_rows}
 use Rattle.alta_images.proofs.Tests.{apart_test}
 use Rattle.alta_table.specs.Tables.{Tables}
 use Rattle.alta_catalog.specs.Finding.{AreOther, FollowOn}
@@ -62,27 +62,27 @@ none_here n before rows are i parted = λ j d inside.
 -- ---- level by level
 
 module _ (levels : List Tables) (i : ℕ) (level : Tables) (inside : i < length levels) (is : level ≡ get_or levels i level) where
-  pub rows_next : rows_in (take (i + 1) levels) ≡ rows_in (take i levels) ++ level.documents
+  pub rows_next : table_rows (take (i + 1) levels) ≡ table_rows (take i levels) ++ level.documents
   rows_next =
-      ap rows_in (take_more levels i level inside ∙ ap (λ (t : Tables). take i levels ++ t ∷ []) (sym is))
+      ap table_rows (take_more levels i level inside ∙ ap (λ (t : Tables). take i levels ++ t ∷ []) (sym is))
       ∙ flat_map-append (λ (t : Tables). t.documents) (take i levels) (level ∷ [])
-      ∙ ap (λ (rs : List DocRow). rows_in (take i levels) ++ rs) (append-nil level.documents)
+      ∙ ap (λ (rs : List DocRow). table_rows (take i levels) ++ rs) (append-nil level.documents)
 
-  pub others_next : (n : ℕ) → AreOther n (rows_in (take i levels)) → AreOther n level.documents → AreOther n (rows_in (take (i + 1) levels))
+  pub others_next : (n : ℕ) → AreOther n (table_rows (take i levels)) → AreOther n level.documents → AreOther n (table_rows (take (i + 1) levels))
   others_next n before here =
-      subst (AreOther n) (sym rows_next) (All-append (λ (row : DocRow). (row.number == n) ≡ false) (rows_in (take i levels)) level.documents before here)
+      subst (AreOther n) (sym rows_next) (All-append (λ (row : DocRow). (row.number == n) ≡ false) (table_rows (take i levels)) level.documents before here)
 
 -- all levels are taken
-pub rows_taken : (levels : List Tables) (i : ℕ) → length levels ≤ i → (P : List DocRow → Type 0) → P (rows_in (take i levels)) → P (rows_in levels)
-rows_taken levels i past P holds = subst (λ (ls : List Tables). P (rows_in ls)) (take_all i levels past) holds
+pub rows_taken : (levels : List Tables) (i : ℕ) → length levels ≤ i → (P : List DocRow → Type 0) → P (table_rows (take i levels)) → P (table_rows levels)
+rows_taken levels i past P holds = subst (λ (ls : List Tables). P (table_rows ls)) (take_all i levels past) holds
 
 -- the rows of a level are among those of all
-pub row_in_all : (levels : List Tables) (level : Tables) (row : DocRow) → Contains levels level → Contains level.documents row → Contains (rows_in levels) row
+pub row_in_all : (levels : List Tables) (level : Tables) (row : DocRow) → Contains levels level → Contains level.documents row → Contains (table_rows levels) row
 row_in_all [] level row (k, inside, at) has = absurd (omega (arith, inside))
 row_in_all (t ∷ levels) level row (zero, inside, at) has =
-    Contains-append_left t.documents (rows_in levels) row (subst (λ (l : Tables). Contains l.documents row) (sym at) has)
+    Contains-append_left t.documents (table_rows levels) row (subst (λ (l : Tables). Contains l.documents row) (sym at) has)
 row_in_all (t ∷ levels) level row (suc k, inside, at) has =
-    Contains-append_right t.documents (rows_in levels) row (row_in_all levels level row (k, omega (arith, inside), at) has)
+    Contains-append_right t.documents (table_rows levels) row (row_in_all levels level row (k, omega (arith, inside), at) has)
 
 -- ---- in memory
 

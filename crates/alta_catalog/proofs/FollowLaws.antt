@@ -7,7 +7,7 @@ use Rattle.alta_content.specs.declared.document.DocRow.{DocRow}
 use Rattle.alta_images.specs.Work.{added_at, added_from}
 use Rattle.alta_journal.specs.declared.entry.Entry.{Entry}
 use Rattle.alta_journal.specs.declared.entry.Entry.TheVariants.{Add, Delete}
-use Rattle.alta_memlevel.specs.Added.{Added, HasContent, Level}
+use Rattle.alta_memlevel.specs.Added.{Added, HasContent, LevelView}
 use Rattle.alta_memlevel.specs.Documents.{AreMade, IsMade}
 use Rattle.alta_meta.specs.Cells.{cells_of}
 use Rattle.alta_root.specs.declared.root.Root.{Root}
@@ -76,7 +76,7 @@ module _ (c : Catalog) (root : Root) (entries : List Entry) (f : Follows c root 
       let same : newest_of root (entries ++ Delete number ∷ []) ≡ newest_of root entries = added_same root.next_number root.next_location entries number in
       record {
         first = first ∙ f.first;
-        content = subst (λ (xs : List Added). HasContent xs new.memory.content) (sym same) (subst (λ (m : Level). HasContent (newest_of root entries) m.content) (sym memory) f.content);
+        content = subst (λ (xs : List Added). HasContent xs new.memory.content) (sym same) (subst (λ (m : LevelView). HasContent (newest_of root entries) m.content) (sym memory) f.content);
         made = subst AreMade (sym same) f.made;
         next = next ∙ f.next ∙ ap (λ (xs : List Added). root.next_number + length xs) (sym same);
         location = location ∙ f.location ∙ ap (λ (xs : List Added). root.next_location + cells_added xs) (sym same);

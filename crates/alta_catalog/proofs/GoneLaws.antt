@@ -12,12 +12,12 @@ use Rattle.alta_content.proofs.Outside.{filter_alike, filter_all}
 use Rattle.alta_content.proofs.Rises.{Contains-head, Contains-tail, above_from_rising, filter-has, filter-keeps, filter-rises}
 use Rattle.alta_images.specs.Entries.{AllowsAll}
 use Rattle.alta_images.specs.Levels.{Level}
-use Rattle.alta_images.specs.Opened.{IsOpened, Opened, are_in_order, comes_behind, is_below, journal_of, levels_from, rows_in, with_level}
+use Rattle.alta_images.specs.Opened.{IsOpened, Opened, are_in_order, comes_behind, is_below, journal_of, levels_from, table_rows, with_level}
 use Rattle.alta_images.specs.Known.{Known, replayed}
-use Rattle.alta_images.specs.Ordered.{AreBelow, Precedes, RowsRise}
+use Rattle.alta_images.specs.Ordered.{AreBelow, Precedes, RowsPrecede}
 use Rattle.alta_images.specs.Standing.{view_of}
 use Rattle.alta_images.specs.Views.{View}
-use Rattle.alta_images.specs.Work.{added_from, gone, gone_among, is_gone, newest, rows_in as level_rows}
+use Rattle.alta_images.specs.Work.{added_from, gone, gone_among, is_gone, newest, level_rows}
 use Rattle.alta_images.proofs.CellLaws.{doc_of}
 use Rattle.alta_images.proofs.KeptStates.{added_behind, after_documents, left_out, map_filter, stay}
 use Rattle.alta_images.proofs.KnownLaws.{all_both, all_weaker, allows_replayed}
@@ -26,7 +26,7 @@ use Rattle.alta_images.proofs.Steps.{one_value}
 use Rattle.alta_images.proofs.Tests.{by_test, filter_drop, filter_keep, and_left, and_right, below_from}
 use Rattle.alta_journal.specs.Placed.{placed}
 use Rattle.alta_journal.specs.declared.entry.Entry.{Entry}
-use Rattle.alta_memlevel.specs.Added.{Added, IsDocument, live_of}
+use Rattle.alta_memlevel.specs.Added.{Added, IsInSpace, live_of}
 use Rattle.alta_memlevel.specs.Documents.{document_in}
 use Rattle.alta_meta.specs.declared.document.Document.{Document}
 use Rattle.alta_meta.specs.declared.document.State.{State}
@@ -69,7 +69,7 @@ not_first n rest (row ∷ rows) all e =
     absurd (omega (arith, same, All-head (λ (r : DocRow). n < r.number) row rows all))
 
 -- of rows with rising numbers those are left that pass
-same_tests : (p q : DocRow → Bool) (rows : List DocRow) → RowsRise rows → numbers_in (filter p rows) ≡ numbers_in (filter q rows) → All (λ (row : DocRow). p row ≡ q row) rows
+same_tests : (p q : DocRow → Bool) (rows : List DocRow) → RowsPrecede rows → numbers_in (filter p rows) ≡ numbers_in (filter q rows) → All (λ (row : DocRow). p row ≡ q row) rows
 same_tests p q [] rise e = All-nil (λ (row : DocRow). p row ≡ q row)
 same_tests p q (row ∷ rows) rise e =
     let above : All (λ (r : DocRow). row.number < r.number) rows = all_weaker (Precedes row) (λ (r : DocRow). row.number < r.number) rows (λ r precedes. precedes.0) rise.0 in
@@ -128,29 +128,29 @@ Below root row = (row.number < root.next_number) × (end_of row < root.next_loca
 
 level_below : (root : Root) (levels : List Tables) (rows : List DocRow) → are_in_order root levels rows ≡ true → AreBelow root rows
 level_below root levels rows ordered =
-    all_weaker (λ (row : DocRow). (is_below root row && list_all (λ (earlier : DocRow). comes_behind earlier row) (rows_in levels)) ≡ true) (Below root) rows
+    all_weaker (λ (row : DocRow). (is_below root row && list_all (λ (earlier : DocRow). comes_behind earlier row) (table_rows levels)) ≡ true) (Below root) rows
     (λ row e.
-    let below : is_below root row ≡ true = and_left (is_below root row) (list_all (λ (earlier : DocRow). comes_behind earlier row) (rows_in levels)) e in (
+    let below : is_below root row ≡ true = and_left (is_below root row) (list_all (λ (earlier : DocRow). comes_behind earlier row) (table_rows levels)) e in (
       below_from row.number root.next_number (and_left (nat_lt row.number root.next_number) (nat_lt (end_of row) root.next_location) below),
       below_from (end_of row) root.next_location (and_right (nat_lt row.number root.next_number) (nat_lt (end_of row) root.next_location) below),
     ))
-    (all_from (λ (row : DocRow). is_below root row && list_all (λ (earlier : DocRow). comes_behind earlier row) (rows_in levels)) rows ordered)
+    (all_from (λ (row : DocRow). is_below root row && list_all (λ (earlier : DocRow). comes_behind earlier row) (table_rows levels)) rows ordered)
 
 levels_below : (root : Root) (deleted : List ℕ) (levels : List Tables) (extents : List Extent) (image : List ℕ) (final : List Tables) → levels_from root deleted levels extents image ≡ Ok final
-    → AreBelow root (rows_in levels) → AreBelow root (rows_in final)
-levels_below root deleted levels [] image final e so_far = subst (λ (ls : List Tables). AreBelow root (rows_in ls)) (one_value {E = ℕ} (Ok levels) levels final refl e) so_far
+    → AreBelow root (table_rows levels) → AreBelow root (table_rows final)
+levels_below root deleted levels [] image final e so_far = subst (λ (ls : List Tables). AreBelow root (table_rows ls)) (one_value {E = ℕ} (Ok levels) levels final refl e) so_far
 levels_below root deleted levels (extent ∷ more) image final e so_far =
     let first = first_of_levels root deleted levels extent more image final (with_level root deleted levels extent image) refl e in
     let step = is_more root deleted levels first.longer extent image first.here in
     levels_below root deleted first.longer more image final first.rest
-    (subst (λ (ls : List Tables). AreBelow root (rows_in ls)) (sym step.longer_is)
-    (subst (AreBelow root) (sym (rows_more levels step.level)) (All-append (Below root) (rows_in levels) step.level.documents so_far (level_below root levels step.level.documents step.ordered))))
+    (subst (λ (ls : List Tables). AreBelow root (table_rows ls)) (sym step.longer_is)
+    (subst (AreBelow root) (sym (rows_more levels step.level)) (All-append (Below root) (table_rows levels) step.level.documents so_far (level_below root levels step.level.documents step.ordered))))
 
-pub rows_below : (o : Opened) (image : List ℕ) → IsOpened o image → AreBelow o.root (rows_in o.levels)
+pub rows_below : (o : Opened) (image : List ℕ) → IsOpened o image → AreBelow o.root (table_rows o.levels)
 rows_below o image is = levels_below o.root o.deleted [] o.root.levels.items image o.levels is.named.tables (All-nil (Below o.root))
 
-pub ends_before : (o : Opened) (image : List ℕ) → IsOpened o image → All (λ (row : DocRow). end_of row < o.root.next_location) (rows_in o.levels)
-ends_before o image is = all_weaker (Below o.root) (λ (row : DocRow). end_of row < o.root.next_location) (rows_in o.levels) (λ row both. both.1) (rows_below o image is)
+pub ends_before : (o : Opened) (image : List ℕ) → IsOpened o image → All (λ (row : DocRow). end_of row < o.root.next_location) (table_rows o.levels)
+ends_before o image is = all_weaker (Below o.root) (λ (row : DocRow). end_of row < o.root.next_location) (table_rows o.levels) (λ row both. both.1) (rows_below o image is)
 
 -- ---- the newest documents
 
@@ -162,7 +162,7 @@ newest_behind c root entries f =
 -- ---- a catalog
 
 module _ (c : Catalog) (s : State) (o : Opened) (image : List ℕ) (levels : List Level) (is : IsOpened o image) (may : MayBe s o) (knows : KnowsBy c may.starts.olds s) (f : Follows c o.root o.entries)
-    (tables : levels_of c ≡ o.levels) (rows : level_rows levels ≡ rows_in o.levels) where
+    (tables : levels_of c ≡ o.levels) (rows : level_rows levels ≡ table_rows o.levels) where
   abbrev k : Knows c s
   k = knows.0
 
@@ -173,13 +173,13 @@ module _ (c : Catalog) (s : State) (o : Opened) (image : List ℕ) (levels : Lis
   news = newest view
 
   abbrev all : List DocRow
-  all = rows_in o.levels ++ map row_of news
+  all = table_rows o.levels ++ map row_of news
 
   all_are : map row_of (k.olds ++ k.added) ≡ all
   all_are =
-      rows_of_all c s k ∙ ap (λ (ls : List Tables). rows_in ls ++ c.memory.content.documents) tables ∙ ap (λ (rs : List DocRow). rows_in o.levels ++ rs) f.content.documents
+      rows_of_all c s k ∙ ap (λ (ls : List Tables). table_rows ls ++ c.memory.content.documents) tables ∙ ap (λ (rs : List DocRow). table_rows o.levels ++ rs) f.content.documents
 
-  below : AreBelow o.root (rows_in o.levels)
+  below : AreBelow o.root (table_rows o.levels)
   below = rows_below o image is
 
   olds_below : All (λ (a : Added). Below o.root a.row) may.starts.olds
@@ -193,8 +193,8 @@ module _ (c : Catalog) (s : State) (o : Opened) (image : List ℕ) (levels : Lis
 
   news_far : All (λ (a : Added). o.root.next_location ≤ end_of a.row) news
   news_far =
-      all_weaker (λ (a : Added). (o.root.next_location ≤ a.row.first) × IsDocument a) (λ (a : Added). o.root.next_location ≤ end_of a.row) news (λ a both. omega (arith, both.0, both.1.some))
-      (all_both (λ (a : Added). o.root.next_location ≤ a.row.first) IsDocument news (added_behind o.root.next_number o.root.next_location o.entries) (space_all news f.content.space))
+      all_weaker (λ (a : Added). (o.root.next_location ≤ a.row.first) × IsInSpace a) (λ (a : Added). o.root.next_location ≤ end_of a.row) news (λ a both. omega (arith, both.0, both.1.some))
+      (all_both (λ (a : Added). o.root.next_location ≤ a.row.first) IsInSpace news (added_behind o.root.next_number o.root.next_location o.entries) (space_all news f.content.space))
 
   news_live : live_of o.deleted news ≡ news
   news_live =
@@ -239,7 +239,7 @@ module _ (c : Catalog) (s : State) (o : Opened) (image : List ℕ) (levels : Lis
   tests : All (λ (row : DocRow). ends_among c.gone row ≡ is_gone view row) all
   tests =
       all_weaker (λ (row : DocRow). not (ends_among c.gone row) ≡ not (is_gone view row)) (λ (row : DocRow). ends_among c.gone row ≡ is_gone view row) all (λ row e. not_one (ends_among c.gone row) (is_gone view row) e)
-      (same_tests (λ (row : DocRow). not (ends_among c.gone row)) (λ (row : DocRow). not (is_gone view row)) all (subst RowsRise all_are (space_precedes (k.olds ++ k.added) k.space)) numbers_are)
+      (same_tests (λ (row : DocRow). not (ends_among c.gone row)) (λ (row : DocRow). not (is_gone view row)) all (subst RowsPrecede all_are (space_precedes (k.olds ++ k.added) k.space)) numbers_are)
 
   gone_rows : c.gone ≡ gone_among view all
   gone_rows =

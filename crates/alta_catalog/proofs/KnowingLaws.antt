@@ -15,7 +15,7 @@ use Rattle.alta_codec.specs.Rising.{IsRising}
 use Rattle.alta_codec.specs.declared.location.TheConstants.{TOP}
 use Rattle.alta_content.specs.Rows.{end_of, ends_among}
 use Rattle.alta_content.specs.declared.document.DocRow.{DocRow}
-use Rattle.alta_memlevel.specs.Added.{Added, HasContent, IsDocument, IsSpace, Level}
+use Rattle.alta_memlevel.specs.Added.{Added, HasContent, IsInSpace, IsSpace, LevelView}
 use Rattle.alta_memlevel.specs.Documents.{IsBefore, IsMade, document_in}
 use Rattle.alta_meta.specs.Cells.{cells_of}
 use Rattle.alta_meta.specs.declared.document.Document.{Document}
@@ -23,11 +23,11 @@ use Rattle.alta_meta.specs.declared.document.State.{State}
 use Rattle.alta_catalog.specs.Knowing.{AreFound, AreNumbered, AreParts, Knows, KnowsBy, Notes, documents_of}
 use Rattle.alta_catalog.specs.Rows.{AreRowsOf, documents_left}
 use Rattle.alta_catalog.specs.Finding.{AreOther, FollowOn}
-use Rattle.alta_images.specs.Opened.{rows_in}
-use Rattle.alta_rows.specs.All.{joined, rows_in as rows_of}
+use Rattle.alta_images.specs.Opened.{table_rows}
+use Rattle.alta_rows.specs.All.{rows_of_levels, shared_rows}
 use Rattle.alta_rows.specs.declared.level.LevelRows.{LevelRows}
 use Rattle.std.specs.declared.rc.Rc.{Rc}
-use Rattle.alta_images.specs.Ordered.{RowsRise, IsOrdered}
+use Rattle.alta_images.specs.Ordered.{RowsPrecede, IsOrdered}
 use Rattle.alta_catalog.proofs.SharingLaws.{space_ends, space_precedes}
 use Rattle.alta_catalog.proofs.StartLaws.{row_of}
 use Rattle.alta_table.specs.Tables.{Tables}
@@ -44,32 +44,32 @@ use Rattle.alta_journal.specs.declared.entry.Entry.TheVariants.{Add}
 use Rattle.alta_memlevel.proofs.Cells.{cells_few, cells_long}
 
 -- the rows that are shared stay those of the levels
-shared_on : (c new : Catalog) → map rows_of c.rows.items ≡ map documents_of c.levels.items → new.levels ≡ c.levels → new.rows ≡ c.rows → map rows_of new.rows.items ≡ map documents_of new.levels.items
+shared_on : (c new : Catalog) → map shared_rows c.rows.items ≡ map documents_of c.levels.items → new.levels ≡ c.levels → new.rows ≡ c.rows → map shared_rows new.rows.items ≡ map documents_of new.levels.items
 shared_on c new are levels rows =
-    ap (λ (v : Vec (Rc LevelRows Global) Global). map rows_of v.items) rows ∙ are ∙ sym (ap (λ (v : Vec Tables Global). map documents_of v.items) levels)
+    ap (λ (v : Vec (Rc LevelRows Global) Global). map shared_rows v.items) rows ∙ are ∙ sym (ap (λ (v : Vec Tables Global). map documents_of v.items) levels)
 
 -- they are all rows of the levels
-shared_all : (c : Catalog) → map rows_of c.rows.items ≡ map documents_of c.levels.items → joined (map rows_of c.rows.items) ≡ rows_in c.levels.items
-shared_all c are = ap joined are ∙ flat_map-map (λ (rows : List DocRow). rows) documents_of c.levels.items
+shared_all : (c : Catalog) → map shared_rows c.rows.items ≡ map documents_of c.levels.items → rows_of_levels (map shared_rows c.rows.items) ≡ table_rows c.levels.items
+shared_all c are = ap rows_of_levels are ∙ flat_map-map (λ (rows : List DocRow). rows) documents_of c.levels.items
 
 -- the rows of the levels and of the level in memory are those of the documents
-pub rows_of_all : (c : Catalog) (s : State) (f : Knows c s) → map row_of (f.olds ++ f.added) ≡ rows_in c.levels.items ++ c.memory.content.documents
+pub rows_of_all : (c : Catalog) (s : State) (f : Knows c s) → map row_of (f.olds ++ f.added) ≡ table_rows c.levels.items ++ c.memory.content.documents
 rows_of_all c s f =
     map-append row_of f.olds f.added ∙ ap (λ (rs : List DocRow). rs ++ map row_of f.added) f.rows.rows_are
-    ∙ ap (λ (rs : List DocRow). rows_in c.levels.items ++ rs) (sym f.content.documents)
+    ∙ ap (λ (rs : List DocRow). table_rows c.levels.items ++ rs) (sym f.content.documents)
 
 -- runs of rows that are shared, and more behind them, are all rows
-pub shared_behind : (c : Catalog) (s : State) → Knows c s → (runs more all : List (Rc LevelRows Global)) → joined (map rows_of all) ≡ joined (map rows_of runs) ++ joined (map rows_of more)
-    → map rows_of runs ≡ map rows_of c.rows.items → joined (map rows_of more) ≡ c.memory.content.documents → joined (map rows_of all) ≡ rows_in c.levels.items ++ c.memory.content.documents
+pub shared_behind : (c : Catalog) (s : State) → Knows c s → (runs more all : List (Rc LevelRows Global)) → rows_of_levels (map shared_rows all) ≡ rows_of_levels (map shared_rows runs) ++ rows_of_levels (map shared_rows more)
+    → map shared_rows runs ≡ map shared_rows c.rows.items → rows_of_levels (map shared_rows more) ≡ c.memory.content.documents → rows_of_levels (map shared_rows all) ≡ table_rows c.levels.items ++ c.memory.content.documents
 shared_behind c s f runs more all are shared newest =
-    are ∙ ap (λ (rs : List DocRow). rs ++ joined (map rows_of more)) (ap joined shared ∙ shared_all c f.shared) ∙ ap (λ (rs : List DocRow). rows_in c.levels.items ++ rs) newest
+    are ∙ ap (λ (rs : List DocRow). rs ++ rows_of_levels (map shared_rows more)) (ap rows_of_levels shared ∙ shared_all c f.shared) ∙ ap (λ (rs : List DocRow). table_rows c.levels.items ++ rs) newest
 
 -- and rise, and so do their ends
-pub all_rise : (c : Catalog) (s : State) (f : Knows c s) → IsRising (map end_of (rows_in c.levels.items ++ c.memory.content.documents))
+pub all_rise : (c : Catalog) (s : State) (f : Knows c s) → IsRising (map end_of (table_rows c.levels.items ++ c.memory.content.documents))
 all_rise c s f = subst (λ (rs : List DocRow). IsRising (map end_of rs)) (rows_of_all c s f) (space_ends (f.olds ++ f.added) f.space)
 
-pub all_precede : (c : Catalog) (s : State) (f : Knows c s) → RowsRise (rows_in c.levels.items ++ c.memory.content.documents)
-all_precede c s f = subst RowsRise (rows_of_all c s f) (space_precedes (f.olds ++ f.added) f.space)
+pub all_precede : (c : Catalog) (s : State) (f : Knows c s) → RowsPrecede (table_rows c.levels.items ++ c.memory.content.documents)
+all_precede c s f = subst RowsPrecede (rows_of_all c s f) (space_precedes (f.olds ++ f.added) f.space)
 
 -- what the levels and the level in memory have
 pub parts_are : (c : Catalog) (s : State) (f : Knows c s) → AreParts c.levels.items c.gone c.memory f.olds s
@@ -183,7 +183,7 @@ module _ (c : Catalog) (s : State) (f : Knows c s) where
       number_below = omega (arith, number_is_next, left, f.notes.next);
     }
 
-    document : IsDocument a
+    document : IsInSpace a
     document = record {
       positive = omega (arith, first_is, f.from.1);
       some = omega (arith, cells_count, long.0);
@@ -221,7 +221,7 @@ module _ (c : Catalog) (s : State) (f : Knows c s) where
       record {
         olds = f.olds;
         added = f.added ++ a ∷ [];
-        rows = subst (λ (ls : List Tables). AreRowsOf (rows_in ls) f.olds) (sym (ap (λ (v : Vec Tables Global). v.items) levels)) f.rows;
+        rows = subst (λ (ls : List Tables). AreRowsOf (table_rows ls) f.olds) (sym (ap (λ (v : Vec Tables Global). v.items) levels)) f.rows;
         sound = sound;
         content = content f.added f.content;
         shared = shared_on c new f.shared levels shared;
@@ -265,25 +265,25 @@ module _ (c : Catalog) (s : State) (f : Knows c s) where
       all_of bs holds = λ k d inside. holds (get_or bs k d) (Contains-get_or bs k d inside)
 
   -- the rows of all documents
-  rows_are : map (λ (b : Added). b.row) all ≡ rows_in c.levels.items ++ c.memory.content.documents
+  rows_are : map (λ (b : Added). b.row) all ≡ table_rows c.levels.items ++ c.memory.content.documents
   rows_are =
       map-append (λ (b : Added). b.row) f.olds f.added
       ∙ ap (λ (rs : List DocRow). rs ++ map (λ (b : Added). b.row) f.added) f.rows.rows_are
-      ∙ ap (λ (rs : List DocRow). rows_in c.levels.items ++ rs) (sym f.content.documents)
+      ∙ ap (λ (rs : List DocRow). table_rows c.levels.items ++ rs) (sym f.content.documents)
 
   pub follow_on : FollowOn c.first c.memory.content.documents
   follow_on = subst (FollowOn c.first) (sym f.content.documents) (rows_follow c.first f.added f.numbered)
 
   -- a number that no row has
-  pub outside : (number : ℕ) → AreOther number (rows_in c.levels.items ++ c.memory.content.documents) → has_number number s ≡ false
+  pub outside : (number : ℕ) → AreOther number (table_rows c.levels.items ++ c.memory.content.documents) → has_number number s ≡ false
   outside number others =
       not_there number (λ b has is.
       let row_other : (b.row.number == number) ≡ false =
-      All-contains (λ (r : DocRow). (r.number == number) ≡ false) (rows_in c.levels.items ++ c.memory.content.documents) b.row others (subst (λ (rs : List DocRow). Contains rs b.row) rows_are (row_among all b has)) in
+      All-contains (λ (r : DocRow). (r.number == number) ≡ false) (table_rows c.levels.items ++ c.memory.content.documents) b.row others (subst (λ (rs : List DocRow). Contains rs b.row) rows_are (row_among all b has)) in
       absurd (false≢true (sym row_other ∙ is)))
 
   -- the document of a row
-  pub row_of_number : (number : ℕ) (row : DocRow) → Contains (rows_in c.levels.items ++ c.memory.content.documents) row → row.number ≡ number
+  pub row_of_number : (number : ℕ) (row : DocRow) → Contains (table_rows c.levels.items ++ c.memory.content.documents) row → row.number ≡ number
       → (a : Added) × Contains all a × (a.row.number ≡ number) × (a.row ≡ row)
   row_of_number number row has is =
       let (a, member, same) = document_among all row (subst (λ (rs : List DocRow). Contains rs row) (sym rows_are) has) in
@@ -291,11 +291,11 @@ module _ (c : Catalog) (s : State) (f : Knows c s) where
 
   -- by the levels as they are read
   module _ (levels : List Tables) (same : levels ≡ c.levels.items) (number : ℕ) where
-    pub outside_read : AreOther number (rows_in levels ++ c.memory.content.documents) → has_number number s ≡ false
-    outside_read others = outside number (subst (λ (ls : List Tables). AreOther number (rows_in ls ++ c.memory.content.documents)) same others)
+    pub outside_read : AreOther number (table_rows levels ++ c.memory.content.documents) → has_number number s ≡ false
+    outside_read others = outside number (subst (λ (ls : List Tables). AreOther number (table_rows ls ++ c.memory.content.documents)) same others)
 
-    pub row_read : (row : DocRow) → Contains (rows_in levels ++ c.memory.content.documents) row × (row.number ≡ number) → (a : Added) × Contains all a × (a.row.number ≡ number) × (a.row ≡ row)
-    row_read row found = row_of_number number row (subst (λ (ls : List Tables). Contains (rows_in ls ++ c.memory.content.documents) row) same found.0) found.1
+    pub row_read : (row : DocRow) → Contains (table_rows levels ++ c.memory.content.documents) row × (row.number ≡ number) → (a : Added) × Contains all a × (a.row.number ≡ number) × (a.row ≡ row)
+    row_read row found = row_of_number number row (subst (λ (ls : List Tables). Contains (table_rows ls ++ c.memory.content.documents) row) same found.0) found.1
 
   module _ (number : ℕ) (a : Added) (has : Contains all a) (number_is : a.row.number ≡ number) (row : DocRow) (is_row : a.row ≡ row) where
     pub deleted_already : Contains c.gone (end_of row) → has_number number s ≡ false
@@ -309,7 +309,7 @@ module _ (c : Catalog) (s : State) (f : Knows c s) where
     -- the row has a document's place
     pub row_fits : (3 ≤ row.cells) × (1 ≤ end_of row) × (end_of row < TOP) × (end_of row < c.location)
     row_fits =
-        let space = All-contains IsDocument all a (space_all all f.space) has in
+        let space = All-contains IsInSpace all a (space_all all f.space) has in
         subst (λ (r : DocRow). (3 ≤ r.cells) × (1 ≤ end_of r) × (end_of r < TOP) × (end_of r < c.location)) is_row (
           All-contains (λ (b : Added). 3 ≤ b.row.cells) all a f.filled has,
           omega (arith, space.positive, space.some),
@@ -333,7 +333,7 @@ module _ (c : Catalog) (s : State) (f : Knows c s) where
 
       word_count_is : word_count d ≡ row.cells - 3
       word_count_is =
-          let space = All-contains IsDocument all a (space_all all f.space) has in
+          let space = All-contains IsInSpace all a (space_all all f.space) has in
           omega (arith, space.counted, ap (λ (r : DocRow). r.cells) is_row)
 
       fewer : length (filter (λ (e : Document). not (e.number == number)) s.documents) + 1 ≡ length s.documents
@@ -358,9 +358,9 @@ module _ (c : Catalog) (s : State) (f : Knows c s) where
         record {
           olds = f.olds;
           added = f.added;
-          rows = subst (λ (ls : List Tables). AreRowsOf (rows_in ls) f.olds) (sym (ap (λ (v : Vec Tables Global). v.items) levels)) f.rows;
-          sound = subst (λ (m : Level). IsTrue m.sound) (sym memory) f.sound;
-          content = subst (λ (m : Level). HasContent f.added m.content) (sym memory) f.content;
+          rows = subst (λ (ls : List Tables). AreRowsOf (table_rows ls) f.olds) (sym (ap (λ (v : Vec Tables Global). v.items) levels)) f.rows;
+          sound = subst (λ (m : LevelView). IsTrue m.sound) (sym memory) f.sound;
+          content = subst (λ (m : LevelView). HasContent f.added m.content) (sym memory) f.content;
           shared = shared_on c new f.shared levels shared;
           made = f.made;
           space = f.space;

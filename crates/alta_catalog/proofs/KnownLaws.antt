@@ -5,7 +5,7 @@ use Rattle.std.proofs.lemmas.List.{map-append}
 use Rattle.alta_content.specs.declared.document.DocRow.{DocRow}
 use Rattle.alta_images.specs.Entries.{Allows, AllowsAll, IsRefusedAt, after_entries, after_entry, entries_in}
 use Rattle.alta_images.specs.Known.{Known, Named, admits, known_behind, known_of, named_of, replayed}
-use Rattle.alta_images.specs.Opened.{IsNamed, Opened, journal_of, known_at, live_in, rows_in}
+use Rattle.alta_images.specs.Opened.{IsNamed, Opened, journal_of, known_at, live_in, table_rows}
 use Rattle.alta_images.specs.Switching.{with_entry}
 use Rattle.alta_images.proofs.Entering.{after_more}
 use Rattle.alta_images.proofs.KnownLaws.{admitted_from, allowed_from, allows_replayed, known_entry}
@@ -44,12 +44,12 @@ one_known c s t f g =
     ap (λ (n : ℕ). known_with n (map named_of s.documents)) (sym f.notes.next ∙ g.notes.next)
     ∙ ap (known_with t.next) (live_of_rows s f ∙ sym (live_of_rows t g))
   where
-    all_rows : (u : State) (k : Knows c u) → map row_of (k.olds ++ k.added) ≡ rows_in c.levels.items ++ c.memory.content.documents
+    all_rows : (u : State) (k : Knows c u) → map row_of (k.olds ++ k.added) ≡ table_rows c.levels.items ++ c.memory.content.documents
     all_rows u k =
         map-append row_of k.olds k.added ∙ ap (λ (rs : List DocRow). rs ++ map row_of k.added) k.rows.rows_are
-        ∙ ap (λ (rs : List DocRow). rows_in c.levels.items ++ rs) (sym k.content.documents)
+        ∙ ap (λ (rs : List DocRow). table_rows c.levels.items ++ rs) (sym k.content.documents)
 
-    live_of_rows : (u : State) → Knows c u → map named_of u.documents ≡ live_in c.gone (rows_in c.levels.items ++ c.memory.content.documents)
+    live_of_rows : (u : State) → Knows c u → map named_of u.documents ≡ live_in c.gone (table_rows c.levels.items ++ c.memory.content.documents)
     live_of_rows u k =
         ap (λ (ds : List Document). map named_of ds) (sym k.notes.documents) ∙ sym (live_named c.gone (k.olds ++ k.added)) ∙ ap (live_in c.gone) (all_rows u k)
 

@@ -8,22 +8,22 @@ use Rattle.std.proofs.lemmas.Grind.{flat_map-append}
 use Rattle.std.proofs.lemmas.List.{append-nil, drop-map, map-append}
 use Rattle.std.proofs.lemmas.List.Elements.{All-filter, All-head, All-tail, Contains-get_or}
 use Rattle.alta_codec.specs.Rising.{IsRising}
-use Rattle.alta_content.specs.Rows.{IsPlaced, RowsRise as RangesRise, end_of, ends_among, live_rows}
+use Rattle.alta_content.specs.Rows.{IsPlaced, RowsRise, end_of, ends_among, live_rows}
 use Rattle.alta_content.specs.declared.document.DocRow.{DocRow}
 use Rattle.alta_content.proofs.Outside.{filter_alike}
 use Rattle.alta_content.proofs.Rises.{filter-rises}
 use Rattle.alta_images.specs.Known.{named, named_of}
-use Rattle.alta_images.specs.Opened.{live_in, rows_in}
-use Rattle.alta_images.specs.Ordered.{RowsRise}
+use Rattle.alta_images.specs.Opened.{live_in, table_rows}
+use Rattle.alta_images.specs.Ordered.{RowsPrecede}
 use Rattle.alta_images.specs.States.{word_count}
 use Rattle.alta_images.proofs.KeptStates.{map_filter}
 use Rattle.alta_images.proofs.KnownLaws.{all_weaker}
 use Rattle.alta_images.proofs.Tests.{by_test, filter_drop, filter_keep}
-use Rattle.alta_memlevel.specs.Added.{Added, HasContent, IsDocument, IsSpace, Level}
+use Rattle.alta_memlevel.specs.Added.{Added, HasContent, IsInSpace, IsSpace, LevelView}
 use Rattle.alta_memlevel.specs.Documents.{IsBefore, document_in}
 use Rattle.alta_meta.specs.declared.document.Document.{Document}
 use Rattle.alta_meta.specs.declared.document.State.{State}
-use Rattle.alta_rows.specs.All.{rows_in as rows_of}
+use Rattle.alta_rows.specs.All.{shared_rows}
 use Rattle.alta_rows.specs.declared.level.LevelRows.{LevelRows}
 use Rattle.std.specs.declared.rc.Rc.{Rc}
 use Rattle.alta_table.specs.Tables.{Tables}
@@ -43,38 +43,38 @@ use Rattle.alta_catalog.proofs.StartLaws.{IsCounted, all_rows, live_long, live_n
 
 -- ---- levels in place of others
 
-rows_more : (xs ys : List Tables) → rows_in (xs ++ ys) ≡ rows_in xs ++ rows_in ys
+rows_more : (xs ys : List Tables) → table_rows (xs ++ ys) ≡ table_rows xs ++ table_rows ys
 rows_more xs ys = flat_map-append (λ (t : Tables). t.documents) xs ys
 
 -- the rows of levels between two others
 pub between : (oldest : Option Tables) (n : ℕ) (levels : List Tables) (newest : Option Tables)
-    → rows_in (tables_between oldest n levels newest) ≡ rows_between (rows_in (level_in oldest)) n levels (rows_in (level_in newest))
+    → table_rows (tables_between oldest n levels newest) ≡ rows_between (table_rows (level_in oldest)) n levels (table_rows (level_in newest))
 between oldest n levels newest =
-    rows_more (level_in oldest) (drop n levels ++ level_in newest) ∙ ap (λ (rs : List DocRow). rows_in (level_in oldest) ++ rs) (rows_more (drop n levels) (level_in newest))
+    rows_more (level_in oldest) (drop n levels ++ level_in newest) ∙ ap (λ (rs : List DocRow). table_rows (level_in oldest) ++ rs) (rows_more (drop n levels) (level_in newest))
 
 -- the shared rows of a level, where there is one
-beside : (level : Option Tables) (run : Rc LevelRows Global) (runs : List (Rc LevelRows Global)) → rows_of run ≡ rows_in (level_in level) → runs ≡ map (λ (there : Tables). run) (level_in level)
-    → map rows_of runs ≡ map documents_of (level_in level)
-beside None run runs same are = ap (map rows_of) are
-beside (Some level) run runs same are = ap (map rows_of) are ∙ ap (λ (rs : List DocRow). rs ∷ []) (same ∙ append-nil level.documents)
+beside : (level : Option Tables) (run : Rc LevelRows Global) (runs : List (Rc LevelRows Global)) → shared_rows run ≡ table_rows (level_in level) → runs ≡ map (λ (there : Tables). run) (level_in level)
+    → map shared_rows runs ≡ map documents_of (level_in level)
+beside None run runs same are = ap (map shared_rows) are
+beside (Some level) run runs same are = ap (map shared_rows) are ∙ ap (λ (rs : List DocRow). rs ∷ []) (same ∙ append-nil level.documents)
 
-shared_between : (oldest : Option Tables) (n : ℕ) (levels : List Tables) (newest : Option Tables) (first last rows : List (Rc LevelRows Global)) → map rows_of first ≡ map documents_of (level_in oldest)
-    → map rows_of rows ≡ map documents_of levels → map rows_of last ≡ map documents_of (level_in newest) → map rows_of (first ++ (drop n rows ++ last)) ≡ map documents_of (tables_between oldest n levels newest)
+shared_between : (oldest : Option Tables) (n : ℕ) (levels : List Tables) (newest : Option Tables) (first last rows : List (Rc LevelRows Global)) → map shared_rows first ≡ map documents_of (level_in oldest)
+    → map shared_rows rows ≡ map documents_of levels → map shared_rows last ≡ map documents_of (level_in newest) → map shared_rows (first ++ (drop n rows ++ last)) ≡ map documents_of (tables_between oldest n levels newest)
 shared_between oldest n levels newest first last rows front middle back =
-    map-append rows_of first (drop n rows ++ last)
+    map-append shared_rows first (drop n rows ++ last)
     ∙ ap₂ (λ (xs ys : List (List DocRow)). xs ++ ys) front
-    (map-append rows_of (drop n rows) last
-    ∙ ap₂ (λ (xs ys : List (List DocRow)). xs ++ ys) (sym (drop-map rows_of n rows) ∙ ap (drop n) middle ∙ drop-map documents_of n levels) back
+    (map-append shared_rows (drop n rows) last
+    ∙ ap₂ (λ (xs ys : List (List DocRow)). xs ++ ys) (sym (drop-map shared_rows n rows) ∙ ap (drop n) middle ∙ drop-map documents_of n levels) back
     ∙ sym (map-append documents_of (drop n levels) (level_in newest)))
     ∙ sym (map-append documents_of (level_in oldest) (drop n levels ++ level_in newest))
 
 -- A catalog that goes on over levels from an index on between two others, and without newest documents.
 pub record IsPut (before : Catalog) (oldest : Option Tables) (n : ℕ) (newest : Option Tables) (new : Catalog) : Type 0 where
   pub levels : new.levels.items ≡ tables_between oldest n before.levels.items newest
-  pub shared : map rows_of new.rows.items ≡ map documents_of new.levels.items
+  pub shared : map shared_rows new.rows.items ≡ map documents_of new.levels.items
   pub sound : IsTrue new.memory.sound
   pub content : HasContent [] new.memory.content
-  pub gone : new.gone ≡ ends_in before.gone (rows_in (tables_between oldest n before.levels.items newest))
+  pub gone : new.gone ≡ ends_in before.gone (table_rows (tables_between oldest n before.levels.items newest))
   pub first : new.first ≡ before.next
   pub next : new.next ≡ before.next
   pub location : new.location ≡ before.location
@@ -103,22 +103,22 @@ pub record PutsIn (now : Catalog) (prepared : PreparedLevels) (oldest newest : O
   pub gone : new.gone ≡ prepared.deleted
 
 pub put_is : (b now new : Catalog) (s : State) (prepared : PreparedLevels) (oldest : Option Tables) (n : ℕ) (newest : Option Tables) → IsEmptied b now → Knows b s
-    → IsPrepared now (rows_in (level_in oldest)) n (rows_in (level_in newest)) prepared → PutsIn now prepared oldest newest new → Stays now new → IsPut b oldest n newest new
+    → IsPrepared now (table_rows (level_in oldest)) n (table_rows (level_in newest)) prepared → PutsIn now prepared oldest newest new → Stays now new → IsPut b oldest n newest new
 put_is b now new s prepared oldest n newest emptied f is puts stays =
     let levels : new.levels.items ≡ tables_between oldest n b.levels.items newest =
     puts.levels ∙ ap (λ (k : ℕ). tables_between oldest k now.levels.items newest) is.stay_from ∙ ap (λ (ls : Vec Tables Global). tables_between oldest n ls.items newest) emptied.levels in
     record {
       levels = levels;
       shared =
-          ap (map rows_of) (puts.rows ∙ ap (λ (k : ℕ). puts.first ++ (drop k now.rows.items ++ puts.last)) is.stay_from ∙ ap (λ (rs : Vec (Rc LevelRows Global) Global). puts.first ++ (drop n rs.items ++ puts.last)) emptied.rows)
+          ap (map shared_rows) (puts.rows ∙ ap (λ (k : ℕ). puts.first ++ (drop k now.rows.items ++ puts.last)) is.stay_from ∙ ap (λ (rs : Vec (Rc LevelRows Global) Global). puts.first ++ (drop n rs.items ++ puts.last)) emptied.rows)
           ∙ shared_between oldest n b.levels.items newest puts.first puts.last b.rows.items (beside oldest prepared.oldest puts.first is.oldest_is puts.first_are) f.shared
           (beside newest prepared.newest puts.last is.newest_is puts.last_are)
           ∙ ap (map documents_of) (sym levels);
-      sound = subst (λ (m : Level). IsTrue m.sound) (sym stays.memory) emptied.sound;
-      content = subst (λ (m : Level). HasContent [] m.content) (sym stays.memory) emptied.empty;
+      sound = subst (λ (m : LevelView). IsTrue m.sound) (sym stays.memory) emptied.sound;
+      content = subst (λ (m : LevelView). HasContent [] m.content) (sym stays.memory) emptied.empty;
       gone =
           puts.gone ∙ is.deleted
-          ∙ ap₂ (λ (es : List ℕ) (ls : Vec Tables Global). ends_in es (rows_between (rows_in (level_in oldest)) n ls.items (rows_in (level_in newest)))) emptied.gone emptied.levels
+          ∙ ap₂ (λ (es : List ℕ) (ls : Vec Tables Global). ends_in es (rows_between (table_rows (level_in oldest)) n ls.items (table_rows (level_in newest)))) emptied.gone emptied.levels
           ∙ ap (ends_in b.gone) (sym (between oldest n b.levels.items newest));
       first = stays.first ∙ emptied.next;
       next = stays.next ∙ emptied.next;
@@ -191,25 +191,25 @@ ends_tell gone rows = λ k d inside.
     ∙ sym alive)
 
 -- some rows of levels and of newest documents, in order
-pub kept_settled : (c : Catalog) (s : State) → Knows c s → (kept : DocRow → Bool) → AreSettled c.next c.location (filter kept (rows_in c.levels.items ++ c.memory.content.documents))
+pub kept_settled : (c : Catalog) (s : State) → Knows c s → (kept : DocRow → Bool) → AreSettled c.next c.location (filter kept (table_rows c.levels.items ++ c.memory.content.documents))
 kept_settled c s f kept =
-    settled_part c.next c.location kept [] (rows_in c.levels.items ++ c.memory.content.documents)
+    settled_part c.next c.location kept [] (table_rows c.levels.items ++ c.memory.content.documents)
     (subst (AreSettled c.next c.location) (rows_of_all c s f) (space_settled c.next c.location (f.olds ++ f.added) f.space f.filled f.behind))
 
-pub kept_rise : (c : Catalog) (s : State) (kept : DocRow → Bool) → Knows c s → RangesRise (filter kept (rows_in c.levels.items ++ c.memory.content.documents))
+pub kept_rise : (c : Catalog) (s : State) (kept : DocRow → Bool) → Knows c s → RowsRise (filter kept (table_rows c.levels.items ++ c.memory.content.documents))
 kept_rise c s kept f =
     let are = kept_settled c s f kept in
-    ranges_rise (filter kept (rows_in c.levels.items ++ c.memory.content.documents)) are.rise are.placed
+    ranges_rise (filter kept (table_rows c.levels.items ++ c.memory.content.documents)) are.rise are.placed
 
 module _ (b : Catalog) (s : State) (f : Knows b s) (oldest : Option Tables) (n : ℕ) (newest : Option Tables) (may : MayReplace b oldest n newest) where
   abbrev all : List Added
   all = f.olds ++ f.added
 
   abbrev every : List DocRow
-  every = rows_in b.levels.items ++ b.memory.content.documents
+  every = table_rows b.levels.items ++ b.memory.content.documents
 
   abbrev rows_then : List DocRow
-  rows_then = rows_in (tables_between oldest n b.levels.items newest)
+  rows_then = table_rows (tables_between oldest n b.levels.items newest)
 
   abbrev ends : List ℕ
   ends = ends_in b.gone rows_then
@@ -232,7 +232,7 @@ module _ (b : Catalog) (s : State) (f : Knows b s) (oldest : Option Tables) (n :
       ∙ ap (live_rows b.gone) may.rows ∙ filter_within (λ (row : DocRow). not (ends_among b.gone row)) may.kept every not_kept
 
   counted : All IsCounted all
-  counted = all_weaker IsDocument IsCounted all (λ a is. sym is.counted) (space_all all f.space)
+  counted = all_weaker IsInSpace IsCounted all (λ a is. sym is.counted) (space_all all f.space)
 
   module _ (olds : List Added) (of : AreRowsOf rows_then olds) where
     named_then : map named_of (documents_left b.gone all) ≡ map named_of (documents_left ends olds)
@@ -262,7 +262,7 @@ module _ (b : Catalog) (s : State) (f : Knows b s) (oldest : Option Tables) (n :
         (d, member, ap end_of same ∙ is)
 
     abbrev space_then : IsSpace olds
-    space_then = settled_space olds (subst RowsRise (sym of.rows_are) settled.rise) (subst (All IsPlaced) (sym of.rows_are) settled.placed) of.counted
+    space_then = settled_space olds (subst RowsPrecede (sym of.rows_are) settled.rise) (subst (All IsPlaced) (sym of.rows_are) settled.placed) of.counted
 
     -- the ends rise as the rows do
     rising_then : IsRising ends
@@ -270,7 +270,7 @@ module _ (b : Catalog) (s : State) (f : Knows b s) (oldest : Option Tables) (n :
         subst IsRising (sym (map_filter end_of (is_among b.gone) rows_then))
         (filter-rises (is_among b.gone) (map end_of rows_then) (subst (λ (rs : List DocRow). IsRising (map end_of rs)) of.rows_are (space_ends olds space_then)))
 
-    knows_then : (new : Catalog) → IsPut b oldest n newest new → AreRowsOf (rows_in new.levels.items) olds → KnowsBy new olds then_state
+    knows_then : (new : Catalog) → IsPut b oldest n newest new → AreRowsOf (table_rows new.levels.items) olds → KnowsBy new olds then_state
     knows_then new put rows = settled_knows new olds then_state (record {
       rows = rows;
       sound = put.sound;
@@ -294,10 +294,10 @@ module _ (b : Catalog) (s : State) (f : Knows b s) (oldest : Option Tables) (n :
       words = put.words ∙ f.words ∙ words_then;
     })
 
-  rows_put : (new : Catalog) → IsPut b oldest n newest new → rows_in new.levels.items ≡ rows_then
-  rows_put new put = ap rows_in put.levels
+  rows_put : (new : Catalog) → IsPut b oldest n newest new → table_rows new.levels.items ≡ rows_then
+  rows_put new put = ap table_rows put.levels
 
-  pub put_knows : (new : Catalog) → IsPut b oldest n newest new → (olds : List Added) → AreRowsOf (rows_in new.levels.items) olds
+  pub put_knows : (new : Catalog) → IsPut b oldest n newest new → (olds : List Added) → AreRowsOf (table_rows new.levels.items) olds
       → KnowsBy new olds (record { next = s.next; documents = documents_left new.gone olds })
   put_knows new put olds of =
       subst (λ (es : List ℕ). KnowsBy new olds (record { next = s.next; documents = documents_left es olds })) (sym put.gone)

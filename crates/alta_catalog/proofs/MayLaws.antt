@@ -8,7 +8,7 @@ use Rattle.alta_content.specs.declared.document.DocRow.{DocRow}
 use Rattle.alta_content.specs.TermList.{TermList}
 use Rattle.alta_images.specs.Entries.{after_entries}
 use Rattle.alta_images.specs.Levels.{Level, document_of, documents_of, live_rows, locations_from}
-use Rattle.alta_images.specs.Opened.{Opened, rows_in}
+use Rattle.alta_images.specs.Opened.{Opened, table_rows}
 use Rattle.alta_images.specs.Standing.{Means, tables_by}
 use Rattle.alta_images.proofs.Tests.{by_test, filter_drop, filter_keep}
 use Rattle.alta_memlevel.specs.Added.{Added}
@@ -34,9 +34,9 @@ bare_counted (row ∷ rows) = All-cons (λ (a : Added). length a.cells ≡ a.row
 
 pub may_start : (root : Root) (deleted : List ℕ) (levels : List Tables) → (s : State) × MayStart s root deleted levels
 may_start root deleted levels =
-    let olds = map bare (rows_in levels) in (
+    let olds = map bare (table_rows levels) in (
       record { next = root.next_number; documents = documents_left deleted olds },
-      record { olds = olds; rows = record { rows_are = bare_rows (rows_in levels); counted = bare_counted (rows_in levels) }; state_is = refl },
+      record { olds = olds; rows = record { rows_are = bare_rows (table_rows levels); counted = bare_counted (table_rows levels) }; state_is = refl },
     )
 
 pub may_be : (o : Opened) → (s : State) × MayBe s o
@@ -77,7 +77,7 @@ whole_left deleted lists (row ∷ rows) =
     (λ alive. left_alive deleted (whole lists row) (map (whole lists) rows) alive ∙ ap (λ (ds : List Document). document_of lists row ∷ ds) (whole_left deleted lists rows)
     ∙ sym (ap (λ (rs : List DocRow). map (document_of lists) rs) (filter_keep (λ (r : DocRow). not (ends_among deleted r)) row rows (ap not alive))))
 
-levels_rows : (levels : List Level) → map (λ (a : Added). a.row) (flat_map whole_of levels) ≡ rows_in (map tables_by levels)
+levels_rows : (levels : List Level) → map (λ (a : Added). a.row) (flat_map whole_of levels) ≡ table_rows (map tables_by levels)
 levels_rows [] = refl
 levels_rows (level ∷ levels) =
     map-append (λ (a : Added). a.row) (whole_of level) (flat_map whole_of levels)
@@ -104,7 +104,7 @@ means_by s o image means =
         start = record { next = o.root.next_number; documents = documents_left o.deleted olds };
         starts = record {
           olds = olds;
-          rows = record { rows_are = levels_rows means.levels ∙ ap rows_in (sym means.are.tables); counted = levels_counted means.levels };
+          rows = record { rows_are = levels_rows means.levels ∙ ap table_rows (sym means.are.tables); counted = levels_counted means.levels };
           state_is = refl;
         };
         state_is = sym means.state_is ∙ ap from (sym (levels_left o.deleted means.levels));

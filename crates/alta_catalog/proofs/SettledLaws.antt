@@ -7,15 +7,15 @@ use Rattle.std.proofs.lemmas.List.Elements.{All-nil, All-head, All-tail, All-app
 use Rattle.alta_codec.specs.Rising.{IsRising}
 use Rattle.alta_content.specs.Rows.{IsPlaced, end_of}
 use Rattle.alta_content.specs.declared.document.DocRow.{DocRow}
-use Rattle.alta_images.specs.Opened.{rows_in}
-use Rattle.alta_images.specs.Ordered.{Precedes, RowsRise}
+use Rattle.alta_images.specs.Opened.{table_rows}
+use Rattle.alta_images.specs.Ordered.{Precedes, RowsPrecede}
 use Rattle.alta_images.specs.States.{words_in}
 use Rattle.alta_images.proofs.KeptStates.{rise_some}
 use Rattle.alta_images.proofs.KnownLaws.{all_weaker}
-use Rattle.alta_memlevel.specs.Added.{Added, HasContent, IsDocument, IsSpace}
+use Rattle.alta_memlevel.specs.Added.{Added, HasContent, IsInSpace, IsSpace}
 use Rattle.alta_memlevel.specs.Documents.{IsBefore, IsMade}
 use Rattle.alta_meta.specs.declared.document.State.{State}
-use Rattle.alta_rows.specs.All.{rows_in as rows_of}
+use Rattle.alta_rows.specs.All.{shared_rows}
 use Rattle.alta_catalog.specs.Knowing.{IsEndIn, KnowsBy, Notes, documents_of}
 use Rattle.alta_catalog.specs.Rows.{AreRowsOf, documents_left}
 use Rattle.alta_catalog.specs.declared.catalog.Catalog.{Catalog}
@@ -28,10 +28,10 @@ use Rattle.alta_content.proofs.Elements.{all_left, all_right}
 
 -- what a catalog knows whose documents are all of levels
 pub record IsSettled (c : Catalog) (olds : List Added) (s : State) : Type 0 where
-  pub rows : AreRowsOf (rows_in c.levels.items) olds
+  pub rows : AreRowsOf (table_rows c.levels.items) olds
   pub sound : IsTrue c.memory.sound
   pub content : HasContent [] c.memory.content
-  pub shared : map rows_of c.rows.items ≡ map documents_of c.levels.items
+  pub shared : map shared_rows c.rows.items ≡ map documents_of c.levels.items
   pub space : IsSpace olds
   pub filled : All (λ (a : Added). 3 ≤ a.row.cells) olds
   pub behind : All (λ (a : Added). IsBefore c.next c.location a.row) olds
@@ -75,7 +75,7 @@ settled_knows c olds s is =
 
 -- Rows rise, and each has a place and cells, before a number and a location.
 pub record AreSettled (next location : ℕ) (rows : List DocRow) : Type 0 where
-  pub rise : RowsRise rows
+  pub rise : RowsPrecede rows
   pub placed : All IsPlaced rows
   pub filled : All (λ (row : DocRow). 3 ≤ row.cells) rows
   pub before : All (IsBefore next location) rows
@@ -96,13 +96,13 @@ settled_part next location p xs ys are = record {
 pub space_settled : (next location : ℕ) (xs : List Added) → IsSpace xs → All (λ (a : Added). 3 ≤ a.row.cells) xs → All (λ (a : Added). IsBefore next location a.row) xs → AreSettled next location (map row_of xs)
 space_settled next location xs space filled before = record {
   rise = space_precedes xs space;
-  placed = All-map IsPlaced row_of xs (all_weaker IsDocument (λ (a : Added). IsPlaced a.row) xs (λ a is. record { positive = is.positive; some = is.some; below = is.below }) (space_all xs space));
+  placed = All-map IsPlaced row_of xs (all_weaker IsInSpace (λ (a : Added). IsPlaced a.row) xs (λ a is. record { positive = is.positive; some = is.some; below = is.below }) (space_all xs space));
   filled = All-map (λ (row : DocRow). 3 ≤ row.cells) row_of xs filled;
   before = All-map (IsBefore next location) row_of xs before;
 }
 
 -- documents of such rows
-pub settled_space : (xs : List Added) → RowsRise (map row_of xs) → All IsPlaced (map row_of xs) → All IsCounted xs → IsSpace xs
+pub settled_space : (xs : List Added) → RowsPrecede (map row_of xs) → All IsPlaced (map row_of xs) → All IsCounted xs → IsSpace xs
 settled_space [] rise placed counted = tt
 settled_space (a ∷ xs) rise placed counted =
     let one : IsPlaced a.row = All-head IsPlaced a.row (map row_of xs) placed in

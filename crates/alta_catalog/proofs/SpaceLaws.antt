@@ -5,7 +5,7 @@ use Rattle.std.proofs.lemmas.List.{map-append}
 use Rattle.std.proofs.lemmas.List.Elements.{All-append, All-nil, All-cons, All-head, All-tail, All-weaker, filter-append}
 use Rattle.std.proofs.lemmas.List.Sums.{sum_by-cons}
 use Rattle.alta_content.specs.Rows.{end_of, ends_among}
-use Rattle.alta_memlevel.specs.Added.{Added, IsDocument, IsSpace, live_of}
+use Rattle.alta_memlevel.specs.Added.{Added, IsInSpace, IsSpace, live_of}
 use Rattle.alta_memlevel.specs.Documents.{document_in}
 use Rattle.alta_meta.specs.declared.document.Document.{Document}
 use Rattle.alta_images.specs.States.{word_count}
@@ -16,7 +16,7 @@ use Rattle.alta_images.specs.Ordered.{AreOrdered, IsBefore}
 use Rattle.alta_images.proofs.KnownLaws.{all_both, all_weaker}
 
 -- a document more, behind all
-pub space_push : (xs : List Added) (a : Added) → IsSpace xs → IsDocument a → All (λ (b : Added). b.row.number < a.row.number) xs → All (λ (b : Added). end_of b.row < a.row.first) xs → IsSpace (xs ++ a ∷ [])
+pub space_push : (xs : List Added) (a : Added) → IsSpace xs → IsInSpace a → All (λ (b : Added). b.row.number < a.row.number) xs → All (λ (b : Added). end_of b.row < a.row.first) xs → IsSpace (xs ++ a ∷ [])
 space_push [] a space document numbers firsts = (document, All-nil (λ (b : Added). a.row.number < b.row.number), All-nil (λ (b : Added). end_of a.row < b.row.first), tt)
 space_push (x ∷ xs) a space document numbers firsts = (
   space.0,

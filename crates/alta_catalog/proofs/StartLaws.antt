@@ -11,7 +11,7 @@ use Rattle.std.proofs.lemmas.List.Sums.{sum_by-cons}
 use Rattle.alta_content.specs.Rows.{AreDocuments, AreDocumentsBehind, Before, behind_row, end_of, ends_among, live_rows, start}
 use Rattle.alta_content.specs.declared.document.DocRow.{DocRow}
 use Rattle.alta_images.specs.Known.{Named, named, named_of}
-use Rattle.alta_images.specs.Opened.{have_ends, live_in, rows_in}
+use Rattle.alta_images.specs.Opened.{have_ends, live_in, table_rows}
 use Rattle.alta_images.specs.Ordered.{AreOrdered, IsBefore}
 use Rattle.alta_images.specs.States.{word_count}
 use Rattle.alta_images.proofs.Tests.{by_test, bytes_from, bytes_same, equal_from, filter_drop, filter_keep, and_left, and_right}
@@ -188,10 +188,10 @@ has_end end (a ∷ xs) is =
     first_of : (m n : ℕ) → (nat_eq m n || false) ≡ true → nat_eq m n ≡ true
     first_of m n e = by_test (nat_eq m n) (λ is. is) (λ fails. absurd (false≢true (sym (ap (λ (b : Bool). b || false) fails) ∙ e)))
 
-pub ends_there : (levels : List Tables) (xs : List Added) → map row_of xs ≡ rows_in levels → (gone : List ℕ) → have_ends levels gone ≡ true → (end : ℕ) → Contains gone end → IsEndIn xs end
+pub ends_there : (levels : List Tables) (xs : List Added) → map row_of xs ≡ table_rows levels → (gone : List ℕ) → have_ends levels gone ≡ true → (end : ℕ) → Contains gone end → IsEndIn xs end
 ends_there levels xs are [] have end has = absurd (no_member end has)
 ends_there levels xs are (e ∷ gone) have end has =
-    let test : ℕ → Bool = λ (x : ℕ). list_any (λ (row : DocRow). ends_among (x ∷ []) row) (rows_in levels) in
+    let test : ℕ → Bool = λ (x : ℕ). list_any (λ (row : DocRow). ends_among (x ∷ []) row) (table_rows levels) in
     ⊎_elim
     (λ (same : e ≡ end). subst (IsEndIn xs) same (has_end e xs (ap (λ (rs : List DocRow). list_any (λ (row : DocRow). ends_among (e ∷ []) row) rs) are ∙ and_left (test e) (list_all test gone) have)))
     (λ behind. ends_there levels xs are gone (and_right (test e) (list_all test gone) have) end behind)

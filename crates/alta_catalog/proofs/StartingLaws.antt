@@ -6,7 +6,7 @@ use Rattle.alta_codec.specs.Rising.{IsRising}
 use Rattle.alta_content.specs.Rows.{AreDocuments, end_of, live_rows, start, ends_among}
 use Rattle.alta_content.specs.declared.document.DocRow.{DocRow}
 use Rattle.alta_images.specs.Known.{named_of}
-use Rattle.alta_images.specs.Opened.{have_ends, live_in, rows_in}
+use Rattle.alta_images.specs.Opened.{have_ends, live_in, table_rows}
 use Rattle.alta_images.specs.Ordered.{AreBelow, AreOrdered}
 use Rattle.alta_memlevel.specs.Added.{Added, HasContent, IsSpace, live_of}
 use Rattle.alta_meta.specs.declared.document.Document.{Document}
@@ -16,7 +16,7 @@ use Rattle.alta_root.specs.declared.root.Root.{Root}
 use Rattle.alta_catalog.specs.Counting.{cells_in, row_words}
 use Rattle.alta_catalog.specs.Knowing.{KnowsBy, documents_of}
 use Rattle.alta_catalog.specs.Names.{AreNames}
-use Rattle.alta_rows.specs.All.{rows_in as rows_of}
+use Rattle.alta_rows.specs.All.{shared_rows}
 use Rattle.alta_catalog.specs.Rows.{MayStart, documents_left}
 use Rattle.alta_catalog.specs.declared.catalog.Catalog.{Catalog}
 use Rattle.alta_catalog.proofs.SettledLaws.{IsSettled, settled_knows}
@@ -31,11 +31,11 @@ cells_below root size sound rows are below =
     let fits : 0 + cells_in rows < root.next_location = cells_fit start rows root.next_location are (λ k d inside. (below k d inside).1) (omega (arith, sound.location)) in
     omega (arith, fits, sound.location, sound.number)
 
-module _ (c : Catalog) (root : Root) (size : ℕ) (sound : IsSound size root) (gone : List ℕ) (gone_is : c.gone ≡ gone) (rows : AreDocuments (rows_in c.levels.items)) (below : AreBelow root (rows_in c.levels.items))
-    (rising : IsRising gone) (ends : have_ends c.levels.items gone ≡ true) (ordered : AreOrdered (live_in gone (rows_in c.levels.items))) (names : AreNames c.names (live_in gone (rows_in c.levels.items)))
+module _ (c : Catalog) (root : Root) (size : ℕ) (sound : IsSound size root) (gone : List ℕ) (gone_is : c.gone ≡ gone) (rows : AreDocuments (table_rows c.levels.items)) (below : AreBelow root (table_rows c.levels.items))
+    (rising : IsRising gone) (ends : have_ends c.levels.items gone ≡ true) (ordered : AreOrdered (live_in gone (table_rows c.levels.items))) (names : AreNames c.names (live_in gone (table_rows c.levels.items)))
     (next_is : c.next ≡ root.next_number) (location_is : c.location ≡ root.next_location) (first_is : c.first ≡ root.next_number)
-    (count_is : c.count ≡ length (live_rows c.gone (rows_in c.levels.items))) (words_are : c.words ≡ sum_by row_words (live_rows c.gone (rows_in c.levels.items)))
-    (shared : map rows_of c.rows.items ≡ map documents_of c.levels.items)
+    (count_is : c.count ≡ length (live_rows c.gone (table_rows c.levels.items))) (words_are : c.words ≡ sum_by row_words (live_rows c.gone (table_rows c.levels.items)))
+    (shared : map shared_rows c.rows.items ≡ map documents_of c.levels.items)
     (usable : IsTrue c.memory.sound) (content : HasContent [] c.memory.content)
     (s : State) (may : MayStart s root gone c.levels.items) where
   abbrev olds : List Added
@@ -45,9 +45,9 @@ module _ (c : Catalog) (root : Root) (size : ℕ) (sound : IsSound size root) (g
   left = documents_left gone olds
 
   space : IsSpace olds
-  space = space_of (rows_in c.levels.items) rows olds may.rows
+  space = space_of (table_rows c.levels.items) rows olds may.rows
 
-  live_is : live_in gone (rows_in c.levels.items) ≡ map named_of left
+  live_is : live_in gone (table_rows c.levels.items) ≡ map named_of left
   live_is = ap (live_in gone) (sym may.rows.rows_are) ∙ live_named gone olds
 
   are_names : AreNames c.names (map named_of left)
@@ -75,7 +75,7 @@ module _ (c : Catalog) (root : Root) (size : ℕ) (sound : IsSound size root) (g
     content = content;
     shared = shared;
     space = space;
-    filled = filled_of (rows_in c.levels.items) rows olds may.rows;
+    filled = filled_of (table_rows c.levels.items) rows olds may.rows;
     behind = λ k d inside. (omega (arith, (all_below k d inside).0, next_is), omega (arith, (all_below k d inside).1, location_is));
     rising = subst IsRising (sym gone_is) rising;
     ends = λ end has. ends_there c.levels.items olds may.rows.rows_are gone ends end (subst (λ (g : List ℕ). Contains g end) gone_is has);
@@ -90,10 +90,10 @@ module _ (c : Catalog) (root : Root) (size : ℕ) (sound : IsSound size root) (g
     from = (omega (arith, next_is, sound.number), omega (arith, location_is, sound.location));
     fits = (omega (arith, next_is, sound.number), subst (λ (n : ℕ). c.location ≤ 1 + (n - 1) * 262146) (sym next_is) (omega (arith, location_is, sound.location)));
     count =
-        count_is ∙ ap (λ (g : List ℕ). length (live_rows g (rows_in c.levels.items))) gone_is
+        count_is ∙ ap (λ (g : List ℕ). length (live_rows g (table_rows c.levels.items))) gone_is
         ∙ ap (λ (rs : List DocRow). length (live_rows gone rs)) (sym may.rows.rows_are) ∙ live_long gone olds;
     words =
-        words_are ∙ ap (λ (g : List ℕ). sum_by row_words (live_rows g (rows_in c.levels.items))) gone_is
+        words_are ∙ ap (λ (g : List ℕ). sum_by row_words (live_rows g (table_rows c.levels.items))) gone_is
         ∙ ap (λ (rs : List DocRow). sum_by row_words (live_rows gone rs)) (sym may.rows.rows_are) ∙ live_words gone olds may.rows.counted;
   }
 

@@ -7,7 +7,7 @@ use Rattle.std.proofs.lemmas.List.Sums.{sum_by-append, sum_by-cons}
 use Rattle.alta_codec.specs.declared.location.TheConstants.{TOP}
 use Rattle.alta_content.specs.Rows.{AreDocumentsBehind, Before, behind_row, end_of, ends_among, live_rows}
 use Rattle.alta_content.specs.declared.document.DocRow.{DocRow}
-use Rattle.alta_images.specs.Opened.{rows_in}
+use Rattle.alta_images.specs.Opened.{table_rows}
 use Rattle.alta_images.proofs.Tests.{filter_drop, filter_keep}
 use Rattle.alta_table.specs.Tables.{Tables}
 use Rattle.alta_catalog.specs.Counting.{IsTally, cells_in, row_words}
@@ -58,10 +58,10 @@ module _ (rows : List DocRow) (i : ℕ) (row : DocRow) (inside : i < length rows
 
 -- ---- levels
 module _ (levels : List Tables) (i : ℕ) (level : Tables) (inside : i < length levels) (is : level ≡ get_or levels i level) where
-  pub level_cells : cells_in (rows_in (drop i levels)) ≡ cells_in level.documents + cells_in (rows_in (drop (i + 1) levels))
+  pub level_cells : cells_in (table_rows (drop i levels)) ≡ cells_in level.documents + cells_in (table_rows (drop (i + 1) levels))
   level_cells =
-      ap (λ (ls : List Tables). cells_in (rows_in ls)) (drop_more levels i level inside ∙ ap (λ (l : Tables). l ∷ drop (i + 1) levels) (sym is))
-      ∙ sum_by-append (λ (r : DocRow). r.cells) level.documents (rows_in (drop (i + 1) levels))
+      ap (λ (ls : List Tables). cells_in (table_rows ls)) (drop_more levels i level inside ∙ ap (λ (l : Tables). l ∷ drop (i + 1) levels) (sym is))
+      ∙ sum_by-append (λ (r : DocRow). r.cells) level.documents (table_rows (drop (i + 1) levels))
 
-  pub tally_level : (gone : List ℕ) (tally : Tally) → IsTally gone (rows_in (take i levels) ++ level.documents) tally → IsTally gone (rows_in (take (i + 1) levels)) tally
+  pub tally_level : (gone : List ℕ) (tally : Tally) → IsTally gone (table_rows (take i levels) ++ level.documents) tally → IsTally gone (table_rows (take (i + 1) levels)) tally
   tally_level gone tally counted = subst (λ (rs : List DocRow). IsTally gone rs tally) (sym (rows_next levels i level inside is)) counted

@@ -6,18 +6,18 @@ use Rattle.std.specs.BTreeMap.{BTreeMap, get_by_text}
 use Rattle.alta_codec.specs.Rising.{IsRising}
 use Rattle.alta_content.specs.Rows.{end_of}
 use Rattle.alta_content.specs.declared.document.DocRow.{DocRow}
-use Rattle.alta_memlevel.specs.Added.{Added, HasContent, IsSpace, Level}
+use Rattle.alta_memlevel.specs.Added.{Added, HasContent, IsSpace, LevelView}
 use Rattle.alta_memlevel.specs.Documents.{AreMade, HasDocuments, IsBefore}
 use Rattle.alta_meta.specs.declared.document.Document.{Document}
 use Rattle.alta_meta.specs.declared.document.State.{State}
-use Rattle.alta_images.specs.Opened.{rows_in}
+use Rattle.alta_images.specs.Opened.{table_rows}
 use Rattle.alta_images.specs.States.{has_name, words_in}
 use Rattle.alta_images.specs.Work.{added_from}
 use Rattle.alta_journal.specs.declared.entry.Entry.{Entry}
 use Rattle.alta_root.specs.declared.root.Root.{Root}
 use Rattle.alta_catalog.specs.Rows.{AreRowsOf, documents_left}
 use Rattle.alta_catalog.specs.declared.catalog.Catalog.{Catalog}
-use Rattle.alta_rows.specs.All.{rows_in as rows_of}
+use Rattle.alta_rows.specs.All.{shared_rows}
 use Rattle.alta_table.specs.Tables.{Tables}
 use Rattle.alta_images.specs.Known.{known_of}
 use Rattle.alta_images.specs.Ordered.{IsOrdered}
@@ -57,10 +57,10 @@ documents_of level = level.documents
 pub record Knows (c : Catalog) (s : State) : Type 0 where
   pub olds : List Added
   pub added : List Added
-  pub rows : AreRowsOf (rows_in c.levels.items) olds
+  pub rows : AreRowsOf (table_rows c.levels.items) olds
   pub sound : IsTrue c.memory.sound
   pub content : HasContent added c.memory.content
-  pub shared : map rows_of c.rows.items ≡ map documents_of c.levels.items
+  pub shared : map shared_rows c.rows.items ≡ map documents_of c.levels.items
   pub made : AreMade added
   pub space : IsSpace (olds ++ added)
   pub filled : All (λ (a : Added). 3 ≤ a.row.cells) (olds ++ added)
@@ -92,7 +92,7 @@ abbrev pub location_of : Catalog → ℕ
 location_of c = c.location
 
 -- the level in memory
-abbrev pub memory_of : Catalog → Level
+abbrev pub memory_of : Catalog → LevelView
 memory_of c = c.memory
 
 -- The catalog stands at this state, with these documents of the levels' rows.
@@ -101,8 +101,8 @@ KnowsBy c olds s = (knows : Knows c s) × (knows.olds ≡ olds)
 
 -- The documents of the state are those of the levels' rows whose end is not gone, with these cells, and behind them those of the level in
 -- memory; all rows rise.
-pub record AreParts (levels : List Tables) (gone : List ℕ) (memory : Level) (olds : List Added) (s : State) : Type 0 where
-  pub rows : AreRowsOf (rows_in levels) olds
+pub record AreParts (levels : List Tables) (gone : List ℕ) (memory : LevelView) (olds : List Added) (s : State) : Type 0 where
+  pub rows : AreRowsOf (table_rows levels) olds
   pub newest : List Document
   pub has : HasDocuments gone newest memory
   pub split : s.documents ≡ documents_left gone olds ++ newest

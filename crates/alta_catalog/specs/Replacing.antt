@@ -4,11 +4,11 @@ use Rattle.std.specs.List.{All, filter, list_any}
 use Rattle.std.specs.Vec.{vec_capacity, vec_len}
 use Rattle.alta_content.specs.Rows.{end_of, ends_among}
 use Rattle.alta_content.specs.declared.document.DocRow.{DocRow}
-use Rattle.alta_images.specs.Opened.{rows_in}
+use Rattle.alta_images.specs.Opened.{table_rows}
 use Rattle.alta_memlevel.specs.Added.{HasContent}
 use Rattle.alta_catalog.specs.declared.catalog.Catalog.{Catalog}
 use Rattle.alta_catalog.specs.declared.replacing.PreparedLevels.{PreparedLevels}
-use Rattle.alta_rows.specs.All.{rows_in as rows_of}
+use Rattle.alta_rows.specs.All.{shared_rows}
 use Rattle.alta_table.specs.Tables.{Tables}
 
 -- ---- rows
@@ -38,7 +38,7 @@ tables_between oldest n tables newest = level_in oldest ++ (drop n tables ++ lev
 
 -- the rows of the levels from an index on, between others
 abbrev pub rows_between : List DocRow → ℕ → List Tables → List DocRow → List DocRow
-rows_between oldest n tables newest = oldest ++ (rows_in (drop n tables) ++ newest)
+rows_between oldest n tables newest = oldest ++ (table_rows (drop n tables) ++ newest)
 
 -- ---- a catalog
 
@@ -75,8 +75,8 @@ pub record HasRoom (c : Catalog) (prepared : PreparedLevels) : Type 0 where
 -- all rows to come that are gone.
 pub record IsPrepared (c : Catalog) (oldest : List DocRow) (n : ℕ) (newest : List DocRow) (prepared : PreparedLevels) : Type 0 where
   pub stay_from : prepared.stay_from ≡ n
-  pub oldest_is : rows_of prepared.oldest ≡ oldest
-  pub newest_is : rows_of prepared.newest ≡ newest
+  pub oldest_is : shared_rows prepared.oldest ≡ oldest
+  pub newest_is : shared_rows prepared.newest ≡ newest
   pub deleted : prepared.deleted ≡ ends_in c.gone (rows_between oldest n c.levels.items newest)
   pub room : HasRoom c prepared
 
@@ -84,5 +84,5 @@ pub record IsPrepared (c : Catalog) (oldest : List DocRow) (n : ℕ) (newest : L
 -- some of all rows, in order, and the documents of the others are gone.
 pub record MayReplace (before : Catalog) (oldest : Option Tables) (n : ℕ) (newest : Option Tables) : Type 0 where
   pub kept : DocRow → Bool
-  pub rows : rows_in (tables_between oldest n before.levels.items newest) ≡ filter kept (rows_in before.levels.items ++ before.memory.content.documents)
-  pub gone : All (λ (row : DocRow). kept row ≡ false → ends_among before.gone row ≡ true) (rows_in before.levels.items ++ before.memory.content.documents)
+  pub rows : table_rows (tables_between oldest n before.levels.items newest) ≡ filter kept (table_rows before.levels.items ++ before.memory.content.documents)
+  pub gone : All (λ (row : DocRow). kept row ≡ false → ends_among before.gone row ≡ true) (table_rows before.levels.items ++ before.memory.content.documents)

@@ -3,7 +3,7 @@ use Rattle.std.specs.Prelude.{◌≡◌, ℕ, List, length, map}
 use Rattle.std.specs.List.{All}
 use Rattle.alta_content.specs.declared.document.DocRow.{DocRow}
 use Rattle.alta_images.specs.Entries.{after_entries}
-use Rattle.alta_images.specs.Opened.{Opened, rows_in}
+use Rattle.alta_images.specs.Opened.{Opened, table_rows}
 use Rattle.alta_memlevel.specs.Added.{Added, live_of}
 use Rattle.alta_memlevel.specs.Documents.{document_in}
 use Rattle.alta_meta.specs.declared.document.Document.{Document}
@@ -24,7 +24,7 @@ documents_left gone added = map document_in (live_of gone added)
 -- are not deleted. Of their cells the count alone is known.
 pub record MayStart (s : State) (root : Root) (deleted : List ℕ) (levels : List Tables) : Type 0 where
   pub olds : List Added
-  pub rows : AreRowsOf (rows_in levels) olds
+  pub rows : AreRowsOf (table_rows levels) olds
   pub state_is : s ≡ record { next = root.next_number; documents = documents_left deleted olds }
 
 -- What is opened may speak of the state: it is one that its root may speak of, and then its entries in order.

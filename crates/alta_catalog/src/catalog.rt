@@ -5,9 +5,9 @@ ghost use Rattle.std.specs.Prelude.{◌≡◌, ◌↔◌, ◌++◌, ◌∷◌, [
 ghost use Rattle.alta_codec.specs.Name.{IsName};
 ghost use Rattle.alta_codec.specs.Rising.{IsRising};
 ghost use Rattle.alta_content.specs.declared.document.DocRow.{DocRow};
-ghost use Rattle.alta_content.specs.Rows.{AreDocuments, ends_among, RowsRise as RangesRise};
-ghost use Rattle.alta_images.specs.Opened.{have_ends, live_in, rows_in};
-ghost use Rattle.alta_images.specs.Ordered.{AreBelow, AreOrdered, RowsRise};
+ghost use Rattle.alta_content.specs.Rows.{AreDocuments, ends_among, RowsRise};
+ghost use Rattle.alta_images.specs.Opened.{have_ends, live_in, table_rows};
+ghost use Rattle.alta_images.specs.Ordered.{AreBelow, AreOrdered, RowsPrecede};
 ghost use Rattle.alta_images.specs.States.{has_name, has_number, number_of, with_added, with_deleted, without, words_in};
 ghost use Rattle.alta_journal.specs.declared.entry.Entry.{Entry};
 ghost use Rattle.alta_journal.specs.declared.entry.Entry.TheVariants.{Add as AddEntry, Delete as DeleteEntry};
@@ -76,12 +76,12 @@ impl Catalog {
         names: BTreeMap<String, u64>,
     ) -> Result<Catalog, AllocError>
         requires sound { (size : ℕ) × IsSound size root.now }
-        requires rows { AreDocuments (rows_in levels.items) }
-        requires below { AreBelow root.now (rows_in levels.items) }
+        requires rows { AreDocuments (table_rows levels.items) }
+        requires below { AreBelow root.now (table_rows levels.items) }
         requires rising { IsRising deleted.now }
         requires ends { have_ends levels.items deleted.now ≡ true }
-        requires ordered { AreOrdered (live_in deleted.now (rows_in levels.items)) }
-        requires names { AreNames names (live_in deleted.now (rows_in levels.items)) }
+        requires ordered { AreOrdered (live_in deleted.now (table_rows levels.items)) }
+        requires names { AreNames names (live_in deleted.now (table_rows levels.items)) }
         ensures knows { (s : State) → (may : MayStart s root.now deleted.now levels.items) → IfOk result (λ c. KnowsBy c may.olds s) }
         ensures levels { IfOk result (λ c. levels_of c ≡ levels.items) }
         ensures gone { IfOk result (λ c. gone_of c ≡ deleted.now) }
@@ -124,7 +124,7 @@ impl Catalog {
     pub fn newest(&self) -> (&MemLevel, &[Loc])
         ensures memory { result.0.now ≡ memory_of self.now }
         ensures gone { result.1.now ≡ gone_of self.now }
-        ensures rise { (s : State) → Knows self.now s → RowsRise (rows_in (levels_of self.now) ++ (memory_of self.now).content.documents) }
+        ensures rise { (s : State) → Knows self.now s → RowsPrecede (table_rows (levels_of self.now) ++ (memory_of self.now).content.documents) }
         ensures parts { (s : State) → (knows : Knows self.now s) → AreParts (levels_of self.now) result.1.now result.0.now knows.olds s }
     {
         (&self.memory, self.gone.ends())
@@ -134,7 +134,7 @@ impl Catalog {
     /// which are copied. Fails for want of memory alone.
     pub fn rows(&self) -> Result<AllRows, AllocError>
         requires { (s : State) × Knows self.now s }
-        ensures { IfOk result (λ rows. rows ≡ rows_in (levels_of self.now) ++ (memory_of self.now).content.documents) }
+        ensures { IfOk result (λ rows. rows ≡ table_rows (levels_of self.now) ++ (memory_of self.now).content.documents) }
     {
         let runs = share_runs(self.alloc, &self.rows)?;
         let all = with_runs(runs, self.memory.runs()?)?;
@@ -295,7 +295,7 @@ impl Catalog {
         newest: &[DocRow],
     ) -> Result<PreparedLevels, AllocError>
         requires index { stay_from ≤ length (levels_of self.now) }
-        requires rows { RangesRise (rows_between oldest.now stay_from (levels_of self.now) newest.now) }
+        requires rows { RowsRise (rows_between oldest.now stay_from (levels_of self.now) newest.now) }
         ensures { IfOk result (IsPrepared self.now oldest.now stay_from newest.now) }
     {
         let stay = &self.levels[stay_from..];
@@ -320,10 +320,10 @@ impl Catalog {
     )
         requires room { HasRoom self.old prepared }
         ensures knows { (before : Catalog) → (s : State) → (n : ℕ) → (olds : List Added) → IsEmptied before self.old → Knows before s
-            → IsPrepared self.old (rows_in (level_in oldest)) n (rows_in (level_in newest)) prepared → MayReplace before oldest n newest
-            → AreRowsOf (rows_in (levels_of self.new)) olds → KnowsBy self.new olds (record { next = s.next; documents = documents_left (deleted_of prepared) olds }) }
+            → IsPrepared self.old (table_rows (level_in oldest)) n (table_rows (level_in newest)) prepared → MayReplace before oldest n newest
+            → AreRowsOf (table_rows (levels_of self.new)) olds → KnowsBy self.new olds (record { next = s.next; documents = documents_left (deleted_of prepared) olds }) }
         ensures same { (before : Catalog) → (s : State) → (n : ℕ) → IsEmptied before self.old → Knows before s
-            → IsPrepared self.old (rows_in (level_in oldest)) n (rows_in (level_in newest)) prepared → MayReplace before oldest n newest → Knows self.new s }
+            → IsPrepared self.old (table_rows (level_in oldest)) n (table_rows (level_in newest)) prepared → MayReplace before oldest n newest → Knows self.new s }
         ensures levels { levels_of self.new ≡ tables_between oldest (stay_from_of prepared) (levels_of self.old) newest }
         ensures gone { gone_of self.new ≡ deleted_of prepared }
         ensures follows { (root : Root) → root.next_number ≡ next_of self.old → root.next_location ≡ location_of self.old → HasContent [] (memory_of self.old).content → Follows self.new root [] }

@@ -4,7 +4,7 @@ ghost use Rattle.std.specs.List.{All};
 ghost use Rattle.alta_codec.specs.declared.location.TheConstants.{TOP};
 ghost use Rattle.alta_content.specs.Rows.{AreDocuments, end_of as end_in};
 ghost use Rattle.alta_content.specs.declared.document.DocRow.{DocRow};
-ghost use Rattle.alta_images.specs.Opened.{rows_in};
+ghost use Rattle.alta_images.specs.Opened.{table_rows};
 ghost use Rattle.alta_catalog.specs.Finding.{AreOther, FollowOn};
 
 use alta_codec::Loc;
@@ -29,8 +29,8 @@ pub(crate) fn find<'a>(
     number: u64,
 ) -> Option<&'a DocRow>
     requires { FollowOn first memory.now.content.documents }
-    ensures some { IfSome result (λ row. Contains (rows_in levels.now ++ memory.now.content.documents) row.now × (row.now.number ≡ number)) }
-    ensures none { IfNone result (AreOther number (rows_in levels.now ++ memory.now.content.documents)) }
+    ensures some { IfSome result (λ row. Contains (table_rows levels.now ++ memory.now.content.documents) row.now × (row.now.number ≡ number)) }
+    ensures none { IfNone result (AreOther number (table_rows levels.now ++ memory.now.content.documents)) }
 {
     match index_of(first, number, memory.len()) {
         Some(index) => Some(memory.row(index)),
@@ -53,8 +53,8 @@ fn index_of(first: u64, number: u64, rows: usize) -> Option<usize>
 
 // The row with this number, of the first level that has one.
 fn level_row(levels: &[Table], number: u64) -> Option<&DocRow>
-    ensures some { IfSome result (λ row. Contains (rows_in levels.now) row.now × (row.now.number ≡ number)) }
-    ensures none { IfNone result (AreOther number (rows_in levels.now)) }
+    ensures some { IfSome result (λ row. Contains (table_rows levels.now) row.now × (row.now.number ≡ number)) }
+    ensures none { IfNone result (AreOther number (table_rows levels.now)) }
 {
     for level in levels {
         match row_in(level.documents(), number) {

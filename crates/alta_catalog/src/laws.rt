@@ -6,10 +6,10 @@ ghost use Rattle.alta_content.specs.declared.document.DocRow.{DocRow};
 ghost use Rattle.alta_images.specs.Entries.{IsRefusedAt, after_entry};
 ghost use Rattle.alta_images.specs.Known.{known_of, replayed};
 ghost use Rattle.alta_images.specs.Levels.{Level};
-ghost use Rattle.alta_images.specs.Opened.{IsNamed, IsOpened, Opened, known_at, rows_in};
+ghost use Rattle.alta_images.specs.Opened.{IsNamed, IsOpened, Opened, known_at, table_rows};
 ghost use Rattle.alta_images.specs.Standing.{Means, StandsFor, view_of};
 ghost use Rattle.alta_images.specs.Switching.{with_entry};
-ghost use Rattle.alta_images.specs.Work.{gone, gone_among, newest, rows_in as level_rows};
+ghost use Rattle.alta_images.specs.Work.{gone, gone_among, newest, level_rows};
 ghost use Rattle.alta_journal.specs.declared.entry.Entry.{Entry};
 ghost use Rattle.alta_journal.specs.declared.placed.Placed.{Placed};
 ghost use Rattle.alta_memlevel.specs.Added.{Added};
@@ -62,15 +62,15 @@ pub fn a_catalog_knows_one()
 /// begin at or behind it.
 pub fn what_is_gone()
     ensures gone { (c : Catalog) → (s : State) → (o : Opened) → (image : List ℕ) → (levels : List Level) → IsOpened o image → (may : MayBe s o) → KnowsBy c may.starts.olds s → Follows c o.root o.entries
-        → levels_of c ≡ o.levels → level_rows levels ≡ rows_in o.levels → gone_of c ≡ gone (view_of o levels) }
+        → levels_of c ≡ o.levels → level_rows levels ≡ table_rows o.levels → gone_of c ≡ gone (view_of o levels) }
     ensures among { (c : Catalog) → (s : State) → (o : Opened) → (image : List ℕ) → (levels : List Level) → IsOpened o image → (may : MayBe s o) → KnowsBy c may.starts.olds s → Follows c o.root o.entries
-        → levels_of c ≡ o.levels → level_rows levels ≡ rows_in o.levels → (rows : List DocRow) → All (Contains (level_rows levels ++ map (λ (a : Added). a.row) (newest (view_of o levels)))) rows
+        → levels_of c ≡ o.levels → level_rows levels ≡ table_rows o.levels → (rows : List DocRow) → All (Contains (level_rows levels ++ map (λ (a : Added). a.row) (newest (view_of o levels)))) rows
         → ends_in (gone_of c) rows ≡ gone_among (view_of o levels) rows }
-    ensures below { (o : Opened) → (image : List ℕ) → IsOpened o image → All (λ (row : DocRow). end_of row < o.root.next_location) (rows_in o.levels) }
+    ensures below { (o : Opened) → (image : List ℕ) → IsOpened o image → All (λ (row : DocRow). end_of row < o.root.next_location) (table_rows o.levels) }
     ensures behind { (c : Catalog) → (root : Root) → (entries : List Entry) → Follows c root entries → All (λ (row : DocRow). root.next_location ≤ row.first) (memory_of c).content.documents }
 {}
 
 /// Some of the rows of levels and of newest documents, in order, rise without meeting.
 pub fn some_rows_rise()
-    ensures { (c : Catalog) → (s : State) → (kept : DocRow → Bool) → Knows c s → RowsRise (filter kept (rows_in (levels_of c) ++ (memory_of c).content.documents)) }
+    ensures { (c : Catalog) → (s : State) → (kept : DocRow → Bool) → Knows c s → RowsRise (filter kept (table_rows (levels_of c) ++ (memory_of c).content.documents)) }
 {}

@@ -3,7 +3,7 @@ ghost use Rattle.std.specs.Prelude.{◌≡◌, ◌+◌, ◌++◌, ◌<◌, ◌�
 ghost use Rattle.std.specs.Vec.{vec_capacity, vec_len};
 ghost use Rattle.alta_codec.specs.Rising.{IsRising};
 ghost use Rattle.alta_content.specs.Rows.{RowsRise};
-ghost use Rattle.alta_images.specs.Opened.{rows_in};
+ghost use Rattle.alta_images.specs.Opened.{table_rows};
 ghost use Rattle.alta_catalog.specs.Replacing.{deleted_of, ends_in, is_end, some_in};
 ghost use Rattle.alta_table.specs.Tables.{Tables};
 
@@ -54,8 +54,8 @@ pub(crate) fn ends_to_come(
     newest: &[DocRow],
 ) -> Result<Vec<Loc>, AllocError>
     requires rising { IsRising gone.now }
-    requires rows { RowsRise (oldest.now ++ (rows_in levels.now ++ newest.now)) }
-    ensures value { IfOk result (λ ends. ends.items ≡ ends_in gone.now (oldest.now ++ (rows_in levels.now ++ newest.now))) }
+    requires rows { RowsRise (oldest.now ++ (table_rows levels.now ++ newest.now)) }
+    ensures value { IfOk result (λ ends. ends.items ≡ ends_in gone.now (oldest.now ++ (table_rows levels.now ++ newest.now))) }
     ensures rising { IfOk result (λ ends. IsRising ends.items) }
 {
     let mut ends = Vec::new(alloc);
@@ -69,15 +69,15 @@ pub(crate) fn ends_to_come(
 
 // Whether a row to come ends there.
 fn comes(oldest: &[DocRow], levels: &[Table], newest: &[DocRow], end: Loc) -> bool
-    requires { RowsRise (oldest.now ++ (rows_in levels.now ++ newest.now)) }
-    ensures { result ≡ is_end (oldest.now ++ (rows_in levels.now ++ newest.now)) end }
+    requires { RowsRise (oldest.now ++ (table_rows levels.now ++ newest.now)) }
+    ensures { result ≡ is_end (oldest.now ++ (table_rows levels.now ++ newest.now)) end }
 {
     ends_here(oldest, end) || ends_in_level(levels, end) || ends_here(newest, end)
 }
 
 // Whether a row of a level ends there.
 fn ends_in_level(levels: &[Table], end: Loc) -> bool
-    ensures { result ≡ is_end (rows_in levels.now) end }
+    ensures { result ≡ is_end (table_rows levels.now) end }
 {
     for level in levels {
         if ends_here(level.documents(), end) {

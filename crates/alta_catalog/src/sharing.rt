@@ -3,7 +3,7 @@ ghost use Rattle.std.specs.Prelude.{◌≡◌, ◌++◌, map, IfOk};
 ghost use Rattle.alta_codec.specs.Rising.{IsRising};
 ghost use Rattle.alta_content.specs.Rows.{RowsRise, end_of};
 ghost use Rattle.alta_catalog.specs.Knowing.{documents_of};
-ghost use Rattle.alta_rows.specs.All.{joined, rows_in};
+ghost use Rattle.alta_rows.specs.All.{rows_of_levels, shared_rows};
 
 use alta_content::DocRow;
 use alta_rows::LevelRows;
@@ -13,7 +13,7 @@ use std::rc::Rc;
 
 /// The rows of levels, each with a name in memory of its own.
 pub(crate) fn rows_of(alloc: Global, levels: &[Table]) -> Result<Vec<Rc<LevelRows>>, AllocError>
-    ensures { IfOk result (λ rows. map rows_in rows.items ≡ map documents_of levels.now) }
+    ensures { IfOk result (λ rows. map shared_rows rows.items ≡ map documents_of levels.now) }
 {
     let mut rows = Vec::with_capacity(alloc, levels.len())?;
     for level in levels {
@@ -25,7 +25,7 @@ pub(crate) fn rows_of(alloc: Global, levels: &[Table]) -> Result<Vec<Rc<LevelRow
 /// The rows of a level, copied.
 pub(crate) fn level_rows(alloc: Global, rows: &[DocRow]) -> Result<Rc<LevelRows>, AllocError>
     requires { RowsRise rows.now }
-    ensures { IfOk result (λ level. rows_in level ≡ rows.now) }
+    ensures { IfOk result (λ level. shared_rows level ≡ rows.now) }
 {
     let copies = copy_rows(alloc, rows)?;
     let level = LevelRows::new(alloc, copies)?;
@@ -61,7 +61,7 @@ pub(crate) fn share_runs(
     alloc: Global,
     runs: &[Rc<LevelRows>],
 ) -> Result<Vec<Rc<LevelRows>>, AllocError>
-    ensures { IfOk result (λ shared. map rows_in shared.items ≡ map rows_in runs.now) }
+    ensures { IfOk result (λ shared. map shared_rows shared.items ≡ map shared_rows runs.now) }
 {
     let mut shared = Vec::with_capacity(alloc, runs.len() + 1)?;
     for run in runs {
@@ -75,7 +75,7 @@ pub(crate) fn with_runs(
     runs: Vec<Rc<LevelRows>>,
     more: Vec<Rc<LevelRows>>,
 ) -> Result<Vec<Rc<LevelRows>>, AllocError>
-    ensures { IfOk result (λ all. joined (map rows_in all.items) ≡ joined (map rows_in runs.items) ++ joined (map rows_in more.items)) }
+    ensures { IfOk result (λ all. rows_of_levels (map shared_rows all.items) ≡ rows_of_levels (map shared_rows runs.items) ++ rows_of_levels (map shared_rows more.items)) }
 {
     let mut all = runs;
     for run in more {

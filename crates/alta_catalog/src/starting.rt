@@ -5,7 +5,7 @@ ghost use Rattle.alta_codec.specs.Rising.{IsRising};
 ghost use Rattle.alta_codec.specs.declared.location.TheConstants.{TOP};
 ghost use Rattle.alta_content.specs.Rows.{AreDocuments, end_of as end_in};
 ghost use Rattle.alta_content.specs.declared.document.DocRow.{DocRow};
-ghost use Rattle.alta_images.specs.Opened.{rows_in};
+ghost use Rattle.alta_images.specs.Opened.{table_rows};
 ghost use Rattle.alta_catalog.specs.Counting.{IsTally, cells_in};
 
 use crate::catalog::MARKS;
@@ -37,8 +37,8 @@ pub(crate) struct Tally {
 
 /// What is counted of the live documents of levels.
 pub(crate) fn tally_levels(levels: &[Table], gone: &Deletions) -> Tally
-    requires { cells_in (rows_in levels.now) < 2 ^ 64 }
-    ensures { IsTally gone.now (rows_in levels.now) result }
+    requires { cells_in (table_rows levels.now) < 2 ^ 64 }
+    ensures { IsTally gone.now (table_rows levels.now) result }
 {
     let mut tally = Tally {
         documents: 0,

@@ -12,7 +12,7 @@ use Rattle.std.proofs.lemmas.List.Folds.{list_any-append}
 use Rattle.alta_content.specs.Lists.{locations_of, terms_of}
 use Rattle.alta_content.specs.Rows.{end_of}
 use Rattle.alta_content.specs.TermList.{TermList}
-use Rattle.alta_memlevel.specs.Added.{Added, IsDocument, IsSpace, list_of, places_of}
+use Rattle.alta_memlevel.specs.Added.{Added, IsInSpace, IsSpace, list_of, places_of}
 use Rattle.alta_meta.specs.Cells.{cell_holds, cells_of, word_cell}
 use Rattle.alta_meta.specs.declared.document.Document.{Document}
 use Rattle.alta_images.specs.Levels.{cell_at, document_of, locations_from}
@@ -167,7 +167,7 @@ cells_are f first (c ∷ cs) each =
 abbrev pub AreSorted : Added → Type 0
 AreSorted a = All Sorted a.cells
 
-cell_is : (added : List Added) (a : Added) (p : ℕ) → IsSpace added → IsAlone added a → IsDocument a → AreSorted a → p < length a.cells → cell_at (content_of added).lists (a.row.first + p) ≡ get_or a.cells p []
+cell_is : (added : List Added) (a : Added) (p : ℕ) → IsSpace added → IsAlone added a → IsInSpace a → AreSorted a → p < length a.cells → cell_at (content_of added).lists (a.row.first + p) ≡ get_or a.cells p []
 cell_is added a p space alone_here document sorted inside =
     let content = content_has added space in
     let x = a.row.first + p in
@@ -178,16 +178,16 @@ cell_is added a p space alone_here document sorted inside =
 document_with : ℕ → List ℕ → List (List (List ℕ)) → Document
 document_with number name cells = record { number = number; name = name; cells = cells }
 
-document_is : (added : List Added) (a : Added) → IsSpace added → IsAlone added a → IsDocument a → AreSorted a → document_of (content_of added).lists a.row ≡ doc_of a
+document_is : (added : List Added) (a : Added) → IsSpace added → IsAlone added a → IsInSpace a → AreSorted a → document_of (content_of added).lists a.row ≡ doc_of a
 unfolding document_with
 document_is added a space alone_here document sorted =
     ap (document_with a.row.number a.row.name)
     (ap (λ n. map (cell_at (content_of added).lists) (locations_from a.row.first n)) document.counted
     ∙ cells_are (cell_at (content_of added).lists) a.row.first a.cells (λ p inside. cell_is added a p space alone_here document sorted inside))
 
-all_documents : (added : List Added) → IsSpace added → All IsDocument added
-all_documents [] space = All-nil IsDocument
-all_documents (a ∷ more) space = All-cons IsDocument a more space.0 (all_documents more space.3)
+all_documents : (added : List Added) → IsSpace added → All IsInSpace added
+all_documents [] space = All-nil IsInSpace
+all_documents (a ∷ more) space = All-cons IsInSpace a more space.0 (all_documents more space.3)
 
 map_same : (f g : Added → Document) (xs : List Added) → All (λ (a : Added). f a ≡ g a) xs → map f xs ≡ map g xs
 map_same f g [] all = refl
@@ -203,9 +203,9 @@ pub content_documents : (added : List Added) → IsSpace added → All AreSorted
 content_documents added space sorted =
     map_twice (document_of (content_of added).lists) added
     ∙ map_same (λ (a : Added). document_of (content_of added).lists a.row) doc_of added
-    (all_weaker (λ (a : Added). IsAlone added a × (IsDocument a × AreSorted a)) (λ (a : Added). document_of (content_of added).lists a.row ≡ doc_of a) added
+    (all_weaker (λ (a : Added). IsAlone added a × (IsInSpace a × AreSorted a)) (λ (a : Added). document_of (content_of added).lists a.row ≡ doc_of a) added
     (λ a all. document_is added a space all.0 all.1.0 all.1.1)
-    (all_both (IsAlone added) (λ (a : Added). IsDocument a × AreSorted a) added (alone added space) (all_both IsDocument AreSorted added (all_documents added space) sorted)))
+    (all_both (IsAlone added) (λ (a : Added). IsInSpace a × AreSorted a) added (alone added space) (all_both IsInSpace AreSorted added (all_documents added space) sorted)))
 
 -- ---- cells of a document are sorted
 

@@ -3,7 +3,7 @@ use Rattle.std.proofs.Common.{inl, ℕ, List, [], length, take, refl, ap, ◌∙
 use Rattle.std.proofs.lemmas.List.Elements.{All-nil, All-cons}
 use Rattle.alta_journal.specs.Entry.{MayBeRecorded}
 use Rattle.alta_level.specs.Segments.{IsSegment}
-use Rattle.alta_postings.specs.Deltas.{fault_from, first_fault, list_from, locations_of}
+use Rattle.alta_postings.specs.Deltas.{fault_from, first_fault, list_from, decoded_list}
 use Rattle.alta_root.specs.Places.{fields_at}
 use Rattle.alta_root.specs.Root.{body_of, IsSound, IsWord, no_extent}
 use Rattle.alta_root.specs.Slots.{Counts}
@@ -30,7 +30,7 @@ formatted_counts image is = record {
 }
 
 pub formatted_named : (image : List ℕ) → IsFormatted image → IsNamed empty_opened image
-unfolding deleted_in first_fault fault_from list_from locations_of
+unfolding deleted_in first_fault fault_from list_from decoded_list
 formatted_named image is = record {
   list = refl;
   tables = refl;

@@ -15,13 +15,13 @@ use Rattle.alta_postings.specs.Deltas.{stream_bytes}
 use Rattle.alta_root.specs.Root.{no_extent}
 use Rattle.alta_root.specs.Gaps.{IsFirstGap, IsLongestGap}
 use Rattle.alta_images.specs.Levels.{Level}
-use Rattle.alta_images.specs.Work.{Job, Coming, stays, anew, coming, newest_content, gone_among, is_merged, job_of, oldest_joined, with_oldest, whole_of, rows_in, Task, enters, flushes, merges, steps, fits}
+use Rattle.alta_images.specs.Work.{Job, Coming, stays, anew, coming, newest_content, gone_among, is_merged, job_of, oldest_joined, with_oldest, whole_of, level_rows, Task, enters, flushes, merges, steps, fits}
 use Rattle.alta_images.proofs.Tests.{by_test}
 use Rattle.alta_table.specs.Tables.{tables_bytes}
 use Rattle.alta_table.proofs.TableLaws.{length-tables_bytes}
 use Rattle.alta_images.specs.Chain.{◌>>=◌}
 use Rattle.alta_root.specs.Gaps.{first_gap, greatest_gap}
-use Rattle.alta_images.specs.Holding.{Holding, taken_by}
+use Rattle.alta_images.specs.Holding.{Holding, taken_by_held}
 use Rattle.alta_images.specs.Working.{Full, IsWanting, Placed, in_front, placed, placed_at, placed_levels, placed_list, held_then, switched, flushed, moved, entered, worked}
 use Rattle.alta_root.proofs.GapFunctions.{first_some, first_none, greatest_is}
 use Rattle.alta_images.proofs.KeptStates.{by_levels, by_entries, ok_is, err_ok}
@@ -154,46 +154,46 @@ list_full limit held taken deleted full e =
 
 -- ---- a switch, and work
 
-switched_full : (limit : ℕ) (held : Holding) (levels : List Coming) (job : Option Job) (full : Full) → switched limit held levels job ≡ Err full → IsWanting (taken_by held) limit full
-switched_full limit held levels job full e = by_placed (placed_levels limit (taken_by held) levels) refl e
+switched_full : (limit : ℕ) (held : Holding) (levels : List Coming) (job : Option Job) (full : Full) → switched limit held levels job ≡ Err full → IsWanting (taken_by_held held) limit full
+switched_full limit held levels job full e = by_placed (placed_levels limit (taken_by_held held) levels) refl e
   where
-    by_list : (now : Placed) → TakesMore (taken_by held) now.taken → (r : Result Extent Full) → placed_list limit held now.taken (gone_among held.view (rows_in now.levels)) ≡ r
-        → (r >>= λ list. Ok (held_then held now.levels (gone_among held.view (rows_in now.levels)) list job)) ≡ Err full → IsWanting (taken_by held) limit full
-    by_list now more (Ok list) is e = absurd (ok_err (held_then held now.levels (gone_among held.view (rows_in now.levels)) list job) full e)
+    by_list : (now : Placed) → TakesMore (taken_by_held held) now.taken → (r : Result Extent Full) → placed_list limit held now.taken (gone_among held.view (level_rows now.levels)) ≡ r
+        → (r >>= λ list. Ok (held_then held now.levels (gone_among held.view (level_rows now.levels)) list job)) ≡ Err full → IsWanting (taken_by_held held) limit full
+    by_list now more (Ok list) is e = absurd (ok_err (held_then held now.levels (gone_among held.view (level_rows now.levels)) list job) full e)
     by_list now more (Err other) is e =
-        let wanting = list_full limit held now.taken (gone_among held.view (rows_in now.levels)) full (is ∙ ap (λ (f : Full). Err f) (full_is {A = Holding} other full e)) in
+        let wanting = list_full limit held now.taken (gone_among held.view (level_rows now.levels)) full (is ∙ ap (λ (f : Full). Err f) (full_is {A = Holding} other full e)) in
         record {
           extra = more.extra ++ wanting.extra;
-          longest = subst (λ (es : List Extent). IsLongestGap es limit full.gap) (ap (λ (es : List Extent). es ++ wanting.extra) more.now_is ∙ append_assoc (taken_by held) more.extra wanting.extra) wanting.longest;
+          longest = subst (λ (es : List Extent). IsLongestGap es limit full.gap) (ap (λ (es : List Extent). es ++ wanting.extra) more.now_is ∙ append_assoc (taken_by_held held) more.extra wanting.extra) wanting.longest;
           short = wanting.short;
         }
 
-    by_placed : (r : Result Placed Full) → placed_levels limit (taken_by held) levels ≡ r
-        → (r >>= λ now. placed_list limit held now.taken (gone_among held.view (rows_in now.levels)) >>= λ list. Ok (held_then held now.levels (gone_among held.view (rows_in now.levels)) list job)) ≡ Err full
-        → IsWanting (taken_by held) limit full
-    by_placed (Ok now) is e = by_list now (levels_taken limit (taken_by held) levels now is) (placed_list limit held now.taken (gone_among held.view (rows_in now.levels))) refl e
-    by_placed (Err other) is e = levels_full limit (taken_by held) levels full (is ∙ ap (λ (f : Full). Err f) (full_is {A = Holding} other full e))
+    by_placed : (r : Result Placed Full) → placed_levels limit (taken_by_held held) levels ≡ r
+        → (r >>= λ now. placed_list limit held now.taken (gone_among held.view (level_rows now.levels)) >>= λ list. Ok (held_then held now.levels (gone_among held.view (level_rows now.levels)) list job)) ≡ Err full
+        → IsWanting (taken_by_held held) limit full
+    by_placed (Ok now) is e = by_list now (levels_taken limit (taken_by_held held) levels now is) (placed_list limit held now.taken (gone_among held.view (level_rows now.levels))) refl e
+    by_placed (Err other) is e = levels_full limit (taken_by_held held) levels full (is ∙ ap (λ (f : Full). Err f) (full_is {A = Holding} other full e))
 
-flush_full : (limit : ℕ) (held : Holding) (full : Full) → flushed limit held ≡ Err full → IsWanting (taken_by held) limit full
+flush_full : (limit : ℕ) (held : Holding) (full : Full) → flushed limit held ≡ Err full → IsWanting (taken_by_held held) limit full
 flush_full limit held full e =
     by_test (length held.view.entries == 0) (λ none. absurd (ok_err held full (sym (ap (by_entries limit held) none) ∙ e)))
     (λ some. by_test (length held.view.levels == 16 && nat_le 1 (length (newest_content held.view).documents))
     (λ many. switched_full limit held (with_oldest (oldest_joined held.job held.view) held.view) None full (sym (ap (by_entries limit held) some ∙ ap (by_levels limit held) many) ∙ e))
     (λ few. switched_full limit held (map stays held.view.levels ++ coming (newest_content held.view)) held.job full (sym (ap (by_entries limit held) some ∙ ap (by_levels limit held) few) ∙ e)))
 
-move_full : (limit : ℕ) (held : Holding) (n : ℕ) (job : Option Job) (full : Full) → moved limit held n job ≡ Err full → IsWanting (taken_by held) limit full
+move_full : (limit : ℕ) (held : Holding) (n : ℕ) (job : Option Job) (full : Full) → moved limit held n job ≡ Err full → IsWanting (taken_by_held held) limit full
 move_full limit held n None full e = absurd (ok_err held full e)
 move_full limit held n (Some job) full e =
     by_test (nat_le (length (terms_in (job.older ∷ job.newer ∷ []))) (job.merged + n))
     (λ ends. switched_full limit held (with_oldest (whole_of job) held.view) None full (sym (ap (by_terms limit held n job) ends) ∙ e))
     (λ goes_on. absurd (ok_err (record { view = held.view; list = held.list; job = Some (record { older = job.older; newer = job.newer; dead = job.dead; merged = job.merged + n }) }) full (sym (ap (by_terms limit held n job) goes_on) ∙ e)))
 
-pub work_full : (limit : ℕ) (held : Holding) (task : Task) (full : Full) → worked limit held task ≡ Err full → IsWanting (taken_by held) limit full
+pub work_full : (limit : ℕ) (held : Holding) (task : Task) (full : Full) → worked limit held task ≡ Err full → IsWanting (taken_by_held held) limit full
 work_full limit held (enters entry) full e =
     by_test (fits held.view.entries entry) (λ room. absurd (ok_err (entered held entry) full (sym (ap (by_room limit held entry) room) ∙ e)))
     (λ none. by_flush (flushed limit held) refl (sym (ap (by_room limit held entry) none) ∙ e))
   where
-    by_flush : (r : Result Holding Full) → flushed limit held ≡ r → (r >>= λ then. Ok (entered then entry)) ≡ Err full → IsWanting (taken_by held) limit full
+    by_flush : (r : Result Holding Full) → flushed limit held ≡ r → (r >>= λ then. Ok (entered then entry)) ≡ Err full → IsWanting (taken_by_held held) limit full
     by_flush (Ok middle) is e = absurd (ok_err (entered middle entry) full e)
     by_flush (Err other) is e = flush_full limit held full (is ∙ e)
 work_full limit held flushes full e = flush_full limit held full e

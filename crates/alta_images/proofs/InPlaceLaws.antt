@@ -7,14 +7,14 @@ use Rattle.std.proofs.lemmas.List.Folds.{flat_map-map}
 use Rattle.alta_content.specs.declared.content.Content.{Content}
 use Rattle.alta_memlevel.specs.Added.{Added}
 use Rattle.alta_images.specs.Views.{View, state_of}
-use Rattle.alta_images.specs.Work.{Job, Coming, coming, newest, newest_content, gone, gone_among, is_merged, job_of, oldest_joined, with_oldest, whole_of, rows_in as level_rows, steps}
+use Rattle.alta_images.specs.Work.{Job, Coming, coming, newest, newest_content, gone, gone_among, is_merged, job_of, oldest_joined, with_oldest, whole_of, level_rows, steps}
 use Rattle.alta_images.proofs.Tests.{by_test}
 use Rattle.alta_content.specs.Rows.{end_of}
 use Rattle.alta_table.specs.Tables.{Tables}
 use Rattle.alta_content.specs.declared.document.DocRow.{DocRow}
-use Rattle.alta_images.specs.Holding.{Holding, IsHeld, IsSpaced, all_rows, taken_by}
-use Rattle.alta_images.specs.Opened.{Opened, rows_in}
-use Rattle.alta_images.specs.Ordered.{AreBelow, RowsRise}
+use Rattle.alta_images.specs.Holding.{Holding, IsHeld, IsSpaced, all_rows, taken_by_held}
+use Rattle.alta_images.specs.Opened.{Opened, table_rows}
+use Rattle.alta_images.specs.Ordered.{AreBelow, RowsPrecede}
 use Rattle.alta_images.specs.Standing.{tables_by, view_of}
 use Rattle.alta_images.specs.Switching.{InPlace, IsInPlace, IsPut, IsWritten, MayStand}
 use Rattle.alta_images.specs.Working.{switched, flushed, merged, moved, worked, content_to_come, rows_of, AreJoins, IsJoin, oldest_contents, all_contents}
@@ -38,20 +38,20 @@ all_low view spaced positive =
     (All-map P (λ (a : Added). a.row) (newest view) (added_low view.next view.location view.entries positive))
 
 -- a switch whose contents have rows that rise and lie below
-switch_in_place : (limit : ℕ) (held : Holding) (levels : List Coming) (job : Option Job) (then : Holding) → switched limit held levels job ≡ Ok then → RowsRise (rows_of (map content_to_come levels))
+switch_in_place : (limit : ℕ) (held : Holding) (levels : List Coming) (job : Option Job) (then : Holding) → switched limit held levels job ≡ Ok then → RowsPrecede (rows_of (map content_to_come levels))
     → All (LiesBelow (held.view.next + length (newest held.view)) (held.view.location + cells_in (newest held.view))) (rows_of (map content_to_come levels)) → IsInPlace then.view
 switch_in_place limit held levels job then e rise below root number location =
     let view = held.view in
     let is = switched_is limit held levels job then e in
     let now = is.now.levels in
-    let rows : rows_in (map tables_by now) ≡ level_rows now = flat_map-map (λ (t : Tables). t.documents) tables_by now in
-    let all : rows_in (map tables_by now) ≡ rows_of (map content_to_come levels) = rows ∙ sym (rows_by_levels now) ∙ ap rows_of (placed_contents limit (taken_by held) levels is.now is.placed_is) in
+    let rows : table_rows (map tables_by now) ≡ level_rows now = flat_map-map (λ (t : Tables). t.documents) tables_by now in
+    let all : table_rows (map tables_by now) ≡ rows_of (map content_to_come levels) = rows ∙ sym (rows_by_levels now) ∙ ap rows_of (placed_contents limit (taken_by_held held) levels is.now is.placed_is) in
     let next : root.next_number ≡ view.next + length (newest view) = number ∙ ap (λ (h : Holding). h.view.next) is.then_is in
     let place : root.next_location ≡ view.location + cells_in (newest view) = location ∙ ap (λ (h : Holding). h.view.location) is.then_is in
-    let deleted : gone_among view (rows_in (map tables_by now)) ≡ then.view.deleted = ap (gone_among view) rows ∙ ap (λ (h : Holding). h.view.deleted) (sym is.then_is) in
+    let deleted : gone_among view (table_rows (map tables_by now)) ≡ then.view.deleted = ap (gone_among view) rows ∙ ap (λ (h : Holding). h.view.deleted) (sym is.then_is) in
     subst (InPlace root then.view.deleted) (ap (λ (h : Holding). map tables_by h.view.levels) (sym is.then_is))
     (subst (λ (ds : List ℕ). InPlace root ds (map tables_by now)) deleted (record {
-      rise = subst RowsRise (sym all) rise;
+      rise = subst RowsPrecede (sym all) rise;
       below =
           subst (AreBelow root) (sym all)
           (all_weaker (LiesBelow (view.next + length (newest view)) (view.location + cells_in (newest view))) (λ (row : DocRow). (row.number < root.next_number) × (end_of row < root.next_location)) (rows_of (map content_to_come levels))
@@ -72,7 +72,7 @@ merge_in_place limit held then c spaced positive is e =
     let P : DocRow → Type 0 = LiesBelow (view.next + length (newest view)) (view.location + cells_in (newest view)) in
     let rows : rows_of (map content_to_come (coming c)) ≡ filter is.keeps (all_rows view) =
     coming_rows c ∙ is.rows ∙ ap (filter is.keeps) (rows_append (contents_of view.levels) (content_of (newest view)) ∙ ap (λ (rs : List DocRow). rs ++ map (λ (a : Added). a.row) (newest view)) (rows_by_levels view.levels)) in
-    switch_in_place limit held (coming c) None then e (subst RowsRise (sym rows) (rise_left is.keeps (all_rows view) spaced.rise)) (subst (All P) (sym rows) (All-filter is.keeps P (all_rows view) (all_low view spaced positive)))
+    switch_in_place limit held (coming c) None then e (subst RowsPrecede (sym rows) (rise_left is.keeps (all_rows view) spaced.rise)) (subst (All P) (sym rows) (All-filter is.keeps P (all_rows view) (all_low view spaced positive)))
 
 -- ---- work
 

@@ -13,11 +13,11 @@ use Rattle.alta_content.proofs.Outside.{filter_alike}
 use Rattle.alta_meta.specs.declared.document.Document.{Document}
 use Rattle.alta_images.specs.Levels.{Level, document_of, live_rows}
 use Rattle.alta_images.specs.Views.{View, rooted, state_of}
-use Rattle.alta_images.specs.Work.{Job, stays, anew, coming, newest, newest_content, gone, gone_among, is_gone, rows_in}
+use Rattle.alta_images.specs.Work.{Job, stays, anew, coming, newest, newest_content, gone, gone_among, is_gone, level_rows}
 use Rattle.alta_images.proofs.Tests.{by_test, filter_keep, filter_drop}
 use Rattle.alta_content.specs.declared.document.DocRow.{DocRow}
 use Rattle.alta_images.specs.Holding.{Holding, IsSpaced, all_rows}
-use Rattle.alta_images.specs.Ordered.{Precedes, RowsRise}
+use Rattle.alta_images.specs.Ordered.{Precedes, RowsPrecede}
 use Rattle.alta_images.specs.Working.{switched, content_to_come, rows_of, documents_in, documents_left, IsJoin}
 use Rattle.alta_images.proofs.CellLaws.{doc_of, content_documents}
 use Rattle.alta_images.proofs.KnownLaws.{all_weaker, all_both}
@@ -37,7 +37,7 @@ alike ends others (c ∷ cs) same =
     ∙ ap (λ (ds : List Document). documents_in others c ++ ds) (alike ends others cs (all_right P c.documents (rows_of cs) same))
 
 -- contents whose rows rise, and are gone where their end is one of the gone
-left_is : (view : View) (cs : List Content) → RowsRise (rows_of cs) → All IsFilled (rows_of cs) → AreGone view (gone view) (rows_of cs) → documents_left view cs ≡ flat_map (documents_in (gone view)) cs
+left_is : (view : View) (cs : List Content) → RowsPrecede (rows_of cs) → All IsFilled (rows_of cs) → AreGone view (gone view) (rows_of cs) → documents_left view cs ≡ flat_map (documents_in (gone view)) cs
 left_is view cs rise filled are =
     let ends = gone_among view (rows_of cs) in
     alike ends (gone view) cs
@@ -52,12 +52,12 @@ all_front P p xs ys all = All-append P (filter p xs) ys (All-filter p P xs (all_
 all_behind : {X : Type 0} (P : X → Type 0) (p : X → Bool) (xs ys : List X) → All P (xs ++ ys) → All P (xs ++ filter p ys)
 all_behind P p xs ys all = All-append P xs (filter p ys) (all_left P xs ys all) (All-filter p P ys (all_right P xs ys all))
 
-rise_front : (p : DocRow → Bool) (xs ys : List DocRow) → RowsRise (xs ++ ys) → RowsRise (filter p xs ++ ys)
+rise_front : (p : DocRow → Bool) (xs ys : List DocRow) → RowsPrecede (xs ++ ys) → RowsPrecede (filter p xs ++ ys)
 rise_front p [] ys rise = rise
 rise_front p (x ∷ xs) ys rise =
     by_test (p x)
-    (λ keeps. subst (λ (rs : List DocRow). RowsRise (rs ++ ys)) (sym (filter_keep p x xs keeps)) (all_front (Precedes x) p xs ys rise.0, rise_front p xs ys rise.1))
-    (λ drops. subst (λ (rs : List DocRow). RowsRise (rs ++ ys)) (sym (filter_drop p x xs drops)) (rise_front p xs ys rise.1))
+    (λ keeps. subst (λ (rs : List DocRow). RowsPrecede (rs ++ ys)) (sym (filter_keep p x xs keeps)) (all_front (Precedes x) p xs ys rise.0, rise_front p xs ys rise.1))
+    (λ drops. subst (λ (rs : List DocRow). RowsPrecede (rs ++ ys)) (sym (filter_drop p x xs drops)) (rise_front p xs ys rise.1))
 
 -- ---- a content that comes, if it has rows
 
@@ -92,43 +92,43 @@ module _ (view : View) (spaced : IsSpaced view) (oldest rest : List Level) (leve
       ∙ ap (λ (xs : List X). xs ++ f (map content_to_come (coming (newest_content view))))
       (ap f (map-append content_to_come (coming c) (map stays rest) ∙ ap (λ (cs : List Content). map content_to_come (coming c) ++ cs) (stay_contents rest)) ∙ apart (map content_to_come (coming c)) (contents_of rest))
 
-  now_rows : rows_of now ≡ filter is.keeps (rows_in oldest) ++ rows_in rest ++ filter live news
+  now_rows : rows_of now ≡ filter is.keeps (level_rows oldest) ++ level_rows rest ++ filter live news
   unfolding live news
   now_rows =
       split rows_of (λ xs ys. flat_map-append (λ (c : Content). c.documents) xs ys)
       ∙ ap (λ (rs : List DocRow). rs ++ rows_of (contents_of rest) ++ rows_of (map content_to_come (coming (newest_content view)))) (coming_rows c ∙ is.rows ∙ ap (filter is.keeps) (rows_by_levels oldest))
-      ∙ ap (λ (rs : List DocRow). filter is.keeps (rows_in oldest) ++ rs ++ rows_of (map content_to_come (coming (newest_content view)))) (rows_by_levels rest)
-      ∙ ap (λ (rs : List DocRow). filter is.keeps (rows_in oldest) ++ rows_in rest ++ rs) (coming_rows (newest_content view) ∙ live_rows_are view spaced)
+      ∙ ap (λ (rs : List DocRow). filter is.keeps (level_rows oldest) ++ rs ++ rows_of (map content_to_come (coming (newest_content view)))) (rows_by_levels rest)
+      ∙ ap (λ (rs : List DocRow). filter is.keeps (level_rows oldest) ++ level_rows rest ++ rs) (coming_rows (newest_content view) ∙ live_rows_are view spaced)
 
-  all_are : all_rows view ≡ rows_in oldest ++ (rows_in rest ++ news)
+  all_are : all_rows view ≡ level_rows oldest ++ (level_rows rest ++ news)
   unfolding news
   all_are =
-      ap (λ (ls : List Level). rows_in ls ++ map (λ (a : Added). a.row) (newest view)) levels
+      ap (λ (ls : List Level). level_rows ls ++ map (λ (a : Added). a.row) (newest view)) levels
       ∙ ap (λ (rs : List DocRow). rs ++ map (λ (a : Added). a.row) (newest view)) (flat_map-append (λ (l : Level). l.content.documents) oldest rest)
-      ∙ append_assoc (rows_in oldest) (rows_in rest) (map (λ (a : Added). a.row) (newest view))
+      ∙ append_assoc (level_rows oldest) (level_rows rest) (map (λ (a : Added). a.row) (newest view))
 
-  now_are : filter is.keeps (rows_in oldest) ++ (rows_in rest ++ filter live news) ≡ rows_of now
-  now_are = sym (append_assoc (filter is.keeps (rows_in oldest)) (rows_in rest) (filter live news)) ∙ sym now_rows
+  now_are : filter is.keeps (level_rows oldest) ++ (level_rows rest ++ filter live news) ≡ rows_of now
+  now_are = sym (append_assoc (filter is.keeps (level_rows oldest)) (level_rows rest) (filter live news)) ∙ sym now_rows
 
   -- what each of all rows has each of these has
   pub all_now : (P : DocRow → Type 0) → All P (all_rows view) → All P (rows_of now)
   all_now P all =
-      let here : All P (rows_in oldest ++ (rows_in rest ++ news)) = subst (All P) all_are all in
+      let here : All P (level_rows oldest ++ (level_rows rest ++ news)) = subst (All P) all_are all in
       subst (All P) now_are
-      (All-append P (filter is.keeps (rows_in oldest)) (rows_in rest ++ filter live news) (All-filter is.keeps P (rows_in oldest) (all_left P (rows_in oldest) (rows_in rest ++ news) here))
-      (all_behind P live (rows_in rest) news (all_right P (rows_in oldest) (rows_in rest ++ news) here)))
+      (All-append P (filter is.keeps (level_rows oldest)) (level_rows rest ++ filter live news) (All-filter is.keeps P (level_rows oldest) (all_left P (level_rows oldest) (level_rows rest ++ news) here))
+      (all_behind P live (level_rows rest) news (all_right P (level_rows oldest) (level_rows rest ++ news) here)))
 
-  pub rise_now : RowsRise (rows_of now)
+  pub rise_now : RowsPrecede (rows_of now)
   rise_now =
-      let here : RowsRise (rows_in oldest ++ (rows_in rest ++ news)) = subst RowsRise all_are spaced.rise in
-      let fewer : RowsRise (rows_in oldest ++ (rows_in rest ++ filter live news)) =
-      subst RowsRise (append_assoc (rows_in oldest) (rows_in rest) (filter live news)) (rise_some live (rows_in oldest ++ rows_in rest) news (subst RowsRise (sym (append_assoc (rows_in oldest) (rows_in rest) news)) here)) in
-      subst RowsRise now_are (rise_front is.keeps (rows_in oldest) (rows_in rest ++ filter live news) fewer)
+      let here : RowsPrecede (level_rows oldest ++ (level_rows rest ++ news)) = subst RowsPrecede all_are spaced.rise in
+      let fewer : RowsPrecede (level_rows oldest ++ (level_rows rest ++ filter live news)) =
+      subst RowsPrecede (append_assoc (level_rows oldest) (level_rows rest) (filter live news)) (rise_some live (level_rows oldest ++ level_rows rest) news (subst RowsPrecede (sym (append_assoc (level_rows oldest) (level_rows rest) news)) here)) in
+      subst RowsPrecede now_are (rise_front is.keeps (level_rows oldest) (level_rows rest ++ filter live news) fewer)
 
   flush_are : AreGone view (gone view) (rows_of (contents_of view.levels ++ newest_content view ∷ []))
   flush_are =
       subst (AreGone view (gone view)) (sym (flushing_rows view spaced))
-      (all_behind (λ (r : DocRow). ends_among (gone view) r ≡ is_gone view r) (λ (r : DocRow). not (ends_among (gone view) r)) (rows_in view.levels) (map (λ (a : Added). a.row) (newest view)) (gone_are view spaced))
+      (all_behind (λ (r : DocRow). ends_among (gone view) r ≡ is_gone view r) (λ (r : DocRow). not (ends_among (gone view) r)) (level_rows view.levels) (map (λ (a : Added). a.row) (newest view)) (gone_are view spaced))
 
   now_documents : flat_map (documents_in (gone view)) now ≡ (state_of view).documents
   now_documents =
@@ -170,7 +170,7 @@ all_left_documents view spaced =
     ∙ ap (λ (ds : List Document). flat_map (documents_in G) (contents_of view.levels) ++ ds) (append-nil (documents_in G (content_of (newest view))) ∙ newest_all view spaced)
     ∙ ap (λ (ds : List Document). ds ++ filter (stay view.entries) (map doc_of (newest view)))
     (contents_kept view G (contents_of view.levels)
-    (subst (AreGone view G) (sym (rows_by_levels view.levels)) (all_left (λ (r : DocRow). ends_among G r ≡ is_gone view r) (rows_in view.levels) (map (λ (a : Added). a.row) (newest view)) (gone_are view spaced)))
+    (subst (AreGone view G) (sym (rows_by_levels view.levels)) (all_left (λ (r : DocRow). ends_among G r ≡ is_gone view r) (level_rows view.levels) (map (λ (a : Added). a.row) (newest view)) (gone_are view spaced)))
     ∙ ap (filter (stay view.entries)) (flat_map-map (documents_in view.deleted) (λ (l : Level). l.content) view.levels))
     ∙ sym (filter-append (stay view.entries) (rooted view).documents (map doc_of (newest view)))
     ∙ sym (after_documents (rooted view) view.entries view.location spaced.numbers spaced.allowed)
@@ -180,7 +180,7 @@ pub merged_left : (view : View) (c : Content) → IsSpaced view → IsJoin view 
 merged_left view c spaced is =
     let rows : rows_of (map content_to_come (coming c)) ≡ filter is.keeps (all_rows view) =
     coming_rows c ∙ is.rows ∙ ap (filter is.keeps) (rows_append (contents_of view.levels) (content_of (newest view)) ∙ ap (λ (rs : List DocRow). rs ++ map (λ (a : Added). a.row) (newest view)) (rows_by_levels view.levels)) in
-    left_is view (map content_to_come (coming c)) (subst RowsRise (sym rows) (rise_left is.keeps (all_rows view) spaced.rise)) (subst (All IsFilled) (sym rows) (All-filter is.keeps IsFilled (all_rows view) spaced.filled))
+    left_is view (map content_to_come (coming c)) (subst RowsPrecede (sym rows) (rise_left is.keeps (all_rows view) spaced.rise)) (subst (All IsFilled) (sym rows) (All-filter is.keeps IsFilled (all_rows view) spaced.filled))
     (subst (AreGone view (gone view)) (sym rows) (All-filter is.keeps (λ (r : DocRow). ends_among (gone view) r ≡ is_gone view r) (all_rows view) (gone_are view spaced)))
     ∙ coming_documents (gone view) c ∙ is.documents ∙ all_left_documents view spaced
 

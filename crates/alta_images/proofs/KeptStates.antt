@@ -21,12 +21,12 @@ use Rattle.alta_meta.specs.declared.document.State.{State}
 use Rattle.alta_images.specs.Entries.{AllowsAll, after_entry, after_entries}
 use Rattle.alta_images.specs.Levels.{Level, document_of, documents_of, live_rows}
 use Rattle.alta_images.specs.Views.{View, rooted, state_of}
-use Rattle.alta_images.specs.Work.{Job, Coming, stays, anew, coming, added_at, added_from, newest, leaves_out, is_gone, gone, gone_among, newest_content, rows_in, with_oldest, oldest_joined}
+use Rattle.alta_images.specs.Work.{Job, Coming, stays, anew, coming, added_at, added_from, newest, leaves_out, is_gone, gone, gone_among, newest_content, level_rows, with_oldest, oldest_joined}
 use Rattle.alta_images.proofs.Tests.{by_test, filter_keep, filter_drop, equal_test, equal_from, apart_test, or_last, or_neither}
 use Rattle.alta_content.specs.declared.document.DocRow.{DocRow}
 use Rattle.alta_images.specs.Chain.{◌>>=◌}
-use Rattle.alta_images.specs.Holding.{Holding, taken_by, all_rows, IsSpaced}
-use Rattle.alta_images.specs.Ordered.{Precedes, RowsRise}
+use Rattle.alta_images.specs.Holding.{Holding, taken_by_held, all_rows, IsSpaced}
+use Rattle.alta_images.specs.Ordered.{Precedes, RowsPrecede}
 use Rattle.alta_images.specs.Working.{Full, Placed, in_front, placed, placed_levels, placed_list, held_then, switched, flushed, content_to_come, rows_of, documents_in}
 use Rattle.alta_images.proofs.CellLaws.{AreSorted, doc_of, content_documents, cells_sorted}
 use Rattle.alta_images.proofs.KnownLaws.{all_weaker, all_both}
@@ -173,12 +173,12 @@ one_among p front behind row before after =
 abbrev pub IsFilled : DocRow → Type 0
 IsFilled row = 1 ≤ row.cells
 
-rise_right : (xs ys : List DocRow) → RowsRise (xs ++ ys) → RowsRise ys
+rise_right : (xs ys : List DocRow) → RowsPrecede (xs ++ ys) → RowsPrecede ys
 rise_right [] ys rise = rise
 rise_right (x ∷ xs) ys rise = rise_right xs ys rise.1
 
 -- of rows that rise, each one's end is kept where it passes the test
-pub ends_kept : (p : DocRow → Bool) (front rows : List DocRow) → RowsRise (front ++ rows) → All IsFilled (front ++ rows) → All (λ (row : DocRow). ends_among (map end_of (filter p (front ++ rows))) row ≡ p row) rows
+pub ends_kept : (p : DocRow → Bool) (front rows : List DocRow) → RowsPrecede (front ++ rows) → All IsFilled (front ++ rows) → All (λ (row : DocRow). ends_among (map end_of (filter p (front ++ rows))) row ≡ p row) rows
 ends_kept p front [] rise filled = All-nil (λ (row : DocRow). ends_among (map end_of (filter p (front ++ []))) row ≡ p row)
 ends_kept p front (row ∷ rows) rise filled =
     let some : IsFilled row = All-head IsFilled row rows (all_right IsFilled front (row ∷ rows) filled) in
@@ -189,7 +189,7 @@ ends_kept p front (row ∷ rows) rise filled =
     (all_weaker (λ (r : DocRow). Precedes row r × IsFilled r) (λ (r : DocRow). end_of r ≢ end_of row) rows (λ r both e. omega (arith, both.0.1, both.1, e))
     (all_both (Precedes row) IsFilled rows (rise_right front (row ∷ rows) rise).0 (All-tail IsFilled row rows (all_right IsFilled front (row ∷ rows) filled)))))
     (subst (λ (rs : List DocRow). All (λ (r : DocRow). ends_among (map end_of (filter p rs)) r ≡ p r) rows) same
-    (ends_kept p (front ++ row ∷ []) rows (subst RowsRise (sym same) rise) (subst (All IsFilled) (sym same) filled)))
+    (ends_kept p (front ++ row ∷ []) rows (subst RowsPrecede (sym same) rise) (subst (All IsFilled) (sym same) filled)))
 
 -- ---- the levels
 
@@ -248,23 +248,23 @@ placed_contents limit taken (anew content ∷ more) now e =
 -- what a switch made
 pub record IsSwitched (limit : ℕ) (held : Holding) (levels : List Coming) (job : Option Job) (then : Holding) : Type 0 where
   pub now : Placed
-  pub placed_is : placed_levels limit (taken_by held) levels ≡ Ok now
+  pub placed_is : placed_levels limit (taken_by_held held) levels ≡ Ok now
   pub list : Extent
-  pub list_is : placed_list limit held now.taken (gone_among held.view (rows_in now.levels)) ≡ Ok list
-  pub then_is : then ≡ held_then held now.levels (gone_among held.view (rows_in now.levels)) list job
+  pub list_is : placed_list limit held now.taken (gone_among held.view (level_rows now.levels)) ≡ Ok list
+  pub then_is : then ≡ held_then held now.levels (gone_among held.view (level_rows now.levels)) list job
 
 pub switched_is : (limit : ℕ) (held : Holding) (levels : List Coming) (job : Option Job) (then : Holding) → switched limit held levels job ≡ Ok then → IsSwitched limit held levels job then
-switched_is limit held levels job then e = by_placed (placed_levels limit (taken_by held) levels) refl e
+switched_is limit held levels job then e = by_placed (placed_levels limit (taken_by_held held) levels) refl e
   where
-    by_list : (now : Placed) → placed_levels limit (taken_by held) levels ≡ Ok now → (r : Result Extent Full) → placed_list limit held now.taken (gone_among held.view (rows_in now.levels)) ≡ r
-        → (r >>= λ list. Ok (held_then held now.levels (gone_among held.view (rows_in now.levels)) list job)) ≡ Ok then → IsSwitched limit held levels job then
-    by_list now is (Ok list) list_is e = record { now = now; placed_is = is; list = list; list_is = list_is; then_is = sym (ok_is (held_then held now.levels (gone_among held.view (rows_in now.levels)) list job) then e) }
+    by_list : (now : Placed) → placed_levels limit (taken_by_held held) levels ≡ Ok now → (r : Result Extent Full) → placed_list limit held now.taken (gone_among held.view (level_rows now.levels)) ≡ r
+        → (r >>= λ list. Ok (held_then held now.levels (gone_among held.view (level_rows now.levels)) list job)) ≡ Ok then → IsSwitched limit held levels job then
+    by_list now is (Ok list) list_is e = record { now = now; placed_is = is; list = list; list_is = list_is; then_is = sym (ok_is (held_then held now.levels (gone_among held.view (level_rows now.levels)) list job) then e) }
     by_list now is (Err full) list_is e = absurd (err_ok then full e)
 
-    by_placed : (r : Result Placed Full) → placed_levels limit (taken_by held) levels ≡ r
-        → (r >>= λ now. placed_list limit held now.taken (gone_among held.view (rows_in now.levels)) >>= λ list. Ok (held_then held now.levels (gone_among held.view (rows_in now.levels)) list job)) ≡ Ok then
+    by_placed : (r : Result Placed Full) → placed_levels limit (taken_by_held held) levels ≡ r
+        → (r >>= λ now. placed_list limit held now.taken (gone_among held.view (level_rows now.levels)) >>= λ list. Ok (held_then held now.levels (gone_among held.view (level_rows now.levels)) list job)) ≡ Ok then
         → IsSwitched limit held levels job then
-    by_placed (Ok now) is e = by_list now is (placed_list limit held now.taken (gone_among held.view (rows_in now.levels))) refl e
+    by_placed (Ok now) is e = by_list now is (placed_list limit held now.taken (gone_among held.view (level_rows now.levels))) refl e
     by_placed (Err full) is e = absurd (err_ok then full e)
 
 state_with : ℕ → List Document → State
@@ -276,9 +276,9 @@ pub switch_keeps : (limit : ℕ) (held : Holding) (levels : List Coming) (job : 
 unfolding state_with
 switch_keeps limit held levels job then e same =
     let is = switched_is limit held levels job then e in
-    let contents : contents_of is.now.levels ≡ map content_to_come levels = placed_contents limit (taken_by held) levels is.now is.placed_is in
-    let rows : rows_in is.now.levels ≡ rows_of (map content_to_come levels) = sym (flat_map-map (λ (c : Content). c.documents) (λ (l : Level). l.content) is.now.levels) ∙ ap rows_of contents in
-    let ends : List ℕ = gone_among held.view (rows_in is.now.levels) in
+    let contents : contents_of is.now.levels ≡ map content_to_come levels = placed_contents limit (taken_by_held held) levels is.now is.placed_is in
+    let rows : level_rows is.now.levels ≡ rows_of (map content_to_come levels) = sym (flat_map-map (λ (c : Content). c.documents) (λ (l : Level). l.content) is.now.levels) ∙ ap rows_of contents in
+    let ends : List ℕ = gone_among held.view (level_rows is.now.levels) in
     ap (λ (h : Holding). state_of h.view) is.then_is
     ∙ ap (λ n. state_with n (flat_map (documents_of ends) is.now.levels)) (sym (after_next (rooted held.view) held.view.entries held.view.location))
     ∙ ap (state_with (state_of held.view).next)
@@ -311,13 +311,13 @@ space_left p (a ∷ more) space =
     (space.0, All-filter p (λ (b : Added). a.row.number < b.row.number) more space.1, All-filter p (λ (b : Added). end_of a.row < b.row.first) more space.2, space_left p more space.3))
     (λ drops. subst IsSpace (sym (filter_drop p a more drops)) (space_left p more space.3))
 
-pub rise_left : (p : DocRow → Bool) (rows : List DocRow) → RowsRise rows → RowsRise (filter p rows)
+pub rise_left : (p : DocRow → Bool) (rows : List DocRow) → RowsPrecede rows → RowsPrecede (filter p rows)
 rise_left p [] rise = tt
 rise_left p (row ∷ rows) rise =
-    by_test (p row) (λ keeps. subst RowsRise (sym (filter_keep p row rows keeps)) (All-filter p (Precedes row) rows rise.0, rise_left p rows rise.1))
-    (λ drops. subst RowsRise (sym (filter_drop p row rows drops)) (rise_left p rows rise.1))
+    by_test (p row) (λ keeps. subst RowsPrecede (sym (filter_keep p row rows keeps)) (All-filter p (Precedes row) rows rise.0, rise_left p rows rise.1))
+    (λ drops. subst RowsPrecede (sym (filter_drop p row rows drops)) (rise_left p rows rise.1))
 
-pub rise_some : (p : DocRow → Bool) (xs ys : List DocRow) → RowsRise (xs ++ ys) → RowsRise (xs ++ filter p ys)
+pub rise_some : (p : DocRow → Bool) (xs ys : List DocRow) → RowsPrecede (xs ++ ys) → RowsPrecede (xs ++ filter p ys)
 rise_some p [] ys rise = rise_left p ys rise
 rise_some p (x ∷ xs) ys rise =
     (All-append (Precedes x) xs (filter p ys) (all_left (Precedes x) xs ys rise.0) (All-filter p (Precedes x) ys (all_right (Precedes x) xs ys rise.0)), rise_some p xs ys rise.1)
@@ -339,7 +339,7 @@ module _ (view : View) (spaced : IsSpaced view) where
       all_weaker (λ (a : Added). (view.location ≤ a.row.first) × (1 ≤ a.row.cells)) (λ (a : Added). is_gone view a.row ≡ left_out view.entries a.row.number) (newest view)
       (λ a both. or_last (ends_among view.deleted a.row) (left_out view.entries a.row.number) (none_deleted view.deleted view.location a.row spaced.deleted both.0 both.1))
       (all_both (λ (a : Added). view.location ≤ a.row.first) (λ (a : Added). 1 ≤ a.row.cells) (newest view) (added_behind view.next view.location view.entries)
-      (unmap IsFilled (λ (a : Added). a.row) (newest view) (all_right IsFilled (rows_in view.levels) (map (λ (a : Added). a.row) (newest view)) spaced.filled)))
+      (unmap IsFilled (λ (a : Added). a.row) (newest view) (all_right IsFilled (level_rows view.levels) (map (λ (a : Added). a.row) (newest view)) spaced.filled)))
 
   pub newest_kept : All (λ (a : Added). ends_among (gone view) a.row ≡ left_out view.entries a.row.number) (newest view)
   newest_kept =
@@ -347,7 +347,7 @@ module _ (view : View) (spaced : IsSpaced view) where
       (λ a both. both.0 ∙ both.1)
       (all_both (λ (a : Added). ends_among (gone view) a.row ≡ is_gone view a.row) (λ (a : Added). is_gone view a.row ≡ left_out view.entries a.row.number) (newest view)
       (unmap (λ (r : DocRow). ends_among (gone view) r ≡ is_gone view r) (λ (a : Added). a.row) (newest view)
-      (all_right (λ (r : DocRow). ends_among (gone view) r ≡ is_gone view r) (rows_in view.levels) (map (λ (a : Added). a.row) (newest view)) gone_are)) newest_gone)
+      (all_right (λ (r : DocRow). ends_among (gone view) r ≡ is_gone view r) (level_rows view.levels) (map (λ (a : Added). a.row) (newest view)) gone_are)) newest_gone)
 
   -- the documents of the newest that are not gone
   live_documents : map doc_of (live_of (gone view) (newest view)) ≡ filter (stay view.entries) (map doc_of (newest view))
@@ -370,7 +370,7 @@ module _ (view : View) (spaced : IsSpaced view) where
       (filter_passes (λ (a : Added). not (ends_among (gone view) a.row)) (newest view))
       (All-filter (λ (a : Added). not (ends_among (gone view) a.row)) (λ (a : Added). ends_among (gone view) a.row ≡ is_gone view a.row) (newest view)
       (unmap (λ (r : DocRow). ends_among (gone view) r ≡ is_gone view r) (λ (a : Added). a.row) (newest view)
-      (all_right (λ (r : DocRow). ends_among (gone view) r ≡ is_gone view r) (rows_in view.levels) (map (λ (a : Added). a.row) (newest view)) gone_are))))
+      (all_right (λ (r : DocRow). ends_among (gone view) r ≡ is_gone view r) (level_rows view.levels) (map (λ (a : Added). a.row) (newest view)) gone_are))))
     where
       not_true : (b : Bool) → not b ≡ true → b ≡ false
       not_true true e = absurd (false≢true e)
@@ -394,21 +394,21 @@ module _ (view : View) (spaced : IsSpaced view) where
   abbrev pub flushing : List Content
   flushing = contents_of view.levels ++ newest_content view ∷ []
 
-  pub flushing_rows : rows_of flushing ≡ rows_in view.levels ++ filter (λ (r : DocRow). not (ends_among (gone view) r)) (map (λ (a : Added). a.row) (newest view))
+  pub flushing_rows : rows_of flushing ≡ level_rows view.levels ++ filter (λ (r : DocRow). not (ends_among (gone view) r)) (map (λ (a : Added). a.row) (newest view))
   flushing_rows =
       flat_map-append (λ (c : Content). c.documents) (contents_of view.levels) (newest_content view ∷ [])
       ∙ ap (λ (rs : List DocRow). rs ++ rows_of (newest_content view ∷ [])) (flat_map-map (λ (c : Content). c.documents) (λ (l : Level). l.content) view.levels)
-      ∙ ap (λ (rs : List DocRow). rows_in view.levels ++ rs) (append-nil (newest_content view).documents ∙ live_rows_are)
+      ∙ ap (λ (rs : List DocRow). level_rows view.levels ++ rs) (append-nil (newest_content view).documents ∙ live_rows_are)
 
   flushing_gone : AreGone view (gone_among view (rows_of flushing)) (rows_of flushing)
   flushing_gone =
       ends_kept (is_gone view) [] (rows_of flushing)
-      (subst RowsRise (sym flushing_rows) (rise_some (λ (r : DocRow). not (ends_among (gone view) r)) (rows_in view.levels) (map (λ (a : Added). a.row) (newest view)) spaced.rise))
+      (subst RowsPrecede (sym flushing_rows) (rise_some (λ (r : DocRow). not (ends_among (gone view) r)) (level_rows view.levels) (map (λ (a : Added). a.row) (newest view)) spaced.rise))
       (subst (All IsFilled) (sym flushing_rows)
-      (All-append IsFilled (rows_in view.levels) (filter (λ (r : DocRow). not (ends_among (gone view) r)) (map (λ (a : Added). a.row) (newest view)))
-      (all_left IsFilled (rows_in view.levels) (map (λ (a : Added). a.row) (newest view)) spaced.filled)
+      (All-append IsFilled (level_rows view.levels) (filter (λ (r : DocRow). not (ends_among (gone view) r)) (map (λ (a : Added). a.row) (newest view)))
+      (all_left IsFilled (level_rows view.levels) (map (λ (a : Added). a.row) (newest view)) spaced.filled)
       (All-filter (λ (r : DocRow). not (ends_among (gone view) r)) IsFilled (map (λ (a : Added). a.row) (newest view))
-      (all_right IsFilled (rows_in view.levels) (map (λ (a : Added). a.row) (newest view)) spaced.filled))))
+      (all_right IsFilled (level_rows view.levels) (map (λ (a : Added). a.row) (newest view)) spaced.filled))))
 
   pub flushing_documents_by : (ends : List ℕ) → AreGone view ends (rows_of flushing) → flat_map (documents_in ends) flushing ≡ (state_of view).documents
   flushing_documents_by ends are =
@@ -495,5 +495,5 @@ flush_keeps limit held then spaced few e =
 pub rows_append : (cs : List Content) (c : Content) → rows_of (cs ++ c ∷ []) ≡ rows_of cs ++ c.documents
 rows_append cs c = flat_map-append (λ (c : Content). c.documents) cs (c ∷ []) ∙ ap (λ (rs : List DocRow). rows_of cs ++ rs) (append-nil c.documents)
 
-pub rows_by_levels : (levels : List Level) → rows_of (contents_of levels) ≡ rows_in levels
+pub rows_by_levels : (levels : List Level) → rows_of (contents_of levels) ≡ level_rows levels
 rows_by_levels levels = flat_map-map (λ (c : Content). c.documents) (λ (l : Level). l.content) levels

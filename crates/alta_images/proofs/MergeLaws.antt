@@ -9,7 +9,7 @@ use Rattle.alta_memlevel.specs.Added.{Added}
 use Rattle.alta_content.specs.Rows.{ends_among}
 use Rattle.alta_images.specs.Levels.{Level}
 use Rattle.alta_images.specs.Views.{View}
-use Rattle.alta_images.specs.Work.{Job, begun, gone, is_gone, job_of, newest, oldest_joined, whole_of, rows_in}
+use Rattle.alta_images.specs.Work.{Job, begun, gone, is_gone, job_of, newest, oldest_joined, whole_of, level_rows}
 use Rattle.alta_content.specs.declared.document.DocRow.{DocRow}
 use Rattle.alta_images.specs.Holding.{Holding, IsJob, IsJobOf, IsSpaced, IsWell}
 use Rattle.alta_images.specs.Working.{rows_of, IsJoin, AreJoins, JoinsKeep, oldest_contents, all_contents}
@@ -49,12 +49,12 @@ module _ (view : View) (spaced : IsSpaced view) where
   job_dead : (job : Job) → IsJob job view → All (λ (row : DocRow). ends_among job.dead row ≡ true → ends_among (gone view) row ≡ true) (rows_of (job.older ∷ job.newer ∷ []))
   job_dead job is =
       let P : DocRow → Type 0 = λ row. ends_among (gone view) row ≡ is_gone view row in
-      let levels : All P (is.older.content.documents ++ (is.newer.content.documents ++ rows_in is.more)) =
-      subst (λ (ls : List Level). AreGone view (gone view) (rows_in ls)) is.oldest (all_left P (rows_in view.levels) (map (λ (a : Added). a.row) (newest view)) (gone_are view spaced)) in
+      let levels : All P (is.older.content.documents ++ (is.newer.content.documents ++ level_rows is.more)) =
+      subst (λ (ls : List Level). AreGone view (gone view) (level_rows ls)) is.oldest (all_left P (level_rows view.levels) (map (λ (a : Added). a.row) (newest view)) (gone_are view spaced)) in
       let both : All P (job.older.documents ++ job.newer.documents) =
       subst (λ (c : Content). All P (c.documents ++ job.newer.documents)) (sym is.contents.0)
       (subst (λ (c : Content). All P (is.older.content.documents ++ c.documents)) (sym is.contents.1)
-      (all_left P (is.older.content.documents ++ is.newer.content.documents) (rows_in is.more) (subst (All P) (sym (append_assoc is.older.content.documents is.newer.content.documents (rows_in is.more))) levels))) in
+      (all_left P (is.older.content.documents ++ is.newer.content.documents) (level_rows is.more) (subst (All P) (sym (append_assoc is.older.content.documents is.newer.content.documents (level_rows is.more))) levels))) in
       let Q : DocRow → Type 0 = λ row. ends_among job.dead row ≡ true → ends_among (gone view) row ≡ true in
       subst (λ (rows : List DocRow). All Q (job.older.documents ++ rows)) (sym (append-nil job.newer.documents))
       (all_weaker (λ (row : DocRow). P row × (ends_among job.dead row ≡ true → is_gone view row ≡ true)) Q (job.older.documents ++ job.newer.documents) (λ row has dead. has.0 ∙ has.1 dead)

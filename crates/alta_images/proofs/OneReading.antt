@@ -2,12 +2,12 @@
 use Rattle.std.proofs.Common.{◌≡◌, ◌⊎◌, inl, inr, ℕ, true, false, List, [], ◌∷◌, refl, ap, subst, ◌∙◌, Result, Ok, Err}
 use Rattle.std.specs.Prelude.{if◌then◌else◌}
 use Rattle.alta_codec.specs.declared.extent.Extent.{Extent}
-use Rattle.alta_journal.specs.Journal.{EndsAt, IsBroken}
+use Rattle.alta_journal.specs.Journal.{EndsAt, HasBrokenHalf}
 use Rattle.alta_journal.specs.Placed.{placed}
 use Rattle.alta_journal.specs.declared.entry.Entry.{Entry}
 use Rattle.alta_journal.proofs.Unique.{one_reading, one_fault, not_both}
 use Rattle.alta_root.specs.Answers.{in_slot}
-use Rattle.alta_root.specs.Slots.{Counts, HasNoRoot, IsDamaged}
+use Rattle.alta_root.specs.Slots.{Counts, HasNoRoot, HasBrokenSlots}
 use Rattle.alta_root.specs.declared.fault.RootFault.{RootFault}
 use Rattle.alta_root.specs.declared.fault.RootFault.TheVariants as faults
 use Rattle.alta_root.specs.declared.root.Root.{Root}
@@ -72,7 +72,7 @@ no_names root deleted levels extent image level place found ordered named = rw f
 -- behind what was found, the journal breaks a rule at this place
 abbrev BreaksIn : Roots → Found → List ℕ → ℕ → Type 0
 BreaksIn r found image place =
-    IsBroken (journal_of r.slot) place image
+    HasBrokenHalf (journal_of r.slot) place image
     ⊎ ((entries : List Entry) × (tail : ℕ) × EndsAt (journal_of r.slot) tail entries image × (replayed (known_at r.root found.deleted found.levels) (placed (journal_of r.slot) entries) ≡ Err place))
 
 -- behind the slots, a rule is broken at this place
@@ -83,7 +83,7 @@ abbrev CountsAs : Roots → List ℕ → Type 0
 CountsAs r image = Counts r.slot r.root image
 
 abbrev Breaks : List ℕ → ℕ → Type 0
-Breaks image place = IsDamaged image place ⊎ ((r : Roots) × CountsAs r image × BreaksBehind r image place)
+Breaks image place = HasBrokenSlots image place ⊎ ((r : Roots) × CountsAs r image × BreaksBehind r image place)
 
 breaks : (image : List ℕ) (place : ℕ) → IsBrokenAt image place → Breaks image place
 breaks image place (in_slots p damaged) = inl damaged
@@ -140,7 +140,7 @@ one_behind image r p q (inr (found, is, a)) (inl b) = absurd (not_failed (found_
 one_behind image r p q (inr (found, is, a)) (inr (other, are, b)) =
     one_in image r other p q (subst (λ (f : Found). BreaksIn r f image p) (one_value (found_in r.root image) found other is are) a) b
 
-no_damage : (image : List ℕ) (r : Roots) (place : ℕ) → CountsAs r image → IsDamaged image place → ⊥
+no_damage : (image : List ℕ) (r : Roots) (place : ℕ) → CountsAs r image → HasBrokenSlots image place → ⊥
 no_damage image r place counts damaged = not_failed {E = RootFault} (Ok r) r (faults.Damaged place) refl (one_answer image (Ok r) (Err (faults.Damaged place)) counts damaged)
 
 one_break : (image : List ℕ) (p q : ℕ) → Breaks image p → Breaks image q → p ≡ q

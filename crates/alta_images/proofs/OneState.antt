@@ -10,7 +10,7 @@ use Rattle.alta_content.specs.Lists.{AreListsBehind, MayFollowList}
 use Rattle.alta_content.specs.declared.content.Content.{Content}
 use Rattle.alta_content.specs.TermList.{TermList}
 use Rattle.alta_meta.specs.declared.document.State.{State}
-use Rattle.alta_postings.specs.Deltas.{Spells, locations_of, stream_bytes}
+use Rattle.alta_postings.specs.Deltas.{Spells, decoded_list, stream_bytes}
 use Rattle.alta_postings.proofs.Reading.{spelling_reads}
 use Rattle.alta_images.specs.Levels.{Level}
 use Rattle.alta_images.specs.Views.{state_of}
@@ -72,7 +72,7 @@ one_list documents before after l m a b rows bytes =
     let first : Spells (stream_bytes 0 l.locations) l.locations = record { rising = a.rising; spelled = refl } in
     let second : Spells (stream_bytes 0 m.locations) m.locations = record { rising = b.rising; spelled = refl } in
     same_list l m (ap (λ (r : TermRow). r.term) rows)
-    (sym (spelling_reads (stream_bytes 0 l.locations) l.locations first).1 ∙ ap locations_of streams ∙ (spelling_reads (stream_bytes 0 m.locations) m.locations second).1)
+    (sym (spelling_reads (stream_bytes 0 l.locations) l.locations first).1 ∙ ap decoded_list streams ∙ (spelling_reads (stream_bytes 0 m.locations) m.locations second).1)
 
 one_lists : (documents : List DocRow) (before after : List ℕ) (ls ms : List TermList) → AreListsBehind documents before ls → AreListsBehind documents after ms → rows_of ls ≡ rows_of ms
     → flat_map list_bytes ls ≡ flat_map list_bytes ms → ls ≡ ms

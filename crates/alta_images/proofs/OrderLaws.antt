@@ -25,7 +25,7 @@ use Rattle.alta_table.specs.Tables.{Tables}
 use Rattle.alta_content.specs.declared.document.DocRow.{DocRow}
 use Rattle.alta_images.specs.Chain.{◌>>=◌}
 use Rattle.alta_images.specs.Known.{Named, Known, named, is_taken, named_of, known_of, replayed}
-use Rattle.alta_images.specs.Opened.{Opened, IsNamed, journal_of, bytes_at, tables_at, comes_behind, is_below, are_in_order, names_from, names_in, with_level, levels_from, rows_in, live_in, known_at}
+use Rattle.alta_images.specs.Opened.{Opened, IsNamed, journal_of, bytes_at, tables_at, comes_behind, is_below, are_in_order, names_from, names_in, with_level, levels_from, table_rows, live_in, known_at}
 use Rattle.alta_images.specs.Ordered.{IsBefore, AreOrdered, IsOrdered}
 use Rattle.alta_images.specs.Standing.{Means, StandsFor, tables_by, view_of}
 use Rattle.alta_images.proofs.KnownLaws.{IsWithin, all_weaker, all_both, all_others, ordered_snoc, ordered_all, allows_replayed}
@@ -44,8 +44,8 @@ live_append deleted xs ys =
     ap (λ (rs : List DocRow). map (λ (r : DocRow). named r.name r.number) rs) (filter-append (λ (r : DocRow). not (ends_among deleted r)) xs ys)
     ∙ map-append (λ (r : DocRow). named r.name r.number) (live_rows deleted xs) (live_rows deleted ys)
 
-pub rows_more : (levels : List Tables) (level : Tables) → rows_in (levels ++ level ∷ []) ≡ rows_in levels ++ level.documents
-rows_more levels level = flat_map-append (λ (t : Tables). t.documents) levels (level ∷ []) ∙ ap (λ (rs : List DocRow). rows_in levels ++ rs) (append-nil level.documents)
+pub rows_more : (levels : List Tables) (level : Tables) → table_rows (levels ++ level ∷ []) ≡ table_rows levels ++ level.documents
+rows_more levels level = flat_map-append (λ (t : Tables). t.documents) levels (level ∷ []) ∙ ap (λ (rs : List DocRow). table_rows levels ++ rs) (append-nil level.documents)
 
 -- what each row has each live document has
 all_live : (deleted : List ℕ) (P : ℕ → Type 0) (rows : List DocRow) → All (λ (r : DocRow). P r.number) rows → All (λ (x : Named). P x.number) (live_in deleted rows)
@@ -126,36 +126,36 @@ rows_ordered deleted level live i low (row ∷ rows) out e ordered rise above =
 -- ---- a level behind others
 
 -- the level's numbers lie above those of the live documents before it
-above_before : (root : Root) (deleted : List ℕ) (levels : List Tables) (rows : List DocRow) → are_in_order root levels rows ≡ true → All (IsAbove (live_in deleted (rows_in levels))) rows
+above_before : (root : Root) (deleted : List ℕ) (levels : List Tables) (rows : List DocRow) → are_in_order root levels rows ≡ true → All (IsAbove (live_in deleted (table_rows levels))) rows
 above_before root deleted levels rows ordered =
-    all_weaker (λ (row : DocRow). (is_below root row && list_all (λ (earlier : DocRow). comes_behind earlier row) (rows_in levels)) ≡ true) (IsAbove (live_in deleted (rows_in levels))) rows
-    (λ row e. all_live deleted (λ (n : ℕ). n < row.number) (rows_in levels)
-    (all_weaker (λ (earlier : DocRow). comes_behind earlier row ≡ true) (λ (earlier : DocRow). earlier.number < row.number) (rows_in levels)
+    all_weaker (λ (row : DocRow). (is_below root row && list_all (λ (earlier : DocRow). comes_behind earlier row) (table_rows levels)) ≡ true) (IsAbove (live_in deleted (table_rows levels))) rows
+    (λ row e. all_live deleted (λ (n : ℕ). n < row.number) (table_rows levels)
+    (all_weaker (λ (earlier : DocRow). comes_behind earlier row ≡ true) (λ (earlier : DocRow). earlier.number < row.number) (table_rows levels)
     (λ earlier behind. below_from earlier.number row.number (and_left (nat_lt earlier.number row.number) (nat_lt (end_of earlier) row.first) behind))
-    (all_from (λ (earlier : DocRow). comes_behind earlier row) (rows_in levels) (and_right (is_below root row) (list_all (λ (earlier : DocRow). comes_behind earlier row) (rows_in levels)) e))))
-    (all_from (λ (row : DocRow). is_below root row && list_all (λ (earlier : DocRow). comes_behind earlier row) (rows_in levels)) rows ordered)
+    (all_from (λ (earlier : DocRow). comes_behind earlier row) (table_rows levels) (and_right (is_below root row) (list_all (λ (earlier : DocRow). comes_behind earlier row) (table_rows levels)) e))))
+    (all_from (λ (row : DocRow). is_below root row && list_all (λ (earlier : DocRow). comes_behind earlier row) (table_rows levels)) rows ordered)
 
 -- and below the next number of the root
 below_root : (root : Root) (levels : List Tables) (rows : List DocRow) → are_in_order root levels rows ≡ true → All (λ (r : DocRow). r.number < root.next_number) rows
 below_root root levels rows ordered =
-    all_weaker (λ (row : DocRow). (is_below root row && list_all (λ (earlier : DocRow). comes_behind earlier row) (rows_in levels)) ≡ true) (λ (r : DocRow). r.number < root.next_number) rows
+    all_weaker (λ (row : DocRow). (is_below root row && list_all (λ (earlier : DocRow). comes_behind earlier row) (table_rows levels)) ≡ true) (λ (r : DocRow). r.number < root.next_number) rows
     (λ row e. below_from row.number root.next_number
-    (and_left (nat_lt row.number root.next_number) (nat_lt (end_of row) root.next_location) (and_left (is_below root row) (list_all (λ (earlier : DocRow). comes_behind earlier row) (rows_in levels)) e)))
-    (all_from (λ (row : DocRow). is_below root row && list_all (λ (earlier : DocRow). comes_behind earlier row) (rows_in levels)) rows ordered)
+    (and_left (nat_lt row.number root.next_number) (nat_lt (end_of row) root.next_location) (and_left (is_below root row) (list_all (λ (earlier : DocRow). comes_behind earlier row) (table_rows levels)) e)))
+    (all_from (λ (row : DocRow). is_below root row && list_all (λ (earlier : DocRow). comes_behind earlier row) (table_rows levels)) rows ordered)
 
 pub level_ordered : (root : Root) (deleted : List ℕ) (levels : List Tables) (level : Tables) (live : List Named) → AreDocuments level.documents → are_in_order root levels level.documents ≡ true
     → names_in deleted levels level ≡ Ok live → IsOrdered (known_at root deleted levels) → IsOrdered (known_at root deleted (levels ++ level ∷ []))
 level_ordered root deleted levels level live are ordered names known =
     let rise : Rise 0 level.documents = rise_from start level.documents are in
-    let all_rows : live_in deleted (rows_in (levels ++ level ∷ [])) ≡ live_in deleted (rows_in levels) ++ live_in deleted level.documents =
-    ap (λ (rows : List DocRow). live_in deleted rows) (rows_more levels level) ∙ live_append deleted (rows_in levels) level.documents in
+    let all_rows : live_in deleted (table_rows (levels ++ level ∷ [])) ≡ live_in deleted (table_rows levels) ++ live_in deleted level.documents =
+    ap (λ (rows : List DocRow). live_in deleted rows) (rows_more levels level) ∙ live_append deleted (table_rows levels) level.documents in
     record {
       ordered =
           subst AreOrdered (sym all_rows)
-          (rows_ordered deleted level (live_in deleted (rows_in levels)) 0 0 level.documents live names known.ordered rise (above_before root deleted levels level.documents ordered));
+          (rows_ordered deleted level (live_in deleted (table_rows levels)) 0 0 level.documents live names known.ordered rise (above_before root deleted levels level.documents ordered));
       within =
           subst (All (IsWithin root.next_number)) (sym all_rows)
-          (All-append (IsWithin root.next_number) (live_in deleted (rows_in levels)) (live_in deleted level.documents) known.within
+          (All-append (IsWithin root.next_number) (live_in deleted (table_rows levels)) (live_in deleted level.documents) known.within
           (all_live deleted (λ (n : ℕ). (1 ≤ n) × (n < root.next_number)) level.documents
           (all_both (λ (r : DocRow). 1 ≤ r.number) (λ (r : DocRow). r.number < root.next_number) level.documents
           (all_weaker (λ (r : DocRow). 0 < r.number) (λ (r : DocRow). 1 ≤ r.number) level.documents (λ r some. omega (arith, some)) (rise_above 0 level.documents rise))
@@ -251,13 +251,13 @@ documents_named deleted level = twice (live_rows deleted level.content.documents
     twice [] = refl
     twice (row ∷ rows) = ap (λ (l : List Named). named row.name row.number ∷ l) (twice rows)
 
-pub levels_named : (deleted : List ℕ) (levels : List Level) → map named_of (flat_map (documents_of deleted) levels) ≡ live_in deleted (rows_in (map tables_by levels))
+pub levels_named : (deleted : List ℕ) (levels : List Level) → map named_of (flat_map (documents_of deleted) levels) ≡ live_in deleted (table_rows (map tables_by levels))
 levels_named deleted [] = refl
 levels_named deleted (level ∷ levels) =
     map-append named_of (documents_of deleted level) (flat_map (documents_of deleted) levels)
     ∙ ap (λ (l : List Named). l ++ map named_of (flat_map (documents_of deleted) levels)) (documents_named deleted level)
     ∙ ap (λ (l : List Named). live_in deleted level.content.documents ++ l) (levels_named deleted levels)
-    ∙ sym (live_append deleted level.content.documents (rows_in (map tables_by levels)))
+    ∙ sym (live_append deleted level.content.documents (table_rows (map tables_by levels)))
 
 known_with : ℕ → List Named → Known
 known_with next live = record { next = next; live = live }
@@ -266,7 +266,7 @@ known_with next live = record { next = next; live = live }
 pub rooted_known : (o : Opened) (levels : List Level) → o.levels ≡ map tables_by levels → known_at o.root o.deleted o.levels ≡ known_of (rooted (view_of o levels))
 unfolding known_with
 rooted_known o levels tables =
-    ap (known_with o.root.next_number) (ap (λ (ts : List Tables). live_in o.deleted (rows_in ts)) tables ∙ sym (levels_named o.deleted levels))
+    ap (known_with o.root.next_number) (ap (λ (ts : List Tables). live_in o.deleted (table_rows ts)) tables ∙ sym (levels_named o.deleted levels))
 
 pub has_documents : (levels : List Level) (image : List ℕ) → All (λ (l : Level). IsSegment (bytes_at l.extent image) l.content) levels → All HasDocuments (map tables_by levels)
 has_documents levels image segments =

@@ -14,13 +14,13 @@ use Rattle.alta_content.specs.Rows.{end_of, ends_among}
 use Rattle.alta_meta.specs.Cells.{cells_of}
 use Rattle.alta_root.specs.declared.root.Root.{Root}
 use Rattle.alta_images.specs.Views.{View}
-use Rattle.alta_images.specs.Work.{stays, coming, added_at, added_from, gone, gone_among, is_gone, newest, newest_content, rows_in as level_rows}
+use Rattle.alta_images.specs.Work.{stays, coming, added_at, added_from, gone, gone_among, is_gone, newest, newest_content, level_rows}
 use Rattle.alta_images.proofs.Tests.{by_test, or_first, or_right}
 use Rattle.alta_table.specs.Tables.{Tables}
 use Rattle.alta_content.specs.declared.document.DocRow.{DocRow}
-use Rattle.alta_images.specs.Holding.{Holding, IsSpaced, taken_by}
-use Rattle.alta_images.specs.Opened.{have_ends, rows_in}
-use Rattle.alta_images.specs.Ordered.{AreBelow, RowsRise}
+use Rattle.alta_images.specs.Holding.{Holding, IsSpaced, taken_by_held}
+use Rattle.alta_images.specs.Opened.{have_ends, table_rows}
+use Rattle.alta_images.specs.Ordered.{AreBelow, RowsPrecede}
 use Rattle.alta_images.specs.Standing.{tables_by}
 use Rattle.alta_images.specs.Switching.{InPlace}
 use Rattle.alta_images.specs.Working.{flushed, rows_of}
@@ -62,11 +62,11 @@ each_has front (row ∷ rows) =
     (or_first (has_end_of row row) (list_any (has_end_of row) rows) (or_first (nat_eq (end_of row) (end_of row)) false (eq-eqb (end_of row) (end_of row) refl))))
     (subst (λ (rs : List DocRow). All (λ (r : DocRow). list_any (has_end_of r) rs ≡ true) rows) (append_assoc front (row ∷ []) rows) (each_has (front ++ row ∷ []) rows))
 
-pub gone_ends : (view : View) (levels : List Tables) → have_ends levels (gone_among view (rows_in levels)) ≡ true
+pub gone_ends : (view : View) (levels : List Tables) → have_ends levels (gone_among view (table_rows levels)) ≡ true
 gone_ends view levels =
-    all_to (λ end. list_any (λ (row : DocRow). ends_among (end ∷ []) row) (rows_in levels)) (gone_among view (rows_in levels))
-    (All-map (λ end. list_any (λ (row : DocRow). ends_among (end ∷ []) row) (rows_in levels) ≡ true) end_of (filter (is_gone view) (rows_in levels))
-    (All-filter (is_gone view) (λ (r : DocRow). list_any (has_end_of r) (rows_in levels) ≡ true) (rows_in levels) (each_has [] (rows_in levels))))
+    all_to (λ end. list_any (λ (row : DocRow). ends_among (end ∷ []) row) (table_rows levels)) (gone_among view (table_rows levels))
+    (All-map (λ end. list_any (λ (row : DocRow). ends_among (end ∷ []) row) (table_rows levels) ≡ true) end_of (filter (is_gone view) (table_rows levels))
+    (All-filter (is_gone view) (λ (r : DocRow). list_any (has_end_of r) (table_rows levels) ≡ true) (table_rows levels) (each_has [] (table_rows levels))))
 
 -- ---- a flush
 
@@ -85,17 +85,17 @@ flush_in_place limit held then root spaced positive some few e number location =
     let live = filter (λ (r : DocRow). not (ends_among (gone view) r)) news in
     let is = switched_is limit held (map stays view.levels ++ coming (newest_content view)) held.job then (sym (ap (by_entries limit held) some ∙ ap (by_levels limit held) few) ∙ e) in
     let levels = is.now.levels in
-    let rows : rows_in (map tables_by levels) ≡ level_rows levels = flat_map-map (λ (t : Tables). t.documents) tables_by levels in
-    let all : rows_in (map tables_by levels) ≡ level_rows view.levels ++ live =
-    rows ∙ sym (rows_by_levels levels) ∙ ap rows_of (placed_contents limit (taken_by held) (map stays view.levels ++ coming (newest_content view)) is.now is.placed_is) ∙ flush_rows view
+    let rows : table_rows (map tables_by levels) ≡ level_rows levels = flat_map-map (λ (t : Tables). t.documents) tables_by levels in
+    let all : table_rows (map tables_by levels) ≡ level_rows view.levels ++ live =
+    rows ∙ sym (rows_by_levels levels) ∙ ap rows_of (placed_contents limit (taken_by_held held) (map stays view.levels ++ coming (newest_content view)) is.now is.placed_is) ∙ flush_rows view
     ∙ ap (λ (rs : List DocRow). level_rows view.levels ++ rs) (live_rows_are view spaced) in
     let same : map tables_by levels ≡ map tables_by then.view.levels = ap (λ (h : Holding). map tables_by h.view.levels) (sym is.then_is) in
     let next : root.next_number ≡ view.next + length (newest view) = number ∙ ap (λ (h : Holding). h.view.next) is.then_is in
     let place : root.next_location ≡ view.location + cells_in (newest view) = location ∙ ap (λ (h : Holding). h.view.location) is.then_is in
-    let deleted : gone_among view (rows_in (map tables_by levels)) ≡ then.view.deleted = ap (gone_among view) rows ∙ ap (λ (h : Holding). h.view.deleted) (sym is.then_is) in
+    let deleted : gone_among view (table_rows (map tables_by levels)) ≡ then.view.deleted = ap (gone_among view) rows ∙ ap (λ (h : Holding). h.view.deleted) (sym is.then_is) in
     subst (InPlace root then.view.deleted) same
     (subst (λ (ds : List ℕ). InPlace root ds (map tables_by levels)) deleted (record {
-      rise = subst RowsRise (sym all) (rise_some (λ (r : DocRow). not (ends_among (gone view) r)) (level_rows view.levels) news spaced.rise);
+      rise = subst RowsPrecede (sym all) (rise_some (λ (r : DocRow). not (ends_among (gone view) r)) (level_rows view.levels) news spaced.rise);
       below =
           subst (AreBelow root) (sym all)
           (All-append (λ (row : DocRow). (row.number < root.next_number) × (end_of row < root.next_location)) (level_rows view.levels) live

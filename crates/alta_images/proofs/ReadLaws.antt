@@ -16,8 +16,8 @@ use Rattle.alta_images.proofs.Steps.{not_failed, one_value}
 use Rattle.alta_images.proofs.Tests.{by_test, bytes_from, and_both, or_neither}
 use Rattle.alta_images.specs.Chain.{◌>>=◌}
 use Rattle.alta_images.specs.Known.{Named, named, is_taken}
-use Rattle.alta_images.specs.Opened.{tables_at, comes_behind, is_below, are_in_order, names_from, names_in, with_level, levels_from, rows_in, live_in}
-use Rattle.alta_images.specs.Ordered.{AreBelow, AreOrdered, IsBefore, Precedes, RowsRise}
+use Rattle.alta_images.specs.Opened.{tables_at, comes_behind, is_below, are_in_order, names_from, names_in, with_level, levels_from, table_rows, live_in}
+use Rattle.alta_images.specs.Ordered.{AreBelow, AreOrdered, IsBefore, Precedes, RowsPrecede}
 use Rattle.alta_root.specs.declared.root.Root.{Root}
 use Rattle.alta_table.specs.Tables.{Tables}
 use Rattle.alta_content.proofs.Elements.{all_left, all_right}
@@ -83,7 +83,7 @@ all_to p (x ∷ xs) all = and_both (p x) (list_all p xs) (All-head (λ x. p x �
 abbrev pub IsBehindAll : List DocRow → DocRow → Type 0
 IsBehindAll rows later = All (λ (row : DocRow). Precedes row later) rows
 
-pub rise_apart : (xs ys : List DocRow) → RowsRise (xs ++ ys) → All (IsBehindAll xs) ys
+pub rise_apart : (xs ys : List DocRow) → RowsPrecede (xs ++ ys) → All (IsBehindAll xs) ys
 rise_apart [] ys rise = all_nil ys
   where
     all_nil : (ys : List DocRow) → All (IsBehindAll []) ys
@@ -93,17 +93,17 @@ rise_apart (x ∷ xs) ys rise =
     all_weaker (λ (y : DocRow). Precedes x y × IsBehindAll xs y) (IsBehindAll (x ∷ xs)) ys (λ y both. All-cons (λ (row : DocRow). Precedes row y) x xs both.0 both.1)
     (all_both (Precedes x) (IsBehindAll xs) ys (all_right (Precedes x) xs ys rise.0) (rise_apart xs ys rise.1))
 
-order_read : (root : Root) (levels : List Tables) (rows : List DocRow) → All (IsBehindAll (rows_in levels)) rows → AreBelow root rows → are_in_order root levels rows ≡ true
+order_read : (root : Root) (levels : List Tables) (rows : List DocRow) → All (IsBehindAll (table_rows levels)) rows → AreBelow root rows → are_in_order root levels rows ≡ true
 order_read root levels rows behind below =
-    all_to (λ (row : DocRow). is_below root row && list_all (λ (earlier : DocRow). comes_behind earlier row) (rows_in levels)) rows
-    (all_weaker (λ (row : DocRow). IsBehindAll (rows_in levels) row × ((row.number < root.next_number) × (end_of row < root.next_location)))
-    (λ (row : DocRow). (is_below root row && list_all (λ (earlier : DocRow). comes_behind earlier row) (rows_in levels)) ≡ true) rows
-    (λ row both. and_both (is_below root row) (list_all (λ (earlier : DocRow). comes_behind earlier row) (rows_in levels))
+    all_to (λ (row : DocRow). is_below root row && list_all (λ (earlier : DocRow). comes_behind earlier row) (table_rows levels)) rows
+    (all_weaker (λ (row : DocRow). IsBehindAll (table_rows levels) row × ((row.number < root.next_number) × (end_of row < root.next_location)))
+    (λ (row : DocRow). (is_below root row && list_all (λ (earlier : DocRow). comes_behind earlier row) (table_rows levels)) ≡ true) rows
+    (λ row both. and_both (is_below root row) (list_all (λ (earlier : DocRow). comes_behind earlier row) (table_rows levels))
     (and_both (nat_lt row.number root.next_number) (nat_lt (end_of row) root.next_location) (lt-ltb row.number root.next_number both.1.0) (lt-ltb (end_of row) root.next_location both.1.1))
-    (all_to (λ (earlier : DocRow). comes_behind earlier row) (rows_in levels)
-    (all_weaker (λ (earlier : DocRow). Precedes earlier row) (λ (earlier : DocRow). comes_behind earlier row ≡ true) (rows_in levels)
+    (all_to (λ (earlier : DocRow). comes_behind earlier row) (table_rows levels)
+    (all_weaker (λ (earlier : DocRow). Precedes earlier row) (λ (earlier : DocRow). comes_behind earlier row ≡ true) (table_rows levels)
     (λ earlier precedes. and_both (nat_lt earlier.number row.number) (nat_lt (end_of earlier) row.first) (lt-ltb earlier.number row.number precedes.0) (lt-ltb (end_of earlier) row.first precedes.1)) both.0)))
-    (all_both (IsBehindAll (rows_in levels)) (λ (row : DocRow). (row.number < root.next_number) × (end_of row < root.next_location)) rows behind below))
+    (all_both (IsBehindAll (table_rows levels)) (λ (row : DocRow). (row.number < root.next_number) × (end_of row < root.next_location)) rows behind below))
 
 -- ---- names
 
@@ -141,26 +141,26 @@ names_read deleted level live i (row ∷ rows) more ordered =
 
 -- ---- levels
 
-pub read_again : (root : Root) (deleted : List ℕ) (before : List Tables) (extents : List Extent) (tables : List Tables) (image : List ℕ) → AreRead extents tables image → RowsRise (rows_in before ++ rows_in tables)
-    → AreBelow root (rows_in before ++ rows_in tables) → AreOrdered (live_in deleted (rows_in before ++ rows_in tables)) → levels_from root deleted before extents image ≡ Ok (before ++ tables)
+pub read_again : (root : Root) (deleted : List ℕ) (before : List Tables) (extents : List Extent) (tables : List Tables) (image : List ℕ) → AreRead extents tables image → RowsPrecede (table_rows before ++ table_rows tables)
+    → AreBelow root (table_rows before ++ table_rows tables) → AreOrdered (live_in deleted (table_rows before ++ table_rows tables)) → levels_from root deleted before extents image ≡ Ok (before ++ tables)
 read_again root deleted before [] [] image read rise below ordered = ap (λ (l : List Tables). Ok l) (sym (append-nil before))
 read_again root deleted before [] (t ∷ ts) image read rise below ordered = absurd read
 read_again root deleted before (e ∷ es) [] image read rise below ordered = absurd read
 read_again root deleted before (e ∷ es) (t ∷ ts) image read rise below ordered =
     let rows = t.documents in
-    let others = rows_in ts in
-    let here : All (IsBehindAll (rows_in before)) rows = all_left (IsBehindAll (rows_in before)) rows others (rise_apart (rows_in before) (rows ++ others) rise) in
+    let others = table_rows ts in
+    let here : All (IsBehindAll (table_rows before)) rows = all_left (IsBehindAll (table_rows before)) rows others (rise_apart (table_rows before) (rows ++ others) rise) in
     let low : AreBelow root rows =
     all_left (λ (row : DocRow). (row.number < root.next_number) × (end_of row < root.next_location)) rows others
-    (all_right (λ (row : DocRow). (row.number < root.next_number) × (end_of row < root.next_location)) (rows_in before) (rows ++ others) below) in
-    let live : AreOrdered (live_in deleted (rows_in before) ++ (live_in deleted rows ++ live_in deleted others)) =
-    subst AreOrdered (live_append deleted (rows_in before) (rows ++ others) ∙ ap (λ (x : List Named). live_in deleted (rows_in before) ++ x) (live_append deleted rows others)) ordered in
+    (all_right (λ (row : DocRow). (row.number < root.next_number) × (end_of row < root.next_location)) (table_rows before) (rows ++ others) below) in
+    let live : AreOrdered (live_in deleted (table_rows before) ++ (live_in deleted rows ++ live_in deleted others)) =
+    subst AreOrdered (live_append deleted (table_rows before) (rows ++ others) ∙ ap (λ (x : List Named). live_in deleted (table_rows before) ++ x) (live_append deleted rows others)) ordered in
     let found : with_level root deleted before e image ≡ Ok (before ++ t ∷ []) =
-    level_found root deleted before e image t (live_in deleted (rows_in before) ++ live_in deleted rows) read.0 (order_read root before rows here low)
-    (names_read deleted t (live_in deleted (rows_in before)) 0 rows (live_in deleted others) live) in
-    let same : rows_in before ++ (rows ++ others) ≡ rows_in (before ++ t ∷ []) ++ others =
-    sym (append_assoc (rows_in before) rows others) ∙ ap (λ (x : List DocRow). x ++ others) (sym (rows_more before t)) in
+    level_found root deleted before e image t (live_in deleted (table_rows before) ++ live_in deleted rows) read.0 (order_read root before rows here low)
+    (names_read deleted t (live_in deleted (table_rows before)) 0 rows (live_in deleted others) live) in
+    let same : table_rows before ++ (rows ++ others) ≡ table_rows (before ++ t ∷ []) ++ others =
+    sym (append_assoc (table_rows before) rows others) ∙ ap (λ (x : List DocRow). x ++ others) (sym (rows_more before t)) in
     ap (λ (r : Result (List Tables) ℕ). r >>= λ longer. levels_from root deleted longer es image) found
-    ∙ read_again root deleted (before ++ t ∷ []) es ts image read.1 (subst RowsRise same rise) (subst (AreBelow root) same below)
+    ∙ read_again root deleted (before ++ t ∷ []) es ts image read.1 (subst RowsPrecede same rise) (subst (AreBelow root) same below)
     (subst (λ (x : List DocRow). AreOrdered (live_in deleted x)) same ordered)
     ∙ ap (λ (x : List Tables). Ok x) (append_assoc before (t ∷ []) ts)

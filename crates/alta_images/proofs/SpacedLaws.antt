@@ -19,14 +19,14 @@ use Rattle.alta_root.specs.declared.root.Root.{Root}
 use Rattle.alta_images.specs.Entries.{after_entries}
 use Rattle.alta_images.specs.Levels.{Level}
 use Rattle.alta_images.specs.Views.{View, rooted, state_of}
-use Rattle.alta_images.specs.Work.{newest, rows_in as level_rows}
+use Rattle.alta_images.specs.Work.{newest, level_rows}
 use Rattle.alta_images.proofs.Tests.{by_test, below_from, and_left, and_right}
 use Rattle.alta_table.specs.Tables.{Tables}
 use Rattle.alta_content.specs.declared.document.DocRow.{DocRow}
 use Rattle.alta_images.specs.Holding.{Holding, IsHeld, IsSpaced}
 use Rattle.alta_images.specs.Known.{Known, known_of, replayed}
-use Rattle.alta_images.specs.Opened.{Opened, IsNamed, journal_of, bytes_at, comes_behind, is_below, are_in_order, with_level, levels_from, rows_in, live_in, have_ends, known_at}
-use Rattle.alta_images.specs.Ordered.{AreBelow, AreOrdered, IsOrdered, Precedes, RowsRise}
+use Rattle.alta_images.specs.Opened.{Opened, IsNamed, journal_of, bytes_at, comes_behind, is_below, are_in_order, with_level, levels_from, table_rows, live_in, have_ends, known_at}
+use Rattle.alta_images.specs.Ordered.{AreBelow, AreOrdered, IsOrdered, Precedes, RowsPrecede}
 use Rattle.alta_images.specs.Standing.{AreLevels, tables_by, view_of}
 use Rattle.alta_images.specs.Switching.{IsWritten, MayStand}
 use Rattle.alta_images.proofs.KnownLaws.{IsWithin, all_weaker, all_both, allows_replayed}
@@ -41,7 +41,7 @@ use Rattle.alta_images.proofs.ReadLaws.{IsBehindAll}
 IsFrom : Before → DocRow → Type 0
 IsFrom before row = (before.number < row.number) × (before.end < row.first)
 
-rows_from : (before : Before) (rows : List DocRow) → AreDocumentsBehind before rows → RowsRise rows × All (IsFrom before) rows
+rows_from : (before : Before) (rows : List DocRow) → AreDocumentsBehind before rows → RowsPrecede rows × All (IsFrom before) rows
 unfolding AreDocumentsBehind IsFrom
 rows_from before [] are = (tt, All-nil (IsFrom before))
 rows_from before (row ∷ rows) are =
@@ -57,7 +57,7 @@ unfolding AreDocumentsBehind
 rows_filled before [] are = All-nil IsFilled
 rows_filled before (row ∷ rows) are = All-cons IsFilled row rows (omega (arith, are.0.some_cells)) (rows_filled (behind_row before row) rows are.1)
 
-rise_append : (xs ys : List DocRow) → RowsRise xs → RowsRise ys → All (IsBehindAll xs) ys → RowsRise (xs ++ ys)
+rise_append : (xs ys : List DocRow) → RowsPrecede xs → RowsPrecede ys → All (IsBehindAll xs) ys → RowsPrecede (xs ++ ys)
 rise_append [] ys first second behind = second
 rise_append (x ∷ xs) ys first second behind = (
   All-append (Precedes x) xs ys first.0 (all_weaker (IsBehindAll (x ∷ xs)) (Precedes x) ys (λ y all. All-head (λ (row : DocRow). Precedes row y) x xs all) behind),
@@ -66,21 +66,21 @@ rise_append (x ∷ xs) ys first second behind = (
 
 -- ---- a level behind others
 
-behind_levels : (root : Root) (levels : List Tables) (rows : List DocRow) → are_in_order root levels rows ≡ true → All (IsBehindAll (rows_in levels)) rows × AreBelow root rows
+behind_levels : (root : Root) (levels : List Tables) (rows : List DocRow) → are_in_order root levels rows ≡ true → All (IsBehindAll (table_rows levels)) rows × AreBelow root rows
 behind_levels root levels rows ordered =
-    let test : DocRow → Bool = λ row. is_below root row && list_all (λ (earlier : DocRow). comes_behind earlier row) (rows_in levels) in
+    let test : DocRow → Bool = λ row. is_below root row && list_all (λ (earlier : DocRow). comes_behind earlier row) (table_rows levels) in
     let all : All (λ (row : DocRow). test row ≡ true) rows = all_from test rows ordered in (
-      all_weaker (λ (row : DocRow). test row ≡ true) (IsBehindAll (rows_in levels)) rows
-          (λ row e. all_weaker (λ (earlier : DocRow). comes_behind earlier row ≡ true) (λ (earlier : DocRow). Precedes earlier row) (rows_in levels)
+      all_weaker (λ (row : DocRow). test row ≡ true) (IsBehindAll (table_rows levels)) rows
+          (λ row e. all_weaker (λ (earlier : DocRow). comes_behind earlier row ≡ true) (λ (earlier : DocRow). Precedes earlier row) (table_rows levels)
           (λ earlier behind. (
             below_from earlier.number row.number (and_left (nat_lt earlier.number row.number) (nat_lt (end_of earlier) row.first) behind),
             below_from (end_of earlier) row.first (and_right (nat_lt earlier.number row.number) (nat_lt (end_of earlier) row.first) behind),
           ))
-          (all_from (λ (earlier : DocRow). comes_behind earlier row) (rows_in levels) (and_right (is_below root row) (list_all (λ (earlier : DocRow). comes_behind earlier row) (rows_in levels)) e)))
+          (all_from (λ (earlier : DocRow). comes_behind earlier row) (table_rows levels) (and_right (is_below root row) (list_all (λ (earlier : DocRow). comes_behind earlier row) (table_rows levels)) e)))
           all,
       all_weaker (λ (row : DocRow). test row ≡ true) (λ (row : DocRow). (row.number < root.next_number) × (end_of row < root.next_location)) rows
           (λ row e.
-          let below : is_below root row ≡ true = and_left (is_below root row) (list_all (λ (earlier : DocRow). comes_behind earlier row) (rows_in levels)) e in (
+          let below : is_below root row ≡ true = and_left (is_below root row) (list_all (λ (earlier : DocRow). comes_behind earlier row) (table_rows levels)) e in (
             below_from row.number root.next_number (and_left (nat_lt row.number root.next_number) (nat_lt (end_of row) root.next_location) below),
             below_from (end_of row) root.next_location (and_right (nat_lt row.number root.next_number) (nat_lt (end_of row) root.next_location) below),
           ))
@@ -92,34 +92,34 @@ Below root row = (row.number < root.next_number) × (end_of row < root.next_loca
 
 -- rows of levels rise, lie below the root's next, and have cells
 record AreSpaced (root : Root) (rows : List DocRow) : Type 0 where
-  rise : RowsRise rows
+  rise : RowsPrecede rows
   below : AreBelow root rows
   filled : All IsFilled rows
 
-level_spaced : (root : Root) (levels : List Tables) (level : Tables) → AreDocuments level.documents → are_in_order root levels level.documents ≡ true → AreSpaced root (rows_in levels) → AreSpaced root (rows_in (levels ++ level ∷ []))
+level_spaced : (root : Root) (levels : List Tables) (level : Tables) → AreDocuments level.documents → are_in_order root levels level.documents ≡ true → AreSpaced root (table_rows levels) → AreSpaced root (table_rows (levels ++ level ∷ []))
 level_spaced root levels level are ordered so_far =
     let behind = behind_levels root levels level.documents ordered in
     subst (AreSpaced root) (sym (rows_more levels level)) (record {
-      rise = rise_append (rows_in levels) level.documents so_far.rise (rows_from start level.documents are).0 behind.0;
-      below = All-append (Below root) (rows_in levels) level.documents so_far.below behind.1;
-      filled = All-append IsFilled (rows_in levels) level.documents so_far.filled (rows_filled start level.documents are);
+      rise = rise_append (table_rows levels) level.documents so_far.rise (rows_from start level.documents are).0 behind.0;
+      below = All-append (Below root) (table_rows levels) level.documents so_far.below behind.1;
+      filled = All-append IsFilled (table_rows levels) level.documents so_far.filled (rows_filled start level.documents are);
     })
 
 levels_spaced : (root : Root) (deleted : List ℕ) (levels : List Tables) (extents : List Extent) (image : List ℕ) (final : List Tables) → levels_from root deleted levels extents image ≡ Ok final → All HasDocuments final
-    → AreSpaced root (rows_in levels) → AreSpaced root (rows_in final)
-levels_spaced root deleted levels [] image final e all so_far = subst (λ (ls : List Tables). AreSpaced root (rows_in ls)) (one_value {E = ℕ} (Ok levels) levels final refl e) so_far
+    → AreSpaced root (table_rows levels) → AreSpaced root (table_rows final)
+levels_spaced root deleted levels [] image final e all so_far = subst (λ (ls : List Tables). AreSpaced root (table_rows ls)) (one_value {E = ℕ} (Ok levels) levels final refl e) so_far
 levels_spaced root deleted levels (extent ∷ more) image final e all so_far =
     let first = first_of_levels root deleted levels extent more image final (with_level root deleted levels extent image) refl e in
     let step = is_more root deleted levels first.longer extent image first.here in
     let rest = in_front root deleted first.longer more image final first.rest in
     let split : final ≡ levels ++ step.level ∷ rest.0 = rest.1 ∙ ap (λ (l : List Tables). l ++ rest.0) step.longer_is ∙ append_assoc levels (step.level ∷ []) rest.0 in
     levels_spaced root deleted first.longer more image final first.rest all
-    (subst (λ (ls : List Tables). AreSpaced root (rows_in ls)) (sym step.longer_is)
+    (subst (λ (ls : List Tables). AreSpaced root (table_rows ls)) (sym step.longer_is)
     (level_spaced root levels step.level (all_middle HasDocuments levels step.level rest.0 (subst (All HasDocuments) split all)) step.ordered so_far))
 
 -- ---- what is held is spaced
 
-space_rise : (added : List Added) → IsSpace added → RowsRise (map (λ (a : Added). a.row) added)
+space_rise : (added : List Added) → IsSpace added → RowsPrecede (map (λ (a : Added). a.row) added)
 space_rise [] space = tt
 space_rise (a ∷ more) space =
     (All-map (Precedes a.row) (λ (b : Added). b.row) more (all_both (λ (b : Added). a.row.number < b.row.number) (λ (b : Added). end_of a.row < b.row.first) more space.1 space.2), space_rise more space.3)
@@ -139,17 +139,17 @@ end_below end location (row ∷ rows) has all =
     or_behind true b e has = absurd (false≢true (sym e))
     or_behind false b e has = has
 
-ends_below : (root : Root) (levels : List Tables) (deleted : List ℕ) → have_ends levels deleted ≡ true → AreBelow root (rows_in levels) → All (λ end. end < root.next_location) deleted
+ends_below : (root : Root) (levels : List Tables) (deleted : List ℕ) → have_ends levels deleted ≡ true → AreBelow root (table_rows levels) → All (λ end. end < root.next_location) deleted
 ends_below root levels deleted ends below =
-    all_weaker (λ end. list_any (λ (row : DocRow). ends_among (end ∷ []) row) (rows_in levels) ≡ true) (λ end. end < root.next_location) deleted
-    (λ end has. end_below end root.next_location (rows_in levels) has (all_weaker (Below root) (λ (row : DocRow). end_of row < root.next_location) (rows_in levels) (λ row both. both.1) below))
-    (all_from (λ end. list_any (λ (row : DocRow). ends_among (end ∷ []) row) (rows_in levels)) deleted ends)
+    all_weaker (λ end. list_any (λ (row : DocRow). ends_among (end ∷ []) row) (table_rows levels) ≡ true) (λ end. end < root.next_location) deleted
+    (λ end has. end_below end root.next_location (table_rows levels) has (all_weaker (Below root) (λ (row : DocRow). end_of row < root.next_location) (table_rows levels) (λ row both. both.1) below))
+    (all_from (λ end. list_any (λ (row : DocRow). ends_among (end ∷ []) row) (table_rows levels)) deleted ends)
 
 -- levels with the rows of what is opened, whatever their lists are
-pub rows_spaced : (o : Opened) (levels : List Level) (image : List ℕ) → IsNamed o image → All HasDocuments o.levels → rows_in o.levels ≡ level_rows levels → known_at o.root o.deleted o.levels ≡ known_of (rooted (view_of o levels))
+pub rows_spaced : (o : Opened) (levels : List Level) (image : List ℕ) → IsNamed o image → All HasDocuments o.levels → table_rows o.levels ≡ level_rows levels → known_at o.root o.deleted o.levels ≡ known_of (rooted (view_of o levels))
     → IsSpace (newest (view_of o levels)) → IsSpaced (view_of o levels)
 rows_spaced o levels image named documents rows known space =
-    let here : AreSpaced o.root (rows_in o.levels) =
+    let here : AreSpaced o.root (table_rows o.levels) =
     levels_spaced o.root o.deleted [] o.root.levels.items image o.levels named.tables documents (record { rise = tt; below = All-nil (Below o.root); filled = All-nil IsFilled }) in
     let spaced : AreSpaced o.root (level_rows levels) = subst (AreSpaced o.root) rows here in
     let view = view_of o levels in
@@ -175,7 +175,7 @@ rows_spaced o levels image named documents rows known space =
 
 view_spaced : (o : Opened) (levels : List Level) (image : List ℕ) → IsNamed o image → AreLevels o levels image → IsSpace (newest (view_of o levels)) → IsSpaced (view_of o levels)
 view_spaced o levels image named are space =
-    rows_spaced o levels image named (subst (All HasDocuments) (sym are.tables) (has_documents levels image are.segments)) (ap rows_in are.tables ∙ flat_map-map (λ (t : Tables). t.documents) tables_by levels)
+    rows_spaced o levels image named (subst (All HasDocuments) (sym are.tables) (has_documents levels image are.segments)) (ap table_rows are.tables ∙ flat_map-map (λ (t : Tables). t.documents) tables_by levels)
     (rooted_known o levels are.tables) space
 
 pub held_spaced : (held : Holding) (image : List ℕ) → IsHeld held image → IsSpace (newest held.view) → IsSpaced held.view
@@ -194,7 +194,7 @@ read_levels coming levels image is =
 -- A root that was written may stand for the state of its levels, where that is in order.
 pub written_stands : (s : State) (coming : Opened) (levels : List Level) (image : List ℕ) → IsWritten coming levels image → state_of (view_of coming levels) ≡ s → IsOrdered (known_of s) → MayStand s coming image
 written_stands s coming levels image is state_is ordered =
-    let rows : rows_in coming.levels ≡ rows_in (map tables_by levels) = ap rows_in is.put.are.tables in
+    let rows : table_rows coming.levels ≡ table_rows (map tables_by levels) = ap table_rows is.put.are.tables in
     let known = rooted_known coming levels is.put.are.tables in
     let same : state_of (view_of coming levels) ≡ rooted (view_of coming levels) = ap (λ (es : List Entry). after_entries (rooted (view_of coming levels)) es) is.put.empty in
     let here : IsOrdered (known_at coming.root coming.deleted coming.levels) = subst IsOrdered (sym known) (subst (λ (t : State). IsOrdered (known_of t)) (sym state_is ∙ same) ordered) in
@@ -204,8 +204,8 @@ written_stands s coming levels image is state_is ordered =
         named = record {
           list = list_read coming.root coming.deleted image is.put.list;
           tables =
-              levels_read coming.root coming.deleted levels image is.put.are.extents (read_levels coming levels image is) (subst RowsRise rows is.place.rise) (subst (AreBelow coming.root) rows is.place.below)
-              (subst (λ (ts : List Tables). AreOrdered (live_in coming.deleted (rows_in ts))) is.put.are.tables here.ordered)
+              levels_read coming.root coming.deleted levels image is.put.are.extents (read_levels coming levels image is) (subst RowsPrecede rows is.place.rise) (subst (AreBelow coming.root) rows is.place.below)
+              (subst (λ (ts : List Tables). AreOrdered (live_in coming.deleted (table_rows ts))) is.put.are.tables here.ordered)
               ∙ ap (λ (ts : List Tables). Ok ts) (sym is.put.are.tables);
           ends = is.place.ends;
           journal = subst (λ (es : List Entry). EndsAt (journal_of coming.slot) coming.tail es image) (sym is.put.empty) is.put.journal;

@@ -8,7 +8,7 @@ use Rattle.alta_journal.specs.declared.places.TheConstants.{HALF_BYTES}
 use Rattle.alta_meta.specs.declared.document.State.{State}
 use Rattle.alta_root.specs.Gaps.{IsGap, taken_by}
 use Rattle.alta_root.specs.Places.{slot_start, other}
-use Rattle.alta_root.specs.Root.{extents_of, no_extent, IsExtent, AreLevels as AreExtents, IsSound}
+use Rattle.alta_root.specs.Root.{extents_of, no_extent, IsExtent, AreExtents, IsSound}
 use Rattle.alta_root.specs.Slots.{Counts}
 use Rattle.alta_root.specs.Switches.{MayFollow, slot_range, Switches, Switched}
 use Rattle.alta_root.specs.declared.places.TheConstants.{HEAD_BYTES}

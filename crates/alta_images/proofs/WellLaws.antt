@@ -15,13 +15,13 @@ use Rattle.alta_postings.specs.Deltas.{stream_bytes}
 use Rattle.alta_root.specs.Root.{no_extent}
 use Rattle.alta_images.specs.Levels.{Level}
 use Rattle.alta_images.specs.Views.{View}
-use Rattle.alta_images.specs.Work.{Job, Coming, stays, coming, newest, newest_content, gone, gone_among, is_gone, is_merged, leaves_out, job_of, begun, oldest_joined, with_oldest, whole_of, rows_in, Task, enters, flushes, merges, steps, fits}
+use Rattle.alta_images.specs.Work.{Job, Coming, stays, coming, newest, newest_content, gone, gone_among, is_gone, is_merged, leaves_out, job_of, begun, oldest_joined, with_oldest, whole_of, level_rows, Task, enters, flushes, merges, steps, fits}
 use Rattle.alta_images.proofs.Tests.{by_test, bytes_from, equal_from}
 use Rattle.alta_content.specs.declared.document.DocRow.{DocRow}
 use Rattle.alta_images.specs.Chain.{◌>>=◌}
 use Rattle.alta_root.specs.Gaps.{first_gap, greatest_gap}
-use Rattle.alta_images.specs.Holding.{Holding, IsJob, IsJobOf, IsSpaced, IsWell, taken_by}
-use Rattle.alta_images.specs.Ordered.{RowsRise}
+use Rattle.alta_images.specs.Holding.{Holding, IsJob, IsJobOf, IsSpaced, IsWell, taken_by_held}
+use Rattle.alta_images.specs.Ordered.{RowsPrecede}
 use Rattle.alta_images.specs.Working.{Full, Placed, in_front, placed, placed_at, placed_levels, placed_list, switched, flushed, merged, stepped, moved, entered, worked, rows_of}
 use Rattle.alta_root.proofs.GapFunctions.{first_some}
 use Rattle.alta_images.proofs.KnownLaws.{all_weaker, all_both}
@@ -75,7 +75,7 @@ list_listed limit held taken deleted list listed e =
 switched_listed : (limit : ℕ) (held : Holding) (levels : List Coming) (job : Option Job) (then : Holding) → IsWell held → (is : IsSwitched limit held levels job then) → IsListed then.list then.view.deleted
 switched_listed limit held levels job then well is =
     subst (λ (h : Holding). IsListed h.list h.view.deleted) (sym is.then_is)
-    (list_listed limit held is.now.taken (gone_among held.view (rows_in is.now.levels)) is.list well.listed is.list_is)
+    (list_listed limit held is.now.taken (gone_among held.view (level_rows is.now.levels)) is.list well.listed is.list_is)
 
 -- one that ends its job
 switched_well : (limit : ℕ) (held : Holding) (levels : List Coming) (then : Holding) → IsWell held → switched limit held levels None ≡ Ok then → IsWell then
@@ -105,9 +105,9 @@ flush_gone : (view : View) → IsSpaced view → AreGone view (gone_among view (
 flush_gone view spaced =
     let news = map (λ (a : Added). a.row) (newest view) in
     let live : DocRow → Bool = λ r. not (ends_among (gone view) r) in
-    let rows : rows_of (flush_contents view) ≡ rows_in view.levels ++ filter live news = flush_rows view ∙ ap (λ (rs : List DocRow). rows_in view.levels ++ rs) (live_rows_are view spaced) in
-    ends_kept (is_gone view) [] (rows_of (flush_contents view)) (subst RowsRise (sym rows) (rise_some live (rows_in view.levels) news spaced.rise))
-    (subst (All IsFilled) (sym rows) (All-append IsFilled (rows_in view.levels) (filter live news) (all_left IsFilled (rows_in view.levels) news spaced.filled) (All-filter live IsFilled news (all_right IsFilled (rows_in view.levels) news spaced.filled))))
+    let rows : rows_of (flush_contents view) ≡ level_rows view.levels ++ filter live news = flush_rows view ∙ ap (λ (rs : List DocRow). level_rows view.levels ++ rs) (live_rows_are view spaced) in
+    ends_kept (is_gone view) [] (rows_of (flush_contents view)) (subst RowsPrecede (sym rows) (rise_some live (level_rows view.levels) news spaced.rise))
+    (subst (All IsFilled) (sym rows) (All-append IsFilled (level_rows view.levels) (filter live news) (all_left IsFilled (level_rows view.levels) news spaced.filled) (All-filter live IsFilled news (all_right IsFilled (level_rows view.levels) news spaced.filled))))
 
 or_false : (b : Bool) → (b || false) ≡ b
 or_false true = refl
@@ -116,20 +116,20 @@ or_false false = refl
 flush_job : (limit : ℕ) (held : Holding) (job : Job) (then : Holding) → IsSpaced held.view → IsJob job held.view → IsSwitched limit held (map stays held.view.levels ++ coming (newest_content held.view)) (Some job) then → IsJob job then.view
 flush_job limit held job then spaced is_job is =
     let view = held.view in
-    let front = placed_stay limit (taken_by held) view.levels (coming (newest_content view)) is.now is.placed_is in
+    let front = placed_stay limit (taken_by_held held) view.levels (coming (newest_content view)) is.now is.placed_is in
     let levels : is.now.levels ≡ is_job.older ∷ is_job.newer ∷ (is_job.more ++ front.behind) = front.levels_are ∙ ap (λ (ls : List Level). ls ++ front.behind) is_job.oldest in
-    let rows : rows_in is.now.levels ≡ rows_of (flush_contents view) =
-    sym (rows_by_levels is.now.levels) ∙ ap rows_of (placed_contents limit (taken_by held) (map stays view.levels ++ coming (newest_content view)) is.now is.placed_is) in
-    let ends = gone_among view (rows_in is.now.levels) in
-    let are : AreGone view ends (rows_in is.now.levels) = subst (λ (rs : List DocRow). AreGone view (gone_among view rs) rs) (sym rows) (flush_gone view spaced) in
-    let split : AreGone view ends (job.older.documents ++ (job.newer.documents ++ rows_in (is_job.more ++ front.behind))) =
-    subst (λ (c : Content). AreGone view ends (c.documents ++ (job.newer.documents ++ rows_in (is_job.more ++ front.behind)))) (sym is_job.contents.0)
-    (subst (λ (c : Content). AreGone view ends (is_job.older.content.documents ++ (c.documents ++ rows_in (is_job.more ++ front.behind)))) (sym is_job.contents.1)
-    (subst (λ (ls : List Level). AreGone view ends (rows_in ls)) levels are)) in
+    let rows : level_rows is.now.levels ≡ rows_of (flush_contents view) =
+    sym (rows_by_levels is.now.levels) ∙ ap rows_of (placed_contents limit (taken_by_held held) (map stays view.levels ++ coming (newest_content view)) is.now is.placed_is) in
+    let ends = gone_among view (level_rows is.now.levels) in
+    let are : AreGone view ends (level_rows is.now.levels) = subst (λ (rs : List DocRow). AreGone view (gone_among view rs) rs) (sym rows) (flush_gone view spaced) in
+    let split : AreGone view ends (job.older.documents ++ (job.newer.documents ++ level_rows (is_job.more ++ front.behind))) =
+    subst (λ (c : Content). AreGone view ends (c.documents ++ (job.newer.documents ++ level_rows (is_job.more ++ front.behind)))) (sym is_job.contents.0)
+    (subst (λ (c : Content). AreGone view ends (is_job.older.content.documents ++ (c.documents ++ level_rows (is_job.more ++ front.behind)))) (sym is_job.contents.1)
+    (subst (λ (ls : List Level). AreGone view ends (level_rows ls)) levels are)) in
     let P : DocRow → Type 0 = λ row. ends_among ends row ≡ is_gone view row in
     let oldest : All P (job.older.documents ++ job.newer.documents) =
-    all_left P (job.older.documents ++ job.newer.documents) (rows_in (is_job.more ++ front.behind))
-    (subst (All P) (sym (append_assoc job.older.documents job.newer.documents (rows_in (is_job.more ++ front.behind)))) split) in
+    all_left P (job.older.documents ++ job.newer.documents) (level_rows (is_job.more ++ front.behind))
+    (subst (All P) (sym (append_assoc job.older.documents job.newer.documents (level_rows (is_job.more ++ front.behind)))) split) in
     subst (λ (h : Holding). IsJob job h.view) (sym is.then_is) (record {
       older = is_job.older;
       newer = is_job.newer;
@@ -195,9 +195,9 @@ begun_is view spaced (older ∷ newer ∷ more) is job e left =
       dead =
           all_weaker (λ (row : DocRow). ends_among (gone view) row ≡ is_gone view row) (λ (row : DocRow). ends_among (gone view) row ≡ true → is_gone view row ≡ true) (older.content.documents ++ newer.content.documents)
           (λ row same dead. sym same ∙ dead)
-          (all_left (λ (row : DocRow). ends_among (gone view) row ≡ is_gone view row) (older.content.documents ++ newer.content.documents) (rows_in more)
-          (subst (AreGone view (gone view)) (sym (append_assoc older.content.documents newer.content.documents (rows_in more)))
-          (subst (λ (ls : List Level). AreGone view (gone view) (rows_in ls)) is (all_left (λ (row : DocRow). ends_among (gone view) row ≡ is_gone view row) (rows_in view.levels) (map (λ (a : Added). a.row) (newest view)) (gone_are view spaced)))));
+          (all_left (λ (row : DocRow). ends_among (gone view) row ≡ is_gone view row) (older.content.documents ++ newer.content.documents) (level_rows more)
+          (subst (AreGone view (gone view)) (sym (append_assoc older.content.documents newer.content.documents (level_rows more)))
+          (subst (λ (ls : List Level). AreGone view (gone view) (level_rows ls)) is (all_left (λ (row : DocRow). ends_among (gone view) row ≡ is_gone view row) (level_rows view.levels) (map (λ (a : Added). a.row) (newest view)) (gone_are view spaced)))));
     }) left
 
 -- ---- a step

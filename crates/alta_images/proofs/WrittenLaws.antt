@@ -6,7 +6,7 @@ use Rattle.alta_codec.specs.declared.extent.Extent.{Extent}
 use Rattle.alta_codec.specs.Bytes.{AreBytes}
 use Rattle.alta_level.specs.Segments.{IsSegment}
 use Rattle.alta_level.proofs.Spelled.{segment_tables}
-use Rattle.alta_postings.specs.Deltas.{Spells, fault_from, first_fault, list_from, locations_of}
+use Rattle.alta_postings.specs.Deltas.{Spells, fault_from, first_fault, list_from, decoded_list}
 use Rattle.alta_postings.proofs.Reading.{spelling_reads}
 use Rattle.alta_root.specs.Root.{no_extent}
 use Rattle.alta_root.specs.declared.root.Root.{Root}
@@ -15,8 +15,8 @@ use Rattle.alta_images.specs.Views.{View, state_of}
 use Rattle.alta_table.specs.Tables.{AreTables}
 use Rattle.alta_table.proofs.TableLaws.{are_tables}
 use Rattle.alta_images.specs.Holding.{Holding, IsHeld}
-use Rattle.alta_images.specs.Opened.{bytes_at, list_at, deleted_in, tables_at, levels_from, levels_in, rows_in, live_in}
-use Rattle.alta_images.specs.Ordered.{AreOrdered, RowsRise, AreBelow}
+use Rattle.alta_images.specs.Opened.{bytes_at, list_at, deleted_in, tables_at, levels_from, levels_in, table_rows, live_in}
+use Rattle.alta_images.specs.Ordered.{AreOrdered, RowsPrecede, AreBelow}
 use Rattle.alta_images.specs.Standing.{StandsFor, tables_by}
 use Rattle.alta_images.proofs.Steps.{one_value}
 use Rattle.alta_images.proofs.ReadLaws.{AreRead, read_again}
@@ -46,8 +46,8 @@ are_read : (levels : List Level) (image : List ℕ) → All (IsRead image) level
 are_read [] image read = tt
 are_read (l ∷ ls) image read = (All-head (IsRead image) l ls read, are_read ls image (All-tail (IsRead image) l ls read))
 
-pub levels_read : (root : Root) (deleted : List ℕ) (levels : List Level) (image : List ℕ) → root.levels.items ≡ map (λ (l : Level). l.extent) levels → All (IsRead image) levels → RowsRise (rows_in (map tables_by levels))
-    → AreBelow root (rows_in (map tables_by levels)) → AreOrdered (live_in deleted (rows_in (map tables_by levels))) → levels_in root deleted image ≡ Ok (map tables_by levels)
+pub levels_read : (root : Root) (deleted : List ℕ) (levels : List Level) (image : List ℕ) → root.levels.items ≡ map (λ (l : Level). l.extent) levels → All (IsRead image) levels → RowsPrecede (table_rows (map tables_by levels))
+    → AreBelow root (table_rows (map tables_by levels)) → AreOrdered (live_in deleted (table_rows (map tables_by levels))) → levels_in root deleted image ≡ Ok (map tables_by levels)
 levels_read root deleted levels image extents read rise below ordered =
     ap (λ (es : List Extent). levels_from root deleted [] es image) extents
     ∙ read_again root deleted [] (map (λ (l : Level). l.extent) levels) (map tables_by levels) image (are_read levels image read) rise below ordered
@@ -62,7 +62,7 @@ held_stands held image is = record {
 }
 
 pub held_without : (held : Holding) (image : List ℕ) → IsHeld held image → held.list ≡ no_extent → held.view.deleted ≡ []
-unfolding deleted_in first_fault fault_from list_from locations_of
+unfolding deleted_in first_fault fault_from list_from decoded_list
 held_without held image is none =
     let list : is.opened.root.deletions ≡ no_extent = sym is.list_is ∙ none in
     let bytes : bytes_at is.opened.root.deletions image ≡ [] = ap (λ (e : Extent). bytes_at e image) list in

@@ -1,12 +1,12 @@
 -- Where an image that has a root breaks the first rule, in the order in which opening tests them.
 use Rattle.std.specs.Prelude.{◌≡◌, ◌⊎◌, ℕ, ◌+◌, true, false, List, [], ◌∷◌, ◌++◌, drop, Contains, Ok, Err}
 use Rattle.alta_codec.specs.declared.extent.Extent.{Extent}
-use Rattle.alta_journal.specs.Journal.{EndsAt, IsBroken}
+use Rattle.alta_journal.specs.Journal.{EndsAt, HasBrokenHalf}
 use Rattle.alta_journal.specs.Placed.{placed}
 use Rattle.alta_journal.specs.declared.entry.Entry.{Entry}
 use Rattle.alta_level.specs.Damage.{data_place, stored_at}
 use Rattle.alta_level.specs.Stored.{IsListFault}
-use Rattle.alta_root.specs.Slots.{Counts, IsDamaged}
+use Rattle.alta_root.specs.Slots.{Counts, HasBrokenSlots}
 use Rattle.alta_root.specs.declared.root.Root.{Root}
 use Rattle.alta_root.specs.declared.slot.Slot.{Slot}
 use Rattle.alta_table.specs.Tables.{Tables}
@@ -35,7 +35,7 @@ pub record HasLevels (slot : Slot) (root : Root) (deleted : List ℕ) (levels : 
 -- The first rule that is broken: all steps of opening before this one are fine.
 pub data IsBrokenAt (image : List ℕ) : ℕ → Type 0 where
   -- the length of the disk, slot A, slot B, or the sequences of both
-  in_slots : (place : ℕ) → IsDamaged image place → IsBrokenAt image place
+  in_slots : (place : ℕ) → HasBrokenSlots image place → IsBrokenAt image place
   -- the stream of the deletion list
   in_list : (slot : Slot) (root : Root) (place : ℕ) → Counts slot root image → deleted_in root image ≡ Err place → IsBrokenAt image place
   -- of each level, the oldest first: its head and its tables
@@ -52,7 +52,7 @@ pub data IsBrokenAt (image : List ℕ) : ℕ → Type 0 where
       → have_ends levels deleted ≡ false → IsBrokenAt image root.deletions.place
   -- the records of the journal, each by itself
   in_records : (slot : Slot) (root : Root) (deleted : List ℕ) (levels : List Tables) (place : ℕ) → HasLevels slot root deleted levels image
-      → have_ends levels deleted ≡ true → IsBroken (journal_of slot) place image → IsBrokenAt image place
+      → have_ends levels deleted ≡ true → HasBrokenHalf (journal_of slot) place image → IsBrokenAt image place
   -- the entries, each against the documents before it
   in_entries : (slot : Slot) (root : Root) (deleted : List ℕ) (levels : List Tables) (entries : List Entry) (tail place : ℕ) → HasLevels slot root deleted levels image
       → have_ends levels deleted ≡ true → EndsAt (journal_of slot) tail entries image

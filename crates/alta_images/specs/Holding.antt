@@ -9,10 +9,10 @@ use Rattle.alta_root.specs.Root.{no_extent}
 use Rattle.alta_images.specs.Entries.{AllowsAll}
 use Rattle.alta_images.specs.Levels.{Level}
 use Rattle.alta_images.specs.Views.{View, rooted}
-use Rattle.alta_images.specs.Work.{Job, extents_in, is_gone, newest, rows_in}
+use Rattle.alta_images.specs.Work.{Job, extents_in, is_gone, newest, level_rows}
 use Rattle.alta_content.specs.declared.document.DocRow.{DocRow}
 use Rattle.alta_images.specs.Opened.{Opened, IsOpened}
-use Rattle.alta_images.specs.Ordered.{RowsRise}
+use Rattle.alta_images.specs.Ordered.{RowsPrecede}
 use Rattle.alta_images.specs.Standing.{AreLevels, view_of}
 use Rattle.alta_content.specs.Joining.{terms_in}
 
@@ -23,8 +23,8 @@ pub record Holding : Type 0 where
   pub job : Option Job
 
 -- the extents of the root in force
-abbrev pub taken_by : Holding → List Extent
-taken_by held = held.list ∷ extents_in held.view.levels
+abbrev pub taken_by_held : Holding → List Extent
+taken_by_held held = held.list ∷ extents_in held.view.levels
 
 -- A job is over the two oldest levels, a term is left, and what was dead when it began is gone.
 pub record IsJob (job : Job) (view : View) : Type 0 where
@@ -47,14 +47,14 @@ pub record IsWell (held : Holding) : Type 0 where
 
 -- all rows of a view: of its levels, the oldest first, and of the newest documents
 abbrev pub all_rows : View → List DocRow
-all_rows view = rows_in view.levels ++ map (λ (a : Added). a.row) (newest view)
+all_rows view = level_rows view.levels ++ map (λ (a : Added). a.row) (newest view)
 
 -- All rows rise, each with a cell at least. The levels' rows lie below the next number and location, and so do what is deleted and
 -- the numbers of the root's documents; the newest documents' cells have places, and each entry is allowed where it stands.
 pub record IsSpaced (view : View) : Type 0 where
-  pub rise : RowsRise (all_rows view)
+  pub rise : RowsPrecede (all_rows view)
   pub filled : All (λ (row : DocRow). 1 ≤ row.cells) (all_rows view)
-  pub below : All (λ (row : DocRow). (row.number < view.next) × (end_of row < view.location)) (rows_in view.levels)
+  pub below : All (λ (row : DocRow). (row.number < view.next) × (end_of row < view.location)) (level_rows view.levels)
   pub deleted : All (λ end. end < view.location) view.deleted
   pub numbers : All (λ (d : Document). d.number < view.next) (rooted view).documents
   pub space : IsSpace (newest view)

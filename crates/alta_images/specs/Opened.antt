@@ -10,7 +10,7 @@ use Rattle.alta_journal.specs.declared.entry.Entry.{Entry}
 use Rattle.alta_journal.specs.declared.half.Half.{Half}
 use Rattle.alta_journal.specs.declared.half.Half.TheVariants as halves
 use Rattle.alta_content.specs.Rows.{end_of, ends_among}
-use Rattle.alta_postings.specs.Deltas.{first_fault, locations_of}
+use Rattle.alta_postings.specs.Deltas.{first_fault, decoded_list}
 use Rattle.alta_postings.specs.declared.fault.StreamFault.{StreamFault}
 use Rattle.alta_root.specs.Slots.{Counts}
 use Rattle.alta_root.specs.declared.root.Root.{Root}
@@ -54,7 +54,7 @@ bytes_at extent image = part extent.place extent.bytes image
 
 -- the list that a stream at a place spells, or the place of the first number that shows that it spells none
 abbrev pub list_at : ℕ → List ℕ → Option StreamFault → Result (List ℕ) ℕ
-list_at place stream None = Ok (locations_of stream)
+list_at place stream None = Ok (decoded_list stream)
 list_at place stream (Some fault) = Err (place + fault.place)
 
 -- the deleted ends of a root, by its deletion list; a root without one names no bytes
@@ -64,8 +64,8 @@ deleted_in root image = list_at root.deletions.place (bytes_at root.deletions im
 -- ---- a level, behind those before it
 
 -- the rows of levels, in order
-abbrev pub rows_in : List Tables → List DocRow
-rows_in levels = flat_map (λ (t : Tables). t.documents) levels
+abbrev pub table_rows : List Tables → List DocRow
+table_rows levels = flat_map (λ (t : Tables). t.documents) levels
 
 -- the live documents of rows
 abbrev pub live_in : List ℕ → List DocRow → List Named
@@ -85,7 +85,7 @@ is_below root row = nat_lt row.number root.next_number && nat_lt (end_of row) ro
 
 -- the numbers and locations of a level lie above those of the levels before it, and below the next ones of the root
 abbrev pub are_in_order : Root → List Tables → List DocRow → Bool
-are_in_order root levels rows = list_all (λ (row : DocRow). is_below root row && list_all (λ (earlier : DocRow). comes_behind earlier row) (rows_in levels)) rows
+are_in_order root levels rows = list_all (λ (row : DocRow). is_below root row && list_all (λ (earlier : DocRow). comes_behind earlier row) (table_rows levels)) rows
 
 -- the level, unless it is out of order: that is damage at the place of its extent
 abbrev pub in_order : Root → List Tables → Extent → Tables → Result Tables ℕ
@@ -101,7 +101,7 @@ names_from deleted level live i (row ∷ rows) =
 
 -- the names of a level behind the levels before it
 abbrev pub names_in : List ℕ → List Tables → Tables → Result (List Named) ℕ
-names_in deleted levels level = names_from deleted level (live_in deleted (rows_in levels)) 0 level.documents
+names_in deleted levels level = names_from deleted level (live_in deleted (table_rows levels)) 0 level.documents
 
 -- one level more: its head and tables, its order, and its live names
 abbrev pub with_level : Root → List ℕ → List Tables → Extent → List ℕ → Result (List Tables) ℕ
@@ -124,13 +124,13 @@ levels_in root deleted image = levels_from root deleted [] root.levels.items ima
 
 -- each deleted end is the end of a document of a level
 abbrev pub have_ends : List Tables → List ℕ → Bool
-have_ends levels deleted = list_all (λ end. list_any (λ (row : DocRow). ends_among (end ∷ []) row) (rows_in levels)) deleted
+have_ends levels deleted = list_all (λ end. list_any (λ (row : DocRow). ends_among (end ∷ []) row) (table_rows levels)) deleted
 
 -- ---- all of it
 
 -- what is known before the entries
 abbrev pub known_at : Root → List ℕ → List Tables → Known
-known_at root deleted levels = record { next = root.next_number; live = live_in deleted (rows_in levels) }
+known_at root deleted levels = record { next = root.next_number; live = live_in deleted (table_rows levels) }
 
 -- The deletion list, the levels and the journal of a root keep all rules that opening tests, and have this.
 pub record IsNamed (opened : Opened) (image : List ℕ) : Type 0 where

@@ -26,9 +26,9 @@ abbrev pub Precedes : DocRow → DocRow → Type 0
 Precedes row later = (row.number < later.number) × (end_of row < later.first)
 
 -- each row precedes all behind it
-abbrev pub RowsRise : List DocRow → Type 0
-RowsRise [] = Unit {0}
-RowsRise (row ∷ more) = All (Precedes row) more × RowsRise more
+abbrev pub RowsPrecede : List DocRow → Type 0
+RowsPrecede [] = Unit {0}
+RowsPrecede (row ∷ more) = All (Precedes row) more × RowsPrecede more
 
 -- numbers and locations lie below the next ones of the root
 abbrev pub AreBelow : Root → List DocRow → Type 0

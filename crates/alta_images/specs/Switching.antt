@@ -23,8 +23,8 @@ use Rattle.alta_images.specs.Levels.{Level}
 use Rattle.alta_images.specs.Views.{View}
 use Rattle.alta_table.specs.Tables.{Tables}
 use Rattle.alta_images.specs.Known.{Known, admits}
-use Rattle.alta_images.specs.Opened.{Opened, IsNamed, bytes_at, have_ends, journal_of, rows_in}
-use Rattle.alta_images.specs.Ordered.{AreBelow, RowsRise}
+use Rattle.alta_images.specs.Opened.{Opened, IsNamed, bytes_at, have_ends, journal_of, table_rows}
+use Rattle.alta_images.specs.Ordered.{AreBelow, RowsPrecede}
 use Rattle.alta_images.specs.Standing.{AreLevels, Means, tables_by}
 
 -- These ranges meet nothing that a root in this slot names: neither its half of the journal nor one of its extents.
@@ -84,8 +84,8 @@ pub record IsFormatted (image : List ℕ) : Type 0 where
 -- Levels and deleted ends are in place under a root: all rows rise, lie below its next number and location, and each deleted
 -- end is one of theirs.
 pub record InPlace (root : Root) (deleted : List ℕ) (levels : List Tables) : Type 0 where
-  pub rise : RowsRise (rows_in levels)
-  pub below : AreBelow root (rows_in levels)
+  pub rise : RowsPrecede (table_rows levels)
+  pub below : AreBelow root (table_rows levels)
   pub ends : have_ends levels deleted ≡ true
 
 -- A view's levels and deleted ends are in place under each root with its next number and location.

@@ -56,8 +56,8 @@ abbrev pub is_gone : View → DocRow → Bool
 is_gone view row = ends_among view.deleted row || list_any (leaves_out row.number) view.entries
 
 -- the rows of levels, the oldest first
-abbrev pub rows_in : List Level → List DocRow
-rows_in levels = flat_map (λ (l : Level). l.content.documents) levels
+abbrev pub level_rows : List Level → List DocRow
+level_rows levels = flat_map (λ (l : Level). l.content.documents) levels
 
 -- the ends of those rows whose document is gone, rising as the rows do
 abbrev pub gone_among : View → List DocRow → List ℕ
@@ -65,7 +65,7 @@ gone_among view rows = map end_of (filter (is_gone view) rows)
 
 -- the gone ends: of the levels' documents and of the newest
 abbrev pub gone : View → List ℕ
-gone view = gone_among view (rows_in view.levels ++ map (λ (a : Added). a.row) (newest view))
+gone view = gone_among view (level_rows view.levels ++ map (λ (a : Added). a.row) (newest view))
 
 -- the content of the newest documents that are not gone
 abbrev pub newest_content : View → Content

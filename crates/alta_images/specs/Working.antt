@@ -17,11 +17,11 @@ use Rattle.alta_root.specs.declared.places.TheConstants.{HEAD_BYTES}
 use Rattle.alta_images.specs.Entries.{after_entry}
 use Rattle.alta_images.specs.Levels.{Level, document_of, live_rows}
 use Rattle.alta_images.specs.Views.{View, with_entry}
-use Rattle.alta_images.specs.Work.{Job, Coming, stays, anew, coming, newest, newest_content, gone, gone_among, rows_in, whole_of, oldest_joined, with_oldest, is_merged, job_of, fits, Task, enters, flushes, merges, steps}
+use Rattle.alta_images.specs.Work.{Job, Coming, stays, anew, coming, newest, newest_content, gone, gone_among, level_rows, whole_of, oldest_joined, with_oldest, is_merged, job_of, fits, Task, enters, flushes, merges, steps}
 use Rattle.alta_content.specs.declared.document.DocRow.{DocRow}
 use Rattle.alta_images.specs.Chain.{◌>>=◌}
 use Rattle.alta_root.specs.Gaps.{first_gap, greatest_gap}
-use Rattle.alta_images.specs.Holding.{Holding, taken_by}
+use Rattle.alta_images.specs.Holding.{Holding, taken_by_held}
 use Rattle.alta_content.specs.Joining.{joined_in, terms_in}
 use Rattle.alta_memlevel.specs.Documents.{content_of}
 
@@ -82,8 +82,8 @@ held_then held levels deleted list job = record {
 -- The root to come has these levels, and deleted are the gone ends whose row stays in one of them.
 abbrev pub switched : ℕ → Holding → List Coming → Option Job → Result Holding Full
 switched limit held levels job =
-    placed_levels limit (taken_by held) levels >>= λ now.
-    let deleted = gone_among held.view (rows_in now.levels) in
+    placed_levels limit (taken_by_held held) levels >>= λ now.
+    let deleted = gone_among held.view (level_rows now.levels) in
     placed_list limit held now.taken deleted >>= λ list.
     Ok (held_then held now.levels deleted list job)
 

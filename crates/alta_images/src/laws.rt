@@ -14,10 +14,10 @@ ghost use Rattle.alta_content.specs.declared.content.Content.{Content};
 ghost use Rattle.alta_memlevel.specs.Added.{IsSpace};
 ghost use Rattle.alta_images.specs.Broken.{IsBrokenAt};
 ghost use Rattle.alta_root.specs.Gaps.{first_gap, greatest_gap};
-ghost use Rattle.alta_images.specs.Holding.{Holding, IsHeld, IsSpaced, IsWell, taken_by as taken_by_held};
+ghost use Rattle.alta_images.specs.Holding.{Holding, IsHeld, IsSpaced, IsWell, taken_by_held};
 ghost use Rattle.alta_images.specs.Known.{Known, admits, known_behind, known_of, replayed};
-ghost use Rattle.alta_images.specs.Opened.{Opened, IsNamed, IsOpened, bytes_at, deleted_in, journal_of, levels_in, live_in, rows_in, tables_at};
-ghost use Rattle.alta_images.specs.Ordered.{AreBelow, AreOrdered, IsOrdered, RowsRise};
+ghost use Rattle.alta_images.specs.Opened.{Opened, IsNamed, IsOpened, bytes_at, deleted_in, journal_of, levels_in, live_in, table_rows, tables_at};
+ghost use Rattle.alta_images.specs.Ordered.{AreBelow, AreOrdered, IsOrdered, RowsPrecede};
 ghost use Rattle.alta_images.specs.Standing.{AreLevels, Means, StandsFor, tables_by, view_of};
 ghost use Rattle.alta_images.specs.Switching.{empty_held, empty_opened, InPlace, IsFormatted, IsInPlace, IsPut, IsWritten, MayAppend, MayOpen, MayStand, Spares, SparesSlots, with_entry};
 ghost use Rattle.alta_images.specs.Working.{AllApart, AreJoins, Full, IsJoin, IsWanting, JoinsKeep, LiesWithin, Placed, all_contents, content_to_come, documents_left, entered, flushed, merged, oldest_contents, placed as placed_extent, placed_levels, state_behind, staying, switched, worked};
@@ -147,8 +147,8 @@ pub fn what_is_written_is_read()
     ensures level { (level : Level) → (image : List ℕ) → AreBytes (bytes_at level.extent image) → length (bytes_at level.extent image) ≡ level.extent.bytes → level.extent.bytes < 2 ^ 64
         → IsSegment (bytes_at level.extent image) level.content → tables_at level.extent image ≡ Ok (tables_by level) }
     ensures levels { (root : Root) → (deleted : List ℕ) → (levels : List Level) → (image : List ℕ) → root.levels.items ≡ map (λ (l : Level). l.extent) levels
-        → All (λ (l : Level). tables_at l.extent image ≡ Ok (tables_by l)) levels → RowsRise (rows_in (map tables_by levels)) → AreBelow root (rows_in (map tables_by levels))
-        → AreOrdered (live_in deleted (rows_in (map tables_by levels))) → levels_in root deleted image ≡ Ok (map tables_by levels) }
+        → All (λ (l : Level). tables_at l.extent image ≡ Ok (tables_by l)) levels → RowsPrecede (table_rows (map tables_by levels)) → AreBelow root (table_rows (map tables_by levels))
+        → AreOrdered (live_in deleted (table_rows (map tables_by levels))) → levels_in root deleted image ≡ Ok (map tables_by levels) }
 {}
 
 /// An image that has what is held stands for the state of its view, and has a deletion list only where ends are deleted.

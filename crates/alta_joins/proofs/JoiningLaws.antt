@@ -15,7 +15,7 @@ use Rattle.alta_images.specs.Levels.{Level}
 use Rattle.alta_images.specs.Opened.{Opened, IsOpened, bytes_at, extent_of}
 use Rattle.alta_images.specs.Standing.{AreLevels, tables_by}
 use Rattle.alta_images.specs.Views.{View}
-use Rattle.alta_images.specs.Work.{gone as gone_from, is_gone, newest, rows_in as level_rows}
+use Rattle.alta_images.specs.Work.{gone as gone_from, is_gone, newest, level_rows}
 use Rattle.alta_images.specs.Working.{IsJoin, documents_in, oldest_contents, rows_of}
 use Rattle.alta_images.proofs.KeptStates.{gone_are}
 use Rattle.alta_images.proofs.KnownLaws.{all_both, all_weaker}

@@ -19,10 +19,10 @@ use Rattle.alta_images.specs.Holding.{Holding, IsHeld, IsSpaced, IsWell}
 use Rattle.alta_images.specs.Known.{Known, replayed}
 use Rattle.alta_images.specs.Levels.{Level, document_of}
 use Rattle.alta_images.specs.Opened.{Opened, IsNamed, bytes_at, journal_of}
-use Rattle.alta_images.specs.Ordered.{RowsRise}
+use Rattle.alta_images.specs.Ordered.{RowsPrecede}
 use Rattle.alta_images.specs.Standing.{AreLevels, view_of}
 use Rattle.alta_images.specs.Views.{View, rooted}
-use Rattle.alta_images.specs.Work.{added_at, added_from, newest, rows_in as level_rows}
+use Rattle.alta_images.specs.Work.{added_at, added_from, newest, level_rows}
 use Rattle.alta_images.specs.Working.{AreJoins, JoinsKeep, all_contents, documents_in, oldest_contents}
 use Rattle.alta_images.proofs.KeptStates.{added_behind, added_high, contents_of, rows_by_levels}
 use Rattle.alta_images.proofs.KnownLaws.{all_both, all_weaker, allows_replayed}
@@ -168,7 +168,7 @@ module _ (held : Holding) (image : List ℕ) (is : IsHeld held image) where
   held_levels : MayJoin (contents_of held.view.levels)
   held_levels =
       rising_join (contents_of held.view.levels) (parts_of_levels held.view.levels image is.are.segments)
-      (subst RowsRise (sym (rows_by_levels held.view.levels)) (rise_front (level_rows held.view.levels) (map (λ (a : Added). a.row) (newest held.view)) held_is_spaced.rise))
+      (subst RowsPrecede (sym (rows_by_levels held.view.levels)) (rise_front (level_rows held.view.levels) (map (λ (a : Added). a.row) (newest held.view)) held_is_spaced.rise))
 
   -- and so may the newest documents behind them
   pub all_join : MayJoin (all_contents held.view)
@@ -187,9 +187,9 @@ module _ (held : Holding) (image : List ℕ) (is : IsHeld held image) where
       let others = drop 2 held.view.levels in
       let split : level_rows held.view.levels ≡ level_rows oldest ++ level_rows others =
       ap level_rows (sym (take-append-drop 2 held.view.levels)) ∙ flat_map-append (λ (l : Level). l.content.documents) oldest others in
-      let whole : RowsRise (level_rows held.view.levels) = rise_front (level_rows held.view.levels) (map (λ (a : Added). a.row) (newest held.view)) held_is_spaced.rise in
+      let whole : RowsPrecede (level_rows held.view.levels) = rise_front (level_rows held.view.levels) (map (λ (a : Added). a.row) (newest held.view)) held_is_spaced.rise in
       rising_join (contents_of oldest) (parts_of_oldest is.are.segments)
-      (subst RowsRise (sym (rows_by_levels oldest)) (rise_front (level_rows oldest) (level_rows others) (subst RowsRise split whole)))
+      (subst RowsPrecede (sym (rows_by_levels oldest)) (rise_front (level_rows oldest) (level_rows others) (subst RowsPrecede split whole)))
     where
       parts_of_oldest : All (λ (l : Level). IsSegment (bytes_at l.extent image) l.content) held.view.levels → All IsPart (contents_of (take 2 held.view.levels))
       parts_of_oldest all = parts_of_levels (take 2 held.view.levels) image (all_take 2 held.view.levels all)

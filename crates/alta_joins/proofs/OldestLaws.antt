@@ -16,7 +16,7 @@ use Rattle.alta_content.specs.Rows.{AreDocuments, AreDocumentsBehind, Before, be
 use Rattle.alta_content.specs.declared.content.Content.{Content}
 use Rattle.alta_content.specs.TermList.{TermList}
 use Rattle.alta_content.specs.declared.document.DocRow.{DocRow}
-use Rattle.alta_images.specs.Opened.{rows_in}
+use Rattle.alta_images.specs.Opened.{table_rows}
 use Rattle.alta_images.specs.Working.{rows_of}
 use Rattle.alta_joins.proofs.KeptLaws.{live_may_join, live_same}
 use Rattle.alta_joins.proofs.SpaceLaws.{content_rows, contents_join}
@@ -73,10 +73,10 @@ documents_front before (x ∷ xs) ys (follows, are) = (follows, documents_front 
 pub front_all : {X : Type 0} (P : X → Type 0) (n : ℕ) (xs : List X) → All P xs → All P (take n xs)
 front_all P n xs all = all_left P (take n xs) (drop n xs) (subst (All P) (sym (take-append-drop n xs)) all)
 
-pub front_documents : (n : ℕ) (levels : List Tables) → AreDocuments (rows_in levels) → AreDocuments (rows_in (take n levels))
+pub front_documents : (n : ℕ) (levels : List Tables) → AreDocuments (table_rows levels) → AreDocuments (table_rows (take n levels))
 front_documents n levels are =
-    let split : rows_in levels ≡ rows_in (take n levels) ++ rows_in (drop n levels) = ap rows_in (sym (take-append-drop n levels)) ∙ flat_map-append (λ (t : Tables). t.documents) (take n levels) (drop n levels) in
-    documents_front start (rows_in (take n levels)) (rows_in (drop n levels)) (subst AreDocuments split are)
+    let split : table_rows levels ≡ table_rows (take n levels) ++ table_rows (drop n levels) = ap table_rows (sym (take-append-drop n levels)) ∙ flat_map-append (λ (t : Tables). t.documents) (take n levels) (drop n levels) in
+    documents_front start (table_rows (take n levels)) (table_rows (drop n levels)) (subst AreDocuments split are)
 
 -- ---- a join that begins
 
@@ -128,7 +128,7 @@ begins levels gone merging contents tells image two are may segments merges =
 
 -- ---- a merge
 
-module _ (levels : List Tables) (contents : List Content) (gone : List ℕ) (added : List Added) (newest : Content) (are : AreContentsOf levels contents) (documents : AreDocuments (rows_in levels))
+module _ (levels : List Tables) (contents : List Content) (gone : List ℕ) (added : List Added) (newest : Content) (are : AreContentsOf levels contents) (documents : AreDocuments (table_rows levels))
     (is : IsNewest levels gone added newest) where
   newest_is : newest ≡ content_of (live_of gone added)
   newest_is = is.content_is
@@ -146,8 +146,8 @@ module _ (levels : List Tables) (contents : List Content) (gone : List ℕ) (add
   newest_same = ap (λ (c : Content). joined_in (contents ++ c ∷ []) gone) newest_is ∙ live_same contents added gone is.are_added.space all_join
 
 pub merged_rows : (levels : List Tables) (contents : List Content) (gone : List ℕ) (newest : Content) → AreContentsOf levels contents
-    → (joined_in (contents ++ newest ∷ []) gone).documents ≡ live_rows gone (rows_in levels ++ newest.documents)
+    → (joined_in (contents ++ newest ∷ []) gone).documents ≡ live_rows gone (table_rows levels ++ newest.documents)
 merged_rows levels contents gone newest are =
     ap (live_rows gone)
     (flat_map-append (λ (c : Content). c.documents) contents (newest ∷ []) ∙ ap (λ (rows : List DocRow). rows ++ rows_of (newest ∷ [])) (content_rows levels contents are)
-    ∙ ap (λ (rows : List DocRow). rows_in levels ++ rows) (append-nil newest.documents))
+    ∙ ap (λ (rows : List DocRow). table_rows levels ++ rows) (append-nil newest.documents))

@@ -13,7 +13,7 @@ use Rattle.alta_images.specs.Opened.{Opened, IsOpened, bytes_at, tables_at, exte
 use Rattle.alta_images.specs.Standing.{AreLevels, tables_by}
 use Rattle.alta_joins.specs.Contents.{AreContentsOf, AreSegmentsOn, StandsOn, level_with, levels_with}
 use Rattle.alta_level.specs.Segments.{IsSegment}
-use Rattle.alta_root.specs.Root.{AreLevels as AreExtents}
+use Rattle.alta_root.specs.Root.{AreExtents}
 use Rattle.alta_root.specs.declared.root.Root.{Root}
 use Rattle.alta_root.specs.declared.slot.Slot.{Slot}
 use Rattle.alta_root.proofs.Frames.{counts_sound}

@@ -9,8 +9,8 @@ use Rattle.alta_content.specs.declared.content.Content.{Content}
 use Rattle.alta_content.specs.declared.document.DocRow.{DocRow}
 use Rattle.alta_codec.specs.Name.{IsName}
 use Rattle.alta_codec.specs.declared.location.TheConstants.{TOP}
-use Rattle.alta_images.specs.Opened.{rows_in as table_rows}
-use Rattle.alta_images.specs.Ordered.{Precedes, RowsRise}
+use Rattle.alta_images.specs.Opened.{table_rows}
+use Rattle.alta_images.specs.Ordered.{Precedes, RowsPrecede}
 use Rattle.alta_joins.specs.Contents.{AreContentsOf}
 use Rattle.alta_table.specs.Tables.{Tables}
 use Rattle.alta_content.proofs.Elements.{all_left}
@@ -49,7 +49,7 @@ each_row before (row ∷ rows) (follows, are) =
 abbrev IsBehind : Before → DocRow → Type 0
 IsBehind before row = (before.number < row.number) × (before.end < row.first)
 
-rows_stand : (before : Before) (rows : List DocRow) → All IsRow rows → RowsRise rows → All (IsBehind before) rows → AreDocumentsBehind before rows
+rows_stand : (before : Before) (rows : List DocRow) → All IsRow rows → RowsPrecede rows → All (IsBehind before) rows → AreDocumentsBehind before rows
 unfolding AreDocumentsBehind
 rows_stand before [] all rise behind = tt
 rows_stand before (row ∷ rows) all rise behind =
@@ -68,7 +68,7 @@ rows_stand before (row ∷ rows) all rise behind =
       rows_stand (behind_row before row) rows (All-tail IsRow row rows all) rise.1 rise.0,
     )
 
-pub rows_documents : (rows : List DocRow) → All IsRow rows → RowsRise rows → AreDocuments rows
+pub rows_documents : (rows : List DocRow) → All IsRow rows → RowsPrecede rows → AreDocuments rows
 rows_documents rows all rise = rows_stand start rows all rise (All-weaker IsRow (IsBehind start) (λ row own. (omega (arith, own.numbered), omega (arith, own.starts))) rows all)
 
 -- ---- contents
@@ -82,7 +82,7 @@ parts_rows [] all = All-nil IsRow
 parts_rows (c ∷ cs) all = All-append IsRow c.documents (rows_in cs) (part_rows c (All-head IsPart c cs all)) (parts_rows cs (All-tail IsPart c cs all))
 
 -- parts whose rows rise may be joined
-pub rising_join : (contents : List Content) → All IsPart contents → RowsRise (rows_in contents) → MayJoin contents
+pub rising_join : (contents : List Content) → All IsPart contents → RowsPrecede (rows_in contents) → MayJoin contents
 rising_join contents all rise = record { parts = all; documents = rows_documents (rows_in contents) (parts_rows contents all) rise }
 
 -- ---- contents of tables
@@ -105,6 +105,6 @@ contents_join levels contents are rows = record { parts = content_parts levels c
 
 -- ---- the front of rows that rise
 
-pub rise_front : (xs ys : List DocRow) → RowsRise (xs ++ ys) → RowsRise xs
+pub rise_front : (xs ys : List DocRow) → RowsPrecede (xs ++ ys) → RowsPrecede xs
 rise_front [] ys rise = tt
 rise_front (x ∷ xs) ys rise = (all_left (Precedes x) xs ys rise.0, rise_front xs ys rise.1)

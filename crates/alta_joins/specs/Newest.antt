@@ -2,7 +2,7 @@
 use Rattle.std.specs.Prelude.{◌≡◌, ◌≤◌, ℕ, List}
 use Rattle.std.specs.List.{All}
 use Rattle.alta_content.specs.declared.content.Content.{Content}
-use Rattle.alta_images.specs.Opened.{rows_in}
+use Rattle.alta_images.specs.Opened.{table_rows}
 use Rattle.alta_memlevel.specs.Added.{Added, live_of}
 use Rattle.alta_memlevel.specs.Documents.{AreAdded, IsBefore, content_of}
 use Rattle.alta_table.specs.Tables.{Tables}
@@ -14,6 +14,6 @@ pub record IsNewest (levels : List Tables) (gone : List ℕ) (added : List Added
   pub location : ℕ
   pub numbered : 1 ≤ number
   pub located : 1 ≤ location
-  pub behind : All (IsBefore number location) (rows_in levels)
+  pub behind : All (IsBefore number location) (table_rows levels)
   pub are_added : AreAdded number location added
   pub content_is : content ≡ content_of (live_of gone added)

@@ -11,8 +11,8 @@ ghost use Rattle.alta_content.specs.declared.document.DocRow.{DocRow};
 ghost use Rattle.alta_images.specs.Broken.{HasLevels};
 ghost use Rattle.alta_images.specs.Holding.{Holding, IsHeld, IsJobOf, IsSpaced, IsWell};
 ghost use Rattle.alta_images.specs.Levels.{Level, document_of};
-ghost use Rattle.alta_images.specs.Opened.{Opened, IsOpened, bytes_at, rows_in, extent_of};
-ghost use Rattle.alta_images.specs.Ordered.{AreBelow, RowsRise};
+ghost use Rattle.alta_images.specs.Opened.{Opened, IsOpened, bytes_at, table_rows, extent_of};
+ghost use Rattle.alta_images.specs.Ordered.{AreBelow, RowsPrecede};
 ghost use Rattle.alta_images.specs.Standing.{AreLevels, tables_by};
 ghost use Rattle.alta_images.specs.Views.{View};
 ghost use Rattle.alta_images.specs.Work.{gone as gone_from, newest};
@@ -41,10 +41,10 @@ pub fn read_levels_are_opened()
 
 /// Contents of tables whose rows rise may be joined, and so may the content of documents that stand behind them.
 pub fn read_contents_may_join()
-    ensures levels { (levels : List Tables) → (contents : List Content) → AreContentsOf levels contents → AreDocuments (rows_in levels) → MayJoin contents }
-    ensures rows { (levels : List Tables) → (contents : List Content) → AreContentsOf levels contents → rows_of contents ≡ rows_in levels }
-    ensures beside { (levels : List Tables) → (contents : List Content) → (number location : ℕ) → (added : List Added) → (content : Content) → AreContentsOf levels contents → AreDocuments (rows_in levels)
-        → 1 ≤ number → 1 ≤ location → All (IsBefore number location) (rows_in levels) → AreAdded number location added → HasContent added content → MayJoin (contents ++ content ∷ []) }
+    ensures levels { (levels : List Tables) → (contents : List Content) → AreContentsOf levels contents → AreDocuments (table_rows levels) → MayJoin contents }
+    ensures rows { (levels : List Tables) → (contents : List Content) → AreContentsOf levels contents → rows_of contents ≡ table_rows levels }
+    ensures beside { (levels : List Tables) → (contents : List Content) → (number location : ℕ) → (added : List Added) → (content : Content) → AreContentsOf levels contents → AreDocuments (table_rows levels)
+        → 1 ≤ number → 1 ≤ location → All (IsBefore number location) (table_rows levels) → AreAdded number location added → HasContent added content → MayJoin (contents ++ content ∷ []) }
 {}
 
 /// The join of contents that may be joined is a level's content where a row is left, and else empty. Its rows are those of the
@@ -53,7 +53,7 @@ pub fn joins_are_levels()
     ensures part { (contents : List Content) → (dead : List ℕ) → MayJoin contents → IsPart (joined_in contents dead) }
     ensures level { (contents : List Content) → (dead : List ℕ) → MayJoin contents → 0 < length (joined_in contents dead).documents → IsContent (joined_in contents dead) }
     ensures rows { (contents : List Content) → (dead : List ℕ) → (joined_in contents dead).documents ≡ live_rows dead (rows_of contents) }
-    ensures rise { (contents : List Content) → (dead : List ℕ) → RowsRise (rows_of contents) → RowsRise (joined_in contents dead).documents }
+    ensures rise { (contents : List Content) → (dead : List ℕ) → RowsPrecede (rows_of contents) → RowsPrecede (joined_in contents dead).documents }
     ensures below { (root : Root) → (contents : List Content) → (dead : List ℕ) → AreBelow root (rows_of contents) → AreBelow root (joined_in contents dead).documents }
 {}
 

@@ -7,7 +7,7 @@ ghost use Rattle.alta_content.specs.Rows.{AreDocuments};
 ghost use Rattle.alta_disk.specs.Calls.{Reads};
 ghost use Rattle.alta_disk.specs.Disk.{DiskState};
 ghost use Rattle.alta_images.specs.Broken.{IsBrokenAmong};
-ghost use Rattle.alta_images.specs.Opened.{rows_in};
+ghost use Rattle.alta_images.specs.Opened.{table_rows};
 ghost use Rattle.alta_joins.specs.Answers.{IfDamaged};
 ghost use Rattle.alta_joins.specs.Contents.{AreContentsOf, StandsOn, data_size};
 ghost use Rattle.alta_joins.specs.Damages.{Tells};
@@ -37,7 +37,7 @@ pub fn read_levels<D: Disk>(
     ensures broken { D.tells → IfDamaged result (IsBrokenAmong levels.now (D.state disk.old).content) }
     // Whatever the disk tells, what is read keeps the rules of contents, and has these tables.
     ensures kept { IfOk result (λ contents. AreContentsOf levels.now contents.items) }
-    ensures joined { AreDocuments (rows_in levels.now) → IfOk result (λ contents. MayJoin contents.items) }
+    ensures joined { AreDocuments (table_rows levels.now) → IfOk result (λ contents. MayJoin contents.items) }
     ensures cause { result ≡ Err DiskFault → Rose (D.state disk.old).faults (D.state disk.new).faults }
     ensures reads { Reads D.tells (sum_by data_size levels.now) (D.state disk.old) (D.state disk.new) }
 {

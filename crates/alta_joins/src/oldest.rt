@@ -8,7 +8,7 @@ ghost use Rattle.alta_content.specs.declared.content.Content.{Content};
 ghost use Rattle.alta_disk.specs.Calls.{Reads};
 ghost use Rattle.alta_disk.specs.Disk.{DiskState};
 ghost use Rattle.alta_images.specs.Broken.{IsBrokenAmong};
-ghost use Rattle.alta_images.specs.Opened.{rows_in};
+ghost use Rattle.alta_images.specs.Opened.{table_rows};
 ghost use Rattle.alta_joins.specs.Answers.{IfDamaged};
 ghost use Rattle.alta_joins.specs.Contents.{AreContentsOf, AreSegmentsOn, StandsOn, data_size};
 ghost use Rattle.alta_joins.specs.Damages.{FindsDamage};
@@ -42,7 +42,7 @@ pub fn begin_oldest<D: Disk>(
 ) -> Result<Job, JoinFault>
     requires two { 2 ≤ length levels.now }
     requires stands { D.tells → All (StandsOn (D.state disk.old).content) levels.now }
-    requires documents { AreDocuments (rows_in levels.now) }
+    requires documents { AreDocuments (table_rows levels.now) }
     // Whatever the disk tells, it is a join of contents with these tables; and they are those of the segments that stand there.
     ensures begun { IfOk result (λ job. (joining : IsJoining levels.now gone.now job) × IsBegun joining × (D.tells → AreJoinedOn (D.state disk.old).content joining)) }
     ensures damage { D.tells → FindsDamage (D.state disk.old).content (take 2 levels.now) result }
@@ -68,13 +68,13 @@ pub fn merge_levels<D: Disk>(
     gone: &[Loc],
 ) -> Result<Content, JoinFault>
     requires stands { D.tells → All (StandsOn (D.state disk.old).content) levels.now }
-    requires documents { AreDocuments (rows_in levels.now) }
+    requires documents { AreDocuments (table_rows levels.now) }
     requires newest { (added : List Added) × IsNewest levels.now gone.now added newest }
     // It is the join of all levels and of all documents that were added, without what is gone.
     ensures merged { (added : List Added) → IsNewest levels.now gone.now added newest → IfOk result (λ content. (contents : List Content) × AreContentsOf levels.now contents
         × (D.tells → AreSegmentsOn (D.state disk.old).content levels.now contents) × (content ≡ joined_in (contents ++ content_of added ∷ []) gone.now)) }
     ensures part { IfOk result IsPart }
-    ensures rows { IfOk result (λ content. content.documents ≡ live_rows gone.now (rows_in levels.now ++ newest.documents)) }
+    ensures rows { IfOk result (λ content. content.documents ≡ live_rows gone.now (table_rows levels.now ++ newest.documents)) }
     ensures damage { D.tells → FindsDamage (D.state disk.old).content levels.now result }
     ensures broken { D.tells → IfDamaged result (IsBrokenAmong levels.now (D.state disk.old).content) }
     ensures cause { result ≡ Err DiskFault → Rose (D.state disk.old).faults (D.state disk.new).faults }

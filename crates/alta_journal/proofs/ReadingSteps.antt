@@ -6,7 +6,7 @@ use Rattle.std.proofs.lemmas.List.{drop_more, drop-drop, take_at, drop_at, lengt
 use Rattle.alta_disk.specs.Parts.{part}
 use Rattle.alta_journal.specs.Entry.{MayBeRecorded, four_bytes, measured, payload_of}
 use Rattle.alta_journal.specs.Found.{IsFound}
-use Rattle.alta_journal.specs.Journal.{Begins, EndsAt, IsDamaged, IsBroken}
+use Rattle.alta_journal.specs.Journal.{Begins, EndsAt, HasBrokenRecord, HasBrokenHalf}
 use Rattle.alta_journal.specs.Placed.{placed, IsReading, IsReplay}
 use Rattle.alta_journal.specs.Places.{half_at, HasClosedGate}
 use Rattle.alta_journal.specs.Reading.{of_four, entry_in}
@@ -90,7 +90,7 @@ module _ (start at : ℕ) (bytes payload : List ℕ) (found : List Placed) (read
       )
 
   -- a record that is none
-  pub damaged_here : IsFound (entry_in payload) None → IsDamaged (at + 5) bytes
+  pub damaged_here : IsFound (entry_in payload) None → HasBrokenRecord (at + 5) bytes
   damaged_here none =
       let (entries, found_is, begins) = reading in
       record {
@@ -102,18 +102,18 @@ module _ (start at : ℕ) (bytes payload : List ℕ) (found : List Placed) (read
       }
 
 -- the place that a fault names
-pub damage_at : (start from at place : ℕ) (bytes : List ℕ) → from ≡ start → IsDamaged (at + 5) bytes → faults.Damaged (from + at + 5) ≡ faults.Damaged place
-    → (start ≤ place) × IsDamaged (place - start) bytes
+pub damage_at : (start from at place : ℕ) (bytes : List ℕ) → from ≡ start → HasBrokenRecord (at + 5) bytes → faults.Damaged (from + at + 5) ≡ faults.Damaged place
+    → (start ≤ place) × HasBrokenRecord (place - start) bytes
 damage_at start from at place bytes from_is damaged is =
     let place_is : from + at + 5 ≡ place = cc (is) in
     let offset : at + 5 ≡ place - start = omega (arith, place_is, from_is) in
-    (omega (arith, place_is, from_is), subst (λ (k : ℕ). IsDamaged k bytes) offset damaged)
+    (omega (arith, place_is, from_is), subst (λ (k : ℕ). HasBrokenRecord k bytes) offset damaged)
 
 -- the half whose bytes were read
-pub broken_half : (start place : ℕ) (bytes image : List ℕ) → bytes ≡ half_at start image → HEAD_BYTES ≤ length image → (start ≤ place) × IsDamaged (place - start) bytes → IsBroken start place image
+pub broken_half : (start place : ℕ) (bytes image : List ℕ) → bytes ≡ half_at start image → HEAD_BYTES ≤ length image → (start ≤ place) × HasBrokenRecord (place - start) bytes → HasBrokenHalf start place image
 broken_half start place bytes image is whole damaged = record {
   starts = damaged.0;
-  damaged = subst (λ (h : List ℕ). IsDamaged (place - start) h) is damaged.1;
+  damaged = subst (λ (h : List ℕ). HasBrokenRecord (place - start) h) is damaged.1;
   whole = whole;
 }
 
@@ -146,7 +146,7 @@ same_replay start tail q found entries image (ys, found_is, ends) other =
     (found_is ∙ ap (λ (l : List Entry). placed start l) same.1, same.0)
 
 -- no damage where the half is sound
-pub no_damage : (start q : ℕ) (entries : List Entry) (image : List ℕ) → EndsAt start q entries image → (fault : OpenFault) → ((place : ℕ) → fault ≡ faults.Damaged place → IsBroken start place image)
+pub no_damage : (start q : ℕ) (entries : List Entry) (image : List ℕ) → EndsAt start q entries image → (fault : OpenFault) → ((place : ℕ) → fault ≡ faults.Damaged place → HasBrokenHalf start place image)
     → IsNoDamage fault
 no_damage start q entries image ends (faults.Damaged place) damaged = not_both start q place entries image ends (damaged place refl)
 no_damage start q entries image ends faults.Disk damaged = tt

@@ -10,7 +10,7 @@ use Rattle.std.proofs.lemmas.Str.{IsUtf8-from_is_utf8, is_utf8-from_IsUtf8}
 use Rattle.alta_disk.specs.Parts.{part}
 use Rattle.alta_codec.specs.Name.{IsGraphic}
 use Rattle.alta_journal.specs.Entry.{MayBeRecorded, Lacks, payload_of}
-use Rattle.alta_journal.specs.Journal.{Begins, EndsAt, IsDamaged, IsBroken, LeavesNoRoom, HasNoRecord}
+use Rattle.alta_journal.specs.Journal.{Begins, EndsAt, HasBrokenRecord, HasBrokenHalf, LeavesNoRoom, HasNoRecord}
 use Rattle.alta_journal.specs.Places.{start_of, half_at, HasClosedGate}
 use Rattle.alta_journal.specs.Reading.{of_four, or_none, entry_in}
 use Rattle.alta_journal.specs.Record.{record_of}
@@ -111,7 +111,7 @@ pub record IsEnded (half : List ℕ) : Type 0 where
 
 -- what is known of a half: its entries, or a place of damage
 abbrev pub IsKnown : List ℕ → Type 0
-IsKnown half = IsEnded half ⊎ ((place : ℕ) × IsDamaged place half)
+IsKnown half = IsEnded half ⊎ ((place : ℕ) × HasBrokenRecord place half)
 
 -- how long a record is that stands here
 size_here : (at : ℕ) (half : List ℕ) (entry : Entry) → MayBeRecorded entry → part at (length (record_of entry)) half ≡ record_of entry → length (record_of entry) ≡ 5 + of_four (part (at + 1) 4 half)
@@ -148,7 +148,7 @@ known_from (suc fuel) entries at half begins short =
 
 -- the half of a whole image
 pub read_or_broken : (half : Half) (image : List ℕ) → HEAD_BYTES ≤ length image
-    → ((place : ℕ) × (entries : List Entry) × EndsAt (start_of half) place entries image) ⊎ ((place : ℕ) × IsBroken (start_of half) place image)
+    → ((place : ℕ) × (entries : List Entry) × EndsAt (start_of half) place entries image) ⊎ ((place : ℕ) × HasBrokenHalf (start_of half) place image)
 read_or_broken half image whole =
     let start = start_of half in
     let bytes = half_at start image in
@@ -169,7 +169,7 @@ read_or_broken half image whole =
           whole = whole;
         }
 
-    broken : (place : ℕ) → IsDamaged place (half_at (start_of half) image) → IsBroken (start_of half) (start_of half + place) image
+    broken : (place : ℕ) → HasBrokenRecord place (half_at (start_of half) image) → HasBrokenHalf (start_of half) (start_of half + place) image
     broken place damaged =
         let at : place ≡ start_of half + place - start_of half = omega arith in
-        record { starts = omega arith; damaged = subst (λ (k : ℕ). IsDamaged k (half_at (start_of half) image)) at damaged; whole = whole }
+        record { starts = omega arith; damaged = subst (λ (k : ℕ). HasBrokenRecord k (half_at (start_of half) image)) at damaged; whole = whole }

@@ -5,7 +5,7 @@ use Rattle.std.proofs.lemmas.List.{take_at, drop_more, drop-drop, length-take-le
 use Rattle.std.proofs.lemmas.List.Elements.{All-head, All-tail}
 use Rattle.alta_disk.specs.Parts.{part}
 use Rattle.alta_journal.specs.Entry.{MayBeRecorded, four_bytes, measured, payload_of}
-use Rattle.alta_journal.specs.Journal.{Begins, EndsAt, IsDamaged, IsBroken, BreaksAt}
+use Rattle.alta_journal.specs.Journal.{Begins, EndsAt, HasBrokenRecord, HasBrokenHalf, BreaksAt}
 use Rattle.alta_journal.specs.Places.{half_at, HasClosedGate}
 use Rattle.alta_journal.specs.Reading.{or_none, of_four, text_in, entry_in}
 use Rattle.alta_journal.specs.Record.{record_of}
@@ -97,7 +97,7 @@ one_reading start p q xs ys image x y =
     (omega (arith, same.1, x.starts, y.starts), same.0)
 
 -- a half is damaged at one place
-pub one_damage : (p q : ℕ) (half : List ℕ) → IsDamaged p half → IsDamaged q half → p ≡ q
+pub one_damage : (p q : ℕ) (half : List ℕ) → HasBrokenRecord p half → HasBrokenRecord q half → p ≡ q
 one_damage p q half x y =
     let same = same_reading x.entries y.entries x.at y.at half x.begins y.begins (ended_broken x.at p half x.begins.gate x.breaks) (ended_broken y.at q half y.begins.gate y.breaks) in
     let moved = subst (λ (k : ℕ). BreaksAt k p half) same.1 x.breaks in
@@ -106,13 +106,13 @@ one_damage p q half x y =
     (λ a. ⊎_elim (λ b. absurd (a.0 b.0)) (λ b. omega (arith, a.2, b.2)) y.breaks) moved
 
 -- and not where it has been read to a closed gate
-pub not_damaged : (at q : ℕ) (xs : List Entry) (half : List ℕ) → Begins xs at half → HasClosedGate at half → IsDamaged q half → ⊥
+pub not_damaged : (at q : ℕ) (xs : List Entry) (half : List ℕ) → Begins xs at half → HasClosedGate at half → HasBrokenRecord q half → ⊥
 not_damaged at q xs half begins closed y =
     let same = same_reading xs y.entries at y.at half begins y.begins (ended_closed at half closed) (ended_broken y.at q half y.begins.gate y.breaks) in
     closed.1 (ap (λ (k : ℕ). get_or half k 0) same.1 ∙ y.is_open)
 
-pub one_fault : (start p q : ℕ) (image : List ℕ) → IsBroken start p image → IsBroken start q image → p ≡ q
+pub one_fault : (start p q : ℕ) (image : List ℕ) → HasBrokenHalf start p image → HasBrokenHalf start q image → p ≡ q
 one_fault start p q image x y = omega (arith, one_damage (p - start) (q - start) (half_at start image) x.damaged y.damaged, x.starts, y.starts)
 
-pub not_both : (start p q : ℕ) (xs : List Entry) (image : List ℕ) → EndsAt start p xs image → IsBroken start q image → ⊥
+pub not_both : (start p q : ℕ) (xs : List Entry) (image : List ℕ) → EndsAt start p xs image → HasBrokenHalf start q image → ⊥
 not_both start p q xs image x y = not_damaged (p - start) (q - start) xs (half_at start image) x.begins x.closed y.damaged

@@ -50,7 +50,7 @@ BreaksAt at place half =
     (LeavesNoRoom at half × (place ≡ at + 1)) ⊎ ((LeavesNoRoom at half → ⊥) × HasNoRecord at half × (place ≡ at + 5))
 
 -- Behind sound records stands an open gate, and the record there breaks a rule at this place of the half.
-pub record IsDamaged (place : ℕ) (half : List ℕ) : Type 0 where
+pub record HasBrokenRecord (place : ℕ) (half : List ℕ) : Type 0 where
   pub at : ℕ
   pub entries : List Entry
   pub begins : Begins entries at half
@@ -58,7 +58,7 @@ pub record IsDamaged (place : ℕ) (half : List ℕ) : Type 0 where
   pub breaks : BreaksAt at place half
 
 -- The half that starts at `start` has a first record that breaks a rule, at `place`.
-pub record IsBroken (start place : ℕ) (image : List ℕ) : Type 0 where
+pub record HasBrokenHalf (start place : ℕ) (image : List ℕ) : Type 0 where
   pub starts : start ≤ place
-  pub damaged : IsDamaged (place - start) (half_at start image)
+  pub damaged : HasBrokenRecord (place - start) (half_at start image)
   pub whole : HEAD_BYTES ≤ length image

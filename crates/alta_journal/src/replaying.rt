@@ -5,7 +5,7 @@ ghost use Rattle.alta_disk.specs.Disk.{DiskState, Same, Passes};
 ghost use Rattle.alta_disk.specs.Parts.{part};
 ghost use Rattle.alta_journal.specs.declared.replaying.OpenFault.TheVariants.{Memory, Disk as DiskFault};
 ghost use Rattle.alta_journal.specs.Entry.{MayBeRecorded};
-ghost use Rattle.alta_journal.specs.Journal.{EndsAt, IsBroken, IsDamaged};
+ghost use Rattle.alta_journal.specs.Journal.{EndsAt, HasBrokenHalf, HasBrokenRecord};
 ghost use Rattle.alta_journal.specs.OpenFault.{IsNoDamage};
 ghost use Rattle.alta_journal.specs.declared.entry.Entry.{Entry};
 ghost use Rattle.alta_journal.specs.Placed.{placed, IsReplay, IsReading};
@@ -74,12 +74,12 @@ pub fn replay<D: Disk>(
     ensures read { D.tells → IfOk result (λ r. IsReplay (start_of half) r.0.items r.1.place (D.state disk.old).content) }
     ensures half { IfOk result (λ r. r.1.half ≡ half) }
     ensures rules { IfOk result (λ r. All (λ p. MayBeRecorded p.entry) r.0.items) }
-    ensures damaged { D.tells → IfErr result (λ e. (place : ℕ) → e ≡ OpenFault.Damaged place → IsBroken (start_of half) place (D.state disk.old).content) }
+    ensures damaged { D.tells → IfErr result (λ e. (place : ℕ) → e ≡ OpenFault.Damaged place → HasBrokenHalf (start_of half) place (D.state disk.old).content) }
 
     // What the half says decides the answer, but for a fault of the disk and want of memory.
     ensures sound { D.tells → (tail : ℕ) → (entries : List Entry) → EndsAt (start_of half) tail entries (D.state disk.old).content
         → MatchResult result (λ r. (r.0.items ≡ placed (start_of half) entries) × (r.1.place ≡ tail)) IsNoDamage }
-    ensures broken { D.tells → (place : ℕ) → IsBroken (start_of half) place (D.state disk.old).content
+    ensures broken { D.tells → (place : ℕ) → HasBrokenHalf (start_of half) place (D.state disk.old).content
         → MatchResult result (λ _. ⊥) (λ e. (other : ℕ) → e ≡ OpenFault.Damaged other → other ≡ place) }
 
     ensures content { D.tells → (D.state disk.new).content ≡ (D.state disk.old).content }
@@ -124,7 +124,7 @@ fn read_records(alloc: Global, half: Half, bytes: &[u8]) -> Result<(Vec<Placed>,
     ensures read { IfOk result (λ r. (start_of half ≤ r.1.place) × IsReading (start_of half) r.0.items (r.1.place - start_of half) bytes.now × HasClosedGate (r.1.place - start_of half) bytes.now) }
     ensures half { IfOk result (λ r. r.1.half ≡ half) }
     ensures rules { IfOk result (λ r. All (λ p. MayBeRecorded p.entry) r.0.items) }
-    ensures damaged { IfErr result (λ e. (place : ℕ) → e ≡ OpenFault.Damaged place → (start_of half ≤ place) × IsDamaged (place - start_of half) bytes.now) }
+    ensures damaged { IfErr result (λ e. (place : ℕ) → e ≡ OpenFault.Damaged place → (start_of half ≤ place) × HasBrokenRecord (place - start_of half) bytes.now) }
     ensures disk { IfErr result (λ e. e ≢ DiskFault) }
 {
     let start = half.start();

@@ -1,7 +1,7 @@
 -- The blocks of a list beside the rows of a summary.
 use Rattle.std.proofs.Common.{◌≡◌, ⊎_elim, inr, ℕ, ◌-◌, ◌*◌, ◌<◌, ◌≤◌, List, length, sym, subst, arith}
 use Rattle.std.proofs.lemmas.Bool.{cases_lt}
-use Rattle.alta_postings.specs.Deltas.{Spells, HasPlaces, locations_of}
+use Rattle.alta_postings.specs.Deltas.{Spells, HasPlaces, decoded_list}
 use Rattle.alta_postings.proofs.Reading.{spelling_reads}
 use Rattle.alta_summary.specs.Table.{IsSummary}
 use Rattle.alta_words.specs.Fault.{Agrees, IsFirstDifferent}
@@ -16,15 +16,15 @@ pub rows_are : (list places summary : List ℕ) (b n : ℕ) → HasPlaces list (
 rows_are list places summary b n h rows blocks same =
     inr (λ i. ⊎_elim (λ l. same i l) (λ g. agrees_behind list places summary b i h (omega arith) (omega arith)) (cases_lt i n))
 
-pub spells_itself : (stream list : List ℕ) → Spells stream list → Spells stream (locations_of stream)
+pub spells_itself : (stream list : List ℕ) → Spells stream list → Spells stream (decoded_list stream)
 spells_itself stream list s = subst (λ (l : List ℕ). Spells stream l) (sym (spelling_reads stream list s).1) s
 
 -- what the rows of the list say of its stream
 module _ (stream list summary : List ℕ) (b : ℕ) (s : Spells stream list) (table : IsSummary summary b) where
-  posting_here : AreRowsOf list summary b → locations_of stream ≡ list → Spells stream (locations_of stream) → IsPosting stream summary b
+  posting_here : AreRowsOf list summary b → decoded_list stream ≡ list → Spells stream (decoded_list stream) → IsPosting stream summary b
   posting_here rows e whole =
-      let same : AreRowsOf (locations_of stream) summary b = subst (λ (l : List ℕ). AreRowsOf l summary b) (sym e) rows in
-      let n = length (locations_of stream) in
+      let same : AreRowsOf (decoded_list stream) summary b = subst (λ (l : List ℕ). AreRowsOf l summary b) (sym e) rows in
+      let n = length (decoded_list stream) in
       ⊎_elim
       (λ none. record {
         spelled = whole;
@@ -52,5 +52,5 @@ module _ (stream list summary : List ℕ) (b : ℕ) (s : Spells stream list) (ta
   pub different_of : (i : ℕ) → IsFirstOther list summary b i → (c : ℕ) × IsFirstDifferent stream summary c i
   different_of i other =
       let e = (spelling_reads stream list s).1 in
-      let o : IsFirstOther (locations_of stream) summary b i = subst (λ (l : List ℕ). IsFirstOther l summary b i) (sym e) other in
+      let o : IsFirstOther (decoded_list stream) summary b i = subst (λ (l : List ℕ). IsFirstOther l summary b i) (sym e) other in
       (b, record { spelled = spells_itself stream list s; table = table; many = o.many; before = o.before; differs = o.differs })

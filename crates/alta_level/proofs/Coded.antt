@@ -8,7 +8,7 @@ use Rattle.std.proofs.lemmas.List.FromFn.{length-map-range_with_len, get_or-map-
 use Rattle.alta_codec.proofs.Numerals.{AreBytes, number_size}
 use Rattle.alta_codec.specs.Numbers.{number_bytes}
 use Rattle.alta_codec.specs.Rising.{IsRising}
-use Rattle.alta_postings.specs.Deltas.{Spells, stream_bytes, locations_of}
+use Rattle.alta_postings.specs.Deltas.{Spells, stream_bytes, decoded_list}
 use Rattle.alta_postings.proofs.Reading.{spelling_reads}
 use Rattle.alta_summary.specs.declared.summary.Row.{Row}
 use Rattle.alta_summary.specs.Table.{field_at, groups_of, last_row, firsts_of, lasts_of, places_of, kept_of, IsSummary, AreRows, HasRowValues, HasGroupFields, IsTableOf}
@@ -123,9 +123,9 @@ field_same summary list table rows long =
     ∙ ap (λ h. field_at summary (3 * last_row (length bs) h + 1)) e
     ∙ (rows r (omega (arith, m))).last ∙ sym (last_of_block list r (omega (arith, m))))
 
-pub posting_coded : (stream summary : List ℕ) (b : ℕ) → IsPosting stream summary b → AreBytes summary → IsCoded stream summary (locations_of stream)
+pub posting_coded : (stream summary : List ℕ) (b : ℕ) → IsPosting stream summary b → AreBytes summary → IsCoded stream summary (decoded_list stream)
 posting_coded stream summary b p are =
-    let list = locations_of stream in
+    let list = decoded_list stream in
     let m = blocks_many list in
     record {
       rising = p.spelled.rising;
@@ -141,7 +141,7 @@ posting_coded stream summary b p are =
           (cases_lt (length list) 65);
     }
 
-pub read_coded : (stream summary : List ℕ) (r : Result Walked PostingFault) → AreBytes summary → IfOk r (λ w. IsPosting stream summary w.bounds.rows) → IfOk r (λ w. IsCoded stream summary (locations_of stream))
+pub read_coded : (stream summary : List ℕ) (r : Result Walked PostingFault) → AreBytes summary → IfOk r (λ w. IsPosting stream summary w.bounds.rows) → IfOk r (λ w. IsCoded stream summary (decoded_list stream))
 read_coded stream summary (Ok w) are p = posting_coded stream summary w.bounds.rows p are
 read_coded stream summary (Err e) are p = tt
 

@@ -5,7 +5,7 @@ use Rattle.std.proofs.lemmas.Bool.{cases_lt}
 use Rattle.std.proofs.lemmas.List.{get_or-drop, get_or-take, length-take}
 use Rattle.alta_codec.proofs.Numerals.{AreBytes}
 use Rattle.alta_postings.specs.declared.fault.StreamFault.{StreamFault}
-use Rattle.alta_postings.specs.Deltas.{Spells, stream_bytes, first_fault, locations_of}
+use Rattle.alta_postings.specs.Deltas.{Spells, stream_bytes, first_fault, decoded_list}
 use Rattle.alta_postings.proofs.Reading.{reading_spells}
 use Rattle.alta_summary.specs.Table.{field_at, fields_of, last_row, HasRows, Keeps, IsSummary, IsFault}
 use Rattle.alta_content.specs.declared.document.DocRow.{DocRow}
@@ -129,9 +129,9 @@ agrees_decided list summary b i =
     (λ out. inr (λ h. out h.row)) (implied (64 * i < length list) (i < b) (less (64 * i) (length list)) (less i b)))
     (λ out. inr (λ h. out h.block)) (implied (i < b) (64 * i < length list) (less i b) (less (64 * i) (length list)))
 
-posting_or_row : (stream summary : List ℕ) (b : ℕ) → Spells stream (locations_of stream) → IsSummary summary b → IsPosting stream summary b ⊎ ((row : ℕ) × IsFirstDifferent stream summary b row)
+posting_or_row : (stream summary : List ℕ) (b : ℕ) → Spells stream (decoded_list stream) → IsSummary summary b → IsPosting stream summary b ⊎ ((row : ℕ) × IsFirstDifferent stream summary b row)
 posting_or_row stream summary b spelled table =
-    let list = locations_of stream in
+    let list = decoded_list stream in
     let small : b ≡ 0 → length list ≤ 64 → IsPosting stream summary b = λ z few. record { spelled = spelled; table = table; short = λ l. z; long = λ l. absurd (omega arith); rows = λ i l. absurd (omega arith) } in
     let big : (b ≡ 0 → 64 < length list) → IsPosting stream summary b ⊎ ((row : ℕ) × IsFirstDifferent stream summary b row) =
     λ many.
@@ -179,15 +179,15 @@ fits_decided documents term count list =
 abbrev WholeOrNot : List DocRow → Stored → Type 0
 WholeOrNot documents s = ((list : List ℕ) × IsListOf documents s list) ⊎ ((p : ℕ) × IsListFault documents s p)
 
-spelled_list : (documents : List DocRow) (s : Stored) → AreBytes s.summary → Spells s.stream (locations_of s.stream) → WholeOrNot documents s
+spelled_list : (documents : List DocRow) (s : Stored) → AreBytes s.summary → Spells s.stream (decoded_list s.stream) → WholeOrNot documents s
 spelled_list documents s are spelled =
     ⊎_elim
     (λ (b, table).
     ⊎_elim
     (λ posting.
-    ⊎_elim (λ f. inl (locations_of s.stream, record { coded = posting_coded s.stream s.summary b posting are; fits = f }))
+    ⊎_elim (λ f. inl (decoded_list s.stream, record { coded = posting_coded s.stream s.summary b posting are; fits = f }))
     (λ out. inr (s.stream_place, in_list b posting out))
-    (fits_decided documents s.term s.count (locations_of s.stream)))
+    (fits_decided documents s.term s.count (decoded_list s.stream)))
     (λ (row, d). inr (s.summary_place + 24 * row, in_row b row d))
     (posting_or_row s.stream s.summary b spelled table))
     (λ (p, f). inr (s.summary_place + p, in_summary p spelled f))

@@ -8,7 +8,7 @@ use Rattle.alta_codec.specs.Numbers.{number_from}
 use Rattle.alta_postings.specs.declared.fault.StreamCause.{StreamCause}
 use Rattle.alta_postings.specs.declared.fault.StreamCause.TheVariants.{Zero, Top}
 use Rattle.alta_postings.specs.declared.fault.StreamFault.{StreamFault}
-use Rattle.alta_postings.specs.Deltas.{cause_of, fault_at, number_fault, fault_from, first_fault, locations_of}
+use Rattle.alta_postings.specs.Deltas.{cause_of, fault_at, number_fault, fault_from, first_fault, decoded_list}
 use Rattle.alta_postings.proofs.Reading.{spelling_reads, no_list}
 use Rattle.alta_summary.specs.Table.{IsSummary, IsFault, IsFirstBroken}
 use Rattle.alta_content.specs.declared.document.DocRow.{DocRow}
@@ -58,7 +58,7 @@ row_within stream summary b row d =
     ⊎_elim
     (λ past.
     let a = d.before b past in
-    let short : length (locations_of stream) ≤ 64 * b = ⊎_elim (λ l. absurd (omega (arith, a.row l))) (λ g. g) (cases_lt (64 * b) (length (locations_of stream))) in
+    let short : length (decoded_list stream) ≤ 64 * b = ⊎_elim (λ l. absurd (omega (arith, a.row l))) (λ g. g) (cases_lt (64 * b) (length (decoded_list stream))) in
     absurd (d.differs (record { block = λ l. absurd (omega arith); row = λ l. absurd (omega arith); same = λ l. absurd (omega arith) })))
     (λ g. omega (arith, d.table.rows.sized))
     (cases_lt b row)
@@ -144,10 +144,10 @@ module _ (documents : List DocRow) (s : Stored) (fault : PostingFault) (h : IsPo
   pub row_place_within : (row : ℕ) → fault ≡ wrong.Differ row → 24 * row ≤ length s.summary
   row_place_within row e = let (b, k) = subst (λ f. IsPostingFault s.stream s.summary f) e h in row_within s.stream s.summary b row k
 
-pub list_found : (documents : List DocRow) (s : Stored) (list : List ℕ) → IsCoded s.stream s.summary (locations_of s.stream) → list ≡ locations_of s.stream
+pub list_found : (documents : List DocRow) (s : Stored) (list : List ℕ) → IsCoded s.stream s.summary (decoded_list s.stream) → list ≡ decoded_list s.stream
     → Fits documents s.term s.count list → IsListOf documents s list
 list_found documents s list k e f = record { coded = subst (λ (l : List ℕ). IsCoded s.stream s.summary l) (sym e) k; fits = f }
 
-pub list_misfits : (documents : List DocRow) (s : Stored) (list : List ℕ) → ((b : ℕ) × IsPosting s.stream s.summary b) → list ≡ locations_of s.stream
+pub list_misfits : (documents : List DocRow) (s : Stored) (list : List ℕ) → ((b : ℕ) × IsPosting s.stream s.summary b) → list ≡ decoded_list s.stream
     → (Fits documents s.term s.count list → ⊥) → IsListFault documents s s.stream_place
 list_misfits documents s list (b, p) e n = in_list b p (subst (λ (l : List ℕ). Fits documents s.term s.count l → ⊥) e n)

@@ -2,7 +2,7 @@
 use Rattle.std.specs.Prelude.{◌≡◌, ℕ, ◌+◌, ◌*◌, ◌<◌, List, length, slice_index, Some}
 use Rattle.alta_codec.specs.Rising.{IsRising}
 use Rattle.alta_postings.specs.declared.fault.StreamCause.{StreamCause}
-use Rattle.alta_postings.specs.Deltas.{Spells, fault_at, first_fault, locations_of}
+use Rattle.alta_postings.specs.Deltas.{Spells, fault_at, first_fault, decoded_list}
 use Rattle.alta_summary.specs.Table.{IsFault}
 use Rattle.alta_words.specs.Fault.{IsFirstDifferent}
 use Rattle.alta_words.specs.Word.{IsPosting}
@@ -51,6 +51,6 @@ pub record IsListOf (documents : List DocRow) (s : Stored) (list : List ℕ) : T
 -- its block or is missing, and last the stream's first byte, where it keeps not what its row and the documents say.
 pub data IsListFault (documents : List DocRow) (s : Stored) : ℕ → Type 0 where
   in_stream : (at : ℕ) (why : StreamCause) → first_fault s.stream ≡ Some (fault_at at why) → IsListFault documents s (s.stream_place + at)
-  in_summary : (at : ℕ) → Spells s.stream (locations_of s.stream) → IsFault s.summary at → IsListFault documents s (s.summary_place + at)
+  in_summary : (at : ℕ) → Spells s.stream (decoded_list s.stream) → IsFault s.summary at → IsListFault documents s (s.summary_place + at)
   in_row : (b row : ℕ) → IsFirstDifferent s.stream s.summary b row → IsListFault documents s (s.summary_place + 24 * row)
-  in_list : (b : ℕ) → IsPosting s.stream s.summary b → (Fits documents s.term s.count (locations_of s.stream) → ⊥) → IsListFault documents s s.stream_place
+  in_list : (b : ℕ) → IsPosting s.stream s.summary b → (Fits documents s.term s.count (decoded_list s.stream) → ⊥) → IsListFault documents s s.stream_place

@@ -1,6 +1,6 @@
 // One list of a level, tested and read.
 ghost use Rattle.std.specs.Prelude.{◌≡◌, ℕ, ◌+◌, ◌<◌, ◌^◌, List, length, Err, IfOk};
-ghost use Rattle.alta_postings.specs.Deltas.{locations_of};
+ghost use Rattle.alta_postings.specs.Deltas.{decoded_list};
 ghost use Rattle.alta_table.specs.Answers.{IfDamaged, IsDamaged, IsFound};
 ghost use Rattle.alta_content.specs.Rows.{AreDocuments};
 ghost use Rattle.alta_content.specs.declared.document.DocRow.{DocRow};
@@ -42,9 +42,9 @@ fn read_coded(
 ) -> Result<(), LevelFault>
     requires stream { list.now.stream_place + length list.now.stream.now < 2 ^ 64 }
     requires summary { list.now.summary_place + length list.now.summary.now < 2 ^ 64 }
-    ensures coded { IfOk result (λ x. IsCoded list.now.stream.now list.now.summary.now (locations_of list.now.stream.now)) }
+    ensures coded { IfOk result (λ x. IsCoded list.now.stream.now list.now.summary.now (decoded_list list.now.stream.now)) }
     ensures posting { IfOk result (λ x. (b : ℕ) × IsPosting list.now.stream.now list.now.summary.now b) }
-    ensures read { IfOk result (λ x. locations.new.items ≡ locations_of list.now.stream.now) }
+    ensures read { IfOk result (λ x. locations.new.items ≡ decoded_list list.now.stream.now) }
     ensures fault { IfDamaged result (λ p. (documents : List DocRow) → IsListFault documents (stored_of list.now) p) }
 {
     match decode(locations, places, list.stream) {
@@ -93,9 +93,9 @@ fn tested(list: &StoredList<'_>, documents: &[DocRow]) -> Result<Bounds, LevelFa
     requires stream { list.now.stream_place + length list.now.stream.now < 2 ^ 64 }
     requires summary { list.now.summary_place + length list.now.summary.now < 2 ^ 64 }
     requires documents { AreDocuments documents.now }
-    ensures whole { IfOk result (λ x. IsListOf documents.now (stored_of list.now) (locations_of list.now.stream.now)) }
+    ensures whole { IfOk result (λ x. IsListOf documents.now (stored_of list.now) (decoded_list list.now.stream.now)) }
     ensures posting { IfOk result (λ bounds. IsPosting list.now.stream.now list.now.summary.now bounds.rows) }
-    ensures bounds { IfOk result (λ bounds. HasBounds (locations_of list.now.stream.now) bounds.count bounds.first bounds.last) }
+    ensures bounds { IfOk result (λ bounds. HasBounds (decoded_list list.now.stream.now) bounds.count bounds.first bounds.last) }
     ensures first { IfDamaged result (IsListFault documents.now (stored_of list.now)) }
     ensures lean { result ≡ Err LevelFault.Memory → ⊥ }
 {
@@ -122,10 +122,10 @@ pub fn check_list(list: &StoredList<'_>, documents: &[DocRow]) -> Result<Bounds,
     requires stream { list.now.stream_place + length list.now.stream.now < 2 ^ 64 }
     requires summary { list.now.summary_place + length list.now.summary.now < 2 ^ 64 }
     requires documents { AreDocuments documents.now }
-    ensures whole { IfOk result (λ x. IsListOf documents.now (stored_of list.now) (locations_of list.now.stream.now)) }
+    ensures whole { IfOk result (λ x. IsListOf documents.now (stored_of list.now) (decoded_list list.now.stream.now)) }
     ensures posting { IfOk result (λ bounds. IsPosting list.now.stream.now list.now.summary.now bounds.rows) }
-    ensures bounds { IfOk result (λ bounds. HasBounds (locations_of list.now.stream.now) bounds.count bounds.first bounds.last) }
-    ensures only { (locations : List ℕ) → IsListOf documents.now (stored_of list.now) locations → IsFound (λ x. locations_of list.now.stream.now) result locations }
+    ensures bounds { IfOk result (λ bounds. HasBounds (decoded_list list.now.stream.now) bounds.count bounds.first bounds.last) }
+    ensures only { (locations : List ℕ) → IsListOf documents.now (stored_of list.now) locations → IsFound (λ x. decoded_list list.now.stream.now) result locations }
     ensures first { IfDamaged result (IsListFault documents.now (stored_of list.now)) }
     ensures broken { (p : ℕ) → IsListFault documents.now (stored_of list.now) p → IsDamaged result p }
     ensures lean { result ≡ Err LevelFault.Memory → ⊥ }

@@ -1,6 +1,6 @@
 // The locations of a list beside the rows of a summary.
 ghost use Rattle.std.specs.Prelude.{◌≡◌, ◌↔◌, ℕ, ◌<◌, List, None, length, IfErr, IfOk, IfSome, IsTrue};
-ghost use Rattle.alta_postings.specs.Deltas.{HasPlaces, Spells, locations_of};
+ghost use Rattle.alta_postings.specs.Deltas.{HasPlaces, Spells, decoded_list};
 ghost use Rattle.alta_words.specs.Fault.{Agrees, HasRow, IsPostingFault};
 ghost use Rattle.alta_words.specs.Word.{IsPosting};
 ghost use Rattle.alta_level.specs.Coded.{IsCoded};
@@ -56,7 +56,7 @@ fn first_other(table: &Summary<'_>, locations: &[Loc], places: &[u64]) -> Option
 /// summary's own, else the first row that is not the block of its number or is missing. The stream is not read.
 pub fn compare(summary: &[u8], locations: &[Loc], places: &[u64]) -> Result<(), PostingFault>
     requires { HasPlaces locations.now (length locations.now) places.now }
-    ensures coded { IfOk result (λ x. (stream : List ℕ) → Spells stream locations.now → IsCoded stream summary.now (locations_of stream)) }
+    ensures coded { IfOk result (λ x. (stream : List ℕ) → Spells stream locations.now → IsCoded stream summary.now (decoded_list stream)) }
     ensures posting { IfOk result (λ x. (stream : List ℕ) → Spells stream locations.now → (b : ℕ) × IsPosting stream summary.now b) }
     ensures fault { IfErr result (λ fault. (stream : List ℕ) → Spells stream locations.now → IsPostingFault stream summary.now fault) }
 {

@@ -3,7 +3,7 @@ ghost use Rattle.std.specs.Prelude.{◌↔◌, IfErr, IfOk, IsTrue};
 ghost use Rattle.alta_content.specs.Rows.{AreDocuments};
 ghost use Rattle.alta_level.specs.Coded.{IsCoded};
 ghost use Rattle.alta_level.specs.Fitting.{AreFitting};
-ghost use Rattle.alta_postings.specs.Deltas.{locations_of};
+ghost use Rattle.alta_postings.specs.Deltas.{decoded_list};
 ghost use Rattle.alta_words.specs.Fault.{IsPostingFault};
 ghost use Rattle.alta_words.specs.Word.{HasBounds, IsPosting};
 
@@ -32,8 +32,8 @@ fn walk(
 ) -> Result<Walked, PostingFault>
     requires documents { AreDocuments documents.now }
     ensures posting { IfOk result (λ walked. IsPosting stream.now table.now.bytes walked.bounds.rows) }
-    ensures bounds { IfOk result (λ walked. HasBounds (locations_of stream.now) walked.bounds.count walked.bounds.first walked.bounds.last) }
-    ensures fits { IfOk result (λ walked. IsTrue walked.fits ↔ AreFitting documents.now ends (locations_of stream.now)) }
+    ensures bounds { IfOk result (λ walked. HasBounds (decoded_list stream.now) walked.bounds.count walked.bounds.first walked.bounds.last) }
+    ensures fits { IfOk result (λ walked. IsTrue walked.fits ↔ AreFitting documents.now ends (decoded_list stream.now)) }
     ensures fault { IfErr result (IsPostingFault stream.now table.now.bytes) }
 {
     let mut read = Compared::none();
@@ -67,10 +67,10 @@ pub fn walk_list(
     ends: bool,
 ) -> Result<Walked, PostingFault>
     requires documents { AreDocuments documents.now }
-    ensures coded { IfOk result (λ walked. IsCoded stream.now summary.now (locations_of stream.now)) }
+    ensures coded { IfOk result (λ walked. IsCoded stream.now summary.now (decoded_list stream.now)) }
     ensures posting { IfOk result (λ walked. IsPosting stream.now summary.now walked.bounds.rows) }
-    ensures bounds { IfOk result (λ walked. HasBounds (locations_of stream.now) walked.bounds.count walked.bounds.first walked.bounds.last) }
-    ensures fits { IfOk result (λ walked. IsTrue walked.fits ↔ AreFitting documents.now ends (locations_of stream.now)) }
+    ensures bounds { IfOk result (λ walked. HasBounds (decoded_list stream.now) walked.bounds.count walked.bounds.first walked.bounds.last) }
+    ensures fits { IfOk result (λ walked. IsTrue walked.fits ↔ AreFitting documents.now ends (decoded_list stream.now)) }
     ensures fault { IfErr result (IsPostingFault stream.now summary.now) }
 {
     match Summary::open(summary) {

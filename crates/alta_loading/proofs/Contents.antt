@@ -27,7 +27,7 @@ use Rattle.alta_loading.specs.Contents.{AreListsAmong, AreListsIn}
 use Rattle.alta_loading.specs.Terms.{if_some}
 use Rattle.alta_loading.proofs.Places.{standing, standing_row}
 use Rattle.alta_loading.proofs.Runs.{all_join}
-use Rattle.alta_postings.specs.Deltas.{locations_of}
+use Rattle.alta_postings.specs.Deltas.{decoded_list}
 use Rattle.alta_postings.proofs.Reading.{spelling_reads}
 use Rattle.alta_table.specs.Tables.{tables_bytes}
 use Rattle.alta_table.specs.Terms.{data_bytes, data_of}
@@ -117,7 +117,7 @@ if_some_is (x ∷ xs) some = refl
 
 -- ---- the law
 
-spelled_is : (documents : List DocRow) (s : Stored) (list : List ℕ) → IsListOf documents s list → locations_of s.stream ≡ list
+spelled_is : (documents : List DocRow) (s : Stored) (list : List ℕ) → IsListOf documents s list → decoded_list s.stream ≡ list
 spelled_is documents s list h = (spelling_reads s.stream list (record { rising = h.coded.rising; spelled = h.coded.stream_is })).1
 
 segment_fits : (place n : ℕ) (image : List ℕ) (c : Content) → IsSegment (part place n image) c → length (tables_bytes c.documents (rows_of c.lists)) + data_bytes (rows_of c.lists) ≤ n

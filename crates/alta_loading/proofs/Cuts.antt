@@ -18,8 +18,8 @@ use Rattle.alta_content.specs.declared.document.DocRow.{DocRow}
 use Rattle.alta_content.proofs.Elements.{all_right, among_at}
 use Rattle.alta_content.proofs.Order.{in_order_sorted}
 use Rattle.alta_content.proofs.Ranges.{among, any_append, in_range, in_row, in_rows}
-use Rattle.alta_images.specs.Opened.{rows_in}
-use Rattle.alta_images.specs.Ordered.{Precedes, RowsRise}
+use Rattle.alta_images.specs.Opened.{table_rows}
+use Rattle.alta_images.specs.Ordered.{Precedes, RowsPrecede}
 use Rattle.alta_loading.specs.Lists.{KeepsRow}
 use Rattle.alta_loading.specs.Loads.{KeepRows, Load, load_at, loads_from, number_of, row_from}
 use Rattle.alta_loading.specs.Met.{all_terms, keys_met, terms_met}
@@ -55,7 +55,7 @@ under_first low (r ∷ rs) h x p m =
     (or_cases (in_row x r) (in_rows rs x) m)
 
 -- a location of the first rows lies below those of the others
-under_next : (rows others : List DocRow) (x : ℕ) → RowsRise (rows ++ others) → in_rows rows x ≡ true → IsUnder x others
+under_next : (rows others : List DocRow) (x : ℕ) → RowsPrecede (rows ++ others) → in_rows rows x ≡ true → IsUnder x others
 under_next [] others x r m = absurd (true≢false (sym m))
 under_next (row ∷ rows) others x r m =
     ⊎_elim
@@ -65,7 +65,7 @@ under_next (row ∷ rows) others x r m =
     (λ later. under_next rows others x r.1 later)
     (or_cases (in_row x row) (in_rows rows x) m)
 
-rise_right : (rows others : List DocRow) → RowsRise (rows ++ others) → RowsRise others
+rise_right : (rows others : List DocRow) → RowsPrecede (rows ++ others) → RowsPrecede others
 rise_right [] others r = r
 rise_right (row ∷ rows) others r = rise_right rows others r.1
 
@@ -105,7 +105,7 @@ module _ (newest : Content) (term : List ℕ) (lies : LiesIn newest.documents (l
   last = if_some (locations_of newest.lists term)
 
   -- one level more in front
-  level_rises : (n : ℕ) (level : Tables) (levels : List Tables) (low : ℕ) → RowsRise (level.documents ++ all_rows levels newest) → IsUnder low (level.documents ++ all_rows levels newest)
+  level_rises : (n : ℕ) (level : Tables) (levels : List Tables) (low : ℕ) → RowsPrecede (level.documents ++ all_rows levels newest) → IsUnder low (level.documents ++ all_rows levels newest)
       → ((lists : List (List ℕ)) (x : ℕ) → IsUnder x (all_rows levels newest) → KeepRows (loads_from (n + 1) levels term) lists → RisesAbove x (concat (lists ++ last)))
       → (r : Option ℕ) (lists : List (List ℕ)) → KeepRows (load_at n level r ++ loads_from (n + 1) levels term) lists → RisesAbove low (concat (lists ++ last))
   level_rises n level levels low rise under later None lists k = later lists low (λ x p m. under x p (in_others level.documents (all_rows levels newest) x m)) k
@@ -118,13 +118,13 @@ module _ (newest : Content) (term : List ℕ) (lies : LiesIn newest.documents (l
       (later lists low (λ x p m. under x p (in_others level.documents rows x m)) ks)
       (λ x m. later lists x (under_next level.documents rows x rise (lies_at level.documents list x here m)) ks)
 
-  lists_rise : (n : ℕ) (levels : List Tables) (coded : List (List ℕ)) (low : ℕ) → RowsRise (all_rows levels newest) → IsUnder low (all_rows levels newest)
+  lists_rise : (n : ℕ) (levels : List Tables) (coded : List (List ℕ)) (low : ℕ) → RowsPrecede (all_rows levels newest) → IsUnder low (all_rows levels newest)
       → KeepRows (loads_from n levels term) coded → RisesAbove low (concat (coded ++ last))
   lists_rise n [] [] low rise under keeps = subst (RisesAbove low) (sym (concat_some (locations_of newest.lists term))) (above_low low newest.documents (locations_of newest.lists term) under lies)
   lists_rise n [] (x ∷ xs) low rise under keeps = absurd keeps
   lists_rise n (level ∷ levels) coded low rise under keeps =
-      let all_are : all_rows (level ∷ levels) newest ≡ level.documents ++ all_rows levels newest = append_assoc level.documents (rows_in levels) newest.documents in
-      let rises = subst RowsRise all_are rise in
+      let all_are : all_rows (level ∷ levels) newest ≡ level.documents ++ all_rows levels newest = append_assoc level.documents (table_rows levels) newest.documents in
+      let rises = subst RowsPrecede all_are rise in
       level_rises n level levels low rises (subst (IsUnder low) all_are under)
       (λ lists x u k. lists_rise (n + 1) levels lists x (rise_right level.documents (all_rows levels newest) rises) u k)
       (row_from 0 level.terms term) coded keeps
@@ -151,7 +151,7 @@ newest_lies added newest term h = record {
 abbrev IsCutTerm : List (List ℕ) → Type 0
 IsCutTerm levels = All (λ (list : List ℕ). 0 < length list) levels × IsRising (concat levels)
 
-term_cut : (levels : List Tables) (added : List Added) (newest : Content) (term : List ℕ) (lists : List (List ℕ)) → HasContent added newest → RowsRise (all_rows levels newest)
+term_cut : (levels : List Tables) (added : List Added) (newest : Content) (term : List ℕ) (lists : List (List ℕ)) → HasContent added newest → RowsPrecede (all_rows levels newest)
     → KeepTerm levels newest term lists → IsCutTerm lists
 term_cut levels added newest term lists h rise keeps =
     let last = if_some (locations_of newest.lists term) in
@@ -161,7 +161,7 @@ term_cut levels added newest term lists h rise keeps =
     )
 
 -- the lists of terms
-pub terms_cut : (levels : List Tables) (newest : Content) (terms : List (List ℕ)) (lists : List (List (List ℕ))) → (added : List Added) → HasContent added newest → RowsRise (all_rows levels newest)
+pub terms_cut : (levels : List Tables) (newest : Content) (terms : List (List ℕ)) (lists : List (List (List ℕ))) → (added : List Added) → HasContent added newest → RowsPrecede (all_rows levels newest)
     → KeepTerms levels newest terms lists → IsCut lists
 terms_cut levels newest [] [] added h rise k = All-nil IsCutTerm
 terms_cut levels newest [] (x ∷ xs) added h rise k = absurd k

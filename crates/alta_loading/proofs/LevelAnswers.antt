@@ -14,13 +14,13 @@ use Rattle.alta_content.specs.TermList.{TermList}
 use Rattle.alta_content.specs.declared.document.DocRow.{DocRow}
 use Rattle.alta_content.proofs.Order.{iff_same}
 use Rattle.alta_images.specs.Levels.{Level, document_of, documents_of, live_rows}
-use Rattle.alta_images.specs.Ordered.{RowsRise}
+use Rattle.alta_images.specs.Ordered.{RowsPrecede}
 use Rattle.alta_images.specs.Standing.{tables_by}
 use Rattle.alta_loading.specs.Snapshots.{all_rows, loaded_view}
 use Rattle.alta_loading.proofs.LevelEnds.{whole_space}
 use Rattle.alta_loading.proofs.LevelSpaces.{IsWritten, all_space, lists_are, of_levels, rows_added, rows_are, space_each}
 use Rattle.alta_loading.proofs.ReadOff.{added_in, among_contains, contains_among, read_off}
-use Rattle.alta_memlevel.specs.Added.{Added, IsDocument, IsSpace, live_of}
+use Rattle.alta_memlevel.specs.Added.{Added, IsInSpace, IsSpace, live_of}
 use Rattle.alta_memlevel.specs.Added as mem
 use Rattle.alta_memlevel.specs.Documents.{HasDocuments, document_in}
 use Rattle.alta_meta.specs.declared.document.Document.{Document}
@@ -98,8 +98,8 @@ rows_each (a ∷ more) (d, numbers, behind, rest) = ((refl, d.counted), rows_eac
 
 -- ---- the law
 
-module _ (answers_match : AnswersMatch) (decided : MatchesAreDecided) (levels : List Level) (image gone : List ℕ) (documents : List Document) (newest : mem.Level) (q : Shape)
-    (s : All (IsWritten image) levels) (h : HasDocuments gone documents newest) (rise : RowsRise (all_rows (map tables_by levels) newest.content)) where
+module _ (answers_match : AnswersMatch) (decided : MatchesAreDecided) (levels : List Level) (image gone : List ℕ) (documents : List Document) (newest : mem.LevelView) (q : Shape)
+    (s : All (IsWritten image) levels) (h : HasDocuments gone documents newest) (rise : RowsPrecede (all_rows (map tables_by levels) newest.content)) where
   abbrev all : List Added
   all = of_levels levels ++ h.added
 

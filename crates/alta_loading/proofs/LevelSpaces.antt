@@ -19,8 +19,8 @@ use Rattle.alta_content.proofs.Contents.{rows_rise}
 use Rattle.alta_content.proofs.Elements.{all_left}
 use Rattle.alta_content.proofs.Order.{has, has_append, has_in_order}
 use Rattle.alta_images.specs.Levels.{Level}
-use Rattle.alta_images.specs.Opened.{bytes_at, rows_in}
-use Rattle.alta_images.specs.Ordered.{Precedes, RowsRise}
+use Rattle.alta_images.specs.Opened.{bytes_at, table_rows}
+use Rattle.alta_images.specs.Ordered.{Precedes, RowsPrecede}
 use Rattle.alta_images.specs.Standing.{tables_by}
 use Rattle.alta_level.specs.Segments.{IsSegment, rows_of}
 use Rattle.alta_loading.specs.Contents.{lists_in}
@@ -31,7 +31,7 @@ use Rattle.alta_loading.specs.Terms.{if_some, lists_of_term}
 use Rattle.alta_loading.proofs.Contents.{levels_loaded}
 use Rattle.alta_loading.proofs.Cuts.{concat_some}
 use Rattle.alta_loading.proofs.ReadOff.{added_in, documents_each, list_read_off, rows_back, space_from}
-use Rattle.alta_memlevel.specs.Added.{Added, HasContent, IsDocument, IsSpace, places_of}
+use Rattle.alta_memlevel.specs.Added.{Added, HasContent, IsInSpace, IsSpace, places_of}
 use Rattle.alta_memlevel.specs.Added as mem
 use Rattle.alta_memlevel.proofs.One.{listed, listed_at, listed_terms}
 use Rattle.alta_query.specs.declared.test.Test.{Test}
@@ -56,31 +56,31 @@ of_levels levels = flat_map (λ (l : Level). added_in l.content) levels
 
 -- ---- rows
 
-rows_of_levels : (levels : List Level) → rows_added (of_levels levels) ≡ rows_in (map tables_by levels)
-rows_of_levels [] = refl
-rows_of_levels (l ∷ ls) =
+rows_added_of : (levels : List Level) → rows_added (of_levels levels) ≡ table_rows (map tables_by levels)
+rows_added_of [] = refl
+rows_added_of (l ∷ ls) =
     map-append (λ (a : Added). a.row) (added_in l.content) (of_levels ls)
     ∙ ap (λ r. r ++ rows_added (of_levels ls)) (rows_back l.content.lists l.content.documents)
-    ∙ ap (λ r. l.content.documents ++ r) (rows_of_levels ls)
+    ∙ ap (λ r. l.content.documents ++ r) (rows_added_of ls)
 
-rise_left : (rows others : List DocRow) → RowsRise (rows ++ others) → RowsRise rows
+rise_left : (rows others : List DocRow) → RowsPrecede (rows ++ others) → RowsPrecede rows
 rise_left [] others r = tt
 rise_left (row ∷ rows) others r = (all_left (Precedes row) rows others r.0, rise_left rows others r.1)
 
-rise_right : (rows others : List DocRow) → RowsRise (rows ++ others) → RowsRise others
+rise_right : (rows others : List DocRow) → RowsPrecede (rows ++ others) → RowsPrecede others
 rise_right [] others r = r
 rise_right (row ∷ rows) others r = rise_right rows others r.1
 
-levels_each : (levels : List Level) (image : List ℕ) → All (IsWritten image) levels → All IsDocument (of_levels levels)
-levels_each [] image s = All-nil IsDocument
+levels_each : (levels : List Level) (image : List ℕ) → All (IsWritten image) levels → All IsInSpace (of_levels levels)
+levels_each [] image s = All-nil IsInSpace
 levels_each (l ∷ ls) image s =
     let is = All-head (IsWritten image) l ls s in
-    All-append IsDocument (added_in l.content) (of_levels ls) (documents_each l.content.lists l.content.documents (rows_rise l.content.documents is.stands.documents_stand))
+    All-append IsInSpace (added_in l.content) (of_levels ls) (documents_each l.content.lists l.content.documents (rows_rise l.content.documents is.stands.documents_stand))
     (levels_each ls image (All-tail (IsWritten image) l ls s))
 
-pub space_each : (added : List Added) → IsSpace added → All IsDocument added
-space_each [] s = All-nil IsDocument
-space_each (a ∷ more) s = All-cons IsDocument a more s.0 (space_each more s.3)
+pub space_each : (added : List Added) → IsSpace added → All IsInSpace added
+space_each [] s = All-nil IsInSpace
+space_each (a ∷ more) s = All-cons IsInSpace a more s.0 (space_each more s.3)
 
 -- ---- lists
 
@@ -94,10 +94,10 @@ list_append (x ∷ xs) b t =
 abbrev located_in : List Level → List ℕ → List ℕ
 located_in levels t = flat_map (λ (l : Level). locations_of l.content.lists t) levels
 
-lists_of_levels : (levels : List Level) (image t : List ℕ) → All (IsWritten image) levels → RowsRise (rows_in (map tables_by levels)) → located_in levels t ≡ mem.list_of (of_levels levels) t
+lists_of_levels : (levels : List Level) (image t : List ℕ) → All (IsWritten image) levels → RowsPrecede (table_rows (map tables_by levels)) → located_in levels t ≡ mem.list_of (of_levels levels) t
 lists_of_levels [] image t s rise = refl
 lists_of_levels (l ∷ ls) image t s rise =
-    let rest = rows_in (map tables_by ls) in
+    let rest = table_rows (map tables_by ls) in
     ap (λ xs. xs ++ located_in ls t) (list_read_off l.content (All-head (IsWritten image) l ls s).stands (rise_left l.content.documents rest rise) t)
     ∙ ap (λ xs. mem.list_of (added_in l.content) t ++ xs) (lists_of_levels ls image t (All-tail (IsWritten image) l ls s) (rise_right l.content.documents rest rise))
     ∙ sym (list_append (added_in l.content) (of_levels ls) t)
@@ -130,7 +130,7 @@ absent_levels (l ∷ ls) t h =
 -- ---- the space
 
 module _ (levels : List Level) (image : List ℕ) (added : List Added) (newest : Content) (s : All (IsWritten image) levels) (h : HasContent added newest)
-    (rise : RowsRise (all_rows (map tables_by levels) newest)) where
+    (rise : RowsPrecede (all_rows (map tables_by levels) newest)) where
   abbrev pub all : List Added
   all = of_levels levels ++ added
 
@@ -140,16 +140,16 @@ module _ (levels : List Level) (image : List ℕ) (added : List Added) (newest :
   pub rows_are : rows_added all ≡ all_rows (map tables_by levels) newest
   rows_are =
       map-append (λ (a : Added). a.row) (of_levels levels) added
-      ∙ ap (λ r. r ++ rows_added added) (rows_of_levels levels)
-      ∙ ap (λ r. rows_in tables ++ r) (sym h.documents)
+      ∙ ap (λ r. r ++ rows_added added) (rows_added_of levels)
+      ∙ ap (λ r. table_rows tables ++ r) (sym h.documents)
 
   pub all_space : IsSpace all
   all_space =
-      space_from all (subst RowsRise (sym rows_are) rise) (All-append IsDocument (of_levels levels) added (levels_each levels image s) (space_each added h.space))
+      space_from all (subst RowsPrecede (sym rows_are) rise) (All-append IsInSpace (of_levels levels) added (levels_each levels image s) (space_each added h.space))
 
   -- the lists of a term make up its list
   levels_part : (t : List ℕ) → located_in levels t ≡ mem.list_of (of_levels levels) t
-  levels_part t = lists_of_levels levels image t s (rise_left (rows_in tables) newest.documents rise)
+  levels_part t = lists_of_levels levels image t s (rise_left (table_rows tables) newest.documents rise)
 
   joined : (t : List ℕ) → concat (lists_of_term tables newest image t) ≡ mem.list_of all t
   joined t =

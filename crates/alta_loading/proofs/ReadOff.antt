@@ -21,9 +21,9 @@ use Rattle.alta_content.proofs.Elements.{among_at}
 use Rattle.alta_content.proofs.Order.{After, has, none_of, same_term}
 use Rattle.alta_content.proofs.Ranges.{among, in_range, in_row, in_rows}
 use Rattle.alta_images.specs.Levels.{cell_at, document_of, locations_from}
-use Rattle.alta_images.specs.Ordered as ordered
+use Rattle.alta_images.specs.Ordered.{Precedes, RowsPrecede}
 use Rattle.alta_loading.proofs.Cuts.{LiesIn, lies_at}
-use Rattle.alta_memlevel.specs.Added.{Added, IsDocument}
+use Rattle.alta_memlevel.specs.Added.{Added, IsInSpace}
 use Rattle.alta_memlevel.specs.Added as mem
 use Rattle.alta_memlevel.proofs.One.{holds_has}
 use Rattle.alta_query.specs.Patterns.{meets}
@@ -155,27 +155,27 @@ pub rows_back : (lists : List TermList) (rows : List DocRow) → map (λ (a : Ad
 rows_back lists [] = refl
 rows_back lists (r ∷ rs) = ap (λ l. r ∷ l) (rows_back lists rs)
 
-pub documents_each : (lists : List TermList) (rows : List DocRow) → RowsRise rows → All IsDocument (map (read_off lists) rows)
-documents_each lists [] r = All-nil IsDocument
+pub documents_each : (lists : List TermList) (rows : List DocRow) → RowsRise rows → All IsInSpace (map (read_off lists) rows)
+documents_each lists [] r = All-nil IsInSpace
 documents_each lists (row ∷ rows) (p, behind, rest) =
-    All-cons IsDocument (read_off lists row) (map (read_off lists) rows)
+    All-cons IsInSpace (read_off lists row) (map (read_off lists) rows)
     (record { positive = p.positive; some = p.some; counted = sym (cells_long (cell_at lists) row.first row.cells); below = p.below })
     (documents_each lists rows rest)
 
 -- documents whose rows rise are a space
-pub space_from : (added : List Added) → ordered.RowsRise (map (λ (a : Added). a.row) added) → All IsDocument added → mem.IsSpace added
+pub space_from : (added : List Added) → RowsPrecede (map (λ (a : Added). a.row) added) → All IsInSpace added → mem.IsSpace added
 space_from [] rise each = tt
 space_from (a ∷ more) (here, rise) each = (
-  All-head IsDocument a more each,
+  All-head IsInSpace a more each,
   all_back (λ (r : DocRow). a.row.number < r.number) (λ r p. p.0) more here,
   all_back (λ (r : DocRow). end_of a.row < r.first) (λ r p. p.1) more here,
-  space_from more rise (All-tail IsDocument a more each),
+  space_from more rise (All-tail IsInSpace a more each),
 )
   where
-    all_back : (P : DocRow → Type 0) → ((r : DocRow) → ordered.Precedes a.row r → P r) → (bs : List Added) → All (ordered.Precedes a.row) (map (λ (b : Added). b.row) bs) → All (λ (b : Added). P b.row) bs
+    all_back : (P : DocRow → Type 0) → ((r : DocRow) → Precedes a.row r → P r) → (bs : List Added) → All (Precedes a.row) (map (λ (b : Added). b.row) bs) → All (λ (b : Added). P b.row) bs
     all_back P goes [] all = All-nil (λ (b : Added). P b.row)
     all_back P goes (b ∷ bs) all =
-        let Before : DocRow → Type 0 = ordered.Precedes a.row in
+        let Before : DocRow → Type 0 = Precedes a.row in
         All-cons (λ (c : Added). P c.row) b bs (goes b.row (All-head Before b.row (map (λ (c : Added). c.row) bs) all)) (all_back P goes bs (All-tail Before b.row (map (λ (c : Added). c.row) bs) all))
 
 -- ---- the lists
@@ -192,7 +192,7 @@ lies_behind documents before (l ∷ ls) t (m, more) =
     (λ n. subst (λ b. LiesIn documents (cond b l.locations (locations_of ls t))) (sym n) (lies_behind documents l.term ls t more))
     (cases_Bool (bytes_eq t l.term))
 
-module _ (c : Content) (is : IsContent c) (rise : ordered.RowsRise c.documents) (t : List ℕ) where
+module _ (c : Content) (is : IsContent c) (rise : RowsPrecede c.documents) (t : List ℕ) where
   abbrev list : List ℕ
   list = locations_of c.lists t
 
@@ -204,7 +204,7 @@ module _ (c : Content) (is : IsContent c) (rise : ordered.RowsRise c.documents) 
 
   added_space : mem.IsSpace (added_in c)
   added_space =
-      space_from (added_in c) (subst ordered.RowsRise (sym (rows_back c.lists c.documents)) rise) (documents_each c.lists c.documents (rows_rise c.documents is.documents_stand))
+      space_from (added_in c) (subst RowsPrecede (sym (rows_back c.lists c.documents)) rise) (documents_each c.lists c.documents (rows_rise c.documents is.documents_stand))
 
   lies : LiesIn c.documents list
   lies = lies_behind c.documents [] c.lists t is.lists_stand

@@ -6,7 +6,7 @@ use Rattle.alta_level.specs.Stored.{Stored, IsListFault, IsListOf}
 use Rattle.alta_loading.specs.Answers.{IfDamaged, IsDamaged}
 use Rattle.alta_loading.specs.Lists.{KeepsRow, stored_in, stream_size, summary_size}
 use Rattle.alta_loading.specs.declared.fault.LoadFault.{LoadFault}
-use Rattle.alta_postings.specs.Deltas.{locations_of}
+use Rattle.alta_postings.specs.Deltas.{decoded_list}
 use Rattle.alta_table.specs.Tables.{Tables}
 use Rattle.alta_table.specs.declared.term.TermRow.{TermRow}
 
@@ -46,7 +46,7 @@ stored_by image load = stored_in load.level load.row image
 
 -- the locations that stand there
 abbrev pub list_at : List ℕ → Load → List ℕ
-list_at image load = locations_of (stored_by image load).stream
+list_at image load = decoded_list (stored_by image load).stream
 
 -- they are a list of the level
 abbrev pub IsWhole : List ℕ → Load → Type 0

@@ -5,7 +5,7 @@ ghost use Rattle.alta_content.specs.declared.content.Content.{Content};
 ghost use Rattle.alta_disk.specs.Parts.{part};
 ghost use Rattle.alta_images.specs.Levels.{Level, documents_of};
 ghost use Rattle.alta_images.specs.Opened.{bytes_at};
-ghost use Rattle.alta_images.specs.Ordered.{RowsRise};
+ghost use Rattle.alta_images.specs.Ordered.{RowsPrecede};
 ghost use Rattle.alta_images.specs.Standing.{tables_by};
 ghost use Rattle.alta_level.specs.Segments.{IsSegment, rows_of};
 ghost use Rattle.alta_loading.specs.Contents.{AreListsAmong, AreListsIn};
@@ -34,8 +34,8 @@ pub fn loaded_lists_are_those_of_the_content()
 /// Over levels whose bytes are the segments of contents, and the newest documents behind them, the answers to come of the plan of a
 /// query are the documents of both that match the query and are not deleted, in order. The function is a law, and has nothing to run.
 pub fn levels_and_newest_documents_answer()
-    ensures { (levels : List Level) (image gone : List ℕ) (documents : List Document) (newest : mem.Level) (q : Shape)
-        → All (λ level. IsSegment (bytes_at level.extent image) level.content) levels → HasDocuments gone documents newest → RowsRise (all_rows (map tables_by levels) newest.content)
+    ensures { (levels : List Level) (image gone : List ℕ) (documents : List Document) (newest : mem.LevelView) (q : Shape)
+        → All (λ level. IsSegment (bytes_at level.extent image) level.content) levels → HasDocuments gone documents newest → RowsPrecede (all_rows (map tables_by levels) newest.content)
         → AreToCome (plan_of q) (loaded_view (map tables_by levels) newest.content image (tests_of (plan_of q)) gone) 0 (answers (flat_map (documents_of gone) levels ++ documents) q) }
 {
     answers_match();

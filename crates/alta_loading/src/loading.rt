@@ -3,7 +3,7 @@ ghost use Rattle.std.specs.Prelude.{◌≡◌, map, All, Err, IfOk};
 ghost use Rattle.alta_codec.specs.Faults.{Rose};
 ghost use Rattle.alta_disk.specs.Calls.{Reads};
 ghost use Rattle.alta_disk.specs.Disk.{DiskState};
-ghost use Rattle.alta_images.specs.Ordered.{RowsRise};
+ghost use Rattle.alta_images.specs.Ordered.{RowsPrecede};
 ghost use Rattle.alta_loading.specs.Lists.{LiesWithin};
 ghost use Rattle.alta_loading.specs.Loads.{Tells, load_sizes};
 ghost use Rattle.alta_loading.specs.Met.{keys_met, lists_met, loads_met, loads_of_tests};
@@ -36,7 +36,7 @@ pub fn load_test<D: Disk>(
 ) -> Result<TestLists, LoadFault>
     requires within { D.tells → All (λ level. LiesWithin level (D.state disk.old).content) levels.now }
     requires newest { HasAdded newest.now }
-    requires rise { RowsRise (all_rows levels.now newest.now.content) }
+    requires rise { RowsPrecede (all_rows levels.now newest.now.content) }
     ensures test { IfOk result (λ loaded. test_in loaded ≡ test) }
     ensures keys { IfOk result (λ loaded. test_keys loaded ≡ keys_met levels.now newest.now.content test) }
     ensures lists { D.tells → IfOk result (λ loaded. test_lists loaded ≡ lists_met levels.now newest.now.content (D.state disk.old).content test) }
@@ -67,7 +67,7 @@ pub fn load_tests<D: Disk>(
 ) -> Result<Vec<TestLists>, LoadFault>
     requires within { D.tells → All (λ level. LiesWithin level (D.state disk.old).content) levels.now }
     requires newest { HasAdded newest.now }
-    requires rise { RowsRise (all_rows levels.now newest.now.content) }
+    requires rise { RowsPrecede (all_rows levels.now newest.now.content) }
     ensures tests { IfOk result (λ tests. map test_in tests.items ≡ order.items) }
     ensures keys { IfOk result (λ tests. map test_keys tests.items ≡ map (keys_met levels.now newest.now.content) order.items) }
     ensures lists { D.tells → IfOk result (λ tests. map test_lists tests.items ≡ map (lists_met levels.now newest.now.content (D.state disk.old).content) order.items) }

@@ -8,7 +8,7 @@ ghost use Rattle.alta_disk.specs.Calls.{Reads};
 ghost use Rattle.alta_disk.specs.Disk.{DiskState};
 ghost use Rattle.alta_images.specs.Levels.{Level, documents_of};
 ghost use Rattle.alta_images.specs.Opened.{bytes_at};
-ghost use Rattle.alta_images.specs.Ordered.{RowsRise};
+ghost use Rattle.alta_images.specs.Ordered.{RowsPrecede};
 ghost use Rattle.alta_images.specs.Standing.{tables_by};
 ghost use Rattle.alta_level.specs.Segments.{IsSegment};
 ghost use Rattle.alta_loading.specs.Answers.{IfDamaged};
@@ -57,7 +57,7 @@ pub fn load_snapshot<D: Disk>(
 ) -> Result<Snapshot, LoadFault>
     requires within { D.tells → All (λ level. LiesWithin level (D.state disk.old).content) levels.now }
     requires newest { HasAdded newest.now }
-    requires rise { RowsRise (all_rows levels.now newest.now.content) }
+    requires rise { RowsPrecede (all_rows levels.now newest.now.content) }
     requires rows { rows ≡ all_rows levels.now newest.now.content }
     requires gone { IsRising gone.now }
     ensures tests { IfOk result (λ snapshot. snapshot.tests ≡ tests_of (tree plan.now)) }

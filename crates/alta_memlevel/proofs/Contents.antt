@@ -14,7 +14,7 @@ use Rattle.alta_content.specs.declared.document.DocRow.{DocRow}
 use Rattle.alta_content.specs.Lists.{locations_of, terms_of}
 use Rattle.alta_content.specs.Rows.{end_of}
 use Rattle.alta_meta.specs.Cells.{cell_holds}
-use Rattle.alta_memlevel.specs.Added.{Added, places_of, list_of, IsDocument, IsSpace, HasContent}
+use Rattle.alta_memlevel.specs.Added.{Added, places_of, list_of, IsInSpace, IsSpace, HasContent}
 use Rattle.alta_memlevel.specs.Lists.{Numbers, keys_in, list_in, term_lists}
 
 pub locations_of-term_lists : (es : List (Numbers × Numbers)) (t : List ℕ) → locations_of (term_lists es) t ≡ list_in es t
@@ -54,7 +54,7 @@ list_of-push (x ∷ xs) a t =
     ap (λ l. places_of x.row.first t x.cells ++ l) (list_of-push xs a t)
     ∙ sym (append_assoc (places_of x.row.first t x.cells) (list_of xs t) (places_of a.row.first t a.cells))
 
-pub space-push : (added : List Added) (a : Added) → IsSpace added → IsDocument a
+pub space-push : (added : List Added) (a : Added) → IsSpace added → IsInSpace a
     → All (λ r. r.number < a.row.number) (map (λ b. b.row) added) → All (λ r. end_of r < a.row.first) (map (λ b. b.row) added)
     → IsSpace (added ++ a ∷ [])
 space-push [] a s d n p = (d, All-nil (λ b. a.row.number < b.row.number), All-nil (λ b. end_of a.row < b.row.first), tt)
@@ -66,7 +66,7 @@ space-push (x ∷ xs) a s d n p =
       space-push xs a s.3 d (All-tail (λ r. r.number < a.row.number) x.row rows n) (All-tail (λ r. end_of r < a.row.first) x.row rows p),
     )
 
-pub content-push : (added : List Added) (a : Added) (old new : Content) → HasContent added old → IsDocument a
+pub content-push : (added : List Added) (a : Added) (old new : Content) → HasContent added old → IsInSpace a
     → All (λ r. r.number < a.row.number) old.documents → All (λ r. end_of r < a.row.first) old.documents
     → new.documents ≡ old.documents ++ a.row ∷ []
     → ((t : List ℕ) → locations_of new.lists t ≡ locations_of old.lists t ++ places_of a.row.first t a.cells)

@@ -12,7 +12,7 @@ use Rattle.alta_content.specs.Rows.{end_of, ends_among}
 use Rattle.alta_meta.specs.Cells.{cell_holds}
 
 -- a level as callers see it: its content, and whether it can still be used
-pub record Level : Type 0 where
+pub record LevelView : Type 0 where
   pub sound : Bool
   pub content : Content
 
@@ -32,7 +32,7 @@ list_of [] term = []
 list_of (a ∷ more) term = places_of a.row.first term a.cells ++ list_of more term
 
 -- a document has a cell for each location of its row, and at least one, from 1 to below TOP
-pub record IsDocument (a : Added) : Type 0 where
+pub record IsInSpace (a : Added) : Type 0 where
   pub positive : 1 ≤ a.row.first
   pub some : 1 ≤ a.row.cells
   pub counted : a.row.cells ≡ length a.cells
@@ -42,7 +42,7 @@ pub record IsDocument (a : Added) : Type 0 where
 abbrev pub IsSpace : List Added → Type 0
 IsSpace [] = Unit {0}
 IsSpace (a ∷ more) =
-    IsDocument a × All (λ b. a.row.number < b.row.number) more × All (λ b. end_of a.row < b.row.first) more × IsSpace more
+    IsInSpace a × All (λ b. a.row.number < b.row.number) more × All (λ b. end_of a.row < b.row.first) more × IsSpace more
 
 -- the content is that of the documents: their rows in order, and in collating order each term that a cell holds, with the locations of the cells that hold it
 pub record HasContent (added : List Added) (content : Content) : Type 0 where

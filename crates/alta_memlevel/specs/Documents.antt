@@ -12,7 +12,7 @@ use Rattle.alta_content.specs.Joining.{in_order}
 use Rattle.alta_content.specs.Rows.{end_of}
 use Rattle.alta_meta.specs.Cells.{cells_of}
 use Rattle.alta_meta.specs.declared.document.Document.{Document}
-use Rattle.alta_memlevel.specs.Added.{Added, HasContent, IsSpace, Level, list_of, live_of}
+use Rattle.alta_memlevel.specs.Added.{Added, HasContent, IsSpace, LevelView, list_of, live_of}
 
 -- a document of a name, a title and a body: its cells are theirs, not too many, and its number is from 1 to below TOP
 pub record IsMade (a : Added) : Type 0 where
@@ -47,7 +47,7 @@ document_in a = record { number = a.row.number; name = a.row.name; cells = a.cel
 
 -- The level can be used, its content is that of documents that were made of texts, and those of them that are not deleted are these,
 -- in order.
-pub record HasDocuments (gone : List ℕ) (documents : List Document) (level : Level) : Type 0 where
+pub record HasDocuments (gone : List ℕ) (documents : List Document) (level : LevelView) : Type 0 where
   pub added : List Added
   pub sound : IsTrue level.sound
   pub content : HasContent added level.content

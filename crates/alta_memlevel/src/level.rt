@@ -9,7 +9,7 @@ ghost use Rattle.alta_codec.specs.declared.location.TheConstants.{TOP};
 ghost use Rattle.alta_content.specs.Lists.{locations_of, terms_of};
 ghost use Rattle.alta_content.specs.Rows.{end_of};
 ghost use Rattle.alta_memlevel.specs.Added.{Added, HasContent, live_of};
-ghost use Rattle.alta_rows.specs.All.{joined, rows_in};
+ghost use Rattle.alta_rows.specs.All.{rows_of_levels, shared_rows};
 
 use crate::copying::copy_lists;
 use crate::lists::{Lists, put_cells, terms_from};
@@ -34,11 +34,11 @@ pub struct MemLevel {
 
 impl Model for MemLevel {
     ghost use Rattle.std.specs.Prelude.{IsTrue};
-    ghost use Rattle.alta_memlevel.specs.Added.{Level};
+    ghost use Rattle.alta_memlevel.specs.Added.{LevelView};
     ghost use Rattle.alta_memlevel.specs.Lists.{IsIndex, term_lists};
     ghost use Rattle.alta_content.specs.Rows.{RowsRise};
 
-    ghost Value = { Level };
+    ghost Value = { LevelView };
 
     ghost view = { λ m. record { sound = m.whole; content = record { documents = m.rows; lists = term_lists m.lists.entries } } };
 
@@ -108,7 +108,7 @@ impl MemLevel {
     /// The rows of the documents that were added, in order, in runs: the full ones shared, and behind them the last one, of at most
     /// 1,024 rows, copied. Fails for want of memory alone.
     pub fn runs(&self) -> Result<Vec<Rc<LevelRows>>, AllocError>
-        ensures { IfOk result (λ runs. joined (map rows_in runs.items) ≡ self.now.content.documents) }
+        ensures { IfOk result (λ runs. rows_of_levels (map shared_rows runs.items) ≡ self.now.content.documents) }
     {
         self.rows.runs()
     }

@@ -12,7 +12,7 @@ use Rattle.std.proofs.lemmas.Slice.Eq.{bytes_eq-Decides}
 use Rattle.alta_codec.specs.Bytes.{has_byte}
 use Rattle.alta_model.specs.Command.{Command, Reads, IsFine, IsCount, spelled, is_tab, adds, deletes, searches, counts, explains, opens, fetches, closes, flushes, merges, steps, asks_stats}
 use Rattle.alta_model.specs.Faults.{is_space}
-use Rattle.alta_model.specs.Reading.{parted, command_in, in_parts, alone, with_rest, document_of, text_of, number_of, fetch_of, count_of, with_name, with_body, with_cursor, with_count}
+use Rattle.alta_model.specs.Reading.{parted, command_in, in_parts, alone, with_rest, add_of, text_of, number_of, fetch_of, count_of, with_name, with_body, with_cursor, with_count}
 use Rattle.alta_model.proofs.Counts.{some_inj, none_is_not, count_reads, count_spelled, count_digits, both}
 
 lt_true : (m n : ℕ) → m < n → nat_lt m n ≡ true
@@ -186,7 +186,7 @@ either_read word rest None c e h = number_read word rest c h
 either_read word rest (Some d) c e h = text_read word rest c (e ∙ h)
 
 rest_read : (word rest : List ℕ) (c : Command) → with_rest word rest ≡ Some c → Behind word rest c
-unfolding with_rest document_of
+unfolding with_rest add_of
 rest_read word rest c h =
     choice _ _ _ c _ h (λ e s. is_word word (codes "add") rest c e (name_parts rest (parted is_tab rest) c refl s))
     (λ h. either_read word rest (text_of word rest) c refl h)
@@ -217,7 +217,7 @@ unfolding command_in
 behind verb rest c lacks h = ap (in_parts (verb ++ 32 ∷ rest)) (parted_seam is_space verb 32 rest lacks refl) ∙ h
 
 spelled_reads : (c : Command) → IsFine c → command_in (spelled c) ≡ Some c
-unfolding with_rest document_of text_of number_of fetch_of alone command_in parted
+unfolding with_rest add_of text_of number_of fetch_of alone command_in parted
 spelled_reads (adds name title body) fine =
     behind (codes "add") (name ++ 9 ∷ (title ++ 9 ∷ body)) (adds name title body) refl
     (ap with_name (parted_seam is_tab name 9 (title ++ 9 ∷ body) fine.0 refl) ∙ ap (with_body name) (parted_seam is_tab title 9 body fine.1 refl))

@@ -24,8 +24,8 @@ abbrev pub with_name : Option (List ℕ × List ℕ) → Option Command
 with_name None = None
 with_name (Some (name, rest)) = with_body name (parted is_tab rest)
 
-unfoldable pub document_of : List ℕ → Option Command
-document_of rest = with_name (parted is_tab rest)
+unfoldable pub add_of : List ℕ → Option Command
+add_of rest = with_name (parted is_tab rest)
 
 unfoldable pub text_of : List ℕ → List ℕ → Option Command
 text_of word rest =
@@ -64,7 +64,7 @@ alone word =
 
 unfoldable pub with_rest : List ℕ → List ℕ → Option Command
 with_rest word rest =
-    if bytes_eq word (codes "add") then document_of rest else option_or (text_of word rest) (number_of word rest)
+    if bytes_eq word (codes "add") then add_of rest else option_or (text_of word rest) (number_of word rest)
 
 abbrev pub in_parts : List ℕ → Option (List ℕ × List ℕ) → Option Command
 in_parts text None = alone text

@@ -3,7 +3,7 @@ ghost use Rattle.std.specs.Prelude.{◌≡◌, ◌↔◌, option_map, IfOk, OnOk
 ghost use Rattle.std.specs.Str.{IsUtf8};
 ghost use Rattle.alta_model.specs.Command.{Command, Reads, is_tab};
 ghost use Rattle.alta_model.specs.Faults.{IsRefused, IsText, is_space, is_verb, word_of};
-ghost use Rattle.alta_model.specs.Reading.{command_in, parted, alone, with_rest, document_of, text_of, number_of, fetch_of, count_of};
+ghost use Rattle.alta_model.specs.Reading.{command_in, parted, alone, with_rest, add_of, text_of, number_of, fetch_of, count_of};
 ghost use Rattle.alta_model.specs.Lines.{reading_of, reading_in};
 ghost use Rattle.alta_model.specs.Seen.{command_of};
 
@@ -162,9 +162,9 @@ fn command_with<'a>(word: &str, rest: &'a str) -> Option<Line<'a>>
     }
 }
 
-#[tactic(auto, unfolding(crate::specs::Reading::document_of, crate::specs::Reading::parted))]
+#[tactic(auto, unfolding(crate::specs::Reading::add_of, crate::specs::Reading::parted))]
 fn document(rest: &str) -> Option<Line<'_>>
-    ensures { option_map command_of result ≡ document_of rest.now }
+    ensures { option_map command_of result ≡ add_of rest.now }
 {
     let (name, more) = rest.split_once('\t')?;
     let (title, body) = more.split_once('\t')?;

@@ -9,7 +9,7 @@ use Rattle.std.proofs.lemmas.List.Elements.{All-head, All-tail}
 use Rattle.alta_codec.specs.Rising.{IsRising}
 use Rattle.alta_content.specs.Rows.{AreDocuments, AreDocumentsBehind, Before, behind_row, end_of, ends_among, start}
 use Rattle.alta_content.specs.declared.document.DocRow.{DocRow}
-use Rattle.alta_images.specs.Opened.{rows_in}
+use Rattle.alta_images.specs.Opened.{table_rows}
 use Rattle.alta_table.specs.Tables.{Tables}
 use Rattle.alta_opening.specs.Rows.{are_ends, behind_rows}
 use Rattle.alta_opening.proofs.RowLaws.{rows_split}
@@ -135,21 +135,21 @@ in_front rows later i row inside is = record {
 
 -- ---- levels
 
-pub rows_next : (levels : List Tables) (i : ℕ) (level : Tables) → i < length levels → level ≡ get_or levels i level → rows_in (drop i levels) ≡ level.documents ++ rows_in (drop (i + 1) levels)
+pub rows_next : (levels : List Tables) (i : ℕ) (level : Tables) → i < length levels → level ≡ get_or levels i level → table_rows (drop i levels) ≡ level.documents ++ table_rows (drop (i + 1) levels)
 rows_next levels i level inside is =
     let next : suc i ≡ i + 1 = omega arith in
-    ap rows_in (drop-cons levels i level inside ∙ ap (λ (t : Tables). t ∷ drop (suc i) levels) (sym is) ∙ ap (λ (k : ℕ). level ∷ drop k levels) next)
+    ap table_rows (drop-cons levels i level inside ∙ ap (λ (t : Tables). t ∷ drop (suc i) levels) (sym is) ∙ ap (λ (k : ℕ). level ∷ drop k levels) next)
 
-pub rows_stand : (levels : List Tables) (i : ℕ) → AreDocuments (rows_in levels) → AreDocumentsBehind (behind_rows start (rows_in (take i levels))) (rows_in (drop i levels))
+pub rows_stand : (levels : List Tables) (i : ℕ) → AreDocuments (table_rows levels) → AreDocumentsBehind (behind_rows start (table_rows (take i levels))) (table_rows (drop i levels))
 rows_stand levels i are =
-    rows_split start (rows_in (take i levels)) (rows_in (drop i levels))
-    (subst AreDocuments (sym (ap rows_in (take-append-drop i levels)) ∙ flat_map-append (λ (t : Tables). t.documents) (take i levels) (drop i levels)) are)
+    rows_split start (table_rows (take i levels)) (table_rows (drop i levels))
+    (subst AreDocuments (sym (ap table_rows (take-append-drop i levels)) ∙ flat_map-append (λ (t : Tables). t.documents) (take i levels) (drop i levels)) are)
 
-pub all_passed : (levels : List Tables) (ends : List ℕ) (i at : ℕ) → length levels ≤ i → at ≤ length ends → nat_eq at (length ends) ≡ are_ends (rows_in (drop i levels)) (drop at ends)
+pub all_passed : (levels : List Tables) (ends : List ℕ) (i at : ℕ) → length levels ≤ i → at ≤ length ends → nat_eq at (length ends) ≡ are_ends (table_rows (drop i levels)) (drop at ends)
 all_passed levels ends i at past within =
     let none : drop i levels ≡ [] = drop_all i levels past in
     ⊎_elim
     (λ less. ne_eqb at (length ends) (λ is. absurd (omega (arith, is, less)))
-    ∙ sym (ap (λ (ls : List Tables). are_ends (rows_in ls) (drop at ends)) none ∙ no_rows (drop at ends) (omega (arith, length-drop at ends, less))))
-    (λ all. eq-eqb at (length ends) (omega (arith, all, within)) ∙ sym (ap (are_ends (rows_in (drop i levels))) (drop_all at ends all)))
+    ∙ sym (ap (λ (ls : List Tables). are_ends (table_rows ls) (drop at ends)) none ∙ no_rows (drop at ends) (omega (arith, length-drop at ends, less))))
+    (λ all. eq-eqb at (length ends) (omega (arith, all, within)) ∙ sym (ap (are_ends (table_rows (drop i levels))) (drop_all at ends all)))
     (cases_lt at (length ends))

@@ -12,7 +12,7 @@ use Rattle.alta_images.specs.Ordered.{AreBelow, IsOrdered}
 use Rattle.alta_codec.specs.declared.extent.Extent.{Extent}
 use Rattle.alta_content.specs.Rows.{AreDocuments, AreDocumentsBehind, start}
 use Rattle.alta_images.specs.Known.{Named}
-use Rattle.alta_images.specs.Opened.{are_in_order, comes_behind, is_below, known_at, levels_from, live_in, names_in, rows_in, tables_at, with_level}
+use Rattle.alta_images.specs.Opened.{are_in_order, comes_behind, is_below, known_at, levels_from, live_in, names_in, table_rows, tables_at, with_level}
 use Rattle.alta_images.proofs.KnownLaws.{all_weaker}
 use Rattle.alta_images.proofs.OrderLaws.{all_from, level_ordered, live_append, rows_more}
 use Rattle.alta_images.proofs.Steps.{levels_append}
@@ -35,11 +35,11 @@ IsBelow root row = (row.number < root.next_number) × (end_of row < root.next_lo
 pub reached_none : (root : Root) (deleted : List ℕ) (found : Levels) → found.levels.items ≡ [] → left_by found.last ≡ start → ((q : List ℕ) → get_by_text found.names q ≡ None) → HasReached root deleted found
 unfolding AreDocumentsBehind
 reached_none root deleted found none last names = record {
-  rows = subst (λ (ls : List Tables). AreDocuments (rows_in ls)) (sym none) tt;
-  below = subst (λ (ls : List Tables). AreBelow root (rows_in ls)) (sym none) (All-nil (IsBelow root));
+  rows = subst (λ (ls : List Tables). AreDocuments (table_rows ls)) (sym none) tt;
+  below = subst (λ (ls : List Tables). AreBelow root (table_rows ls)) (sym none) (All-nil (IsBelow root));
   ordered = subst (λ (ls : List Tables). IsOrdered (known_at root deleted ls)) (sym none) (record { ordered = tt; within = All-nil (λ (row : Named). (1 ≤ row.number) × (row.number < root.next_number)) });
-  last = last ∙ ap (λ (ls : List Tables). behind_rows start (rows_in ls)) (sym none);
-  names = subst (λ (ls : List Tables). AreNames found.names (live_in deleted (rows_in ls))) (sym none) names;
+  last = last ∙ ap (λ (ls : List Tables). behind_rows start (table_rows ls)) (sym none);
+  names = subst (λ (ls : List Tables). AreNames found.names (live_in deleted (table_rows ls))) (sym none) names;
 }
 
 -- ---- the steps of one level
@@ -56,28 +56,28 @@ no_tables root deleted levels extent image place found = rw found refl
 -- rows that are in order do
 all_below : (root : Root) (levels : List Tables) (rows : List DocRow) → are_in_order root levels rows ≡ true → AreBelow root rows
 all_below root levels rows ordered =
-    all_weaker (λ (row : DocRow). (is_below root row && list_all (λ (earlier : DocRow). comes_behind earlier row) (rows_in levels)) ≡ true) (IsBelow root) rows
+    all_weaker (λ (row : DocRow). (is_below root row && list_all (λ (earlier : DocRow). comes_behind earlier row) (table_rows levels)) ≡ true) (IsBelow root) rows
     (λ row e.
-    let below = and_left (is_below root row) (list_all (λ (earlier : DocRow). comes_behind earlier row) (rows_in levels)) e in (
+    let below = and_left (is_below root row) (list_all (λ (earlier : DocRow). comes_behind earlier row) (table_rows levels)) e in (
       below_from row.number root.next_number (and_left (nat_lt row.number root.next_number) (nat_lt (end_of row) root.next_location) below),
       below_from (end_of row) root.next_location (and_right (nat_lt row.number root.next_number) (nat_lt (end_of row) root.next_location) below),
     ))
-    (all_from (λ (row : DocRow). is_below root row && list_all (λ (earlier : DocRow). comes_behind earlier row) (rows_in levels)) rows ordered)
+    (all_from (λ (row : DocRow). is_below root row && list_all (λ (earlier : DocRow). comes_behind earlier row) (table_rows levels)) rows ordered)
 
 pub reached_more : (root : Root) (deleted : List ℕ) (old new : Levels) (level : Tables) → HasReached root deleted old → AreDocuments level.documents → 0 < length level.documents
     → are_in_order root old.levels.items level.documents ≡ true → new.levels.items ≡ old.levels.items ++ level ∷ [] → left_by new.last ≡ behind_rows start level.documents
-    → names_in deleted old.levels.items level ≡ Ok (live_in deleted (rows_in old.levels.items) ++ live_in deleted level.documents)
-    → AreNames new.names (live_in deleted (rows_in old.levels.items) ++ live_in deleted level.documents) → HasReached root deleted new
+    → names_in deleted old.levels.items level ≡ Ok (live_in deleted (table_rows old.levels.items) ++ live_in deleted level.documents)
+    → AreNames new.names (live_in deleted (table_rows old.levels.items) ++ live_in deleted level.documents) → HasReached root deleted new
 reached_more root deleted old new level reached are some ordered levels last differ names =
-    let before = behind_rows start (rows_in old.levels.items) in
-    let rows : rows_in new.levels.items ≡ rows_in old.levels.items ++ level.documents = ap rows_in levels ∙ rows_more old.levels.items level in
+    let before = behind_rows start (table_rows old.levels.items) in
+    let rows : table_rows new.levels.items ≡ table_rows old.levels.items ++ level.documents = ap table_rows levels ∙ rows_more old.levels.items level in
     record {
-      rows = subst AreDocuments (sym rows) (rows_append start (rows_in old.levels.items) level.documents reached.rows (order_extends root old.levels.items level.documents reached.rows are ordered));
-      below = subst (AreBelow root) (sym rows) (All-append (IsBelow root) (rows_in old.levels.items) level.documents reached.below (all_below root old.levels.items level.documents ordered));
+      rows = subst AreDocuments (sym rows) (rows_append start (table_rows old.levels.items) level.documents reached.rows (order_extends root old.levels.items level.documents reached.rows are ordered));
+      below = subst (AreBelow root) (sym rows) (All-append (IsBelow root) (table_rows old.levels.items) level.documents reached.below (all_below root old.levels.items level.documents ordered));
       ordered = subst (λ (ls : List Tables). IsOrdered (known_at root deleted ls)) (sym levels)
-          (level_ordered root deleted old.levels.items level (live_in deleted (rows_in old.levels.items) ++ live_in deleted level.documents) are ordered differ reached.ordered);
-      last = last ∙ behind_any start before level.documents some ∙ sym (behind_append start (rows_in old.levels.items) level.documents) ∙ ap (behind_rows start) (sym rows);
-      names = subst (AreNames new.names) (sym (ap (live_in deleted) rows ∙ live_append deleted (rows_in old.levels.items) level.documents)) names;
+          (level_ordered root deleted old.levels.items level (live_in deleted (table_rows old.levels.items) ++ live_in deleted level.documents) are ordered differ reached.ordered);
+      last = last ∙ behind_any start before level.documents some ∙ sym (behind_append start (table_rows old.levels.items) level.documents) ∙ ap (behind_rows start) (sym rows);
+      names = subst (AreNames new.names) (sym (ap (live_in deleted) rows ∙ live_append deleted (table_rows old.levels.items) level.documents)) names;
     }
 
 -- ---- levels one behind the other

@@ -3,7 +3,7 @@ use Rattle.std.proofs.Common.{◌≡◌, ⊎_elim, ℕ, ◌≤◌, List, [], ◌
 use Rattle.std.specs.List.{All}
 use Rattle.std.proofs.lemmas.List.Elements.{All-nil, All-cons}
 use Rattle.alta_codec.specs.declared.extent.Extent.{Extent}
-use Rattle.alta_root.specs.Root.{AreLevels}
+use Rattle.alta_root.specs.Root.{AreExtents}
 use Rattle.alta_root.specs.Slots.{Counts}
 use Rattle.alta_root.specs.declared.places.TheConstants.{LEVEL_BYTES}
 use Rattle.alta_root.specs.declared.root.Root.{Root}
@@ -25,7 +25,7 @@ list_within root image limit (slot, counts) fits =
 abbrev pub IsFit : ℕ → ℕ → Extent → Type 0
 IsFit size limit extent = (LEVEL_BYTES ≤ extent.bytes) × LiesWithin extent size limit
 
-extents_fit : (size limit : ℕ) (before extents : List Extent) → AreLevels size before extents → size ≤ limit → All (IsFit size limit) extents
+extents_fit : (size limit : ℕ) (before extents : List Extent) → AreExtents size before extents → size ≤ limit → All (IsFit size limit) extents
 extents_fit size limit before [] are fits = All-nil (IsFit size limit)
 extents_fit size limit before (extent ∷ extents) are fits =
     All-cons (IsFit size limit) extent extents (are.0.long, (are.0.inside, omega (arith, are.0.inside, fits))) (extents_fit size limit (before ++ extent ∷ []) extents are.1 fits)

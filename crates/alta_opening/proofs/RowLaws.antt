@@ -6,7 +6,7 @@ use Rattle.std.proofs.lemmas.Bool.{lt-ltb, false≢true}
 use Rattle.std.proofs.lemmas.List.Elements.{All-nil, All-cons, All-head, All-tail}
 use Rattle.alta_content.specs.Rows.{AreDocuments, AreDocumentsBehind, Before, IsPlaced, behind_row, end_of, start}
 use Rattle.alta_content.specs.declared.document.DocRow.{DocRow}
-use Rattle.alta_images.specs.Opened.{are_in_order, comes_behind, is_below, rows_in}
+use Rattle.alta_images.specs.Opened.{are_in_order, comes_behind, is_below, table_rows}
 use Rattle.alta_images.proofs.Tests.{by_test, and_left, and_right, below_from, and_both}
 use Rattle.alta_root.specs.declared.root.Root.{Root}
 use Rattle.alta_table.specs.Tables.{Tables}
@@ -152,19 +152,19 @@ module _ (root : Root) (earlier : List DocRow) (are : AreDocuments earlier) wher
       (and_right (lies_behind (behind_rows start earlier) row) (leaves_room root (behind_rows start (row ∷ rows))) e))
 
 -- a level is in order where its first row lies behind those of the levels before, and its last below the next ones of the root
-pub order_tested : (root : Root) (levels : List Tables) (rows : List DocRow) (d : DocRow) → AreDocuments (rows_in levels) → AreDocuments rows → 0 < length rows
-    → are_in_order root levels rows ≡ (lies_behind (behind_rows start (rows_in levels)) (get_or rows 0 d) && leaves_room root (behind_rows start rows))
+pub order_tested : (root : Root) (levels : List Tables) (rows : List DocRow) (d : DocRow) → AreDocuments (table_rows levels) → AreDocuments rows → 0 < length rows
+    → are_in_order root levels rows ≡ (lies_behind (behind_rows start (table_rows levels)) (get_or rows 0 d) && leaves_room root (behind_rows start rows))
 order_tested root levels [] d are fine some = absurd (omega (arith, some))
-order_tested root levels (row ∷ rows) d are fine some = placed_or_not root (rows_in levels) are row rows fine
+order_tested root levels (row ∷ rows) d are fine some = placed_or_not root (table_rows levels) are row rows fine
 
 -- the rows of a level in order stand behind those of the levels before
-pub order_extends : (root : Root) (levels : List Tables) (rows : List DocRow) → AreDocuments (rows_in levels) → AreDocuments rows → are_in_order root levels rows ≡ true
-    → AreDocumentsBehind (behind_rows start (rows_in levels)) rows
+pub order_extends : (root : Root) (levels : List Tables) (rows : List DocRow) → AreDocuments (table_rows levels) → AreDocuments rows → are_in_order root levels rows ≡ true
+    → AreDocumentsBehind (behind_rows start (table_rows levels)) rows
 unfolding AreDocumentsBehind
 order_extends root levels [] are fine e = tt
 order_extends root levels (row ∷ rows) are fine e =
-    let above = above_from root (rows_in levels) are row
-    (and_left (lies_behind (behind_rows start (rows_in levels)) row) (leaves_room root (behind_rows start (row ∷ rows))) (sym (placed_or_not root (rows_in levels) are row rows fine) ∙ e)) in (
+    let above = above_from root (table_rows levels) are row
+    (and_left (lies_behind (behind_rows start (table_rows levels)) row) (leaves_room root (behind_rows start (row ∷ rows))) (sym (placed_or_not root (table_rows levels) are row rows fine) ∙ e)) in (
       record {
         rises = above.number;
         number_below = fine.0.number_below;

@@ -3,7 +3,7 @@ ghost use Rattle.std.specs.Prelude.{◌≡◌, ◌++◌, ◌≤◌, ℕ, List, d
 ghost use Rattle.alta_codec.specs.Rising.{IsRising};
 ghost use Rattle.alta_content.specs.Rows.{AreDocuments, AreDocumentsBehind, Before};
 ghost use Rattle.alta_content.specs.declared.document.DocRow.{DocRow};
-ghost use Rattle.alta_images.specs.Opened.{have_ends, rows_in};
+ghost use Rattle.alta_images.specs.Opened.{have_ends, table_rows};
 ghost use Rattle.alta_opening.specs.Rows.{are_ends};
 
 use alta_codec::Loc;
@@ -41,7 +41,7 @@ fn passed(rows: &[DocRow], deleted: &[Loc], from: usize) -> Option<usize>
 /// Whether each deleted end is the end of a row of a level: one walk over both.
 pub(crate) fn have_all(levels: &[Table], deleted: &[Loc]) -> bool
     requires rising { IsRising deleted.now }
-    requires rows { AreDocuments (rows_in levels.now) }
+    requires rows { AreDocuments (table_rows levels.now) }
     ensures { result ≡ have_ends levels.now deleted.now }
 {
     let mut at = 0;

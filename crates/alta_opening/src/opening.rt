@@ -6,7 +6,7 @@ ghost use Rattle.alta_content.specs.Rows.{AreDocuments};
 ghost use Rattle.alta_disk.specs.Calls.{Reads};
 ghost use Rattle.alta_disk.specs.Disk.{DiskState};
 ghost use Rattle.alta_images.specs.Broken.{HasLevels, IsBrokenAt};
-ghost use Rattle.alta_images.specs.Opened.{Opened, IsOpened, have_ends, known_at, live_in, rows_in, extent_of};
+ghost use Rattle.alta_images.specs.Opened.{Opened, IsOpened, have_ends, known_at, live_in, table_rows, extent_of};
 ghost use Rattle.alta_images.specs.Ordered.{AreBelow, IsOrdered};
 ghost use Rattle.alta_root.specs.Slots.{Counts};
 ghost use Rattle.alta_root.specs.declared.slot.Slot.{Slot};
@@ -58,9 +58,9 @@ pub fn open_levels<D: Disk>(
         → IfOk result (λ found. HasLevels slot root.now found.deleted.items found.levels.items (D.state disk.old).content) }
     ensures extents { IfOk result (λ found. map extent_of found.levels.items ≡ root.now.levels.items) }
     ensures ends { IfOk result (λ found. have_ends found.levels.items found.deleted.items ≡ true) }
-    ensures names { IfOk result (λ found. AreNames found.names (live_in found.deleted.items (rows_in found.levels.items))) }
-    ensures rows { IfOk result (λ found. AreDocuments (rows_in found.levels.items)) }
-    ensures below { IfOk result (λ found. AreBelow root.now (rows_in found.levels.items)) }
+    ensures names { IfOk result (λ found. AreNames found.names (live_in found.deleted.items (table_rows found.levels.items))) }
+    ensures rows { IfOk result (λ found. AreDocuments (table_rows found.levels.items)) }
+    ensures below { IfOk result (λ found. AreBelow root.now (table_rows found.levels.items)) }
     ensures ordered { IfOk result (λ found. IsOrdered (known_at root.now found.deleted.items found.levels.items)) }
     ensures rising { IfOk result (λ found. IsRising found.deleted.items) }
     ensures damaged { D.tells → (slot : Slot) → Counts slot root.now (D.state disk.old).content → (place : ℕ) → result ≡ Err (Damaged place)

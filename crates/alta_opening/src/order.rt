@@ -1,7 +1,7 @@
 // The order of a level behind those before it.
 ghost use Rattle.std.specs.Prelude.{◌≡◌, ◌<◌, length, List};
 ghost use Rattle.alta_content.specs.Rows.{AreDocuments, start};
-ghost use Rattle.alta_images.specs.Opened.{are_in_order, rows_in};
+ghost use Rattle.alta_images.specs.Opened.{are_in_order, table_rows};
 ghost use Rattle.alta_table.specs.Tables.{Tables};
 ghost use Rattle.alta_opening.specs.Rows.{behind_rows, left_by, leaves_room, lies_behind};
 
@@ -48,7 +48,7 @@ fn is_below(root: &Root, last: Last) -> bool
 pub(crate) fn are_placed(root: &Root, last: Last, rows: &[DocRow]) -> bool
     requires some { 0 < length rows.now }
     requires rows { AreDocuments rows.now }
-    ensures { (levels : List Tables) → AreDocuments (rows_in levels) → left_by last ≡ behind_rows start (rows_in levels) → result ≡ are_in_order root.now levels rows.now }
+    ensures { (levels : List Tables) → AreDocuments (table_rows levels) → left_by last ≡ behind_rows start (table_rows levels) → result ≡ are_in_order root.now levels rows.now }
 {
     follows(last, &rows[0]) && is_below(root, last_of(rows))
 }

@@ -14,7 +14,7 @@ use Rattle.alta_postings.proofs.Above.{RisesAbove, rising_from_above, above_from
 use Rattle.alta_postings.specs.declared.fault.StreamCause.TheVariants.{Zero, Top}
 use Rattle.alta_postings.specs.declared.fault.StreamFault.{StreamFault}
 use Rattle.alta_postings.specs.Short.{IsReadTo}
-use Rattle.alta_postings.specs.Deltas.{Spells, stream_bytes, cause_of, fault_at, number_fault, number_list, fault_from, list_from, first_fault, locations_of, BeginsBlock, IsStep, IsBlockRead}
+use Rattle.alta_postings.specs.Deltas.{Spells, stream_bytes, cause_of, fault_at, number_fault, number_list, fault_from, list_from, first_fault, decoded_list, BeginsBlock, IsStep, IsBlockRead}
 
 fault_skip : (k at before : ℕ) (bs : List ℕ) → fault_from at k before bs ≡ fault_from (at + k) 0 before (drop k bs)
 unfolding fault_from
@@ -144,8 +144,8 @@ sound (suc k) at before (b ∷ bs) l bytes f =
     let ih = sound k e (before + n) rest (omega (arith, length-drop (e - at) (b ∷ bs), x.after)) (bytes_behind (b ∷ bs) (e - at) bytes) x.none in
     spelled_more before n (b ∷ bs) rest (list_from e 0 (before + n) rest) (list_from at 0 before (b ∷ bs)) x.spelled x.positive x.low ih x.list
 
-pub reading_spells : (bs : List ℕ) → AreBytes bs → first_fault bs ≡ None → Spells bs (locations_of bs)
-unfolding first_fault locations_of
+pub reading_spells : (bs : List ℕ) → AreBytes bs → first_fault bs ≡ None → Spells bs (decoded_list bs)
+unfolding first_fault decoded_list
 reading_spells bs bytes f =
     let s = sound (length bs) 0 0 bs (omega arith) bytes f in record { rising = rising_from_above _ s.above; spelled = s.spelled }
 
@@ -172,8 +172,8 @@ complete at before (x ∷ xs) (low, top, r) =
       list = list_one at before bs n e h lt ∙ ap (λ i. i ∷ list_from e 0 i (drop (e - at) bs)) y ∙ ap (λ t. x ∷ list_from e 0 x t) s ∙ ap (λ t. x ∷ t) ih.list;
     }
 
-pub spelling_reads : (bs xs : List ℕ) → Spells bs xs → (first_fault bs ≡ None) × (locations_of bs ≡ xs)
-unfolding first_fault locations_of
+pub spelling_reads : (bs xs : List ℕ) → Spells bs xs → (first_fault bs ≡ None) × (decoded_list bs ≡ xs)
+unfolding first_fault decoded_list
 spelling_reads bs xs s =
     let c = complete 0 0 xs (above_from_rising xs s.rising) in
     (ap (λ b. fault_from 0 0 0 b) s.spelled ∙ c.none, ap (λ b. list_from 0 0 0 b) s.spelled ∙ c.list)
@@ -226,12 +226,12 @@ pub shows_code : (s : List ℕ) (at before : ℕ) (f : CodeFault) → at < lengt
 shows_code s at before f l h = fault_code at before (drop at s) f (omega (arith, length-drop at s)) h
 
 -- what a number of bytes that spell a list is: not 0, and no way to TOP
-pub record IsSound (before n : ℕ) : Type 0 where
+pub record IsSoundGap (before n : ℕ) : Type 0 where
   pub positive : 0 < n
   pub low : before + n < TOP
 
 pub sound_at : (s : List ℕ) (at before n e : ℕ) → AreBytes s → at < length s → number_from 9 at (drop at s) ≡ read_ok n e → fault_from at 0 before (drop at s) ≡ None
-    → IsSound before n
+    → IsSoundGap before n
 sound_at s at before n e bytes l h none =
     let r = next_number at before (drop at s) n e (bytes_behind s at bytes) h none in
     record { positive = r.positive; low = r.low }

@@ -56,8 +56,8 @@ unfoldable pub first_fault : List ℕ → Option StreamFault
 first_fault bytes = fault_from 0 0 0 bytes
 
 -- the list that the bytes spell, where they spell one
-unfoldable pub locations_of : List ℕ → List ℕ
-locations_of bytes = list_from 0 0 0 bytes
+unfoldable pub decoded_list : List ℕ → List ℕ
+decoded_list bytes = list_from 0 0 0 bytes
 
 -- a block of 64 locations, or fewer at the end, begins at this place behind this location
 pub record BeginsBlock (list : List ℕ) (i place before : ℕ) : Type 0 where

@@ -1,7 +1,7 @@
 // A stream of locations: opened, and read block by block or whole.
 ghost use Rattle.std.specs.Prelude.{◌≡◌, ℕ, ◌+◌, ◌*◌, ◌<◌, List, take, drop, Some, None, IfOk, IfErr, IsOk};
 ghost use Rattle.alta_codec.specs.declared.location.TheConstants.{TOP};
-ghost use Rattle.alta_postings.specs.Deltas.{Spells, fault_from, list_from, first_fault, locations_of, BeginsBlock};
+ghost use Rattle.alta_postings.specs.Deltas.{Spells, fault_from, list_from, first_fault, decoded_list, BeginsBlock};
 
 use crate::block::{read_block, scan_block};
 use crate::fault::StreamFault;
@@ -23,7 +23,7 @@ impl<'a> Model for Stream<'a> {
 
     ghost view = { λ s. s.bytes.now };
 
-    ghost invariant = { λ s. Spells s.bytes.now (locations_of s.bytes.now) };
+    ghost invariant = { λ s. Spells s.bytes.now (decoded_list s.bytes.now) };
 }
 
 impl<'a> Stream<'a> {
@@ -31,8 +31,8 @@ impl<'a> Stream<'a> {
     /// number that shows it, with the place of that number's first byte: `Cut`, `Long` and `Wide` where it is misspelt,
     /// `Zero` where it is 0, `Top` where it leads to a location at or above `TOP`.
     pub fn open(bytes: &'a [u8]) -> Result<Stream<'a>, StreamFault>
-        ensures found { IfOk result (λ stream. (stream ≡ bytes.now) × Spells bytes.now (locations_of bytes.now)) }
-        ensures never { (list : List ℕ) → Spells bytes.now list → IsOk result × (locations_of bytes.now ≡ list) }
+        ensures found { IfOk result (λ stream. (stream ≡ bytes.now) × Spells bytes.now (decoded_list bytes.now)) }
+        ensures never { (list : List ℕ) → Spells bytes.now list → IsOk result × (decoded_list bytes.now ≡ list) }
         ensures first { IfErr result (λ fault. first_fault bytes.now ≡ Some fault) }
     {
         let mut at = 0;
@@ -60,7 +60,7 @@ impl<'a> Stream<'a> {
     /// The bytes that spell the list.
     pub fn bytes(&self) -> &[u8]
         ensures bytes { result.now ≡ self.now }
-        ensures spelled { Spells self.now (locations_of self.now) }
+        ensures spelled { Spells self.now (decoded_list self.now) }
     {
         self.bytes
     }
@@ -74,9 +74,9 @@ impl<'a> Stream<'a> {
         out: &mut ArrayVec<u64, 64>,
         steps: &mut Steps<L>,
     )
-        requires begins { (i : ℕ) × BeginsBlock (locations_of self.now) i place before }
-        ensures block { (i : ℕ) → BeginsBlock (locations_of self.now) i place before
-            → out.new.items ≡ take 64 (drop (64 * i) (locations_of self.now)) }
+        requires begins { (i : ℕ) × BeginsBlock (decoded_list self.now) i place before }
+        ensures block { (i : ℕ) → BeginsBlock (decoded_list self.now) i place before
+            → out.new.items ≡ take 64 (drop (64 * i) (decoded_list self.now)) }
         ensures steps { steps.new ≡ steps.old + 1 }
     {
         steps.tick();
@@ -85,7 +85,7 @@ impl<'a> Stream<'a> {
 
     /// The whole list.
     pub fn locations(&self, alloc: Global) -> Result<Vec<u64>, AllocError>
-        ensures { IfOk result (λ list. list.items ≡ locations_of self.now) }
+        ensures { IfOk result (λ list. list.items ≡ decoded_list self.now) }
     {
         read_all(alloc, self.bytes)
     }

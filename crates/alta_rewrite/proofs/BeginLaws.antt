@@ -13,14 +13,14 @@ use Rattle.alta_images.specs.Work.{Job, gone, job_of, newest, newest_content, ol
 use Rattle.alta_images.specs.Working.{AreJoins, IsJoin, all_contents}
 use Rattle.alta_memlevel.specs.Added.{IsSpace}
 use Rattle.alta_root.proofs.Frames.{counts_sound}
-use Rattle.alta_rewrite.specs.Rewrites.{Agrees, HaveRows, MayRewrite, MayRewriteOpened, Replaces, no_content}
+use Rattle.alta_rewrite.specs.Rewrites.{AgreesWith, HaveRows, MayRewrite, MayRewriteOpened, Replaces, no_content}
 use Rattle.alta_rewrite.specs.declared.ends.Ends.{Ends}
 use Rattle.alta_rewrite.specs.declared.levels.NextLevels.{NextLevels}
 use Rattle.alta_rewrite.proofs.JoinedLaws.{all_given, oldest_given, stay_given}
 use Rattle.alta_rewrite.proofs.SpaceLaws.{opened_spaced}
 use Rattle.alta_content.specs.Joining.{joined_in}
 
-module _ (held : Holding) (levels : NextLevels) (ends : Ends) (next location : ℕ) (image : List ℕ) (is : IsHeld held image) (space : IsSpace (newest held.view)) (agrees : Agrees held.view levels ends next location) where
+module _ (held : Holding) (levels : NextLevels) (ends : Ends) (next location : ℕ) (image : List ℕ) (is : IsHeld held image) (space : IsSpace (newest held.view)) (agrees : AgreesWith held.view levels ends next location) where
   spaced : IsSpaced held.view
   spaced = held_spaced held image is space
 
@@ -43,7 +43,7 @@ module _ (held : Holding) (levels : NextLevels) (ends : Ends) (next location : �
   held_step job some joins replaces = record { is = is; given = oldest_given held.view levels ends next location 2 (whole_of job) spaced positive (joins.whole job some) replaces agrees }
 
 module _ (o : Opened) (there : List Level) (levels : NextLevels) (ends : Ends) (next location : ℕ) (image : List ℕ) (is : IsOpened o image) (fits : AreBytes image) (have : HaveRows o there) (space : IsSpace (newest (view_of o there)))
-    (agrees : Agrees (view_of o there) levels ends next location) where
+    (agrees : AgreesWith (view_of o there) levels ends next location) where
   pub opened_stay : Replaces levels 0 no_content (newest_content (view_of o there)) → MayRewriteOpened o there levels ends next location image
   opened_stay replaces =
       let spaced = opened_spaced o there image is fits have space in

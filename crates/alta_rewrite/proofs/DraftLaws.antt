@@ -4,7 +4,7 @@ use Rattle.std.specs.Prelude.{◌==◌, Option, Some, None}
 use Rattle.std.specs.List.{All}
 use Rattle.alta_codec.specs.declared.extent.Extent.{Extent}
 use Rattle.alta_content.specs.declared.document.DocRow.{DocRow}
-use Rattle.alta_images.specs.Opened.{rows_in, extent_of}
+use Rattle.alta_images.specs.Opened.{table_rows, extent_of}
 use Rattle.alta_images.specs.Work.{anew, coming}
 use Rattle.alta_root.specs.Gaps.{taken_by}
 use Rattle.alta_root.specs.Places.{other}
@@ -37,10 +37,10 @@ module _ (limit : ℕ) (root : Root) (levels : NextLevels) (ends : Ends) (next l
   draft_places = places_are limit root (length oldest) (length newest) (length (list_of ends)) draft.places is.places
 
   -- the tables of the new levels have their rows
-  pub draft_rows : (rows_in (tables_in draft.oldest_level) ≡ levels.oldest.documents) × (rows_in (tables_in draft.newest_level) ≡ levels.newest.documents)
+  pub draft_rows : (table_rows (tables_in draft.oldest_level) ≡ levels.oldest.documents) × (table_rows (tables_in draft.newest_level) ≡ levels.newest.documents)
   draft_rows = (
-    ap (λ (t : Option Tables). rows_in (tables_in t)) is.oldest_level ∙ rows_placed levels.oldest (taken_by root []) limit draft.places.oldest draft_places.oldest_is,
-    ap (λ (t : Option Tables). rows_in (tables_in t)) is.newest_level ∙ rows_placed levels.newest (taken_by root (as_list draft.places.oldest)) limit draft.places.newest draft_places.newest_is,
+    ap (λ (t : Option Tables). table_rows (tables_in t)) is.oldest_level ∙ rows_placed levels.oldest (taken_by root []) limit draft.places.oldest draft_places.oldest_is,
+    ap (λ (t : Option Tables). table_rows (tables_in t)) is.newest_level ∙ rows_placed levels.newest (taken_by root (as_list draft.places.oldest)) limit draft.places.newest draft_places.newest_is,
   )
 
   -- a content without documents has none

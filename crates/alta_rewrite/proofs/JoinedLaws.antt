@@ -18,12 +18,12 @@ use Rattle.alta_images.proofs.Tests.{filter_drop, not_true}
 use Rattle.alta_images.proofs.WellLaws.{by_merged, by_terms}
 use Rattle.alta_images.specs.Holding.{Holding, IsSpaced, all_rows}
 use Rattle.alta_images.specs.Levels.{Level, live_rows}
-use Rattle.alta_images.specs.Ordered.{RowsRise}
+use Rattle.alta_images.specs.Ordered.{RowsPrecede}
 use Rattle.alta_images.specs.Views.{View, state_of}
-use Rattle.alta_images.specs.Work.{Coming, Job, coming, gone, gone_among, is_gone, is_merged, job_of, newest, newest_content, oldest_joined, rows_in, stays, whole_of}
+use Rattle.alta_images.specs.Work.{Coming, Job, coming, gone, gone_among, is_gone, is_merged, job_of, newest, newest_content, oldest_joined, level_rows, stays, whole_of}
 use Rattle.alta_images.specs.Working.{IsJoin, all_contents, content_to_come, documents_left, flushed, merged, moved, rows_of, stepped, switched}
 use Rattle.alta_memlevel.specs.Added.{Added}
-use Rattle.alta_rewrite.specs.Rewrites.{Agrees, IsGiven, Replaces, contents_to_come, levels_to_come, no_content, rows_to_come}
+use Rattle.alta_rewrite.specs.Rewrites.{AgreesWith, IsGiven, Replaces, contents_to_come, levels_to_come, no_content, rows_to_come}
 use Rattle.alta_rewrite.specs.declared.ends.Ends.{Ends}
 use Rattle.alta_rewrite.specs.declared.levels.NextLevels.{NextLevels}
 use Rattle.alta_content.proofs.Elements.{all_left, all_right}
@@ -76,11 +76,11 @@ step_is limit held n job levels some ends is =
 -- ---- joins
 
 -- what a rewrite is given, of the levels that it makes
-given_by : (view : View) (levels : NextLevels) (ends : Ends) (next location : ℕ) (cs : List Content) → contents_to_come levels view ≡ cs → Agrees view levels ends next location → RowsRise (rows_of cs)
+given_by : (view : View) (levels : NextLevels) (ends : Ends) (next location : ℕ) (cs : List Content) → contents_to_come levels view ≡ cs → AgreesWith view levels ends next location → RowsPrecede (rows_of cs)
     → All (LiesBelow (view.next + length (newest view)) (view.location + cells_in (newest view))) (rows_of cs) → documents_left view cs ≡ (state_of view).documents → IsGiven view levels ends next location
 given_by view levels ends next location cs are agrees rise below documents = record {
   agrees = agrees;
-  rise = subst (λ (xs : List Content). RowsRise (rows_of xs)) (sym are) rise;
+  rise = subst (λ (xs : List Content). RowsPrecede (rows_of xs)) (sym are) rise;
   below =
       subst (λ (xs : List Content). All (λ (row : DocRow). (row.number < next) × (end_of row < location)) (rows_of xs)) (sym are)
       (all_weaker (LiesBelow (view.next + length (newest view)) (view.location + cells_in (newest view))) (λ (row : DocRow). (row.number < next) × (end_of row < location)) (rows_of cs)
@@ -89,7 +89,7 @@ given_by view levels ends next location cs are agrees rise below documents = rec
 }
 
 module _ (view : View) (levels : NextLevels) (ends : Ends) (next location : ℕ) where
-  pub oldest_given : (n : ℕ) (c : Content) → IsSpaced view → 1 ≤ view.location → IsJoin view (map (λ (l : Level). l.content) (take n view.levels)) c → Replaces levels n c (newest_content view) → Agrees view levels ends next location
+  pub oldest_given : (n : ℕ) (c : Content) → IsSpaced view → 1 ≤ view.location → IsJoin view (map (λ (l : Level). l.content) (take n view.levels)) c → Replaces levels n c (newest_content view) → AgreesWith view levels ends next location
       → IsGiven view levels ends next location
   oldest_given n c spaced positive join is agrees =
       let oldest = take n view.levels in
@@ -102,17 +102,17 @@ module _ (view : View) (levels : NextLevels) (ends : Ends) (next location : ℕ)
   nothing_joins : IsJoin view [] no_content
   nothing_joins = record { keeps = λ row. true; rows = refl; documents = refl }
 
-  pub stay_given : IsSpaced view → 1 ≤ view.location → Replaces levels 0 no_content (newest_content view) → Agrees view levels ends next location → IsGiven view levels ends next location
+  pub stay_given : IsSpaced view → 1 ≤ view.location → Replaces levels 0 no_content (newest_content view) → AgreesWith view levels ends next location → IsGiven view levels ends next location
   stay_given spaced positive is agrees = oldest_given 0 no_content spaced positive nothing_joins is agrees
 
-  pub all_given : (c : Content) → IsSpaced view → 1 ≤ view.location → IsJoin view (all_contents view) c → Replaces levels (length view.levels) c no_content → Agrees view levels ends next location → IsGiven view levels ends next location
+  pub all_given : (c : Content) → IsSpaced view → 1 ≤ view.location → IsJoin view (all_contents view) c → Replaces levels (length view.levels) c no_content → AgreesWith view levels ends next location → IsGiven view levels ends next location
   all_given c spaced positive join is agrees =
       let P : DocRow → Type 0 = LiesBelow (view.next + length (newest view)) (view.location + cells_in (newest view)) in
       let rows : rows_of (map content_to_come (coming c)) ≡ filter join.keeps (all_rows view) =
       coming_rows c ∙ join.rows
       ∙ ap (filter join.keeps) (rows_append (map (λ (l : Level). l.content) view.levels) (content_of (newest view)) ∙ ap (λ (rs : List DocRow). rs ++ map (λ (a : Added). a.row) (newest view)) (rows_by_levels view.levels)) in
       given_by view levels ends next location (map content_to_come (coming c)) (ap (map content_to_come) (all_is levels c view is)) agrees
-      (subst RowsRise (sym rows) (rise_left join.keeps (all_rows view) spaced.rise)) (subst (All P) (sym rows) (All-filter join.keeps P (all_rows view) (all_low view spaced positive))) (merged_left view c spaced join)
+      (subst RowsPrecede (sym rows) (rise_left join.keeps (all_rows view) spaced.rise)) (subst (All P) (sym rows) (All-filter join.keeps P (all_rows view) (all_low view spaced positive))) (merged_left view c spaced join)
 
 -- ---- which documents that come are gone
 
@@ -141,11 +141,11 @@ module _ (view : View) (spaced : IsSpaced view) where
   abbrev news : List DocRow
   news = map (λ (a : Added). a.row) (newest view)
 
-  levels_known : AreGone view (gone view) (rows_in view.levels)
-  levels_known = all_left IsKnown (rows_in view.levels) news (gone_are view spaced)
+  levels_known : AreGone view (gone view) (level_rows view.levels)
+  levels_known = all_left IsKnown (level_rows view.levels) news (gone_are view spaced)
 
   newest_none : gone_among view (newest_content view).documents ≡ []
-  newest_none = ap (gone_among view) (live_rows_are view spaced) ∙ live_none view news (all_right IsKnown (rows_in view.levels) news (gone_are view spaced))
+  newest_none = ap (gone_among view) (live_rows_are view spaced) ∙ live_none view news (all_right IsKnown (level_rows view.levels) news (gone_are view spaced))
 
   -- a join of the oldest levels without what is gone
   pub oldest_none : (n : ℕ) → gone_among view (joined_in (map (λ (l : Level). l.content) (take n view.levels)) (gone view)).documents ≡ []
@@ -153,9 +153,9 @@ module _ (view : View) (spaced : IsSpaced view) where
       let contents = map (λ (l : Level). l.content) (take n view.levels) in
       live_none view (rows_of contents)
       (subst (AreGone view (gone view)) (sym (rows_by_levels (take n view.levels)))
-      (all_left IsKnown (rows_in (take n view.levels)) (rows_in (drop n view.levels))
+      (all_left IsKnown (level_rows (take n view.levels)) (level_rows (drop n view.levels))
       (subst (AreGone view (gone view))
-      (ap rows_in (sym (take-append-drop n view.levels)) ∙ flat_map-append (λ (l : Level). l.content.documents) (take n view.levels) (drop n view.levels)) levels_known)))
+      (ap level_rows (sym (take-append-drop n view.levels)) ∙ flat_map-append (λ (l : Level). l.content.documents) (take n view.levels) (drop n view.levels)) levels_known)))
 
   -- a join of all without what is gone
   pub all_none : (levels : NextLevels) → Replaces levels (length view.levels) (joined_in (all_contents view) (gone view)) no_content → gone_among view (rows_to_come levels view) ≡ []
@@ -166,7 +166,7 @@ module _ (view : View) (spaced : IsSpaced view) where
       ∙ ap (gone_among view) (coming_rows (joined_in (all_contents view) (gone view)))
       ∙ live_none view (rows_of (all_contents view)) (subst (AreGone view (gone view)) (sym rows) (gone_are view spaced))
 
-  pub gone_same : (levels : NextLevels) (n : ℕ) (c : Content) → Replaces levels n c (newest_content view) → gone_among view (rows_to_come levels view) ≡ gone_among view (c.documents ++ rows_in (drop n view.levels))
+  pub gone_same : (levels : NextLevels) (n : ℕ) (c : Content) → Replaces levels n c (newest_content view) → gone_among view (rows_to_come levels view) ≡ gone_among view (c.documents ++ level_rows (drop n view.levels))
   gone_same levels n c is =
       let old = map stays (drop n view.levels) in
       let new = coming (newest_content view) in
@@ -179,7 +179,7 @@ module _ (view : View) (spaced : IsSpaced view) where
       ∙ flat_map-append (λ (x : Content). x.documents) (map content_to_come (coming c)) (map content_to_come old)
       ∙ ap (λ (rows : List DocRow). rows ++ rows_of (map content_to_come old)) (coming_rows c)
       ∙ ap (λ (rows : List DocRow). c.documents ++ rows) (ap rows_of (stay_contents (drop n view.levels)) ∙ rows_by_levels (drop n view.levels)))
-      ∙ ap (λ (rows : List DocRow). (c.documents ++ rows_in (drop n view.levels)) ++ rows) (coming_rows (newest_content view)))
-      ∙ gone_append view (c.documents ++ rows_in (drop n view.levels)) (newest_content view).documents
-      ∙ ap (λ (es : List ℕ). gone_among view (c.documents ++ rows_in (drop n view.levels)) ++ es) newest_none
-      ∙ append-nil (gone_among view (c.documents ++ rows_in (drop n view.levels)))
+      ∙ ap (λ (rows : List DocRow). (c.documents ++ level_rows (drop n view.levels)) ++ rows) (coming_rows (newest_content view)))
+      ∙ gone_append view (c.documents ++ level_rows (drop n view.levels)) (newest_content view).documents
+      ∙ ap (λ (es : List ℕ). gone_among view (c.documents ++ level_rows (drop n view.levels)) ++ es) newest_none
+      ∙ append-nil (gone_among view (c.documents ++ level_rows (drop n view.levels)))

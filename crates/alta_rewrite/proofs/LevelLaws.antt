@@ -8,7 +8,7 @@ use Rattle.alta_content.specs.declared.content.Content.{Content}
 use Rattle.alta_content.specs.declared.document.DocRow.{DocRow}
 use Rattle.alta_images.proofs.FullLaws.{placed_first}
 use Rattle.alta_images.proofs.Tests.{by_test, equal_from}
-use Rattle.alta_images.specs.Opened.{rows_in, extent_of}
+use Rattle.alta_images.specs.Opened.{table_rows, extent_of}
 use Rattle.alta_images.specs.Work.{Coming, anew, coming}
 use Rattle.alta_level.proofs.Spelled.{segment_tables}
 use Rattle.alta_level.specs.Segments.{IsSegment, segment_bytes}
@@ -71,7 +71,7 @@ no_rows content e =
 
 module _ (content : Content) (taken : List Extent) (limit : ℕ) where
   -- its tables have the content's rows
-  pub rows_placed : (found : Option Extent) → IsPlaceFor taken (length (segment_of content)) limit found → rows_in (tables_in (table_to_come found content)) ≡ content.documents
+  pub rows_placed : (found : Option Extent) → IsPlaceFor taken (length (segment_of content)) limit found → table_rows (tables_in (table_to_come found content)) ≡ content.documents
   rows_placed None is = sym (none_of content.documents (no_rows content (sym (one_level content taken limit None is))))
   rows_placed (Some x) is = append-nil content.documents
 

@@ -8,7 +8,7 @@ use Rattle.alta_images.specs.Working.{AllApart}
 use Rattle.alta_root.proofs.Frames.{counts_sound}
 use Rattle.alta_root.proofs.NextRoot.{levels_inside}
 use Rattle.alta_root.specs.Places.{other}
-use Rattle.alta_root.specs.Root.{AreApart, AreLevels, IsExtent, IsSound, extents_of, no_extent}
+use Rattle.alta_root.specs.Root.{AreApart, AreExtents, IsExtent, IsSound, extents_of, no_extent}
 use Rattle.alta_root.specs.Slots.{Counts}
 use Rattle.alta_root.specs.declared.places.TheConstants.{HEAD_BYTES, LEVEL_BYTES}
 use Rattle.alta_root.specs.declared.root.Root.{Root}
@@ -28,7 +28,7 @@ IsInside size e = (LEVEL_BYTES ≤ e.bytes) × (HEAD_BYTES ≤ e.place) × (e.pl
 abbrev IsBeside : List Extent → Extent → Type 0
 IsBeside levels e = All (AreApart e) levels
 
-levels_sound : (size : ℕ) (before levels : List Extent) → All (IsInside size) levels → All (IsBeside levels) before → AllApart levels → AreLevels size before levels
+levels_sound : (size : ℕ) (before levels : List Extent) → All (IsInside size) levels → All (IsBeside levels) before → AllApart levels → AreExtents size before levels
 levels_sound size before [] inside beside apart = tt
 levels_sound size before (l ∷ ls) inside beside apart =
     let here = All-head (IsInside size) l ls inside in (

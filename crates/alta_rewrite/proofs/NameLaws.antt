@@ -28,7 +28,7 @@ use Rattle.alta_level.specs.Segments.{IsSegment}
 use Rattle.alta_memlevel.specs.Added.{Added}
 use Rattle.alta_meta.specs.declared.document.State.{State}
 use Rattle.alta_postings.proofs.Reading.{reading_spells}
-use Rattle.alta_postings.specs.Deltas.{Spells, first_fault, locations_of, stream_bytes}
+use Rattle.alta_postings.specs.Deltas.{Spells, first_fault, decoded_list, stream_bytes}
 use Rattle.alta_postings.specs.declared.fault.StreamFault.{StreamFault}
 use Rattle.alta_root.specs.Gaps.{taken_by}
 use Rattle.alta_root.specs.Places.{other}
@@ -91,7 +91,7 @@ list_spelled root deleted image fits e = by_fault (first_fault (bytes_at root.de
   where
     by_fault : (o : Option StreamFault) → first_fault (bytes_at root.deletions image) ≡ o → list_at root.deletions.place (bytes_at root.deletions image) o ≡ Ok deleted → Spells (bytes_at root.deletions image) deleted
     by_fault None none e =
-        let same : locations_of (bytes_at root.deletions image) ≡ deleted = cc in
+        let same : decoded_list (bytes_at root.deletions image) ≡ deleted = cc in
         subst (Spells (bytes_at root.deletions image)) same
         (reading_spells (bytes_at root.deletions image) (λ i lt. AreBytes-take root.deletions.bytes (drop root.deletions.place image) (AreBytes-drop root.deletions.place image fits) i) none)
     by_fault (Some fault) some e = absurd cc

@@ -15,15 +15,15 @@ use Rattle.alta_images.proofs.OrderLaws.{HasDocuments, known_ordered, levels_nam
 use Rattle.alta_images.proofs.PlaceLaws.{gone_ends}
 use Rattle.alta_images.specs.Chain.{◌>>=◌}
 use Rattle.alta_images.specs.Entries.{AllowsAll}
-use Rattle.alta_images.specs.Holding.{Holding, taken_by as taken_by_held}
+use Rattle.alta_images.specs.Holding.{Holding, taken_by_held}
 use Rattle.alta_images.specs.Known.{Known, known_of, replayed}
 use Rattle.alta_images.specs.Levels.{Level}
-use Rattle.alta_images.specs.Opened.{Opened, IsOpened, bytes_at, have_ends, journal_of, known_at, live_in, rows_in, tables_at}
-use Rattle.alta_images.specs.Ordered.{AreBelow, AreOrdered, IsOrdered, RowsRise}
+use Rattle.alta_images.specs.Opened.{Opened, IsOpened, bytes_at, have_ends, journal_of, known_at, live_in, table_rows, tables_at}
+use Rattle.alta_images.specs.Ordered.{AreBelow, AreOrdered, IsOrdered, RowsPrecede}
 use Rattle.alta_images.specs.Standing.{tables_by, view_of}
 use Rattle.alta_images.specs.Switching.{InPlace}
 use Rattle.alta_images.specs.Views.{View, rooted, state_of}
-use Rattle.alta_images.specs.Work.{Job, gone_among, rows_in as level_rows}
+use Rattle.alta_images.specs.Work.{Job, gone_among, level_rows}
 use Rattle.alta_images.specs.Working.{switched}
 use Rattle.alta_journal.specs.Placed.{placed as placed_entries}
 use Rattle.alta_meta.specs.declared.document.State.{State}
@@ -65,7 +65,7 @@ rows_of_table t = t.documents
 abbrev pub rows_of_level : Level → List DocRow
 rows_of_level l = l.content.documents
 
-pub rows_by : (ts : List Tables) (ls : List Level) → map rows_of_table ts ≡ map rows_of_level ls → rows_in ts ≡ level_rows ls
+pub rows_by : (ts : List Tables) (ls : List Level) → map rows_of_table ts ≡ map rows_of_level ls → table_rows ts ≡ level_rows ls
 rows_by ts ls e =
     sym (flat_map-map (λ (rows : List DocRow). rows) rows_of_table ts) ∙ ap (flat_map (λ (rows : List DocRow). rows)) e ∙ flat_map-map (λ (rows : List DocRow). rows) rows_of_level ls
 
@@ -84,7 +84,7 @@ new_tables : (content : Content) (found : Option Extent) → map tables_by (new_
 new_tables content None = refl
 new_tables content (Some extent) = refl
 
-come_rows : (levels : NextLevels) (there : List Level) (tables : List Tables) (places : Places) → map rows_of_table tables ≡ map rows_of_level there → rows_in (come_of levels tables places) ≡ level_rows (levels_then levels there places)
+come_rows : (levels : NextLevels) (there : List Level) (tables : List Tables) (places : Places) → map rows_of_table tables ≡ map rows_of_level there → table_rows (come_of levels tables places) ≡ level_rows (levels_then levels there places)
 come_rows levels there tables places same =
     rows_by (come_of levels tables places) (levels_then levels there places)
     (between rows_of_table (tables_in (table_to_come places.oldest levels.oldest)) (drop levels.stay_from tables) (tables_in (table_to_come places.newest levels.newest))
@@ -172,11 +172,11 @@ module _ (o : Opened) (there : List Level) (levels : NextLevels) (ends : Ends) (
       root = root_to_come o.root ends levels.stay_from next location places
 
       -- tables with the rows to come are in place
-      pub tables_in_place : (tables : List Tables) → rows_in tables ≡ level_rows then.view.levels → InPlace root ends.deleted.now tables
+      pub tables_in_place : (tables : List Tables) → table_rows tables ≡ level_rows then.view.levels → InPlace root ends.deleted.now tables
       tables_in_place tables rows =
-          let are : rows_in tables ≡ rows_to_come levels view = rows ∙ then_rows in
+          let are : table_rows tables ≡ rows_to_come levels view = rows ∙ then_rows in
           record {
-            rise = subst RowsRise (sym are) may.given.rise;
+            rise = subst RowsPrecede (sym are) may.given.rise;
             below = subst (AreBelow root) (sym are) may.given.below;
             ends = subst (λ (ds : List ℕ). have_ends tables ds ≡ true) (ap (gone_among view) are ∙ sym may.given.agrees.deleted) (gone_ends view tables);
           }
@@ -190,7 +190,7 @@ module _ (o : Opened) (there : List Level) (levels : NextLevels) (ends : Ends) (
       pub come_place : InPlace root ends.deleted.now come
       come_place = tables_in_place come (come_rows levels there o.levels places may.have.rows)
 
-      pub come_ordered : AreOrdered (live_in ends.deleted.now (rows_in come))
+      pub come_ordered : AreOrdered (live_in ends.deleted.now (table_rows come))
       come_ordered =
           subst (λ (rows : List DocRow). AreOrdered (live_in ends.deleted.now rows))
           (flat_map-map (λ (t : Tables). t.documents) tables_by then.view.levels ∙ sym (come_rows levels there o.levels places may.have.rows))

@@ -23,7 +23,7 @@ use Rattle.alta_root.proofs.SwitchLaws.{other_twice}
 use Rattle.alta_root.proofs.NextRoot.{MeetsNone, levels_apart, levels_inside}
 use Rattle.alta_root.specs.Gaps.{taken_by}
 use Rattle.alta_root.specs.Places.{other}
-use Rattle.alta_root.specs.Root.{AreApart, AreLevels, IsExtent, IsSound, extents_of, no_extent}
+use Rattle.alta_root.specs.Root.{AreApart, AreExtents, IsExtent, IsSound, extents_of, no_extent}
 use Rattle.alta_root.specs.Slots.{Counts}
 use Rattle.alta_root.specs.declared.places.TheConstants.{DOCUMENT_CELLS, LAST_NEXT, LEVEL_BYTES}
 use Rattle.alta_root.specs.declared.root.Root.{Root}
@@ -46,7 +46,7 @@ use Rattle.alta_images.proofs.ApartLaws.{swapped, apart_drop}
 
 -- ---- extents that do not meet
 
-all_apart : (size : ℕ) (before levels : List Extent) → AreLevels size before levels → AllApart levels
+all_apart : (size : ℕ) (before levels : List Extent) → AreExtents size before levels → AllApart levels
 all_apart size before [] are = tt
 all_apart size before (l ∷ ls) are = (
   All-weaker (MeetsNone (before ++ l ∷ [])) (AreApart l) (λ e meets. swapped e l (All-head (AreApart e) l [] (all_right (AreApart e) before (l ∷ []) meets))) ls (levels_apart size (before ++ l ∷ []) ls are.1),

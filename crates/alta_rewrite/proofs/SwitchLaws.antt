@@ -9,9 +9,9 @@ use Rattle.alta_content.specs.declared.document.DocRow.{DocRow}
 use Rattle.alta_images.proofs.KeptStates.{placed_contents, rows_by_levels}
 use Rattle.alta_images.proofs.Tests.{apart_test, by_test}
 use Rattle.alta_images.specs.Chain.{◌>>=◌}
-use Rattle.alta_images.specs.Holding.{Holding, taken_by as taken_by_held}
+use Rattle.alta_images.specs.Holding.{Holding, taken_by_held}
 use Rattle.alta_images.specs.Levels.{Level}
-use Rattle.alta_images.specs.Work.{Coming, Job, anew, coming, gone_among, rows_in, stays}
+use Rattle.alta_images.specs.Work.{Coming, Job, anew, coming, gone_among, level_rows, stays}
 use Rattle.alta_images.specs.Working.{Full, Placed, content_to_come, held_then, in_front, placed, placed_levels, placed_list, rows_of, switched}
 use Rattle.alta_level.specs.Segments.{segment_bytes}
 use Rattle.alta_postings.specs.Deltas.{stream_bytes}
@@ -187,7 +187,7 @@ module _ (limit : ℕ) (held : Holding) (root : Root) (ends : Ends) (list_is : h
 -- ---- a switch
 
 -- the rows of levels that were placed are those to come
-pub placed_rows : (limit : ℕ) (taken : List Extent) (levels : List Coming) (rows : List DocRow) → rows ≡ rows_of (map content_to_come levels) → (now : Placed) → placed_levels limit taken levels ≡ Ok now → rows_in now.levels ≡ rows
+pub placed_rows : (limit : ℕ) (taken : List Extent) (levels : List Coming) (rows : List DocRow) → rows ≡ rows_of (map content_to_come levels) → (now : Placed) → placed_levels limit taken levels ≡ Ok now → level_rows now.levels ≡ rows
 placed_rows limit taken levels rows are now is = sym (rows_by_levels now.levels) ∙ ap rows_of (placed_contents limit taken levels now is) ∙ sym are
 
 module _ (limit : ℕ) (held : Holding) (root : Root) (levels : NextLevels) (ends : Ends) (job : Option Job) (taken_is : taken_by_held held ≡ extents_of root) (list_is : held.list ≡ root.deletions)
@@ -198,10 +198,10 @@ module _ (limit : ℕ) (held : Holding) (root : Root) (levels : NextLevels) (end
   abbrev switch_by : List ℕ → Placed → Result Holding Full
   switch_by ds now = placed_list limit held now.taken ds >>= λ list. Ok (held_then held now.levels ds list job)
 
-  pub rows_placed : (now : Placed) → placed_levels limit (taken_by_held held) to_come ≡ Ok now → rows_in now.levels ≡ rows_to_come levels held.view
+  pub rows_placed : (now : Placed) → placed_levels limit (taken_by_held held) to_come ≡ Ok now → level_rows now.levels ≡ rows_to_come levels held.view
   rows_placed now is = placed_rows limit (taken_by_held held) to_come (rows_to_come levels held.view) refl now is
 
-  by_deleted : (r : Result Placed Full) → placed_levels limit (taken_by_held held) to_come ≡ r → (r >>= λ now. switch_by (gone_among held.view (rows_in now.levels)) now) ≡ (r >>= switch_by ends.deleted.now)
+  by_deleted : (r : Result Placed Full) → placed_levels limit (taken_by_held held) to_come ≡ r → (r >>= λ now. switch_by (gone_among held.view (level_rows now.levels)) now) ≡ (r >>= switch_by ends.deleted.now)
   by_deleted (Ok now) is = ap (λ (ds : List ℕ). switch_by ds now) (ap (gone_among held.view) (rows_placed now is) ∙ sym deleted_is)
   by_deleted (Err full) is = refl
 

@@ -7,7 +7,7 @@ use Rattle.alta_content.specs.declared.document.DocRow.{DocRow}
 use Rattle.alta_images.specs.Holding.{Holding, IsHeld}
 use Rattle.alta_images.specs.Levels.{Level}
 use Rattle.alta_images.specs.Opened.{Opened, IsOpened, journal_of}
-use Rattle.alta_images.specs.Ordered.{RowsRise}
+use Rattle.alta_images.specs.Ordered.{RowsPrecede}
 use Rattle.alta_images.specs.Standing.{tables_by, view_of}
 use Rattle.alta_images.specs.Views.{View, state_of}
 use Rattle.alta_images.specs.Work.{Coming, Job, coming, gone_among, newest, stays}
@@ -37,7 +37,7 @@ rows_to_come levels view = rows_of (contents_to_come levels view)
 
 -- The ends, the number and the location of a rewrite are those of a view: the ends that are deleted, those of the levels to come that are
 -- gone, and what stands behind the newest documents.
-pub record Agrees (view : View) (levels : NextLevels) (ends : Ends) (next location : ℕ) : Type 0 where
+pub record AgreesWith (view : View) (levels : NextLevels) (ends : Ends) (next location : ℕ) : Type 0 where
   pub listed : ends.listed.now ≡ view.deleted
   pub deleted : ends.deleted.now ≡ gone_among view (rows_to_come levels view)
   pub next_is : next ≡ view.next + length (newest view)
@@ -46,8 +46,8 @@ pub record Agrees (view : View) (levels : NextLevels) (ends : Ends) (next locati
 -- A rewrite agrees with a view, the rows of the levels to come rise and lie below that number and location, and their documents that
 -- are not gone are those of the state.
 pub record IsGiven (view : View) (levels : NextLevels) (ends : Ends) (next location : ℕ) : Type 0 where
-  pub agrees : Agrees view levels ends next location
-  pub rise : RowsRise (rows_to_come levels view)
+  pub agrees : AgreesWith view levels ends next location
+  pub rise : RowsPrecede (rows_to_come levels view)
   pub below : All (λ (row : DocRow). (row.number < next) × (end_of row < location)) (rows_to_come levels view)
   pub documents : documents_left view (contents_to_come levels view) ≡ (state_of view).documents
 

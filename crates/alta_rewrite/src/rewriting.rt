@@ -8,7 +8,7 @@ ghost use Rattle.alta_disk.specs.Calls.{Costs};
 ghost use Rattle.alta_disk.specs.Disk.{DiskState, LeavesOnly, Only, Passes};
 ghost use Rattle.alta_images.specs.Holding.{Holding};
 ghost use Rattle.alta_images.specs.Levels.{Level};
-ghost use Rattle.alta_images.specs.Opened.{Opened, bytes_at, rows_in, extent_of};
+ghost use Rattle.alta_images.specs.Opened.{Opened, bytes_at, table_rows, extent_of};
 ghost use Rattle.alta_images.specs.Standing.{StandsFor};
 ghost use Rattle.alta_images.specs.Views.{state_of};
 ghost use Rattle.alta_images.specs.Work.{Job, coming};
@@ -96,7 +96,7 @@ pub fn rewrite<D: Disk>(
     // What counts then; and where nothing was written.
     ensures counts { IfOk result (λ done. (done.slot ≡ other slot) × (done.root.next_number ≡ next) × (done.root.next_location ≡ location)) }
     // The answered tables have the rows of the levels that came anew, and the extents of the root are theirs and those that stay.
-    ensures rows { IfOk result (λ done. (rows_in (tables_in done.oldest) ≡ levels.oldest.documents) × (rows_in (tables_in done.newest) ≡ levels.newest.documents)) }
+    ensures rows { IfOk result (λ done. (table_rows (tables_in done.oldest) ≡ levels.oldest.documents) × (table_rows (tables_in done.newest) ≡ levels.newest.documents)) }
     ensures extents { IfOk result (λ done. done.root.levels.items ≡ map extent_of (tables_in done.oldest)
         ++ (drop levels.stay_from root.now.levels.items ++ map extent_of (tables_in done.newest))) }
     ensures memory { result ≡ Err Memory → disk.new ≡ disk.old }

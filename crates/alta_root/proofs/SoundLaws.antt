@@ -8,7 +8,7 @@ use Rattle.std.proofs.lemmas.List.Elements.{All-nil, All-cons}
 use Rattle.alta_codec.specs.declared.extent.Extent.{Extent}
 use Rattle.alta_format.specs.Format.{Format, ends, number_field, text_field, byte, wide, read, placed}
 use Rattle.alta_format.specs.FormatLaws.{ok_is, number_kept, text_kept, number_passes, text_passes}
-use Rattle.alta_root.specs.Root.{extents_of, no_extent, AreApart, IsExtent, AreLevels, IsSound, extent_in, are_apart, is_extent, is_list, is_next_number, is_next_location, with_level, levels_format, root_format}
+use Rattle.alta_root.specs.Root.{extents_of, no_extent, AreApart, IsExtent, AreExtents, IsSound, extent_in, are_apart, is_extent, is_list, is_next_number, is_next_location, with_level, levels_format, root_format}
 use Rattle.alta_root.specs.Slots.{root_in}
 use Rattle.alta_root.specs.declared.places.TheConstants.{HEAD_BYTES, VERSION, LEVELS, LEVEL_BYTES, LAST_NEXT, DOCUMENT_CELLS}
 use Rattle.alta_root.specs.declared.root.Root.{Root}
@@ -116,7 +116,7 @@ record LevelsRead (size n : ℕ) (before after : Root) : Type 0 where
   levels : List Extent
   is : after ≡ with_levels before levels
   count : length levels ≡ n
-  are : AreLevels size (extents_of before) levels
+  are : AreExtents size (extents_of before) levels
 
 ends_read : (a : Root) (bytes : List ℕ) (y : Root × List ℕ) → read (ends a) bytes ≡ Ok y → a ≡ y.0
 unfolding read

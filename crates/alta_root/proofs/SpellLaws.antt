@@ -12,7 +12,7 @@ use Rattle.alta_codec.specs.declared.extent.Extent.{Extent}
 use Rattle.alta_format.specs.Format.{HasText, Spells, AreBytes}
 use Rattle.alta_format.specs.FormatLaws.{AreBytes-take, AreBytes-drop, AreBytes-rest, part_found, part_reads}
 use Rattle.alta_root.specs.Slots.{root_in}
-use Rattle.alta_root.specs.Root.{extents_of, no_extent, AreApart, IsExtent, AreLevels, IsWord, IsSound, number_in, extent_in, are_apart, is_extent, is_list, with_level, levels_format, root_format, wide_bytes, extent_bytes, fields_of, body_of}
+use Rattle.alta_root.specs.Root.{extents_of, no_extent, AreApart, IsExtent, AreExtents, IsWord, IsSound, number_in, extent_in, are_apart, is_extent, is_list, with_level, levels_format, root_format, wide_bytes, extent_bytes, fields_of, body_of}
 use Rattle.alta_root.specs.declared.places.TheConstants.{HEAD_BYTES, BODY_BYTES, FIELDS_BYTES, VERSION, LEVELS, LEVEL_BYTES, LAST_NEXT, DOCUMENT_CELLS}
 use Rattle.alta_root.specs.declared.root.Root.{Root}
 
@@ -96,7 +96,7 @@ extent_long extent = omega (arith, length-append (wide_bytes extent.place) (wide
 abbrev with_levels : Root → List Extent → Root
 with_levels root levels = record root { levels = record { items = root.levels.items ++ levels } }
 
-levels_spell : (size : ℕ) (levels : List Extent) (root : Root) (rest : List ℕ) → AreLevels size (extents_of root) levels → All IsWord levels
+levels_spell : (size : ℕ) (levels : List Extent) (root : Root) (rest : List ℕ) → AreExtents size (extents_of root) levels → All IsWord levels
     → Spells (levels_format size root (length levels)) (flat_map extent_bytes levels ++ rest) (with_levels root levels) rest
 unfolding levels_format Spells
 levels_spell size [] root rest are words = (ap (λ (items : List Extent). record root { levels = record { items = items } }) (sym (append-nil root.levels.items)), refl)
@@ -235,7 +235,7 @@ body_says size start root body fields sound low words body_is fields_is =
 extent_word : (least size : ℕ) (before : List Extent) (extent : Extent) → size < 2 ^ 64 → IsExtent least size before extent → IsWord extent
 extent_word least size before extent below is = (omega (arith, below, is.inside), omega (arith, below, is.inside))
 
-levels_words : (size : ℕ) (before levels : List Extent) → size < 2 ^ 64 → AreLevels size before levels → All IsWord levels
+levels_words : (size : ℕ) (before levels : List Extent) → size < 2 ^ 64 → AreExtents size before levels → All IsWord levels
 levels_words size before [] below are = All-nil IsWord
 levels_words size before (l ∷ ls) below are = All-cons IsWord l ls (extent_word LEVEL_BYTES size before l below are.0) (levels_words size (before ++ l ∷ []) ls below are.1)
 

@@ -1,4 +1,4 @@
--- Rows of levels that are joined.
+-- The rows of several levels, one behind the other.
 use Rattle.std.proofs.Common.{◌≡◌, ℕ, zero, suc, ◌+◌, ◌-◌, ◌<◌, ◌≤◌, ⊎_elim, List, [], ◌∷◌, ◌++◌, map, take, drop, take-append-drop, length, get_or, refl, sym, subst, ap, ◌∙◌, lit<, take_all, arith}
 use Rattle.std.specs.Prelude.{Contains}
 use Rattle.std.proofs.lemmas.Bool.{cases_lt}
@@ -8,7 +8,7 @@ use Rattle.alta_codec.specs.Rising.{IsRising}
 use Rattle.alta_codec.specs.declared.location.TheConstants.{TOP}
 use Rattle.alta_content.specs.Rows.{end_of}
 use Rattle.alta_content.specs.declared.document.DocRow.{DocRow}
-use Rattle.alta_rows.specs.All.{joined, ends_of, IsPlace}
+use Rattle.alta_rows.specs.All.{rows_of_levels, ends_of, IsPlace}
 
 -- what is read at an index
 pub read_at : {X : Type 0} (f : X → ℕ) (xs : List X) (i : ℕ) (d : X) → i < length xs → get_or (map f xs) i 0 ≡ f (get_or xs i d)
@@ -30,32 +30,32 @@ pub rising_fits : (xs : List ℕ) → IsRising xs → length xs < TOP
 rising_fits [] r = lit< tt
 rising_fits (x ∷ xs) r = omega (arith, above_index (x ∷ xs) r (length xs) (omega arith), r.below (length xs) (omega arith))
 
-pub joined-take : (levels : List (List DocRow)) (n : ℕ) → n < length levels → length (joined (take (n + 1) levels)) ≡ length (joined (take n levels)) + length (get_or levels n [])
-joined-take levels n l =
-    ap (λ ls. length (joined ls)) (take_more levels n [] l)
+pub rows_of_levels-take : (levels : List (List DocRow)) (n : ℕ) → n < length levels → length (rows_of_levels (take (n + 1) levels)) ≡ length (rows_of_levels (take n levels)) + length (get_or levels n [])
+rows_of_levels-take levels n l =
+    ap (λ ls. length (rows_of_levels ls)) (take_more levels n [] l)
     ∙ ap length (flat_map-append (λ rows. rows) (take n levels) (get_or levels n [] ∷ []))
-    ∙ length-append (joined (take n levels)) (get_or levels n [] ++ [])
-    ∙ ap (λ k. length (joined (take n levels)) + k) (ap length (append-nil (get_or levels n [])))
+    ∙ length-append (rows_of_levels (take n levels)) (get_or levels n [] ++ [])
+    ∙ ap (λ k. length (rows_of_levels (take n levels)) + k) (ap length (append-nil (get_or levels n [])))
 
-pub joined_fits : (levels : List (List DocRow)) (n : ℕ) → length (joined (take n levels)) ≤ length (joined levels)
+pub joined_fits : (levels : List (List DocRow)) (n : ℕ) → length (rows_of_levels (take n levels)) ≤ length (rows_of_levels levels)
 joined_fits levels n =
     omega (
       arith,
-      ap (λ ls. length (joined ls)) (take-append-drop n levels),
+      ap (λ ls. length (rows_of_levels ls)) (take-append-drop n levels),
       ap length (flat_map-append (λ rows. rows) (take n levels) (drop n levels)),
-      length-append (joined (take n levels)) (joined (drop n levels)),
+      length-append (rows_of_levels (take n levels)) (rows_of_levels (drop n levels)),
     )
 
 module _ (levels : List (List DocRow)) (n b i : ℕ) (p : IsPlace levels n b i) (l : n < length levels) where
   -- the rows of the level and of those before it
-  pub level_fits : b + length (get_or levels n []) ≤ length (joined levels)
-  level_fits = omega (arith, p.passed, joined-take levels n l, joined_fits levels (n + 1))
+  pub level_fits : b + length (get_or levels n []) ≤ length (rows_of_levels levels)
+  level_fits = omega (arith, p.passed, rows_of_levels-take levels n l, joined_fits levels (n + 1))
 
   -- the end of a row of the level
-  pub end_in : (k : ℕ) → k < length (get_or levels n []) → get_or (ends_of (joined levels)) (b + k) 0 ≡ get_or (ends_of (get_or levels n [])) k 0
+  pub end_in : (k : ℕ) → k < length (get_or levels n []) → get_or (ends_of (rows_of_levels levels)) (b + k) 0 ≡ get_or (ends_of (get_or levels n [])) k 0
   end_in k h =
-      read_at end_of (joined levels) (b + k) none (omega (arith, level_fits))
-      ∙ ap end_of (ap (λ x. get_or (joined levels) (x + k) none) p.passed ∙ get_or-flat_map (λ rows. rows) levels n k [] none l h)
+      read_at end_of (rows_of_levels levels) (b + k) none (omega (arith, level_fits))
+      ∙ ap end_of (ap (λ x. get_or (rows_of_levels levels) (x + k) none) p.passed ∙ get_or-flat_map (λ rows. rows) levels n k [] none l h)
       ∙ sym (read_at end_of (get_or levels n []) k none h)
 
   -- another place in the level
@@ -64,16 +64,16 @@ module _ (levels : List (List DocRow)) (n b i : ℕ) (p : IsPlace levels n b i) 
 
   -- the first place of the next level
   pub place_next : IsPlace levels (n + 1) (b + length (get_or levels n [])) 0
-  place_next = record { level = omega arith; passed = omega (arith, p.passed, joined-take levels n l); inside = omega arith }
+  place_next = record { level = omega arith; passed = omega (arith, p.passed, rows_of_levels-take levels n l); inside = omega arith }
 
   -- rows of the level that were passed too
-  pub passed_in : (end j : ℕ) → ((k : ℕ) → k < b + i → get_or (ends_of (joined levels)) k 0 < end)
+  pub passed_in : (end j : ℕ) → ((k : ℕ) → k < b + i → get_or (ends_of (rows_of_levels levels)) k 0 < end)
       → j ≤ length (get_or levels n []) → ((k : ℕ) → k < j → get_or (ends_of (get_or levels n [])) k 0 < end)
-      → (k : ℕ) → k < b + j → get_or (ends_of (joined levels)) k 0 < end
+      → (k : ℕ) → k < b + j → get_or (ends_of (rows_of_levels levels)) k 0 < end
   passed_in end j before fits here k h =
       ⊎_elim (λ lt. before k (omega arith))
       (λ ge. let m = k - b in let at : b + m ≡ k = omega arith in
-      omega (arith, ap (λ x. get_or (ends_of (joined levels)) x 0) at, end_in m (omega arith), here m (omega arith)))
+      omega (arith, ap (λ x. get_or (ends_of (rows_of_levels levels)) x 0) at, end_in m (omega arith), here m (omega arith)))
       (cases_lt k b)
 
 -- what is read of the element at an index
@@ -88,22 +88,22 @@ module _ (levels : List (List DocRow)) (n b i : ℕ) (p : IsPlace levels n b i) 
   sized : length ends ≡ length (get_or levels n [])
   sized = ap length are ∙ length-map (get_or levels n []) end_of
 
-  pub end_is : (k : ℕ) → k < length ends → get_or (ends_of (joined levels)) (b + k) 0 ≡ get_or ends k 0
+  pub end_is : (k : ℕ) → k < length ends → get_or (ends_of (rows_of_levels levels)) (b + k) 0 ≡ get_or ends k 0
   end_is k h = end_in levels n b i p l k (omega (arith, h, sized)) ∙ ap (λ xs. get_or xs k 0) (sym are)
 
   pub index_fits : i ≤ length ends
   index_fits = omega (arith, p.inside, sized)
 
-  pub rows_fit : IsRising (ends_of (joined levels)) → b + length ends < TOP
-  rows_fit r = omega (arith, rising_fits (ends_of (joined levels)) r, length-map (joined levels) end_of, level_fits levels n b i p l, sized)
+  pub rows_fit : IsRising (ends_of (rows_of_levels levels)) → b + length ends < TOP
+  rows_fit r = omega (arith, rising_fits (ends_of (rows_of_levels levels)) r, length-map (rows_of_levels levels) end_of, level_fits levels n b i p l, sized)
 
   -- of the level those at the front were passed
-  pub front_passed : (end : ℕ) → ((k : ℕ) → k < b + i → get_or (ends_of (joined levels)) k 0 < end) → (k : ℕ) → k < i → get_or ends k 0 < end
+  pub front_passed : (end : ℕ) → ((k : ℕ) → k < b + i → get_or (ends_of (rows_of_levels levels)) k 0 < end) → (k : ℕ) → k < i → get_or ends k 0 < end
   front_passed end before k h = omega (arith, before (b + k) (omega (arith, h)), end_is k (omega (arith, h, index_fits)))
 
   -- more were passed
-  pub more_passed : (end j : ℕ) → ((k : ℕ) → k < b + i → get_or (ends_of (joined levels)) k 0 < end) → j ≤ length ends
-      → ((k : ℕ) → k < j → get_or ends k 0 < end) → (k : ℕ) → k < b + j → get_or (ends_of (joined levels)) k 0 < end
+  pub more_passed : (end j : ℕ) → ((k : ℕ) → k < b + i → get_or (ends_of (rows_of_levels levels)) k 0 < end) → j ≤ length ends
+      → ((k : ℕ) → k < j → get_or ends k 0 < end) → (k : ℕ) → k < b + j → get_or (ends_of (rows_of_levels levels)) k 0 < end
   more_passed end j before fits here =
       passed_in levels n b i p l end j before (omega (arith, fits, sized)) (λ k h. omega (arith, here k h, ap (λ xs. get_or xs k 0) are))
 
@@ -121,6 +121,6 @@ none_here ends n end r before behind (k, l, e) =
     (cases_lt k n)
 
 -- behind all levels everything was passed
-pub all_passed : (levels : List (List DocRow)) (n b i : ℕ) → IsPlace levels n b i → length levels ≤ n → length (ends_of (joined levels)) ≤ b + i
+pub all_passed : (levels : List (List DocRow)) (n b i : ℕ) → IsPlace levels n b i → length levels ≤ n → length (ends_of (rows_of_levels levels)) ≤ b + i
 all_passed levels n b i p l =
-    omega (arith, length-map (joined levels) end_of, p.passed, ap (λ ls. length (joined ls)) (take_all n levels l))
+    omega (arith, length-map (rows_of_levels levels) end_of, p.passed, ap (λ ls. length (rows_of_levels ls)) (take_all n levels l))

@@ -8,12 +8,12 @@ use Rattle.alta_content.specs.Rows.{end_of}
 use Rattle.alta_content.specs.declared.document.DocRow.{DocRow}
 
 -- the rows of a shared level
-abbrev pub rows_in : Rc LevelRows Global → List DocRow
-rows_in level = level.value
+abbrev pub shared_rows : Rc LevelRows Global → List DocRow
+shared_rows level = level.value
 
 -- the rows of all levels
-abbrev pub joined : List (List DocRow) → List DocRow
-joined levels = flat_map (λ rows. rows) levels
+abbrev pub rows_of_levels : List (List DocRow) → List DocRow
+rows_of_levels levels = flat_map (λ rows. rows) levels
 
 -- the ends of documents
 abbrev pub ends_of : List DocRow → List ℕ
@@ -31,5 +31,5 @@ IsPast w place = (k : ℕ) → k < w.at → slice_index (ends_of w.rows) k < pla
 -- A place in levels: the number of a level, how many rows the levels before it have, and how many rows of its own stand before the place.
 pub record IsPlace (levels : List (List DocRow)) (number before index : ℕ) : Type 0 where
   pub level : number ≤ length levels
-  pub passed : before ≡ length (joined (take number levels))
+  pub passed : before ≡ length (rows_of_levels (take number levels))
   pub inside : index ≤ length (slice_index_or levels number [])

@@ -1,7 +1,7 @@
 // The rows of several levels.
 ghost use Rattle.std.specs.Prelude.{◌≡◌, ◌+◌, ◌<◌, map, length, slice_get, Some, IfOk, IfErr};
 ghost use Rattle.alta_codec.specs.Rising.{IsRising};
-ghost use Rattle.alta_rows.specs.All.{rows_in, joined, ends_of};
+ghost use Rattle.alta_rows.specs.All.{shared_rows, rows_of_levels, ends_of};
 
 use crate::level::LevelRows;
 use crate::walk::RowWalk;
@@ -20,21 +20,21 @@ pub struct AllRows {
 impl Model for AllRows {
     ghost use Rattle.std.specs.Prelude.{List, map};
     ghost use Rattle.alta_codec.specs.Rising.{IsRising};
-    ghost use Rattle.alta_rows.specs.All.{rows_in, joined, ends_of};
+    ghost use Rattle.alta_rows.specs.All.{shared_rows, rows_of_levels, ends_of};
     ghost use Rattle.alta_content.specs.declared.document.DocRow.{DocRow};
 
     ghost Value = { List DocRow };
 
-    ghost view = { λ r. joined (map rows_in r.levels.value.items) };
+    ghost view = { λ r. rows_of_levels (map shared_rows r.levels.value.items) };
 
-    ghost invariant = { λ r. IsRising (ends_of (joined (map rows_in r.levels.value.items))) };
+    ghost invariant = { λ r. IsRising (ends_of (rows_of_levels (map shared_rows r.levels.value.items))) };
 }
 
 impl AllRows {
     /// The rows of these levels, without a copy. Fails for want of memory alone.
     pub fn new(alloc: Global, levels: Vec<Rc<LevelRows>>) -> Result<AllRows, AllocError>
-        requires { IsRising (ends_of (joined (map rows_in levels.items))) }
-        ensures { IfOk result (λ r. r ≡ joined (map rows_in levels.items)) }
+        requires { IsRising (ends_of (rows_of_levels (map shared_rows levels.items))) }
+        ensures { IfOk result (λ r. r ≡ rows_of_levels (map shared_rows levels.items)) }
     {
         match Rc::new(alloc, levels) {
             Ok(levels) => Ok(AllRows { levels }),
@@ -74,8 +74,8 @@ impl AllRows {
 
 /// The row of these levels at an index, or how many rows behind all of them it stands.
 pub(crate) fn row_in(levels: &[Rc<LevelRows>], index: usize) -> Result<&DocRow, usize>
-    ensures there { IfOk result (λ row. slice_get (joined (map rows_in levels.now)) index ≡ Some row.now) }
-    ensures behind { IfErr result (λ left. length (joined (map rows_in levels.now)) + left ≡ index) }
+    ensures there { IfOk result (λ row. slice_get (rows_of_levels (map shared_rows levels.now)) index ≡ Some row.now) }
+    ensures behind { IfErr result (λ left. length (rows_of_levels (map shared_rows levels.now)) + left ≡ index) }
 {
     let mut left = index;
     for level in levels {

@@ -2,7 +2,7 @@
 ghost use Rattle.std.specs.Prelude.{◌≡◌, ◌<◌, ◌∷◌, ◌++◌, [], map, length, slice_get, Some, IfOk, OnOk, OnErr};
 ghost use Rattle.alta_codec.specs.Rising.{IsRising};
 ghost use Rattle.alta_content.specs.Rows.{end_of};
-ghost use Rattle.alta_rows.specs.All.{rows_in, joined, ends_of};
+ghost use Rattle.alta_rows.specs.All.{shared_rows, rows_of_levels, ends_of};
 
 use crate::all::{AllRows, row_in};
 use crate::level::{LevelRows, ends_of};
@@ -27,14 +27,14 @@ pub struct RowRuns {
 impl Model for RowRuns {
     ghost use Rattle.std.specs.Prelude.{List, map, ◌++◌};
     ghost use Rattle.alta_codec.specs.Rising.{IsRising};
-    ghost use Rattle.alta_rows.specs.All.{rows_in, joined, ends_of};
+    ghost use Rattle.alta_rows.specs.All.{shared_rows, rows_of_levels, ends_of};
     ghost use Rattle.alta_content.specs.declared.document.DocRow.{DocRow};
 
     ghost Value = { List DocRow };
 
-    ghost view = { λ r. joined (map rows_in r.full.items) ++ r.last.items };
+    ghost view = { λ r. rows_of_levels (map shared_rows r.full.items) ++ r.last.items };
 
-    ghost invariant = { λ r. IsRising (ends_of (joined (map rows_in r.full.items) ++ r.last.items)) };
+    ghost invariant = { λ r. IsRising (ends_of (rows_of_levels (map shared_rows r.full.items) ++ r.last.items)) };
 }
 
 impl RowRuns {
@@ -107,7 +107,7 @@ impl RowRuns {
 
     /// The runs in order: the full ones shared, and behind them the last one, of at most 1,024 rows, copied. Fails for want of memory alone.
     pub fn runs(&self) -> Result<Vec<Rc<LevelRows>>, AllocError>
-        ensures { IfOk result (λ runs. joined (map rows_in runs.items) ≡ self.now) }
+        ensures { IfOk result (λ runs. rows_of_levels (map shared_rows runs.items) ≡ self.now) }
     {
         let mut runs = share_runs(self.alloc, &self.full)?;
         runs.push(copy_run(self.alloc, &self.last)?)?;
@@ -138,7 +138,7 @@ impl RowRuns {
 
 /// The same runs, shared, with room for one more.
 fn share_runs(alloc: Global, runs: &[Rc<LevelRows>]) -> Result<Vec<Rc<LevelRows>>, AllocError>
-    ensures { IfOk result (λ shared. map rows_in shared.items ≡ map rows_in runs.now) }
+    ensures { IfOk result (λ shared. map shared_rows shared.items ≡ map shared_rows runs.now) }
 {
     let mut shared = Vec::with_capacity(alloc, runs.len() + 1)?;
     for run in runs {

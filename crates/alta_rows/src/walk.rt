@@ -2,7 +2,7 @@
 ghost use Rattle.std.specs.Prelude.{◌≡◌, ℕ, ◌+◌, ◌<◌, ◌≤◌, map, length, Contains, HoldsAt, IfSome, None, [], slice_index, slice_index_or};
 ghost use Rattle.alta_codec.specs.Rising.{IsRising};
 ghost use Rattle.alta_codec.specs.declared.location.TheConstants.{TOP};
-ghost use Rattle.alta_rows.specs.All.{rows_in, joined, ends_of, IsPlace};
+ghost use Rattle.alta_rows.specs.All.{shared_rows, rows_of_levels, ends_of, IsPlace};
 ghost use Rattle.alta_content.specs.Rows.{end_of};
 
 use crate::gallop::index_from;
@@ -21,13 +21,13 @@ struct Place {
 
 /// The first place from this one on whose row ends at or above `end`, or behind all rows.
 fn first_from(levels: &[Rc<LevelRows>], place: Place, end: Loc) -> Place
-    requires rising { IsRising (ends_of (joined (map rows_in levels.now))) }
-    requires place { IsPlace (map rows_in levels.now) place.level place.before place.index }
-    requires passed { (k : ℕ) → k < place.before + place.index → slice_index (ends_of (joined (map rows_in levels.now))) k < end }
-    ensures place { IsPlace (map rows_in levels.now) result.level result.before result.index }
-    ensures before { (k : ℕ) → k < result.before + result.index → slice_index (ends_of (joined (map rows_in levels.now))) k < end }
-    ensures stands { result.level < length levels.now → result.index < length (slice_index_or (map rows_in levels.now) result.level []) }
-    ensures here { result.level < length levels.now → end ≤ slice_index (ends_of (joined (map rows_in levels.now))) (result.before + result.index) }
+    requires rising { IsRising (ends_of (rows_of_levels (map shared_rows levels.now))) }
+    requires place { IsPlace (map shared_rows levels.now) place.level place.before place.index }
+    requires passed { (k : ℕ) → k < place.before + place.index → slice_index (ends_of (rows_of_levels (map shared_rows levels.now))) k < end }
+    ensures place { IsPlace (map shared_rows levels.now) result.level result.before result.index }
+    ensures before { (k : ℕ) → k < result.before + result.index → slice_index (ends_of (rows_of_levels (map shared_rows levels.now))) k < end }
+    ensures stands { result.level < length levels.now → result.index < length (slice_index_or (map shared_rows levels.now) result.level []) }
+    ensures here { result.level < length levels.now → end ≤ slice_index (ends_of (rows_of_levels (map shared_rows levels.now))) (result.before + result.index) }
 {
     let mut place = place;
     'levels: while place.level < levels.len() {
@@ -47,14 +47,14 @@ fn first_from(levels: &[Rc<LevelRows>], place: Place, end: Loc) -> Place
 
 /// The index of the row at the first place whose row ends at or above `end`, if it ends there.
 fn index_of(levels: &[Rc<LevelRows>], place: Place, end: Loc) -> Option<usize>
-    requires rising { IsRising (ends_of (joined (map rows_in levels.now))) }
-    requires place { IsPlace (map rows_in levels.now) place.level place.before place.index }
-    requires passed { (k : ℕ) → k < place.before + place.index → slice_index (ends_of (joined (map rows_in levels.now))) k < end }
-    requires stands { place.level < length levels.now → place.index < length (slice_index_or (map rows_in levels.now) place.level []) }
-    requires here { place.level < length levels.now → end ≤ slice_index (ends_of (joined (map rows_in levels.now))) (place.before + place.index) }
-    ensures inside { IfSome result (λ i. i < length (joined (map rows_in levels.now))) }
-    ensures there { IfSome result (HoldsAt (λ r. end_of r ≡ end) (joined (map rows_in levels.now))) }
-    ensures none { result ≡ None → Contains (ends_of (joined (map rows_in levels.now))) end → ⊥ }
+    requires rising { IsRising (ends_of (rows_of_levels (map shared_rows levels.now))) }
+    requires place { IsPlace (map shared_rows levels.now) place.level place.before place.index }
+    requires passed { (k : ℕ) → k < place.before + place.index → slice_index (ends_of (rows_of_levels (map shared_rows levels.now))) k < end }
+    requires stands { place.level < length levels.now → place.index < length (slice_index_or (map shared_rows levels.now) place.level []) }
+    requires here { place.level < length levels.now → end ≤ slice_index (ends_of (rows_of_levels (map shared_rows levels.now))) (place.before + place.index) }
+    ensures inside { IfSome result (λ i. i < length (rows_of_levels (map shared_rows levels.now))) }
+    ensures there { IfSome result (HoldsAt (λ r. end_of r ≡ end) (rows_of_levels (map shared_rows levels.now))) }
+    ensures none { result ≡ None → Contains (ends_of (rows_of_levels (map shared_rows levels.now))) end → ⊥ }
 {
     if place.level >= levels.len() {
         return None;
@@ -77,13 +77,13 @@ pub struct RowWalk<'a> {
 impl<'a> Model for RowWalk<'a> {
     ghost use Rattle.std.specs.Prelude.{map, ◌+◌};
     ghost use Rattle.alta_codec.specs.Rising.{IsRising};
-    ghost use Rattle.alta_rows.specs.All.{Walked, rows_in, joined, ends_of, IsPlace};
+    ghost use Rattle.alta_rows.specs.All.{Walked, shared_rows, rows_of_levels, ends_of, IsPlace};
 
     ghost Value = { Walked };
 
-    ghost view = { λ w. record { rows = joined (map rows_in w.levels.now); at = w.place.before + w.place.index } };
+    ghost view = { λ w. record { rows = rows_of_levels (map shared_rows w.levels.now); at = w.place.before + w.place.index } };
 
-    ghost invariant = { λ w. IsRising (ends_of (joined (map rows_in w.levels.now))) × IsPlace (map rows_in w.levels.now) w.place.level w.place.before w.place.index };
+    ghost invariant = { λ w. IsRising (ends_of (rows_of_levels (map shared_rows w.levels.now))) × IsPlace (map shared_rows w.levels.now) w.place.level w.place.before w.place.index };
 }
 
 impl<'a> RowWalk<'a> {
@@ -92,8 +92,8 @@ impl<'a> RowWalk<'a> {
 
     /// A walk that stands in front of the first row.
     pub(crate) fn new(levels: &'a [Rc<LevelRows>]) -> RowWalk<'a>
-        requires { IsRising (ends_of (joined (map rows_in levels.now))) }
-        ensures rows { result.rows ≡ joined (map rows_in levels.now) }
+        requires { IsRising (ends_of (rows_of_levels (map shared_rows levels.now))) }
+        ensures rows { result.rows ≡ rows_of_levels (map shared_rows levels.now) }
         ensures at { result.at ≡ 0 }
     {
         RowWalk {

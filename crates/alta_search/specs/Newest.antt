@@ -4,7 +4,7 @@ use Rattle.std.specs.List.{filter, starts_with}
 use Rattle.std.specs.Str.{bytes_eq}
 use Rattle.alta_content.specs.Lists.{locations_of, terms_of}
 use Rattle.alta_content.specs.TermList.{TermList}
-use Rattle.alta_memlevel.specs.Added.{Added, HasContent, Level}
+use Rattle.alta_memlevel.specs.Added.{Added, HasContent, LevelView}
 use Rattle.alta_query.specs.declared.test.Test.{Test}
 use Rattle.alta_query.specs.declared.test.Test.TheVariants.{Is, Begins}
 
@@ -26,7 +26,7 @@ abbrev pub newest_lists : List TermList → Test → List (List (List ℕ))
 newest_lists lists test = map (newest_list lists) (terms_met lists test)
 
 -- the level can be used, and its content is that of some documents
-pub record HasAdded (level : Level) : Type 0 where
+pub record HasAdded (level : LevelView) : Type 0 where
   pub added : List Added
   pub sound : IsTrue level.sound
   pub content : HasContent added level.content

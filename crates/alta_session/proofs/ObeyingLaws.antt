@@ -14,7 +14,7 @@ use Rattle.alta_session.specs.Loading.{HasBrokenList}
 use Rattle.alta_session.specs.Tasks.{IsWorked, worked_where}
 use Rattle.alta_store.specs.Agreement.{Agrees, levels_of, room_of}
 use Rattle.alta_store.specs.Answers.{IsOutside}
-use Rattle.alta_store.specs.Calls.{Finds, IsCause, IsNarrow, NoRefusal, RefusesAdd, flush_joins, has_live, is_one, joined_by, unless_read}
+use Rattle.alta_store.specs.Calls.{FindsFirstDamage, IsCause, IsNarrow, NoRefusal, RefusesAdd, flush_joins, has_live, is_one, joined_by, unless_read}
 use Rattle.alta_store.specs.declared.fault.StoreFault.{StoreFault}
 use Rattle.alta_store.specs.declared.fault.StoreFault.TheVariants.{Damaged, Taken, Numbers, Full}
 use Rattle.alta_store.specs.declared.store.Store.{Store}
@@ -76,7 +76,7 @@ read_among store (steps n) level here = two_among store (nat_le 2 (length (level
 
 -- a level that is damaged is one of what was opened
 pub task_broken : {T : Type 0} (tells : Type 0) (refuses : StoreFault → Type 0) (before after : DiskState) (store : Store) (task : Task) (result : Result T StoreFault) (place : ℕ) → tells → Agrees tells before store
-    → (tells → Finds refuses before.content (joined_by store task) result) → (tells → (place : ℕ) → result ≡ Err (Damaged place) → after.content ≡ before.content) → result ≡ Err (Damaged place) → HasBrokenList after.content place
+    → (tells → FindsFirstDamage refuses before.content (joined_by store task) result) → (tells → (place : ℕ) → result ≡ Err (Damaged place) → after.content ≡ before.content) → result ≡ Err (Damaged place) → HasBrokenList after.content place
 task_broken tells refuses before after store task result place told agrees damage still is =
     let holds = agrees.content told in
     let broken : IsBrokenAmong (joined_by store task) before.content place = (damage told).broken place is in

@@ -20,7 +20,7 @@ use Rattle.alta_journal.specs.declared.entry.Entry.TheVariants.{Delete}
 use Rattle.alta_meta.specs.declared.document.State.{State}
 use Rattle.alta_store.specs.Agreement.{Agrees, Has, Keeps}
 use Rattle.alta_store.specs.Answers.{IsOutside}
-use Rattle.alta_store.specs.Calls.{BecomesFlushed, Changes, Finds, IsCause, IsNarrow, NoRefusal, Obeys, joined_by}
+use Rattle.alta_store.specs.Calls.{BecomesFlushed, Changes, FindsFirstDamage, IsCause, IsNarrow, NoRefusal, Obeys, joined_by}
 use Rattle.alta_store.specs.declared.fault.StoreFault.{StoreFault}
 use Rattle.alta_store.specs.declared.fault.StoreFault.TheVariants as faults
 use Rattle.alta_store.specs.declared.store.Store.{Store}
@@ -37,7 +37,7 @@ Turns = ℕ → Opened → Opened → Type 0
 
 -- where no level is read, none is found damaged
 pub finds_none : {T : Type 0} (refuses : StoreFault → Type 0) (image : List ℕ) (levels : List Tables) (result : Result T StoreFault) → levels ≡ []
-    → ((place : ℕ) → result ≡ Err (faults.Damaged place) → ⊥) → Finds refuses image levels result
+    → ((place : ℕ) → result ≡ Err (faults.Damaged place) → ⊥) → FindsFirstDamage refuses image levels result
 finds_none refuses image levels result none never = record {
   first = λ place e. absurd (never place e);
   broken = λ place e. absurd (never place e);
@@ -46,7 +46,7 @@ finds_none refuses image levels result none never = record {
 
 -- what is answered outside of damage, whatever is read
 pub finds_outside : {T : Type 0} (refuses : StoreFault → Type 0) (image : List ℕ) (levels : List Tables) (fault : StoreFault) → IsOutside fault
-    → ((place : ℕ) → ◌≡◌ {A = Result T StoreFault} (Err fault) (Err (faults.Damaged place)) → ⊥) → Finds {T = T} refuses image levels (Err fault)
+    → ((place : ℕ) → ◌≡◌ {A = Result T StoreFault} (Err fault) (Err (faults.Damaged place)) → ⊥) → FindsFirstDamage {T = T} refuses image levels (Err fault)
 finds_outside refuses image levels fault outside never = record {
   first = λ place e. absurd (never place e);
   broken = λ place e. absurd (never place e);
@@ -284,7 +284,7 @@ module _ (tells : Type 0) (work then : Work) (turns next : Turns) (step : State 
       (leaves_as a b (StandsForEither s s) (StandsForEither s (step s)) (one.images s stands) (λ image either. ⊎_elim (λ here. inl here) (λ here. inl here) either))
       (two.images s (λ told. one.stands s told (stands told)))
 
-  finds_then : {T : Type 0} (result : Result T StoreFault) → Changes tells then next step refuses n [] b c middle later result → tells → Finds refuses a.content joins result
+  finds_then : {T : Type 0} (result : Result T StoreFault) → Changes tells then next step refuses n [] b c middle later result → tells → FindsFirstDamage refuses a.content joins result
   finds_then result two told = record {
     first = λ place e. absurd (two.unread told refl place e);
     broken = λ place e. absurd (two.unread told refl place e);

@@ -15,7 +15,7 @@ use Rattle.alta_disk.specs.Disk.{DiskState, IsLawful, Only, Passes, Stands, Leav
 use Rattle.alta_disk.proofs.Moments.{stands_only, leaves_from}
 use Rattle.alta_images.specs.Entries.{Allows, after_entries, after_entry}
 use Rattle.alta_images.specs.Holding.{Holding, IsHeld}
-use Rattle.alta_images.specs.Opened.{Opened, IsOpened, journal_of, rows_in, extent_of}
+use Rattle.alta_images.specs.Opened.{Opened, IsOpened, journal_of, table_rows, extent_of}
 use Rattle.alta_images.specs.Standing.{StandsFor, StandsForEither}
 use Rattle.alta_images.specs.States.{IsDocument, has_name, has_number, with_added, with_deleted, without}
 use Rattle.alta_images.specs.Switching.{MayAppend, with_entry}
@@ -221,7 +221,7 @@ module _ (tells : Type 0) (a : DiskState) (lawful : IsLawful tells a) (store : S
               subst (λ (job : Option Merging). (on : MayGoOn (levels_of later) (gone_of later.catalog) job)
               × ((image : List ℕ) → GoesOnOver image (levels_of store) (gone_of store.catalog) store.job agrees.intact.joining → GoesOnOver image (levels_of later) (gone_of later.catalog) job on))
               (sym job_is)
-              (goes_on_over (levels_of store) (levels_of later) (gone_of store.catalog) (gone_of later.catalog) store.job (ap (take 2) levels_are) (λ k d within. still (get_or (rows_in (levels_of store)) k d)) agrees.intact.joining)
+              (goes_on_over (levels_of store) (levels_of later) (gone_of store.catalog) (gone_of later.catalog) store.job (ap (take 2) levels_are) (λ k d within. still (get_or (table_rows (levels_of store)) k d)) agrees.intact.joining)
 
           -- store and disk agree
           agrees_after : Agrees tells b later
@@ -235,9 +235,9 @@ module _ (tells : Type 0) (a : DiskState) (lawful : IsLawful tells a) (store : S
               knows = (knows agrees.intact.state agrees.intact.knows).0;
               entries = agrees.intact.entries ++ entry ∷ [];
               follows = subst (λ (root : Root). Follows later.catalog root (agrees.intact.entries ++ entry ∷ [])) (sym root_is) (follows store.root agrees.intact.entries agrees.intact.follows);
-              below = subst (λ (levels : List Tables). All (λ (row : DocRow). (row.number < later.root.next_number) × (end_of row < later.root.next_location)) (rows_in levels)) (sym levels_are)
-                  (subst (λ (root : Root). All (λ (row : DocRow). (row.number < root.next_number) × (end_of row < root.next_location)) (rows_in (levels_of store))) (sym root_is) agrees.intact.below);
-              documents = subst (λ (levels : List Tables). AreDocuments (rows_in levels)) (sym levels_are) agrees.intact.documents;
+              below = subst (λ (levels : List Tables). All (λ (row : DocRow). (row.number < later.root.next_number) × (end_of row < later.root.next_location)) (table_rows levels)) (sym levels_are)
+                  (subst (λ (root : Root). All (λ (row : DocRow). (row.number < root.next_number) × (end_of row < root.next_location)) (table_rows (levels_of store))) (sym root_is) agrees.intact.below);
+              documents = subst (λ (levels : List Tables). AreDocuments (table_rows levels)) (sym levels_are) agrees.intact.documents;
               extents = ap (map extent_of) levels_are ∙ agrees.intact.extents ∙ ap (λ (root : Root). root.levels.items) (sym root_is);
               joining = going.0;
             };

@@ -5,7 +5,7 @@ use Rattle.std.specs.List.{All}
 use Rattle.std.proofs.lemmas.List.Elements.{All-head, All-tail}
 use Rattle.alta_content.specs.Rows.{ends_among}
 use Rattle.alta_content.specs.declared.document.DocRow.{DocRow}
-use Rattle.alta_images.specs.Opened.{rows_in, extent_of}
+use Rattle.alta_images.specs.Opened.{table_rows, extent_of}
 use Rattle.alta_images.proofs.Untouched.{IsSame}
 use Rattle.alta_joins.specs.Jobs.{AreJoinedOn, DeadAreGone, IsBegun, IsJoining}
 use Rattle.alta_joins.proofs.JoiningLaws.{joining_more, joining_stays}
@@ -15,13 +15,13 @@ use Rattle.alta_table.specs.Tables.{Tables}
 use Rattle.alta_content.proofs.Elements.{all_left}
 
 -- the rows of the two oldest levels are among those of all
-two_rows : (P : DocRow → Type 0) (levels : List Tables) (older newer : Tables) (more : List Tables) → levels ≡ older ∷ newer ∷ more → All P (rows_in levels) → All P (older.documents ++ newer.documents)
+two_rows : (P : DocRow → Type 0) (levels : List Tables) (older newer : Tables) (more : List Tables) → levels ≡ older ∷ newer ∷ more → All P (table_rows levels) → All P (older.documents ++ newer.documents)
 two_rows P levels older newer more is all =
-    all_left P (older.documents ++ newer.documents) (rows_in more)
-    (subst (All P) (sym (append_assoc older.documents newer.documents (rows_in more))) (subst (λ (ls : List Tables). All P (rows_in ls)) is all))
+    all_left P (older.documents ++ newer.documents) (table_rows more)
+    (subst (All P) (sym (append_assoc older.documents newer.documents (table_rows more))) (subst (λ (ls : List Tables). All P (table_rows ls)) is all))
 
 -- it goes on over levels of which the two oldest are the same, where all that was gone is
-pub goes_on_over : (levels others : List Tables) (gone ends : List ℕ) (job : Option Merging) → take 2 others ≡ take 2 levels → DeadAreGone gone ends (rows_in levels) → (joining : MayGoOn levels gone job)
+pub goes_on_over : (levels others : List Tables) (gone ends : List ℕ) (job : Option Merging) → take 2 others ≡ take 2 levels → DeadAreGone gone ends (table_rows levels) → (joining : MayGoOn levels gone job)
     → (on : MayGoOn others ends job) × ((image : List ℕ) → GoesOnOver image levels gone job joining → GoesOnOver image others ends job on)
 goes_on_over levels others gone ends None same kept joining = (tt, λ image over. tt)
 goes_on_over levels others gone ends (Some merging) same kept joining =

@@ -10,15 +10,15 @@ use Rattle.alta_content.specs.declared.document.DocRow.{DocRow}
 use Rattle.alta_disk.specs.Disk.{DiskState, IsLawful}
 use Rattle.alta_images.specs.Holding.{Holding, IsHeld, IsJobOf, IsWell}
 use Rattle.alta_images.specs.Levels.{Level}
-use Rattle.alta_images.specs.Opened.{Opened, IsOpened, bytes_at, deleted_in, list_at, rows_in}
+use Rattle.alta_images.specs.Opened.{Opened, IsOpened, bytes_at, deleted_in, list_at, table_rows}
 use Rattle.alta_images.specs.Standing.{StandsFor, tables_by, view_of}
 use Rattle.alta_images.specs.Views.{View, state_of}
-use Rattle.alta_images.specs.Work.{Job, gone, rows_in as level_rows}
+use Rattle.alta_images.specs.Work.{Job, gone, level_rows}
 use Rattle.alta_images.proofs.WrittenLaws.{held_without}
 use Rattle.alta_joins.proofs.JoiningLaws.{joining_job}
 use Rattle.alta_merge.specs.Merging.{Merging}
 use Rattle.alta_meta.specs.declared.document.State.{State}
-use Rattle.alta_postings.specs.Deltas.{first_fault, locations_of, stream_bytes}
+use Rattle.alta_postings.specs.Deltas.{first_fault, decoded_list, stream_bytes}
 use Rattle.alta_postings.specs.declared.fault.StreamFault.{StreamFault}
 use Rattle.alta_postings.proofs.Reading.{reading_spells}
 use Rattle.alta_root.specs.Root.{IsSound, no_extent}
@@ -31,17 +31,17 @@ use Rattle.alta_rewrite.proofs.ComeLaws.{bytes_fit}
 
 -- ---- levels by their rows
 
-pub rows_by_tables : (levels : List Level) → level_rows levels ≡ rows_in (map tables_by levels)
+pub rows_by_tables : (levels : List Level) → level_rows levels ≡ table_rows (map tables_by levels)
 rows_by_tables [] = refl
 rows_by_tables (level ∷ levels) = ap (λ (rows : List DocRow). level.content.documents ++ rows) (rows_by_tables levels)
 
 -- ---- a deletion list exactly where ends are deleted
 
-list_read : (place : ℕ) (stream : List ℕ) (f : Option StreamFault) (ends : List ℕ) → first_fault stream ≡ f → list_at place stream f ≡ Ok ends → (first_fault stream ≡ None) × (locations_of stream ≡ ends)
+list_read : (place : ℕ) (stream : List ℕ) (f : Option StreamFault) (ends : List ℕ) → first_fault stream ≡ f → list_at place stream f ≡ Ok ends → (first_fault stream ≡ None) × (decoded_list stream ≡ ends)
 list_read place stream None ends is e = (is, cc)
 list_read place stream (Some fault) ends is e = absurd cc
 
-no_bytes : (bytes : List ℕ) → AreBytes bytes → first_fault bytes ≡ None → locations_of bytes ≡ [] → bytes ≡ []
+no_bytes : (bytes : List ℕ) → AreBytes bytes → first_fault bytes ≡ None → decoded_list bytes ≡ [] → bytes ≡ []
 unfolding stream_bytes
 no_bytes bytes are sound none = (reading_spells bytes (λ i within. are i) sound).spelled ∙ ap (stream_bytes 0) none
 
@@ -74,7 +74,7 @@ content_bytes tells disk lawful told = lawful.bytes disk.clock disk.content (law
 
 module _ (tells : Type 0) (disk : DiskState) (lawful : IsLawful tells disk) (store : Store) (agrees : Agrees tells disk store) where
   -- what is gone in the catalog is gone from what is opened
-  pub gone_opened : (told : tells) (o : Opened) → IsOpened o disk.content → (levels : List Level) → level_rows levels ≡ rows_in o.levels → gone_of store.catalog ≡ gone (view_of o levels)
+  pub gone_opened : (told : tells) (o : Opened) → IsOpened o disk.content → (levels : List Level) → level_rows levels ≡ table_rows o.levels → gone_of store.catalog ≡ gone (view_of o levels)
   gone_opened told o is levels rows =
       let keeps = kept store disk.content (agrees.content told) o is in
       let s = may_be o in
@@ -82,7 +82,7 @@ module _ (tells : Type 0) (disk : DiskState) (lawful : IsLawful tells disk) (sto
 
   pub gone_held : (told : tells) (held : Holding) → IsHeld held disk.content → gone_of store.catalog ≡ gone held.view
   gone_held told held has =
-      gone_opened told has.opened has.is held.view.levels (rows_by_tables held.view.levels ∙ ap rows_in (sym has.are.tables)) ∙ ap gone (sym has.view_is)
+      gone_opened told has.opened has.is held.view.levels (rows_by_tables held.view.levels ∙ ap table_rows (sym has.are.tables)) ∙ ap gone (sym has.view_is)
 
   pub levels_held : (told : tells) (held : Holding) → IsHeld held disk.content → levels_of store ≡ map tables_by held.view.levels
   levels_held told held has = (kept store disk.content (agrees.content told) has.opened has.is).levels ∙ has.are.tables

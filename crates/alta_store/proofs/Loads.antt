@@ -16,7 +16,7 @@ use Rattle.alta_images.specs.Known.{Known, known_of, replayed}
 use Rattle.alta_images.specs.Opened.{Opened, IsOpened, half_of, have_ends, journal_of, known_at, extent_of}
 use Rattle.alta_images.proofs.KnownLaws.{replayed_allows}
 use Rattle.alta_images.proofs.OneReading.{one_place, opened_unbroken, opened_rooted, broken_rooted}
-use Rattle.alta_journal.specs.Journal.{IsBroken}
+use Rattle.alta_journal.specs.Journal.{HasBrokenHalf}
 use Rattle.alta_journal.specs.Placed.{placed, IsReplay}
 use Rattle.alta_journal.specs.Places.{half_at}
 use Rattle.alta_journal.specs.Record.{record_of}
@@ -117,7 +117,7 @@ module _ (content : List ℕ) (slot : Slot) (root : Root) (deleted : List ℕ) (
         };
       }
 
-  pub damaged_record : (place : ℕ) → IsBroken (journal_of slot) place content → IsBrokenAt content place
+  pub damaged_record : (place : ℕ) → HasBrokenHalf (journal_of slot) place content → IsBrokenAt content place
   damaged_record place broken = in_records slot root deleted levels place has ends_there broken
 
   pub refused_entry : (found : List Placed) (place tail : ℕ) → IsReplay (journal_of slot) found tail content → (s : State) → MayStart s root deleted levels → IsRefusedAt s found place → IsBrokenAt content place

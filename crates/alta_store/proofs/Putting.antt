@@ -28,11 +28,11 @@ use Rattle.alta_images.specs.Chain.{◌>>=◌}
 use Rattle.alta_images.specs.Entries.{after_entries}
 use Rattle.alta_images.specs.Holding.{Holding, IsHeld}
 use Rattle.alta_images.specs.Levels.{Level}
-use Rattle.alta_images.specs.Opened.{Opened, IsOpened, half_of, journal_of, rows_in, extent_of}
+use Rattle.alta_images.specs.Opened.{Opened, IsOpened, half_of, journal_of, table_rows, extent_of}
 use Rattle.alta_images.proofs.WrittenLaws.{held_stands}
 use Rattle.alta_images.specs.Standing.{StandsFor, tables_by, view_of}
 use Rattle.alta_images.specs.Views.{View, state_of}
-use Rattle.alta_images.specs.Work.{Job, coming, gone_among, newest, rows_in as level_rows, stays}
+use Rattle.alta_images.specs.Work.{Job, coming, gone_among, newest, level_rows, stays}
 use Rattle.alta_images.specs.Working.{Full, content_to_come, placed, placed_at, rows_of as content_rows, switched}
 use Rattle.alta_images.proofs.JoinLaws.{coming_rows}
 use Rattle.alta_images.proofs.KeptStates.{rows_by_levels, stay_contents}
@@ -47,7 +47,7 @@ use Rattle.alta_meta.specs.declared.document.Document.{Document}
 use Rattle.alta_meta.specs.declared.document.State.{State}
 use Rattle.alta_rewrite.specs.Drafts.{list_of, rewrite_places, segment_of}
 use Rattle.alta_rewrite.specs.Places.{as_list, place_for, places_for}
-use Rattle.alta_rewrite.specs.Rewrites.{Agrees as AgreesWith, HaveRows, IsRewritten, IsRewrittenOpened, MayRewrite, MayRewriteOpened, levels_to_come, rows_to_come, tables_in}
+use Rattle.alta_rewrite.specs.Rewrites.{AgreesWith, HaveRows, IsRewritten, IsRewrittenOpened, MayRewrite, MayRewriteOpened, levels_to_come, rows_to_come, tables_in}
 use Rattle.alta_rewrite.specs.declared.ends.Ends.{Ends}
 use Rattle.alta_rewrite.specs.declared.fault.RewriteFault.{RewriteFault}
 use Rattle.alta_rewrite.specs.declared.fault.RewriteFault.TheVariants as rewrite_faults
@@ -56,6 +56,7 @@ use Rattle.alta_rewrite.specs.declared.rewriting.Rewritten.{Rewritten}
 use Rattle.alta_root.specs.Gaps.{IsLongestGap, first_gap, greatest_gap, taken_by}
 use Rattle.alta_root.specs.declared.root.Root.{Root}
 use Rattle.alta_root.proofs.GapFunctions.{greatest_is}
+use Rattle.alta_rows.specs.All.{rows_of_levels}
 use Rattle.alta_store.specs.Agreement.{Agrees, GoesOnOver, IsIntact, Keeps, Knows, MayGoOn, levels_of}
 use Rattle.alta_store.specs.Answers.{IsOutside, of_rewrite}
 use Rattle.alta_store.specs.Calls.{IsNarrow}
@@ -90,24 +91,18 @@ rows_of_table t = t.documents
 abbrev rows_of_level : Level → List DocRow
 rows_of_level l = l.content.documents
 
-joined : List (List DocRow) → List DocRow
-joined [] = []
-joined (rows ∷ more) = rows ++ joined more
-
-tables_joined : (tables : List Tables) → rows_in tables ≡ joined (map rows_of_table tables)
-unfolding joined
+tables_joined : (tables : List Tables) → table_rows tables ≡ rows_of_levels (map rows_of_table tables)
 tables_joined [] = refl
 tables_joined (t ∷ tables) = ap (λ (rows : List DocRow). t.documents ++ rows) (tables_joined tables)
 
-levels_joined : (levels : List Level) → level_rows levels ≡ joined (map rows_of_level levels)
-unfolding joined
+levels_joined : (levels : List Level) → level_rows levels ≡ rows_of_levels (map rows_of_level levels)
 levels_joined [] = refl
 levels_joined (l ∷ levels) = ap (λ (rows : List DocRow). l.content.documents ++ rows) (levels_joined levels)
 
 -- from an index on, levels with the rows of tables have their rows
-pub rows_from : (n : ℕ) (tables : List Tables) (there : List Level) → map rows_of_table tables ≡ map rows_of_level there → level_rows (drop n there) ≡ rows_in (drop n tables)
+pub rows_from : (n : ℕ) (tables : List Tables) (there : List Level) → map rows_of_table tables ≡ map rows_of_level there → level_rows (drop n there) ≡ table_rows (drop n tables)
 rows_from n tables there same =
-    levels_joined (drop n there) ∙ ap joined (sym (drop-map rows_of_level n there) ∙ ap (drop n) (sym same) ∙ drop-map rows_of_table n tables) ∙ sym (tables_joined (drop n tables))
+    levels_joined (drop n there) ∙ ap rows_of_levels (sym (drop-map rows_of_level n there) ∙ ap (drop n) (sym same) ∙ drop-map rows_of_table n tables) ∙ sym (tables_joined (drop n tables))
 
 tables_rows : (levels : List Level) → map rows_of_table (map tables_by levels) ≡ map rows_of_level levels
 tables_rows [] = refl
@@ -142,16 +137,16 @@ module _ (tells : Type 0) (a : DiskState) (before now : Store) (levels : NextLev
       let keeps = kept before a.content (may.agrees.content told) o is in
       let s = may_be o in
       let view = view_of o there in
-      let rows : level_rows there ≡ rows_in o.levels = rows_from 0 o.levels there have.rows in
+      let rows : level_rows there ≡ table_rows o.levels = rows_from 0 o.levels there have.rows in
       let all : rows_of before ≡ level_rows there ++ map (λ (a : Added). a.row) (newest view) =
-      ap₂ (λ (xs ys : List DocRow). xs ++ ys) (ap rows_in keeps.levels ∙ sym rows) keeps.follows.content.documents in
+      ap₂ (λ (xs ys : List DocRow). xs ++ ys) (ap table_rows keeps.levels ∙ sym rows) keeps.follows.content.documents in
       let some : All (Contains (level_rows there ++ map (λ (a : Added). a.row) (newest view))) coming_rows_are =
       subst (All (Contains (level_rows there ++ map (λ (a : Added). a.row) (newest view)))) (sym may.rows)
       (All-filter may.kept (Contains (level_rows there ++ map (λ (a : Added). a.row) (newest view))) (rows_of before)
       (subst (λ (rs : List DocRow). All (Contains rs) (rows_of before)) all (All-contains_itself (rows_of before)))) in
       let same : coming_rows_are ≡ rows_to_come levels view =
       ap (λ (rs : List DocRow). levels.oldest.documents ++ (rs ++ levels.newest.documents))
-      (ap (λ (ts : List Tables). rows_in (drop levels.stay_from ts)) keeps.levels ∙ sym (rows_from levels.stay_from o.levels there have.rows)) ∙ sym (rows_come levels view) in
+      (ap (λ (ts : List Tables). table_rows (drop levels.stay_from ts)) keeps.levels ∙ sym (rows_from levels.stay_from o.levels there have.rows)) ∙ sym (rows_come levels view) in
       record {
         listed = listed_is ∙ ap (λ (v : Vec ℕ Global). v.items) may.drained.listed ∙ keeps.listed;
         deleted = deleted_before ∙ among_is before.catalog s.0 o a.content there is s.1 (keeps.knows s.0 s.1) keeps.follows keeps.levels rows coming_rows_are some ∙ ap (gone_among view) same;
@@ -314,7 +309,7 @@ none_more : (n : ℕ) → n + 0 ≡ n
 none_more n = omega arith
 
 -- the rows of the levels of a catalog lie below its number and location
-levels_below : (c : Catalog) (s : State) → CatalogKnows c s → All (IsBefore c.next c.location) (rows_in c.levels.items)
+levels_below : (c : Catalog) (s : State) → CatalogKnows c s → All (IsBefore c.next c.location) (table_rows c.levels.items)
 levels_below c s knows =
     subst (All (IsBefore c.next c.location)) knows.rows.rows_are
     (All-map (IsBefore c.next c.location) (λ (a : Added). a.row) knows.olds (all_left (λ (a : Added). IsBefore c.next c.location a.row) knows.olds knows.added knows.behind))
@@ -347,10 +342,10 @@ extents_between oldest newest n tables =
     ∙ ap₂ (λ (xs ys : List Extent). xs ++ ys) (ap (map extent_of) (sym (same_level oldest)))
     (map-append extent_of (drop n tables) (level_in newest) ∙ ap₂ (λ (xs ys : List Extent). xs ++ ys) (sym (drop-map extent_of n tables)) (ap (map extent_of) (sym (same_level newest))))
 
-rows_in_between : (oldest newest : Option Tables) (n : ℕ) (tables : List Tables) → rows_in (tables_between oldest n tables newest) ≡ rows_between (rows_in (level_in oldest)) n tables (rows_in (level_in newest))
+rows_in_between : (oldest newest : Option Tables) (n : ℕ) (tables : List Tables) → table_rows (tables_between oldest n tables newest) ≡ rows_between (table_rows (level_in oldest)) n tables (table_rows (level_in newest))
 rows_in_between oldest newest n tables =
     flat_map-append (λ (t : Tables). t.documents) (level_in oldest) (drop n tables ++ level_in newest)
-    ∙ ap (λ (rows : List DocRow). rows_in (level_in oldest) ++ rows) (flat_map-append (λ (t : Tables). t.documents) (drop n tables) (level_in newest))
+    ∙ ap (λ (rows : List DocRow). table_rows (level_in oldest) ++ rows) (flat_map-append (λ (t : Tables). t.documents) (drop n tables) (level_in newest))
 
 module _ (tells : Type 0) (a b : DiskState) (lawful_a : IsLawful tells a) (lawful_b : IsLawful tells b) (before now : Store) (levels : NextLevels) (may : MayPut tells a before now levels) (prepared : PreparedLevels)
     (is_prepared : IsPrepared now.catalog levels.oldest.documents levels.stay_from levels.newest.documents prepared) (ends : Ends) (listed_is : ends.listed.now ≡ now.listed.items)
@@ -359,23 +354,23 @@ module _ (tells : Type 0) (a b : DiskState) (lawful_a : IsLawful tells a) (lawfu
     (slot_later : later.slot ≡ done.slot) (root_later : later.root ≡ done.root) (listed_later : later.listed.items ≡ ends.deleted.now) (half_later : later.tail.half ≡ half_of done.slot)
     (place_later : later.tail.place ≡ journal_of done.slot) (job_later : later.job ≡ now.job)
     (number_done : done.root.next_number ≡ next) (location_done : done.root.next_location ≡ location)
-    (rows_done : (rows_in (tables_in done.oldest) ≡ levels.oldest.documents) × (rows_in (tables_in done.newest) ≡ levels.newest.documents))
+    (rows_done : (table_rows (tables_in done.oldest) ≡ levels.oldest.documents) × (table_rows (tables_in done.newest) ≡ levels.newest.documents))
     (extents_done : done.root.levels.items ≡ map extent_of (tables_in done.oldest) ++ (drop levels.stay_from now.root.levels.items ++ map extent_of (tables_in done.newest)))
     (none_done : levels.oldest.documents ≡ [] → done.oldest ≡ None) (spared : tells → All (IsSame a.content b.content) now.root.levels.items)
-    (same : (c : Catalog) → (s : State) → (n : ℕ) → IsEmptied c now.catalog → CatalogKnows c s → IsPrepared now.catalog (rows_in (level_in done.oldest)) n (rows_in (level_in done.newest)) prepared → MayReplace c done.oldest n done.newest
+    (same : (c : Catalog) → (s : State) → (n : ℕ) → IsEmptied c now.catalog → CatalogKnows c s → IsPrepared now.catalog (table_rows (level_in done.oldest)) n (table_rows (level_in done.newest)) prepared → MayReplace c done.oldest n done.newest
     → CatalogKnows later.catalog s)
     (levels_are : levels_in later.catalog ≡ tables_between done.oldest (stay_from_of prepared) (levels_in now.catalog) done.newest) (gone_are : gone_of later.catalog ≡ deleted_of prepared)
     (follows : (root : Root) → root.next_number ≡ next_of now.catalog → root.next_location ≡ location_of now.catalog → HasContent [] (memory_of now.catalog).content → Follows later.catalog root []) where
-  prepared_here : IsPrepared now.catalog (rows_in (level_in done.oldest)) levels.stay_from (rows_in (level_in done.newest)) prepared
+  prepared_here : IsPrepared now.catalog (table_rows (level_in done.oldest)) levels.stay_from (table_rows (level_in done.newest)) prepared
   prepared_here =
-      subst (λ (rows : List DocRow). IsPrepared now.catalog rows levels.stay_from (rows_in (level_in done.newest)) prepared) (sym (ap rows_in (sym (same_level done.oldest)) ∙ rows_done.0))
-      (subst (λ (rows : List DocRow). IsPrepared now.catalog levels.oldest.documents levels.stay_from rows prepared) (sym (ap rows_in (sym (same_level done.newest)) ∙ rows_done.1)) is_prepared)
+      subst (λ (rows : List DocRow). IsPrepared now.catalog rows levels.stay_from (table_rows (level_in done.newest)) prepared) (sym (ap table_rows (sym (same_level done.oldest)) ∙ rows_done.0))
+      (subst (λ (rows : List DocRow). IsPrepared now.catalog levels.oldest.documents levels.stay_from rows prepared) (sym (ap table_rows (sym (same_level done.newest)) ∙ rows_done.1)) is_prepared)
 
   replaces : MayReplace before.catalog done.oldest levels.stay_from done.newest
   replaces = record {
     kept = may.kept;
     rows = rows_in_between done.oldest done.newest levels.stay_from (levels_of before)
-        ∙ ap₂ (λ (xs ys : List DocRow). rows_between xs levels.stay_from (levels_of before) ys) (ap rows_in (sym (same_level done.oldest)) ∙ rows_done.0) (ap rows_in (sym (same_level done.newest)) ∙ rows_done.1) ∙ may.rows;
+        ∙ ap₂ (λ (xs ys : List DocRow). rows_between xs levels.stay_from (levels_of before) ys) (ap table_rows (sym (same_level done.oldest)) ∙ rows_done.0) (ap table_rows (sym (same_level done.newest)) ∙ rows_done.1) ∙ may.rows;
     gone = may.gone;
   }
 
@@ -415,11 +410,11 @@ module _ (tells : Type 0) (a b : DiskState) (lawful_a : IsLawful tells a) (lawfu
           let more : levels_of later ≡ levels_of before ++ level_in done.newest =
           levels_then ∙ ap₂ (λ (o : Option Tables) (n : ℕ). tables_between o n (levels_of before) done.newest) (none_done empty) all in
           let oldest : levels_of later ≡ joining.older ∷ joining.newer ∷ (joining.more ++ level_in done.newest) = more ∙ ap (λ (ls : List Tables). ls ++ level_in done.newest) joining.oldest in
-          let rows : rows_between levels.oldest.documents levels.stay_from (levels_of before) levels.newest.documents ≡ rows_in (levels_of before) ++ levels.newest.documents =
+          let rows : rows_between levels.oldest.documents levels.stay_from (levels_of before) levels.newest.documents ≡ table_rows (levels_of before) ++ levels.newest.documents =
           ap₂ (λ (xs : List DocRow) (n : ℕ). rows_between xs n (levels_of before) levels.newest.documents) empty all in
-          let kept : DeadAreGone (gone_of before.catalog) (gone_of later.catalog) (rows_in (levels_of before)) =
-          subst (λ (es : List ℕ). DeadAreGone (gone_of before.catalog) es (rows_in (levels_of before))) (sym (deleted_then ∙ ap (ends_in (gone_of before.catalog)) rows))
-          (all_left (λ (row : DocRow). ends_among (gone_of before.catalog) row ≡ true → ends_among (ends_in (gone_of before.catalog) (rows_in (levels_of before) ++ levels.newest.documents)) row ≡ true) (rows_in (levels_of before)) levels.newest.documents (still_gone (gone_of before.catalog) (rows_in (levels_of before) ++ levels.newest.documents))) in
+          let kept : DeadAreGone (gone_of before.catalog) (gone_of later.catalog) (table_rows (levels_of before)) =
+          subst (λ (es : List ℕ). DeadAreGone (gone_of before.catalog) es (table_rows (levels_of before))) (sym (deleted_then ∙ ap (ends_in (gone_of before.catalog)) rows))
+          (all_left (λ (row : DocRow). ends_among (gone_of before.catalog) row ≡ true → ends_among (ends_in (gone_of before.catalog) (table_rows (levels_of before) ++ levels.newest.documents)) row ≡ true) (table_rows (levels_of before)) levels.newest.documents (still_gone (gone_of before.catalog) (table_rows (levels_of before) ++ levels.newest.documents))) in
           let on = goes_on_over (levels_of before) (levels_of later) (gone_of before.catalog) (gone_of later.catalog) (Some merging) (ap (take 2) oldest ∙ ap (take 2) (sym joining.oldest)) kept joining in (
             on.0,
             λ told.
@@ -438,16 +433,16 @@ module _ (tells : Type 0) (a b : DiskState) (lawful_a : IsLawful tells a) (lawfu
         entries = [];
         follows = follows_then;
         below =
-            subst (λ (n : ℕ). All (λ (row : DocRow). (row.number < n) × (end_of row < later.root.next_location)) (rows_in (levels_of later))) (follows_then.next ∙ none_more later.root.next_number)
-            (subst (λ (n : ℕ). All (λ (row : DocRow). (row.number < later.catalog.next) × (end_of row < n)) (rows_in (levels_of later))) (follows_then.location ∙ none_more later.root.next_location)
+            subst (λ (n : ℕ). All (λ (row : DocRow). (row.number < n) × (end_of row < later.root.next_location)) (table_rows (levels_of later))) (follows_then.next ∙ none_more later.root.next_number)
+            (subst (λ (n : ℕ). All (λ (row : DocRow). (row.number < later.catalog.next) × (end_of row < n)) (table_rows (levels_of later))) (follows_then.location ∙ none_more later.root.next_location)
             (levels_below later.catalog s knows));
-        documents = subst AreDocuments (sym (ap rows_in levels_then ∙ replaces.rows)) (rows_kept may.kept (rows_of before) all_documents);
+        documents = subst AreDocuments (sym (ap table_rows levels_then ∙ replaces.rows)) (rows_kept may.kept (rows_of before) all_documents);
         extents = extents_then;
         joining = going.0;
       }
 
-  module _ (knows_by : (c : Catalog) → (s : State) → (n : ℕ) → (olds : List Added) → IsEmptied c now.catalog → CatalogKnows c s → IsPrepared now.catalog (rows_in (level_in done.oldest)) n (rows_in (level_in done.newest)) prepared
-      → MayReplace c done.oldest n done.newest → AreRowsOf (rows_in (levels_in later.catalog)) olds → KnowsBy later.catalog olds (record { next = s.next; documents = documents_left (deleted_of prepared) olds })) where
+  module _ (knows_by : (c : Catalog) → (s : State) → (n : ℕ) → (olds : List Added) → IsEmptied c now.catalog → CatalogKnows c s → IsPrepared now.catalog (table_rows (level_in done.oldest)) n (table_rows (level_in done.newest)) prepared
+      → MayReplace c done.oldest n done.newest → AreRowsOf (table_rows (levels_in later.catalog)) olds → KnowsBy later.catalog olds (record { next = s.next; documents = documents_left (deleted_of prepared) olds })) where
     keeps_then : (told : tells) (o coming : Opened) → IsOpened o a.content → IsRewrittenOpened a.limit o coming levels ends next location done b.content → Keeps later coming
     unfolding state_with
     keeps_then told o coming is become =
@@ -470,7 +465,7 @@ module _ (tells : Type 0) (a b : DiskState) (lawful_a : IsLawful tells a) (lawfu
               let some : (t : State) × MayBe t o = may_be o in
               let known : Knows before some.0 = (keeps.knows some.0 some.1).0 in
               let olds = here.starts.olds in
-              let rows_are : AreRowsOf (rows_in (levels_in later.catalog)) olds = subst (λ (ls : List Tables). AreRowsOf (rows_in ls) olds) (sym levels_come) here.starts.rows in
+              let rows_are : AreRowsOf (table_rows (levels_in later.catalog)) olds = subst (λ (ls : List Tables). AreRowsOf (table_rows ls) olds) (sym levels_come) here.starts.rows in
               let knows : KnowsBy later.catalog olds (record { next = some.0.next; documents = documents_left (deleted_of prepared) olds }) =
               knows_by before.catalog some.0 levels.stay_from olds may.drained.catalog known prepared_here replaces rows_are in
               let next_comes : some.0.next ≡ coming.root.next_number =

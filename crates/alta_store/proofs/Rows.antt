@@ -13,8 +13,8 @@ use Rattle.alta_content.specs.Rows.{AreDocuments, end_of, ends_among, live_rows,
 use Rattle.alta_content.specs.declared.content.Content.{Content}
 use Rattle.alta_content.specs.declared.document.DocRow.{DocRow}
 use Rattle.alta_images.specs.Levels.{Level}
-use Rattle.alta_images.specs.Opened.{Opened, rows_in, extent_of}
-use Rattle.alta_images.specs.Ordered.{Precedes, RowsRise}
+use Rattle.alta_images.specs.Opened.{Opened, table_rows, extent_of}
+use Rattle.alta_images.specs.Ordered.{Precedes, RowsPrecede}
 use Rattle.alta_images.proofs.KeptStates.{map_filter}
 use Rattle.alta_joins.specs.Jobs.{IsJoining}
 use Rattle.alta_joins.proofs.SpaceLaws.{IsRow, each_row, part_rows, rows_documents}
@@ -67,13 +67,13 @@ module _ (store : Store) (intact : IsIntact store) where
   added_rows =
       map-append (λ (a : Added). a.row) intact.knows.olds intact.knows.added ∙ ap₂ (λ (xs ys : List DocRow). xs ++ ys) intact.knows.rows.rows_are (sym intact.knows.content.documents)
 
-  pub rows_rise : RowsRise (rows_of store)
-  rows_rise = subst RowsRise added_rows (space_precedes (intact.knows.olds ++ intact.knows.added) intact.knows.space)
+  pub rows_rise : RowsPrecede (rows_of store)
+  rows_rise = subst RowsPrecede added_rows (space_precedes (intact.knows.olds ++ intact.knows.added) intact.knows.space)
 
   pub all_documents : AreDocuments (rows_of store)
   all_documents =
       rows_documents (rows_of store)
-      (All-append IsRow (rows_in (levels_of store)) memory_rows (each_row start (rows_in (levels_of store)) intact.documents)
+      (All-append IsRow (table_rows (levels_of store)) memory_rows (each_row start (table_rows (levels_of store)) intact.documents)
       (part_rows (memory_of store.catalog).content (have_part (newest_of store.root intact.entries) (memory_of store.catalog).content intact.follows.content intact.follows.made))) rows_rise
 
   each : All IsRow (rows_of store)
@@ -83,11 +83,11 @@ module _ (store : Store) (intact : IsIntact store) where
   high : All (λ (row : DocRow). store.root.next_location ≤ end_of row) memory_rows
   high =
       let first = newest_behind store.catalog store.root intact.entries intact.follows in
-      let rows = all_right IsRow (rows_in (levels_of store)) memory_rows each in
+      let rows = all_right IsRow (table_rows (levels_of store)) memory_rows each in
       λ k d within. omega (arith, first k d within, (rows k d within).some_cells)
 
-  low : All (λ (row : DocRow). end_of row < store.root.next_location) (rows_in (levels_of store))
-  low = All-weaker (λ (row : DocRow). (row.number < store.root.next_number) × (end_of row < store.root.next_location)) (λ (row : DocRow). end_of row < store.root.next_location) (λ row both. both.1) (rows_in (levels_of store)) intact.below
+  low : All (λ (row : DocRow). end_of row < store.root.next_location) (table_rows (levels_of store))
+  low = All-weaker (λ (row : DocRow). (row.number < store.root.next_number) × (end_of row < store.root.next_location)) (λ (row : DocRow). end_of row < store.root.next_location) (λ row both. both.1) (table_rows (levels_of store)) intact.below
 
   -- ---- all rows of levels stay, and of the newest those that are not gone
 
@@ -105,18 +105,18 @@ module _ (store : Store) (intact : IsIntact store) where
   live_gone [] = All-nil (λ (row : DocRow). is_live row ≡ false → IsGone row)
   live_gone (row ∷ rows) = All-cons (λ (row : DocRow). is_live row ≡ false → IsGone row) row rows (λ e. not_false (ends_among (gone_of store.catalog) row) e) (live_gone rows)
 
-  from_zero : All (λ (row : DocRow). (0 ≤ end_of row) × (end_of row < store.root.next_location)) (rows_in (levels_of store))
-  from_zero = All-weaker (λ (row : DocRow). end_of row < store.root.next_location) (λ (row : DocRow). (0 ≤ end_of row) × (end_of row < store.root.next_location)) (λ row less. (omega arith, less)) (rows_in (levels_of store)) low
+  from_zero : All (λ (row : DocRow). (0 ≤ end_of row) × (end_of row < store.root.next_location)) (table_rows (levels_of store))
+  from_zero = All-weaker (λ (row : DocRow). end_of row < store.root.next_location) (λ (row : DocRow). (0 ≤ end_of row) × (end_of row < store.root.next_location)) (λ row less. (omega arith, less)) (table_rows (levels_of store)) low
 
   abbrev pub flush_kept : DocRow → Bool
   flush_kept = kept_by (λ row. true) is_live 0 store.root.next_location
 
-  pub flush_rows : rows_in (levels_of store) ++ filter is_live memory_rows ≡ filter flush_kept (rows_of store)
-  flush_rows = sym (kept_three (λ row. true) is_live 0 store.root.next_location [] (rows_in (levels_of store)) memory_rows (omega arith) (All-nil (λ (row : DocRow). end_of row < 0)) from_zero high)
+  pub flush_rows : table_rows (levels_of store) ++ filter is_live memory_rows ≡ filter flush_kept (rows_of store)
+  flush_rows = sym (kept_three (λ row. true) is_live 0 store.root.next_location [] (table_rows (levels_of store)) memory_rows (omega arith) (All-nil (λ (row : DocRow). end_of row < 0)) from_zero high)
 
   pub flush_left : All (λ (row : DocRow). flush_kept row ≡ false → IsGone row) (rows_of store)
   flush_left =
-      left_three (λ row. true) is_live 0 store.root.next_location [] (rows_in (levels_of store)) memory_rows (omega arith) (All-nil (λ (row : DocRow). end_of row < 0)) from_zero high IsGone
+      left_three (λ row. true) is_live 0 store.root.next_location [] (table_rows (levels_of store)) memory_rows (omega arith) (All-nil (λ (row : DocRow). end_of row < 0)) from_zero high IsGone
       (All-nil (λ (row : DocRow). true ≡ false → IsGone row)) (live_gone memory_rows)
 
   -- ---- of the two oldest levels those stay that were not dead as a join began
@@ -126,36 +126,36 @@ module _ (store : Store) (intact : IsIntact store) where
     both = joining.older.documents ++ joining.newer.documents
 
     abbrev rest : List DocRow
-    rest = rows_in joining.more
+    rest = table_rows joining.more
 
     split : rows_of store ≡ both ++ (rest ++ memory_rows)
     split =
-        ap (λ (ls : List Tables). rows_in ls ++ memory_rows) joining.oldest
+        ap (λ (ls : List Tables). table_rows ls ++ memory_rows) joining.oldest
         ∙ ap (λ (rows : List DocRow). rows ++ memory_rows) (sym (append_assoc joining.older.documents joining.newer.documents rest)) ∙ append_assoc both rest memory_rows
 
-    levels_split : rows_in (levels_of store) ≡ both ++ rest
-    levels_split = ap rows_in joining.oldest ∙ sym (append_assoc joining.older.documents joining.newer.documents rest)
+    levels_split : table_rows (levels_of store) ≡ both ++ rest
+    levels_split = ap table_rows joining.oldest ∙ sym (append_assoc joining.older.documents joining.newer.documents rest)
 
     -- where the rows of the other levels begin
     pub bound : List DocRow → ℕ
     bound [] = store.root.next_location
     bound (row ∷ rows) = row.first
 
-    before_all : (es : List DocRow) (b : DocRow) (bs : List DocRow) → RowsRise (es ++ (b ∷ bs)) → All (λ (row : DocRow). end_of row < b.first) es
+    before_all : (es : List DocRow) (b : DocRow) (bs : List DocRow) → RowsPrecede (es ++ (b ∷ bs)) → All (λ (row : DocRow). end_of row < b.first) es
     before_all [] b bs rise = All-nil (λ (row : DocRow). end_of row < b.first)
     before_all (a ∷ es) b bs rise =
         All-cons (λ (row : DocRow). end_of row < b.first) a es (All-head (Precedes a) b bs (all_right (Precedes a) es (b ∷ bs) rise.0)).1 (before_all es b bs rise.1)
 
-    rise_right : (es bs : List DocRow) → RowsRise (es ++ bs) → RowsRise bs
+    rise_right : (es bs : List DocRow) → RowsPrecede (es ++ bs) → RowsPrecede bs
     rise_right [] bs rise = rise
     rise_right (a ∷ es) bs rise = rise_right es bs rise.1
 
-    low_both : (bs : List DocRow) → RowsRise (both ++ (bs ++ memory_rows)) → All (λ (row : DocRow). end_of row < store.root.next_location) both → All (λ (row : DocRow). end_of row < bound bs) both
+    low_both : (bs : List DocRow) → RowsPrecede (both ++ (bs ++ memory_rows)) → All (λ (row : DocRow). end_of row < store.root.next_location) both → All (λ (row : DocRow). end_of row < bound bs) both
     unfolding bound
     low_both [] rise below = below
     low_both (b ∷ bs) rise below = before_all both b (bs ++ memory_rows) rise
 
-    between : (bs : List DocRow) → RowsRise bs → All IsRow bs → All (λ (row : DocRow). end_of row < store.root.next_location) bs → All (λ (row : DocRow). (bound bs ≤ end_of row) × (end_of row < store.root.next_location)) bs
+    between : (bs : List DocRow) → RowsPrecede bs → All IsRow bs → All (λ (row : DocRow). end_of row < store.root.next_location) bs → All (λ (row : DocRow). (bound bs ≤ end_of row) × (end_of row < store.root.next_location)) bs
     unfolding bound
     between [] rise rows below = All-nil (λ (row : DocRow). (store.root.next_location ≤ end_of row) × (end_of row < store.root.next_location))
     between (b ∷ bs) rise rows below =
@@ -172,8 +172,8 @@ module _ (store : Store) (intact : IsIntact store) where
     bound_low (b ∷ bs) rows below =
         omega (arith, (All-head IsRow b bs rows).some_cells, All-head (λ (row : DocRow). end_of row < store.root.next_location) b bs below)
 
-    split_rise : RowsRise (both ++ (rest ++ memory_rows))
-    split_rise = subst RowsRise split rows_rise
+    split_rise : RowsPrecede (both ++ (rest ++ memory_rows))
+    split_rise = subst RowsPrecede split rows_rise
 
     split_each : All IsRow (both ++ (rest ++ memory_rows))
     split_each = subst (All IsRow) split each
@@ -187,10 +187,10 @@ module _ (store : Store) (intact : IsIntact store) where
     rest_low : All (λ (row : DocRow). end_of row < store.root.next_location) rest
     rest_low = all_right (λ (row : DocRow). end_of row < store.root.next_location) both rest low_split
 
-    rest_rise : RowsRise rest
+    rest_rise : RowsPrecede rest
     rest_rise = rise_left rest memory_rows (rise_right both (rest ++ memory_rows) split_rise)
       where
-        rise_left : (es bs : List DocRow) → RowsRise (es ++ bs) → RowsRise es
+        rise_left : (es bs : List DocRow) → RowsPrecede (es ++ bs) → RowsPrecede es
         rise_left [] bs rise = tt
         rise_left (a ∷ es) bs rise = (all_left (Precedes a) es bs rise.0, rise_left es bs rise.1)
 

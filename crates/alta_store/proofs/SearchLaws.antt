@@ -9,21 +9,21 @@ use Rattle.alta_content.specs.declared.document.DocRow.{DocRow}
 use Rattle.alta_disk.specs.Disk.{DiskState}
 use Rattle.alta_images.specs.Levels.{documents_of}
 use Rattle.alta_images.specs.Standing.{StandsFor}
-use Rattle.alta_memlevel.specs.Added.{Added, Level}
+use Rattle.alta_memlevel.specs.Added.{Added, LevelView}
 use Rattle.alta_memlevel.specs.Documents.{HasDocuments}
 use Rattle.alta_meta.specs.declared.document.Document.{Document}
 use Rattle.alta_meta.specs.declared.document.State.{State}
 use Rattle.alta_opening.proofs.OpeningLaws.{IsFit, levels_within}
 use Rattle.alta_codec.specs.declared.extent.Extent.{Extent}
 use Rattle.alta_store.specs.Agreement.{Agrees, levels_of}
-use Rattle.alta_store.specs.Searched.{Finds, IsSearched}
+use Rattle.alta_store.specs.Searched.{FindsDocuments, IsSearched}
 use Rattle.alta_store.specs.declared.store.Store.{Store}
 use Rattle.alta_store.proofs.Agreements.{kept, opened_of}
 use Rattle.alta_table.specs.Tables.{Tables, total_of}
 use Rattle.alta_images.specs.Opened.{extent_of}
 
 pub finds : (tells : Type 0) (disk : DiskState) (store : Store) → Agrees tells disk store → (s : State) → tells → StandsFor s disk.content
-    → (levels : List Tables) (newest : Level) (gone : List ℕ) (rows : List DocRow) → IsSearched store levels newest gone rows → Finds levels newest gone s disk.content
+    → (levels : List Tables) (newest : LevelView) (gone : List ℕ) (rows : List DocRow) → IsSearched store levels newest gone rows → FindsDocuments levels newest gone s disk.content
 finds tells disk store agrees s told stands levels newest gone rows searched =
     let keeps = kept store disk.content (agrees.content told) stands.opened (opened_of s disk.content stands) in
     let by = means_by s stands.opened disk.content stands.means in

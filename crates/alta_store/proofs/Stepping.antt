@@ -12,7 +12,7 @@ use Rattle.alta_disk.specs.Calls.{Reads}
 use Rattle.alta_disk.specs.Disk.{DiskState, IsLawful}
 use Rattle.alta_disk.proofs.Moments.{leaves_start}
 use Rattle.alta_images.specs.Holding.{Holding}
-use Rattle.alta_images.specs.Opened.{Opened, IsOpened, rows_in}
+use Rattle.alta_images.specs.Opened.{Opened, IsOpened, table_rows}
 use Rattle.alta_images.specs.Standing.{StandsForEither}
 use Rattle.alta_images.specs.Work.{Job, merges, steps}
 use Rattle.alta_images.specs.Working.{moved, worked}
@@ -27,7 +27,7 @@ use Rattle.alta_joins.specs.Newest.{IsNewest}
 use Rattle.alta_joins.proofs.JoiningLaws.{joining_moved}
 use Rattle.alta_joins.proofs.KeptLaws.{held_is_spaced}
 use Rattle.alta_journal.specs.declared.entry.Entry.{Entry}
-use Rattle.alta_memlevel.specs.Added.{Added, HasContent, IsDocument, IsSpace}
+use Rattle.alta_memlevel.specs.Added.{Added, HasContent, IsInSpace, IsSpace}
 use Rattle.alta_memlevel.specs.Documents.{AreMade, IsBefore, content_of}
 use Rattle.alta_merge.specs.Merging.{Merging}
 use Rattle.alta_rewrite.specs.Rewrites.{Replaces, levels_to_come, no_content}
@@ -208,32 +208,32 @@ newest_behind_levels store intact entries content made newest has_newest =
     added = newest_of store.root entries
 
     from : (location : ℕ) → 1 ≤ location → ((row : DocRow) → (row.number < store.root.next_number) × (end_of row < store.root.next_location) → end_of row < location)
-        → ((x : Added) → IsDocument x × (store.root.next_location ≤ x.row.first) → location ≤ x.row.first) → IsNewest (levels_of store) (gone_of store.catalog) (newest_of store.root entries) newest
+        → ((x : Added) → IsInSpace x × (store.root.next_location ≤ x.row.first) → location ≤ x.row.first) → IsNewest (levels_of store) (gone_of store.catalog) (newest_of store.root entries) newest
     from location located low first = record {
       number = store.root.next_number;
       location = location;
       numbered = omega (arith, intact.knows.from.0, intact.follows.first);
       located = located;
-      behind = All-weaker (λ (row : DocRow). (row.number < store.root.next_number) × (end_of row < store.root.next_location)) (IsBefore store.root.next_number location) (λ row both. (both.0, low row both)) (rows_in (levels_of store)) intact.below;
+      behind = All-weaker (λ (row : DocRow). (row.number < store.root.next_number) × (end_of row < store.root.next_location)) (IsBefore store.root.next_number location) (λ row both. (both.0, low row both)) (table_rows (levels_of store)) intact.below;
       are_added = record {
         space = content.space;
         made = made;
         behind =
             all_both (λ (x : Added). store.root.next_number ≤ x.row.number) (λ (x : Added). location ≤ x.row.first) (newest_of store.root entries) (added_high store.root.next_number store.root.next_location entries)
-            (All-weaker (λ (x : Added). IsDocument x × (store.root.next_location ≤ x.row.first)) (λ (x : Added). location ≤ x.row.first) first (newest_of store.root entries)
-            (all_both IsDocument (λ (x : Added). store.root.next_location ≤ x.row.first) (newest_of store.root entries) (all_space (newest_of store.root entries) content.space)
+            (All-weaker (λ (x : Added). IsInSpace x × (store.root.next_location ≤ x.row.first)) (λ (x : Added). location ≤ x.row.first) first (newest_of store.root entries)
+            (all_both IsInSpace (λ (x : Added). store.root.next_location ≤ x.row.first) (newest_of store.root entries) (all_space (newest_of store.root entries) content.space)
             (added_behind store.root.next_number store.root.next_location entries)));
       };
       content_is = has_newest (newest_of store.root entries) content made;
     }
       where
-        all_space : (xs : List Added) → IsSpace xs → All IsDocument xs
-        all_space [] space = All-nil IsDocument
-        all_space (x ∷ xs) space = All-cons IsDocument x xs space.0 (all_space xs space.3)
+        all_space : (xs : List Added) → IsSpace xs → All IsInSpace xs
+        all_space [] space = All-nil IsInSpace
+        all_space (x ∷ xs) space = All-cons IsInSpace x xs space.0 (all_space xs space.3)
 
 module _ (tells : Type 0) (a b c : DiskState) (lawful_a : IsLawful tells a) (lawful_b : IsLawful tells b) (lawful_c : IsLawful tells c) (store : Store) (agrees : Agrees tells a store)
     (reads : Reads tells (sum_by data_size (levels_of store)) a b) (whole : tells → (place : ℕ) → IsFirstDamage a.content (levels_of store) place → ⊥) (now : Store) (drained : IsDrained store now) (no_job : now.job ≡ None)
-    (oldest newest : Content) (has_newest : HasNewest store newest) (part : IsPart oldest) (no_part : IsPart no_content) (rows_are : oldest.documents ≡ live_rows (gone_of store.catalog) (rows_in (levels_of store) ++ newest.documents))
+    (oldest newest : Content) (has_newest : HasNewest store newest) (part : IsPart oldest) (no_part : IsPart no_content) (rows_are : oldest.documents ≡ live_rows (gone_of store.catalog) (table_rows (levels_of store) ++ newest.documents))
     (levels : NextLevels) (replaces : Replaces levels (length (levels_of store)) oldest no_content)
     (merged : (added : List Added) → IsNewest (levels_of store) (gone_of store.catalog) added newest
     → (contents : List Content) × AreContentsOf (levels_of store) contents × (tells → AreSegmentsOn a.content (levels_of store) contents) × (oldest ≡ joined_in (contents ++ content_of added ∷ []) (gone_of store.catalog))) where

@@ -14,10 +14,10 @@ use Rattle.alta_content.specs.declared.document.DocRow.{DocRow}
 use Rattle.alta_disk.specs.Disk.{DiskState, IsLawful}
 use Rattle.alta_images.specs.Holding.{Holding, IsHeld, IsSpaced}
 use Rattle.alta_images.specs.Levels.{Level}
-use Rattle.alta_images.specs.Opened.{Opened, IsOpened, rows_in, extent_of}
+use Rattle.alta_images.specs.Opened.{Opened, IsOpened, table_rows, extent_of}
 use Rattle.alta_images.specs.Standing.{AreLevels, view_of}
 use Rattle.alta_images.specs.Views.{View}
-use Rattle.alta_images.specs.Work.{anew, coming, gone, newest, newest_content, rows_in as level_rows}
+use Rattle.alta_images.specs.Work.{anew, coming, gone, newest, newest_content, level_rows}
 use Rattle.alta_images.specs.Working.{IsJoin, all_contents, oldest_contents}
 use Rattle.alta_images.proofs.OneState.{one_are}
 use Rattle.alta_joins.specs.Contents.{AreContentsOf, AreSegmentsOn, level_with, levels_with}
@@ -54,7 +54,7 @@ module _ (tells : Type 0) (a : DiskState) (lawful : IsLawful tells a) (store : S
   spaced : (told : tells) (o : Opened) → IsOpened o a.content → (there : List Level) → HaveRows o there → IsSpaced (view_of o there) × (1 ≤ o.root.next_location)
   spaced told o is there have = opened_spaced o there a.content is (content_bytes tells a lawful told) have (kept store a.content (agrees.content told) o is).follows.content.space
 
-  pub there_rows : (o : Opened) (there : List Level) → HaveRows o there → level_rows there ≡ rows_in o.levels
+  pub there_rows : (o : Opened) (there : List Level) → HaveRows o there → level_rows there ≡ table_rows o.levels
   there_rows o there have = rows_from 0 o.levels there have.rows
 
   gone_there : (told : tells) (o : Opened) → IsOpened o a.content → (there : List Level) → HaveRows o there → gone_of store.catalog ≡ gone (view_of o there)
@@ -111,7 +111,7 @@ module _ (tells : Type 0) (a : DiskState) (lawful : IsLawful tells a) (store : S
       rows =
           ap₂ (λ (xs ys : List DocRow). rows_between xs levels.stay_from (levels_of store) ys) (ap (λ (c : Content). c.documents) replaces.oldest_is)
           (ap (λ (c : Content). c.documents) replaces.newest_is ∙ live_newest store agrees.intact newest has_newest)
-          ∙ ap (λ (n : ℕ). rows_in (drop n (levels_of store)) ++ filter (λ (row : DocRow). not (ends_among (gone_of store.catalog) row)) (memory_of store.catalog).content.documents) replaces.stay_from_is ∙ flush_rows store agrees.intact;
+          ∙ ap (λ (n : ℕ). table_rows (drop n (levels_of store)) ++ filter (λ (row : DocRow). not (ends_among (gone_of store.catalog) row)) (memory_of store.catalog).content.documents) replaces.stay_from_is ∙ flush_rows store agrees.intact;
       gone = flush_left store agrees.intact;
       given = λ o told is.
           let have = bare_have store o (kept store a.content (agrees.content told) o is) in
@@ -163,7 +163,7 @@ module _ (tells : Type 0) (a : DiskState) (lawful : IsLawful tells a) (store : S
           ap₂ (λ (xs ys : List DocRow). rows_between xs levels.stay_from (levels_of store) ys)
           (ap (λ (c : Content). c.documents) (replaces.oldest_is ∙ oldest_is) ∙ joining_rows (levels_of store) (gone_of store.catalog) merging joining)
           (ap (λ (c : Content). c.documents) replaces.newest_is ∙ live_newest store agrees.intact newest has_newest)
-          ∙ ap₂ (λ (n : ℕ) (ls : List Tables). live_rows joining.job.dead (joining.older.documents ++ joining.newer.documents) ++ (rows_in (drop n ls) ++ filter (λ (row : DocRow). not (ends_among (gone_of store.catalog) row)) (memory_of store.catalog).content.documents)) replaces.stay_from_is joining.oldest
+          ∙ ap₂ (λ (n : ℕ) (ls : List Tables). live_rows joining.job.dead (joining.older.documents ++ joining.newer.documents) ++ (table_rows (drop n ls) ++ filter (λ (row : DocRow). not (ends_among (gone_of store.catalog) row)) (memory_of store.catalog).content.documents)) replaces.stay_from_is joining.oldest
           ∙ join_rows store agrees.intact merging joining;
       gone = join_left store agrees.intact merging joining;
       given = λ o told is.
@@ -188,7 +188,7 @@ module _ (tells : Type 0) (a : DiskState) (lawful : IsLawful tells a) (store : S
   -- ---- the join of all comes in place of all
 
   module _ (now : Store) (drained : IsDrained store now) (no_job : now.job ≡ None) (oldest newest : Content) (has_newest : HasNewest store newest) (part : IsPart oldest) (no_part : IsPart no_content)
-      (rows_are : oldest.documents ≡ live_rows (gone_of store.catalog) (rows_in (levels_of store) ++ newest.documents)) (levels : NextLevels) (replaces : Replaces levels (length (levels_of store)) oldest no_content)
+      (rows_are : oldest.documents ≡ live_rows (gone_of store.catalog) (table_rows (levels_of store) ++ newest.documents)) (levels : NextLevels) (replaces : Replaces levels (length (levels_of store)) oldest no_content)
       (merged : (added : List Added) → HasContent added (memory_of store.catalog).content → AreMade added → (o : Opened) → tells → IsOpened o a.content → newest_of o.root o.entries ≡ added
       → (contents : List Content) × AreContentsOf (levels_of store) contents × (tells → AreSegmentsOn a.content (levels_of store) contents) × (oldest ≡ joined_in (contents ++ content_of added ∷ []) (gone_of store.catalog))) where
     -- an image that was read whole is held
@@ -238,10 +238,10 @@ module _ (tells : Type 0) (a : DiskState) (lawful : IsLawful tells a) (store : S
       kept = λ row. not (ends_among (gone_of store.catalog) row);
       rows =
           ap₂ (λ (xs ys : List DocRow). rows_between xs levels.stay_from (levels_of store) ys) (ap (λ (c : Content). c.documents) replaces.oldest_is ∙ rows_are) (ap (λ (c : Content). c.documents) replaces.newest_is)
-          ∙ ap (λ (ls : List Tables). live_rows (gone_of store.catalog) (rows_in (levels_of store) ++ newest.documents) ++ (rows_in ls ++ [])) (ap (λ (n : ℕ). drop n (levels_of store)) replaces.stay_from_is ∙ drop-length (levels_of store))
-          ∙ append-nil (live_rows (gone_of store.catalog) (rows_in (levels_of store) ++ newest.documents))
-          ∙ ap (λ (rows : List DocRow). live_rows (gone_of store.catalog) (rows_in (levels_of store) ++ rows)) (live_newest store agrees.intact newest has_newest)
-          ∙ live_twice store (rows_in (levels_of store)) (memory_of store.catalog).content.documents;
+          ∙ ap (λ (ls : List Tables). live_rows (gone_of store.catalog) (table_rows (levels_of store) ++ newest.documents) ++ (table_rows ls ++ [])) (ap (λ (n : ℕ). drop n (levels_of store)) replaces.stay_from_is ∙ drop-length (levels_of store))
+          ∙ append-nil (live_rows (gone_of store.catalog) (table_rows (levels_of store) ++ newest.documents))
+          ∙ ap (λ (rows : List DocRow). live_rows (gone_of store.catalog) (table_rows (levels_of store) ++ rows)) (live_newest store agrees.intact newest has_newest)
+          ∙ live_twice store (table_rows (levels_of store)) (memory_of store.catalog).content.documents;
       gone = merge_left store agrees.intact;
       given = λ o told is. let f = found told o is in (f.0, f.3, given_all told o is);
       goes_on = inl no_job;

@@ -5,7 +5,7 @@ use Rattle.alta_content.specs.Rows.{AreDocuments, end_of}
 use Rattle.alta_content.specs.declared.document.DocRow.{DocRow}
 use Rattle.alta_disk.specs.Disk.{DiskState, Only}
 use Rattle.alta_images.specs.Holding.{Holding, IsHeld, IsWell}
-use Rattle.alta_images.specs.Opened.{Opened, IsOpened, half_of, rows_in, extent_of}
+use Rattle.alta_images.specs.Opened.{Opened, IsOpened, half_of, table_rows, extent_of}
 use Rattle.alta_images.specs.Work.{Job}
 use Rattle.alta_joins.specs.Jobs.{AreJoinedOn, IsJoining, IsMerging}
 use Rattle.alta_journal.specs.Places.{left_behind, start_of}
@@ -62,8 +62,8 @@ pub record IsIntact (store : Store) : Type 0 where
   pub knows : Knows store state
   pub entries : List Entry
   pub follows : Follows store.catalog store.root entries
-  pub below : All (λ (row : DocRow). (row.number < store.root.next_number) × (end_of row < store.root.next_location)) (rows_in (levels_of store))
-  pub documents : AreDocuments (rows_in (levels_of store))
+  pub below : All (λ (row : DocRow). (row.number < store.root.next_number) × (end_of row < store.root.next_location)) (table_rows (levels_of store))
+  pub documents : AreDocuments (table_rows (levels_of store))
   pub extents : map extent_of (levels_of store) ≡ store.root.levels.items
   pub joining : MayGoOn (levels_of store) (gone_of store.catalog) store.job
 

@@ -147,7 +147,7 @@ abbrev pub IsCause : (StoreFault → Type 0) → StoreFault → Type 0
 IsCause refuses e = IsOutside e ⊎ (refuses e ⊎ (((need : ℕ) × (gap : ℕ) × (e ≡ faults.Full need gap)) ⊎ ((place : ℕ) × (e ≡ faults.Damaged place))))
 
 -- Damage is answered exactly where one of these levels is damaged, with the first; that yields to an outside cause and to a refusal.
-pub record Finds {T : Type 0} (refuses : StoreFault → Type 0) (image : List ℕ) (levels : List Tables) (result : Result T StoreFault) : Type 0 where
+pub record FindsFirstDamage {T : Type 0} (refuses : StoreFault → Type 0) (image : List ℕ) (levels : List Tables) (result : Result T StoreFault) : Type 0 where
   pub first : (place : ℕ) → result ≡ Err (faults.Damaged place) → IsFirstDamage image levels place
   pub broken : (place : ℕ) → result ≡ Err (faults.Damaged place) → IsBrokenAmong levels image place
   pub damaged : (place : ℕ) → IsFirstDamage image levels place → IfOk result (λ x. ⊥) × IfErr result (λ e. (e ≡ faults.Damaged place) ⊎ (IsOutside e ⊎ refuses e))
@@ -170,7 +170,7 @@ pub record Changes {T : Type 0} (tells : Type 0) (work : ℕ → Holding → Res
   pub becomes : (o : Opened) → tells → IsOpened o before.content → OnOk result ((p : Opened) × turns before.limit o p × IsOpened p after.content × Keeps later p)
   -- each error comes from its cause
   pub narrow : (need gap : ℕ) → tells → result ≡ Err (faults.Full need gap) → IsNarrow before.limit after.content need gap
-  pub damage : tells → Finds refuses before.content joins result
+  pub damage : tells → FindsFirstDamage refuses before.content joins result
   pub undamaged : (s : State) → tells → StandsFor s before.content → (place : ℕ) → result ≡ Err (faults.Damaged place) → ⊥
   pub unread : tells → joins ≡ [] → (place : ℕ) → result ≡ Err (faults.Damaged place) → ⊥
   pub still : tells → (place : ℕ) → result ≡ Err (faults.Damaged place) → after.content ≡ before.content

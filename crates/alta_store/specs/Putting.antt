@@ -12,19 +12,19 @@ use Rattle.alta_disk.specs.Calls.{Costs, Reads}
 use Rattle.alta_disk.specs.Disk.{DiskState, LeavesOnly, Passes}
 use Rattle.alta_images.specs.Holding.{Holding, IsHeld}
 use Rattle.alta_images.specs.Levels.{Level}
-use Rattle.alta_images.specs.Opened.{Opened, IsOpened, rows_in}
+use Rattle.alta_images.specs.Opened.{Opened, IsOpened, table_rows}
 use Rattle.alta_images.specs.Standing.{StandsFor, view_of}
 use Rattle.alta_images.specs.Views.{View, state_of}
 use Rattle.alta_images.specs.Work.{Job, coming}
 use Rattle.alta_images.specs.Working.{switched}
 use Rattle.alta_joins.specs.Contents.{AreSegmentsOn, data_size}
 use Rattle.alta_meta.specs.declared.document.State.{State}
-use Rattle.alta_rewrite.specs.Rewrites.{Agrees as AgreesWith, HaveRows, IsComing, IsGiven, levels_to_come}
+use Rattle.alta_rewrite.specs.Rewrites.{AgreesWith, HaveRows, IsComing, IsGiven, levels_to_come}
 use Rattle.alta_rewrite.specs.declared.ends.Ends.{Ends}
 use Rattle.alta_rewrite.specs.declared.levels.NextLevels.{NextLevels}
 use Rattle.alta_store.specs.Agreement.{Agrees, Keeps, Knows, levels_of}
 use Rattle.alta_store.specs.Answers.{IsOutside}
-use Rattle.alta_store.specs.Calls.{Finds, IsNarrow, NoRefusal}
+use Rattle.alta_store.specs.Calls.{FindsFirstDamage, IsNarrow, NoRefusal}
 use Rattle.alta_store.specs.declared.fault.StoreFault.{StoreFault}
 use Rattle.alta_store.specs.declared.fault.StoreFault.TheVariants as faults
 use Rattle.alta_store.specs.declared.store.Store.{Store}
@@ -34,7 +34,7 @@ use Rattle.alta_table.specs.Tables.{Tables}
 
 -- It writes nothing, and reads no more than the lists of these levels. Damage is that of these levels.
 pub record ReadsLevels {T : Type 0} (tells : Type 0) (levels : List Tables) (before after : DiskState) (result : Result T StoreFault) : Type 0 where
-  pub damage : tells → Finds NoRefusal before.content levels result
+  pub damage : tells → FindsFirstDamage NoRefusal before.content levels result
   pub whole : (contents : List Content) (place : ℕ) → tells → AreSegmentsOn before.content levels contents → result ≡ Err (faults.Damaged place) → ⊥
   pub unread : tells → levels ≡ [] → (place : ℕ) → result ≡ Err (faults.Damaged place) → ⊥
   pub only : IfErr result (λ e. IsOutside e ⊎ ((place : ℕ) × (e ≡ faults.Damaged place)))
@@ -54,7 +54,7 @@ pub record IsDrained (before now : Store) : Type 0 where
 
 -- all rows of the catalog: of its levels and of its newest documents
 abbrev pub rows_of : Store → List DocRow
-rows_of store = rows_in (levels_of store) ++ (memory_of store.catalog).content.documents
+rows_of store = table_rows (levels_of store) ++ (memory_of store.catalog).content.documents
 
 -- A root may be switched to these levels, for whatever ends, number and location agree with a view.
 abbrev pub IsGivenBy : View → NextLevels → Type 0

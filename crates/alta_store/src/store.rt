@@ -11,7 +11,7 @@ ghost use Rattle.alta_content.specs.Rows.{AreDocuments};
 ghost use Rattle.alta_disk.specs.Disk.{DiskState, Same, Only, Passes};
 ghost use Rattle.alta_images.specs.Broken.{IsBrokenAt};
 ghost use Rattle.alta_images.specs.Entries.{AllowsAll, IsRefusedAt, after_entries, entries_in};
-ghost use Rattle.alta_images.specs.Opened.{Opened, IsOpened, half_of, have_ends, journal_of, known_at, live_in, rows_in};
+ghost use Rattle.alta_images.specs.Opened.{Opened, IsOpened, half_of, have_ends, journal_of, known_at, live_in, table_rows};
 ghost use Rattle.alta_images.specs.Ordered.{AreBelow, IsOrdered};
 ghost use Rattle.alta_images.specs.States.{has_name, has_number, number_of, words_in, with_added, with_deleted, without, IsDocument};
 ghost use Rattle.alta_images.specs.Work.{enters, flushes, merges, steps};
@@ -589,7 +589,7 @@ impl Store {
     // The join of the two oldest levels that goes on, taken out, or one that begins.
     fn take_join<D: Disk>(&mut self, disk: &mut D) -> Result<Job, StoreFault>
         requires two { 2 ≤ length (levels_of self.old) }
-        requires documents { AreDocuments (rows_in (levels_of self.old)) }
+        requires documents { AreDocuments (table_rows (levels_of self.old)) }
         requires stands { D.tells → All (StandsOn (D.state disk.old).content) (levels_of self.old) }
         ensures goes_on { (merging : Merging) → self.old.job ≡ Some merging → result ≡ Ok merging }
         ensures begins { self.old.job ≡ None → IfOk result (λ job. (joining : IsJoining (levels_of self.old) (gone_of self.old.catalog) job) × IsBegun joining
@@ -610,7 +610,7 @@ impl Store {
     // What the join of the two oldest levels comes to.
     fn join_oldest<D: Disk>(&mut self, disk: &mut D) -> Result<Content, StoreFault>
         requires two { 2 ≤ length (levels_of self.old) }
-        requires documents { AreDocuments (rows_in (levels_of self.old)) }
+        requires documents { AreDocuments (table_rows (levels_of self.old)) }
         requires stands { D.tells → All (StandsOn (D.state disk.old).content) (levels_of self.old) }
         ensures goes_on { (merging : Merging) → self.old.job ≡ Some merging → IfOk result (λ content. content ≡ merging.whole) }
         ensures begins { self.old.job ≡ None → IfOk result (λ content. (merging : Merging) × (joining : IsJoining (levels_of self.old) (gone_of self.old.catalog) merging) × IsBegun joining
@@ -794,12 +794,12 @@ fn catalog_of(
     found: &[Placed],
 ) -> Result<Catalog, CatalogFault>
     requires sound { (size : ℕ) × IsSound size root.now }
-    requires rows { AreDocuments (rows_in levels.items) }
-    requires below { AreBelow root.now (rows_in levels.items) }
+    requires rows { AreDocuments (table_rows levels.items) }
+    requires below { AreBelow root.now (table_rows levels.items) }
     requires rising { IsRising deleted.now }
     requires ends { have_ends levels.items deleted.now ≡ true }
     requires ordered { IsOrdered (known_at root.now deleted.now levels.items) }
-    requires names { AreNames names (live_in deleted.now (rows_in levels.items)) }
+    requires names { AreNames names (live_in deleted.now (table_rows levels.items)) }
     requires entries { All (λ p. MayBeRecorded p.entry) found.now }
     ensures knows { (s : State) → (may : MayStart s root.now deleted.now levels.items)
         → IfOk result (λ catalog. AllowsAll s (entries_in found.now) × KnowsBy catalog may.olds (after_entries s (entries_in found.now))) }

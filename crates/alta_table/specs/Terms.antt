@@ -7,7 +7,7 @@ use Rattle.alta_codec.specs.Order.{Precedes}
 use Rattle.alta_content.specs.Lists.{is_kind}
 use Rattle.alta_format.specs.Format.{Format, packed, ends, number_field, text_field, Repeats, repeated}
 use Rattle.alta_table.specs.declared.term.TermRow.{TermRow}
-use Rattle.alta_table.specs.declared.terms.Entry.{Entry}
+use Rattle.alta_table.specs.declared.terms.TermFields.{TermFields}
 
 abbrev pub terms_of : List TermRow → List (List ℕ)
 terms_of rows = map (λ row. row.term) rows
@@ -37,7 +37,7 @@ abbrev pub HasEnd : List TermRow → Type 0
 HasEnd rows = IsTrue (list_any is_end rows)
 
 -- the row of these fields, behind one of the term `before`
-abbrev pub entry_row : List ℕ → Entry → TermRow
+abbrev pub entry_row : List ℕ → TermFields → TermRow
 entry_row before entry = record { term = take entry.shared before ++ entry.rest.now; count = entry.count; stream = entry.stream; summary = entry.summary }
 
 -- ---- the rules, each of one field

@@ -27,7 +27,7 @@ pub struct TermPart {
 /// The fields of a row: how many bytes its term shares with the one before, the rest of the term, at how many locations
 /// it stands, and the bytes of its stream and its summary.
 #[derive(Clone, Copy, Drop)]
-pub struct Entry<'a> {
+pub struct TermFields<'a> {
     pub shared: usize,
     pub rest: &'a [u8],
     pub count: u64,
@@ -73,7 +73,7 @@ fn entry_at<'a>(
     before: &[u8],
     room: u64,
     bytes: &'a [u8],
-) -> Result<(Entry<'a>, &'a [u8]), ReadFault>
+) -> Result<(TermFields<'a>, &'a [u8]), ReadFault>
     requires { length before.now ≤ LONGEST }
     ensures gives { Gives (λ x. (entry_row before.now x.0, x.1.now)) result (read (term_format (record { term = before.now; room = room })) bytes.now) }
     ensures shared { IfOk result (λ x. x.0.shared ≤ length before.now) }
@@ -106,7 +106,7 @@ fn entry_at<'a>(
         return Err(ReadFault::Broken(behind_stream.len()));
     }
     Ok((
-        Entry {
+        TermFields {
             shared,
             rest,
             count,

@@ -6,13 +6,13 @@ use Rattle.alta_codec.specs.declared.location.TheConstants.{TOP}
 use Rattle.alta_codec.specs.Rising.{IsRising, first_from, pred_of, count_from}
 use Rattle.alta_codec.proofs.ByIndex.{first_from-at, next_at, within_at, at_place, before_at, pred_of-at, pred_of-at_start, below_up_to}
 use Rattle.alta_codec.proofs.Places.{move_falls}
-use Rattle.alta_postings.specs.Deltas.{BeginsBlock, Spells, locations_of, list_from, stream_bytes}
+use Rattle.alta_postings.specs.Deltas.{BeginsBlock, Spells, decoded_list, list_from, stream_bytes}
 use Rattle.alta_summary.specs.Table.{field_at}
 use Rattle.alta_words.specs.Word.{IsPosting, HoldsBlock}
 
-pub row_within : (stream summary : List ℕ) (b row : ℕ) → IsPosting stream summary b → row < b → 64 * row < length (locations_of stream)
+pub row_within : (stream summary : List ℕ) (b row : ℕ) → IsPosting stream summary b → row < b → 64 * row < length (decoded_list stream)
 row_within stream summary b row p l =
-    ⊎_elim (λ short. absurd (omega (arith, p.short (omega arith)))) (λ ge. omega (arith, p.long (omega arith))) (cases_lt (length (locations_of stream)) 65)
+    ⊎_elim (λ short. absurd (omega (arith, p.short (omega arith)))) (λ ge. omega (arith, p.long (omega arith))) (cases_lt (length (decoded_list stream)) 65)
 
 -- the location before a block that is not the first
 before_block : (list : List ℕ) (k : ℕ) → 0 < k → get_or (0 ∷ list) k 0 ≡ get_or list (k - 1) 0
@@ -20,9 +20,9 @@ before_block list zero h = absurd (omega arith)
 before_block list (suc k) h = let e : k ≡ suc k - 1 = omega arith in ap (λ i. get_or list i 0) e
 
 pub row_begins : (stream summary : List ℕ) (b row place before : ℕ) → IsPosting stream summary b → row < b → place ≡ field_at summary (3 * row + 2)
-    → (row ≡ 0 → before ≡ 0) → (0 < row → before ≡ field_at summary (3 * (row - 1) + 1)) → BeginsBlock (locations_of stream) row place before
+    → (row ≡ 0 → before ≡ 0) → (0 < row → before ≡ field_at summary (3 * (row - 1) + 1)) → BeginsBlock (decoded_list stream) row place before
 row_begins stream summary b row place before p l e first later =
-    let list = locations_of stream in
+    let list = decoded_list stream in
     let w = row_within stream summary b row p l in
     record {
       within = w;
@@ -51,9 +51,9 @@ pub block_size : (list block : List ℕ) (row index before : ℕ) → HoldsBlock
 block_size list block row index before h = ap length h.here ∙ length-take 64 (drop (64 * row) list) ∙ ap (λ n. min 64 n) (length-drop (64 * row) list)
 
 -- the rows of a posting cover its list
-pub last_block : (stream summary : List ℕ) (b row : ℕ) → IsPosting stream summary b → b ≤ row + 1 → length (locations_of stream) ≤ 64 * row + 64
+pub last_block : (stream summary : List ℕ) (b row : ℕ) → IsPosting stream summary b → b ≤ row + 1 → length (decoded_list stream) ≤ 64 * row + 64
 last_block stream summary b row p l =
-    ⊎_elim (λ short. omega arith) (λ ge. omega (arith, p.long (omega arith))) (cases_lt (length (locations_of stream)) 65)
+    ⊎_elim (λ short. omega arith) (λ ge. omega (arith, p.long (omega arith))) (cases_lt (length (decoded_list stream)) 65)
 
 module _ (list block : List ℕ) (row index before : ℕ) (h : HoldsBlock list block row index before) where
   pub elem : (j : ℕ) → j < length block → get_or block j 0 ≡ get_or list (64 * row + j) 0
@@ -148,9 +148,9 @@ module _ (list block : List ℕ) (row index before : ℕ) (h : HoldsBlock list b
 
 -- rows before one that reaches a place
 pub rows_below : (stream summary : List ℕ) (b row to : ℕ) → IsPosting stream summary b → row < b → ((i : ℕ) → i < row → field_at summary (3 * i + 1) < to)
-    → (k : ℕ) → k < 64 * row → get_or (locations_of stream) k 0 < to
+    → (k : ℕ) → k < 64 * row → get_or (decoded_list stream) k 0 < to
 rows_below stream summary b row to p l before k lt =
-    let list = locations_of stream in
+    let list = decoded_list stream in
     let i = row - 1 in
     let w = row_within stream summary b row p l in
     let e : min (64 * i + 63) (length list - 1) ≡ 64 * row - 1 = omega arith in
@@ -158,10 +158,10 @@ rows_below stream summary b row to p l before k lt =
     below_up_to list (64 * row - 1) to p.spelled.rising (omega arith) low k (omega arith)
 
 -- the last of a row's block
-pub row_last : (stream summary block : List ℕ) (b row index before : ℕ) → IsPosting stream summary b → row < b → HoldsBlock (locations_of stream) block row index before
+pub row_last : (stream summary block : List ℕ) (b row index before : ℕ) → IsPosting stream summary b → row < b → HoldsBlock (decoded_list stream) block row index before
     → (0 < length block) × (get_or block (length block - 1) 0 ≡ field_at summary (3 * row + 1))
 row_last stream summary block b row index before p l h =
-    let list = locations_of stream in
+    let list = decoded_list stream in
     let w = row_within stream summary b row p l in
     let size = block_size list block row index before h in
     let e : 64 * row + (length block - 1) ≡ min (64 * row + 63) (length list - 1) = omega (arith, size) in
@@ -217,20 +217,20 @@ last_of list r =
     ⊎_elim (λ z. let e : length list ≡ 0 = omega arith in ap (λ i. get_or (0 ∷ list) i 0) e ∙ last_none list r e)
     (λ some. before_block list (length list) some ∙ last_is list r some) (cases_lt (length list) 1)
 
-pub last_by_row : (stream summary : List ℕ) (b : ℕ) → IsPosting stream summary b → 0 < b → field_at summary (3 * (b - 1) + 1) ≡ pred_of (locations_of stream) TOP
+pub last_by_row : (stream summary : List ℕ) (b : ℕ) → IsPosting stream summary b → 0 < b → field_at summary (3 * (b - 1) + 1) ≡ pred_of (decoded_list stream) TOP
 last_by_row stream summary b p some =
-    let list = locations_of stream in
+    let list = decoded_list stream in
     let w = row_within stream summary b (b - 1) p (omega arith) in
     let full = last_block stream summary b (b - 1) p (omega arith) in
     let e : min (64 * (b - 1) + 63) (length list - 1) ≡ length list - 1 = omega arith in
     (p.rows (b - 1) (omega arith)).last ∙ ap (λ i. get_or list i 0) e ∙ last_is list p.spelled.rising (omega arith)
 
 -- a list with no summary is the held block
-pub only_block : (stream summary block : List ℕ) (b row index before : ℕ) → IsPosting stream summary b → HoldsBlock (locations_of stream) block row index before → b ≡ 0
-    → (row ≡ 0) × (length block ≡ length (locations_of stream))
+pub only_block : (stream summary block : List ℕ) (b row index before : ℕ) → IsPosting stream summary b → HoldsBlock (decoded_list stream) block row index before → b ≡ 0
+    → (row ≡ 0) × (length block ≡ length (decoded_list stream))
 only_block stream summary block b row index before p h z =
-    let size = block_size (locations_of stream) block row index before h in
-    let few : length (locations_of stream) ≤ 64 = ⊎_elim (λ l. omega arith) (λ g. omega (arith, p.long (omega arith))) (cases_lt (length (locations_of stream)) 65) in
+    let size = block_size (decoded_list stream) block row index before h in
+    let few : length (decoded_list stream) ≤ 64 = ⊎_elim (λ l. omega arith) (λ g. omega (arith, p.long (omega arith))) (cases_lt (length (decoded_list stream)) 65) in
     ⊎_elim (λ l. (omega arith, omega (arith, size))) (λ g. absurd (omega (arith, h.row_in (omega arith)))) (cases_lt row 1)
 
 -- the first block
@@ -238,8 +238,8 @@ empty_is : (xs : List ℕ) → length xs ≡ 0 → xs ≡ []
 empty_is [] z = refl
 empty_is (x ∷ xs) z = absurd (omega arith)
 
-no_locations : (bs : List ℕ) → length bs ≡ 0 → length (locations_of bs) ≡ 0
-unfolding locations_of list_from
+no_locations : (bs : List ℕ) → length bs ≡ 0 → length (decoded_list bs) ≡ 0
+unfolding decoded_list list_from
 no_locations [] z = refl
 no_locations (b ∷ bs) z = absurd (omega arith)
 
@@ -255,13 +255,13 @@ first_begins bs xs s l = let some = some_location bs xs s.spelled l in record { 
 pub holds_first : (bs xs block : List ℕ) → Spells bs xs → 0 < length bs → block ≡ take 64 (drop (64 * 0) xs) → HoldsBlock xs block 0 0 0
 holds_first bs xs block s l e = holds_start xs block 0 0 0 s.rising (first_begins bs xs s l) e
 
-pub holds_none : (bs block : List ℕ) → Spells bs (locations_of bs) → length bs ≡ 0 → block ≡ [] → HoldsBlock (locations_of bs) block 0 0 0
+pub holds_none : (bs block : List ℕ) → Spells bs (decoded_list bs) → length bs ≡ 0 → block ≡ [] → HoldsBlock (decoded_list bs) block 0 0 0
 holds_none bs block s z e =
     let none = no_locations bs z in
-    let size : length (take 64 (locations_of bs)) ≡ 0 = omega (arith, length-take 64 (locations_of bs), none) in
+    let size : length (take 64 (decoded_list bs)) ≡ 0 = omega (arith, length-take 64 (decoded_list bs), none) in
     record {
       rising = s.rising;
-      here = e ∙ sym (empty_is (take 64 (locations_of bs)) size);
+      here = e ∙ sym (empty_is (take 64 (decoded_list bs)) size);
       row_in = λ h. absurd (omega arith);
       index_in = omega arith;
       before_is = refl;

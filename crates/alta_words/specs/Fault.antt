@@ -1,7 +1,7 @@
 -- Why a stream and a summary do not belong together.
 use Rattle.std.specs.Prelude.{◌≡◌, ◌⊎◌, ℕ, ◌+◌, ◌*◌, ◌<◌, List, length, Some}
 use Rattle.alta_postings.specs.declared.fault.StreamCause.{StreamCause}
-use Rattle.alta_postings.specs.Deltas.{Spells, fault_at, first_fault, locations_of}
+use Rattle.alta_postings.specs.Deltas.{Spells, fault_at, first_fault, decoded_list}
 use Rattle.alta_summary.specs.Table.{field_at, IsSummary, IsFault}
 use Rattle.alta_words.specs.declared.checking.PostingFault.{PostingFault}
 use Rattle.alta_words.specs.declared.checking.PostingFault.TheVariants as wrong
@@ -16,16 +16,16 @@ pub record Agrees (list summary : List ℕ) (b i : ℕ) : Type 0 where
 -- Row i is the first that is not the block of that number, or one of the two is missing. The empty summary agrees with
 -- one block or none.
 pub record IsFirstDifferent (stream summary : List ℕ) (b i : ℕ) : Type 0 where
-  pub spelled : Spells stream (locations_of stream)
+  pub spelled : Spells stream (decoded_list stream)
   pub table : IsSummary summary b
-  pub many : b ≡ 0 → 64 < length (locations_of stream)
-  pub before : (j : ℕ) → j < i → Agrees (locations_of stream) summary b j
-  pub differs : Agrees (locations_of stream) summary b i → ⊥
+  pub many : b ≡ 0 → 64 < length (decoded_list stream)
+  pub before : (j : ℕ) → j < i → Agrees (decoded_list stream) summary b j
+  pub differs : Agrees (decoded_list stream) summary b i → ⊥
 
 -- the stream's own fault, else the summary's, else the first row that differs
 abbrev pub IsPostingFault : List ℕ → List ℕ → PostingFault → Type 0
 IsPostingFault stream summary (wrong.Stream place) = (why : StreamCause) × (first_fault stream ≡ Some (fault_at place why))
-IsPostingFault stream summary (wrong.Summary place) = Spells stream (locations_of stream) × IsFault summary place
+IsPostingFault stream summary (wrong.Summary place) = Spells stream (decoded_list stream) × IsFault summary place
 IsPostingFault stream summary (wrong.Differ row) = (b : ℕ) × IsFirstDifferent stream summary b row
 
 -- row i has these values

@@ -3,20 +3,20 @@ use Rattle.std.specs.Prelude.{◌≡◌, ℕ, ◌+◌, ◌*◌, List, slice_inde
 use Rattle.alta_codec.specs.declared.location.TheConstants.{TOP}
 use Rattle.alta_codec.specs.Rising.{IsRising, IsPlace, pred_of}
 use Rattle.alta_codec.proofs.ByIndex.{at_place}
-use Rattle.alta_postings.specs.Deltas.{locations_of}
+use Rattle.alta_postings.specs.Deltas.{decoded_list}
 use Rattle.alta_words.specs.declared.word.WordReader.{WordReader}
 use Rattle.alta_words.specs.Word.{IsPosting, HoldsBlock}
 
 abbrev pub word_list : WordReader → List ℕ
-word_list s = locations_of s.stream
+word_list s = decoded_list s.stream
 
 abbrev pub word_place : WordReader → ℕ
-word_place s = slice_index_or (locations_of s.stream) (64 * s.row + s.index) TOP
+word_place s = slice_index_or (decoded_list s.stream) (64 * s.row + s.index) TOP
 
 -- the reader is at a block of the list, and keeps where it stands and the list's last location
 abbrev pub IsSoundWord : WordReader → Type 0
 IsSoundWord s =
-    IsPosting s.stream s.summary.bytes s.summary.count × HoldsBlock (locations_of s.stream) s.block.items s.row s.index s.before
+    IsPosting s.stream s.summary.bytes s.summary.count × HoldsBlock (decoded_list s.stream) s.block.items s.row s.index s.before
     × (s.at ≡ word_place s) × (s.end ≡ pred_of (word_list s) TOP)
 
 pub word_rises : (s : WordReader) → IsSoundWord s → IsRising (word_list s)

@@ -1,7 +1,7 @@
 -- A coded list: its stream and its summary agree, and one block of it is held.
 use Rattle.std.specs.Prelude.{◌≡◌, ℕ, ◌+◌, ◌-◌, ◌*◌, ◌/◌, ◌<◌, ◌≤◌, min, List, ◌∷◌, length, take, drop, slice_index}
 use Rattle.alta_codec.specs.Rising.{IsRising}
-use Rattle.alta_postings.specs.Deltas.{Spells, stream_bytes, locations_of}
+use Rattle.alta_postings.specs.Deltas.{Spells, stream_bytes, decoded_list}
 use Rattle.alta_summary.specs.Table.{field_at, IsSummary}
 
 -- row i of the summary is block i of the list
@@ -12,11 +12,11 @@ pub record IsRowOf (list summary : List ℕ) (i : ℕ) : Type 0 where
 
 -- a summary of b rows belongs to the stream; a list of one block has none
 pub record IsPosting (stream summary : List ℕ) (b : ℕ) : Type 0 where
-  pub spelled : Spells stream (locations_of stream)
+  pub spelled : Spells stream (decoded_list stream)
   pub table : IsSummary summary b
-  pub short : length (locations_of stream) ≤ 64 → b ≡ 0
-  pub long : 64 < length (locations_of stream) → b ≡ (length (locations_of stream) + 63) / 64
-  pub rows : (i : ℕ) → i < b → IsRowOf (locations_of stream) summary i
+  pub short : length (decoded_list stream) ≤ 64 → b ≡ 0
+  pub long : 64 < length (decoded_list stream) → b ≡ (length (decoded_list stream) + 63) / 64
+  pub rows : (i : ℕ) → i < b → IsRowOf (decoded_list stream) summary i
 
 -- block `row` of the list is held, and the reader stands at `index` in it
 pub record HoldsBlock (list block : List ℕ) (row index before : ℕ) : Type 0 where

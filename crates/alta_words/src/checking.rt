@@ -1,6 +1,6 @@
 // Whether a stream and a summary belong together, in one pass over each.
 ghost use Rattle.std.specs.Prelude.{IfOk, IfErr};
-ghost use Rattle.alta_postings.specs.Deltas.{locations_of};
+ghost use Rattle.alta_postings.specs.Deltas.{decoded_list};
 ghost use Rattle.alta_summary.specs.Table.{IsFault};
 ghost use Rattle.alta_words.specs.Fault.{IsPostingFault};
 ghost use Rattle.alta_words.specs.Word.{IsPosting, HasBounds};
@@ -36,7 +36,7 @@ pub struct Bounds {
 // Reads the stream block by block, beside the rows of the summary.
 fn compare(stream: &[u8], table: &Summary<'_>) -> Result<Bounds, PostingFault>
     ensures posting { IfOk result (λ bounds. IsPosting stream.now table.now.bytes bounds.rows) }
-    ensures bounds { IfOk result (λ bounds. HasBounds (locations_of stream.now) bounds.count bounds.first bounds.last) }
+    ensures bounds { IfOk result (λ bounds. HasBounds (decoded_list stream.now) bounds.count bounds.first bounds.last) }
     ensures fault { IfErr result (λ fault. IsPostingFault stream.now table.now.bytes fault) }
 {
     let mut read = Compared::none();
@@ -65,7 +65,7 @@ pub fn summary_fault(stream: &[u8], summary: &[u8], place: usize) -> PostingFaul
 /// differs.
 pub fn check(stream: &[u8], summary: &[u8]) -> Result<Bounds, PostingFault>
     ensures posting { IfOk result (λ bounds. IsPosting stream.now summary.now bounds.rows) }
-    ensures bounds { IfOk result (λ bounds. HasBounds (locations_of stream.now) bounds.count bounds.first bounds.last) }
+    ensures bounds { IfOk result (λ bounds. HasBounds (decoded_list stream.now) bounds.count bounds.first bounds.last) }
     ensures fault { IfErr result (λ fault. IsPostingFault stream.now summary.now fault) }
 {
     match Summary::open(summary) {

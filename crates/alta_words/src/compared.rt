@@ -1,6 +1,6 @@
 // How far a stream was read beside the rows of its summary.
 ghost use Rattle.std.specs.Prelude.{◌≡◌, ◌↔◌, ℕ, ◌+◌, ◌<◌, ◌≤◌, List, length, IfOk, IfErr, IsTrue};
-ghost use Rattle.alta_postings.specs.Deltas.{IsBlockRead, locations_of};
+ghost use Rattle.alta_postings.specs.Deltas.{IsBlockRead, decoded_list};
 ghost use Rattle.alta_words.specs.Compared.{IsComparedTo};
 ghost use Rattle.alta_words.specs.Fault.{IsPostingFault, IsSameAfter, AreAllSame};
 ghost use Rattle.alta_words.specs.Word.{IsPosting, HasBounds};
@@ -110,7 +110,7 @@ impl Compared {
         requires read { IsComparedTo stream.now table.now.bytes table.now.count self }
         requires end { length stream.now ≤ self.at }
         ensures posting { IfOk result (λ bounds. IsPosting stream.now table.now.bytes bounds.rows) }
-        ensures bounds { IfOk result (λ bounds. HasBounds (locations_of stream.now) bounds.count bounds.first bounds.last) }
+        ensures bounds { IfOk result (λ bounds. HasBounds (decoded_list stream.now) bounds.count bounds.first bounds.last) }
         ensures fault { IfErr result (λ fault. IsPostingFault stream.now table.now.bytes fault) }
     {
         let rows = table.rows();

@@ -2,7 +2,7 @@
 ghost use Rattle.std.specs.Prelude.{◌≡◌, ℕ, ◌+◌, List, length, slice_index, IfOk, IfErr, IsOk};
 ghost use Rattle.alta_codec.specs.Rising.{first_from, pred_of};
 ghost use Rattle.alta_codec.specs.declared.location.TheConstants.{TOP};
-ghost use Rattle.alta_postings.specs.Deltas.{locations_of};
+ghost use Rattle.alta_postings.specs.Deltas.{decoded_list};
 ghost use Rattle.alta_words.specs.Fault.{IsPostingFault};
 ghost use Rattle.alta_words.specs.Word.{IsPosting, HasBounds};
 
@@ -29,9 +29,9 @@ pub struct Posting {
 impl Model for Posting {
     ghost Value = { List ℕ };
 
-    ghost view = { λ p. locations_of p.stream.items };
+    ghost view = { λ p. decoded_list p.stream.items };
 
-    ghost invariant = { λ p. IsPosting p.stream.items p.summary.items p.rows × HasBounds (locations_of p.stream.items) p.count p.first p.last };
+    ghost invariant = { λ p. IsPosting p.stream.items p.summary.items p.rows × HasBounds (decoded_list p.stream.items) p.count p.first p.last };
 }
 
 impl Posting {
@@ -41,7 +41,7 @@ impl Posting {
     /// least number at which the row is not the block, or one of the two is missing. A stream of at most one block
     /// agrees with the empty summary.
     pub fn check(stream: Vec<u8>, summary: Vec<u8>) -> Result<Posting, PostingFault>
-        ensures list { IfOk result (λ posting. posting ≡ locations_of stream.items) }
+        ensures list { IfOk result (λ posting. posting ≡ decoded_list stream.items) }
         ensures agrees { IsOk result → (b : ℕ) × IsPosting stream.items summary.items b }
         ensures never { (b : ℕ) → IsPosting stream.items summary.items b → IsOk result }
         ensures fault { IfErr result (λ fault. IsPostingFault stream.items summary.items fault) }
@@ -55,8 +55,8 @@ impl Posting {
     /// A stream and its summary that were tested, with the bounds that were found. It reads neither.
     pub fn of(stream: Vec<u8>, summary: Vec<u8>, bounds: Bounds) -> Posting
         requires agrees { IsPosting stream.items summary.items bounds.rows }
-        requires bounds { HasBounds (locations_of stream.items) bounds.count bounds.first bounds.last }
-        ensures { result ≡ locations_of stream.items }
+        requires bounds { HasBounds (decoded_list stream.items) bounds.count bounds.first bounds.last }
+        ensures { result ≡ decoded_list stream.items }
     {
         Posting {
             stream,

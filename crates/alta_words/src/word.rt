@@ -2,7 +2,7 @@
 ghost use Rattle.std.specs.Prelude.{◌≡◌, refl, ℕ, ◌+◌, ◌-◌, ◌*◌, ◌<◌, ◌≤◌, List, ◌∷◌, length, slice_index, slice_index_or};
 ghost use Rattle.alta_codec.specs.Rising.{IsRising, first_from, pred_of, count_from};
 ghost use Rattle.alta_codec.specs.declared.location.TheConstants.{TOP};
-ghost use Rattle.alta_postings.specs.Deltas.{locations_of};
+ghost use Rattle.alta_postings.specs.Deltas.{decoded_list};
 ghost use Rattle.alta_summary.specs.Table.{field_at};
 ghost use Rattle.alta_words.specs.Held.{IsSoundWord, word_list, word_place, word_rises, word_stands};
 ghost use Rattle.alta_words.specs.Word.{IsPosting, HoldsBlock};
@@ -31,7 +31,7 @@ pub struct WordReader<'a> {
 
 /// The first block of a list, none where the list is empty. It adds one step.
 fn first_block<L: Ledger>(stream: &Stream<'_>, steps: &mut Steps<L>) -> ArrayVec<u64, 64>
-    ensures holds { HoldsBlock (locations_of stream.now) result.items 0 0 0 }
+    ensures holds { HoldsBlock (decoded_list stream.now) result.items 0 0 0 }
     ensures steps { steps.new ≡ steps.old + 1 }
 {
     let mut block = ArrayVec::new();
@@ -64,10 +64,10 @@ impl<'a> WordReader<'a> {
     ) -> WordReader<'a>
         requires { IsPosting stream summary.bytes summary.count }
         ensures sound { ⟦<WordReader<'a> as Reader>⟧.sound result }
-        ensures list { ⟦<WordReader<'a> as Reader>⟧.list result ≡ locations_of stream.entry }
-        ensures all { ⟦<WordReader<'a> as Reader>⟧.all result ≡ locations_of stream.entry }
-        ensures unmoved { ⟦<WordReader<'a> as Reader>⟧.location result ≡ first_from (locations_of stream.entry) 0 }
-        ensures left { ⟦<WordReader<'a> as Reader>⟧.left result ≡ length (locations_of stream.entry) }
+        ensures list { ⟦<WordReader<'a> as Reader>⟧.list result ≡ decoded_list stream.entry }
+        ensures all { ⟦<WordReader<'a> as Reader>⟧.all result ≡ decoded_list stream.entry }
+        ensures unmoved { ⟦<WordReader<'a> as Reader>⟧.location result ≡ first_from (decoded_list stream.entry) 0 }
+        ensures left { ⟦<WordReader<'a> as Reader>⟧.left result ≡ length (decoded_list stream.entry) }
         ensures steps { steps.new ≡ steps.old + 1 }
     {
         let block = first_block(&stream, steps);
@@ -97,7 +97,7 @@ impl<'a> WordReader<'a> {
     /// The greatest location of the list, read from the last row, or from the only block.
     fn list_last(&self) -> Loc
         requires posting { IsPosting self.now.stream self.now.summary.bytes self.now.summary.count }
-        requires holds { HoldsBlock (locations_of self.now.stream) self.now.block.items self.now.row self.now.index self.now.before }
+        requires holds { HoldsBlock (decoded_list self.now.stream) self.now.block.items self.now.row self.now.index self.now.before }
         ensures { result ≡ pred_of (word_list self.now) TOP }
     {
         let rows = self.summary.rows();
@@ -113,7 +113,7 @@ impl<'a> WordReader<'a> {
 
     /// The location at the index in the block, `TOP` behind the last block.
     fn here(&self) -> Loc
-        requires { HoldsBlock (locations_of self.now.stream) self.now.block.items self.now.row self.now.index self.now.before }
+        requires { HoldsBlock (decoded_list self.now.stream) self.now.block.items self.now.row self.now.index self.now.before }
         ensures { result ≡ word_place self.now }
     {
         if self.index < self.block.len() {
@@ -132,7 +132,7 @@ impl<'a> WordReader<'a> {
         ensures end { self.new.end ≡ self.old.end }
         ensures row { self.new.row ≡ row }
         ensures index { self.new.index ≡ 0 }
-        ensures holds { HoldsBlock (locations_of self.old.stream) self.new.block.items row 0 self.new.before }
+        ensures holds { HoldsBlock (decoded_list self.old.stream) self.new.block.items row 0 self.new.before }
         ensures steps { steps.new ≡ steps.old + 1 }
     {
         let place = self.summary.row(row).place as usize;
@@ -147,14 +147,14 @@ impl<'a> WordReader<'a> {
     #[inline(always)]
     fn go_next<L: Ledger>(&mut self, steps: &mut Steps<L>) -> Loc
         requires posting { IsPosting self.old.stream self.old.summary.bytes self.old.summary.count }
-        requires holds { HoldsBlock (locations_of self.old.stream) self.old.block.items self.old.row self.old.index self.old.before }
-        requires below { slice_index_or (locations_of self.old.stream) (64 * self.old.row + self.old.index) TOP < TOP }
+        requires holds { HoldsBlock (decoded_list self.old.stream) self.old.block.items self.old.row self.old.index self.old.before }
+        requires below { slice_index_or (decoded_list self.old.stream) (64 * self.old.row + self.old.index) TOP < TOP }
         ensures stream { self.new.stream ≡ self.old.stream }
         ensures summary { self.new.summary ≡ self.old.summary }
         ensures end { self.new.end ≡ self.old.end }
-        ensures holds { HoldsBlock (locations_of self.old.stream) self.new.block.items self.new.row self.new.index self.new.before }
+        ensures holds { HoldsBlock (decoded_list self.old.stream) self.new.block.items self.new.row self.new.index self.new.before }
         ensures place { 64 * self.new.row + self.new.index ≡ 64 * self.old.row + self.old.index + 1 }
-        ensures here { result ≡ slice_index_or (locations_of self.old.stream) (64 * self.new.row + self.new.index) TOP }
+        ensures here { result ≡ slice_index_or (decoded_list self.old.stream) (64 * self.new.row + self.new.index) TOP }
         ensures steps { steps.new ≡ steps.old + 1 }
     {
         let index = self.index + 1;
@@ -171,12 +171,12 @@ impl<'a> WordReader<'a> {
     #[inline(never)]
     fn leave_block<L: Ledger>(&mut self, steps: &mut Steps<L>)
         requires posting { IsPosting self.old.stream self.old.summary.bytes self.old.summary.count }
-        requires holds { HoldsBlock (locations_of self.old.stream) self.old.block.items self.old.row self.old.index self.old.before }
+        requires holds { HoldsBlock (decoded_list self.old.stream) self.old.block.items self.old.row self.old.index self.old.before }
         requires last { self.old.index + 1 ≡ length self.old.block.items }
         ensures stream { self.new.stream ≡ self.old.stream }
         ensures summary { self.new.summary ≡ self.old.summary }
         ensures end { self.new.end ≡ self.old.end }
-        ensures holds { HoldsBlock (locations_of self.old.stream) self.new.block.items self.new.row self.new.index self.new.before }
+        ensures holds { HoldsBlock (decoded_list self.old.stream) self.new.block.items self.new.row self.new.index self.new.before }
         ensures place { 64 * self.new.row + self.new.index ≡ 64 * self.old.row + self.old.index + 1 }
         ensures steps { steps.new ≡ steps.old + 1 }
     {
@@ -193,15 +193,15 @@ impl<'a> WordReader<'a> {
     #[inline(always)]
     fn go_seek<L: Ledger>(&mut self, to: Loc, steps: &mut Steps<L>)
         requires posting { IsPosting self.old.stream self.old.summary.bytes self.old.summary.count }
-        requires holds { HoldsBlock (locations_of self.old.stream) self.old.block.items self.old.row self.old.index self.old.before }
-        requires end { self.old.end ≡ pred_of (locations_of self.old.stream) TOP }
-        requires above { slice_index_or (locations_of self.old.stream) (64 * self.old.row + self.old.index) TOP < to }
+        requires holds { HoldsBlock (decoded_list self.old.stream) self.old.block.items self.old.row self.old.index self.old.before }
+        requires end { self.old.end ≡ pred_of (decoded_list self.old.stream) TOP }
+        requires above { slice_index_or (decoded_list self.old.stream) (64 * self.old.row + self.old.index) TOP < to }
         requires top { to ≤ TOP }
         ensures stream { self.new.stream ≡ self.old.stream }
         ensures summary { self.new.summary ≡ self.old.summary }
         ensures end { self.new.end ≡ self.old.end }
-        ensures holds { HoldsBlock (locations_of self.old.stream) self.new.block.items self.new.row self.new.index self.new.before }
-        ensures place { slice_index_or (locations_of self.old.stream) (64 * self.new.row + self.new.index) TOP ≡ first_from (locations_of self.old.stream) to }
+        ensures holds { HoldsBlock (decoded_list self.old.stream) self.new.block.items self.new.row self.new.index self.new.before }
+        ensures place { slice_index_or (decoded_list self.old.stream) (64 * self.new.row + self.new.index) TOP ≡ first_from (decoded_list self.old.stream) to }
         ensures steps { steps.new ≡ steps.old + 1 }
     {
         let next = self.index + 1;
@@ -220,15 +220,15 @@ impl<'a> WordReader<'a> {
     #[inline(never)]
     fn go_far<L: Ledger>(&mut self, to: Loc, steps: &mut Steps<L>)
         requires posting { IsPosting self.old.stream self.old.summary.bytes self.old.summary.count }
-        requires holds { HoldsBlock (locations_of self.old.stream) self.old.block.items self.old.row self.old.index self.old.before }
-        requires end { self.old.end ≡ pred_of (locations_of self.old.stream) TOP }
-        requires above { slice_index_or (locations_of self.old.stream) (64 * self.old.row + self.old.index) TOP < to }
+        requires holds { HoldsBlock (decoded_list self.old.stream) self.old.block.items self.old.row self.old.index self.old.before }
+        requires end { self.old.end ≡ pred_of (decoded_list self.old.stream) TOP }
+        requires above { slice_index_or (decoded_list self.old.stream) (64 * self.old.row + self.old.index) TOP < to }
         requires top { to ≤ TOP }
         ensures stream { self.new.stream ≡ self.old.stream }
         ensures summary { self.new.summary ≡ self.old.summary }
         ensures end { self.new.end ≡ self.old.end }
-        ensures holds { HoldsBlock (locations_of self.old.stream) self.new.block.items self.new.row self.new.index self.new.before }
-        ensures place { slice_index_or (locations_of self.old.stream) (64 * self.new.row + self.new.index) TOP ≡ first_from (locations_of self.old.stream) to }
+        ensures holds { HoldsBlock (decoded_list self.old.stream) self.new.block.items self.new.row self.new.index self.new.before }
+        ensures place { slice_index_or (decoded_list self.old.stream) (64 * self.new.row + self.new.index) TOP ≡ first_from (decoded_list self.old.stream) to }
         ensures steps { steps.new ≡ steps.old + 1 }
     {
         let held = self.block.len();

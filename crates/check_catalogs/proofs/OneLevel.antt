@@ -13,7 +13,7 @@ use Rattle.std.proofs.lemmas.List.Elements.{All-cons, All-nil}
 use Rattle.alta_content.specs.Rows.{AreDocuments, IsPlaced, RowsRise, end_of}
 use Rattle.alta_content.specs.declared.document.DocRow.{DocRow}
 use Rattle.alta_content.proofs.Contents.{rows_rise}
-use Rattle.alta_images.specs.Opened.{live_in, rows_in}
+use Rattle.alta_images.specs.Opened.{live_in, table_rows}
 use Rattle.alta_images.proofs.NameLaws.{bytes_eq-swap}
 use Rattle.alta_table.specs.Tables.{Tables}
 use Rattle.alta_catalog.specs.Names.{AreNames}
@@ -24,9 +24,9 @@ none_known names empty q = ap (λ (es : List (String Global × ℕ)). lookup (is
 -- a map of the name of one row
 pub one_name : (old new : BTreeMap (String Global) ℕ) (row : DocRow) (name : List ℕ) → IsEmpty old → name ≡ row.name
     → ((q : List ℕ) → get_by_text new q ≡ update bytes_eq (get_by_text old) name (Some row.number) q)
-    → (level : Tables) → level.documents ≡ row ∷ [] → (levels : List Tables) → levels ≡ level ∷ [] → AreNames new (live_in [] (rows_in levels))
+    → (level : Tables) → level.documents ≡ row ∷ [] → (levels : List Tables) → levels ≡ level ∷ [] → AreNames new (live_in [] (table_rows levels))
 one_name old new row name empty is noted level rows levels are =
-    subst (λ (ls : List Tables). AreNames new (live_in [] (rows_in ls))) (sym are)
+    subst (λ (ls : List Tables). AreNames new (live_in [] (table_rows ls))) (sym are)
     (subst (λ (rs : List DocRow). AreNames new (live_in [] rs)) (sym (ap (λ (rs : List DocRow). rs ++ []) rows))
     (λ q. noted q ∙ ap (λ (b : Bool). cond b (Some row.number) (get_by_text old q)) (ap (λ (n : List ℕ). bytes_eq n q) is ∙ bytes_eq-swap row.name q)
     ∙ ap (cond (bytes_eq q row.name) (Some row.number)) (none_known old empty q)))
@@ -43,16 +43,16 @@ placed_one rows row alone are = let rise : RowsRise (row ∷ []) = subst RowsRis
 
 -- a row behind the one of a level
 pub one_behind : (levels : List Tables) (level : Tables) (first : DocRow) (rows : List DocRow) (row : DocRow) → levels ≡ level ∷ [] → level.documents ≡ first ∷ [] → rows ≡ row ∷ []
-    → AreDocuments level.documents → AreDocuments rows → end_of first < row.first → RowsRise (rows_in levels ++ rows)
+    → AreDocuments level.documents → AreDocuments rows → end_of first < row.first → RowsRise (table_rows levels ++ rows)
 one_behind levels level first rows row one only alone stand are less =
     let front : RowsRise (first ∷ []) = subst RowsRise only (rows_rise level.documents stand) in
     let back : RowsRise (row ∷ []) = subst RowsRise alone (rows_rise rows are) in
-    let is : rows_in levels ++ rows ≡ first ∷ row ∷ [] =
-    ap (λ (ls : List Tables). rows_in ls ++ rows) one ∙ ap (λ (rs : List DocRow). (rs ++ []) ++ rows) only ∙ ap (λ (rs : List DocRow). first ∷ rs) alone in
+    let is : table_rows levels ++ rows ≡ first ∷ row ∷ [] =
+    ap (λ (ls : List Tables). table_rows ls ++ rows) one ∙ ap (λ (rs : List DocRow). (rs ++ []) ++ rows) only ∙ ap (λ (rs : List DocRow). first ∷ rs) alone in
     subst RowsRise (sym is) (front.0, All-cons (λ (r : DocRow). end_of first < r.first) row [] less (All-nil (λ (r : DocRow). end_of first < r.first)), back)
 
 -- rows in place of those of all levels
-pub all_replaced : (levels : List Tables) (n : ℕ) (rows : List DocRow) → n ≡ length levels → AreDocuments rows → RowsRise (rows ++ (rows_in (drop n levels) ++ []))
+pub all_replaced : (levels : List Tables) (n : ℕ) (rows : List DocRow) → n ≡ length levels → AreDocuments rows → RowsRise (rows ++ (table_rows (drop n levels) ++ []))
 all_replaced levels n rows is are =
     let none : drop n levels ≡ [] = ap (λ (k : ℕ). drop k levels) is ∙ drop-length levels in
-    subst RowsRise (sym (ap (λ (ls : List Tables). rows ++ (rows_in ls ++ [])) none ∙ append-nil rows)) (rows_rise rows are)
+    subst RowsRise (sym (ap (λ (ls : List Tables). rows ++ (table_rows ls ++ [])) none ∙ append-nil rows)) (rows_rise rows are)

@@ -3,7 +3,7 @@ ghost use Rattle.std.specs.Prelude.{◌≤◌, All, IfOk};
 ghost use Rattle.alta_content.specs.Parts.{IsPart, MayJoin};
 ghost use Rattle.alta_content.specs.Rows.{AreDocuments};
 ghost use Rattle.alta_disk.specs.Memory.{memory_state};
-ghost use Rattle.alta_images.specs.Opened.{rows_in};
+ghost use Rattle.alta_images.specs.Opened.{table_rows};
 ghost use Rattle.alta_images.specs.Ordered.{AreBelow};
 ghost use Rattle.alta_joins.specs.Contents.{StandsOn};
 
@@ -78,8 +78,8 @@ struct Opening {
 // A disk whose calls with these numbers, from 1, fail.
 fn opened(alloc: Global, image: Vec<u8>, fail: Vec<u64>) -> Result<Opening, JoinFault>
     ensures stand { IfOk result (λ o. All (StandsOn (memory_state o.disk).content) o.found.levels.items) }
-    ensures documents { IfOk result (λ o. AreDocuments (rows_in o.found.levels.items)) }
-    ensures below { IfOk result (λ o. AreBelow o.root (rows_in o.found.levels.items)) }
+    ensures documents { IfOk result (λ o. AreDocuments (table_rows o.found.levels.items)) }
+    ensures below { IfOk result (λ o. AreBelow o.root (table_rows o.found.levels.items)) }
     ensures positive { IfOk result (λ o. (1 ≤ o.root.next_number) × (1 ≤ o.root.next_location)) }
 {
     read_levels_are_opened();

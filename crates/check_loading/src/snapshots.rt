@@ -4,7 +4,7 @@ ghost use Rattle.alta_codec.specs.Rising.{IsRising};
 ghost use Rattle.alta_compile.specs.View.{tree};
 ghost use Rattle.alta_compound.specs.Unions.{RisesAbove};
 ghost use Rattle.alta_content.specs.Rows.{end_of};
-ghost use Rattle.alta_images.specs.Ordered.{RowsRise};
+ghost use Rattle.alta_images.specs.Ordered.{RowsPrecede};
 ghost use Rattle.alta_loading.specs.Lists.{LiesWithin};
 ghost use Rattle.alta_loading.specs.Snapshots.{all_rows};
 ghost use Rattle.alta_search.specs.Newest.{HasAdded};
@@ -107,7 +107,7 @@ fn rows_of(alloc: Global, levels: &[Table], newest: &MemLevel) -> Result<Vec<Doc
 fn rise(number: u64, end: u64, rows: &[DocRow]) -> bool
     ensures numbers { IsTrue result → All (λ r. number < r.number) rows.now }
     ensures firsts { IsTrue result → All (λ r. end < r.first) rows.now }
-    ensures rows { IsTrue result → RowsRise rows.now }
+    ensures rows { IsTrue result → RowsPrecede rows.now }
     ensures ends { IsTrue result → RisesAbove end (map end_of rows.now) }
 {
     match rows {
@@ -127,7 +127,7 @@ fn rise(number: u64, end: u64, rows: &[DocRow]) -> bool
 // The same rows to be read, where they rise.
 fn shared(alloc: Global, rows: Vec<DocRow>) -> Result<AllRows, Fail>
     ensures rows { IfOk result (λ all. all ≡ rows.items) }
-    ensures rise { OnOk result (RowsRise rows.items) }
+    ensures rise { OnOk result (RowsPrecede rows.items) }
 {
     if !rise(0, 0, &rows) {
         return Err(Fail::new("rows that do not rise"));

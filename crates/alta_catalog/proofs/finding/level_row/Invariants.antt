@@ -1,7 +1,7 @@
 use Rattle.std.proofs.Common.{take}
 use Rattle.alta_catalog.specs.Finding.{AreOther}
-use Rattle.alta_images.specs.Opened.{rows_in}
+use Rattle.alta_images.specs.Opened.{table_rows}
 use Rattle.alta_catalog.proofs.finding.level_row.Given as goal
 
 abbrev pub invariant-loop-level : goal.invariant-loop-level
-invariant-loop-level l = AreOther l.number (rows_in (take l.level-index l.levels))
+invariant-loop-level l = AreOther l.number (table_rows (take l.level-index l.levels))

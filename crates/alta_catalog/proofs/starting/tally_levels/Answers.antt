@@ -1,7 +1,7 @@
 use Rattle.std.proofs.Common.{◌++◌, List, ap, arith, subst, sym, take}
 use Rattle.alta_content.specs.Rows.{AreDocuments}
 use Rattle.alta_content.specs.declared.document.DocRow.{DocRow}
-use Rattle.alta_images.specs.Opened.{rows_in}
+use Rattle.alta_images.specs.Opened.{table_rows}
 use Rattle.alta_catalog.specs.Counting.{IsTally, cells_in}
 use Rattle.alta_catalog.proofs.FindingLaws.{rows_taken}
 use Rattle.alta_catalog.proofs.TallyLaws.{level_cells, tally_level}
@@ -28,8 +28,8 @@ loop-level-preserved c =
     record {
       counted =
           tally_level levels i level c.loop-level-test.true c.level-item.is c.args.gone.now c.tally_rows-tally.result
-          (subst (λ (rows : List DocRow). IsTally c.args.gone.now (rows_in (take i levels) ++ rows) c.tally_rows-tally.result) c.documents.ensures.rows
-          (c.tally_rows-tally.ensures.tally (rows_in (take i levels)) c.loop-level.invariant.counted));
+          (subst (λ (rows : List DocRow). IsTally c.args.gone.now (table_rows (take i levels) ++ rows) c.tally_rows-tally.result) c.documents.ensures.rows
+          (c.tally_rows-tally.ensures.tally (table_rows (take i levels)) c.loop-level.invariant.counted));
       documents = omega (arith, next, same, c.loop-level.invariant.documents, c.tally_rows-tally.ensures.documents);
       words = omega (arith, next, same, c.loop-level.invariant.words, c.tally_rows-tally.ensures.words);
     }

@@ -1,5 +1,5 @@
 use Rattle.std.proofs.Common.{Err, ◌∙◌, sym, subst, refl}
-use Rattle.alta_postings.specs.Deltas.{locations_of}
+use Rattle.alta_postings.specs.Deltas.{decoded_list}
 use Rattle.alta_words.specs.declared.checking.Bounds.{Bounds}
 use Rattle.alta_table.specs.declared.fault.LevelFault.{LevelFault}
 use Rattle.alta_table.specs.Answers.{IfDamaged}
@@ -12,17 +12,17 @@ pub returns-then-walked-list-clause-first : goal.returns-then-walked-list-clause
 returns-then-walked-list-clause-first c =
     let s = stored_of c.args.list.now in
     subst (λ (e : LevelFault). IfDamaged {X = Bounds} (Err e) (IsListFault c.args.documents.now s)) (sym c.misfit.ensures)
-    (list_misfits c.args.documents.now s (locations_of s.stream) (c.in-Ok.walked.bounds.rows, c.in-Ok.ensures.posting) refl (λ f. c.if-walked-list.true (c.in-Ok.ensures.bounds.counted ∙ f.counted)))
+    (list_misfits c.args.documents.now s (decoded_list s.stream) (c.in-Ok.walked.bounds.rows, c.in-Ok.ensures.posting) refl (λ f. c.if-walked-list.true (c.in-Ok.ensures.bounds.counted ∙ f.counted)))
 
 pub returns-then-walked-clause-whole : goal.returns-then-walked-clause-whole
 returns-then-walked-clause-whole c =
     let s = stored_of c.args.list.now in
-    list_found c.args.documents.now s (locations_of s.stream) c.in-Ok.ensures.coded refl
-    (row_fits c.args.documents.now c.is_end_term-ends.result s.term (locations_of s.stream) s.count c.is_end_term-ends.ensures (c.in-Ok.ensures.fits.0 c.if-walked.true) (sym c.in-Ok.ensures.bounds.counted ∙ c.if-walked-list.false))
+    list_found c.args.documents.now s (decoded_list s.stream) c.in-Ok.ensures.coded refl
+    (row_fits c.args.documents.now c.is_end_term-ends.result s.term (decoded_list s.stream) s.count c.is_end_term-ends.ensures (c.in-Ok.ensures.fits.0 c.if-walked.true) (sym c.in-Ok.ensures.bounds.counted ∙ c.if-walked-list.false))
 
 pub returns-else-walked-clause-first : goal.returns-else-walked-clause-first
 returns-else-walked-clause-first c =
     let s = stored_of c.args.list.now in
     subst (λ (e : LevelFault). IfDamaged {X = Bounds} (Err e) (IsListFault c.args.documents.now s)) (sym c.misfit-else-walked.ensures)
-    (list_misfits c.args.documents.now s (locations_of s.stream) (c.in-Ok.walked.bounds.rows, c.in-Ok.ensures.posting) refl
-    (λ f. let t = c.in-Ok.ensures.fits.1 (fits_row c.args.documents.now c.is_end_term-ends.result s.term (locations_of s.stream) s.count c.is_end_term-ends.ensures f) in cc (t, c.if-walked.false)))
+    (list_misfits c.args.documents.now s (decoded_list s.stream) (c.in-Ok.walked.bounds.rows, c.in-Ok.ensures.posting) refl
+    (λ f. let t = c.in-Ok.ensures.fits.1 (fits_row c.args.documents.now c.is_end_term-ends.result s.term (decoded_list s.stream) s.count c.is_end_term-ends.ensures f) in cc (t, c.if-walked.false)))

@@ -5,7 +5,7 @@ use Rattle.alta_compile.specs.Tree.{Tree}
 use Rattle.alta_compile.specs.View.{tree}
 use Rattle.alta_disk.specs.Calls.{Reads}
 use Rattle.alta_images.specs.Levels.{documents_of}
-use Rattle.alta_images.specs.Ordered.{RowsRise}
+use Rattle.alta_images.specs.Ordered.{RowsPrecede}
 use Rattle.alta_loading.specs.Loads.{IsWhole, Tells, load_sizes}
 use Rattle.alta_loading.specs.Met.{keys_met, loads_of_tests, lists_met}
 use Rattle.alta_loading.specs.Snapshots.{all_rows, loaded_view}
@@ -45,7 +45,7 @@ returns-in_ok-gone-in-Ok-clause-answers g c = λ told contents behind q same wri
     (subst (λ (t : Tree). AreToCome t (loaded_view c.args.levels.now newest image (tests_of t) gone) 0 wanted) (sym plan)
     (subst (λ (levels : List Tables). AreToCome (plan_of q) (loaded_view levels newest image (tests_of (plan_of q)) gone) 0 wanted) (sym same)
     (c.levels_and_newest_documents_answer.ensures contents image gone behind c.args.newest.now q written has
-    (subst (λ (levels : List Tables). RowsRise (all_rows levels newest)) same c.requires.rise))))
+    (subst (λ (levels : List Tables). RowsPrecede (all_rows levels newest)) same c.requires.rise))))
 
 pub returns-in_ok-gone-in-Ok-clause-tells : goal.returns-in_ok-gone-in-Ok-clause-tells
 returns-in_ok-gone-in-Ok-clause-tells g c = λ told.

@@ -1,6 +1,6 @@
 use Rattle.std.proofs.Common.{◌≡◌, true, sym, ap, ◌∙◌}
 use Rattle.alta_content.specs.Rows.{start}
-use Rattle.alta_images.specs.Opened.{are_in_order, live_in, rows_in}
+use Rattle.alta_images.specs.Opened.{are_in_order, live_in, table_rows}
 use Rattle.alta_opening.specs.Rows.{behind_rows}
 use Rattle.alta_opening.proofs.LevelLaws.{reached_more}
 use Rattle.alta_opening.proofs.levels.admit.Goals as goal
@@ -14,5 +14,5 @@ returns-clause-reached c =
     let ordered : are_in_order c.args.root.now c.args.found.now.levels.items level.documents ≡ true =
     sym (c.are_placed.ensures c.args.found.now.levels.items reached.rows reached.last ∙ ap (are_in_order c.args.root.now c.args.found.now.levels.items) same) ∙ c.if-not-are_placed.false in
     reached_more c.args.root.now c.args.deleted.now c.args.found.now _ level reached kept.documents_stand kept.some ordered c.in_ok-push.ensures.items
-    (c.last_of-last.ensures ∙ ap (behind_rows start) same) (c.in_ok-note_names.ensures.found (live_in c.args.deleted.now (rows_in c.args.found.now.levels.items)) reached.names)
-    (c.in_ok-note_names.ensures.names (live_in c.args.deleted.now (rows_in c.args.found.now.levels.items)) reached.names)
+    (c.last_of-last.ensures ∙ ap (behind_rows start) same) (c.in_ok-note_names.ensures.found (live_in c.args.deleted.now (table_rows c.args.found.now.levels.items)) reached.names)
+    (c.in_ok-note_names.ensures.names (live_in c.args.deleted.now (table_rows c.args.found.now.levels.items)) reached.names)

@@ -2,7 +2,7 @@ use Rattle.std.proofs.Common.{Bool, sym, ap, ◌∙◌}
 use Rattle.std.specs.Prelude.{◌&&◌}
 use Rattle.alta_content.specs.Rows.{Before, start}
 use Rattle.alta_content.specs.declared.document.DocRow.{DocRow}
-use Rattle.alta_images.specs.Opened.{rows_in}
+use Rattle.alta_images.specs.Opened.{table_rows}
 use Rattle.alta_opening.specs.Rows.{behind_rows, leaves_room, lies_behind}
 use Rattle.alta_opening.proofs.RowLaws.{order_tested}
 use Rattle.alta_opening.proofs.order.are_placed.Goals as goal
@@ -14,7 +14,7 @@ returns-then-follows c = λ levels are last.
     let row = c.index-rows-0.result in
     c.is_below.ensures ∙ ap (leaves_room root) c.last_of.ensures
     ∙ ap (λ (b : Bool). b && leaves_room root (behind_rows start rows))
-    (sym c.if-follows.true ∙ c.follows.ensures ∙ ap (λ (b : Before). lies_behind b row) last ∙ ap (λ (r : DocRow). lies_behind (behind_rows start (rows_in levels)) r) c.index-rows-0.is)
+    (sym c.if-follows.true ∙ c.follows.ensures ∙ ap (λ (b : Before). lies_behind b row) last ∙ ap (λ (r : DocRow). lies_behind (behind_rows start (table_rows levels)) r) c.index-rows-0.is)
     ∙ sym (order_tested root levels rows row are c.requires.rows c.requires.some)
 
 pub returns-else-follows : goal.returns-else-follows
@@ -24,5 +24,5 @@ returns-else-follows c = λ levels are last.
     let row = c.index-rows-0.result in
     c.if-follows.false
     ∙ ap (λ (b : Bool). b && leaves_room root (behind_rows start rows))
-    (sym c.if-follows.false ∙ c.follows.ensures ∙ ap (λ (b : Before). lies_behind b row) last ∙ ap (λ (r : DocRow). lies_behind (behind_rows start (rows_in levels)) r) c.index-rows-0.is)
+    (sym c.if-follows.false ∙ c.follows.ensures ∙ ap (λ (b : Before). lies_behind b row) last ∙ ap (λ (r : DocRow). lies_behind (behind_rows start (table_rows levels)) r) c.index-rows-0.is)
     ∙ sym (order_tested root levels rows row are c.requires.rows c.requires.some)

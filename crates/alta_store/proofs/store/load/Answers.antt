@@ -8,8 +8,8 @@ use Rattle.alta_table.specs.Tables.{Tables}
 use Rattle.std.specs.Prelude.{Err}
 use Rattle.alta_catalog.proofs.MayLaws.{may_start}
 use Rattle.alta_images.specs.Broken.{IsBrokenAt}
-use Rattle.alta_images.specs.Opened.{journal_of, rows_in, extent_of}
-use Rattle.alta_journal.specs.Journal.{IsBroken}
+use Rattle.alta_images.specs.Opened.{journal_of, table_rows, extent_of}
+use Rattle.alta_journal.specs.Journal.{HasBrokenHalf}
 use Rattle.alta_journal.specs.Placed.{IsReplay}
 use Rattle.alta_journal.specs.Places.{start_of}
 use Rattle.alta_journal.specs.declared.half.Half.{Half}
@@ -40,8 +40,8 @@ returns-in-Err-replay-clause-damaged g c = λ told place e.
     let has = c.in-Ok-open_levels.ensures.levels told slot counts in
     subst (λ (image : List ℕ). IsBrokenAt image place) (c.read_roots.ensures.reads.content told)
     (damaged_record middle slot root _ _ has c.in-Ok-open_levels.ensures.ends place
-    (subst (λ (image : List ℕ). IsBroken (journal_of slot) place image) (c.open_levels.ensures.reads.content told)
-    (subst (λ (h : Half). IsBroken (start_of h) place (g.D.Disk.state c.open_levels.new.disk).content) c.half_of.ensures
+    (subst (λ (image : List ℕ). HasBrokenHalf (journal_of slot) place image) (c.open_levels.ensures.reads.content told)
+    (subst (λ (h : Half). HasBrokenHalf (start_of h) place (g.D.Disk.state c.open_levels.new.disk).content) c.half_of.ensures
     (c.in-Err-replay.ensures.damaged told place (of_damaged c.in-Err-replay.fault place (sym c.opening_fault.ensures ∙ same_error _ _ e))))))
 
 pub returns-in-Ok-catalog_of-clause-loaded : goal.returns-in-Ok-catalog_of-clause-loaded
@@ -69,9 +69,9 @@ returns-in-Ok-catalog_of-clause-intact g c =
       knows = (c.in-Ok-catalog_of.ensures.knows some.0 some.1).1.0;
       entries = entries_in c.deref-2.result.now;
       follows = c.in-Ok-catalog_of.ensures.follows;
-      below = subst (λ (levels : List Tables). All (λ (row : DocRow). (row.number < root.next_number) × (end_of row < root.next_location)) (rows_in levels)) (sym c.in-Ok-catalog_of.ensures.levels)
+      below = subst (λ (levels : List Tables). All (λ (row : DocRow). (row.number < root.next_number) × (end_of row < root.next_location)) (table_rows levels)) (sym c.in-Ok-catalog_of.ensures.levels)
           c.in-Ok-open_levels.ensures.below;
-      documents = subst (λ (levels : List Tables). AreDocuments (rows_in levels)) (sym c.in-Ok-catalog_of.ensures.levels) c.in-Ok-open_levels.ensures.rows;
+      documents = subst (λ (levels : List Tables). AreDocuments (table_rows levels)) (sym c.in-Ok-catalog_of.ensures.levels) c.in-Ok-open_levels.ensures.rows;
       extents = ap (map extent_of) c.in-Ok-catalog_of.ensures.levels ∙ c.in-Ok-open_levels.ensures.extents;
       joining = tt;
     }

@@ -4,7 +4,7 @@ use Rattle.std.proofs.lemmas.List.Elements.{All-nil}
 use Rattle.alta_content.specs.declared.content.Content.{Content}
 use Rattle.alta_content.specs.TermList.{TermList}
 use Rattle.alta_content.specs.declared.document.DocRow.{DocRow}
-use Rattle.alta_images.specs.Opened.{rows_in}
+use Rattle.alta_images.specs.Opened.{table_rows}
 use Rattle.alta_memlevel.specs.Documents.{IsBefore, IsFrom, IsMade}
 use Rattle.alta_root.specs.declared.root.Root.{Root}
 use Rattle.alta_table.specs.Tables.{Tables}
@@ -23,7 +23,7 @@ merge_levels-requires-clause-newest c =
         location = root.next_location;
         numbered = c.in_ok-opening.ensures.positive.0;
         located = c.in_ok-opening.ensures.positive.1;
-        behind = subst (λ (levels : List Tables). All (IsBefore root.next_number root.next_location) (rows_in levels)) (sym c.deref.ensures.value) c.in_ok-opening.ensures.below;
+        behind = subst (λ (levels : List Tables). All (IsBefore root.next_number root.next_location) (table_rows levels)) (sym c.deref.ensures.value) c.in_ok-opening.ensures.below;
         are_added = record { space = tt; made = All-nil IsMade; behind = All-nil (IsFrom root.next_number root.next_location) };
         content_is = ap₂ content_with c.new-2.ensures c.new-3.ensures;
       },

@@ -1,6 +1,6 @@
 use Rattle.std.proofs.Common.{◌≡◌, take}
-use Rattle.alta_images.specs.Opened.{rows_in}
+use Rattle.alta_images.specs.Opened.{table_rows}
 use Rattle.check_loading.proofs.snapshots.rows_of.Given as goal
 
 abbrev pub invariant-loop-level : goal.invariant-loop-level
-invariant-loop-level l = l.all.items ≡ rows_in (take l.level-index l.levels)
+invariant-loop-level l = l.all.items ≡ table_rows (take l.level-index l.levels)

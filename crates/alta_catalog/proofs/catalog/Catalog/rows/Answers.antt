@@ -4,19 +4,19 @@ use Rattle.std.specs.declared.rc.Rc.{Rc}
 use Rattle.alta_codec.specs.Rising.{IsRising}
 use Rattle.alta_content.specs.Rows.{end_of}
 use Rattle.alta_content.specs.declared.document.DocRow.{DocRow}
-use Rattle.alta_rows.specs.All.{rows_in as rows_of}
+use Rattle.alta_rows.specs.All.{shared_rows}
 use Rattle.alta_rows.specs.declared.level.LevelRows.{LevelRows}
 use Rattle.alta_catalog.proofs.KnowingLaws.{all_rise, shared_behind}
 use Rattle.alta_catalog.proofs.catalog.Catalog.rows.Goals as goal
 
 pub new-requires : goal.new-requires
 new-requires c =
-    let shared = c.in_ok-runs.ensures ∙ ap (λ (runs : List (Rc LevelRows Global)). map rows_of runs) c.deref.ensures.value in
+    let shared = c.in_ok-runs.ensures ∙ ap (λ (runs : List (Rc LevelRows Global)). map shared_rows runs) c.deref.ensures.value in
     let are = shared_behind c.args.self.now c.requires.0 c.requires.1 c.in_ok-runs.runs.items c.in_ok-runs-2.field-0.items c.in_ok-all.all.items c.in_ok-all.ensures shared c.in_ok-runs-2.ensures in
     subst (λ (rows : List DocRow). IsRising (map end_of rows)) (sym are) (all_rise c.args.self.now c.requires.0 c.requires.1)
 
 pub returns : goal.returns
 returns c =
-    let shared = c.in_ok-runs.ensures ∙ ap (λ (runs : List (Rc LevelRows Global)). map rows_of runs) c.deref.ensures.value in
+    let shared = c.in_ok-runs.ensures ∙ ap (λ (runs : List (Rc LevelRows Global)). map shared_rows runs) c.deref.ensures.value in
     let are = shared_behind c.args.self.now c.requires.0 c.requires.1 c.in_ok-runs.runs.items c.in_ok-runs-2.field-0.items c.in_ok-all.all.items c.in_ok-all.ensures shared c.in_ok-runs-2.ensures in
     subst (λ (rows : List DocRow). IfOk c.new.result (λ r. r ≡ rows)) are c.new.ensures

@@ -4,7 +4,7 @@ use Rattle.alta_catalog.specs.Knowing.{gone_of, newest_of}
 use Rattle.alta_content.specs.Parts.{IsPart}
 use Rattle.alta_content.specs.Rows.{live_rows}
 use Rattle.alta_content.specs.declared.content.Content.{Content}
-use Rattle.alta_images.specs.Opened.{rows_in}
+use Rattle.alta_images.specs.Opened.{table_rows}
 use Rattle.alta_images.specs.Work.{merges}
 use Rattle.alta_joins.specs.Contents.{StandsOn}
 use Rattle.alta_rewrite.specs.Rewrites.{no_content}
@@ -67,7 +67,7 @@ put-requires-clause-may g c =
       store,
       all_put tells a b b (g.met.D.Disk.lawful c.args.disk.now) (g.met.D.Disk.lawful c.merge_levels.new.disk) (g.met.D.Disk.lawful c.merge_levels.new.disk) store c.requires.agrees read.reads
           (undamaged_read tells (levels_of store) a b c.in-Ok-merge_levels.oldest read) c.drain.new.self drained c.in-Ok.ensures.job c.in-Ok-merge_levels.oldest c.in-Ok.newest c.in-Ok.ensures.content clauses.part no_part
-          (clauses.rows ∙ ap₂ (λ (gone : List ℕ) (levels : List Tables). live_rows gone (rows_in levels ++ c.in-Ok.newest.documents)) still same) _
+          (clauses.rows ∙ ap₂ (λ (gone : List ℕ) (levels : List Tables). live_rows gone (table_rows levels ++ c.in-Ok.newest.documents)) still same) _
           (record { stay_from_is = ap (λ (levels : List Tables). length levels) same; oldest_is = refl; newest_is = c.no_content-nothing.ensures })
           (merged_as tells a.content store c.levels-levels.result.now c.gone-gone.result.now c.in-Ok-merge_levels.oldest c.in-Ok.newest same still clauses.merged),
     )
@@ -84,7 +84,7 @@ returns-clause-obeys g c =
     let clauses = c.in-Ok-merge_levels.ensures in
     let read = subst (λ (levels : List Tables). ReadsLevels {T = Content} tells levels a b (Ok c.in-Ok-merge_levels.oldest)) same (read_done tells c.levels-levels.result.now a b c.in-Ok-merge_levels.oldest clauses.damage clauses.reads) in
     let whole = undamaged_read tells (levels_of store) a b c.in-Ok-merge_levels.oldest read in
-    let rows = clauses.rows ∙ ap₂ (λ (gone : List ℕ) (levels : List Tables). live_rows gone (rows_in levels ++ c.in-Ok.newest.documents)) still same in
+    let rows = clauses.rows ∙ ap₂ (λ (gone : List ℕ) (levels : List Tables). live_rows gone (table_rows levels ++ c.in-Ok.newest.documents)) still same in
     let merged = merged_as tells a.content store c.levels-levels.result.now c.gone-gone.result.now c.in-Ok-merge_levels.oldest c.in-Ok.newest same still clauses.merged in
     let long = ap (λ (levels : List Tables). length levels) same in
     merge_put tells a b (g.D.Disk.state c.put.new.disk) (g.met.D.Disk.lawful c.args.disk.now) (g.met.D.Disk.lawful c.merge_levels.new.disk) (g.met.D.Disk.lawful c.put.new.disk) store c.requires.agrees read.reads whole

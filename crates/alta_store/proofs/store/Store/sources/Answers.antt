@@ -1,7 +1,7 @@
 use Rattle.std.proofs.Common.{◌++◌, IsTrue, List, subst, sym, ◌∙◌, ap₂}
-use Rattle.alta_images.specs.Opened.{rows_in}
-use Rattle.alta_images.specs.Ordered.{RowsRise}
-use Rattle.alta_memlevel.specs.Added.{HasContent, Level}
+use Rattle.alta_images.specs.Opened.{table_rows}
+use Rattle.alta_images.specs.Ordered.{RowsPrecede}
+use Rattle.alta_memlevel.specs.Added.{HasContent, LevelView}
 use Rattle.alta_table.specs.Tables.{Tables}
 use Rattle.alta_store.proofs.store.Store.sources.Goals as goal
 
@@ -12,13 +12,13 @@ returns c =
     let memory = c.newest.ensures.memory in
     let gone = c.newest.ensures.gone in
     let rows = c.in_ok-rows.ensures
-    ∙ ap₂ (λ (levels : List Tables) (newest : Level). rows_in levels ++ newest.content.documents) (sym c.levels.ensures) (sym memory) in
+    ∙ ap₂ (λ (levels : List Tables) (newest : LevelView). table_rows levels ++ newest.content.documents) (sym c.levels.ensures) (sym memory) in
     record {
       levels_are = c.levels.ensures;
       newest_is = memory;
       gone_are = gone;
-      added = (knows.added, subst (λ (m : Level). IsTrue m.sound) (sym memory) knows.sound, subst (λ (m : Level). HasContent knows.added m.content) (sym memory) knows.content);
+      added = (knows.added, subst (λ (m : LevelView). IsTrue m.sound) (sym memory) knows.sound, subst (λ (m : LevelView). HasContent knows.added m.content) (sym memory) knows.content);
       rows_are = rows;
-      rise = subst RowsRise (sym c.in_ok-rows.ensures) (c.newest.ensures.rise s knows);
+      rise = subst RowsPrecede (sym c.in_ok-rows.ensures) (c.newest.ensures.rise s knows);
       rising = (c.newest.ensures.parts s knows).has.rising;
     }

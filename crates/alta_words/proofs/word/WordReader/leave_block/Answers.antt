@@ -1,6 +1,6 @@
 use Rattle.std.proofs.Common.{⊎_elim, ◌+◌, arith}
 use Rattle.std.proofs.lemmas.Bool.{cases_lt}
-use Rattle.alta_postings.specs.Deltas.{locations_of}
+use Rattle.alta_postings.specs.Deltas.{decoded_list}
 use Rattle.alta_words.proofs.Blocks.{block_size, last_block, holds_end, row_within}
 use Rattle.alta_words.proofs.word.WordReader.leave_block.Goals as goal
 
@@ -14,12 +14,12 @@ overflow_add-self g c =
 pub overflow_add-self-then-self-rows : goal.overflow_add-self-then-self-rows
 overflow_add-self-then-self-rows g c =
     let s = c.args.self.now in
-    omega (arith, c.requires.last, block_size (locations_of s.stream) s.block.items s.row s.index s.before c.requires.holds)
+    omega (arith, c.requires.last, block_size (decoded_list s.stream) s.block.items s.row s.index s.before c.requires.holds)
 
 pub returns-then-self-rows-clause-holds : goal.returns-then-self-rows-clause-holds
 returns-then-self-rows-clause-holds g c =
     let s = c.args.self.now in
-    holds_end (locations_of s.stream) s.block.items s.row s.index s.before c.requires.holds (s.index + 1) c.requires.last
+    holds_end (decoded_list s.stream) s.block.items s.row s.index s.before c.requires.holds (s.index + 1) c.requires.last
     (last_block s.stream s.summary.bytes s.summary.count s.row c.requires.posting (omega (arith, c.rows-rows.ensures.count)))
 
 pub returns-clause-place : goal.returns-clause-place
@@ -31,6 +31,6 @@ returns-clause-place g c =
       c.load.ensures.row,
       c.load.ensures.index,
       c.rows-rows.ensures.count,
-      block_size (locations_of s.stream) s.block.items s.row s.index s.before c.requires.holds,
+      block_size (decoded_list s.stream) s.block.items s.row s.index s.before c.requires.holds,
       row_within s.stream s.summary.bytes s.summary.count (s.row + 1) c.requires.posting (omega (arith, c.rows-rows.ensures.count)),
     )
