@@ -25,7 +25,7 @@ use Rattle.alta_catalog.specs.Rows.{AreRowsOf, documents_left}
 use Rattle.alta_catalog.specs.Finding.{AreOther, FollowOn}
 use Rattle.alta_images.specs.Opened.{table_rows}
 use Rattle.alta_rows.specs.All.{rows_of_levels, shared_rows}
-use Rattle.alta_rows.specs.declared.level.LevelRows.{LevelRows}
+use Rattle.alta_content.specs.declared.level.LevelRows.{LevelRows}
 use Rattle.std.specs.declared.rc.Rc.{Rc}
 use Rattle.alta_images.specs.Ordered.{RowsPrecede, IsOrdered}
 use Rattle.alta_catalog.proofs.SharingLaws.{space_ends, space_precedes}
@@ -43,26 +43,19 @@ use Rattle.alta_images.proofs.KnownLaws.{ordered_allowed}
 use Rattle.alta_journal.specs.declared.entry.Entry.TheVariants.{Add}
 use Rattle.alta_memlevel.proofs.Cells.{cells_few, cells_long}
 
--- the rows that are shared stay those of the levels
-shared_on : (c new : Catalog) → map shared_rows c.rows.items ≡ map documents_of c.levels.items → new.levels ≡ c.levels → new.rows ≡ c.rows → map shared_rows new.rows.items ≡ map documents_of new.levels.items
-shared_on c new are levels rows =
-    ap (λ (v : Vec (Rc LevelRows Global) Global). map shared_rows v.items) rows ∙ are ∙ sym (ap (λ (v : Vec Tables Global). map documents_of v.items) levels)
-
--- they are all rows of the levels
-shared_all : (c : Catalog) → map shared_rows c.rows.items ≡ map documents_of c.levels.items → rows_of_levels (map shared_rows c.rows.items) ≡ table_rows c.levels.items
-shared_all c are = ap rows_of_levels are ∙ flat_map-map (λ (rows : List DocRow). rows) documents_of c.levels.items
-
 -- the rows of the levels and of the level in memory are those of the documents
 pub rows_of_all : (c : Catalog) (s : State) (f : Knows c s) → map row_of (f.olds ++ f.added) ≡ table_rows c.levels.items ++ c.memory.content.documents
 rows_of_all c s f =
     map-append row_of f.olds f.added ∙ ap (λ (rs : List DocRow). rs ++ map row_of f.added) f.rows.rows_are
     ∙ ap (λ (rs : List DocRow). table_rows c.levels.items ++ rs) (sym f.content.documents)
 
--- runs of rows that are shared, and more behind them, are all rows
-pub shared_behind : (c : Catalog) (s : State) → Knows c s → (runs more all : List (Rc LevelRows Global)) → rows_of_levels (map shared_rows all) ≡ rows_of_levels (map shared_rows runs) ++ rows_of_levels (map shared_rows more)
-    → map shared_rows runs ≡ map shared_rows c.rows.items → rows_of_levels (map shared_rows more) ≡ c.memory.content.documents → rows_of_levels (map shared_rows all) ≡ table_rows c.levels.items ++ c.memory.content.documents
-shared_behind c s f runs more all are shared newest =
-    are ∙ ap (λ (rs : List DocRow). rs ++ rows_of_levels (map shared_rows more)) (ap rows_of_levels shared ∙ shared_all c f.shared) ∙ ap (λ (rs : List DocRow). table_rows c.levels.items ++ rs) newest
+-- the shared rows of the levels, and more behind them, are all rows
+pub shared_behind : (c : Catalog) (rows more all : List (Rc LevelRows Global)) → rows_of_levels (map shared_rows all) ≡ rows_of_levels (map shared_rows rows) ++ rows_of_levels (map shared_rows more)
+    → map shared_rows rows ≡ map documents_of c.levels.items → rows_of_levels (map shared_rows more) ≡ c.memory.content.documents → rows_of_levels (map shared_rows all) ≡ table_rows c.levels.items ++ c.memory.content.documents
+shared_behind c rows more all are shared newest =
+    are
+    ∙ ap (λ (rs : List DocRow). rs ++ rows_of_levels (map shared_rows more)) (ap rows_of_levels shared ∙ flat_map-map (λ (rs : List DocRow). rs) documents_of c.levels.items)
+    ∙ ap (λ (rs : List DocRow). table_rows c.levels.items ++ rs) newest
 
 -- and rise, and so do their ends
 pub all_rise : (c : Catalog) (s : State) (f : Knows c s) → IsRising (map end_of (table_rows c.levels.items ++ c.memory.content.documents))
@@ -215,16 +208,15 @@ module _ (c : Catalog) (s : State) (f : Knows c s) where
     pub knows_added : IsTrue new.memory.sound
         → ((added : List Added) → HasContent added c.memory.content → HasContent (added ++ record { row = row; cells = cells } ∷ []) new.memory.content)
         → ((q : List ℕ) → get_by_text new.names q ≡ update bytes_eq (get_by_text c.names) name (Some c.next) q)
-        → new.levels ≡ c.levels → new.rows ≡ c.rows → new.gone ≡ c.gone → new.first ≡ c.first → new.next ≡ c.next + 1 → new.location ≡ c.location + length cells → new.count ≡ c.count + 1 → new.words ≡ c.words + (length cells - 3)
+        → new.levels ≡ c.levels → new.gone ≡ c.gone → new.first ≡ c.first → new.next ≡ c.next + 1 → new.location ≡ c.location + length cells → new.count ≡ c.count + 1 → new.words ≡ c.words + (length cells - 3)
         → KnowsBy new f.olds (with_added name title body s)
-    knows_added sound content noted levels shared gone first next location count words = (
+    knows_added sound content noted levels gone first next location count words = (
       record {
         olds = f.olds;
         added = f.added ++ a ∷ [];
         rows = subst (λ (ls : List Tables). AreRowsOf (table_rows ls) f.olds) (sym (ap (λ (v : Vec Tables Global). v.items) levels)) f.rows;
         sound = sound;
         content = content f.added f.content;
-        shared = shared_on c new f.shared levels shared;
         made = All-push IsMade f.added a f.made made_added;
         space = subst IsSpace same (space_push all a f.space document
             (λ k d inside. omega (arith, (f.behind k d inside).0, number_is_next)) (λ k d inside. omega (arith, (f.behind k d inside).1, first_is)));
@@ -350,18 +342,17 @@ module _ (c : Catalog) (s : State) (f : Knows c s) where
       pub there_is : has_number number s ≡ true
       there_is = subst (λ (n : ℕ). has_number n s ≡ true) number_is (has_number_of s.documents d is_member)
 
-      pub knows_deleted : (new : Catalog) → new.levels ≡ c.levels → new.rows ≡ c.rows → new.memory ≡ c.memory → new.first ≡ c.first → new.next ≡ c.next → new.location ≡ c.location
+      pub knows_deleted : (new : Catalog) → new.levels ≡ c.levels → new.memory ≡ c.memory → new.first ≡ c.first → new.next ≡ c.next → new.location ≡ c.location
           → ((x : ℕ) → Contains new.gone x ↔ (Contains c.gone x ⊎ (x ≡ end_of row))) → IsRising new.gone
           → ((q : List ℕ) → get_by_text new.names q ≡ update bytes_eq (get_by_text c.names) row.name None q)
           → new.count + 1 ≡ c.count → new.words + (row.cells - 3) ≡ c.words → KnowsBy new f.olds (without number s)
-      knows_deleted new levels shared memory first next location members rising forgot count words = (
+      knows_deleted new levels memory first next location members rising forgot count words = (
         record {
           olds = f.olds;
           added = f.added;
           rows = subst (λ (ls : List Tables). AreRowsOf (table_rows ls) f.olds) (sym (ap (λ (v : Vec Tables Global). v.items) levels)) f.rows;
           sound = subst (λ (m : LevelView). IsTrue m.sound) (sym memory) f.sound;
           content = subst (λ (m : LevelView). HasContent f.added m.content) (sym memory) f.content;
-          shared = shared_on c new f.shared levels shared;
           made = f.made;
           space = f.space;
           filled = f.filled;

@@ -23,8 +23,6 @@ use Rattle.alta_memlevel.specs.Added.{Added, HasContent, IsInSpace, IsSpace, Lev
 use Rattle.alta_memlevel.specs.Documents.{IsBefore, document_in}
 use Rattle.alta_meta.specs.declared.document.Document.{Document}
 use Rattle.alta_meta.specs.declared.document.State.{State}
-use Rattle.alta_rows.specs.All.{shared_rows}
-use Rattle.alta_rows.specs.declared.level.LevelRows.{LevelRows}
 use Rattle.std.specs.declared.rc.Rc.{Rc}
 use Rattle.alta_table.specs.Tables.{Tables}
 use Rattle.alta_catalog.specs.Counting.{row_words}
@@ -52,26 +50,9 @@ pub between : (oldest : Option Tables) (n : ℕ) (levels : List Tables) (newest 
 between oldest n levels newest =
     rows_more (level_in oldest) (drop n levels ++ level_in newest) ∙ ap (λ (rs : List DocRow). table_rows (level_in oldest) ++ rs) (rows_more (drop n levels) (level_in newest))
 
--- the shared rows of a level, where there is one
-beside : (level : Option Tables) (run : Rc LevelRows Global) (runs : List (Rc LevelRows Global)) → shared_rows run ≡ table_rows (level_in level) → runs ≡ map (λ (there : Tables). run) (level_in level)
-    → map shared_rows runs ≡ map documents_of (level_in level)
-beside None run runs same are = ap (map shared_rows) are
-beside (Some level) run runs same are = ap (map shared_rows) are ∙ ap (λ (rs : List DocRow). rs ∷ []) (same ∙ append-nil level.documents)
-
-shared_between : (oldest : Option Tables) (n : ℕ) (levels : List Tables) (newest : Option Tables) (first last rows : List (Rc LevelRows Global)) → map shared_rows first ≡ map documents_of (level_in oldest)
-    → map shared_rows rows ≡ map documents_of levels → map shared_rows last ≡ map documents_of (level_in newest) → map shared_rows (first ++ (drop n rows ++ last)) ≡ map documents_of (tables_between oldest n levels newest)
-shared_between oldest n levels newest first last rows front middle back =
-    map-append shared_rows first (drop n rows ++ last)
-    ∙ ap₂ (λ (xs ys : List (List DocRow)). xs ++ ys) front
-    (map-append shared_rows (drop n rows) last
-    ∙ ap₂ (λ (xs ys : List (List DocRow)). xs ++ ys) (sym (drop-map shared_rows n rows) ∙ ap (drop n) middle ∙ drop-map documents_of n levels) back
-    ∙ sym (map-append documents_of (drop n levels) (level_in newest)))
-    ∙ sym (map-append documents_of (level_in oldest) (drop n levels ++ level_in newest))
-
 -- A catalog that goes on over levels from an index on between two others, and without newest documents.
 pub record IsPut (before : Catalog) (oldest : Option Tables) (n : ℕ) (newest : Option Tables) (new : Catalog) : Type 0 where
   pub levels : new.levels.items ≡ tables_between oldest n before.levels.items newest
-  pub shared : map shared_rows new.rows.items ≡ map documents_of new.levels.items
   pub sound : IsTrue new.memory.sound
   pub content : HasContent [] new.memory.content
   pub gone : new.gone ≡ ends_in before.gone (table_rows (tables_between oldest n before.levels.items newest))
@@ -94,11 +75,6 @@ pub record Stays (now new : Catalog) : Type 0 where
 
 -- what was put in place
 pub record PutsIn (now : Catalog) (prepared : PreparedLevels) (oldest newest : Option Tables) (new : Catalog) : Type 0 where
-  pub first : List (Rc LevelRows Global)
-  pub last : List (Rc LevelRows Global)
-  pub first_are : first ≡ map (λ (there : Tables). prepared.oldest) (level_in oldest)
-  pub last_are : last ≡ map (λ (there : Tables). prepared.newest) (level_in newest)
-  pub rows : new.rows.items ≡ first ++ (drop prepared.stay_from now.rows.items ++ last)
   pub levels : new.levels.items ≡ tables_between oldest prepared.stay_from now.levels.items newest
   pub gone : new.gone ≡ prepared.deleted
 
@@ -109,11 +85,6 @@ put_is b now new s prepared oldest n newest emptied f is puts stays =
     puts.levels ∙ ap (λ (k : ℕ). tables_between oldest k now.levels.items newest) is.stay_from ∙ ap (λ (ls : Vec Tables Global). tables_between oldest n ls.items newest) emptied.levels in
     record {
       levels = levels;
-      shared =
-          ap (map shared_rows) (puts.rows ∙ ap (λ (k : ℕ). puts.first ++ (drop k now.rows.items ++ puts.last)) is.stay_from ∙ ap (λ (rs : Vec (Rc LevelRows Global) Global). puts.first ++ (drop n rs.items ++ puts.last)) emptied.rows)
-          ∙ shared_between oldest n b.levels.items newest puts.first puts.last b.rows.items (beside oldest prepared.oldest puts.first is.oldest_is puts.first_are) f.shared
-          (beside newest prepared.newest puts.last is.newest_is puts.last_are)
-          ∙ ap (map documents_of) (sym levels);
       sound = subst (λ (m : LevelView). IsTrue m.sound) (sym stays.memory) emptied.sound;
       content = subst (λ (m : LevelView). HasContent [] m.content) (sym stays.memory) emptied.empty;
       gone =
@@ -275,7 +246,6 @@ module _ (b : Catalog) (s : State) (f : Knows b s) (oldest : Option Tables) (n :
       rows = rows;
       sound = put.sound;
       content = put.content;
-      shared = put.shared;
       space = space_then;
       filled = all_rows (λ (row : DocRow). 3 ≤ row.cells) olds (subst (All (λ (row : DocRow). 3 ≤ row.cells)) (sym of.rows_are) settled.filled);
       behind = all_weaker (λ (a : Added). IsBefore b.next b.location a.row) (λ (a : Added). IsBefore new.next new.location a.row) olds

@@ -15,7 +15,6 @@ use Rattle.alta_images.proofs.KnownLaws.{all_weaker}
 use Rattle.alta_memlevel.specs.Added.{Added, HasContent, IsInSpace, IsSpace}
 use Rattle.alta_memlevel.specs.Documents.{IsBefore, IsMade}
 use Rattle.alta_meta.specs.declared.document.State.{State}
-use Rattle.alta_rows.specs.All.{shared_rows}
 use Rattle.alta_catalog.specs.Knowing.{IsEndIn, KnowsBy, Notes, documents_of}
 use Rattle.alta_catalog.specs.Rows.{AreRowsOf, documents_left}
 use Rattle.alta_catalog.specs.declared.catalog.Catalog.{Catalog}
@@ -31,7 +30,6 @@ pub record IsSettled (c : Catalog) (olds : List Added) (s : State) : Type 0 wher
   pub rows : AreRowsOf (table_rows c.levels.items) olds
   pub sound : IsTrue c.memory.sound
   pub content : HasContent [] c.memory.content
-  pub shared : map shared_rows c.rows.items ≡ map documents_of c.levels.items
   pub space : IsSpace olds
   pub filled : All (λ (a : Added). 3 ≤ a.row.cells) olds
   pub behind : All (λ (a : Added). IsBefore c.next c.location a.row) olds
@@ -53,7 +51,6 @@ settled_knows c olds s is =
         rows = is.rows;
         sound = is.sound;
         content = is.content;
-        shared = is.shared;
         made = All-nil IsMade;
         space = subst IsSpace (sym same) is.space;
         filled = subst (All (λ (a : Added). 3 ≤ a.row.cells)) (sym same) is.filled;

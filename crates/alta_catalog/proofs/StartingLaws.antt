@@ -16,7 +16,6 @@ use Rattle.alta_root.specs.declared.root.Root.{Root}
 use Rattle.alta_catalog.specs.Counting.{cells_in, row_words}
 use Rattle.alta_catalog.specs.Knowing.{KnowsBy, documents_of}
 use Rattle.alta_catalog.specs.Names.{AreNames}
-use Rattle.alta_rows.specs.All.{shared_rows}
 use Rattle.alta_catalog.specs.Rows.{MayStart, documents_left}
 use Rattle.alta_catalog.specs.declared.catalog.Catalog.{Catalog}
 use Rattle.alta_catalog.proofs.SettledLaws.{IsSettled, settled_knows}
@@ -35,7 +34,6 @@ module _ (c : Catalog) (root : Root) (size : ℕ) (sound : IsSound size root) (g
     (rising : IsRising gone) (ends : have_ends c.levels.items gone ≡ true) (ordered : AreOrdered (live_in gone (table_rows c.levels.items))) (names : AreNames c.names (live_in gone (table_rows c.levels.items)))
     (next_is : c.next ≡ root.next_number) (location_is : c.location ≡ root.next_location) (first_is : c.first ≡ root.next_number)
     (count_is : c.count ≡ length (live_rows c.gone (table_rows c.levels.items))) (words_are : c.words ≡ sum_by row_words (live_rows c.gone (table_rows c.levels.items)))
-    (shared : map shared_rows c.rows.items ≡ map documents_of c.levels.items)
     (usable : IsTrue c.memory.sound) (content : HasContent [] c.memory.content)
     (s : State) (may : MayStart s root gone c.levels.items) where
   abbrev olds : List Added
@@ -73,7 +71,6 @@ module _ (c : Catalog) (root : Root) (size : ℕ) (sound : IsSound size root) (g
     rows = may.rows;
     sound = usable;
     content = content;
-    shared = shared;
     space = space;
     filled = filled_of (table_rows c.levels.items) rows olds may.rows;
     behind = λ k d inside. (omega (arith, (all_below k d inside).0, next_is), omega (arith, (all_below k d inside).1, location_is));

@@ -17,7 +17,6 @@ use Rattle.alta_journal.specs.declared.entry.Entry.{Entry}
 use Rattle.alta_root.specs.declared.root.Root.{Root}
 use Rattle.alta_catalog.specs.Rows.{AreRowsOf, documents_left}
 use Rattle.alta_catalog.specs.declared.catalog.Catalog.{Catalog}
-use Rattle.alta_rows.specs.All.{shared_rows}
 use Rattle.alta_table.specs.Tables.{Tables}
 use Rattle.alta_images.specs.Known.{known_of}
 use Rattle.alta_images.specs.Ordered.{IsOrdered}
@@ -60,7 +59,6 @@ pub record Knows (c : Catalog) (s : State) : Type 0 where
   pub rows : AreRowsOf (table_rows c.levels.items) olds
   pub sound : IsTrue c.memory.sound
   pub content : HasContent added c.memory.content
-  pub shared : map shared_rows c.rows.items ≡ map documents_of c.levels.items
   pub made : AreMade added
   pub space : IsSpace (olds ++ added)
   pub filled : All (λ (a : Added). 3 ≤ a.row.cells) (olds ++ added)

@@ -8,7 +8,6 @@ use Rattle.alta_images.specs.Opened.{table_rows}
 use Rattle.alta_memlevel.specs.Added.{HasContent}
 use Rattle.alta_catalog.specs.declared.catalog.Catalog.{Catalog}
 use Rattle.alta_catalog.specs.declared.replacing.PreparedLevels.{PreparedLevels}
-use Rattle.alta_rows.specs.All.{shared_rows}
 use Rattle.alta_table.specs.Tables.{Tables}
 
 -- ---- rows
@@ -44,7 +43,6 @@ rows_between oldest n tables newest = oldest ++ (table_rows (drop n tables) ++ n
 
 -- The level in memory was taken out, and all else stayed.
 pub record IsEmptied (before now : Catalog) : Type 0 where
-  pub rows : now.rows ≡ before.rows
   pub next : now.next ≡ before.next
   pub location : now.location ≡ before.location
   pub first : now.first ≡ before.first
@@ -66,17 +64,13 @@ deleted_of prepared = prepared.deleted
 
 -- What was prepared has room for all levels of the catalog and two more.
 pub record HasRoom (c : Catalog) (prepared : PreparedLevels) : Type 0 where
-  pub no_rows : prepared.rows.items ≡ []
   pub no_levels : prepared.levels.items ≡ []
-  pub rows : vec_len c.rows + 2 ≤ vec_capacity prepared.rows
   pub levels : vec_len c.levels + 2 ≤ vec_capacity prepared.levels
 
 -- These rows were prepared to come in place of the n oldest levels of the catalog, and those behind all. The ends to come are those of
 -- all rows to come that are gone.
 pub record IsPrepared (c : Catalog) (oldest : List DocRow) (n : ℕ) (newest : List DocRow) (prepared : PreparedLevels) : Type 0 where
   pub stay_from : prepared.stay_from ≡ n
-  pub oldest_is : shared_rows prepared.oldest ≡ oldest
-  pub newest_is : shared_rows prepared.newest ≡ newest
   pub deleted : prepared.deleted ≡ ends_in c.gone (rows_between oldest n c.levels.items newest)
   pub room : HasRoom c prepared
 

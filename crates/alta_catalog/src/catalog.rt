@@ -23,8 +23,8 @@ ghost use Rattle.alta_root.specs.declared.root.Root.{Root};
 use crate::finding::{end_of, find};
 use crate::lists::Names;
 use crate::names::{forget, note, rows_in};
-use crate::replacing::{PreparedLevels, ends_to_come, put_between, rows_beside};
-use crate::sharing::{level_rows, rows_of, share_runs, with_runs};
+use crate::replacing::{PreparedLevels, ends_to_come, put_between};
+use crate::sharing::{share_rows, with_runs};
 use crate::starting::{ends_of, tally_levels};
 use alta_codec::{DocNumber, Loc, Text};
 use alta_content::DocRow;
@@ -32,12 +32,11 @@ use alta_deletions::Deletions;
 use alta_memlevel::MemLevel;
 use alta_meta::{MetaFault, cells};
 use alta_root::{LAST_NEXT, Root};
-use alta_rows::{AllRows, LevelRows};
+use alta_rows::AllRows;
 use alta_table::Table;
 use std::alloc::{AllocError, Global};
 use std::collections::BTreeMap;
 use std::mem;
-use std::rc::Rc;
 
 // The cells of a document that are no words: its name's, its title's end, and its own end.
 pub(crate) const MARKS: u64 = 3;
@@ -47,8 +46,6 @@ pub(crate) const MARKS: u64 = 3;
 #[derive(Drop)]
 pub struct Catalog {
     alloc: Global,
-    // The rows of the levels, to be shared.
-    rows: Vec<Rc<LevelRows>>,
     // The number of the next document, and the location of its first cell.
     next: u64,
     location: u64,
@@ -89,10 +86,8 @@ impl Catalog {
     {
         let gone = ends_of(alloc, deleted)?;
         let tally = tally_levels(&levels, &gone);
-        let rows = rows_of(alloc, &levels)?;
         Ok(Catalog {
             alloc,
-            rows,
             next: root.next_number,
             location: root.next_location,
             first: root.next_number,
@@ -136,8 +131,8 @@ impl Catalog {
         requires { (s : State) × Knows self.now s }
         ensures { IfOk result (λ rows. rows ≡ table_rows (levels_of self.now) ++ (memory_of self.now).content.documents) }
     {
-        let runs = share_runs(self.alloc, &self.rows)?;
-        let all = with_runs(runs, self.memory.runs()?)?;
+        let rows = share_rows(self.alloc, &self.levels)?;
+        let all = with_runs(rows, self.memory.runs()?)?;
         AllRows::new(self.alloc, all)
     }
 
@@ -282,8 +277,8 @@ impl Catalog {
         mem::replace(&mut self.memory, MemLevel::new(self.alloc))
     }
 
-    /// Takes the memory for other levels: those of these rows, one in place of the levels before the index and one behind all. The rows
-    /// are copied, to be shared, and the ends that are gone are looked up among all rows to come.
+    /// Takes the memory for other levels: those of these rows, one in place of the levels before the index and one behind all. The ends
+    /// that are gone are looked up among all rows to come.
     ///
     /// # Errors
     ///
@@ -302,9 +297,6 @@ impl Catalog {
         let ends = ends_to_come(self.alloc, self.gone.ends(), oldest, stay, newest)?;
         Ok(PreparedLevels {
             stay_from,
-            oldest: level_rows(self.alloc, oldest)?,
-            newest: level_rows(self.alloc, newest)?,
-            rows: Vec::with_capacity(self.alloc, self.rows.len() + 2)?,
             levels: Vec::with_capacity(self.alloc, self.levels.len() + 2)?,
             deleted: ends_of(self.alloc, &ends)?,
         })
@@ -330,15 +322,9 @@ impl Catalog {
     {
         let PreparedLevels {
             stay_from,
-            oldest: first,
-            newest: last,
-            rows,
             levels,
             deleted,
         } = prepared;
-        let first = rows_beside(&oldest, first);
-        let last = rows_beside(&newest, last);
-        put_between(&mut self.rows, rows, stay_from, first, last);
         put_between(&mut self.levels, levels, stay_from, oldest, newest);
         self.gone = deleted;
         self.first = self.next;

@@ -1,32 +1,25 @@
 // Levels that come in place of others, in memory that is taken before.
-ghost use Rattle.std.specs.Prelude.{◌≡◌, ◌+◌, ◌++◌, ◌<◌, ◌≤◌, [], drop, map, IfOk};
+ghost use Rattle.std.specs.Prelude.{◌≡◌, ◌+◌, ◌++◌, ◌<◌, ◌≤◌, [], drop, IfOk};
 ghost use Rattle.std.specs.Vec.{vec_capacity, vec_len};
 ghost use Rattle.alta_codec.specs.Rising.{IsRising};
 ghost use Rattle.alta_content.specs.Rows.{RowsRise};
 ghost use Rattle.alta_images.specs.Opened.{table_rows};
 ghost use Rattle.alta_catalog.specs.Replacing.{deleted_of, ends_in, is_end, some_in};
-ghost use Rattle.alta_table.specs.Tables.{Tables};
 
 use crate::finding::end_of;
 use alta_codec::Loc;
 use alta_content::DocRow;
 use alta_deletions::Deletions;
-use alta_rows::LevelRows;
 use alta_table::Table;
 use std::alloc::{AllocError, Global};
 use std::cmp::min;
-use std::rc::Rc;
 
 /// What a catalog has once other levels stand, in memory that was taken before.
 #[derive(Drop)]
 pub struct PreparedLevels {
     // The index of the first level that stays.
     pub(crate) stay_from: usize,
-    // The rows that come before the levels that stay, and behind them.
-    pub(crate) oldest: Rc<LevelRows>,
-    pub(crate) newest: Rc<LevelRows>,
-    // Room for the rows and the tables of all levels to come.
-    pub(crate) rows: Vec<Rc<LevelRows>>,
+    // Room for the tables of all levels to come.
     pub(crate) levels: Vec<Table>,
     // The ends of their documents that are gone.
     pub(crate) deleted: Deletions,
@@ -137,15 +130,5 @@ fn put_some<T: Drop>(items: &mut Vec<T>, item: Option<T>)
         let Ok(()) = items.push(item) else {
             unreachable!()
         };
-    }
-}
-
-/// The rows of a level, where there is the level.
-pub(crate) fn rows_beside(level: &Option<Table>, rows: Rc<LevelRows>) -> Option<Rc<LevelRows>>
-    ensures { some_in result ≡ map (λ (there : Tables). rows) (some_in level.now) }
-{
-    match level {
-        Some(_) => Some(rows),
-        None => None,
     }
 }

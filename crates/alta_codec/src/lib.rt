@@ -1,11 +1,12 @@
-//! What all layers share: locations, numbers in bytes and in decimal digits, owned bytes and text, names, extents, the answer of a failed
-//! call, and the counter of steps.
+//! What all layers share: locations, numbers in bytes and in decimal digits, owned bytes and text, names, extents, a search in a rising list,
+//! the answer of a failed call, and the counter of steps.
 #![tactic(auto)]
 
 mod bytes;
 mod decimal;
 mod extent;
 mod failed;
+mod gallop;
 mod location;
 mod name;
 mod number;
@@ -18,6 +19,7 @@ pub use bytes::Bytes;
 pub use decimal::read_count;
 pub use extent::Extent;
 pub use failed::Failed;
+pub use gallop::{index_from, near_from};
 pub use location::{DocNumber, Loc, TOP};
 pub use name::name_ok;
 pub use number::{CodeFault, get_number, numbers_read_back, put_number};

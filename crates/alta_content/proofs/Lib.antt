@@ -1,3 +1,4 @@
+pub mod Apart
 pub mod Contents
 pub mod Documents
 pub mod Elements

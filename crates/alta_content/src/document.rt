@@ -1,5 +1,8 @@
 // A document of a level.
+ghost use Rattle.std.specs.Prelude.{◌≡◌, IfOk};
+
 use alta_codec::{DocNumber, Loc, Text};
+use std::alloc::AllocError;
 
 /// A document of a level: where its cells stand, and how it is called.
 #[derive(Drop)]
@@ -12,4 +15,18 @@ pub struct DocRow {
     pub cells: u64,
     /// Its name.
     pub name: Text,
+}
+
+impl DocRow {
+    /// An equal row, in memory of its own. Fails for want of memory alone.
+    pub fn copy(&self) -> Result<DocRow, AllocError>
+        ensures { IfOk result (λ copy. copy ≡ self.now) }
+    {
+        Ok(DocRow {
+            number: self.number,
+            first: self.first,
+            cells: self.cells,
+            name: self.name.copy()?,
+        })
+    }
 }

@@ -5,6 +5,7 @@
 mod content;
 mod document;
 mod laws;
+mod level;
 mod packing;
 mod rows;
 mod spans;
@@ -13,6 +14,7 @@ mod term_lists;
 pub use content::Content;
 pub use document::DocRow;
 pub use laws::joins_keep_contents;
+pub use level::{LevelRows, ends_of};
 pub use rows::DocRows;
 pub use spans::{Span, keep_locations, keep_rows, put_locations, spans_of};
 pub use term_lists::TermLists;

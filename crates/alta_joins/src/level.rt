@@ -18,7 +18,7 @@ ghost use Rattle.alta_table.specs.Terms.{data_bytes};
 
 use crate::fault::JoinFault;
 use alta_codec::{Extent, Loc};
-use alta_content::{Content, DocRow, DocRows, TermLists};
+use alta_content::{Content, DocRows, TermLists};
 use alta_disk::Disk;
 use alta_level::{StoredList, read_list, segments_read_back};
 use alta_table::{LevelFault, Table};
@@ -109,7 +109,7 @@ fn content_in(alloc: Global, level: &Table, bytes: &[u8], place: u64) -> Result<
         Ok(lists) => lists,
         Err(fault) => return Err(fault),
     };
-    let documents = copy_rows(alloc, level.documents())?;
+    let documents = level.rows().copy_rows(alloc)?;
     Ok(Content {
         documents: DocRows::from_vec(documents),
         lists,
@@ -170,7 +170,7 @@ fn put_row(
     ensures lean { result ≢ Err DiskFault }
 {
     let list = stored(level, row, bytes, place);
-    match read_list(locations, places, &list, level.documents()) {
+    match read_list(locations, places, &list, level.rows()) {
         Ok(()) => {
             lists.put(list.term, locations)?;
             Ok(())
@@ -198,27 +198,4 @@ fn stored<'a>(level: &'a Table, row: usize, bytes: &'a [u8], place: u64) -> Stor
         term: level.term(row),
         count: level.count(row),
     }
-}
-
-// Equal rows, in memory of their own.
-fn copy_rows(alloc: Global, rows: &[DocRow]) -> Result<Vec<DocRow>, AllocError>
-    ensures { IfOk result (λ copies. copies.items ≡ rows.now) }
-{
-    let mut copies = Vec::with_capacity(alloc, rows.len())?;
-    for row in rows {
-        copies.push(copy_row(row)?)?;
-    }
-    Ok(copies)
-}
-
-// An equal row, in memory of its own.
-fn copy_row(row: &DocRow) -> Result<DocRow, AllocError>
-    ensures { IfOk result (λ copy. copy ≡ row.now) }
-{
-    Ok(DocRow {
-        number: row.number,
-        first: row.first,
-        cells: row.cells,
-        name: row.name.copy()?,
-    })
 }

@@ -15,7 +15,7 @@ use crate::ranges::{fits, is_end_term};
 use crate::stored::StoredList;
 use crate::walking::walk_list;
 use alta_codec::Loc;
-use alta_content::DocRow;
+use alta_content::LevelRows;
 use alta_table::LevelFault;
 use alta_words::{Bounds, PostingFault};
 
@@ -65,7 +65,7 @@ fn read_whole(
     locations: &mut Vec<Loc>,
     places: &mut Vec<u64>,
     list: &StoredList<'_>,
-    documents: &[DocRow],
+    documents: &LevelRows,
 ) -> Result<(), LevelFault>
     requires stream { list.now.stream_place + length list.now.stream.now < 2 ^ 64 }
     requires summary { list.now.summary_place + length list.now.summary.now < 2 ^ 64 }
@@ -89,7 +89,7 @@ fn misfit(list: &StoredList<'_>) -> LevelFault
 }
 
 // A list is whole, and has these bounds, or its first fault.
-fn tested(list: &StoredList<'_>, documents: &[DocRow]) -> Result<Bounds, LevelFault>
+fn tested(list: &StoredList<'_>, documents: &LevelRows) -> Result<Bounds, LevelFault>
     requires stream { list.now.stream_place + length list.now.stream.now < 2 ^ 64 }
     requires summary { list.now.summary_place + length list.now.summary.now < 2 ^ 64 }
     requires documents { AreDocuments documents.now }
@@ -118,7 +118,7 @@ fn tested(list: &StoredList<'_>, documents: &[DocRow]) -> Result<Bounds, LevelFa
 /// Tests a list as [`read_list`] does, with the same faults, and keeps none of its locations: it answers what a
 /// [`Posting`](alta_words::Posting) of its bytes is made with. It takes no memory, and never answers `Memory`. Each number of the stream
 /// is read once.
-pub fn check_list(list: &StoredList<'_>, documents: &[DocRow]) -> Result<Bounds, LevelFault>
+pub fn check_list(list: &StoredList<'_>, documents: &LevelRows) -> Result<Bounds, LevelFault>
     requires stream { list.now.stream_place + length list.now.stream.now < 2 ^ 64 }
     requires summary { list.now.summary_place + length list.now.summary.now < 2 ^ 64 }
     requires documents { AreDocuments documents.now }
@@ -143,7 +143,7 @@ pub fn read_list(
     locations: &mut Vec<Loc>,
     places: &mut Vec<u64>,
     list: &StoredList<'_>,
-    documents: &[DocRow],
+    documents: &LevelRows,
 ) -> Result<(), LevelFault>
     requires stream { list.now.stream_place + length list.now.stream.now < 2 ^ 64 }
     requires summary { list.now.summary_place + length list.now.summary.now < 2 ^ 64 }

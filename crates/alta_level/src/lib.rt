@@ -23,5 +23,6 @@ pub use alta_table::{Head, LevelFault, Table, head};
 pub use building::build;
 pub use checking::{check_list, read_list};
 pub use laws::segments_read_back;
+pub use ranges::is_end_term;
 pub use reading::read_content;
 pub use stored::StoredList;

@@ -6,61 +6,19 @@ ghost use Rattle.alta_content.specs.Lists.{IsInRange, end_term};
 ghost use Rattle.alta_content.specs.Rows.{AreDocuments, ends_of, firsts_of};
 ghost use Rattle.alta_level.specs.Fitting.{AreEndsTo, AreInRangesTo, HasOther, HasOutside, IsFit};
 
-use alta_codec::Loc;
-use alta_content::DocRow;
-
-/// The location of the last cell of a document.
-pub fn end_at(documents: &[DocRow], row: usize) -> Loc
-    requires apart { AreApart documents.now }
-    requires within { row < length documents.now }
-    ensures { result ≡ slice_index (ends_of documents.now) row }
-{
-    let document = &documents[row];
-    document.first + document.cells - 1
-}
+use alta_codec::{Loc, index_from};
+use alta_content::LevelRows;
 
 // The location of the first cell of a document.
-fn first_at(documents: &[DocRow], row: usize) -> Loc
+fn first_at(documents: &LevelRows, row: usize) -> Loc
     requires { row < length documents.now }
     ensures { result ≡ slice_index (firsts_of documents.now) row }
 {
-    documents[row].first
-}
-
-// The first document whose end is at or above a location, from a row on. It looks at about 2 log d rows, d being how
-// far that is.
-fn row_from(documents: &[DocRow], from: usize, to: Loc) -> usize
-    requires apart { AreApart documents.now }
-    requires within { from ≤ length documents.now }
-    requires passed { (i : ℕ) → i < from → slice_index (ends_of documents.now) i < to }
-    ensures within { result ≤ length documents.now }
-    ensures before { (i : ℕ) → i < result → slice_index (ends_of documents.now) i < to }
-    ensures found { result < length documents.now → to ≤ slice_index (ends_of documents.now) result }
-{
-    let mut low = from;
-    let mut high = from;
-    'gallop: while high < documents.len() && end_at(documents, high) < to {
-        low = high + 1;
-        let distance = high - from;
-        high = if documents.len() - low > distance {
-            low + distance
-        } else {
-            documents.len()
-        };
-    }
-    'halve: while low < high {
-        let middle = low + (high - low) / 2;
-        if end_at(documents, middle) < to {
-            low = middle + 1;
-        } else {
-            high = middle;
-        }
-    }
-    low
+    documents.as_slice()[row].first
 }
 
 /// The document whose range holds a location, from a row on, None where there is none.
-pub fn holder(documents: &[DocRow], from: usize, location: Loc) -> Option<usize>
+pub fn holder(documents: &LevelRows, from: usize, location: Loc) -> Option<usize>
     requires apart { AreApart documents.now }
     requires within { from ≤ length documents.now }
     requires passed { (i : ℕ) → i < from → slice_index (ends_of documents.now) i < location }
@@ -68,7 +26,7 @@ pub fn holder(documents: &[DocRow], from: usize, location: Loc) -> Option<usize>
     ensures within { MatchOption result (Unit {0}) (λ row. row < length documents.now) }
     ensures passed { MatchOption result (Unit {0}) (λ row. (i : ℕ) → i < row → slice_index (ends_of documents.now) i < location) }
 {
-    let row = row_from(documents, from, location);
+    let row = index_from(documents.ends(), from, location);
     if row == documents.len() {
         return None;
     }
@@ -79,7 +37,7 @@ pub fn holder(documents: &[DocRow], from: usize, location: Loc) -> Option<usize>
 }
 
 // The row of the last location from a row on, where each location of a rising list lies in the range of a document.
-fn ranges_from(documents: &[DocRow], from: usize, locations: &[Loc]) -> Option<usize>
+fn ranges_from(documents: &LevelRows, from: usize, locations: &[Loc]) -> Option<usize>
     requires apart { AreApart documents.now }
     requires within { from ≤ length documents.now }
     requires rising { IsRising locations.now }
@@ -97,16 +55,17 @@ fn ranges_from(documents: &[DocRow], from: usize, locations: &[Loc]) -> Option<u
 }
 
 // The row behind the last location, where the locations are the ends of the documents from a row on.
-fn ends_from(documents: &[DocRow], from: usize, locations: &[Loc]) -> Option<usize>
+fn ends_from(documents: &LevelRows, from: usize, locations: &[Loc]) -> Option<usize>
     requires apart { AreApart documents.now }
     requires within { from ≤ length documents.now }
     ensures { MatchOption result (HasOther documents.now from locations.now) (AreEndsTo documents.now from locations.now) }
 {
-    if locations.len() > documents.len() - from {
+    let ends = documents.ends();
+    if locations.len() > ends.len() - from {
         return None;
     }
     for i in 0..locations.len() {
-        if locations[i] != end_at(documents, from + i) {
+        if locations[i] != ends[from + i] {
             return None;
         }
     }
@@ -116,7 +75,7 @@ fn ends_from(documents: &[DocRow], from: usize, locations: &[Loc]) -> Option<usi
 /// Goes on beside the documents from a row, which is none where something did not fit before: the row where it goes on,
 /// none where these locations do not fit. Of the term `D` they have to be the ends of the documents.
 pub fn row_after(
-    documents: &[DocRow],
+    documents: &LevelRows,
     ends: bool,
     row: Option<usize>,
     locations: &[Loc],
@@ -140,7 +99,7 @@ pub fn row_after(
 }
 
 /// Whether nothing that did not fit was met before this row, and of the term `D` no end is missing.
-pub fn is_fit(documents: &[DocRow], ends: bool, row: Option<usize>) -> bool
+pub fn is_fit(documents: &LevelRows, ends: bool, row: Option<usize>) -> bool
     ensures { IsFit documents.now ends row result }
 {
     match row {
@@ -158,7 +117,7 @@ pub fn is_end_term(term: &[u8]) -> bool
 
 /// Whether the locations of a term are as many as its row states, lie in the ranges of documents, and, of the term `D`,
 /// are the ends of the documents.
-pub fn fits(documents: &[DocRow], term: &[u8], count: u64, locations: &[Loc]) -> bool
+pub fn fits(documents: &LevelRows, term: &[u8], count: u64, locations: &[Loc]) -> bool
     requires documents { AreDocuments documents.now }
     requires rising { IsRising locations.now }
     ensures { IsTrue result ↔ Fits documents.now term.now count locations.now }

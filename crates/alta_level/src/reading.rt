@@ -13,7 +13,7 @@ use crate::checking::read_list;
 use crate::laws::segments_read_back;
 use crate::stored::StoredList;
 use alta_codec::Loc;
-use alta_content::{Content, DocRow, DocRows, TermLists};
+use alta_content::{Content, DocRows, LevelRows, TermLists};
 use alta_table::{LevelFault, Table, TermRow, head, tables_in_front, tables_read_back};
 use std::alloc::Global;
 
@@ -48,7 +48,7 @@ fn put_row(
     row: &TermRow,
     bytes: &[u8],
     place: u64,
-    documents: &[DocRow],
+    documents: &LevelRows,
 ) -> Result<(), LevelFault>
     requires whole { row.now.stream + row.now.summary ≤ length bytes.now }
     requires below { place + length bytes.now < 2 ^ 64 }
@@ -82,7 +82,7 @@ fn lists_at(
     rows: Vec<TermRow>,
     streams: &[u8],
     place: u64,
-    documents: &[DocRow],
+    documents: &LevelRows,
 ) -> Result<TermLists, LevelFault>
     requires whole { data_bytes rows.items ≤ length streams.now }
     requires below { place + length streams.now < 2 ^ 64 }
@@ -135,10 +135,15 @@ fn content_of(
     };
     let (_tables, streams) = bytes.split_at(len);
     match lists_at(alloc, rows, streams, place + len as u64, &documents) {
-        Ok(lists) => Ok(Content {
-            documents: DocRows::from_vec(documents),
-            lists,
-        }),
+        Ok(lists) => {
+            let Ok(documents) = LevelRows::unshare(alloc, documents) else {
+                return Err(LevelFault::Memory);
+            };
+            Ok(Content {
+                documents: DocRows::from_vec(documents),
+                lists,
+            })
+        }
         Err(fault) => Err(fault),
     }
 }

@@ -2,6 +2,7 @@
 ghost use Rattle.std.specs.Prelude.{◌<◌, length};
 
 use crate::*;
+use alta_content::LevelRows;
 use std::alloc::{AllocError, Global};
 use std::test::Fail;
 
@@ -124,7 +125,7 @@ fn one_list_is_tested_and_read(rt: HostRuntime) -> Result<(), Fail> {
     let alloc = rt.alloc();
     match read_content(alloc, SEGMENT, PLACE) {
         Ok(content) => {
-            let documents = content.documents.as_slice();
+            let documents = LevelRows::new(alloc, content.documents.into_vec())?;
             let mut locations = Vec::new(alloc);
             let mut places = Vec::new(alloc);
             for (count, whole) in [(1, false), (2, true), (3, false)] {
@@ -136,9 +137,9 @@ fn one_list_is_tested_and_read(rt: HostRuntime) -> Result<(), Fail> {
                     term: b"Wfox",
                     count,
                 };
-                let read = read_list(&mut locations, &mut places, &list, documents);
+                let read = read_list(&mut locations, &mut places, &list, &documents);
                 assert_eq!(rt; read.is_ok(), whole);
-                assert_eq!(rt; check_list(&list, documents).is_ok(), whole);
+                assert_eq!(rt; check_list(&list, &documents).is_ok(), whole);
                 if whole {
                     assert_eq!(rt; locations.as_slice(), [3u64, 8].as_slice());
                 }

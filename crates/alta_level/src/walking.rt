@@ -8,7 +8,7 @@ ghost use Rattle.alta_words.specs.Fault.{IsPostingFault};
 ghost use Rattle.alta_words.specs.Word.{HasBounds, IsPosting};
 
 use crate::ranges::{is_fit, row_after};
-use alta_content::DocRow;
+use alta_content::LevelRows;
 use alta_postings::fill_block;
 use alta_summary::Summary;
 use alta_words::{Bounds, Compared, PostingFault, summary_fault};
@@ -27,7 +27,7 @@ pub struct Walked {
 fn walk(
     stream: &[u8],
     table: &Summary<'_>,
-    documents: &[DocRow],
+    documents: &LevelRows,
     ends: bool,
 ) -> Result<Walked, PostingFault>
     requires documents { AreDocuments documents.now }
@@ -63,7 +63,7 @@ fn walk(
 pub fn walk_list(
     stream: &[u8],
     summary: &[u8],
-    documents: &[DocRow],
+    documents: &LevelRows,
     ends: bool,
 ) -> Result<Walked, PostingFault>
     requires documents { AreDocuments documents.now }

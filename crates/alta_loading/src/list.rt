@@ -103,7 +103,7 @@ fn checked(
     ensures lean { result ≡ Err DiskFault → ⊥ }
 {
     let list = stored(table, row, &stream, &summary);
-    match check_list(&list, table.documents()) {
+    match check_list(&list, table.rows()) {
         Ok(bounds) => Ok(Posting::of(stream, summary, bounds)),
         Err(LevelFault::Damaged(place)) => Err(LoadFault::Damaged(place)),
         Err(LevelFault::Memory) => Err(LoadFault::Memory),

@@ -1,20 +1,14 @@
 -- The rows of several levels, one behind the other.
-use Rattle.std.proofs.Common.{◌≡◌, ℕ, zero, suc, ◌+◌, ◌-◌, ◌<◌, ◌≤◌, ⊎_elim, List, [], ◌∷◌, ◌++◌, map, take, drop, take-append-drop, length, get_or, refl, sym, subst, ap, ◌∙◌, lit<, take_all, arith}
+use Rattle.std.proofs.Common.{◌≡◌, ℕ, zero, suc, ◌+◌, ◌-◌, ◌<◌, ◌≤◌, ⊎_elim, List, [], ◌∷◌, ◌++◌, map, take, drop, take-append-drop, length, get_or, sym, subst, ap, ◌∙◌, lit<, take_all, arith}
 use Rattle.std.specs.Prelude.{Contains}
 use Rattle.std.proofs.lemmas.Bool.{cases_lt}
-use Rattle.std.proofs.lemmas.List.{take_more, append-nil, length-append, length-map, get_or_default}
+use Rattle.std.proofs.lemmas.List.{take_more, append-nil, get_or-map, length-append, length-map, get_or_default}
 use Rattle.std.proofs.lemmas.List.Concat.{flat_map-append, get_or-flat_map}
 use Rattle.alta_codec.specs.Rising.{IsRising}
 use Rattle.alta_codec.specs.declared.location.TheConstants.{TOP}
-use Rattle.alta_content.specs.Rows.{end_of}
+use Rattle.alta_content.specs.Rows.{end_of, ends_of}
 use Rattle.alta_content.specs.declared.document.DocRow.{DocRow}
-use Rattle.alta_rows.specs.All.{rows_of_levels, ends_of, IsPlace}
-
--- what is read at an index
-pub read_at : {X : Type 0} (f : X → ℕ) (xs : List X) (i : ℕ) (d : X) → i < length xs → get_or (map f xs) i 0 ≡ f (get_or xs i d)
-read_at f [] i d l = absurd (omega arith)
-read_at f (x ∷ xs) zero d l = refl
-read_at f (x ∷ xs) (suc i) d l = read_at f xs i d (omega arith)
+use Rattle.alta_rows.specs.All.{rows_of_levels, IsPlace}
 
 none : DocRow
 none = record { number = 0; first = 0; cells = 0; name = [] }
@@ -54,9 +48,9 @@ module _ (levels : List (List DocRow)) (n b i : ℕ) (p : IsPlace levels n b i) 
   -- the end of a row of the level
   pub end_in : (k : ℕ) → k < length (get_or levels n []) → get_or (ends_of (rows_of_levels levels)) (b + k) 0 ≡ get_or (ends_of (get_or levels n [])) k 0
   end_in k h =
-      read_at end_of (rows_of_levels levels) (b + k) none (omega (arith, level_fits))
+      get_or-map end_of (rows_of_levels levels) (b + k) none 0 (omega (arith, level_fits))
       ∙ ap end_of (ap (λ x. get_or (rows_of_levels levels) (x + k) none) p.passed ∙ get_or-flat_map (λ rows. rows) levels n k [] none l h)
-      ∙ sym (read_at end_of (get_or levels n []) k none h)
+      ∙ sym (get_or-map end_of (get_or levels n []) k none 0 h)
 
   -- another place in the level
   pub place_in : (j : ℕ) → j ≤ length (get_or levels n []) → IsPlace levels n b j

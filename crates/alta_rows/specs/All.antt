@@ -1,10 +1,10 @@
 -- The rows of several levels, one behind the other, and a walk along them.
-use Rattle.std.specs.Prelude.{◌≡◌, ℕ, ◌<◌, ◌≤◌, List, [], map, take, length, slice_index, slice_index_or}
+use Rattle.std.specs.Prelude.{◌≡◌, ℕ, ◌<◌, ◌≤◌, List, [], take, length, slice_index, slice_index_or}
 use Rattle.std.specs.List.{flat_map}
 use Rattle.std.specs.declared.alloc.Global.{Global}
 use Rattle.std.specs.declared.rc.Rc.{Rc}
-use Rattle.alta_rows.specs.declared.level.LevelRows.{LevelRows}
-use Rattle.alta_content.specs.Rows.{end_of}
+use Rattle.alta_content.specs.declared.level.LevelRows.{LevelRows}
+use Rattle.alta_content.specs.Rows.{ends_of}
 use Rattle.alta_content.specs.declared.document.DocRow.{DocRow}
 
 -- the rows of a shared level
@@ -14,10 +14,6 @@ shared_rows level = level.value
 -- the rows of all levels
 abbrev pub rows_of_levels : List (List DocRow) → List DocRow
 rows_of_levels levels = flat_map (λ rows. rows) levels
-
--- the ends of documents
-abbrev pub ends_of : List DocRow → List ℕ
-ends_of rows = map end_of rows
 
 -- rows, and how many of them a walk has passed
 pub record Walked : Type 0 where

@@ -1,11 +1,11 @@
 // The rows of several levels.
 ghost use Rattle.std.specs.Prelude.{◌≡◌, ◌+◌, ◌<◌, map, length, slice_get, Some, IfOk, IfErr};
 ghost use Rattle.alta_codec.specs.Rising.{IsRising};
-ghost use Rattle.alta_rows.specs.All.{shared_rows, rows_of_levels, ends_of};
+ghost use Rattle.alta_content.specs.Rows.{ends_of};
+ghost use Rattle.alta_rows.specs.All.{shared_rows, rows_of_levels};
 
-use crate::level::LevelRows;
 use crate::walk::RowWalk;
-use alta_content::DocRow;
+use alta_content::{DocRow, LevelRows};
 use std::alloc::{AllocError, Global};
 use std::marker::Model;
 use std::rc::Rc;
@@ -20,7 +20,8 @@ pub struct AllRows {
 impl Model for AllRows {
     ghost use Rattle.std.specs.Prelude.{List, map};
     ghost use Rattle.alta_codec.specs.Rising.{IsRising};
-    ghost use Rattle.alta_rows.specs.All.{shared_rows, rows_of_levels, ends_of};
+    ghost use Rattle.alta_content.specs.Rows.{ends_of};
+    ghost use Rattle.alta_rows.specs.All.{shared_rows, rows_of_levels};
     ghost use Rattle.alta_content.specs.declared.document.DocRow.{DocRow};
 
     ghost Value = { List DocRow };

@@ -2,14 +2,11 @@
 #![tactic(auto)]
 
 mod all;
-mod gallop;
-mod level;
 mod runs;
 #[cfg(test)]
 mod tests;
 mod walk;
 
 pub use all::AllRows;
-pub use level::LevelRows;
 pub use runs::RowRuns;
 pub use walk::RowWalk;

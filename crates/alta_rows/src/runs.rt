@@ -1,12 +1,11 @@
 // Rows to which rows are added, in runs of which the full ones are shared.
 ghost use Rattle.std.specs.Prelude.{◌≡◌, ◌<◌, ◌∷◌, ◌++◌, [], map, length, slice_get, Some, IfOk, OnOk, OnErr};
 ghost use Rattle.alta_codec.specs.Rising.{IsRising};
-ghost use Rattle.alta_content.specs.Rows.{end_of};
-ghost use Rattle.alta_rows.specs.All.{shared_rows, rows_of_levels, ends_of};
+ghost use Rattle.alta_content.specs.Rows.{end_of, ends_of};
+ghost use Rattle.alta_rows.specs.All.{shared_rows, rows_of_levels};
 
 use crate::all::{AllRows, row_in};
-use crate::level::{LevelRows, ends_of};
-use alta_content::DocRow;
+use alta_content::{DocRow, LevelRows, ends_of};
 use std::alloc::{AllocError, Global};
 use std::marker::Model;
 use std::mem;
@@ -27,7 +26,8 @@ pub struct RowRuns {
 impl Model for RowRuns {
     ghost use Rattle.std.specs.Prelude.{List, map, ◌++◌};
     ghost use Rattle.alta_codec.specs.Rising.{IsRising};
-    ghost use Rattle.alta_rows.specs.All.{shared_rows, rows_of_levels, ends_of};
+    ghost use Rattle.alta_content.specs.Rows.{ends_of};
+    ghost use Rattle.alta_rows.specs.All.{shared_rows, rows_of_levels};
     ghost use Rattle.alta_content.specs.declared.document.DocRow.{DocRow};
 
     ghost Value = { List DocRow };
@@ -166,19 +166,7 @@ fn copy_rows(copies: &mut Vec<DocRow>, rows: &[DocRow]) -> Result<(), AllocError
     ensures { OnOk result (copies.new.items ≡ copies.old.items ++ rows.now) }
 {
     for row in rows {
-        copies.push(copy_row(row)?)?;
+        copies.push(row.copy()?)?;
     }
     Ok(())
-}
-
-/// An equal row, in memory of its own.
-fn copy_row(row: &DocRow) -> Result<DocRow, AllocError>
-    ensures { IfOk result (λ copy. copy ≡ row.now) }
-{
-    Ok(DocRow {
-        number: row.number,
-        first: row.first,
-        cells: row.cells,
-        name: row.name.copy()?,
-    })
 }

@@ -2,12 +2,11 @@
 ghost use Rattle.std.specs.Prelude.{◌≡◌, ℕ, ◌+◌, ◌<◌, ◌≤◌, map, length, Contains, HoldsAt, IfSome, None, [], slice_index, slice_index_or};
 ghost use Rattle.alta_codec.specs.Rising.{IsRising};
 ghost use Rattle.alta_codec.specs.declared.location.TheConstants.{TOP};
-ghost use Rattle.alta_rows.specs.All.{shared_rows, rows_of_levels, ends_of, IsPlace};
-ghost use Rattle.alta_content.specs.Rows.{end_of};
+ghost use Rattle.alta_rows.specs.All.{shared_rows, rows_of_levels, IsPlace};
+ghost use Rattle.alta_content.specs.Rows.{end_of, ends_of};
 
-use crate::gallop::index_from;
-use crate::level::LevelRows;
-use alta_codec::Loc;
+use alta_codec::{Loc, index_from};
+use alta_content::LevelRows;
 use std::marker::Model;
 use std::rc::Rc;
 
@@ -77,7 +76,8 @@ pub struct RowWalk<'a> {
 impl<'a> Model for RowWalk<'a> {
     ghost use Rattle.std.specs.Prelude.{map, ◌+◌};
     ghost use Rattle.alta_codec.specs.Rising.{IsRising};
-    ghost use Rattle.alta_rows.specs.All.{Walked, shared_rows, rows_of_levels, ends_of, IsPlace};
+    ghost use Rattle.alta_content.specs.Rows.{ends_of};
+    ghost use Rattle.alta_rows.specs.All.{Walked, shared_rows, rows_of_levels, IsPlace};
 
     ghost Value = { Walked };
 
@@ -88,7 +88,7 @@ impl<'a> Model for RowWalk<'a> {
 
 impl<'a> RowWalk<'a> {
     ghost use Rattle.alta_rows.specs.All.{IsPast};
-    ghost use Rattle.alta_content.specs.Rows.{end_of};
+    ghost use Rattle.alta_content.specs.Rows.{end_of, ends_of};
 
     /// A walk that stands in front of the first row.
     pub(crate) fn new(levels: &'a [Rc<LevelRows>]) -> RowWalk<'a>

@@ -159,14 +159,14 @@ places_at p = places_in p.spans.items
 -- rows with the places that were kept while they were read
 pub parts_are : (p : Parts) (bytes : List ℕ) (place total : ℕ) → AreBytes bytes → place + total < 2 ^ 64
     → ((h : Head) → read_head bytes place total ≡ Ok h → length bytes ≡ 32 + h.document_bytes + h.term_bytes)
-    → tables_of bytes place total ≡ Ok (tables_in p) → p.names.items ≡ name_places (place + 32) start p.documents.items
+    → tables_of bytes place total ≡ Ok (tables_in p) → p.names.items ≡ name_places (place + 32) start p.documents.value
     → (places_at p) ≡ stream_places (place + total - data_bytes (terms_at p)) (terms_at p) → AreParts p
 parts_are p bytes place total fits below exact e names streams =
     let a = tables_are bytes place total (tables_in p) fits (λ h read. omega (arith, exact h read)) e in
-    let size : ℕ = length (tables_bytes p.documents.items (terms_at p)) in
+    let size : ℕ = length (tables_bytes p.documents.value (terms_at p)) in
     let from : place + total - data_bytes (terms_at p) ≡ p.place + size = omega (arith, a.keeps.filled, a.at) in
     record {
-      names_are = names ∙ ap (λ (k : ℕ). name_places (k + 32) start p.documents.items) (sym a.at);
+      names_are = names ∙ ap (λ (k : ℕ). name_places (k + 32) start p.documents.value) (sym a.at);
       streams_are = streams ∙ ap (λ (k : ℕ). stream_places k (terms_at p)) from;
       keeps = record {
         some = a.keeps.some;
@@ -180,20 +180,20 @@ parts_are p bytes place total fits below exact e names streams =
 
 -- ---- places by row
 
-pub names-len : (p : Parts) → AreParts p → length p.names.items ≡ length p.documents.items
-names-len p a = ap length a.names_are ∙ length-name_places (p.place + 32) start p.documents.items
+pub names-len : (p : Parts) → AreParts p → length p.names.items ≡ length p.documents.value
+names-len p a = ap length a.names_are ∙ length-name_places (p.place + 32) start p.documents.value
 
-pub name_is : (p : Parts) (row at : ℕ) → AreParts p → row < length p.documents.items → at ≡ get_or p.names.items row at → at ≡ name_place (tables_in p) row
+pub name_is : (p : Parts) (row at : ℕ) → AreParts p → row < length p.documents.value → at ≡ get_or p.names.items row at → at ≡ name_place (tables_in p) row
 name_is p row at a lt here =
     let next : suc row ≡ row + 1 = omega arith in
-    here ∙ get_or_default p.names.items row at 0 (omega (arith, names-len p a, lt)) ∙ ap (λ (l : List ℕ). get_or l row 0) a.names_are ∙ name_places-at (p.place + 32) start p.documents.items row lt
-    ∙ ap (λ (k : ℕ). p.place + 32 + length (documents_bytes (take k p.documents.items)) - length (name_at p.documents.items row)) next
+    here ∙ get_or_default p.names.items row at 0 (omega (arith, names-len p a, lt)) ∙ ap (λ (l : List ℕ). get_or l row 0) a.names_are ∙ name_places-at (p.place + 32) start p.documents.value row lt
+    ∙ ap (λ (k : ℕ). p.place + 32 + length (documents_bytes (take k p.documents.value)) - length (name_at p.documents.value row)) next
 
 pub streams-len : (p : Parts) → AreParts p → length (places_at p) ≡ length (terms_at p)
-streams-len p a = ap length a.streams_are ∙ length-stream_places (p.place + length (tables_bytes p.documents.items (terms_at p))) (terms_at p)
+streams-len p a = ap length a.streams_are ∙ length-stream_places (p.place + length (tables_bytes p.documents.value (terms_at p))) (terms_at p)
 
 stream_is : (p : Parts) (row at : ℕ) → AreParts p → row < length (terms_at p) → at ≡ get_or (places_at p) row at → at ≡ stream_place (tables_in p) row
-stream_is p row at a lt here = here ∙ get_or_default (places_at p) row at 0 (omega (arith, streams-len p a, lt)) ∙ ap (λ (l : List ℕ). get_or l row 0) a.streams_are ∙ stream_places-at (p.place + length (tables_bytes p.documents.items (terms_at p))) (terms_at p) row lt
+stream_is p row at a lt here = here ∙ get_or_default (places_at p) row at 0 (omega (arith, streams-len p a, lt)) ∙ ap (λ (l : List ℕ). get_or l row 0) a.streams_are ∙ stream_places-at (p.place + length (tables_bytes p.documents.value (terms_at p))) (terms_at p) row lt
 
 -- a span's place and row are those of its number
 place_of : (p : Parts) (row : ℕ) (s : TermSpan) → s ≡ get_or p.spans.items row s → s.place ≡ get_or (places_at p) row s.place
@@ -204,7 +204,7 @@ row_of p row s is = ap (row_in p.text.items) is ∙ sym (get_or-map (row_in p.te
 
 -- a row's stream and summary end where those of all rows do, on the disk
 pub data_within : (p : Parts) (row : ℕ) (s : TermSpan) → AreParts p → row < length (terms_at p) → s ≡ get_or p.spans.items row s
-    → s.place + s.stream + s.summary ≤ p.place + length (tables_bytes p.documents.items (terms_at p)) + data_bytes (terms_at p)
+    → s.place + s.stream + s.summary ≤ p.place + length (tables_bytes p.documents.value (terms_at p)) + data_bytes (terms_at p)
 data_within p row s a lt is =
     let t : TermRow = row_in p.text.items s in
     let more = sum_by_more data_of (terms_at p) row t lt in

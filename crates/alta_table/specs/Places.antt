@@ -63,11 +63,11 @@ stream_places from [] = []
 stream_places from (row ∷ rows) = from ∷ stream_places (from + data_of row) rows
 
 abbrev pub tables_in : Parts → Tables
-tables_in p = record { place = p.place; documents = p.documents.items; terms = rows_in p.text.items p.spans.items }
+tables_in p = record { place = p.place; documents = p.documents.value; terms = rows_in p.text.items p.spans.items }
 
 -- the rows have their places beside them and keep the rules of a segment, which ends on the disk
 pub record AreParts (p : Parts) : Type 0 where
-  pub names_are : p.names.items ≡ name_places (p.place + 32) start p.documents.items
-  pub streams_are : places_in p.spans.items ≡ stream_places (p.place + length (tables_bytes p.documents.items (rows_in p.text.items p.spans.items))) (rows_in p.text.items p.spans.items)
-  pub keeps : KeepRules (total_of p.documents.items (rows_in p.text.items p.spans.items)) p.documents.items (rows_in p.text.items p.spans.items)
-  pub below : p.place + total_of p.documents.items (rows_in p.text.items p.spans.items) < 2 ^ 64
+  pub names_are : p.names.items ≡ name_places (p.place + 32) start p.documents.value
+  pub streams_are : places_in p.spans.items ≡ stream_places (p.place + length (tables_bytes p.documents.value (rows_in p.text.items p.spans.items))) (rows_in p.text.items p.spans.items)
+  pub keeps : KeepRules (total_of p.documents.value (rows_in p.text.items p.spans.items)) p.documents.value (rows_in p.text.items p.spans.items)
+  pub below : p.place + total_of p.documents.value (rows_in p.text.items p.spans.items) < 2 ^ 64

@@ -4,7 +4,7 @@ ghost use Rattle.alta_format.specs.Gives.{Gives};
 ghost use Rattle.alta_format.specs.Format.{read, part};
 ghost use Rattle.alta_table.specs.Answers.{Answers};
 ghost use Rattle.alta_table.specs.Documents.{rises, are_cells, is_name_len, is_graphic_text, row_format, documents_format};
-ghost use Rattle.alta_content.specs.Rows.{end_of, start};
+ghost use Rattle.alta_content.specs.Rows.{AreDocuments, end_of, start};
 ghost use Rattle.alta_table.specs.Places.{name_places};
 
 use crate::fault::LevelFault;
@@ -148,6 +148,7 @@ pub fn read_documents(
 ) -> Result<DocumentPart, LevelFault>
     requires { place + length bytes.now < 2 ^ 64 }
     ensures exact { Answers (λ x. x.rows.items) result (part (documents_format count) bytes.now place) }
+    ensures stand { IfOk result (λ x. AreDocuments x.rows.items) }
     ensures names { IfOk result (λ x. x.names.items ≡ name_places place start x.rows.items) }
 {
     match rows_of(alloc, count, bytes, place) {

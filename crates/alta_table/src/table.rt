@@ -2,7 +2,8 @@
 ghost use Rattle.std.specs.Prelude.{◌≡◌, ℕ, ◌+◌, ◌-◌, ◌<◌, ◌≤◌, ◌^◌, length, take, Some, Ok, IfOk, MatchOption, slice_get, slice_index};
 ghost use Rattle.std.specs.List.{list_any, starts_with};
 ghost use Rattle.alta_table.specs.Answers.{Answers, IfDamaged, IsDamaged, IsFound};
-ghost use Rattle.alta_content.specs.Rows.{start};
+ghost use Rattle.alta_codec.specs.Rising.{IsRising};
+ghost use Rattle.alta_content.specs.Rows.{ends_of, start};
 ghost use Rattle.alta_table.specs.Terms.{counts_of, data_bytes, is_end, terms_of};
 ghost use Rattle.alta_table.specs.Tables.{AreTables, IsDamage, KeepRules, Tables, read_head, tables_bytes, tables_of, total_of};
 ghost use Rattle.alta_table.specs.Places.{name_place, name_places, places_in, row_in, rows_in, stream_extent, stream_places, summary_extent, tables_in};
@@ -18,9 +19,10 @@ use crate::span::{TermSpan, term_of};
 use crate::term::TermRow;
 use crate::terms::read_terms;
 use alta_codec::{Bytes, Extent};
-use alta_content::DocRow;
+use alta_content::{DocRow, LevelRows};
 use std::alloc::{AllocError, Global};
 use std::marker::Model;
+use std::rc::Rc;
 
 /// Head, documents and terms of a segment. Contracts see the segment's place on the disk and the rows.
 #[derive(Drop)]
@@ -83,12 +85,24 @@ fn rows_at(alloc: Global, text: &[u8], spans: &[TermSpan]) -> Result<Vec<TermRow
     Ok(rows)
 }
 
+// Rows of documents, to be shared.
+fn shared(alloc: Global, rows: Vec<DocRow>) -> Result<Rc<LevelRows>, AllocError>
+    requires { IsRising (ends_of rows.items) }
+    ensures { IfOk result (λ shared. shared.value ≡ rows.items) }
+{
+    let rows = LevelRows::new(alloc, rows)?;
+    match Rc::new(alloc, rows) {
+        Ok(shared) => Ok(shared),
+        Err(_) => Err(AllocError),
+    }
+}
+
 #[tactic(auto, unfolding(crate::specs::Tables::tables_of))]
 fn opened(alloc: Global, bytes: &[u8], place: u64, total: u64) -> Result<Parts, LevelFault>
     requires below { place + total < 2 ^ 64 }
     requires whole { (h : Head) → read_head bytes.now place total ≡ Ok h → length bytes.now ≡ 32 + h.document_bytes + h.term_bytes }
     ensures exact { Answers tables_in result (tables_of bytes.now place total) }
-    ensures names { IfOk result (λ p. p.names.items ≡ name_places (place + 32) start p.documents.items) }
+    ensures names { IfOk result (λ p. p.names.items ≡ name_places (place + 32) start p.documents.value) }
     ensures streams { IfOk result (λ p. places_in p.spans.items ≡ stream_places (place + total - data_bytes (rows_in p.text.items p.spans.items)) (rows_in p.text.items p.spans.items)) }
 {
     let head = head(bytes, place, total)?;
@@ -105,9 +119,12 @@ fn opened(alloc: Global, bytes: &[u8], place: u64, total: u64) -> Result<Parts, 
     if !has_end(&terms.text, &terms.spans) {
         return Err(LevelFault::Damaged(place + 8));
     }
+    let Ok(rows) = shared(alloc, documents.rows) else {
+        return Err(LevelFault::Memory);
+    };
     Ok(Parts {
         place,
-        documents: documents.rows,
+        documents: rows,
         names: documents.names,
         text: terms.text,
         spans: terms.spans,
@@ -155,12 +172,21 @@ impl Table {
         // They keep the rules, and so do the terms, of which one is `D`.
         ensures kept { KeepRules (total_of self.now.documents self.now.terms) self.now.documents self.now.terms }
     {
+        self.parts.documents.as_slice()
+    }
+
+    /// The same documents, to be shared, with their ends in a list of their own.
+    pub fn rows(&self) -> &Rc<LevelRows>
+        ensures rows { result.now.value ≡ self.now.documents }
+        // They keep the rules, and so do the terms, of which one is `D`.
+        ensures kept { KeepRules (total_of self.now.documents self.now.terms) self.now.documents self.now.terms }
+    {
         &self.parts.documents
     }
 
-    /// The documents, without a copy, and the terms, each in memory of its own.
-    pub fn into_rows(self, alloc: Global) -> Result<(Vec<DocRow>, Vec<TermRow>), AllocError>
-        ensures documents { IfOk result (λ x. x.0.items ≡ self.documents) }
+    /// The documents, as [`rows`](Table::rows) gives them, and the terms, each in memory of its own. Fails for want of memory alone.
+    pub fn into_rows(self, alloc: Global) -> Result<(Rc<LevelRows>, Vec<TermRow>), AllocError>
+        ensures documents { IfOk result (λ x. x.0.value ≡ self.documents) }
         ensures terms { IfOk result (λ x. x.1.items ≡ self.terms) }
     {
         let parts = self.parts;

@@ -1,5 +1,5 @@
 -- What a leaf is, by its form.
-use Rattle.std.specs.Prelude.{ℕ, ◌+◌, ◌*◌, ◌≤◌, List, length, slice_index_or}
+use Rattle.std.specs.Prelude.{ℕ, ◌≤◌, List, length, slice_index_or}
 use Rattle.alta_codec.specs.declared.location.TheConstants.{TOP}
 use Rattle.alta_codec.specs.Rising.{IsRising, IsPlace}
 use Rattle.alta_codec.proofs.ByIndex.{at_place}

@@ -6,7 +6,6 @@ mod checking;
 #[cfg(test)]
 mod coded_tests;
 mod compared;
-mod gallop;
 mod leaf;
 mod plain;
 mod posting;

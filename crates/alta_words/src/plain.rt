@@ -4,8 +4,7 @@ ghost use Rattle.alta_codec.specs.Rising.{IsRising, first_from, pred_of, count_f
 ghost use Rattle.alta_codec.proofs.ByIndex.{at_place};
 ghost use Rattle.alta_codec.specs.declared.location.TheConstants.{TOP};
 
-use crate::gallop::index_from;
-use alta_codec::{Loc, Steps, TOP};
+use alta_codec::{Loc, Steps, TOP, index_from};
 use alta_reader::{BackReader, Reader};
 use std::sync::ledger::Ledger;
 

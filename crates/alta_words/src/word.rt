@@ -7,8 +7,7 @@ ghost use Rattle.alta_summary.specs.Table.{field_at};
 ghost use Rattle.alta_words.specs.Held.{IsSoundWord, word_list, word_place, word_rises, word_stands};
 ghost use Rattle.alta_words.specs.Word.{IsPosting, HoldsBlock};
 
-use crate::gallop::{index_from, near_from};
-use alta_codec::{Loc, Steps, TOP};
+use alta_codec::{Loc, Steps, TOP, index_from, near_from};
 use alta_postings::Stream;
 use alta_reader::{BackReader, Reader};
 use alta_summary::Summary;

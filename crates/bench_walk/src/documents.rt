@@ -2,12 +2,11 @@
 ghost use Rattle.std.specs.Prelude.{◌≡◌, ◌+◌, ◌<◌, ◌≤◌, ◌^◌, map, IfOk};
 ghost use Rattle.alta_codec.specs.Rising.{IsRising};
 ghost use Rattle.alta_codec.specs.declared.location.TheConstants.{TOP};
-ghost use Rattle.alta_content.specs.Rows.{end_of};
-ghost use Rattle.alta_rows.specs.All.{ends_of};
+ghost use Rattle.alta_content.specs.Rows.{end_of, ends_of};
 
 use alta_codec::{Loc, TOP, Text};
-use alta_content::DocRow;
-use alta_rows::{AllRows, LevelRows};
+use alta_content::{DocRow, LevelRows};
+use alta_rows::AllRows;
 use std::alloc::{AllocError, Global};
 use std::rc::Rc;
 

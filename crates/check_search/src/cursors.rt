@@ -3,16 +3,16 @@ ghost use Rattle.std.specs.Prelude.{◌≡◌, ◌<◌, [], ◌∷◌, length, I
 ghost use Rattle.alta_codec.specs.Rising.{IsRising};
 ghost use Rattle.alta_compile.specs.Space.{document_end};
 ghost use Rattle.alta_compile.specs.View.{tree};
-ghost use Rattle.alta_rows.specs.All.{ends_of};
+ghost use Rattle.alta_content.specs.Rows.{ends_of};
 ghost use Rattle.alta_search.specs.Lists.{test_in, test_lists, test_keys, IsCut, AreKeys};
 ghost use Rattle.alta_search.specs.Plans.{tests_of};
 
 use alta_codec::{Bytes, Loc, Steps, Text};
 use alta_compile::Plan;
-use alta_content::DocRow;
+use alta_content::{DocRow, LevelRows};
 use alta_meta::kinds::DOCUMENT_END;
 use alta_query::Test;
-use alta_rows::{AllRows, LevelRows};
+use alta_rows::AllRows;
 use alta_search::{
     CURSORS, Cursor, Cursors, LevelList, Page, Snapshot, Stored, TermLists, TestLists,
 };

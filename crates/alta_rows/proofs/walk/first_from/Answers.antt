@@ -1,6 +1,7 @@
 use Rattle.std.proofs.Common.{◌≡◌, ◌<◌, [], map, length, get_or, sym, ap, ◌∙◌, arith}
 use Rattle.std.proofs.lemmas.List.{length-map}
-use Rattle.alta_rows.specs.All.{shared_rows, ends_of}
+use Rattle.alta_content.specs.Rows.{ends_of}
+use Rattle.alta_rows.specs.All.{shared_rows}
 use Rattle.alta_rows.proofs.Levels.{map_at, end_is, rows_fit, front_passed, more_passed, next_place}
 use Rattle.alta_rows.proofs.walk.first_from.Goals as goal
 

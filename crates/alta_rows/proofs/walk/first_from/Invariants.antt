@@ -1,5 +1,6 @@
 use Rattle.std.proofs.Common.{ℕ, ◌+◌, ◌-◌, ◌<◌, map, length, get_or}
-use Rattle.alta_rows.specs.All.{shared_rows, rows_of_levels, ends_of, IsPlace}
+use Rattle.alta_content.specs.Rows.{ends_of}
+use Rattle.alta_rows.specs.All.{shared_rows, rows_of_levels, IsPlace}
 use Rattle.alta_rows.proofs.walk.first_from.Given as goal
 
 abbrev pub invariant-levels : goal.invariant-levels

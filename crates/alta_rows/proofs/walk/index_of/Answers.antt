@@ -1,8 +1,8 @@
 use Rattle.std.proofs.Common.{◌≡◌, ◌+◌, ◌<◌, [], map, length, get_or, sym, ap, ◌∙◌, arith}
-use Rattle.std.proofs.lemmas.List.{length-map}
-use Rattle.alta_content.specs.Rows.{end_of}
-use Rattle.alta_rows.specs.All.{shared_rows, rows_of_levels, ends_of}
-use Rattle.alta_rows.proofs.Levels.{map_at, read_at, level_fits, index_fits, end_is, rows_fit, none_here}
+use Rattle.std.proofs.lemmas.List.{get_or-map, length-map}
+use Rattle.alta_content.specs.Rows.{end_of, ends_of}
+use Rattle.alta_rows.specs.All.{shared_rows, rows_of_levels}
+use Rattle.alta_rows.proofs.Levels.{map_at, level_fits, index_fits, end_is, rows_fit, none_here}
 use Rattle.alta_rows.proofs.walk.index_of.Goals as goal
 
 pub overflow_add-result : goal.overflow_add-result
@@ -21,7 +21,7 @@ returns-then-ends-place-clause-there c = λ d.
     let are : c.ends-ends.result.now ≡ ends_of (get_or levels p.level []) =
     c.ends-ends.ensures.value ∙ ap ends_of (c.deref.ensures ∙ sym (map_at shared_rows c.args.levels.now p.level c.index-levels-place.result [] c.if-place-levels.false c.index-levels-place.is)) in
     let inside : p.index < length c.ends-ends.result.now = omega (arith, c.requires.stands c.if-place-levels.false, ap length are, length-map (get_or levels p.level []) end_of) in
-    sym (read_at end_of (rows_of_levels levels) (p.before + p.index) d (omega (arith, level_fits levels p.level p.before p.index c.requires.place l, c.requires.stands c.if-place-levels.false)))
+    sym (get_or-map end_of (rows_of_levels levels) (p.before + p.index) d 0 (omega (arith, level_fits levels p.level p.before p.index c.requires.place l, c.requires.stands c.if-place-levels.false)))
     ∙ end_is levels p.level p.before p.index c.requires.place l c.ends-ends.result.now are p.index inside ∙ omega (arith, c.if-ends-place.true)
 
 pub returns-else-ends-place-clause-none : goal.returns-else-ends-place-clause-none

@@ -24,7 +24,7 @@ returns-clause-added c = λ s knows.
     ap (λ (n : ℕ). made n c.from_string.result) long
     ∙ ap (made (length c.deref.result.now)) (c.from_string.ensures ∙ c.in_ok-from_str.ensures.ok) in
     knows_added c.args.self.now s knows _ c.args.name.now c.args.title.now c.args.body.now c.requires.named c.utf8.title c.utf8.body c.requires.short (c.requires.free s knows) (c.requires.left s knows)
-    c.deref.result.now (c.deref.ensures.value ∙ c.in_ok-cells.ensures.value) _ row_is c.in_ok-add.ensures.sound c.in_ok-add.ensures.added c.in_ok-note.ensures refl refl refl refl refl
+    c.deref.result.now (c.deref.ensures.value ∙ c.in_ok-cells.ensures.value) _ row_is c.in_ok-add.ensures.sound c.in_ok-add.ensures.added c.in_ok-note.ensures refl refl refl refl
     (ap (λ (n : ℕ). c.args.self.now.location + n) long) refl (ap (λ (n : ℕ). c.args.self.now.words + (n - 3)) long)
 
 pub returns-clause-follows : goal.returns-clause-follows

@@ -72,7 +72,7 @@ returns-clause-deleted c = λ e s knows.
     let alive : Contains c.args.self.now.gone (end_of c.in-Some.row.now) → ⊥ = λ has. false≢true (c.if-holds.ensures.1 (subst (Contains c.args.self.now.gone) (sym c.end_of-end.ensures) has)) in
     let less = counted c.args.self.now s knows c.args.number at.0 at.1 at.2 c.in-Some.row.now at.3 alive in (
       there_is c.args.self.now s knows c.args.number at.0 at.1 at.2 c.in-Some.row.now at.3 alive,
-      knows_deleted c.args.self.now s knows c.args.number at.0 at.1 at.2 c.in-Some.row.now at.3 alive _ refl refl refl refl refl refl
+      knows_deleted c.args.self.now s knows c.args.number at.0 at.1 at.2 c.in-Some.row.now at.3 alive _ refl refl refl refl refl
           (subst (λ (end : ℕ). (x : ℕ) → Contains c.delete.new.self x ↔ (Contains c.args.self.now.gone x ⊎ (x ≡ end))) c.end_of-end.ensures c.in_ok-delete.ensures.members) c.in_ok-delete.ensures.rising
           (subst (λ (bytes : List ℕ). (q : List ℕ) → get_by_text c.forget.new.names q ≡ update bytes_eq (get_by_text c.args.self.now.names) bytes None q) c.as_str.ensures c.forget.ensures)
           (omega (arith, less.0)) (omega (arith, less.1)),

@@ -1,10 +1,9 @@
-use Rattle.std.proofs.Common.{◌<◌, List, ap, length, map, refl, subst, sym, ◌∙◌}
+use Rattle.std.proofs.Common.{◌<◌, List, ap, length, refl, subst, sym, ◌∙◌}
 use Rattle.std.specs.List.{sum_by}
 use Rattle.alta_content.specs.Rows.{live_rows}
 use Rattle.alta_images.specs.Opened.{table_rows}
 use Rattle.alta_table.specs.Tables.{Tables}
 use Rattle.alta_catalog.specs.Counting.{cells_in, row_words}
-use Rattle.alta_catalog.specs.Knowing.{documents_of}
 use Rattle.alta_catalog.proofs.StartingLaws.{cells_below, starts}
 use Rattle.alta_catalog.proofs.catalog.Catalog.new.Goals as goal
 
@@ -19,4 +18,4 @@ returns-clause-knows c = λ s may.
     refl refl refl
     (c.tally_levels-tally.ensures.documents ∙ ap (λ (levels : List Tables). length (live_rows c.in_ok-gone.gone (table_rows levels))) c.deref.ensures.value)
     (c.tally_levels-tally.ensures.words ∙ ap (λ (levels : List Tables). sum_by row_words (live_rows c.in_ok-gone.gone (table_rows levels))) c.deref.ensures.value)
-    (c.in_ok-rows.ensures ∙ ap (map documents_of) c.deref-2.ensures.value) c.new.ensures.sound c.new.ensures.empty s may
+    c.new.ensures.sound c.new.ensures.empty s may

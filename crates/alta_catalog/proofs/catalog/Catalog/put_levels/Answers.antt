@@ -1,5 +1,4 @@
 use Rattle.std.proofs.Common.{refl}
-use Rattle.alta_catalog.specs.Replacing.{some_in}
 use Rattle.alta_catalog.proofs.LevelLaws.{put_is, put_knows, put_same}
 use Rattle.alta_catalog.proofs.catalog.Catalog.put_levels.Goals as goal
 
@@ -7,15 +6,7 @@ pub returns-clause-knows : goal.returns-clause-knows
 returns-clause-knows c = λ before s n olds emptied f is may of.
     put_knows before s f c.args.oldest n c.args.newest may _
     (put_is before c.args.self.now _ s c.args.prepared c.args.oldest n c.args.newest emptied f is
-    (record {
-      first = some_in c.rows_beside-first.result;
-      last = some_in c.rows_beside-last.result;
-      first_are = c.rows_beside-first.ensures;
-      last_are = c.rows_beside-last.ensures;
-      rows = c.put_between.ensures;
-      levels = c.put_between-2.ensures;
-      gone = refl;
-    })
+    (record { levels = c.put_between.ensures; gone = refl })
     (record { memory = refl; first = refl; next = refl; location = refl; count = refl; words = refl; names = refl }))
     olds of
 
@@ -23,13 +14,5 @@ pub returns-clause-same : goal.returns-clause-same
 returns-clause-same c = λ before s n emptied f is may.
     put_same before s f c.args.oldest n c.args.newest may _
     (put_is before c.args.self.now _ s c.args.prepared c.args.oldest n c.args.newest emptied f is
-    (record {
-      first = some_in c.rows_beside-first.result;
-      last = some_in c.rows_beside-last.result;
-      first_are = c.rows_beside-first.ensures;
-      last_are = c.rows_beside-last.ensures;
-      rows = c.put_between.ensures;
-      levels = c.put_between-2.ensures;
-      gone = refl;
-    })
+    (record { levels = c.put_between.ensures; gone = refl })
     (record { memory = refl; first = refl; next = refl; location = refl; count = refl; words = refl; names = refl }))

@@ -1,6 +1,6 @@
 use Rattle.std.proofs.Common.{sym, subst, ◌∙◌}
 use Rattle.alta_codec.specs.Rising.{IsRising}
-use Rattle.alta_rows.specs.All.{ends_of}
+use Rattle.alta_content.specs.Rows.{ends_of}
 use Rattle.alta_rows.proofs.runs.RowRuns.share.Goals as goal
 
 pub new-requires : goal.new-requires

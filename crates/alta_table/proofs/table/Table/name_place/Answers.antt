@@ -9,5 +9,5 @@ index-requires c = omega (arith, c.requires, ap (λ (t : Tables). length t.docum
 
 pub returns : goal.returns
 returns c =
-    let lt : c.args.row < length c.self.inside.parts.documents.items = omega (arith, c.requires, ap (λ (t : Tables). length t.documents) c.self.view_is) in
+    let lt : c.args.row < length c.self.inside.parts.documents.value = omega (arith, c.requires, ap (λ (t : Tables). length t.documents) c.self.view_is) in
     name_is c.self.inside.parts c.args.row c.index.result.now c.self.invariant lt c.index.ensures ∙ ap (λ (t : Tables). name_place t c.args.row) c.self.view_is

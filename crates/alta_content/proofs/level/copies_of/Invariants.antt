@@ -1,5 +1,5 @@
 use Rattle.std.proofs.Common.{◌≡◌, take}
-use Rattle.alta_joins.proofs.level.copy_rows.Given as goal
+use Rattle.alta_content.proofs.level.copies_of.Given as goal
 
 abbrev pub invariant-loop-row : goal.invariant-loop-row
 invariant-loop-row l = l.copies.items ≡ take l.row-index l.rows

@@ -4,10 +4,11 @@ ghost use Rattle.alta_codec.specs.Rising.{IsRising};
 ghost use Rattle.alta_codec.specs.declared.location.TheConstants.{TOP};
 ghost use Rattle.alta_content.specs.Rows.{end_of};
 
+use crate::document::DocRow;
 use alta_codec::Loc;
-use alta_content::DocRow;
 use std::alloc::{AllocError, Global};
 use std::marker::Model;
+use std::rc::Rc;
 
 /// The rows of the documents of a level, in rising order of their ends. The ends stand beside them in a list of their own, so
 /// that a look-up reads eight bytes a row. Contracts see the list of rows.
@@ -39,8 +40,8 @@ fn end_of(row: &DocRow) -> Loc
     row.first + row.cells - 1
 }
 
-/// The ends of the documents.
-pub(crate) fn ends_of(alloc: Global, rows: &[DocRow]) -> Result<Vec<Loc>, AllocError>
+/// The ends of the documents of these rows. It takes eight bytes a row, and fails for want of memory alone.
+pub fn ends_of(alloc: Global, rows: &[DocRow]) -> Result<Vec<Loc>, AllocError>
     requires { IsRising (map end_of rows.now) }
     ensures { IfOk result (λ ends. ends.items ≡ map end_of rows.now) }
 {
@@ -49,6 +50,17 @@ pub(crate) fn ends_of(alloc: Global, rows: &[DocRow]) -> Result<Vec<Loc>, AllocE
         ends.push(end_of(row))?;
     }
     Ok(ends)
+}
+
+/// Equal rows, each with a name in memory of its own.
+fn copies_of(alloc: Global, rows: &[DocRow]) -> Result<Vec<DocRow>, AllocError>
+    ensures { IfOk result (λ copies. copies.items ≡ rows.now) }
+{
+    let mut copies = Vec::with_capacity(alloc, rows.len())?;
+    for row in rows {
+        copies.push(row.copy()?)?;
+    }
+    Ok(copies)
 }
 
 impl LevelRows {
@@ -62,7 +74,7 @@ impl LevelRows {
     }
 
     /// These rows and their ends, without a copy.
-    pub(crate) fn with_ends(rows: Vec<DocRow>, ends: Vec<Loc>) -> LevelRows
+    pub fn with_ends(rows: Vec<DocRow>, ends: Vec<Loc>) -> LevelRows
         requires rising { IsRising (map end_of rows.items) }
         requires ends { ends.items ≡ map end_of rows.items }
         ensures { result ≡ rows.items }
@@ -70,8 +82,26 @@ impl LevelRows {
         LevelRows { rows, ends }
     }
 
+    /// The rows in a vector of their own: the vector that holds them, where nobody else keeps them, and else equal rows. Fails for
+    /// want of memory alone.
+    pub fn unshare(alloc: Global, shared: Rc<LevelRows>) -> Result<Vec<DocRow>, AllocError>
+        ensures { IfOk result (λ rows. rows.items ≡ shared.value) }
+    {
+        match Rc::try_unwrap(shared) {
+            Ok(rows) => Ok(rows.into_rows()),
+            Err(kept) => kept.copy_rows(alloc),
+        }
+    }
+
+    /// Equal rows, each with a name in memory of its own. Fails for want of memory alone.
+    pub fn copy_rows(&self, alloc: Global) -> Result<Vec<DocRow>, AllocError>
+        ensures { IfOk result (λ copies. copies.items ≡ self.now) }
+    {
+        copies_of(alloc, &self.rows)
+    }
+
     /// The vector that holds the rows, without a copy.
-    pub(crate) fn into_rows(self) -> Vec<DocRow>
+    pub fn into_rows(self) -> Vec<DocRow>
         ensures { result.items ≡ self }
     {
         self.rows
@@ -99,7 +129,7 @@ impl LevelRows {
     }
 
     /// The ends of the documents.
-    pub(crate) fn ends(&self) -> &[Loc]
+    pub fn ends(&self) -> &[Loc]
         ensures value { result.now ≡ map end_of self.now }
         ensures rising { IsRising result.now }
     {

@@ -1,5 +1,5 @@
 use Rattle.std.proofs.Common.{ℕ, ◌-◌, ◌<◌, ◌≤◌, length, get_or}
-use Rattle.alta_rows.proofs.gallop.index_from.Given as goal
+use Rattle.alta_codec.proofs.gallop.far_from.Given as goal
 
 abbrev pub invariant-gallop : goal.invariant-gallop
 invariant-gallop l =

@@ -5,7 +5,7 @@ ghost use Rattle.alta_codec.specs.Rising.{IsRising};
 /// The first of four indexes from `from` on whose element is at or above `to`, the index behind them where none is.
 /// It compares all four, so that no branch depends on which it is.
 #[inline(always)]
-pub(crate) fn near_from(list: &[u64], from: usize, to: u64) -> usize
+pub fn near_from(list: &[u64], from: usize, to: u64) -> usize
     requires rising { IsRising list.now }
     requires within { from + 4 ≤ length list.now }
     ensures after { from ≤ result }
@@ -19,9 +19,8 @@ pub(crate) fn near_from(list: &[u64], from: usize, to: u64) -> usize
         + usize::from(list[from + 3] < to)
 }
 
-/// The first index whose element is at or above `to`, the length where there is none.
-/// It looks at about 2 log d elements, d being the distance from `from` to the answer.
-pub(crate) fn index_from(list: &[u64], from: usize, to: u64) -> usize
+/// The first index from `from` on whose element is at or above `to`, the length where there is none.
+fn far_from(list: &[u64], from: usize, to: u64) -> usize
     requires rising { IsRising list.now }
     requires within { from ≤ length list.now }
     requires passed { (k : ℕ) → k < from → slice_index list.now k < to }
@@ -50,4 +49,26 @@ pub(crate) fn index_from(list: &[u64], from: usize, to: u64) -> usize
         }
     }
     low
+}
+
+/// The first index whose element is at or above `to`, the length where there is none. It compares the next four at once, and
+/// behind them looks at about 2 log d elements, d being the distance from `from` to the answer.
+pub fn index_from(list: &[u64], from: usize, to: u64) -> usize
+    requires rising { IsRising list.now }
+    requires within { from ≤ length list.now }
+    requires passed { (k : ℕ) → k < from → slice_index list.now k < to }
+    ensures within { result ≤ length list.now }
+    ensures after { from ≤ result }
+    ensures before { (k : ℕ) → k < result → slice_index list.now k < to }
+    ensures found { result < length list.now → to ≤ slice_index list.now result }
+{
+    if list.len() - from < 4 {
+        return far_from(list, from, to);
+    }
+    let near = near_from(list, from, to);
+    if near < from + 4 {
+        near
+    } else {
+        far_from(list, near, to)
+    }
 }
