@@ -7,16 +7,18 @@ ghost use Rattle.alta_loading.specs.Lists.{KeepsRow, LiesWithin};
 ghost use Rattle.alta_loading.specs.Loads.{KeepRows, Load, Tells, list_at, load_at, load_in, load_size, load_sizes, loads_from, number_of, row_from};
 ghost use Rattle.alta_loading.specs.declared.fault.LoadFault.TheVariants.{Disk as DiskFault};
 ghost use Rattle.alta_loading.specs.Terms.{KeepTerm, if_some, lists_of_term, number_if_some, term_key};
-ghost use Rattle.alta_search.specs.Lists.{key_of, level_in, level_list, term_lists};
+ghost use Rattle.alta_search.specs.Lists.{key_of, level_in, level_list, stored_list, term_lists};
 ghost use Rattle.alta_table.specs.Tables.{Tables};
 
 use crate::fault::LoadFault;
 use crate::list::load_list;
 use alta_codec::{Bytes, Loc};
 use alta_disk::Disk;
+use alta_level::is_end_term;
 use alta_memlevel::MemLevel;
 use alta_search::{LevelList, Stored, TermLists};
 use alta_table::Table;
+use alta_words::Posting;
 use std::alloc::{AllocError, Global};
 
 /// Loads the lists of a term: those of the levels, that of the oldest level first, as they are coded, and behind them a copy
@@ -167,8 +169,22 @@ fn load_row<D: Disk>(
     match load_list(alloc, disk, level, row) {
         Ok(posting) => Ok(LevelList {
             level: number,
-            stored: Stored::Coded(posting),
+            stored: held(level, row, posting)?,
         }),
         Err(fault) => Err(fault),
+    }
+}
+
+// The list of a row as it is kept: where it is that of the ends of documents, as the level's rows have them in a plain form, and else as
+// it is coded.
+fn held(level: &Table, row: usize, posting: Posting) -> Result<Stored, AllocError>
+    requires row { row < length level.now.terms }
+    requires keeps { KeepsRow level.now row posting }
+    ensures { IfOk result (λ stored. stored_list stored ≡ posting) }
+{
+    if is_end_term(level.term(row)) {
+        Ok(Stored::Ends(level.rows().clone()?))
+    } else {
+        Ok(Stored::Coded(posting))
     }
 }
