@@ -1,3 +1,4 @@
+pub mod Pairs
 pub mod Raised
 pub mod Repaired
 pub mod Settling

@@ -17,7 +17,7 @@ pub at_least_trans : (a b c : List ℕ) → length b ≡ length a → IsAtLeast 
 at_least_trans a b c e f h i l = omega (arith, f i l, h i (omega arith))
 
 -- a bound holds on, where the reader that is bounded stays and the other does not go back
-holds_on : (lists : List (List ℕ)) (c : Inequality) (now new : List ℕ) → slice_index new c.i ≡ slice_index now c.i
+pub holds_on : (lists : List (List ℕ)) (c : Inequality) (now new : List ℕ) → slice_index new c.i ≡ slice_index now c.i
     → slice_index now c.j ≤ slice_index new c.j → MeetsBound lists now c → MeetsBound lists new c
 holds_on lists c now new e h holds =
     omega (
@@ -46,7 +46,7 @@ module _ (lists : List (List ℕ)) (bounds : List Inequality) (old new : List �
   solution_place : (x : List ℕ) → IsSolution lists bounds x → IsPlace (list_at lists b.j) (slice_index x b.j)
   solution_place x h = h.places b.j (subst (λ c. c.j < length lists) (is b) (named at b within).1)
 
-  keeps_on : (o : Outcome) → IsMended lists b old new o → (x : List ℕ) → IsSolution lists bounds x → IsAtLeast old x → IsAtLeast new x
+  pub keeps_on : (o : Outcome) → IsMended lists b old new o → (x : List ℕ) → IsSolution lists bounds x → IsAtLeast old x → IsAtLeast new x
   keeps_on o m x h a = m.keeps x a (solution_place x h) (solution_holds x h)
 
   pub tried_settled : IsMended lists b old new Settled → IsTried lists bounds old new (at + 1) (Some at)

@@ -260,7 +260,81 @@ fn try_at<R: BackReader, L: Ledger>(
     }
 }
 
-/// Tests the two bounds that hold reader `m + 1` to the first one. It answers as for one bound.
+/// Brings the first reader on to `to`, where reader `m + 1` stands, so that both bounds of the pair hold. It answers as for one
+/// bound.
+#[inline(always)]
+fn lead<R: BackReader, L: Ledger>(
+    readers: &mut [R],
+    bounds: &[Bound],
+    m: usize,
+    to: Loc,
+    steps: &mut Steps<L>,
+) -> Option<usize>
+    requires sound { All R.sound readers.old }
+    requires named { IsNamed (length readers.old) bounds.now }
+    requires within { 2 * m + 1 < length bounds.now }
+    requires upper { (d : Inequality) → slice_index_or bounds.now (2 * m) d ≡ upper (m + 1) }
+    requires lower { (d : Inequality) → slice_index_or bounds.now (2 * m + 1) d ≡ lower (m + 1) }
+    requires there { slice_index (map R.location readers.old) (m + 1) ≡ to }
+    requires short { slice_index (map R.location readers.old) 0 < to }
+    requires top { to ≤ TOP }
+    ensures sound { All R.sound readers.new }
+    ensures lists { map R.list readers.new ≡ map R.list readers.old }
+    ensures alls { map R.all readers.new ≡ map R.all readers.old }
+    ensures tried { IsTried (map R.list readers.old) bounds.now (map R.location readers.old) (map R.location readers.new) (2 * m + 2) result }
+    ensures falls { IfSome result (λ next. (next < 2 * m + 2) ⊎ (sum_by R.left readers.new < sum_by R.left readers.old)) }
+    ensures keeps { sum_by R.left readers.new ≤ sum_by R.left readers.old }
+    ensures steps { steps.new + sum_by R.left readers.new ≤ steps.old + sum_by R.left readers.old }
+{
+    seek_at(readers, 0, to, steps);
+    if place_at(readers, 0) == TOP {
+        return None;
+    }
+    let next = behind_bounded(bounds, 2 * m + 2, 0);
+    if next == 2 * m + 2 {
+        Some(2 * m)
+    } else {
+        Some(next)
+    }
+}
+
+/// Brings reader `m + 1` on to `to`, the first place behind the element before the first reader's. It answers as for one bound.
+#[inline(always)]
+fn follow<R: BackReader, L: Ledger>(
+    readers: &mut [R],
+    bounds: &[Bound],
+    m: usize,
+    to: Loc,
+    steps: &mut Steps<L>,
+) -> Option<usize>
+    requires sound { All R.sound readers.old }
+    requires named { IsNamed (length readers.old) bounds.now }
+    requires within { 2 * m + 1 < length bounds.now }
+    requires upper { (d : Inequality) → slice_index_or bounds.now (2 * m) d ≡ upper (m + 1) }
+    requires lower { (d : Inequality) → slice_index_or bounds.now (2 * m + 1) d ≡ lower (m + 1) }
+    requires led { slice_index (map R.location readers.old) 0 < TOP }
+    requires there { pred_of (list_at (map R.list readers.old) 0) (slice_index (map R.location readers.old) 0) + 1 ≡ to }
+    requires short { slice_index (map R.location readers.old) (m + 1) < to }
+    requires top { to ≤ TOP }
+    ensures sound { All R.sound readers.new }
+    ensures lists { map R.list readers.new ≡ map R.list readers.old }
+    ensures alls { map R.all readers.new ≡ map R.all readers.old }
+    ensures tried { IsTried (map R.list readers.old) bounds.now (map R.location readers.old) (map R.location readers.new) (2 * m + 2) result }
+    ensures falls { IfSome result (λ next. (next < 2 * m + 2) ⊎ (sum_by R.left readers.new < sum_by R.left readers.old)) }
+    ensures keeps { sum_by R.left readers.new ≤ sum_by R.left readers.old }
+    ensures steps { steps.new + sum_by R.left readers.new ≤ steps.old + sum_by R.left readers.old }
+{
+    seek_at(readers, m + 1, to, steps);
+    let next = behind_bounded(bounds, 2 * m + 2, m + 1);
+    if next == 2 * m + 2 && place_at(readers, m + 1) <= place_at(readers, 0) {
+        Some(2 * m)
+    } else {
+        Some(next)
+    }
+}
+
+/// Tests the two bounds that hold reader `m + 1` to the first one, of which one at most does not hold, and mends that one. It
+/// answers as for one bound.
 fn try_pair<R: BackReader, L: Ledger>(
     readers: &mut [R],
     bounds: &[Bound],
@@ -282,21 +356,15 @@ fn try_pair<R: BackReader, L: Ledger>(
     ensures keeps { sum_by R.left readers.new ≤ sum_by R.left readers.old }
     ensures steps { steps.new + sum_by R.left readers.new ≤ steps.old + sum_by R.left readers.old }
 {
-    let next = try_at(
-        readers,
-        bounds,
-        2 * m + 1,
-        Form::PrevLoc,
-        0,
-        m + 1,
-        0,
-        1,
-        steps,
-    )?;
-    if next != 2 * m + 1 {
-        return Some(next);
+    let at = place_at(readers, m + 1);
+    if place_at(readers, 0) < at {
+        return lead(readers, bounds, m, at, steps);
     }
-    try_at(readers, bounds, 2 * m, Form::LocLoc, m + 1, 0, 0, 0, steps)
+    let before = prev_at(readers, 0);
+    if before < at {
+        return Some(2 * m);
+    }
+    follow(readers, bounds, m, before + 1, steps)
 }
 
 /// Tests the bound in front of `at`, and with the second of a pair the first too. It answers as for one bound.

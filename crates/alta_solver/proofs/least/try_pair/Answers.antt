@@ -1,16 +1,27 @@
-use Rattle.std.proofs.Common.{◌≡◌, ◌+◌, ◌*◌, Some, map, subst, arith}
-use Rattle.alta_solver.specs.Settling.{IsTried}
-use Rattle.alta_solver.proofs.Settling.{tried_then}
+use Rattle.std.proofs.Common.{◌+◌, ◌*◌, ◌<◌, map, length, subst, arith}
+use Rattle.std.specs.Prelude.{slice_index}
+use Rattle.alta_codec.proofs.Places.{pred_of-below_top}
+use Rattle.alta_solver.specs.Inequality.{Inequality, upper}
+use Rattle.alta_solver.specs.Solution.{list_at}
+use Rattle.alta_solver.proofs.Pairs.{pair_settled}
 use Rattle.alta_solver.proofs.least.try_pair.Goals as goal
 
-pub returns-clause-tried : goal.returns-clause-tried
-returns-clause-tried g c =
-    let f = g.R.Reader.list in let h = g.R.Reader.location in
-    let old = c.args.readers.now in let mid = c.try_at.new.readers in
-    let here : c.in_ok-next.next ≡ 2 * c.args.m + 1 = c.if-next-m.false in
-    let whole : 2 * c.args.m + 1 + 1 ≡ 2 * c.args.m + 2 = omega arith in
-    let one : IsTried (map f old) c.args.bounds.now (map h old) (map h mid) (2 * c.args.m + 2) (Some (2 * c.args.m + 1)) =
-    subst (λ n. IsTried (map f old) c.args.bounds.now (map h old) (map h mid) (2 * c.args.m + 2) (Some n)) here
-    (subst (λ n. IsTried (map f old) c.args.bounds.now (map h old) (map h mid) n (Some c.in_ok-next.next)) whole c.in_ok-next.ensures.tried) in
-    let two : IsTried (map f mid) c.args.bounds.now (map h mid) (map h c.try_at-2.new.readers) (2 * c.args.m + 1) c.try_at-2.result = c.try_at-2.ensures.tried in
-    tried_then _ _ _ _ _ _ (2 * c.args.m + 2) (2 * c.args.m + 1) c.try_at-2.result c.try_at.ensures.lists one two
+pub place_at-at-requires-clause-within : goal.place_at-at-requires-clause-within
+place_at-at-requires-clause-within g c =
+    let b : Inequality = upper (c.args.m + 1) in
+    subst (λ (x : Inequality). x.i < length c.args.readers.now) (c.requires.upper b) (c.requires.named (2 * c.args.m) b (omega (arith, c.requires.within))).0
+
+pub follow-requires-clause-top : goal.follow-requires-clause-top
+follow-requires-clause-top g c =
+    omega (
+      arith,
+      c.prev_at-before.ensures.value,
+      pred_of-below_top (list_at (map g.R.Reader.list c.args.readers.now) 0) (slice_index (map g.R.Reader.location c.args.readers.now) 0) c.place_at.ensures.rising,
+    )
+
+pub returns-then-before-at-clause-tried : goal.returns-then-before-at-clause-tried
+returns-then-before-at-clause-tried g c =
+    pair_settled (map g.R.Reader.list c.args.readers.now) c.args.bounds.now (map g.R.Reader.location c.args.readers.now) c.args.m c.requires.within c.requires.upper c.requires.lower
+    (omega (arith, c.place_at-at.ensures.value, c.place_at.ensures.value, c.if-place_at-at.false))
+    (omega (arith, c.place_at-at.ensures.value, c.prev_at-before.ensures.value, c.if-before-at.true))
+    c.requires.led

@@ -1,0 +1,149 @@
+-- The two bounds that hold a reader to the first one: the raise that mends the one that does not hold.
+use Rattle.std.proofs.Common.{◌≡◌, ◌≢◌, ⊎_elim, ℕ, ◌+◌, ◌*◌, ◌<◌, ◌≤◌, true, Option, None, Some, List, length, get_or, set, refl, sym, subst, ap, inl, inr, ◌∙◌, arith}
+use Rattle.std.proofs.lemmas.Bool.{cases_lt}
+use Rattle.std.proofs.lemmas.List.{get_or-set_same}
+use Rattle.std.specs.Prelude.{slice_index}
+use Rattle.alta_codec.specs.declared.location.TheConstants.{TOP}
+use Rattle.alta_codec.specs.Rising.{first_from, pred_of}
+use Rattle.alta_codec.proofs.Places.{first_from-above, first_from-least, pred_of-below, pred_of-place}
+use Rattle.alta_solver.specs.declared.form.Form.TheVariants.{LocLoc, PrevLoc}
+use Rattle.alta_solver.specs.declared.least.Outcome.{Outcome}
+use Rattle.alta_solver.specs.declared.least.Outcome.TheVariants.{Moved, Stuck}
+use Rattle.alta_solver.specs.Inequality.{Inequality, upper, lower, IsNamed}
+use Rattle.alta_solver.specs.Repair.{IsRepaired, IsMended}
+use Rattle.alta_solver.specs.Settling.{HoldFrom, IsTried}
+use Rattle.alta_solver.specs.Solution.{list_at, MeetsBound, IsRaised}
+use Rattle.alta_solver.proofs.Raised.{raised_loc, same_or_not}
+use Rattle.alta_solver.proofs.Repaired.{repaired_moved}
+use Rattle.alta_solver.proofs.Settling.{holds_on, keeps_on, tried_stuck}
+
+-- the element before the first at or above a number is below the number
+pub before_first_from : (xs : List ℕ) (to : ℕ) → 0 < to → to ≤ TOP → pred_of xs (first_from xs to) < to
+before_first_from xs to some top =
+    let f = first_from xs to in
+    let above : to ≤ f = first_from-above xs to top in
+    ⊎_elim
+    (λ m. ⊎_elim (λ lt. lt) (λ ge. absurd (omega (arith, first_from-least xs to (pred_of xs f) m ge, pred_of-below xs f (omega (arith, some, above)))))
+    (cases_lt (pred_of xs f) to))
+    (λ z. omega (arith, z, some))
+    (pred_of-place xs f)
+
+-- where the first place is below TOP behind a repair, the bound is mended
+pub mended_moved : (lists : List (List ℕ)) (b : Inequality) (old new : List ℕ) → IsRepaired lists b old new Moved → slice_index new 0 < TOP
+    → IsMended lists b old new Moved
+mended_moved lists b old new r led =
+    record {
+      forward = r.forward;
+      sized = r.sized;
+      keeps = r.keeps;
+      others = r.others;
+      moved = r.moved;
+      settled = r.settled;
+      led = λ _. led;
+      stuck = λ e. absurd cc;
+    }
+
+-- where it is not, nothing mends it
+pub mended_stuck : (lists : List (List ℕ)) (b : Inequality) (old new : List ℕ) → 0 < length old → IsRepaired lists b old new Moved → TOP ≤ slice_index new 0
+    → IsMended lists b old new Stuck
+mended_stuck lists b old new some r past =
+    record {
+      forward = r.forward;
+      sized = r.sized;
+      keeps = r.keeps;
+      others = r.others;
+      moved = λ e. absurd cc;
+      settled = λ e. absurd cc;
+      led = λ n. absurd (n refl);
+      stuck = λ e x lt a p holds. omega (arith, r.keeps x a p holds 0 (omega (arith, r.sized, some)), lt, past);
+    }
+
+-- the first reader brought on to where reader `m + 1` stands
+pub led_repaired : (lists : List (List ℕ)) (old new : List ℕ) (m to : ℕ) → m + 1 < length old → slice_index old (m + 1) ≡ to → slice_index old 0 < to → to ≤ TOP
+    → new ≡ set old 0 (first_from (list_at lists 0) to) → IsRepaired lists (upper (m + 1)) old new Moved
+led_repaired lists old new m to within there short top e =
+    let raised : IsRaised (list_at lists 0) LocLoc to old 0 new true =
+    raised_loc (list_at lists 0) LocLoc to old 0 new (inl refl) top (omega (arith, within)) short e in
+    repaired_moved lists (upper (m + 1)) old new to within (omega (arith, there)) (omega (arith, there)) raised
+
+-- then the element before it is below that place
+pub led_lower : (lists : List (List ℕ)) (old new : List ℕ) (m to : ℕ) → m + 1 < length old → slice_index old (m + 1) ≡ to → slice_index old 0 < to → to ≤ TOP
+    → new ≡ set old 0 (first_from (list_at lists 0) to) → MeetsBound lists new (lower (m + 1))
+led_lower lists old new m to within there short top e =
+    let r = led_repaired lists old new m to within there short top e in
+    let first : slice_index new 0 ≡ first_from (list_at lists 0) to =
+    ap (λ xs. slice_index xs 0) e ∙ get_or-set_same old 0 (first_from (list_at lists 0) to) 0 (omega (arith, within)) in
+    let same : slice_index new (m + 1) ≡ slice_index old (m + 1) = r.others (m + 1) (λ z. omega (arith, z)) in
+    omega (
+      arith,
+      ap (λ x. pred_of (list_at lists 0) x) first,
+      before_first_from (list_at lists 0) to (omega (arith, short)) top,
+      same,
+      there,
+    )
+
+-- reader `m + 1` brought on behind the element before the first one's place
+pub followed_repaired : (lists : List (List ℕ)) (old new : List ℕ) (m to : ℕ) → m + 1 < length old → pred_of (list_at lists 0) (slice_index old 0) + 1 ≡ to
+    → slice_index old (m + 1) < to → to ≤ TOP → new ≡ set old (m + 1) (first_from (list_at lists (m + 1)) to) → IsRepaired lists (lower (m + 1)) old new Moved
+followed_repaired lists old new m to within there short top e =
+    let raised : IsRaised (list_at lists (m + 1)) PrevLoc to old (m + 1) new true =
+    raised_loc (list_at lists (m + 1)) PrevLoc to old (m + 1) new (inr refl) top within short e in
+    repaired_moved lists (lower (m + 1)) old new to (omega (arith, within)) (omega (arith, there)) (omega (arith, there)) raised
+
+module _ (lists : List (List ℕ)) (bounds : List Inequality) (old new : List ℕ) (at : ℕ) (b : Inequality)
+    (within : at < length bounds) (is : (d : Inequality) → get_or bounds at d ≡ b) (named : IsNamed (length lists) bounds) (sized : length old ≡ length lists)
+    (next : ℕ) (inside : next ≤ length bounds) (free : (k : ℕ) (d : Inequality) → next ≤ k → k < length bounds → (get_or bounds k d).i ≢ b.j)
+    (m : IsMended lists b old new Moved) where
+  -- bounds in which the reader that was moved is not bounded hold on
+  hold_behind : (from : ℕ) → from ≤ next → HoldFrom lists bounds from old → HoldFrom lists bounds next new
+  hold_behind from le h k d l w =
+      holds_on lists (get_or bounds k d) old new (m.others (get_or bounds k d).i (free k d w l))
+      (m.forward (get_or bounds k d).j (omega (arith, (named k d l).1, sized))) (h k d l (omega (arith, le, w)))
+
+  -- the bounds from `first` on hold, where those in front of `next` do
+  pub tried_from : (from first : ℕ) → from ≤ next → first ≤ next
+      → ((k : ℕ) (d : Inequality) → first ≤ k → k < next → k < length bounds → MeetsBound lists new (get_or bounds k d))
+      → IsTried lists bounds old new from (Some first)
+  tried_from from first le lower here =
+      record {
+        forward = m.forward;
+        sized = m.sized;
+        keeps = keeps_on lists bounds old new at b within is named sized Moved m;
+        led = m.led (λ e. cc);
+        hold = λ h k d l w. ⊎_elim (λ lt. here k d w lt l) (λ ge. hold_behind from le h k d l ge) (cases_lt k next);
+        within = omega (arith, lower, inside);
+        none = λ e. absurd cc;
+      }
+
+-- the two bounds of a pair, where no other stands between them and what holds behind them
+pub pair_holds : (lists : List (List ℕ)) (bounds : List Inequality) (new : List ℕ) (m next : ℕ) → next ≡ 2 * m + 2
+    → ((d : Inequality) → get_or bounds (2 * m) d ≡ upper (m + 1)) → ((d : Inequality) → get_or bounds (2 * m + 1) d ≡ lower (m + 1))
+    → MeetsBound lists new (upper (m + 1)) → MeetsBound lists new (lower (m + 1))
+    → (k : ℕ) (d : Inequality) → 2 * m ≤ k → k < next → k < length bounds → MeetsBound lists new (get_or bounds k d)
+pair_holds lists bounds new m next e above below first second k d w l inside =
+    ⊎_elim
+    (λ same. subst (λ c. MeetsBound lists new c) (sym (ap (λ n. get_or bounds n d) same ∙ above d)) first)
+    (λ n. let same : k ≡ 2 * m + 1 = omega (arith, n, w, l, e) in
+    subst (λ c. MeetsBound lists new c) (sym (ap (λ i. get_or bounds i d) same ∙ below d)) second)
+    (same_or_not k (2 * m))
+
+-- where there is no solution, it does not matter how far the bounds held
+pub none_anywhere : (lists : List (List ℕ)) (bounds : List Inequality) (old new : List ℕ) (at other : ℕ) → IsTried lists bounds old new at None → IsTried lists bounds old new other None
+none_anywhere lists bounds old new at other t =
+    record { forward = t.forward; sized = t.sized; keeps = t.keeps; led = tt; hold = tt; within = tt; none = t.none }
+
+-- where both bounds of a pair hold, nothing has to move
+pub pair_settled : (lists : List (List ℕ)) (bounds : List Inequality) (xs : List ℕ) (m : ℕ) → 2 * m + 1 < length bounds
+    → ((d : Inequality) → get_or bounds (2 * m) d ≡ upper (m + 1)) → ((d : Inequality) → get_or bounds (2 * m + 1) d ≡ lower (m + 1))
+    → MeetsBound lists xs (upper (m + 1)) → MeetsBound lists xs (lower (m + 1)) → slice_index xs 0 < TOP
+    → IsTried lists bounds xs xs (2 * m + 2) (Some (2 * m))
+pair_settled lists bounds xs m within above below first second led =
+    record {
+      forward = λ i l. omega arith;
+      sized = refl;
+      keeps = λ x s h. h;
+      led = led;
+      hold = λ h k d l w. ⊎_elim (λ lt. pair_holds lists bounds xs m (2 * m + 2) refl above below first second k d w lt l) (λ ge. h k d l ge) (cases_lt k (2 * m + 2));
+      within = omega (arith, within);
+      none = λ e. absurd cc;
+    }
