@@ -2,6 +2,7 @@ pub mod Fields
 pub mod Tables
 pub mod Coded
 pub mod Apart
+pub mod Quarters
 pub mod Streams
 pub mod Joins
 pub mod Faults

@@ -1,15 +1,16 @@
 -- Lists that are read one behind the other.
-use Rattle.std.proofs.Common.{◌≡◌, inl, inr, ℕ, ◌+◌, ◌-◌, ◌^◌, ◌<◌, ◌≤◌, List, [], ◌∷◌, ◌++◌, length, drop, refl, sym, subst, ap, ◌∙◌, arith, length-drop, append_assoc, append-nil}
-use Rattle.std.specs.Prelude.{Option, Some, None}
-use Rattle.std.specs.Vec.Iter.{into_iter_items, into_iter_len, into_iter_steps}
-use Rattle.std.specs.declared.vec.IntoIter.{IntoIter}
+use Rattle.std.proofs.Common.{◌≡◌, inl, inr, ℕ, ◌+◌, ◌-◌, ◌^◌, ◌<◌, ◌≤◌, List, [], ◌∷◌, ◌++◌, length, take, drop, get_or, refl, sym, subst, ap, ◌∙◌, arith, add-one, drop-cons, length-drop, append_assoc, append-nil}
+use Rattle.std.specs.Prelude.{Some, slice_get}
+use Rattle.std.proofs.Math.ListN.{get_or-map}
+use Rattle.std.proofs.lemmas.List.{drop-drop}
 use Rattle.std.proofs.lemmas.List.Sums.{sum_by-cons}
+use Rattle.std.proofs.lemmas.Option.{get_or_from_slice_get}
 use Rattle.alta_content.specs.declared.document.DocRow.{DocRow}
 use Rattle.alta_table.specs.declared.term.TermRow.{TermRow}
-use Rattle.alta_table.specs.Terms.{data_of, data_bytes}
+use Rattle.alta_table.specs.Terms.{counts_of, data_of, data_bytes, streams_of, summaries_of, terms_of}
 use Rattle.alta_content.specs.TermList.{TermList}
-use Rattle.alta_level.specs.Stored.{IsListOf, IsListFault}
-use Rattle.alta_level.specs.Damage.{stored_at, AreListsOf, IsFaultInLists}
+use Rattle.alta_level.specs.Stored.{IsListOf, IsListFault, Stored}
+use Rattle.alta_level.specs.Damage.{no_row, row_at, stored_at, AreListsOf, IsFaultInLists}
 
 -- the lists were read, and those of the rows that are left stand in the bytes that are left
 pub record Progress (documents : List DocRow) (rows : List TermRow) (streams : List ℕ) (start : ℕ) (read : List TermList) (left : List TermRow) (rest : List ℕ) (at : ℕ) : Type 0 where
@@ -62,14 +63,45 @@ pub ends_read : (documents : List DocRow) (rows : List TermRow) (streams : List 
 unfolding AreListsOf
 ends_read documents rows streams start read rest at h = subst (λ (x : List TermList). AreListsOf documents rows streams start x) (append-nil read) (h.found [] refl)
 
--- ---- the rows that a loop has left
+-- ---- the rows, one behind the other
 
-none_left : {X : Type 0} (xs : List X) → length xs ≡ 0 → xs ≡ []
-none_left [] z = refl
-none_left (x ∷ xs) z = absurd (omega arith)
+pub next_row : (rows : List TermRow) (i : ℕ) → i < length rows → drop i rows ≡ row_at rows i ∷ drop (i + 1) rows
+next_row rows i h = rw (add-one, drop-cons rows i no_row)
 
-pub turn : {X Z : Type 0} (s t : IntoIter X Z) (r : Option X) (x : X) → r ≡ Some x → into_iter_steps s r t → (into_iter_items s ≡ x ∷ into_iter_items t) × (into_iter_len t + 1 ≡ into_iter_len s)
-turn s t r x e h = subst (λ o. into_iter_steps s o t) e h
+-- ---- the list of a row
 
-pub end_of_turns : {X Z : Type 0} (s t : IntoIter X Z) (r : Option X) → r ≡ None → into_iter_steps s r t → into_iter_len s ≡ length (into_iter_items s) → into_iter_items s ≡ []
-end_of_turns s t r e h l = let k = subst (λ o. into_iter_steps s o t) e h in none_left (into_iter_items s) (omega (arith, k.0, l))
+abbrev pub put : List ℕ → List ℕ → ℕ → ℕ → List ℕ → ℕ → Stored
+put stream summary place behind term count = record { stream = stream; stream_place = place; summary = summary; summary_place = behind; term = term; count = count }
+
+pub list_of_row : (rows : List TermRow) (i : ℕ) (bytes : List ℕ) (place : ℕ) (stream summary term : List ℕ) (at above count : ℕ)
+    → at ≡ get_or (streams_of rows) i 0 → above ≡ get_or (summaries_of rows) i 0 → slice_get (terms_of rows) i ≡ Some term → count ≡ get_or (counts_of rows) i 0
+    → stream ≡ take at bytes → summary ≡ take above (drop at bytes)
+    → put stream summary place (place + at) term count ≡ stored_at (row_at rows i) bytes place
+list_of_row rows i bytes place stream summary term at above count a b t n s m =
+    let row = row_at rows i in
+    let here : at ≡ row.stream = a ∙ get_or-map (λ r. r.stream) rows i no_row in
+    let over : above ≡ row.summary = b ∙ get_or-map (λ r. r.summary) rows i no_row in
+    let named : term ≡ row.term = sym (get_or_from_slice_get (terms_of rows) i term [] t) ∙ get_or-map (λ r. r.term) rows i no_row in
+    let counted : count ≡ row.count = n ∙ get_or-map (λ r. r.count) rows i no_row in
+    let first : stream ≡ take row.stream bytes = s ∙ ap (λ (k : ℕ). take k bytes) here in
+    let second : summary ≡ take row.summary (drop row.stream bytes) = m ∙ ap (λ (k : ℕ). take k (drop at bytes)) over ∙ ap (λ (k : ℕ). take row.summary (drop k bytes)) here in
+    ap (λ (x : List ℕ). put x summary place (place + at) term count) first
+    ∙ ap (λ (x : List ℕ). put (take row.stream bytes) x place (place + at) term count) second
+    ∙ ap (λ (x : ℕ). put (take row.stream bytes) (take row.summary (drop row.stream bytes)) place (place + x) term count) here
+    ∙ ap (λ (x : List ℕ). put (take row.stream bytes) (take row.summary (drop row.stream bytes)) place (place + row.stream) x count) named
+    ∙ ap (λ (x : ℕ). put (take row.stream bytes) (take row.summary (drop row.stream bytes)) place (place + row.stream) row.term x) counted
+
+-- how long stream and summary are
+pub stream_of_row : (rows : List TermRow) (i at : ℕ) → at ≡ get_or (streams_of rows) i 0 → at ≡ (row_at rows i).stream
+stream_of_row rows i at a = a ∙ get_or-map (λ r. r.stream) rows i no_row
+
+pub summary_of_row : (rows : List TermRow) (i above : ℕ) → above ≡ get_or (summaries_of rows) i 0 → above ≡ (row_at rows i).summary
+summary_of_row rows i above b = b ∙ get_or-map (λ r. r.summary) rows i no_row
+
+-- what stands behind both
+pub behind_row : (rows : List TermRow) (i : ℕ) (bytes rest behind : List ℕ) (at above : ℕ) → at ≡ get_or (streams_of rows) i 0 → above ≡ get_or (summaries_of rows) i 0
+    → rest ≡ drop at bytes → behind ≡ drop above rest → behind ≡ drop (data_of (row_at rows i)) bytes
+behind_row rows i bytes rest behind at above a b r e =
+    let row = row_at rows i in
+    e ∙ ap (λ (x : List ℕ). drop above x) r ∙ drop-drop above at bytes
+    ∙ ap (λ (x : ℕ). drop (x + above) bytes) (stream_of_row rows i at a) ∙ ap (λ (x : ℕ). drop (row.stream + x) bytes) (summary_of_row rows i above b)

@@ -1,11 +1,18 @@
 -- Where a segment is first damaged: in its tables, else in its lists, in the order of the terms.
-use Rattle.std.specs.Prelude.{◌≡◌, ◌⊎◌, ℕ, ◌+◌, List, [], ◌∷◌, length, take, drop}
+use Rattle.std.specs.Prelude.{◌≡◌, ◌⊎◌, ℕ, ◌+◌, List, [], ◌∷◌, length, take, drop, slice_index_or}
 use Rattle.alta_content.specs.declared.document.DocRow.{DocRow}
 use Rattle.alta_table.specs.declared.term.TermRow.{TermRow}
 use Rattle.alta_table.specs.Tables.{Tables, AreTables, IsDamage, tables_bytes}
 use Rattle.alta_table.specs.Terms.{data_of}
 use Rattle.alta_content.specs.TermList.{TermList}
 use Rattle.alta_level.specs.Stored.{Stored, IsListOf, IsListFault}
+
+-- the row of a number, one of no bytes where there is none
+abbrev pub no_row : TermRow
+no_row = record { term = []; count = 0; stream = 0; summary = 0 }
+
+abbrev pub row_at : List TermRow → ℕ → TermRow
+row_at rows i = slice_index_or rows i no_row
 
 -- the list of a row, whose stream begins at a place, and its summary behind the stream
 abbrev pub stored_at : TermRow → List ℕ → ℕ → Stored

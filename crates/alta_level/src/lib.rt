@@ -9,6 +9,7 @@ mod building;
 mod checking;
 mod comparing;
 mod decoding;
+mod ends;
 mod laws;
 mod ranges;
 mod reading;

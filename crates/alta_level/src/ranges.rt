@@ -6,7 +6,8 @@ ghost use Rattle.alta_content.specs.Lists.{IsInRange, end_term};
 ghost use Rattle.alta_content.specs.Rows.{AreDocuments, ends_of, firsts_of};
 ghost use Rattle.alta_level.specs.Fitting.{AreEndsTo, AreInRangesTo, HasOther, HasOutside, IsFit};
 
-use alta_codec::{Loc, index_from};
+use crate::ends::end_from;
+use alta_codec::Loc;
 use alta_content::LevelRows;
 
 // The location of the first cell of a document.
@@ -26,7 +27,7 @@ pub fn holder(documents: &LevelRows, from: usize, location: Loc) -> Option<usize
     ensures within { MatchOption result (Unit {0}) (λ row. row < length documents.now) }
     ensures passed { MatchOption result (Unit {0}) (λ row. (i : ℕ) → i < row → slice_index (ends_of documents.now) i < location) }
 {
-    let row = index_from(documents.ends(), from, location);
+    let row = end_from(documents.ends(), from, location);
     if row == documents.len() {
         return None;
     }

@@ -1,12 +1,12 @@
 // A content, read from its segment.
-ghost use Rattle.std.specs.Prelude.{◌≡◌, ◌+◌, ◌++◌, ◌∷◌, [], ◌<◌, ◌≤◌, ◌^◌, length, IfOk, ℕ};
+ghost use Rattle.std.specs.Prelude.{◌≡◌, ◌+◌, ◌++◌, ◌∷◌, [], ◌<◌, ◌≤◌, ◌^◌, drop, length, IfOk, ℕ};
 ghost use Rattle.alta_table.specs.Answers.{IfDamaged, IsDamaged, IsFound};
 ghost use Rattle.alta_content.specs.Rows.{AreDocuments};
 ghost use Rattle.alta_table.specs.Tables.{AreTables, IsDamage, tables_bytes};
 ghost use Rattle.alta_table.specs.Terms.{data_bytes, data_of};
-ghost use Rattle.alta_level.specs.Damage.{AreListsOf, IsFaultInLists, IsSegmentFault, stored_at};
+ghost use Rattle.alta_level.specs.Damage.{AreListsOf, IsFaultInLists, IsSegmentFault, row_at, stored_at};
 ghost use Rattle.alta_level.specs.Segments.{IsSegment};
-ghost use Rattle.alta_level.specs.Stored.{IsListFault, IsListOf};
+ghost use Rattle.alta_level.specs.Stored.{IsListFault, IsListOf, stored_of};
 ghost use Rattle.alta_content.specs.declared.content.Content.{Content};
 
 use crate::checking::read_list;
@@ -14,8 +14,9 @@ use crate::laws::segments_read_back;
 use crate::stored::StoredList;
 use alta_codec::Loc;
 use alta_content::{Content, DocRows, LevelRows, TermLists};
-use alta_table::{LevelFault, Table, TermRow, head, tables_in_front, tables_read_back};
+use alta_table::{LevelFault, Table, head, tables_in_front, tables_read_back};
 use std::alloc::Global;
+use std::rc::Rc;
 
 // The tables of a segment, and how many bytes they have.
 fn tables_at(alloc: Global, bytes: &[u8], place: u64) -> Result<(Table, usize), LevelFault>
@@ -40,35 +41,50 @@ fn tables_at(alloc: Global, bytes: &[u8], place: u64) -> Result<(Table, usize), 
     }
 }
 
-// Puts the list of a row, whose stream begins the bytes, which begin at a place. Its locations are left in `locations`.
-fn put_row(
-    lists: &mut TermLists,
-    locations: &mut Vec<Loc>,
-    places: &mut Vec<u64>,
-    row: &TermRow,
-    bytes: &[u8],
+// The list of a row, whose stream begins the bytes, which begin at a place, and what stands behind its summary.
+fn list_at<'a>(
+    table: &'a Table,
+    row: usize,
+    bytes: &'a [u8],
     place: u64,
-    documents: &LevelRows,
-) -> Result<(), LevelFault>
-    requires whole { row.now.stream + row.now.summary ≤ length bytes.now }
+) -> (StoredList<'a>, &'a [u8])
+    requires within { row < length table.now.terms }
+    requires whole { data_of (row_at table.now.terms row) ≤ length bytes.now }
     requires below { place + length bytes.now < 2 ^ 64 }
-    requires documents { AreDocuments documents.now }
-    ensures put { IfOk result (λ x. lists.new ≡ lists.old ++ (record { term = row.now.term; locations = locations.new.items }) ∷ []) }
-    ensures found { IfOk result (λ x. IsListOf documents.now (stored_at row.now bytes.now place) locations.new.items) }
-    ensures first { IfDamaged result (IsListFault documents.now (stored_at row.now bytes.now place)) }
+    ensures list { stored_of result.0 ≡ stored_at (row_at table.now.terms row) bytes.now place }
+    ensures behind { result.1.now ≡ drop (data_of (row_at table.now.terms row)) bytes.now }
 {
-    let (stream, behind) = bytes.split_at(row.stream as usize);
-    let (summary, _rest) = behind.split_at(row.summary as usize);
-    let stored = StoredList {
+    let (at, above) = table.stream_place(row);
+    let (stream, rest) = bytes.split_at(at.bytes as usize);
+    let (summary, behind) = rest.split_at(above.bytes as usize);
+    let list = StoredList {
         stream,
         stream_place: place,
         summary,
-        summary_place: place + row.stream,
-        term: row.term.as_slice(),
-        count: row.count,
+        summary_place: place + at.bytes,
+        term: table.term(row),
+        count: table.count(row),
     };
-    match read_list(locations, places, &stored, documents) {
-        Ok(()) => match lists.put(row.term.as_slice(), locations) {
+    (list, behind)
+}
+
+// Puts a list that was read. Its locations are left in `locations`.
+fn put_list(
+    lists: &mut TermLists,
+    locations: &mut Vec<Loc>,
+    places: &mut Vec<u64>,
+    list: &StoredList<'_>,
+    documents: &LevelRows,
+) -> Result<(), LevelFault>
+    requires stream { list.now.stream_place + length list.now.stream.now < 2 ^ 64 }
+    requires summary { list.now.summary_place + length list.now.summary.now < 2 ^ 64 }
+    requires documents { AreDocuments documents.now }
+    ensures put { IfOk result (λ x. lists.new ≡ lists.old ++ (record { term = list.now.term.now; locations = locations.new.items }) ∷ []) }
+    ensures found { IfOk result (λ x. IsListOf documents.now (stored_of list.now) locations.new.items) }
+    ensures first { IfDamaged result (IsListFault documents.now (stored_of list.now)) }
+{
+    match read_list(locations, places, list, documents) {
+        Ok(()) => match lists.put(list.term, locations) {
             Ok(()) => Ok(()),
             Err(_none) => Err(LevelFault::Memory),
         },
@@ -79,39 +95,30 @@ fn put_row(
 // The lists of all rows, whose streams and summaries stand one behind the other. No list takes memory of its own.
 fn lists_at(
     alloc: Global,
-    rows: Vec<TermRow>,
+    table: &Table,
     streams: &[u8],
     place: u64,
     documents: &LevelRows,
 ) -> Result<TermLists, LevelFault>
-    requires whole { data_bytes rows.items ≤ length streams.now }
+    requires whole { data_bytes table.now.terms ≤ length streams.now }
     requires below { place + length streams.now < 2 ^ 64 }
     requires documents { AreDocuments documents.now }
-    ensures found { IfOk result (AreListsOf documents.now rows.items streams.now place) }
-    ensures first { IfDamaged result (IsFaultInLists documents.now rows.items streams.now place) }
+    ensures found { IfOk result (AreListsOf documents.now table.now.terms streams.now place) }
+    ensures first { IfDamaged result (IsFaultInLists documents.now table.now.terms streams.now place) }
 {
     let mut lists = TermLists::new(alloc);
     let mut locations = Vec::new(alloc);
     let mut places = Vec::new(alloc);
     let mut rest = streams;
     let mut at = place;
-    for row in rows {
-        let len = row.stream + row.summary;
-        match put_row(
-            &mut lists,
-            &mut locations,
-            &mut places,
-            &row,
-            rest,
-            at,
-            documents,
-        ) {
+    for row in 0..table.terms() {
+        let (list, behind) = list_at(table, row, rest, at);
+        match put_list(&mut lists, &mut locations, &mut places, &list, documents) {
             Ok(()) => {}
             Err(fault) => return Err(fault),
         }
-        let (_list, behind) = rest.split_at(len as usize);
+        at += (rest.len() - behind.len()) as u64;
         rest = behind;
-        at += len;
     }
     Ok(lists)
 }
@@ -130,12 +137,13 @@ fn content_of(
     ensures found { IfOk result (IsSegment bytes.now) }
     ensures first { IfDamaged result (IsSegmentFault bytes.now place) }
 {
-    let Ok((documents, rows)) = table.into_rows(alloc) else {
+    let Ok(documents) = table.rows().clone() else {
         return Err(LevelFault::Memory);
     };
     let (_tables, streams) = bytes.split_at(len);
-    match lists_at(alloc, rows, streams, place + len as u64, &documents) {
+    match lists_at(alloc, &table, streams, place + len as u64, &documents) {
         Ok(lists) => {
+            drop(table);
             let Ok(documents) = LevelRows::unshare(alloc, documents) else {
                 return Err(LevelFault::Memory);
             };

@@ -1,37 +1,48 @@
-use Rattle.std.proofs.Common.{List, length, refl, subst, ap, arith}
-use Rattle.std.specs.Vec.Iter.{into_iter_items}
+use Rattle.std.proofs.Common.{◌+◌, List, length, drop, subst, ap, arith, length-drop}
+use Rattle.std.proofs.lemmas.List.{drop_all}
 use Rattle.alta_table.specs.declared.term.TermRow.{TermRow}
+use Rattle.alta_table.specs.Terms.{data_of}
 use Rattle.alta_content.specs.TermList.{TermList}
-use Rattle.alta_level.specs.Stored.{IsListFault}
-use Rattle.alta_level.specs.Damage.{IsFaultInLists, stored_at}
+use Rattle.alta_level.specs.Stored.{IsListFault, IsListOf, Stored, stored_of}
+use Rattle.alta_level.specs.Damage.{IsFaultInLists, row_at}
 use Rattle.alta_level.proofs.Joins.{fault_goes}
-use Rattle.alta_level.proofs.Progress.{Progress, goes_on, faulty, ends_read, turn, end_of_turns}
+use Rattle.alta_level.proofs.Progress.{Progress, ends_read, faulty, fits, goes_on, next_row}
 use Rattle.alta_level.proofs.reading.lists_at.Goals as goal
 
 pub returns-in-Err-clause-first : goal.returns-in-Err-clause-first
 returns-in-Err-clause-first c =
     let documents = c.args.documents.now in
-    let row : TermRow = c.in-Some.row in
-    let (e, n) = turn c.loop-row.row-iterator c.next.new.self c.next.result c.in-Some.row c.in-Some.is c.next.ensures.steps in
-    let reads = subst (λ (x : List TermRow). Progress documents c.args.rows.items c.args.streams.now c.args.place c.loop-row.lists x c.loop-row.rest.now c.loop-row.at) e c.loop-row.invariant.reads in
-    fault_goes Unit (List TermList) c.in-Err.fault (IsListFault documents (stored_at row c.loop-row.rest.now c.loop-row.at)) (IsFaultInLists documents c.args.rows.items c.args.streams.now c.args.place)
-    (faulty documents c.args.rows.items c.args.streams.now c.args.place c.loop-row.lists row (into_iter_items c.next.new.self) c.loop-row.rest.now c.loop-row.at reads)
+    let terms = c.args.table.now.terms in
+    let i = c.loop-row.row in
+    let rest = c.loop-row.rest.now in
+    let at = c.loop-row.at in
+    let lists = c.loop-row.lists in
+    let reads = subst (λ (x : List TermRow). Progress documents terms c.args.streams.now c.args.place lists x rest at) (next_row terms i (omega arith)) c.loop-row.invariant in
+    fault_goes Unit (List TermList) c.in-Err.fault (IsListFault documents (stored_of c.list_at.result.0)) (IsFaultInLists documents terms c.args.streams.now c.args.place)
+    (λ p f. faulty documents terms c.args.streams.now c.args.place lists (row_at terms i) (drop (i + 1) terms) rest at reads p (subst (λ (s : Stored). IsListFault documents s p) c.list_at.ensures.list f))
     c.in-Err.ensures.first
 
 pub loop-row-preserved : goal.loop-row-preserved
 loop-row-preserved c =
     let documents = c.args.documents.now in
-    let row : TermRow = c.in-Some.row in
-    let (e, n) = turn c.loop-row.row-iterator c.next.new.self c.next.result c.in-Some.row c.in-Some.is c.next.ensures.steps in
-    let reads = subst (λ (x : List TermRow). Progress documents c.args.rows.items c.args.streams.now c.args.place c.loop-row.lists x c.loop-row.rest.now c.loop-row.at) e c.loop-row.invariant.reads in
-    record {
-      reads = goes_on documents c.args.rows.items c.args.streams.now c.args.place c.loop-row.lists row (into_iter_items c.next.new.self) c.loop-row.rest.now c.loop-row.at reads
-          (record { term = row.term; locations = c.put_row.new.locations.items }) c.put_row.new.lists c.split_at.result.1.now _ refl c.in-Ok.ensures.found c.in-Ok.ensures.put c.split_at.ensures.back refl;
-      counted = omega (arith, n, ap length e, c.loop-row.invariant.counted);
-    }
+    let terms = c.args.table.now.terms in
+    let i = c.loop-row.row in
+    let rest = c.loop-row.rest.now in
+    let at = c.loop-row.at in
+    let lists = c.loop-row.lists in
+    let locations = c.put_list.new.locations.items in
+    let behind = c.list_at.result.1.now in
+    let reads = subst (λ (x : List TermRow). Progress documents terms c.args.streams.now c.args.place lists x rest at) (next_row terms i (omega arith)) c.loop-row.invariant in
+    let room = fits documents terms c.args.streams.now c.args.place lists (row_at terms i) (drop (i + 1) terms) rest at reads in
+    goes_on documents terms c.args.streams.now c.args.place lists (row_at terms i) (drop (i + 1) terms) rest at reads
+    (record { term = c.list_at.result.0.term.now; locations = locations }) c.put_list.new.lists behind _ (ap (λ (s : Stored). s.term) c.list_at.ensures.list)
+    (subst (λ (s : Stored). IsListOf documents s locations) c.list_at.ensures.list c.in-Ok.ensures.found) c.in-Ok.ensures.put c.list_at.ensures.behind
+    (omega (arith, room, ap length c.list_at.ensures.behind, length-drop (data_of (row_at terms i)) rest))
 
 pub returns-clause-found : goal.returns-clause-found
 returns-clause-found c =
-    let e = end_of_turns c.loop-row.row-iterator c.next.new.self c.next.result c.in-None.is c.next.ensures.steps c.loop-row.invariant.counted in
-    ends_read c.args.documents.now c.args.rows.items c.args.streams.now c.args.place c.loop-row.lists c.loop-row.rest.now c.loop-row.at
-    (subst (λ (x : List TermRow). Progress c.args.documents.now c.args.rows.items c.args.streams.now c.args.place c.loop-row.lists x c.loop-row.rest.now c.loop-row.at) e c.loop-row.invariant.reads)
+    let documents = c.args.documents.now in
+    let terms = c.args.table.now.terms in
+    let e = drop_all c.loop-row.row terms (omega (arith, c.terms-row-end.ensures)) in
+    ends_read documents terms c.args.streams.now c.args.place c.loop-row.lists c.loop-row.rest.now c.loop-row.at
+    (subst (λ (x : List TermRow). Progress documents terms c.args.streams.now c.args.place c.loop-row.lists x c.loop-row.rest.now c.loop-row.at) e c.loop-row.invariant)
