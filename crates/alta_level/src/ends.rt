@@ -22,7 +22,8 @@ fn part_from(list: &[Loc], low: usize, part: usize, to: Loc) -> usize
     low + part * passed
 }
 
-// The first index whose element is at or above `to`, the length where there is none, if it is known to be one of four.
+// The first index whose element is at or above `to`, the length where there is none, if it is one of the four from an index
+// on; else the one behind them.
 #[inline(always)]
 fn last_from(list: &[Loc], from: usize, to: Loc) -> usize
     requires rising { IsRising list.now }
@@ -36,8 +37,8 @@ fn last_from(list: &[Loc], from: usize, to: Loc) -> usize
     near_from(list, from.min(list.len() - 4), to)
 }
 
-// The first index whose element is at or above `to`, the length where there is none, if it is known to be one of so many, or behind
-// them. It looks by quarters.
+// The first index whose element is at or above `to`, the length where there is none, which is known to be one of so many or the one
+// behind them. It looks by quarters.
 fn quarter_from(list: &[Loc], from: usize, len: usize, to: Loc) -> usize
     requires rising { IsRising list.now }
     requires four { 4 ≤ length list.now }
@@ -58,8 +59,8 @@ fn quarter_from(list: &[Loc], from: usize, len: usize, to: Loc) -> usize
     last_from(list, low, to)
 }
 
-// So many elements from an index on that the one behind them, if there is one, is at or above `to`: 16, or 16 times as many again and
-// again.
+// So many elements from an index on that the one behind them, if there is one, is at or above `to`: 16, or 16 times as many
+// again and again.
 fn window_from(list: &[Loc], from: usize, to: Loc) -> usize
     requires { from ≤ length list.now }
     ensures within { from + result ≤ length list.now }
@@ -73,10 +74,9 @@ fn window_from(list: &[Loc], from: usize, to: Loc) -> usize
     len
 }
 
-/// The first index whose element is at or above `to`, the length where there is none: what
-/// [`index_from`](alta_codec::index_from) answers too. That one is meant for near answers. Where answers are far and stand
-/// anywhere, as most documents of a rare term do, each branch of a search by halves is foreseen badly; here only how far the answer is
-/// decides a branch. It looks at about 3 log d elements, d being the distance from `from` to the answer.
+/// The first index whose element is at or above `to`, the length where there is none, as [`index_from`] answers it, which
+/// is for near answers. The documents of a rare term stand anywhere, so that the branches of a search by halves are foreseen badly. Here
+/// a branch depends on how far the answer is alone, and so does the cost, which grows with the logarithm of that.
 pub fn end_from(list: &[Loc], from: usize, to: Loc) -> usize
     requires rising { IsRising list.now }
     requires within { from ≤ length list.now }
