@@ -1,5 +1,5 @@
 -- What was read of a block, with its locations.
-use Rattle.std.proofs.Common.{◌≡◌, ⊎_elim, ℕ, zero, suc, ◌+◌, ◌-◌, ◌<◌, ◌≤◌, List, [], ◌∷◌, ◌++◌, length, take, drop, get_or, refl, sym, subst, ap, ◌∙◌, arith, length-append}
+use Rattle.std.proofs.Common.{◌≡◌, ⊎_elim, ℕ, zero, suc, ◌+◌, ◌-◌, ◌<◌, List, [], ◌∷◌, ◌++◌, length, take, drop, get_or, refl, sym, subst, ap, ◌∙◌, arith, length-append}
 use Rattle.std.proofs.lemmas.Bool.{cases_lt}
 use Rattle.std.proofs.lemmas.List.{get_or-take}
 use Rattle.alta_codec.specs.declared.location.TheConstants.{TOP}
@@ -45,7 +45,9 @@ pub fill_one : (s out : List ℕ) (at before y e : ℕ) → IsStep s at before y
 fill_one s out at before y e x is =
     let n : length out ≡ 1 = ap length is in
     record {
-      read = subst (λ (k : ℕ). IsReadTo s at before y y k e) (sym n) (read_one s at before y e x);
+      read = subst (λ (k : ℕ). IsReadTo s at before y k e) (sym n) (read_one s at before y e x);
+      some = omega arith;
+      first_is = sym (ap (λ l. get_or l 0 0) x.list);
       filled = is ∙ sym (ap (λ l. take 1 l) x.list) ∙ ap (λ k. take k (list_from at 0 before (drop at s))) (sym n);
       rising = subst (λ l. IsRising l) (sym is) (record {
         rising = λ i j lt l. absurd (omega arith);
@@ -61,11 +63,15 @@ fill_more s out new at before first last next y e f x is =
     let n : length new ≡ length out + 1 = ap length is ∙ length-append out (y ∷ []) in
     let more : length new ≡ suc (length out) = omega arith in
     let here : drop (length out) whole ≡ y ∷ list_from e 0 y (drop e s) = sym f.read.list ∙ x.list in
+    let k : suc (length out - 1) ≡ length out = omega (arith, f.some) in
     let old : get_or out (length out - 1) 0 ≡ last =
-    ap (λ l. get_or l (length out - 1) 0) f.filled ∙ get_or-take (length out) whole (length out - 1) 0 (omega (arith, f.read.some)) ∙ sym f.read.last_is in
+    ap (λ l. get_or l (length out - 1) 0) f.filled ∙ get_or-take (length out) whole (length out - 1) 0 (omega (arith, f.some))
+    ∙ ap (λ i. get_or (before ∷ whole) i 0) k ∙ sym f.read.last_is in
     record {
-      read = subst (λ (k : ℕ). IsReadTo s at before first y k e) (sym n) (read_more s at before first last (length out) next y e f.read x);
+      read = subst (λ (k : ℕ). IsReadTo s at before y k e) (sym n) (read_more s at before last (length out) next y e f.read x);
+      some = omega arith;
+      first_is = f.first_is;
       filled = is ∙ ap (λ l. l ++ (y ∷ [])) f.filled ∙ sym (take_more (length out) whole (list_from e 0 y (drop e s)) y here) ∙ ap (λ k. take k whole) (sym more);
-      rising = rises_more out new y is f.rising f.read.some (omega (arith, old, x.above)) x.low;
-      above = omega (arith, f.above, ap (λ l. get_or l 0 0) is, at_front out y 0 f.read.some);
+      rising = rises_more out new y is f.rising f.some (omega (arith, old, x.above)) x.low;
+      above = omega (arith, f.above, ap (λ l. get_or l 0 0) is, at_front out y 0 f.some);
     }

@@ -3,3 +3,4 @@ pub mod Encoding
 pub mod Reading
 pub mod Short
 pub mod Filling
+pub mod Tally

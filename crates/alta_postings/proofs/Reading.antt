@@ -297,53 +297,63 @@ block_at bs xs i place before s b =
       list = ap (λ x. list_from place 0 before x) d ∙ c.list;
     }
 
-pub read_one : (s : List ℕ) (at before y e : ℕ) → IsStep s at before y e → IsReadTo s at before y y 1 e
-read_one s at before y e x =
-    let rest = list_from e 0 y (drop e s) in
-    record {
-      fault = x.fault;
-      list = sym (ap (λ l. drop 1 l) x.list);
-      counted = omega (arith, ap length x.list);
-      some = omega arith;
-      first_is = sym (ap (λ l. get_or l 0 0) x.list);
-      last_is = sym (ap (λ l. get_or l 0 0) x.list);
-      low = x.low;
-      long = omega (arith, x.after);
-      within = x.within;
-    }
+pub read_none : (s : List ℕ) (at before : ℕ) → before < TOP → at ≤ length s → IsReadTo s at before before 0 at
+read_none s at before low within = record {
+  fault = refl;
+  list = refl;
+  counted = omega arith;
+  last_is = refl;
+  low = low;
+  long = omega arith;
+  within = within;
+}
 
-pub read_more : (s : List ℕ) (at before first last count next y e : ℕ) → IsReadTo s at before first last count next → IsStep s next last y e → IsReadTo s at before first y (count + 1) e
-read_more s at before first last count next y e r x =
+pub read_more : (s : List ℕ) (at before last count next y e : ℕ) → IsReadTo s at before last count next → IsStep s next last y e → IsReadTo s at before y (count + 1) e
+read_more s at before last count next y e r x =
     let whole = list_from at 0 before (drop at s) in
     let rest = list_from e 0 y (drop e s) in
     let here : drop count whole ≡ y ∷ rest = sym r.list ∙ x.list in
-    let k : count + 1 - 1 ≡ count + 0 = omega arith in
+    let k : suc (count + 0) ≡ count + 1 = omega arith in
     record {
       fault = r.fault ∙ x.fault;
       list = sym (ap (λ l. drop 1 l) here) ∙ drop-drop 1 count whole;
       counted = omega (arith, ap length here, length-drop count whole);
-      some = omega arith;
-      first_is = r.first_is;
-      last_is = sym (ap (λ l. get_or l 0 0) here) ∙ get_or-drop count whole 0 0 ∙ ap (λ i. get_or whole i 0) (sym k);
+      last_is = sym (ap (λ l. get_or l 0 0) here) ∙ get_or-drop count whole 0 0 ∙ ap (λ i. get_or (before ∷ whole) i 0) k;
       low = x.low;
       long = omega (arith, r.long, x.after);
       within = x.within;
     }
 
-pub read_done : (s : List ℕ) (at before first last count next : ℕ) → IsReadTo s at before first last count next → count ≤ 64 → (count < 64 → next ≡ length s) → IsBlockRead s at before first last count next
-read_done s at before first last count next r few ended = record {
-  fault = r.fault;
-  list = r.list;
-  counted = r.counted;
-  some = r.some;
-  few = few;
-  ended = ended;
-  first_is = r.first_is;
-  last_is = r.last_is;
-  low = r.low;
-  long = r.long;
-  within = r.within;
-}
+pub read_one : (s : List ℕ) (at before y e : ℕ) → IsStep s at before y e → IsReadTo s at before y 1 e
+read_one s at before y e x = read_more s at before before 0 at y e (read_none s at before (omega (arith, x.above, x.low)) (omega (arith, x.after, x.within))) x
+
+-- where a location stands, one is read up to the end
+pub read_some : (s : List ℕ) (at before last count next y e : ℕ) → IsReadTo s at before last count next → IsStep s at before y e → (count < 64 → next ≡ length s) → 0 < count
+read_some s at before last count next y e r x ended =
+    let whole = list_from at 0 before (drop at s) in
+    ⊎_elim
+    (λ z. let none = list_end s next last (omega (arith, ended (omega arith))) in
+    absurd (omega (arith, ap length none, ap length r.list, length-drop count whole, ap length x.list)))
+    (λ p. p)
+    (cases_lt count 1)
+
+pub read_done : (s : List ℕ) (at before first last count next : ℕ) → IsReadTo s at before last count next → 0 < count → count ≤ 64 → (count < 64 → next ≡ length s)
+    → first ≡ get_or (list_from at 0 before (drop at s)) 0 0 → IsBlockRead s at before first last count next
+read_done s at before first last count next r some few ended first_is =
+    let k : count ≡ suc (count - 1) = omega arith in
+    record {
+      fault = r.fault;
+      list = r.list;
+      counted = r.counted;
+      some = some;
+      few = few;
+      ended = ended;
+      first_is = first_is;
+      last_is = r.last_is ∙ ap (λ i. get_or (before ∷ list_from at 0 before (drop at s)) i 0) k;
+      low = r.low;
+      long = r.long;
+      within = r.within;
+    }
 
 -- a number of two bytes
 pub number_two : (s : List ℕ) (at low high : ℕ) → at + 1 < length s → low ≡ get_or s at 0 - 128 → high ≡ get_or s (at + 1) 0 → 128 ≤ get_or s at 0 → 0 < get_or s (at + 1) 0 → get_or s (at + 1) 0 < 128

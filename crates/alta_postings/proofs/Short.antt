@@ -8,8 +8,8 @@ use Rattle.alta_codec.specs.declared.number.CodeFault.TheVariants as code
 use Rattle.alta_codec.specs.Numbers.{with_low, number_from}
 use Rattle.alta_codec.proofs.Numerals.{read_ok, AreBytes, number_last, number_long, number_more}
 use Rattle.alta_postings.specs.Deltas.{cause_of, fault_at, fault_from, list_from, IsStep}
-use Rattle.alta_postings.specs.Short.{IsShort, IsReadTo}
-use Rattle.alta_postings.proofs.Reading.{read_more, number_two, shows_code, sound_at, step_at}
+use Rattle.alta_postings.specs.Short.{IsShort}
+use Rattle.alta_postings.proofs.Reading.{number_two, shows_code, sound_at, step_at}
 
 pub short_is : (s : List ℕ) (at first second high : ℕ) → first ≡ get_or s at 0 → second ≡ get_or s (at + 1) 0 → first < 256 → min first second < 128
     → (first < 128 → high ≡ 0) → (128 ≤ first → high ≡ second) → IsShort s at (first % 128 + 128 * high) (at + 1 + first / 128)
@@ -69,19 +69,18 @@ next_of_run s at i last y bytes l some low e top =
     let here = one_step s (at + i) last bytes l some low (omega arith) in
     subst (λ (n : ℕ). IsStep s (at + i) last y n) k (subst (λ (n : ℕ). IsStep s (at + i) last n (at + i + 1)) (sym e) here)
 
+-- a number of two bytes
+pub two_step : (s : List ℕ) (at before y : ℕ) → AreBytes s → at + 1 < length s → 128 ≤ get_or s at 0 → 0 < get_or s (at + 1) 0 → get_or s (at + 1) 0 < 128
+    → y + 128 ≡ before + get_or s at 0 + 128 * get_or s (at + 1) 0 → y < TOP → IsStep s at before y (at + 1 + 1)
+two_step s at before y bytes l more some last is top =
+    let n = get_or s at 0 - 128 + 128 * get_or s (at + 1) 0 in
+    let e : before + n ≡ y = omega arith in
+    let k : at + 2 ≡ at + 1 + 1 = omega arith in
+    let here = step_at s at before n (at + 2) bytes (omega arith) (sym (number_two s at (get_or s at 0 - 128) (get_or s (at + 1) 0) l refl refl more some last)) (omega arith) (omega arith) in
+    subst (λ (i : ℕ). IsStep s at before y i) k (subst (λ (i : ℕ). IsStep s at before i (at + 2)) e here)
+
 pub low_in_run : (s : List ℕ) (at i last y : ℕ) → AreBytes s → at + i < length s → get_or s (at + i) 0 < 128 → fault_from (at + i) 0 last (drop (at + i) s) ≡ None → y ≡ last + get_or s (at + i) 0 → y < TOP
 low_in_run s at i last y bytes l low none e = omega (arith, one_low s (at + i) last bytes l low none)
-
-pub run_begins : (s : List ℕ) (start before first last n at : ℕ) → IsReadTo s start before first last n at → IsReadTo s start before first last (n + 0) (at + 0)
-run_begins s start before first last n at r =
-    let a : at ≡ at + 0 = omega arith in
-    let b : n ≡ n + 0 = omega arith in
-    subst (λ (k : ℕ). IsReadTo s start before first last k (at + 0)) b (subst (λ (k : ℕ). IsReadTo s start before first last n k) a r)
-
-pub run_goes_on : (s : List ℕ) (start before first last n at i y : ℕ) → IsReadTo s start before first last (n + i) (at + i) → IsStep s (at + i) last y (at + (i + 1)) → IsReadTo s start before first y (n + (i + 1)) (at + (i + 1))
-run_goes_on s start before first last n at i y r x =
-    let e : n + i + 1 ≡ n + (i + 1) = omega arith in
-    subst (λ (k : ℕ). IsReadTo s start before first y k (at + (i + 1))) e (read_more s start before first last (n + i) (at + i) y (at + (i + 1)) r x)
 
 -- what a place and nothing behind it read is what the place reads
 pub none_begins : (s : List ℕ) (at last : ℕ) → fault_from at 0 last (drop at s) ≡ None → fault_from (at + 0) 0 last (drop (at + 0) s) ≡ None

@@ -1,5 +1,5 @@
 -- Numbers of one or of two bytes, and what was read of a block.
-use Rattle.std.specs.Prelude.{◌≡◌, ℕ, ◌+◌, ◌-◌, ◌*◌, ◌<◌, ◌≤◌, List, length, drop, take, slice_index}
+use Rattle.std.specs.Prelude.{◌≡◌, ℕ, ◌+◌, ◌-◌, ◌*◌, ◌<◌, ◌≤◌, List, ◌∷◌, length, drop, take, slice_index}
 use Rattle.alta_codec.specs.declared.location.TheConstants.{TOP}
 use Rattle.alta_codec.specs.Rising.{IsRising}
 use Rattle.alta_postings.specs.Deltas.{fault_from, list_from}
@@ -13,21 +13,21 @@ pub record IsShort (s : List ℕ) (at n next : ℕ) : Type 0 where
 abbrev pub AreGaps : List ℕ → ℕ → Type 0
 AreGaps s at = (i : ℕ) → i < 8 → (0 < slice_index s (at + i)) × (slice_index s (at + i) < 128)
 
--- what was read of a block so far
-pub record IsReadTo (s : List ℕ) (at before first last count next : ℕ) : Type 0 where
+-- so many locations were read from a place on
+pub record IsReadTo (s : List ℕ) (at before last count next : ℕ) : Type 0 where
   pub fault : fault_from at 0 before (drop at s) ≡ fault_from next 0 last (drop next s)
   pub list : list_from next 0 last (drop next s) ≡ drop count (list_from at 0 before (drop at s))
   pub counted : count ≤ length (list_from at 0 before (drop at s))
-  pub some : 0 < count
-  pub first_is : first ≡ slice_index (list_from at 0 before (drop at s)) 0
-  pub last_is : last ≡ slice_index (list_from at 0 before (drop at s)) (count - 1)
+  pub last_is : last ≡ slice_index (before ∷ list_from at 0 before (drop at s)) count
   pub low : last < TOP
   pub long : at + count ≤ next
   pub within : next ≤ length s
 
 -- what was read of a block so far, and its locations, which rise above `before`
 pub record IsFilled (s : List ℕ) (at before first last next : ℕ) (out : List ℕ) : Type 0 where
-  pub read : IsReadTo s at before first last (length out) next
+  pub read : IsReadTo s at before last (length out) next
+  pub some : 0 < length out
+  pub first_is : first ≡ slice_index (list_from at 0 before (drop at s)) 0
   pub filled : out ≡ take (length out) (list_from at 0 before (drop at s))
   pub rising : IsRising out
   pub above : before < slice_index out 0

@@ -5,7 +5,8 @@ ghost use Rattle.alta_codec.specs.declared.location.TheConstants.{TOP};
 ghost use Rattle.alta_postings.specs.Deltas.{fault_from, list_from, IsBlockRead};
 
 use crate::fault::StreamFault;
-use crate::runs::{fill_runs, read_runs, scan_runs};
+use crate::lanes::scan_runs;
+use crate::runs::{fill_runs, read_runs};
 use crate::step::{next_location, read_location};
 use alta_codec::TOP;
 use arrayvec::ArrayVec;
@@ -31,11 +32,11 @@ pub fn scan_block(bytes: &[u8], at: usize, before: u64) -> Result<BlockSpan, Str
     ensures read { IfOk result (λ span. IsBlockRead bytes.now at before span.first span.last span.count span.next) }
     ensures fault { IfErr result (λ fault. fault_from at 0 before (drop at bytes.now) ≡ Some fault) }
 {
-    let (first, second) = match read_location(bytes, at, before) {
-        Ok(step) => step,
+    let first = match read_location(bytes, at, before) {
+        Ok((location, _next)) => location,
         Err(fault) => return Err(fault),
     };
-    let (mut next, mut last, mut count) = scan_runs(bytes, second, first);
+    let (mut next, mut last, mut count) = scan_runs(bytes, at, before);
     'numbers: while next < bytes.len() && count < 64 {
         match read_location(bytes, next, last) {
             Ok((location, after)) => {

@@ -4,6 +4,7 @@
 mod block;
 mod coding;
 mod fault;
+mod lanes;
 mod places;
 mod runs;
 mod step;

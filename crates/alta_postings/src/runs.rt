@@ -25,40 +25,6 @@ fn are_gaps(bytes: &[u8], at: usize) -> bool
     true
 }
 
-// The location behind eight numbers of one byte each.
-#[inline(always)]
-fn add_run(bytes: &[u8], at: usize, before: u64) -> u64
-    requires within { at + 8 ≤ length bytes.now }
-    requires gaps { AreGaps bytes.now at }
-    requires low { before + 1016 < TOP }
-    ensures { (s y f n : ℕ) → IsReadTo bytes.now s y f before n at → IsReadTo bytes.now s y f result (n + 8) (at + 8) }
-{
-    let mut last = before;
-    for i in 0..8 {
-        last += u64::from(bytes[at + i]);
-    }
-    last
-}
-
-// Goes over runs behind the first number of a block, as long as they last: the place behind them, the last location, and how
-// many locations there were with the first.
-#[inline(always)]
-pub(crate) fn scan_runs(bytes: &[u8], place: usize, first: u64) -> (usize, u64, usize)
-    requires { place ≤ length bytes.now }
-    ensures read { (s y f : ℕ) → IsReadTo bytes.now s y f first 1 place → IsReadTo bytes.now s y f result.1 result.2 result.0 }
-    ensures few { result.2 ≤ 64 }
-{
-    let mut at = place;
-    let mut last = first;
-    let mut count: usize = 1;
-    'runs: while bytes.len() - at >= 8 && count <= 56 && last < TOP - RUN && are_gaps(bytes, at) {
-        last = add_run(bytes, at, last);
-        at += 8;
-        count += 8;
-    }
-    (at, last, count)
-}
-
 // Appends the locations of eight numbers of one byte each, and answers the last.
 #[inline(always)]
 fn push_run(bytes: &[u8], at: usize, before: u64, out: &mut ArrayVec<u64, 64>) -> u64

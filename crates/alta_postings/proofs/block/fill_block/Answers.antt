@@ -1,6 +1,5 @@
 use Rattle.std.proofs.Common.{◌∷◌, [], ◌++◌, ap, ◌∙◌, arith}
 use Rattle.alta_postings.proofs.Filling.{fill_one, fill_more}
-use Rattle.alta_postings.proofs.Reading.{read_done}
 use Rattle.alta_postings.proofs.block.fill_block.Goals as goal
 
 pub numbers-init : goal.numbers-init

@@ -1,15 +1,20 @@
-use Rattle.std.proofs.Common.{arith}
-use Rattle.alta_postings.proofs.Reading.{read_one, read_more}
+use Rattle.std.proofs.Common.{get_or, sym, ap, arith}
+use Rattle.alta_postings.proofs.Reading.{read_more, read_some, read_done}
 use Rattle.alta_postings.proofs.block.scan_block.Goals as goal
 
 pub numbers-init : goal.numbers-init
-numbers-init c = record {
-  read = c.scan_runs-next.ensures.read c.args.at c.args.before c.in-Ok.step.0 (read_one c.args.bytes.now c.args.at c.args.before c.in-Ok.step.0 c.in-Ok.step.1 c.in-Ok.ensures.read);
-  few = c.scan_runs-next.ensures.few;
-}
+numbers-init c = record { read = c.scan_runs-next.ensures.read; few = c.scan_runs-next.ensures.few }
 
 pub numbers-preserved : goal.numbers-preserved
 numbers-preserved c = record {
-  read = read_more c.args.bytes.now c.args.at c.args.before c.in-Ok.step.0 c.numbers.last c.numbers.count c.numbers.next c.in-Ok-read_location.location c.in-Ok-read_location.after c.numbers.invariant.read c.in-Ok-read_location.ensures.read;
+  read = read_more c.args.bytes.now c.args.at c.args.before c.numbers.last c.numbers.count c.numbers.next c.in-Ok-read_location.location c.in-Ok-read_location.after c.numbers.invariant.read c.in-Ok-read_location.ensures.read;
   few = omega arith;
 }
+
+pub returns-after-numbers-clause-read : goal.returns-after-numbers-clause-read
+returns-after-numbers-clause-read c =
+    let x = c.in-Ok.ensures.read in
+    let read = c.numbers.invariant.read in
+    let some = read_some c.args.bytes.now c.args.at c.args.before c.numbers.last c.numbers.count c.numbers.next c.in-Ok.location c.in-Ok._next read x (λ l. omega (arith, read.within)) in
+    read_done c.args.bytes.now c.args.at c.args.before c.in-Ok.location c.numbers.last c.numbers.count c.numbers.next read some c.numbers.invariant.few (λ l. omega (arith, read.within))
+    (sym (ap (λ l. get_or l 0 0) x.list))

@@ -5,7 +5,7 @@ use Rattle.alta_postings.proofs.block.scan_block.Given as goal
 abbrev pub invariant-numbers : goal.invariant-numbers
 invariant-numbers l =
     record {
-      read : IsReadTo l.bytes l.at l.before l.first l.last l.count l.next;
+      read : IsReadTo l.bytes l.at l.before l.last l.count l.next;
       few : l.count ≤ 64;
     }
 

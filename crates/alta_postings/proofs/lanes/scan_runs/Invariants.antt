@@ -1,11 +1,11 @@
-use Rattle.std.proofs.Common.{ℕ, ◌-◌, ◌≤◌, length}
+use Rattle.std.proofs.Common.{◌-◌, ◌≤◌, length}
 use Rattle.alta_postings.specs.Short.{IsReadTo}
-use Rattle.alta_postings.proofs.runs.scan_runs.Given as goal
+use Rattle.alta_postings.proofs.lanes.scan_runs.Given as goal
 
 abbrev pub invariant-runs : goal.invariant-runs
 invariant-runs l =
     record {
-      read : (s y f : ℕ) → IsReadTo l.bytes s y f l.first 1 l.place → IsReadTo l.bytes s y f l.last l.count l.at;
+      read : IsReadTo l.bytes l.place l.before l.last l.count l.at;
       few : l.count ≤ 64;
       within : l.at ≤ length l.bytes;
     }
