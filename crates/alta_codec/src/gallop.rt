@@ -20,6 +20,7 @@ pub fn near_from(list: &[u64], from: usize, to: u64) -> usize
 }
 
 /// The first index from `from` on whose element is at or above `to`, the length where there is none.
+#[inline(never)]
 fn far_from(list: &[u64], from: usize, to: u64) -> usize
     requires rising { IsRising list.now }
     requires within { from ≤ length list.now }
@@ -53,6 +54,7 @@ fn far_from(list: &[u64], from: usize, to: u64) -> usize
 
 /// The first index whose element is at or above `to`, the length where there is none. It compares the next four at once, and
 /// behind them looks at about 2 log d elements, d being the distance from `from` to the answer.
+#[inline(always)]
 pub fn index_from(list: &[u64], from: usize, to: u64) -> usize
     requires rising { IsRising list.now }
     requires within { from ≤ length list.now }

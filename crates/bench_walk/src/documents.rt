@@ -57,15 +57,23 @@ fn rows(alloc: Global, lines: &str) -> Result<Vec<DocRow>, AllocError>
     Ok(rows)
 }
 
-/// The rows of the documents, a line each, in one level.
-pub(crate) fn all_rows(alloc: Global, lines: &str) -> Result<AllRows, AllocError>
-    ensures { IfOk result (λ rows. IsRising (ends_of rows)) }
+/// The rows of the documents, a line each, as those of one level.
+pub(crate) fn level_rows(alloc: Global, lines: &str) -> Result<Rc<LevelRows>, AllocError>
+    ensures { IfOk result (λ rows. IsRising (ends_of rows.value)) }
 {
     let level = LevelRows::new(alloc, rows(alloc, lines)?)?;
-    let mut levels = Vec::new(alloc);
     match Rc::new(alloc, level) {
-        Ok(level) => levels.push(level)?,
-        Err(_) => return Err(AllocError),
+        Ok(level) => Ok(level),
+        Err(_) => Err(AllocError),
     }
+}
+
+/// The rows of all documents, which are those of this level.
+pub(crate) fn all_rows(alloc: Global, level: Rc<LevelRows>) -> Result<AllRows, AllocError>
+    requires { IsRising (ends_of level.value) }
+    ensures { IfOk result (λ rows. IsRising (ends_of rows)) }
+{
+    let mut levels = Vec::new(alloc);
+    levels.push(level)?;
     AllRows::new(alloc, levels)
 }

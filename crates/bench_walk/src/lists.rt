@@ -3,14 +3,18 @@ ghost use Rattle.std.specs.Prelude.{◌≡◌, ◌<◌, [], ◌∷◌, map, leng
 ghost use Rattle.std.specs.List.Sorted.{IsStrictlyIncreasing};
 ghost use Rattle.alta_codec.specs.Order.{Precedes};
 ghost use Rattle.alta_codec.specs.Rising.{IsRising};
+ghost use Rattle.alta_content.specs.Rows.{ends_of};
 ghost use Rattle.alta_search.specs.Lists.{stored_list, term_lists, key_of, test_in, test_lists, test_keys, IsCut, AreKeys};
 
 use alta_codec::Bytes;
+use alta_content::LevelRows;
+use alta_meta::kinds::DOCUMENT_END;
 use alta_query::Test;
 use alta_search::{LevelList, Stored, TermLists, TestLists};
 use alta_words::Posting;
 use std::alloc::{AllocError, Global};
 use std::cmp::Ordering;
+use std::rc::Rc;
 use std::{fs, io};
 
 /// The list of a term, as its files hold it.
@@ -88,6 +92,18 @@ fn coded(stream: Vec<u8>, summary: Vec<u8>) -> Result<Stored, AllocError>
     }
 }
 
+/// The ends of the documents, as their rows have them. Where there is no document, that counts as want of memory.
+fn ends(rows: &Rc<LevelRows>) -> Result<Stored, AllocError>
+    requires { IsRising (ends_of rows.now.value) }
+    ensures rising { IfOk result (λ l. IsRising (stored_list l)) }
+    ensures some { IfOk result (λ l. 0 < length (stored_list l)) }
+{
+    if rows.is_empty() {
+        return Err(AllocError);
+    }
+    Ok(Stored::Ends(rows.clone()?))
+}
+
 /// A term with one list.
 fn one(alloc: Global, term: Vec<u8>, stored: Stored) -> Result<TermLists, AllocError>
     ensures lists { IfOk result (λ t. term_lists t ≡ stored_list stored ∷ []) }
@@ -99,12 +115,17 @@ fn one(alloc: Global, term: Vec<u8>, stored: Stored) -> Result<TermLists, AllocE
     Ok(TermLists { term, levels })
 }
 
-/// The term of some files with its list.
-fn term_of(alloc: Global, files: ListFiles) -> Result<TermLists, AllocError>
+/// The term of some files with its list. That of the documents' ends is held as their rows have it, as in an index.
+fn term_of(alloc: Global, files: ListFiles, rows: &Rc<LevelRows>) -> Result<TermLists, AllocError>
+    requires { IsRising (ends_of rows.now.value) }
     ensures cut { IfOk result (λ t. IsCut (term_lists t ∷ [])) }
     ensures term { IfOk result (λ t. (key_of t).term ≡ files.term.items) }
     ensures levels { IfOk result (λ t. IsStrictlyIncreasing (key_of t).levels) }
 {
+    if files.term.as_slice() == [DOCUMENT_END].as_slice() {
+        let stored = ends(rows)?;
+        return one(alloc, files.term, stored);
+    }
     let stored = coded(files.stream, files.summary)?;
     one(alloc, files.term, stored)
 }
@@ -128,7 +149,13 @@ fn follows(terms: &[TermLists], term: &[u8]) -> bool
 }
 
 /// Adds the term of some files. One that is not behind all that are there counts as want of memory.
-fn put_term(alloc: Global, terms: &mut Vec<TermLists>, files: ListFiles) -> Result<(), AllocError>
+fn put_term(
+    alloc: Global,
+    terms: &mut Vec<TermLists>,
+    files: ListFiles,
+    rows: &Rc<LevelRows>,
+) -> Result<(), AllocError>
+    requires rising { IsRising (ends_of rows.now.value) }
     requires cut { IsCut (map term_lists terms.old.items) }
     requires keyed { AreKeys (map key_of terms.old.items) }
     ensures cut { OnOk result (IsCut (map term_lists terms.new.items)) }
@@ -137,25 +164,37 @@ fn put_term(alloc: Global, terms: &mut Vec<TermLists>, files: ListFiles) -> Resu
     if !follows(terms, files.term.as_slice()) {
         return Err(AllocError);
     }
-    let term = term_of(alloc, files)?;
+    let term = term_of(alloc, files, rows)?;
     terms.push(term)?;
     Ok(())
 }
 
 /// The terms of these files.
-fn terms_of(alloc: Global, all: Vec<ListFiles>) -> Result<Vec<TermLists>, AllocError>
+fn terms_of(
+    alloc: Global,
+    all: Vec<ListFiles>,
+    rows: &Rc<LevelRows>,
+) -> Result<Vec<TermLists>, AllocError>
+    requires { IsRising (ends_of rows.now.value) }
     ensures cut { IfOk result (λ ts. IsCut (map term_lists ts.items)) }
     ensures keyed { IfOk result (λ ts. AreKeys (map key_of ts.items)) }
 {
     let mut terms = Vec::new(alloc);
     for files in all {
-        put_term(alloc, &mut terms, files)?;
+        put_term(alloc, &mut terms, files, rows)?;
     }
     Ok(terms)
 }
 
 /// A test with its lists.
-fn lists(rt: &HostRuntime, folder: &str, terms: &str, test: Test) -> io::Result<TestLists>
+fn lists(
+    rt: &HostRuntime,
+    folder: &str,
+    terms: &str,
+    test: Test,
+    rows: &Rc<LevelRows>,
+) -> io::Result<TestLists>
+    requires { IsRising (ends_of rows.now.value) }
     ensures test { IfOk result (λ t. test_in t ≡ test) }
     ensures cut { IfOk result (λ t. IsCut (test_lists t)) }
     ensures keyed { IfOk result (λ t. AreKeys (test_keys t)) }
@@ -163,7 +202,7 @@ fn lists(rt: &HostRuntime, folder: &str, terms: &str, test: Test) -> io::Result<
     let alloc = rt.alloc();
     let mut files = Vec::new(alloc);
     put_files(rt, folder, terms, &test, &mut files)?;
-    let terms = terms_of(alloc, files)?;
+    let terms = terms_of(alloc, files, rows)?;
     Ok(TestLists { test, terms })
 }
 
@@ -173,14 +212,16 @@ pub(crate) fn tested(
     folder: &str,
     terms: &str,
     order: Vec<Test>,
+    rows: &Rc<LevelRows>,
 ) -> io::Result<Vec<TestLists>>
+    requires { IsRising (ends_of rows.now.value) }
     ensures tests { IfOk result (λ ts. map test_in ts.items ≡ order.items) }
     ensures cut { IfOk result (λ ts. All IsCut (map test_lists ts.items)) }
     ensures keyed { IfOk result (λ ts. All AreKeys (map test_keys ts.items)) }
 {
     let mut tests = Vec::new(rt.alloc());
     for test in order {
-        tests.push(lists(rt, folder, terms, test)?)?;
+        tests.push(lists(rt, folder, terms, test, rows)?)?;
     }
     Ok(tests)
 }

@@ -14,7 +14,7 @@ ghost use Rattle.std.specs.Prelude.{◌≡◌, IfOk};
 ghost use Rattle.alta_compile.specs.View.{tree};
 ghost use Rattle.alta_search.specs.Plans.{tests_of};
 
-use crate::documents::all_rows;
+use crate::documents::{all_rows, level_rows};
 use crate::lists::{files, tested};
 use crate::rounds::{Way, uncounted};
 use alta_compile::{Plan, compile};
@@ -34,9 +34,10 @@ fn snapshot(rt: &HostRuntime, folder: &str, terms: &str, plan: &Plan) -> io::Res
 {
     let alloc = rt.alloc();
     let (tests, uses) = loading_order(alloc, plan)?.into_parts();
-    let tests = tested(rt, folder, terms, tests.into_vec())?;
     let lines = text(rt, folder, "documents")?;
-    let rows = all_rows(alloc, lines.as_str())?;
+    let level = level_rows(alloc, lines.as_str())?;
+    let tests = tested(rt, folder, terms, tests.into_vec(), &level)?;
+    let rows = all_rows(alloc, level)?;
     Ok(Snapshot::new(tests, uses, rows, Vec::new(alloc)))
 }
 
