@@ -91,6 +91,7 @@ impl Posting {
 
     /// A reader that borrows the bytes and stands at the first location, or at `TOP` where the list is empty. It adds
     /// one step.
+    #[inline(always)]
     pub fn reader<'a, L: Ledger>(&'a self, steps: &mut Steps<L>) -> WordReader<'a>
         ensures sound { ⟦<WordReader<'a> as Reader>⟧.sound result }
         ensures list { ⟦<WordReader<'a> as Reader>⟧.list result ≡ self.now }

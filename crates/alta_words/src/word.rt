@@ -1,8 +1,8 @@
 // A reader of a coded list, which holds one block.
-ghost use Rattle.std.specs.Prelude.{◌≡◌, refl, ℕ, ◌+◌, ◌-◌, ◌*◌, ◌<◌, ◌≤◌, List, ◌∷◌, length, slice_index, slice_index_or};
+ghost use Rattle.std.specs.Prelude.{◌≡◌, refl, ℕ, ◌+◌, ◌-◌, ◌*◌, ◌<◌, ◌≤◌, List, ◌∷◌, length, take, drop, slice_index, slice_index_or};
 ghost use Rattle.alta_codec.specs.Rising.{IsRising, first_from, pred_of, count_from};
 ghost use Rattle.alta_codec.specs.declared.location.TheConstants.{TOP};
-ghost use Rattle.alta_postings.specs.Deltas.{decoded_list};
+ghost use Rattle.alta_postings.specs.Deltas.{BeginsBlock, Spells, decoded_list};
 ghost use Rattle.alta_summary.specs.Table.{field_at};
 ghost use Rattle.alta_words.specs.Held.{IsSoundWord, word_list, word_place, word_rises, word_stands};
 ghost use Rattle.alta_words.specs.Word.{IsPosting, HoldsBlock};
@@ -28,18 +28,38 @@ pub struct WordReader<'a> {
     end: Loc,
 }
 
+/// The block of a list that begins at a place of its bytes, by value, so that no pointer into a reader is passed on. It adds
+/// one step.
+#[inline(never)]
+fn block_at<L: Ledger>(
+    bytes: &[u8],
+    place: usize,
+    before: u64,
+    steps: &mut Steps<L>,
+) -> ArrayVec<u64, 64>
+    requires spelled { Spells bytes.now (decoded_list bytes.now) }
+    requires begins { (i : ℕ) × BeginsBlock (decoded_list bytes.now) i place before }
+    ensures block { (i : ℕ) → BeginsBlock (decoded_list bytes.now) i place before
+        → result.items ≡ take 64 (drop (64 * i) (decoded_list bytes.now)) }
+    ensures steps { steps.new ≡ steps.old + 1 }
+{
+    let stream = Stream::of(bytes);
+    let mut block = ArrayVec::new();
+    stream.block(place, before, &mut block, steps);
+    block
+}
+
 /// The first block of a list, none where the list is empty. It adds one step.
 fn first_block<L: Ledger>(stream: &Stream<'_>, steps: &mut Steps<L>) -> ArrayVec<u64, 64>
     ensures holds { HoldsBlock (decoded_list stream.now) result.items 0 0 0 }
     ensures steps { steps.new ≡ steps.old + 1 }
 {
-    let mut block = ArrayVec::new();
-    if stream.bytes().len() == 0 {
+    let bytes = stream.bytes();
+    if bytes.len() == 0 {
         steps.tick();
-        return block;
+        return ArrayVec::new();
     }
-    stream.block(0, 0, &mut block, steps);
-    block
+    block_at(bytes, 0, 0, steps)
 }
 
 /// The location before a block, 0 before the first.
@@ -56,6 +76,7 @@ fn before_row(summary: &Summary<'_>, row: usize) -> u64
 
 impl<'a> WordReader<'a> {
     /// A reader at the first location. It adds one step.
+    #[inline(always)]
     pub fn new<L: Ledger>(
         stream: Stream<'a>,
         summary: Summary<'a>,
@@ -142,6 +163,27 @@ impl<'a> WordReader<'a> {
         self.before = before;
     }
 
+    /// Holds another block as [`Self::load`] does, by value: where the moves of a reader are inlined, it stays in registers.
+    #[inline(always)]
+    fn take<L: Ledger>(&mut self, row: usize, steps: &mut Steps<L>)
+        requires posting { IsPosting self.old.stream self.old.summary.bytes self.old.summary.count }
+        requires within { row < self.old.summary.count }
+        ensures stream { self.new.stream ≡ self.old.stream }
+        ensures summary { self.new.summary ≡ self.old.summary }
+        ensures end { self.new.end ≡ self.old.end }
+        ensures row { self.new.row ≡ row }
+        ensures index { self.new.index ≡ 0 }
+        ensures holds { HoldsBlock (decoded_list self.old.stream) self.new.block.items row 0 self.new.before }
+        ensures steps { steps.new ≡ steps.old + 1 }
+    {
+        let place = self.summary.row(row).place as usize;
+        let before = before_row(&self.summary, row);
+        self.block = block_at(self.stream.bytes(), place, before, steps);
+        self.row = row;
+        self.index = 0;
+        self.before = before;
+    }
+
     /// Goes one location on, and answers it, `TOP` behind the last. It adds one step.
     #[inline(always)]
     fn go_next<L: Ledger>(&mut self, steps: &mut Steps<L>) -> Loc
@@ -167,7 +209,7 @@ impl<'a> WordReader<'a> {
     }
 
     /// Goes from the last location of a block to the first of the next, or behind the last. It adds one step.
-    #[inline(never)]
+    #[inline(always)]
     fn leave_block<L: Ledger>(&mut self, steps: &mut Steps<L>)
         requires posting { IsPosting self.old.stream self.old.summary.bytes self.old.summary.count }
         requires holds { HoldsBlock (decoded_list self.old.stream) self.old.block.items self.old.row self.old.index self.old.before }
@@ -185,7 +227,7 @@ impl<'a> WordReader<'a> {
             self.index += 1;
             return;
         }
-        self.load(self.row + 1, steps);
+        self.take(self.row + 1, steps);
     }
 
     /// Goes on to the first location at or above `to`, which mostly is one of the next four of the block. It adds one step.
@@ -272,6 +314,7 @@ impl<'a> Reader for WordReader<'a> {
 
     /// Goes to the next location, or to `TOP` past the last. It adds exactly one step, and reads a block where it leaves
     /// the one that it holds.
+    #[inline(always)]
     fn next<L: Ledger>(&mut self, steps: &mut Steps<L>)
         requires sound { ⟦<WordReader<'a> as Reader>⟧.sound self.old }
         requires below { ⟦<WordReader<'a> as Reader>⟧.location self.old < TOP }

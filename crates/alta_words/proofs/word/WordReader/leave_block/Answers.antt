@@ -28,8 +28,8 @@ returns-clause-place g c =
     omega (
       arith,
       c.requires.last,
-      c.load.ensures.row,
-      c.load.ensures.index,
+      c.take.ensures.row,
+      c.take.ensures.index,
       c.rows-rows.ensures.count,
       block_size (decoded_list s.stream) s.block.items s.row s.index s.before c.requires.holds,
       row_within s.stream s.summary.bytes s.summary.count (s.row + 1) c.requires.posting (omega (arith, c.rows-rows.ensures.count)),
