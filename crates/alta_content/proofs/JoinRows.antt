@@ -19,7 +19,7 @@ list_of term locations = record { term = term; locations = locations }
 abbrev row : ℕ → ℕ → DocRow
 row number first = record { number = number; first = first; cells = 2; name = number ∷ [] }
 
--- the document 1 at 1 and 2, with the word x; 2 at 3 and 4, with the words x and y at one place; and 4 at 7 and 8, with the word a
+-- the document numbered 1 at 1 and 2, with the word x; 2 at 3 and 4, with the words x and y at one place; and 4 at 7 and 8, with the word a
 abbrev one : Content
 one = record { documents = row 1 1 ∷ []; lists = list_of end_term (2 ∷ []) ∷ list_of (word 120) (1 ∷ []) ∷ [] }
 

@@ -107,7 +107,7 @@ state_in held = state_of held.view
 abbrev job_at : List ℕ → ℕ → Job
 job_at dead merged = record { older = one; newer = two; dead = dead; merged = merged }
 
--- three levels with 100, 100 and 50 bytes between them and the list, and the document 2 deleted in the second
+-- three levels with 100, 100 and 50 bytes between them and the list, and the document numbered 2 deleted in the second
 abbrev three_levels : List Entry → Option Job → Holding
 three_levels entries job = held_with (level_at 0 one ∷ level_at 150 two ∷ level_at 300 third ∷ []) (4 ∷ []) (at 400 50) entries job
 

@@ -112,7 +112,7 @@ fn replayed(alloc: Global, image: Vec<u8>, half: Half) -> Result<(usize, u64), O
     }
 }
 
-// The record that adds document 1, `a`, about a red fox, its gate open, and the next gate.
+// The record that adds the first document, `a`, about a red fox, its gate open, and the next gate.
 const RED_FOX: &[u8] = b"\xa5\0\0\0\x23\x01\x01a\0\0\0\x07Red Fox\0\0\0\x11the quick red fox\0";
 
 #[test]

@@ -21,9 +21,10 @@ use alta_table::Table;
 use alta_words::Posting;
 use std::alloc::{AllocError, Global};
 
-/// Loads the lists of a term: those of the levels, that of the oldest level first, as they are coded, and behind them a copy
-/// of that of the newest documents. The oldest level is numbered 0, and the newest documents are numbered behind all levels.
-/// A level without the term has no list.
+/// Loads the lists of a term: those of the levels, that of the oldest level first, and behind them a copy of that of the newest
+/// documents. A list of a level is kept as it is coded, but that of all documents' ends, once it was tested, as the level's rows
+/// have it. The oldest level is numbered 0, and the newest documents are numbered behind all levels. A level without the
+/// term has no list.
 ///
 /// # Errors
 ///

@@ -23,7 +23,7 @@ added_at number location name cells = record {
   cells = cells;
 }
 
--- the document 1 at 1 to 3: x, then x and y at one place, and the end; and 3 at 7 and 8: a word that is too long, and the end
+-- the document numbered 1 at 1 to 3: x, then x and y at one place, and the end; and 3 at 7 and 8: a word that is too long, and the end
 abbrev first : Added
 first = added_at 1 1 (97 ∷ []) ((word 120 ∷ []) ∷ (word 120 ∷ word 121 ∷ []) ∷ (end_term ∷ []) ∷ [])
 
