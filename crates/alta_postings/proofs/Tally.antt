@@ -1,7 +1,7 @@
 -- Numbers of one or of two bytes, by what the lanes of vectors add up to.
 use Rattle.std.proofs.Common.{◌≡◌, ⊎_elim, ℕ, zero, suc, ◌+◌, ◌-◌, ◌*◌, ◌/◌, ◌%◌, ◌^◌, ◌<◌, ◌≤◌, eqb, ltb, leb, Bool, false, cond, List, [], ◌∷◌, map, length, take, drop, get_or, replicate, w8, refl, sym, subst, ap, ap₂, ◌∙◌, arith}
 use Rattle.std.proofs.Math.Seq.{drop-cons}
-use Rattle.std.proofs.lemmas.Bool.{cases_lt, cases_eq, cases_Bool, cond_both, le-leb, lt-leb, lt-ltb, le-ltb, ne_eqb, true≢false}
+use Rattle.std.proofs.lemmas.Bool.{cases_lt, cases_eq, cases_Bool, cond_both, leb-false, le-leb, lt-leb, lt-ltb, le-ltb, ne_eqb, true≢false}
 use Rattle.std.proofs.lemmas.List.{length-map, get_or-map}
 use Rattle.std.proofs.lemmas.Simd.{length-chunk, get_or-chunk, length-zip2, get_or-zip2, get_or-sel_l, bit_mask_l, mask_l-lt, zip2_splat, zip2_splat_left, zip2_of_maps, map-map, mask_l-mod, tops_compared}
 use lib.Bits.{bit_or}
@@ -38,6 +38,15 @@ gaps_from_mask xs n size few none i l =
     let mask = ap (λ ls. mask_l (map (top 7) ls)) lanes ∙ ap mask_l (map-map (top 7) (λ x. bit_or (cond (eqb x 0) 255 0) (cond (leb 128 x) 255 0)) xs) in
     let small = mask_l-mod (map is_none_or_long xs) 64 (omega (arith, length-map xs is_none_or_long)) in
     is_gap (get_or xs i 0) (mask_zero is_none_or_long xs i (omega arith) (sym small ∙ ap (λ m. m % 2 ^ 64) (sym mask) ∙ none))
+
+-- each lane is below 128, where the mask of the others is empty
+pub lows_from_mask : (xs : List ℕ) → length xs ≡ 16 → mask_l (map (top 7) (zip2 (λ a b. cond (leb a b) 255 0) (replicate 16 128) xs)) % 2 ^ 64 ≡ 0
+    → (i : ℕ) → i < 16 → get_or xs i 0 < 128
+lows_from_mask xs size none i l =
+    let p : ℕ → Bool = λ x. leb 128 x in
+    let lanes = tops_compared w8 leb (replicate 16 128) xs ∙ zip2_splat_left leb 128 16 xs size in
+    let mask = ap (λ ls. mask_l ls % 2 ^ 64) lanes ∙ mask_l-mod (map p xs) 64 (omega (arith, length-map xs p)) in
+    leb-false 128 (get_or xs i 0) (mask_zero p xs i (omega arith) (sym mask ∙ none))
 
 pub itself : (xs : List ℕ) → map (λ x. x) xs ≡ xs
 itself [] = refl
@@ -198,6 +207,14 @@ tally (suc n) s p =
     (λ g. let x = high_lane s p n g in record { under = omega (arith, x.sum, x.long_is, t.under); few = omega (arith, x.long_is, t.few) })
     (cases_lt (get_or s p 0) 128)
 
+-- where no byte is 128 or more
+pub low_lanes : (n : ℕ) (s : List ℕ) (p : ℕ) → ((i : ℕ) → p ≤ i → i < p + n → get_or s i 0 < 128) → (highs s p n ≡ 0) × (longs s p n ≡ 0)
+low_lanes zero s p low = let z = no_lane s p in (z.high_is, z.long_is)
+low_lanes (suc n) s p low =
+    let x = low_lane s p n (low p (omega arith) (omega arith)) in
+    let (high, long) = low_lanes n s (p + 1) (λ i a b. low i (omega arith) (omega arith)) in
+    (omega (arith, x.high_is), omega (arith, x.long_is))
+
 last_over : (n : ℕ) (s : List ℕ) (p q : ℕ) → p + n ≡ q → get_or s q 0 < 256 → get_or s q 0 / 128 ≤ longs s p (suc n)
 last_over zero s p q e byte =
     let here : get_or s p 0 ≡ get_or s q 0 = ap (λ i. get_or s i 0) (let k : p ≡ q = omega arith in k) in
@@ -263,6 +280,26 @@ open_is s q over rest o byte r = record {
   no = λ l. let none : over ≡ 0 = omega arith in (none, r ∙ ap (λ k. k * get_or s (q + 1) 0) none ∙ omega arith);
   yes = λ g. let one : over ≡ 1 = omega arith in (one, r ∙ ap (λ k. k * get_or s (q + 1) 0) one ∙ omega arith);
 }
+
+-- the sixteen lanes of a place, where each is below 128
+pub record IsLow (s : List ℕ) (at sum : ℕ) : Type 0 where
+  pub sum_is : sum ≡ sums s at 16
+  pub high_is : highs s at 16 ≡ 0
+  pub long_is : longs s at 16 ≡ 0
+  pub is_open : IsOpen s (at + 15) 0 0
+
+pub low_sixteen : (s : List ℕ) (at sum : ℕ) → at + 16 < length s → sum ≡ sum_l (chunk at 16 s) → ((i : ℕ) → i < 16 → get_or (chunk at 16 s) i 0 < 128) → IsLow s at sum
+low_sixteen s at sum l a low =
+    let each : (i : ℕ) → at ≤ i → i < at + 16 → get_or s i 0 < 128 = λ i from to.
+    let e : at + (i - at) ≡ i = omega arith in
+    omega (arith, low (i - at) (omega arith), get_or-chunk at 16 s (i - at) 0 (omega arith), ap (λ k. get_or s k 0) e) in
+    let (high, long) = low_lanes 16 s at each in
+    record {
+      sum_is = a ∙ ap sum_l (chunk_is 16 s at (omega arith)) ∙ sums_are 16 s at;
+      high_is = high;
+      long_is = long;
+      is_open = record { no = λ _. (refl, refl); yes = λ g. absurd (omega (arith, each (at + 15) (omega arith) (omega arith))) };
+    }
 
 pub rest_low : (over x : ℕ) → over ≤ 1 → x < 256 → over * x ≤ 255
 rest_low over x one byte =

@@ -20,6 +20,14 @@ fn are_gaps(lanes: u8x16) -> bool
     (zero | longer).to_bitmask() == 0
 }
 
+// Whether no lane is 128 or more.
+#[inline(always)]
+fn are_low(lanes: u8x16) -> bool
+    ensures { IsTrue result → (i : ℕ) → i < 16 → slice_index lanes i < 128 }
+{
+    lanes.simd_ge(u8x16::splat(128)).to_bitmask() == 0
+}
+
 // The sum of all lanes.
 #[inline(always)]
 fn lane_sum(lanes: u8x16) -> u64
@@ -53,8 +61,11 @@ pub(crate) fn scan_lanes(bytes: &[u8], at: usize, before: u64) -> Option<(usize,
     if !are_gaps(here.simd_min(next)) {
         return None;
     }
-    let longer = here.simd_ge(u8x16::splat(128));
     let sum = lane_sum(here);
+    if are_low(here) {
+        return Some((at + 16, before + sum, 16));
+    }
+    let longer = here.simd_ge(u8x16::splat(128));
     let high = lane_sum(longer.select(next, u8x16::splat(0)));
     let longs = lane_sum(longer.select(u8x16::splat(1), u8x16::splat(0)));
     let over = last_long(here);

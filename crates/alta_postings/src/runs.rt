@@ -6,6 +6,7 @@ ghost use Rattle.alta_postings.specs.Short.{AreGaps, IsFilled, IsReadTo};
 
 use alta_codec::TOP;
 use arrayvec::ArrayVec;
+use std::simd::prelude::*;
 
 // What eight numbers of one byte count at most.
 const RUN: u64 = 8 * 127;
@@ -16,13 +17,10 @@ fn are_gaps(bytes: &[u8], at: usize) -> bool
     requires { at + 8 ≤ length bytes.now }
     ensures { IsTrue result → AreGaps bytes.now at }
 {
-    for i in 0..8 {
-        let byte = bytes[at + i];
-        if byte == 0 || byte >= 128 {
-            return false;
-        }
-    }
-    true
+    let lanes = u8x8::from_slice(&bytes[at..]);
+    let zero = lanes.simd_eq(u8x8::splat(0));
+    let longer = lanes.simd_ge(u8x8::splat(128));
+    (zero | longer).to_bitmask() == 0
 }
 
 // Appends the locations of eight numbers of one byte each, and answers the last.

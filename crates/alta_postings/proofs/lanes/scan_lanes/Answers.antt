@@ -1,5 +1,5 @@
 use Rattle.std.proofs.Common.{◌≡◌, ◌+◌, ◌*◌, get_or, refl, ap, ◌∙◌, arith}
-use Rattle.alta_postings.proofs.Tally.{sixteen, open_is, rest_low, short_from, run_read}
+use Rattle.alta_postings.proofs.Tally.{sixteen, low_sixteen, open_is, rest_low, short_from, run_read}
 use Rattle.alta_postings.proofs.lanes.scan_lanes.Goals as goal
 
 pub overflow_sub-reach : goal.overflow_sub-reach
@@ -14,8 +14,8 @@ overflow_sub-count c =
     c.lane_sum-sum.ensures.sum c.lane_sum-high.ensures.sum c.lane_sum-longs.ensures.sum c.last_long-over.ensures in
     omega (arith, f.long_few)
 
-pub overflow_add-result-3 : goal.overflow_add-result-3
-overflow_add-result-3 c =
+pub overflow_add-result-4 : goal.overflow_add-result-4
+overflow_add-result-4 c =
     let f = sixteen c.args.bytes.now c.args.at c.lane_sum-sum.result c.lane_sum-high.result c.lane_sum-longs.result c.last_long-over.result (λ i l. omega (arith, c.type_inv.bytes i)) c.requires.within
     c.lane_sum-sum.ensures.sum c.lane_sum-high.ensures.sum c.lane_sum-longs.ensures.sum c.last_long-over.ensures in
     let low = rest_low c.last_long-over.result c.from.result f.over_one (omega (arith, c.from.ensures, c.type_inv.bytes (c.args.at + 16))) in
@@ -47,3 +47,11 @@ returns-clause-within c =
     let f = sixteen c.args.bytes.now c.args.at c.lane_sum-sum.result c.lane_sum-high.result c.lane_sum-longs.result c.last_long-over.result (λ i l. omega (arith, c.type_inv.bytes i)) c.requires.within
     c.lane_sum-sum.ensures.sum c.lane_sum-high.ensures.sum c.lane_sum-longs.ensures.sum c.last_long-over.ensures in
     omega (arith, f.over_one, c.requires.within)
+
+pub returns-then-are_low-clause-read : goal.returns-then-are_low-clause-read
+returns-then-are_low-clause-read c = λ s y n r.
+    let bytes = c.args.bytes.now in
+    let f = low_sixteen bytes c.args.at c.lane_sum-sum.result c.requires.within c.lane_sum-sum.ensures.sum (λ i l. c.are_low.ensures c.if-are_low.true i l) in
+    run_read bytes s y (λ i l. omega (arith, c.type_inv.bytes i)) c.args.before n c.args.at 0 0 _ _ _ c.requires.within
+    (short_from bytes c.args.at c.requires.within (λ i l. c.are_gaps.ensures c.if-not-are_gaps.false i l)) f.is_open
+    (omega (arith, f.sum_is, f.high_is, f.long_is)) (omega (arith, f.long_is)) (omega (arith, c.requires.low, c.lane_sum-sum.ensures.low)) (omega arith) r
