@@ -9,7 +9,7 @@ there (crates/bench_decode/out/bench_decode by default). The C loop is compiled 
 
 Prints for each list its bytes a location and how many million locations a second of processor time are decoded: by the
 check of the stream and its summary, by a walk with `next`, and by the C loop, which adds the
-locations up and tests nothing but the end. The time is that of ROUNDS rounds more, the best of some turns.
+locations up and tests nothing but the end. The time is that of ROUNDS rounds more: the least of some turns, less the least of one round.
 """
 
 import argparse

@@ -14,14 +14,13 @@ def seconds(command):
 
 
 def speed(command, count, rounds, turns, want):
-    """Millions a second, of `count` a round, over so many rounds more than one, the best of some turns. `command` gives the
-    words for a number of rounds; for one round it has to print the numbers that are wanted."""
-    best = None
+    """Millions a second, of `count` a round, over so many rounds more than one: the least time of some turns of one round is taken off
+    that of all. `command` gives the words for a number of rounds; for one round it has to print the numbers that are wanted."""
+    ones, alls = [], []
     for _ in range(turns):
         one, answer = seconds(command("1"))
         if answer != want:
             sys.exit(f"{command('1')} prints {answer} in place of {want}")
-        more, _ = seconds(command(str(1 + rounds)))
-        if best is None or more - one < best:
-            best = more - one
-    return count * rounds / max(best, 1e-9) / 1e6
+        ones.append(one)
+        alls.append(seconds(command(str(1 + rounds)))[0])
+    return count * rounds / max(min(alls) - min(ones), 1e-9) / 1e6

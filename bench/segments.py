@@ -13,7 +13,7 @@ read    does that, tests each stream, its summary and its locations, and keeps a
 build   does that, and writes the segment of what it read
 
 Prints for each how many million bytes a second of processor time are read or written (of `open` the bytes of head and
-tables, else of the whole), for both. The time is that of ROUNDS rounds more, the best of some turns.
+tables, else of the whole), for both. The time is that of ROUNDS rounds more: the least of some turns, less the least of one round.
 """
 
 import argparse

@@ -6,9 +6,9 @@ usage: bench/walk.py [--program PATH] [--before PATH] [--documents N] [--least S
 Makes DOCUMENTS documents (60,000) of 64 words each from a fixed seed: `half` stands in every second one, `other` in a half that chance
 gives, `every` in all, `rare` in one of a thousand, `pa` and `pb` in about a half each, side by side in a tenth, one of the 200 words
 `pre0` to `pre199` in each, and else words of 5,000 others. PATH is the program of crates/bench_walk, which `rt run` builds there
-(crates/bench_walk/out/bench_walk by default); it reads the lists of these words as they are coded in a level. bench/walk.c is compiled by
-`gcc -O2` in a temporary folder, and decodes the same streams. FTS5 indexes the same documents in memory: a contentless table by
-`unicode61`, optimized, and for the names a table by number beside it.
+(crates/bench_walk/out/bench_walk by default); it reads the lists of these words as they are coded in a level, and walks the documents' ends
+as their rows have them, as an index does. bench/walk.c is compiled by `gcc -O2` in a temporary folder, and decodes the same streams. FTS5
+indexes the same documents in memory: a contentless table by `unicode61`, optimized, and for the names a table by number beside it.
 
 Asks nine queries, or those whose letters are given, of all three, which have to find the same number of documents. A program is run for one
 round, and for so many more that these take SECONDS (0.1) of processor time or more; the least time of some turns of the one is taken off
