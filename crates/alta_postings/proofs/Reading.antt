@@ -1,6 +1,6 @@
 -- What bytes are read as, number by number, and that this is the list that they spell.
 use Rattle.std.proofs.Common.{◌≡◌, ⊎_elim, inl, ℕ, zero, suc, ◌+◌, ◌-◌, ◌*◌, ◌<◌, ◌≤◌, List, [], ◌∷◌, ◌++◌, length, take, drop, get_or, refl, sym, subst, ap, ◌∙◌, arith, length-append, length-drop, append_assoc, append-nil}
-use Rattle.std.specs.Prelude.{Result, Ok, Err, Some, None, cond, nat_lt, nat_eq}
+use Rattle.std.specs.Prelude.{Result, Ok, Err, Option, Some, None, IfSome, cond, nat_lt, nat_eq}
 use Rattle.std.proofs.Math.Seq.{drop-append_seam, drop-append-add}
 use Rattle.std.proofs.Math.ListN.{drop_of_length-le}
 use Rattle.std.proofs.lemmas.List.{drop-drop, get_or-drop}
@@ -9,12 +9,13 @@ use Rattle.std.proofs.lemmas.Bool.Decides.{nat_tests}
 use Rattle.alta_codec.specs.declared.location.TheConstants.{TOP}
 use Rattle.alta_codec.specs.declared.number.CodeFault.{CodeFault}
 use Rattle.alta_codec.specs.Numbers.{number_bytes, with_low, number_from}
+use Rattle.alta_codec.proofs.ByteLaws.{AreBytes-nil, AreBytes-append, number_bytes-AreBytes}
 use Rattle.alta_codec.proofs.Numerals.{read_ok, AreBytes, number_read, reads_number, number_size, number_nil, number_last, number_more}
 use Rattle.alta_postings.proofs.Above.{RisesAbove, rising_from_above, above_from_rising}
 use Rattle.alta_postings.specs.declared.fault.StreamCause.TheVariants.{Zero, Top}
 use Rattle.alta_postings.specs.declared.fault.StreamFault.{StreamFault}
 use Rattle.alta_postings.specs.Short.{IsReadTo}
-use Rattle.alta_postings.specs.Deltas.{Spells, stream_bytes, cause_of, fault_at, number_fault, number_list, fault_from, list_from, first_fault, decoded_list, BeginsBlock, IsStep, IsBlockRead}
+use Rattle.alta_postings.specs.Deltas.{Spells, stream_bytes, cause_of, fault_at, number_fault, number_list, fault_from, list_from, first_fault, decoded_list, IsBehind, IsNextOf, IsStep, IsBlockRead}
 
 fault_skip : (k at before : ℕ) (bs : List ℕ) → fault_from at k before bs ≡ fault_from (at + k) 0 before (drop k bs)
 unfolding fault_from
@@ -275,26 +276,24 @@ take_end n out l whole e h = sym (append-nil out) ∙ ap (λ x. out ++ x) (sym (
 pub list_ends : (out l whole : List ℕ) → l ≡ [] → out ++ l ≡ whole → out ≡ whole
 list_ends out l whole e h = sym (append-nil out) ∙ ap (λ x. out ++ x) (sym e) ∙ h
 
--- what is read from the place of a block on
-pub record IsBlockAt (bs xs : List ℕ) (i place before : ℕ) : Type 0 where
+-- what is read behind the first i locations
+pub record IsRestAt (bs xs : List ℕ) (i place last : ℕ) : Type 0 where
   pub within : place ≤ length bs
-  pub low : before < TOP
-  pub none : fault_from place 0 before (drop place bs) ≡ None
-  pub list : list_from place 0 before (drop place bs) ≡ drop (64 * i) xs
+  pub low : last < TOP
+  pub none : fault_from place 0 last (drop place bs) ≡ None
+  pub list : list_from place 0 last (drop place bs) ≡ drop i xs
 
-pub block_at : (bs xs : List ℕ) (i place before : ℕ) → Spells bs xs → BeginsBlock xs i place before → IsBlockAt bs xs i place before
-block_at bs xs i place before s b =
-    let k = 64 * i in
+pub rest_at : (bs xs : List ℕ) (i place last : ℕ) → Spells bs xs → IsBehind xs i place last → IsRestAt bs xs i place last
+rest_at bs xs i place last s b =
     let r = above_from_rising xs s.rising in
-    let le : k ≤ length xs = omega (arith, b.within) in
-    let d : drop place bs ≡ stream_bytes before (drop k xs) =
-    ap (λ n. drop n bs) b.place_is ∙ ap (λ x. drop (length (stream_bytes 0 (take k xs))) x) s.spelled ∙ behind_some 0 k xs le ∙ ap (λ y. stream_bytes y (drop k xs)) (sym b.before_is) in
-    let c = complete place before (drop k xs) (subst (λ y. RisesAbove y (drop k xs)) (sym b.before_is) (above_behind 0 k xs r le)) in
+    let d : drop place bs ≡ stream_bytes last (drop i xs) =
+    ap (λ n. drop n bs) b.place_is ∙ ap (λ x. drop (length (stream_bytes 0 (take i xs))) x) s.spelled ∙ behind_some 0 i xs b.within ∙ ap (λ y. stream_bytes y (drop i xs)) (sym b.last_is) in
+    let c = complete place last (drop i xs) (subst (λ y. RisesAbove y (drop i xs)) (sym b.last_is) (above_behind 0 i xs r b.within)) in
     record {
-      within = omega (arith, b.place_is, ap length s.spelled, stream_front 0 k xs);
-      low = omega (arith, b.before_is, before_low 0 k xs r le (omega arith));
-      none = ap (λ x. fault_from place 0 before x) d ∙ c.none;
-      list = ap (λ x. list_from place 0 before x) d ∙ c.list;
+      within = omega (arith, b.place_is, ap length s.spelled, stream_front 0 i xs);
+      low = omega (arith, b.last_is, before_low 0 i xs r b.within (omega arith));
+      none = ap (λ x. fault_from place 0 last x) d ∙ c.none;
+      list = ap (λ x. list_from place 0 last x) d ∙ c.list;
     }
 
 pub read_none : (s : List ℕ) (at before : ℕ) → before < TOP → at ≤ length s → IsReadTo s at before before 0 at
@@ -384,3 +383,45 @@ place_is s xs k at before bytes h within le b f l =
       ap length h.spelled,
       stream_front 0 k xs,
     )
+
+-- bytes that spell a list are bytes
+stream_are_bytes : (before : ℕ) (xs : List ℕ) (i : ℕ) → get_or (stream_bytes before xs) i 0 < 256
+unfolding stream_bytes
+stream_are_bytes before [] = AreBytes-nil
+stream_are_bytes before (x ∷ xs) = AreBytes-append (number_bytes (x - before)) (stream_bytes x xs) (number_bytes-AreBytes (x - before)) (stream_are_bytes x xs)
+
+pub spelled_are_bytes : (bs xs : List ℕ) → Spells bs xs → AreBytes bs
+spelled_are_bytes bs xs s i l = subst (λ (b : List ℕ). get_or b i 0 < 256) (sym s.spelled) (stream_are_bytes 0 xs i)
+
+-- the location that is read behind the first i
+pub next_is : (s xs : List ℕ) (i at last y e : ℕ) → Spells s xs → IsBehind xs i at last → IsStep s at last y e → IsNextOf xs i last y e
+next_is s xs i at last y e h b x =
+    let r = rest_at s xs i at last h b in
+    let here : drop i xs ≡ y ∷ list_from e 0 y (drop e s) = sym r.list ∙ x.list in
+    let l : i < length xs = omega (arith, ap length here, length-drop i xs) in
+    let k : i + 0 ≡ i = omega arith in
+    let is : y ≡ get_or xs i 0 = sym (ap (λ l. get_or l 0 0) here) ∙ get_or-drop i xs 0 0 ∙ ap (λ j. get_or xs j 0) k in
+    let more : suc i ≡ i + 1 = omega arith in
+    let last_is : y ≡ get_or (0 ∷ xs) (i + 1) 0 = is ∙ ap (λ j. get_or (0 ∷ xs) j 0) more in
+    let rest : list_from e 0 y (drop e s) ≡ drop (i + 1) xs = sym (ap (λ l. drop 1 l) here) ∙ drop-drop 1 i xs in
+    record {
+      within = l;
+      is = is;
+      above = x.above;
+      behind = record {
+        within = omega arith;
+        place_is = place_is s xs (i + 1) e y (spelled_are_bytes s xs h) h x.within (omega arith) last_is (sym x.fault ∙ r.none) rest;
+        last_is = last_is;
+      };
+    }
+
+-- where the bytes end, no location is left
+pub none_is : (s xs : List ℕ) (i at last : ℕ) → Spells s xs → IsBehind xs i at last → at ≡ length s → i ≡ length xs
+none_is s xs i at last h b e =
+    let r = rest_at s xs i at last h b in
+    omega (arith, b.within, ap length (sym r.list ∙ list_end s at last (omega arith)), length-drop i xs)
+
+pub next_some : (s xs : List ℕ) (at last : ℕ) (o : Option (ℕ × ℕ)) → Spells s xs → IfSome o (λ r. IsStep s at last r.0 r.1)
+    → IfSome o (λ r. (i : ℕ) → IsBehind xs i at last → IsNextOf xs i last r.0 r.1)
+next_some s xs at last None h x = tt
+next_some s xs at last (Some r) h x = λ i b. next_is s xs i at last r.0 r.1 h b x

@@ -62,6 +62,12 @@ one_step s at before bytes l some low top = step_at s at before (get_or s at 0) 
 pub one_low : (s : List ℕ) (at before : ℕ) → AreBytes s → at < length s → get_or s at 0 < 128 → fault_from at 0 before (drop at s) ≡ None → before + get_or s at 0 < TOP
 one_low s at before bytes l low none = (sound_at s at before (get_or s at 0) (at + 1) bytes l (one_number s at l low) none).low
 
+pub one_sound : (s : List ℕ) (at before n : ℕ) → AreBytes s → at < length s → n ≡ get_or s at 0 → n < 128 → fault_from at 0 before (drop at s) ≡ None → IsStep s at before (before + n) (at + 1)
+one_sound s at before n bytes l e low none =
+    let h = one_number s at l (omega arith) ∙ ap (λ i. read_ok i (at + 1)) (sym e) in
+    let g = sound_at s at before n (at + 1) bytes l h none in
+    step_at s at before n (at + 1) bytes l h g.positive g.low
+
 -- the next number of a run of numbers of one byte each
 pub next_of_run : (s : List ℕ) (at i last y : ℕ) → AreBytes s → at + i < length s → 0 < get_or s (at + i) 0 → get_or s (at + i) 0 < 128 → y ≡ last + get_or s (at + i) 0 → y < TOP → IsStep s (at + i) last y (at + (i + 1))
 next_of_run s at i last y bytes l some low e top =

@@ -40,11 +40,11 @@ gaps_from_mask xs n size few none i l =
     is_gap (get_or xs i 0) (mask_zero is_none_or_long xs i (omega arith) (sym small ∙ ap (λ m. m % 2 ^ 64) (sym mask) ∙ none))
 
 -- each lane is below 128, where the mask of the others is empty
-pub lows_from_mask : (xs : List ℕ) → length xs ≡ 16 → mask_l (map (top 7) (zip2 (λ a b. cond (leb a b) 255 0) (replicate 16 128) xs)) % 2 ^ 64 ≡ 0
-    → (i : ℕ) → i < 16 → get_or xs i 0 < 128
-lows_from_mask xs size none i l =
+pub lows_from_mask : (xs : List ℕ) (n : ℕ) → length xs ≡ n → n ≤ 64 → mask_l (map (top 7) (zip2 (λ a b. cond (leb a b) 255 0) (replicate n 128) xs)) % 2 ^ 64 ≡ 0
+    → (i : ℕ) → i < n → get_or xs i 0 < 128
+lows_from_mask xs n size few none i l =
     let p : ℕ → Bool = λ x. leb 128 x in
-    let lanes = tops_compared w8 leb (replicate 16 128) xs ∙ zip2_splat_left leb 128 16 xs size in
+    let lanes = tops_compared w8 leb (replicate n 128) xs ∙ zip2_splat_left leb 128 n xs size in
     let mask = ap (λ ls. mask_l ls % 2 ^ 64) lanes ∙ mask_l-mod (map p xs) 64 (omega (arith, length-map xs p)) in
     leb-false 128 (get_or xs i 0) (mask_zero p xs i (omega arith) (sym mask ∙ none))
 

@@ -59,11 +59,22 @@ first_fault bytes = fault_from 0 0 0 bytes
 unfoldable pub decoded_list : List ℕ → List ℕ
 decoded_list bytes = list_from 0 0 0 bytes
 
+-- the first i locations of the list are spelled up to this place, and the last of them is this one, 0 where there is none
+pub record IsBehind (list : List ℕ) (i place last : ℕ) : Type 0 where
+  pub within : i ≤ length list
+  pub place_is : place ≡ length (stream_bytes 0 (take i list))
+  pub last_is : last ≡ slice_index (0 ∷ list) i
+
 -- a block of 64 locations, or fewer at the end, begins at this place behind this location
-pub record BeginsBlock (list : List ℕ) (i place before : ℕ) : Type 0 where
-  pub within : 64 * i < length list
-  pub place_is : place ≡ length (stream_bytes 0 (take (64 * i) list))
-  pub before_is : before ≡ slice_index (0 ∷ list) (64 * i)
+abbrev pub BeginsBlock : List ℕ → ℕ → ℕ → ℕ → Type 0
+BeginsBlock list i place before = (64 * i < length list) × IsBehind list (64 * i) place before
+
+-- behind the first i locations of the list comes this one, which is spelled up to this place
+pub record IsNextOf (list : List ℕ) (i last location place : ℕ) : Type 0 where
+  pub within : i < length list
+  pub is : location ≡ slice_index list i
+  pub above : last < location
+  pub behind : IsBehind list (i + 1) place location
 
 -- One location y was read at a place of the bytes s, behind the location `before`, up to the place e: faults and
 -- locations from there on are those of the rest.

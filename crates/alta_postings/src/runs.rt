@@ -2,7 +2,7 @@
 ghost use Rattle.std.specs.Prelude.{◌≡◌, ℕ, ◌+◌, ◌-◌, ◌*◌, ◌<◌, ◌≤◌, ◌++◌, length, take, drop, None, IsTrue};
 ghost use Rattle.alta_codec.specs.declared.location.TheConstants.{TOP};
 ghost use Rattle.alta_postings.specs.Deltas.{fault_from, list_from};
-ghost use Rattle.alta_postings.specs.Short.{AreGaps, IsFilled, IsReadTo};
+ghost use Rattle.alta_postings.specs.Short.{AreGaps, IsFilled};
 
 use alta_codec::TOP;
 use arrayvec::ArrayVec;

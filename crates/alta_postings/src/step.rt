@@ -1,11 +1,12 @@
 // One location of a stream.
-ghost use Rattle.std.specs.Prelude.{◌≡◌, ◌+◌, ◌<◌, ◌≤◌, length, drop, slice_index, Some, None, IfSome, IfOk, IfErr};
+ghost use Rattle.std.specs.Prelude.{◌≡◌, ◌+◌, ◌<◌, ◌≤◌, length, drop, slice_index, Some, None, IsTrue, IfSome, IfOk, IfErr};
 ghost use Rattle.alta_codec.specs.declared.location.TheConstants.{TOP};
 ghost use Rattle.alta_postings.specs.Deltas.{fault_from, IsStep};
 ghost use Rattle.alta_postings.specs.Short.{IsShort};
 
 use crate::fault::{StreamCause, StreamFault, cause};
 use alta_codec::{TOP, get_number};
+use std::simd::prelude::*;
 
 // What the second byte of a number counts, if it has one. It is a product, since a branch here would be foreseen badly.
 #[inline(always)]
@@ -113,4 +114,47 @@ pub fn next_location(bytes: &[u8], at: usize, before: u64) -> (u64, usize)
         }
     }
     slow_next(bytes, at, before)
+}
+
+// Whether none of the eight bytes at a place is 128 or more.
+#[inline(always)]
+fn are_low(bytes: &[u8], at: usize) -> bool
+    requires { at + 8 ≤ length bytes.now }
+    ensures { IsTrue result → slice_index bytes.now at < 128 }
+{
+    let lanes = u8x8::from_slice(&bytes[at..]);
+    lanes.simd_ge(u8x8::splat(128)).to_bitmask() == 0
+}
+
+/// The location that is spelled at a place of a stream, as [`next_location`] reads it, where eight bytes are left. A number of
+/// one byte is foreseen where the next ones have one byte too; else no branch depends on whether it has one byte or two.
+#[inline(always)]
+pub fn near_location(bytes: &[u8], at: usize, before: u64) -> (u64, usize)
+    requires within { at + 8 ≤ length bytes.now }
+    requires low { before < TOP }
+    requires spelled { fault_from at 0 before (drop at bytes.now) ≡ None }
+    ensures { IsStep bytes.now at before result.0 result.1 }
+{
+    if are_low(bytes, at) {
+        return (before + u64::from(bytes[at]), at + 1);
+    }
+    if let Some((difference, next)) = short_number(bytes, at) {
+        return (before + difference, next);
+    }
+    slow_next(bytes, at, before)
+}
+
+/// The location that is spelled at a place of a stream, as [`next_location`] reads it; none at the end.
+#[inline(never)]
+pub fn last_location(bytes: &[u8], at: usize, before: u64) -> Option<(u64, usize)>
+    requires within { at ≤ length bytes.now }
+    requires low { before < TOP }
+    requires spelled { fault_from at 0 before (drop at bytes.now) ≡ None }
+    ensures read { IfSome result (λ r. IsStep bytes.now at before r.0 r.1) }
+    ensures none { result ≡ None → at ≡ length bytes.now }
+{
+    if at == bytes.len() {
+        return None;
+    }
+    Some(slow_next(bytes, at, before))
 }

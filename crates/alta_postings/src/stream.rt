@@ -1,21 +1,22 @@
 // A stream of locations: opened, and read block by block or whole.
-ghost use Rattle.std.specs.Prelude.{◌≡◌, ℕ, ◌+◌, ◌*◌, ◌<◌, List, take, drop, Some, None, IfOk, IfErr, IsOk};
+ghost use Rattle.std.specs.Prelude.{◌≡◌, ℕ, ◌+◌, ◌-◌, ◌*◌, ◌<◌, List, length, take, drop, Some, None, IfSome, IfOk, IfErr, IsOk};
 ghost use Rattle.alta_codec.specs.declared.location.TheConstants.{TOP};
-ghost use Rattle.alta_postings.specs.Deltas.{Spells, fault_from, list_from, first_fault, decoded_list, BeginsBlock};
+ghost use Rattle.alta_postings.specs.Deltas.{Spells, fault_from, list_from, first_fault, decoded_list, IsBehind, BeginsBlock, IsNextOf};
 
 use crate::block::{read_block, scan_block};
 use crate::fault::StreamFault;
-use crate::step::next_location;
+use crate::step::{last_location, near_location, next_location};
 use alta_codec::{Steps, TOP};
 use arrayvec::ArrayVec;
 use std::alloc::{AllocError, Global};
 use std::marker::Model;
 use std::sync::ledger::Ledger;
 
-/// Bytes that spell a list of locations, borrowed. Contracts see the bytes.
+/// Bytes that spell a list of locations, borrowed, and how many places have eight bytes from there on. Contracts see the bytes.
 #[derive(Drop)]
 pub struct Stream<'a> {
     bytes: &'a [u8],
+    near: usize,
 }
 
 impl<'a> Model for Stream<'a> {
@@ -23,7 +24,7 @@ impl<'a> Model for Stream<'a> {
 
     ghost view = { λ s. s.bytes.now };
 
-    ghost invariant = { λ s. Spells s.bytes.now (decoded_list s.bytes.now) };
+    ghost invariant = { λ s. Spells s.bytes.now (decoded_list s.bytes.now) × (s.near ≡ length s.bytes.now - 7) };
 }
 
 impl<'a> Stream<'a> {
@@ -46,7 +47,7 @@ impl<'a> Stream<'a> {
                 Err(fault) => return Err(fault),
             }
         }
-        Ok(Stream { bytes })
+        Ok(Stream::of(bytes))
     }
 
     /// Bytes that are known to spell a list. They are not read.
@@ -54,7 +55,8 @@ impl<'a> Stream<'a> {
         requires { (list : List ℕ) × Spells bytes.now list }
         ensures { result ≡ bytes.now }
     {
-        Stream { bytes }
+        let near = bytes.len().saturating_sub(7);
+        Stream { bytes, near }
     }
 
     /// The bytes that spell the list.
@@ -63,6 +65,20 @@ impl<'a> Stream<'a> {
         ensures spelled { Spells self.now (decoded_list self.now) }
     {
         self.bytes
+    }
+
+    /// The location behind the location `last`, which is spelled at a place, and the place behind it; none behind the last
+    /// location. It takes no memory.
+    #[inline(always)]
+    pub fn next(&self, place: usize, last: u64) -> Option<(u64, usize)>
+        requires behind { (i : ℕ) × IsBehind (decoded_list self.now) i place last }
+        ensures next { IfSome result (λ r. (i : ℕ) → IsBehind (decoded_list self.now) i place last → IsNextOf (decoded_list self.now) i last r.0 r.1) }
+        ensures none { result ≡ None → (i : ℕ) → IsBehind (decoded_list self.now) i place last → i ≡ length (decoded_list self.now) }
+    {
+        if place < self.near {
+            return Some(near_location(self.bytes, place, last));
+        }
+        last_location(self.bytes, place, last)
     }
 
     /// Fills `out` with the block that begins at `place`, at most 64 locations. `before` is the location before the

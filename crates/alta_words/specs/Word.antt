@@ -1,8 +1,9 @@
--- A coded list: its stream and its summary agree, and one block of it is held.
-use Rattle.std.specs.Prelude.{◌≡◌, ℕ, ◌+◌, ◌-◌, ◌*◌, ◌/◌, ◌<◌, ◌≤◌, min, List, ◌∷◌, length, take, drop, slice_index}
-use Rattle.alta_codec.specs.Rising.{IsRising}
-use Rattle.alta_postings.specs.Deltas.{Spells, stream_bytes, decoded_list}
+-- A coded list: its stream and its summary agree, and a reader stands in it.
+use Rattle.std.specs.Prelude.{◌≡◌, ℕ, ◌+◌, ◌-◌, ◌*◌, ◌/◌, ◌<◌, ◌≤◌, min, List, ◌∷◌, length, take, slice_index, slice_index_or}
+use Rattle.alta_codec.specs.declared.location.TheConstants.{TOP}
+use Rattle.alta_postings.specs.Deltas.{Spells, stream_bytes, decoded_list, IsBehind}
 use Rattle.alta_summary.specs.Table.{field_at, IsSummary}
+use Rattle.alta_words.specs.declared.standing.Standing.{Standing}
 
 -- row i of the summary is block i of the list
 pub record IsRowOf (list summary : List ℕ) (i : ℕ) : Type 0 where
@@ -18,14 +19,26 @@ pub record IsPosting (stream summary : List ℕ) (b : ℕ) : Type 0 where
   pub long : 64 < length (decoded_list stream) → b ≡ (length (decoded_list stream) + 63) / 64
   pub rows : (i : ℕ) → i < b → IsRowOf (decoded_list stream) summary i
 
--- block `row` of the list is held, and the reader stands at `index` in it
-pub record HoldsBlock (list block : List ℕ) (row index before : ℕ) : Type 0 where
-  pub rising : IsRising list
-  pub here : block ≡ take 64 (drop (64 * row) list)
-  pub row_in : 0 < row → 64 * row < length list
-  pub index_in : index ≤ length block
-  pub before_is : before ≡ slice_index (0 ∷ list) (64 * row)
-  pub ended : index ≡ length block → 64 * row + index ≡ length list
+-- A reader of the list stands at the location with this index, or behind the last one at TOP. It keeps the location before, and
+-- the place behind the number of the one at which it stands.
+pub record StandsAt (list : List ℕ) (index : ℕ) (s : Standing) : Type 0 where
+  pub within : index ≤ length list
+  pub at_is : s.at ≡ slice_index_or list index TOP
+  pub before_is : s.before ≡ slice_index (0 ∷ list) index
+  pub behind : index < length list → IsBehind list (index + 1) s.place s.at
+
+-- On the way to the first location at or above `to`, so many locations were read up to a place. The last one is `at`, and the one
+-- before it is below `to`.
+pub record IsOnWay (list : List ℕ) (to before place at : ℕ) : Type 0 where
+  pub read : ℕ
+  pub behind : IsBehind list read place at
+  pub low : before < to
+  pub before_is : to ≤ at → (0 < read) × (before ≡ slice_index (0 ∷ list) (read - 1))
+
+-- `reach` is the last location of the block of a row, or of the list where the summary has no rows
+pub record ReachesTo (summary : List ℕ) (b row reach end : ℕ) : Type 0 where
+  pub some : 0 < b → (row < b) × (reach ≡ field_at summary (3 * row + 1))
+  pub none : b ≡ 0 → reach ≡ end
 
 -- how many locations a list has, its first and its last, 0 where it is empty
 pub record HasBounds (list : List ℕ) (count first last : ℕ) : Type 0 where

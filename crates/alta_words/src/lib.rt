@@ -9,6 +9,7 @@ mod compared;
 mod leaf;
 mod plain;
 mod posting;
+mod standing;
 #[cfg(test)]
 mod tests;
 mod word;

@@ -102,6 +102,6 @@ impl Posting {
     {
         let stream = Stream::of(&self.stream);
         let summary = Summary::of(&self.summary);
-        WordReader::new(stream, summary, steps)
+        WordReader::new(stream, summary, self.last, steps)
     }
 }

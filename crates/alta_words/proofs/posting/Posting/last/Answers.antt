@@ -2,7 +2,7 @@ use Rattle.std.proofs.Common.{ℕ, List, ap, ◌∙◌}
 use Rattle.alta_codec.specs.Rising.{pred_of}
 use Rattle.alta_codec.specs.declared.location.TheConstants.{TOP}
 use Rattle.alta_postings.specs.Deltas.{decoded_list}
-use Rattle.alta_words.proofs.Blocks.{last_of}
+use Rattle.alta_words.proofs.Stands.{last_of}
 use Rattle.alta_words.proofs.posting.Posting.last.Goals as goal
 
 pub returns : goal.returns
