@@ -9,23 +9,23 @@ use Rattle.alta_words.specs.Held.{IsSoundWord, word_list, word_place, word_rises
 
 -- its list of locations
 abbrev pub leaf_list : Leaf → List ℕ
-leaf_list (Coded r) = word_list r.value
+leaf_list (Coded r) = word_list r
 leaf_list (Plain r) = r.list.now
 
 -- where it stands: at an element, or at TOP past the last
 abbrev pub leaf_place : Leaf → ℕ
-leaf_place (Coded r) = word_place r.value
+leaf_place (Coded r) = word_place r
 leaf_place (Plain r) = slice_index_or r.list.now r.at TOP
 
 -- what each leaf keeps
 abbrev pub IsSoundLeaf : Leaf → Type 0
-IsSoundLeaf (Coded r) = IsSoundWord r.value
+IsSoundLeaf (Coded r) = IsSoundWord r
 IsSoundLeaf (Plain r) = IsRising r.list.now × (r.at ≤ length r.list.now)
 
 pub leaf_rises : (s : Leaf) → IsSoundLeaf s → IsRising (leaf_list s)
-leaf_rises (Coded r) h = word_rises r.value h
+leaf_rises (Coded r) h = word_rises r h
 leaf_rises (Plain r) h = h.0
 
 pub leaf_stands : (s : Leaf) → IsSoundLeaf s → IsPlace (leaf_list s) (leaf_place s)
-leaf_stands (Coded r) h = word_stands r.value h
+leaf_stands (Coded r) h = word_stands r h
 leaf_stands (Plain r) h = (at_place r.list.now r.at h.0).0

@@ -51,17 +51,12 @@ fn walk<L: Ledger>(posting: &Posting, steps: &mut Steps<L>) -> (u64, u64) {
 }
 
 /// Where a coded leaf stands after a seek from its start, the location before, and its last location.
-fn seek<L: Ledger>(
-    alloc: Global,
-    posting: &Posting,
-    to: u64,
-    steps: &mut Steps<L>,
-) -> Result<(u64, u64, u64), AllocError> {
-    let mut leaf = Leaf::Coded(Box::new(alloc, posting.reader(steps))?);
+fn seek<L: Ledger>(posting: &Posting, to: u64, steps: &mut Steps<L>) -> (u64, u64, u64) {
+    let mut leaf = Leaf::Coded(posting.reader(steps));
     if leaf.loc() < to && to <= TOP {
         leaf.seek(to, steps);
     }
-    Ok((leaf.loc(), leaf.prev(), leaf.last()))
+    (leaf.loc(), leaf.prev(), leaf.last())
 }
 
 /// The walk of a posting, and its seeks.
@@ -77,7 +72,7 @@ fn moves<L: Ledger>(
     let mut steps = Steps::<L>::new(blank);
     let mut rows = Vec::new(alloc);
     for to in [1, 2, 64, 65, 66, 128, 4_096, 4_097, 4_098, TOP] {
-        rows.push(seek(alloc, posting, to, &mut steps)?)?;
+        rows.push(seek(posting, to, &mut steps))?;
     }
     Ok((walk(posting, &mut steps), rows))
 }

@@ -10,12 +10,11 @@ use alta_codec::{Loc, Steps};
 use alta_reader::{BackReader, Reader};
 use std::sync::ledger::Ledger;
 
-/// A reader of one list of locations, in one of its forms. The reader of a coded list holds a block of it and is kept in a
-/// box, so a leaf of a plain list takes no more room than its slice and its place.
+/// A reader of one list of locations, in one of its forms.
 #[derive(Drop)]
 pub enum Leaf<'a> {
     /// Of a coded list.
-    Coded(Box<WordReader<'a>>),
+    Coded(WordReader<'a>),
     /// Of a plain list in memory.
     Plain(PlainReader<'a>),
 }
