@@ -208,9 +208,9 @@ fn search<L: Ledger>(
     requires shared { 0 < L.parts }
 {
     let mut steps = Steps::<L>::new(blank);
-    let ends = lists.0.reader(alloc, way.coded, &mut steps)?;
-    let first = lists.1.reader(alloc, way.coded, &mut steps)?;
-    let second = lists.2.reader(alloc, way.coded, &mut steps)?;
+    let ends = lists.0.reader(way.coded, &mut steps);
+    let first = lists.1.reader(way.coded, &mut steps);
+    let second = lists.2.reader(way.coded, &mut steps);
     let (ends, first, second) = (
         Counted::new(ends, moves),
         Counted::new(first, moves),

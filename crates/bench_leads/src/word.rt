@@ -1,5 +1,5 @@
 // A word's locations, as a coded list and as a plain one.
-ghost use Rattle.std.specs.Prelude.{◌≡◌, OnOk, OnSome, IfOk, IfSome};
+ghost use Rattle.std.specs.Prelude.{◌≡◌, OnOk, OnSome};
 ghost use Rattle.alta_codec.specs.Rising.{IsRising, first_from};
 ghost use Rattle.alta_words.specs.Leaf.{leaf_list, leaf_place, IsSoundLeaf};
 
@@ -36,20 +36,14 @@ impl Word {
     }
 
     /// A reader of the coded list or of the plain one.
-    pub fn reader<'a, L: Ledger>(
-        &'a self,
-        alloc: Global,
-        coded: bool,
-        steps: &mut Steps<L>,
-    ) -> Result<Leaf<'a>, AllocError>
-        ensures sound { IfOk result IsSoundLeaf }
-        ensures unmoved { IfOk result (λ leaf. leaf_place leaf ≡ first_from (leaf_list leaf) 0) }
+    pub fn reader<'a, L: Ledger>(&'a self, coded: bool, steps: &mut Steps<L>) -> Leaf<'a>
+        ensures sound { IsSoundLeaf result }
+        ensures unmoved { leaf_place result ≡ first_from (leaf_list result) 0 }
     {
         if coded {
-            let reader = Box::new(alloc, self.posting.reader(steps))?;
-            Ok(Leaf::Coded(reader))
+            Leaf::Coded(self.posting.reader(steps))
         } else {
-            Ok(Leaf::Plain(PlainReader::new(&self.list, steps)))
+            Leaf::Plain(PlainReader::new(&self.list, steps))
         }
     }
 }
