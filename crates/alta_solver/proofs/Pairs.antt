@@ -1,5 +1,5 @@
 -- The two bounds that hold a reader to the first one: the raise that mends the one that does not hold.
-use Rattle.std.proofs.Common.{◌≡◌, ◌≢◌, ⊎_elim, ℕ, ◌+◌, ◌*◌, ◌<◌, ◌≤◌, true, Option, None, Some, List, length, get_or, set, refl, sym, subst, ap, inl, inr, ◌∙◌, arith}
+use Rattle.std.proofs.Common.{◌≡◌, ◌≢◌, ⊎_elim, ℕ, ◌+◌, ◌*◌, ◌<◌, ◌≤◌, true, None, Some, List, length, get_or, set, refl, sym, subst, ap, inl, inr, ◌∙◌, arith}
 use Rattle.std.proofs.lemmas.Bool.{cases_lt}
 use Rattle.std.proofs.lemmas.List.{get_or-set_same}
 use Rattle.std.specs.Prelude.{slice_index}
@@ -7,7 +7,6 @@ use Rattle.alta_codec.specs.declared.location.TheConstants.{TOP}
 use Rattle.alta_codec.specs.Rising.{first_from, pred_of}
 use Rattle.alta_codec.proofs.Places.{first_from-above, first_from-least, pred_of-below, pred_of-place}
 use Rattle.alta_solver.specs.declared.form.Form.TheVariants.{LocLoc, PrevLoc}
-use Rattle.alta_solver.specs.declared.least.Outcome.{Outcome}
 use Rattle.alta_solver.specs.declared.least.Outcome.TheVariants.{Moved, Stuck}
 use Rattle.alta_solver.specs.Inequality.{Inequality, upper, lower, IsNamed}
 use Rattle.alta_solver.specs.Repair.{IsRepaired, IsMended}
@@ -15,7 +14,7 @@ use Rattle.alta_solver.specs.Settling.{HoldFrom, IsTried}
 use Rattle.alta_solver.specs.Solution.{list_at, MeetsBound, IsRaised}
 use Rattle.alta_solver.proofs.Raised.{raised_loc, same_or_not}
 use Rattle.alta_solver.proofs.Repaired.{repaired_moved}
-use Rattle.alta_solver.proofs.Settling.{holds_on, keeps_on, tried_stuck}
+use Rattle.alta_solver.proofs.Settling.{holds_on, keeps_on}
 
 -- the element before the first at or above a number is below the number
 pub before_first_from : (xs : List ℕ) (to : ℕ) → 0 < to → to ≤ TOP → pred_of xs (first_from xs to) < to

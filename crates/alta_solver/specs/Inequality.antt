@@ -11,6 +11,13 @@ pub record Inequality : Type 0 where
   pub plus : ℕ
   pub minus : ℕ
 
+-- the bound is between two of n variables, and the parts of its constant are at most a million
+pub record IsBetween (n : ℕ) (b : Inequality) : Type 0 where
+  pub i : b.i < n
+  pub j : b.j < n
+  pub plus : b.plus ≤ 1000000
+  pub minus : b.minus ≤ 1000000
+
 -- each bound names two of n variables
 abbrev pub IsNamed : ℕ → List Inequality → Type 0
 IsNamed n bounds = All (λ b. (b.i < n) × (b.j < n)) bounds
@@ -23,8 +30,12 @@ upper i = record { form = LocLoc; i = i; j = 0; plus = 0; minus = 0 }
 abbrev pub lower : ℕ → Inequality
 lower i = record { form = PrevLoc; i = 0; j = i; plus = 0; minus = 1 }
 
+-- the two bounds of variable m + 1 stand at 2 * m and behind it
+pub record IsPair (bounds : List Inequality) (m : ℕ) : Type 0 where
+  pub within : 2 * m + 1 < length bounds
+  pub above : (d : Inequality) → slice_index_or bounds (2 * m) d ≡ upper (m + 1)
+  pub below : (d : Inequality) → slice_index_or bounds (2 * m + 1) d ≡ lower (m + 1)
+
 -- the first bounds are in pairs the two of variable 1, the two of variable 2, and so on
 pub record IsPaired (pairs : ℕ) (bounds : List Inequality) : Type 0 where
-  pub sized : 2 * pairs ≤ length bounds
-  pub uppers : (m : ℕ) (d : Inequality) → m < pairs → slice_index_or bounds (2 * m) d ≡ upper (m + 1)
-  pub lowers : (m : ℕ) (d : Inequality) → m < pairs → slice_index_or bounds (2 * m + 1) d ≡ lower (m + 1)
+  pub each : (m : ℕ) → m < pairs → IsPair bounds m

@@ -3,9 +3,9 @@ ghost use Rattle.std.specs.Prelude.{◌≡◌, ◌≢◌, ◌↔◌, ℕ, ◌+�
 ghost use Rattle.alta_codec.specs.Rising.{IsRising, IsPlace, first_from, pred_of};
 ghost use Rattle.alta_codec.specs.declared.location.TheConstants.{TOP};
 ghost use Rattle.alta_solver.specs.Solution.{low_side, high_side, list_at, MeetsBound, IsSolution, IsAtLeast, IsLeast, IsRaised};
-ghost use Rattle.alta_solver.specs.Inequality.{Inequality, upper, lower, IsNamed, IsPaired};
+ghost use Rattle.alta_solver.specs.Inequality.{Inequality, IsBetween, IsNamed, IsPair, IsPaired};
+ghost use Rattle.alta_solver.specs.Moves.{AreReady, AreKept, IsTested};
 ghost use Rattle.alta_solver.specs.Repair.{IsRepaired, IsMended};
-ghost use Rattle.alta_solver.specs.Settling.{IsTried};
 
 use crate::bound::Bound;
 use crate::form::Form;
@@ -59,12 +59,8 @@ fn reach<R: BackReader, L: Ledger>(readers: &mut [R], j: usize, to: Loc, steps: 
     requires within { j < length readers.old }
     requires short { pred_of (list_at (map R.list readers.old) j) (slice_index (map R.location readers.old) j) < to }
     requires top { to ≤ TOP }
-    ensures sound { All R.sound readers.new }
-    ensures lists { map R.list readers.new ≡ map R.list readers.old }
-    ensures alls { map R.all readers.new ≡ map R.all readers.old }
+    ensures kept { AreKept R.sound R.list R.all R.left readers.old readers.new steps.old steps.new }
     ensures places { map R.location readers.new ≡ slice_set (map R.location readers.old) j (first_from (list_at (map R.list readers.old) j) to) }
-    ensures keeps { sum_by R.left readers.new ≤ sum_by R.left readers.old }
-    ensures steps { steps.new + sum_by R.left readers.new ≤ steps.old + sum_by R.left readers.old }
 {
     if place_at(readers, j) < to {
         seek_at(readers, j, to, steps);
@@ -83,15 +79,11 @@ fn raise_past<R: BackReader, L: Ledger>(
     requires within { j < length readers.old }
     requires short { pred_of (list_at (map R.list readers.old) j) (slice_index (map R.location readers.old) j) < to }
     requires top { to ≤ TOP }
-    ensures sound { All R.sound readers.new }
-    ensures lists { map R.list readers.new ≡ map R.list readers.old }
-    ensures alls { map R.all readers.new ≡ map R.all readers.old }
+    ensures kept { AreKept R.sound R.list R.all R.left readers.old readers.new steps.old steps.new }
     ensures raised { IsTrue result → map R.location readers.new ≡ slice_set (map R.location readers.old) j (first_from (list_at (map R.list readers.old) j) (first_from (list_at (map R.list readers.old) j) to + 1)) }
     ensures none { result ≡ false → map R.location readers.new ≡ slice_set (map R.location readers.old) j TOP }
     ensures which { IsTrue result ↔ (first_from (list_at (map R.list readers.old) j) to < TOP) }
     ensures falls { IsTrue result → sum_by R.left readers.new < sum_by R.left readers.old }
-    ensures keeps { sum_by R.left readers.new ≤ sum_by R.left readers.old }
-    ensures steps { steps.new + sum_by R.left readers.new ≤ steps.old + sum_by R.left readers.old }
 {
     reach(readers, j, to, steps);
     let at = place_at(readers, j);
@@ -114,13 +106,9 @@ fn raise_side<R: BackReader, L: Ledger>(
     requires sound { All R.sound readers.old }
     requires within { j < length readers.old }
     requires short { high_side form (list_at (map R.list readers.old) j) (slice_index (map R.location readers.old) j) < need }
-    ensures sound { All R.sound readers.new }
-    ensures lists { map R.list readers.new ≡ map R.list readers.old }
-    ensures alls { map R.all readers.new ≡ map R.all readers.old }
+    ensures kept { AreKept R.sound R.list R.all R.left readers.old readers.new steps.old steps.new }
     ensures raised { IsRaised (list_at (map R.list readers.old) j) form need (map R.location readers.old) j (map R.location readers.new) result }
     ensures falls { IsTrue result → sum_by R.left readers.new < sum_by R.left readers.old }
-    ensures keeps { sum_by R.left readers.new ≤ sum_by R.left readers.old }
-    ensures steps { steps.new + sum_by R.left readers.new ≤ steps.old + sum_by R.left readers.old }
 {
     if need > TOP {
         return false;
@@ -146,17 +134,10 @@ fn repair<R: BackReader, L: Ledger>(
     steps: &mut Steps<L>,
 ) -> Outcome
     requires sound { All R.sound readers.old }
-    requires i_within { i < length readers.old }
-    requires j_within { j < length readers.old }
-    requires plus_within { plus ≤ 1000000 }
-    requires minus_within { minus ≤ 1000000 }
-    ensures sound { All R.sound readers.new }
-    ensures lists { map R.list readers.new ≡ map R.list readers.old }
-    ensures alls { map R.all readers.new ≡ map R.all readers.old }
+    requires between { IsBetween (length readers.old) (record { form = form; i = i; j = j; plus = plus; minus = minus }) }
+    ensures kept { AreKept R.sound R.list R.all R.left readers.old readers.new steps.old steps.new }
     ensures repaired { IsRepaired (map R.list readers.old) (record { form = form; i = i; j = j; plus = plus; minus = minus }) (map R.location readers.old) (map R.location readers.new) result }
     ensures falls { result ≡ Outcome.Moved → sum_by R.left readers.new < sum_by R.left readers.old }
-    ensures keeps { sum_by R.left readers.new ≤ sum_by R.left readers.old }
-    ensures steps { steps.new + sum_by R.left readers.new ≤ steps.old + sum_by R.left readers.old }
 {
     let low = low_at(readers, i, form) + minus;
     let high = high_at(readers, j, form) + plus;
@@ -182,19 +163,11 @@ fn mend<R: BackReader, L: Ledger>(
     steps: &mut Steps<L>,
 ) -> Outcome
     requires sound { All R.sound readers.old }
-    requires some { 0 < length readers.old }
-    requires i_within { i < length readers.old }
-    requires j_within { j < length readers.old }
-    requires plus_within { plus ≤ 1000000 }
-    requires minus_within { minus ≤ 1000000 }
+    requires between { IsBetween (length readers.old) (record { form = form; i = i; j = j; plus = plus; minus = minus }) }
     requires led { slice_index (map R.location readers.old) 0 < TOP }
-    ensures sound { All R.sound readers.new }
-    ensures lists { map R.list readers.new ≡ map R.list readers.old }
-    ensures alls { map R.all readers.new ≡ map R.all readers.old }
+    ensures kept { AreKept R.sound R.list R.all R.left readers.old readers.new steps.old steps.new }
     ensures mended { IsMended (map R.list readers.old) (record { form = form; i = i; j = j; plus = plus; minus = minus }) (map R.location readers.old) (map R.location readers.new) result }
     ensures falls { result ≡ Outcome.Moved → sum_by R.left readers.new < sum_by R.left readers.old }
-    ensures keeps { sum_by R.left readers.new ≤ sum_by R.left readers.old }
-    ensures steps { steps.new + sum_by R.left readers.new ≤ steps.old + sum_by R.left readers.old }
 {
     match repair(readers, form, i, j, plus, minus, steps) {
         Outcome::Settled => Outcome::Settled,
@@ -237,21 +210,12 @@ fn try_at<R: BackReader, L: Ledger>(
     minus: u64,
     steps: &mut Steps<L>,
 ) -> Option<usize>
-    requires sound { All R.sound readers.old }
-    requires some { 0 < length readers.old }
-    requires led { slice_index (map R.location readers.old) 0 < TOP }
-    requires named { IsNamed (length readers.old) bounds.now }
+    requires ready { AreReady R.sound R.location bounds.now readers.old }
     requires within { at < length bounds.now }
     requires bound { (d : Inequality) → slice_index_or bounds.now at d ≡ record { form = form; i = i; j = j; plus = plus; minus = minus } }
     requires plus_within { plus ≤ 1000000 }
     requires minus_within { minus ≤ 1000000 }
-    ensures sound { All R.sound readers.new }
-    ensures lists { map R.list readers.new ≡ map R.list readers.old }
-    ensures alls { map R.all readers.new ≡ map R.all readers.old }
-    ensures tried { IsTried (map R.list readers.old) bounds.now (map R.location readers.old) (map R.location readers.new) (at + 1) result }
-    ensures falls { IfSome result (λ next. (next < at + 1) ⊎ (sum_by R.left readers.new < sum_by R.left readers.old)) }
-    ensures keeps { sum_by R.left readers.new ≤ sum_by R.left readers.old }
-    ensures steps { steps.new + sum_by R.left readers.new ≤ steps.old + sum_by R.left readers.old }
+    ensures { IsTested R.sound R.list R.all R.left R.location bounds.now (at + 1) result readers.old readers.new steps.old steps.new }
 {
     match mend(readers, form, i, j, plus, minus, steps) {
         Outcome::Settled => Some(at),
@@ -272,19 +236,11 @@ fn lead<R: BackReader, L: Ledger>(
 ) -> Option<usize>
     requires sound { All R.sound readers.old }
     requires named { IsNamed (length readers.old) bounds.now }
-    requires within { 2 * m + 1 < length bounds.now }
-    requires upper { (d : Inequality) → slice_index_or bounds.now (2 * m) d ≡ upper (m + 1) }
-    requires lower { (d : Inequality) → slice_index_or bounds.now (2 * m + 1) d ≡ lower (m + 1) }
+    requires pair { IsPair bounds.now m }
     requires there { slice_index (map R.location readers.old) (m + 1) ≡ to }
     requires short { slice_index (map R.location readers.old) 0 < to }
     requires top { to ≤ TOP }
-    ensures sound { All R.sound readers.new }
-    ensures lists { map R.list readers.new ≡ map R.list readers.old }
-    ensures alls { map R.all readers.new ≡ map R.all readers.old }
-    ensures tried { IsTried (map R.list readers.old) bounds.now (map R.location readers.old) (map R.location readers.new) (2 * m + 2) result }
-    ensures falls { IfSome result (λ next. (next < 2 * m + 2) ⊎ (sum_by R.left readers.new < sum_by R.left readers.old)) }
-    ensures keeps { sum_by R.left readers.new ≤ sum_by R.left readers.old }
-    ensures steps { steps.new + sum_by R.left readers.new ≤ steps.old + sum_by R.left readers.old }
+    ensures { IsTested R.sound R.list R.all R.left R.location bounds.now (2 * m + 2) result readers.old readers.new steps.old steps.new }
 {
     seek_at(readers, 0, to, steps);
     if place_at(readers, 0) == TOP {
@@ -307,22 +263,12 @@ fn follow<R: BackReader, L: Ledger>(
     to: Loc,
     steps: &mut Steps<L>,
 ) -> Option<usize>
-    requires sound { All R.sound readers.old }
-    requires named { IsNamed (length readers.old) bounds.now }
-    requires within { 2 * m + 1 < length bounds.now }
-    requires upper { (d : Inequality) → slice_index_or bounds.now (2 * m) d ≡ upper (m + 1) }
-    requires lower { (d : Inequality) → slice_index_or bounds.now (2 * m + 1) d ≡ lower (m + 1) }
-    requires led { slice_index (map R.location readers.old) 0 < TOP }
+    requires ready { AreReady R.sound R.location bounds.now readers.old }
+    requires pair { IsPair bounds.now m }
     requires there { pred_of (list_at (map R.list readers.old) 0) (slice_index (map R.location readers.old) 0) + 1 ≡ to }
     requires short { slice_index (map R.location readers.old) (m + 1) < to }
     requires top { to ≤ TOP }
-    ensures sound { All R.sound readers.new }
-    ensures lists { map R.list readers.new ≡ map R.list readers.old }
-    ensures alls { map R.all readers.new ≡ map R.all readers.old }
-    ensures tried { IsTried (map R.list readers.old) bounds.now (map R.location readers.old) (map R.location readers.new) (2 * m + 2) result }
-    ensures falls { IfSome result (λ next. (next < 2 * m + 2) ⊎ (sum_by R.left readers.new < sum_by R.left readers.old)) }
-    ensures keeps { sum_by R.left readers.new ≤ sum_by R.left readers.old }
-    ensures steps { steps.new + sum_by R.left readers.new ≤ steps.old + sum_by R.left readers.old }
+    ensures { IsTested R.sound R.list R.all R.left R.location bounds.now (2 * m + 2) result readers.old readers.new steps.old steps.new }
 {
     seek_at(readers, m + 1, to, steps);
     let next = behind_bounded(bounds, 2 * m + 2, m + 1);
@@ -341,20 +287,9 @@ fn try_pair<R: BackReader, L: Ledger>(
     m: usize,
     steps: &mut Steps<L>,
 ) -> Option<usize>
-    requires sound { All R.sound readers.old }
-    requires some { 0 < length readers.old }
-    requires led { slice_index (map R.location readers.old) 0 < TOP }
-    requires named { IsNamed (length readers.old) bounds.now }
-    requires within { 2 * m + 1 < length bounds.now }
-    requires upper { (d : Inequality) → slice_index_or bounds.now (2 * m) d ≡ upper (m + 1) }
-    requires lower { (d : Inequality) → slice_index_or bounds.now (2 * m + 1) d ≡ lower (m + 1) }
-    ensures sound { All R.sound readers.new }
-    ensures lists { map R.list readers.new ≡ map R.list readers.old }
-    ensures alls { map R.all readers.new ≡ map R.all readers.old }
-    ensures tried { IsTried (map R.list readers.old) bounds.now (map R.location readers.old) (map R.location readers.new) (2 * m + 2) result }
-    ensures falls { IfSome result (λ next. (next < 2 * m + 2) ⊎ (sum_by R.left readers.new < sum_by R.left readers.old)) }
-    ensures keeps { sum_by R.left readers.new ≤ sum_by R.left readers.old }
-    ensures steps { steps.new + sum_by R.left readers.new ≤ steps.old + sum_by R.left readers.old }
+    requires ready { AreReady R.sound R.location bounds.now readers.old }
+    requires pair { IsPair bounds.now m }
+    ensures { IsTested R.sound R.list R.all R.left R.location bounds.now (2 * m + 2) result readers.old readers.new steps.old steps.new }
 {
     let at = place_at(readers, m + 1);
     if place_at(readers, 0) < at {
@@ -375,20 +310,11 @@ fn try_before<R: BackReader, L: Ledger>(
     at: usize,
     steps: &mut Steps<L>,
 ) -> Option<usize>
-    requires sound { All R.sound readers.old }
-    requires some { 0 < length readers.old }
-    requires led { slice_index (map R.location readers.old) 0 < TOP }
-    requires named { IsNamed (length readers.old) bounds.now }
+    requires ready { AreReady R.sound R.location bounds.now readers.old }
     requires paired { IsPaired pairs bounds.now }
     requires some_left { 0 < at }
     requires within { at ≤ length bounds.now }
-    ensures sound { All R.sound readers.new }
-    ensures lists { map R.list readers.new ≡ map R.list readers.old }
-    ensures alls { map R.all readers.new ≡ map R.all readers.old }
-    ensures tried { IsTried (map R.list readers.old) bounds.now (map R.location readers.old) (map R.location readers.new) (at) result }
-    ensures falls { IfSome result (λ next. (next < at) ⊎ (sum_by R.left readers.new < sum_by R.left readers.old)) }
-    ensures keeps { sum_by R.left readers.new ≤ sum_by R.left readers.old }
-    ensures steps { steps.new + sum_by R.left readers.new ≤ steps.old + sum_by R.left readers.old }
+    ensures { IsTested R.sound R.list R.all R.left R.location bounds.now at result readers.old readers.new steps.old steps.new }
 {
     if at % 2 == 0 && at / 2 <= pairs {
         return try_pair(readers, bounds, at / 2 - 1, steps);
@@ -422,14 +348,10 @@ pub(crate) fn settle<R: BackReader, L: Ledger>(
     requires some { 0 < length readers.old }
     requires named { IsNamed (length readers.old) bounds.now }
     requires paired { IsPaired pairs bounds.now }
-    ensures sound { All R.sound readers.new }
-    ensures lists { map R.list readers.new ≡ map R.list readers.old }
-    ensures alls { map R.all readers.new ≡ map R.all readers.old }
+    ensures kept { AreKept R.sound R.list R.all R.left readers.old readers.new steps.old steps.new }
     ensures above { IsAtLeast (map R.location readers.old) (map R.location readers.new) }
     ensures least { IsTrue result → IsLeast (map R.list readers.old) bounds.now (map R.location readers.old) (map R.location readers.new) }
     ensures none { result ≡ false → (x : List ℕ) → IsSolution (map R.list readers.old) bounds.now x → IsAtLeast (map R.location readers.old) x → ⊥ }
-    ensures keeps { sum_by R.left readers.new ≤ sum_by R.left readers.old }
-    ensures steps { steps.new + sum_by R.left readers.new ≤ steps.old + sum_by R.left readers.old }
 {
     if place_at(readers, 0) == TOP {
         return false;

@@ -2,7 +2,7 @@
 ghost use Rattle.std.specs.Prelude.{◌≡◌, ◌↔◌, ℕ, ◌+◌, ◌*◌, ◌<◌, ◌≤◌, List, map, length, slice_index, slice_index_or, slice_set, All, sum_by, IsTrue, IsOk, IfOk, IfErr, false};
 ghost use Rattle.alta_codec.specs.Rising.{IsRising, first_from};
 ghost use Rattle.alta_solver.specs.Solution.{list_at, IsSolution, IsAtLeast, IsLeast};
-ghost use Rattle.alta_solver.specs.Inequality.{Inequality, upper, lower, IsNamed, IsPaired};
+ghost use Rattle.alta_solver.specs.Inequality.{upper, lower, IsNamed, IsPair, IsPaired};
 
 use crate::bound::Bound;
 use crate::form::Form;
@@ -45,8 +45,7 @@ fn is_lower(bound: &Bound, i: usize) -> bool
 /// Whether these two bounds hold reader `m + 1` to the first.
 fn is_pair(bounds: &[Bound], m: usize) -> bool
     requires { 2 * m + 1 < length bounds.now }
-    ensures upper { IsTrue result → (d : Inequality) → slice_index_or bounds.now (2 * m) d ≡ upper (m + 1) }
-    ensures lower { IsTrue result → (d : Inequality) → slice_index_or bounds.now (2 * m + 1) d ≡ lower (m + 1) }
+    ensures { IsTrue result → IsPair bounds.now m }
 {
     is_upper(&bounds[2 * m], m + 1) && is_lower(&bounds[2 * m + 1], m + 1)
 }

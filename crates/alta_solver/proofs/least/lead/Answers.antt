@@ -1,4 +1,4 @@
-use Rattle.std.proofs.Common.{◌≡◌, ◌≢◌, ℕ, ◌+◌, ◌*◌, ◌<◌, ◌≤◌, None, Some, List, map, length, refl, sym, subst, ap, ◌∙◌, arith}
+use Rattle.std.proofs.Common.{◌≡◌, ◌≢◌, ℕ, ◌+◌, ◌*◌, ◌<◌, ◌≤◌, None, Some, List, map, length, refl, sym, subst, ◌∙◌, arith, rules}
 use Rattle.std.specs.Prelude.{slice_index, slice_index_or}
 use Rattle.std.proofs.lemmas.List.{length-map}
 use Rattle.alta_codec.specs.declared.location.TheConstants.{TOP}
@@ -36,7 +36,7 @@ module _ (g : Over) (c : After-seek_at g) where
   unfolding old
   within =
       let b : Inequality = upper (c.args.m + 1) in
-      let n : b.i < length c.args.readers.now = subst (λ (x : Inequality). x.i < length c.args.readers.now) (c.requires.upper b) (c.requires.named (2 * c.args.m) b (omega (arith, c.requires.within))).0 in
+      let n : b.i < length c.args.readers.now = subst (λ (x : Inequality). x.i < length c.args.readers.now) (c.requires.pair.above b) (c.requires.named (2 * c.args.m) b (omega (arith, c.requires.pair.within))).0 in
       rw length-map n
 
   repaired : IsRepaired lists (upper (c.args.m + 1)) old new Moved
@@ -59,34 +59,46 @@ module _ (g : Over) (c : After-seek_at g) where
       → ((k : ℕ) (d : Inequality) → first ≤ k → k < next → k < length c.args.bounds.now → MeetsBound lists new (slice_index_or c.args.bounds.now k d))
       → slice_index new 0 < TOP → IsTried lists c.args.bounds.now old new (2 * c.args.m + 2) (Some first)
   tried next first inside after le free here led =
-      tried_from lists c.args.bounds.now old new (2 * c.args.m) (upper (c.args.m + 1)) (omega (arith, c.requires.within)) c.requires.upper named sized
+      tried_from lists c.args.bounds.now old new (2 * c.args.m) (upper (c.args.m + 1)) (omega (arith, c.requires.pair.within)) c.requires.pair.above named sized
       next inside free (mended_moved lists (upper (c.args.m + 1)) old new repaired led) (2 * c.args.m + 2) first after le here
 
   both : (next : ℕ) → next ≡ 2 * c.args.m + 2 → (k : ℕ) (d : Inequality) → 2 * c.args.m ≤ k → k < next → k < length c.args.bounds.now
       → MeetsBound lists new (slice_index_or c.args.bounds.now k d)
-  both next e = pair_holds lists c.args.bounds.now new c.args.m next e c.requires.upper c.requires.lower above below
+  both next e = pair_holds lists c.args.bounds.now new c.args.m next e c.requires.pair.above c.requires.pair.below above below
 
   stuck : TOP ≤ slice_index new 0 → IsTried lists c.args.bounds.now old new (2 * c.args.m + 1) None
   stuck past =
-      tried_stuck lists c.args.bounds.now old new (2 * c.args.m) (upper (c.args.m + 1)) (omega (arith, c.requires.within)) c.requires.upper named sized
+      tried_stuck lists c.args.bounds.now old new (2 * c.args.m) (upper (c.args.m + 1)) (omega (arith, c.requires.pair.within)) c.requires.pair.above named sized
       (mended_stuck lists (upper (c.args.m + 1)) old new (omega (arith, within)) repaired past)
 
-pub returns-then-place_at-eq-TOP-clause-tried : goal.returns-then-place_at-eq-TOP-clause-tried
+pub returns-then-place_at-eq-TOP : goal.returns-then-place_at-eq-TOP
 unfolding lists old new
-returns-then-place_at-eq-TOP-clause-tried g c =
-    let t = stuck g (goal.at.returns-then-place_at-eq-TOP-clause-tried g c).After-seek_at (omega (arith, c.place_at.ensures.value, c.if-place_at-eq-TOP.true)) in
-    none_anywhere _ _ _ _ _ (2 * c.args.m + 2) t
+returns-then-place_at-eq-TOP g c =
+    let t = stuck g (goal.at.returns-then-place_at-eq-TOP g c).After-seek_at (omega (arith, c.place_at.ensures.value, c.if-place_at-eq-TOP.true)) in
+    record {
+      kept = search rules;
+      tried = none_anywhere _ _ _ _ _ (2 * c.args.m + 2) t;
+      falls = search rules;
+    }
 
-pub returns-then-next-m-clause-tried : goal.returns-then-next-m-clause-tried
+pub returns-then-next-m : goal.returns-then-next-m
 unfolding lists old new
-returns-then-next-m-clause-tried g c =
-    let a = (goal.at.returns-then-next-m-clause-tried g c).After-seek_at in let e = c.behind_bounded-next.ensures in
-    tried g a c.behind_bounded-next.result (2 * c.args.m) e.within e.after (omega (arith, e.after)) e.free (both g a c.behind_bounded-next.result c.if-next-m.true)
-    (omega (arith, c.place_at.ensures.value, c.place_at.ensures.top, c.if-place_at-eq-TOP.false))
+returns-then-next-m g c =
+    let a = (goal.at.returns-then-next-m g c).After-seek_at in let e = c.behind_bounded-next.ensures in
+    record {
+      kept = search rules;
+      tried = tried g a c.behind_bounded-next.result (2 * c.args.m) e.within e.after (omega (arith, e.after)) e.free (both g a c.behind_bounded-next.result c.if-next-m.true)
+          (omega (arith, c.place_at.ensures.value, c.place_at.ensures.top, c.if-place_at-eq-TOP.false));
+      falls = search rules;
+    }
 
-pub returns-else-next-m-clause-tried : goal.returns-else-next-m-clause-tried
+pub returns-else-next-m : goal.returns-else-next-m
 unfolding lists old new
-returns-else-next-m-clause-tried g c =
-    let a = (goal.at.returns-else-next-m-clause-tried g c).After-seek_at in let e = c.behind_bounded-next.ensures in
-    tried g a c.behind_bounded-next.result c.behind_bounded-next.result e.within e.after (omega arith) e.free (λ k d l w. absurd (omega (arith, l, w)))
-    (omega (arith, c.place_at.ensures.value, c.place_at.ensures.top, c.if-place_at-eq-TOP.false))
+returns-else-next-m g c =
+    let a = (goal.at.returns-else-next-m g c).After-seek_at in let e = c.behind_bounded-next.ensures in
+    record {
+      kept = search rules;
+      tried = tried g a c.behind_bounded-next.result c.behind_bounded-next.result e.within e.after (omega arith) e.free (λ k d l w. absurd (omega (arith, l, w)))
+          (omega (arith, c.place_at.ensures.value, c.place_at.ensures.top, c.if-place_at-eq-TOP.false));
+      falls = search rules;
+    }
