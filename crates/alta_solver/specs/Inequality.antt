@@ -1,5 +1,5 @@
 -- One bound: a side of variable i, plus `minus`, is at most a side of variable j, plus `plus`.
-use Rattle.std.specs.Prelude.{◌≡◌, ℕ, ◌+◌, ◌*◌, ◌<◌, ◌≤◌, List, length, slice_index_or, All}
+use Rattle.std.specs.Prelude.{◌≡◌, ◌≢◌, ℕ, ◌+◌, ◌*◌, ◌<◌, ◌≤◌, List, length, slice_index_or, All}
 use Rattle.alta_solver.specs.declared.form.Form.{Form}
 use Rattle.alta_solver.specs.declared.form.Form.TheVariants.{LocLoc, PrevLoc}
 
@@ -21,6 +21,11 @@ pub record IsBetween (n : ℕ) (b : Inequality) : Type 0 where
 -- each bound names two of n variables
 abbrev pub IsNamed : ℕ → List Inequality → Type 0
 IsNamed n bounds = All (λ b. (b.i < n) × (b.j < n)) bounds
+
+-- an index behind all bounds in which variable i is bounded
+pub record IsBehind (i : ℕ) (bounds : List Inequality) (at : ℕ) : Type 0 where
+  pub within : at ≤ length bounds
+  pub free : (k : ℕ) (d : Inequality) → at ≤ k → k < length bounds → (slice_index_or bounds k d).i ≢ i
 
 -- the place of variable i is at most that of variable 0
 abbrev pub upper : ℕ → Inequality

@@ -1,14 +1,12 @@
 -- What moves keep of the readers, and what a test of bounds answers.
-use Rattle.std.specs.Prelude.{◌≡◌, ◌⊎◌, ℕ, ◌+◌, ◌<◌, ◌≤◌, List, map, length, slice_index, All, sum_by, Option, IfSome}
-use Rattle.alta_codec.specs.declared.location.TheConstants.{TOP}
+use Rattle.std.specs.Prelude.{◌≡◌, ◌⊎◌, ℕ, ◌+◌, ◌<◌, ◌≤◌, List, map, length, All, sum_by, Option, IfSome}
 use Rattle.alta_solver.specs.Inequality.{Inequality, IsNamed}
 use Rattle.alta_solver.specs.Settling.{IsTried}
 
--- sound readers that the bounds name, the first below TOP
-pub record AreReady {R : Type 0} (Sound : R → Type 0) (location : R → ℕ) (bounds : List Inequality) (readers : List R) : Type 0 where
+-- sound readers, which the bounds name
+pub record AreReady {R : Type 0} (Sound : R → Type 0) (bounds : List Inequality) (readers : List R) : Type 0 where
   pub sound : All Sound readers
   pub named : IsNamed (length readers) bounds
-  pub led : slice_index (map location readers) 0 < TOP
 
 module _ {R : Type 0} (Sound : R → Type 0) (list all : R → List ℕ) (left : R → ℕ) where
   -- Each reader is sound and reads what it read. What is left of all did not grow, and it fell at least by the steps.

@@ -1,13 +1,12 @@
 use Rattle.std.proofs.Common.{◌≡◌, ◌≢◌, ℕ, ◌+◌, ◌*◌, ◌<◌, ◌≤◌, Some, List, map, length, refl, sym, subst, ap, ◌∙◌, arith, rules}
 use Rattle.std.specs.Prelude.{slice_index, slice_index_or}
 use Rattle.std.proofs.lemmas.List.{length-map}
-use Rattle.alta_codec.specs.declared.location.TheConstants.{TOP}
 use Rattle.alta_solver.specs.Inequality.{Inequality, upper, lower, IsNamed}
 use Rattle.alta_solver.specs.declared.least.Outcome.TheVariants.{Moved}
 use Rattle.alta_solver.specs.Repair.{IsRepaired}
 use Rattle.alta_solver.specs.Settling.{IsTried}
 use Rattle.alta_solver.specs.Solution.{MeetsBound}
-use Rattle.alta_solver.proofs.Pairs.{mended_moved, followed_repaired, tried_from, pair_holds}
+use Rattle.alta_solver.proofs.Pairs.{followed_repaired, tried_from, pair_holds}
 use Rattle.alta_solver.proofs.least.follow.Given.{Over}
 use Rattle.alta_solver.proofs.least.follow.Goals as goal
 use Rattle.alta_solver.proofs.least.follow.Goals.{After-seek_at}
@@ -44,15 +43,8 @@ module _ (g : Over) (c : After-seek_at g) where
       followed_repaired (map g.R.Reader.list c.args.readers.now) (map g.R.Reader.location c.args.readers.now) (map g.R.Reader.location c.seek_at.new.readers) c.args.m c.args.to
       within c.requires.there c.requires.short c.requires.top c.seek_at.ensures.places
 
-  first_stays : slice_index new 0 ≡ slice_index old 0
-  first_stays = repaired.others 0 (λ e. omega (arith, e))
-
   below : MeetsBound lists new (lower (c.args.m + 1))
   below = repaired.moved refl (λ e. omega (arith, e))
-
-  led : slice_index new 0 < TOP
-  unfolding old
-  led = omega (arith, first_stays, c.requires.ready.led)
 
   tried : (next first : ℕ) → next ≤ length c.args.bounds.now → 2 * c.args.m + 2 ≤ next → first ≤ next
       → ((k : ℕ) (d : Inequality) → next ≤ k → k < length c.args.bounds.now → (slice_index_or c.args.bounds.now k d).i ≢ c.args.m + 1)
@@ -60,11 +52,11 @@ module _ (g : Over) (c : After-seek_at g) where
       → IsTried lists c.args.bounds.now old new (2 * c.args.m + 2) (Some first)
   tried next first inside after le free here =
       tried_from lists c.args.bounds.now old new (2 * c.args.m + 1) (lower (c.args.m + 1)) c.requires.pair.within c.requires.pair.below named sized
-      next inside free (mended_moved lists (lower (c.args.m + 1)) old new repaired led) (2 * c.args.m + 2) first after le here
+      next inside free repaired (2 * c.args.m + 2) first after le here
 
   both : (next : ℕ) → next ≡ 2 * c.args.m + 2 → slice_index new (c.args.m + 1) ≤ slice_index new 0 → (k : ℕ) (d : Inequality) → 2 * c.args.m ≤ k → k < next → k < length c.args.bounds.now
       → MeetsBound lists new (slice_index_or c.args.bounds.now k d)
-  both next e le = pair_holds lists c.args.bounds.now new c.args.m next e c.requires.pair.above c.requires.pair.below (omega (arith, le)) below
+  both next e le = pair_holds lists c.args.bounds.now new c.args.m next e c.requires.pair (omega (arith, le)) below
 
 pub seek_at-requires-clause-within : goal.seek_at-requires-clause-within
 seek_at-requires-clause-within g c =
@@ -83,7 +75,7 @@ returns-then-place_at g c =
     let a = (goal.at.returns-then-place_at g c).After-seek_at in let e = c.behind_bounded-next.ensures in
     record {
       kept = search rules;
-      tried = tried g a c.behind_bounded-next.result (2 * c.args.m) e.within e.after (omega (arith, e.after)) e.free
+      tried = tried g a c.behind_bounded-next.result (2 * c.args.m) e.behind.within e.after (omega (arith, e.after)) e.behind.free
           (both g a c.behind_bounded-next.result c.if-next-m.true (omega (arith, c.place_at.ensures.value, c.place_at-then-next-m.ensures.value, c.if-place_at.true)));
       falls = search rules;
     }
@@ -94,6 +86,6 @@ returns-else-next-m g c =
     let a = (goal.at.returns-else-next-m g c).After-seek_at in let e = c.behind_bounded-next.ensures in
     record {
       kept = search rules;
-      tried = tried g a c.behind_bounded-next.result c.behind_bounded-next.result e.within e.after (omega arith) e.free (λ k d l w. absurd (omega (arith, l, w)));
+      tried = tried g a c.behind_bounded-next.result c.behind_bounded-next.result e.behind.within e.after (omega arith) e.behind.free (λ k d l w. absurd (omega (arith, l, w)));
       falls = search rules;
     }

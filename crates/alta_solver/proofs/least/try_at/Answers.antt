@@ -4,10 +4,10 @@ use Rattle.alta_solver.specs.Inequality.{Inequality, IsNamed}
 use Rattle.alta_solver.proofs.Settling.{tried_settled, tried_moved, tried_stuck}
 use Rattle.alta_solver.proofs.least.try_at.Given.{Over}
 use Rattle.alta_solver.proofs.least.try_at.Goals as goal
-use Rattle.alta_solver.proofs.least.try_at.Goals.{After-mend}
+use Rattle.alta_solver.proofs.least.try_at.Goals.{After-repair}
 
-pub mend-requires-clause-between : goal.mend-requires-clause-between
-mend-requires-clause-between g c =
+pub repair-requires-clause-between : goal.repair-requires-clause-between
+repair-requires-clause-between g c =
     let b : Inequality = record { form = c.args.form; i = c.args.i; j = c.args.j; plus = c.args.plus; minus = c.args.minus } in
     let n = c.requires.ready.named c.args.at b c.requires.within in
     record {
@@ -18,7 +18,7 @@ mend-requires-clause-between g c =
     }
 
 -- the bound, and that there are as many places as lists
-module _ (g : Over) (c : After-mend g) where
+module _ (g : Over) (c : After-repair g) where
   tested : Inequality
   tested = record { form = c.args.form; i = c.args.i; j = c.args.j; plus = c.args.plus; minus = c.args.minus }
 
@@ -31,30 +31,30 @@ module _ (g : Over) (c : After-mend g) where
 pub returns-in-Settled : goal.returns-in-Settled
 unfolding tested
 returns-in-Settled g c =
-    let m = (goal.at.returns-in-Settled g c).After-mend in
+    let m = (goal.at.returns-in-Settled g c).After-repair in
     record {
       kept = search rules;
-      tried = tried_settled _ _ _ _ c.args.at (tested g m) c.requires.within c.requires.bound (named g m) (sized g m) c.in-Settled.ensures.mended;
+      tried = tried_settled _ _ _ _ c.args.at (tested g m) c.requires.within c.requires.bound (named g m) (sized g m) c.in-Settled.ensures.repaired;
       falls = search rules;
     }
 
 pub returns-in-Moved : goal.returns-in-Moved
 unfolding tested
 returns-in-Moved g c =
-    let m = (goal.at.returns-in-Moved g c).After-mend in
+    let m = (goal.at.returns-in-Moved g c).After-repair in
     record {
       kept = search rules;
       tried = tried_moved _ _ _ _ c.args.at (tested g m) c.requires.within c.requires.bound (named g m) (sized g m)
-          c.behind_bounded.result c.behind_bounded.ensures.after c.behind_bounded.ensures.within c.behind_bounded.ensures.free c.in-Moved.ensures.mended;
+          c.behind_bounded.result c.behind_bounded.ensures.after c.behind_bounded.ensures.behind.within c.behind_bounded.ensures.behind.free c.in-Moved.ensures.repaired;
       falls = search rules;
     }
 
 pub returns-in-Stuck : goal.returns-in-Stuck
 unfolding tested
 returns-in-Stuck g c =
-    let m = (goal.at.returns-in-Stuck g c).After-mend in
+    let m = (goal.at.returns-in-Stuck g c).After-repair in
     record {
       kept = search rules;
-      tried = tried_stuck _ _ _ _ c.args.at (tested g m) c.requires.within c.requires.bound (named g m) (sized g m) c.in-Stuck.ensures.mended;
+      tried = tried_stuck _ _ _ _ c.args.at (tested g m) c.requires.within c.requires.bound (named g m) (sized g m) c.in-Stuck.ensures.repaired;
       falls = search rules;
     }

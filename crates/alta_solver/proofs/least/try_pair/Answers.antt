@@ -23,9 +23,8 @@ pub returns-then-before-at : goal.returns-then-before-at
 returns-then-before-at g c =
     record {
       kept = search rules;
-      tried = pair_settled (map g.R.Reader.list c.args.readers.now) c.args.bounds.now (map g.R.Reader.location c.args.readers.now) c.args.m c.requires.pair.within c.requires.pair.above c.requires.pair.below
+      tried = pair_settled (map g.R.Reader.list c.args.readers.now) c.args.bounds.now (map g.R.Reader.location c.args.readers.now) c.args.m c.requires.pair
           (omega (arith, c.place_at-at.ensures.value, c.place_at.ensures.value, c.if-place_at-at.false))
-          (omega (arith, c.place_at-at.ensures.value, c.prev_at-before.ensures.value, c.if-before-at.true))
-          c.requires.ready.led;
+          (omega (arith, c.place_at-at.ensures.value, c.prev_at-before.ensures.value, c.if-before-at.true));
       falls = search rules;
     }
