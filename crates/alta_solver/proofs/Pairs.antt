@@ -1,5 +1,5 @@
 -- The two bounds that hold a reader to the first one: the raise that mends the one that does not hold.
-use Rattle.std.proofs.Common.{◌≡◌, ◌≢◌, ⊎_elim, ℕ, ◌+◌, ◌*◌, ◌<◌, ◌≤◌, true, Option, None, Some, List, length, get_or, set, refl, sym, subst, ap, inl, inr, ◌∙◌, arith}
+use Rattle.std.proofs.Common.{◌≡◌, ◌≢◌, ⊎_elim, ℕ, ◌+◌, ◌*◌, ◌<◌, ◌≤◌, true, Some, List, length, get_or, set, refl, sym, subst, ap, inl, inr, ◌∙◌, arith}
 use Rattle.std.proofs.lemmas.Bool.{cases_lt}
 use Rattle.std.proofs.lemmas.List.{get_or-set_same}
 use Rattle.std.specs.Prelude.{slice_index}
@@ -7,15 +7,14 @@ use Rattle.alta_codec.specs.declared.location.TheConstants.{TOP}
 use Rattle.alta_codec.specs.Rising.{first_from, pred_of}
 use Rattle.alta_codec.proofs.Places.{first_from-above, first_from-least, pred_of-below, pred_of-place}
 use Rattle.alta_solver.specs.declared.form.Form.TheVariants.{LocLoc, PrevLoc}
-use Rattle.alta_solver.specs.declared.least.Outcome.{Outcome}
-use Rattle.alta_solver.specs.declared.least.Outcome.TheVariants.{Moved, Stuck}
-use Rattle.alta_solver.specs.Inequality.{Inequality, upper, lower, IsNamed}
-use Rattle.alta_solver.specs.Repair.{IsRepaired, IsMended}
+use Rattle.alta_solver.specs.declared.least.Outcome.TheVariants.{Moved}
+use Rattle.alta_solver.specs.Inequality.{Inequality, upper, lower, IsBehind, IsNamed, IsPair}
+use Rattle.alta_solver.specs.Repair.{IsRepaired}
 use Rattle.alta_solver.specs.Settling.{HoldFrom, IsTried}
 use Rattle.alta_solver.specs.Solution.{list_at, MeetsBound, IsRaised}
 use Rattle.alta_solver.proofs.Raised.{raised_loc, same_or_not}
 use Rattle.alta_solver.proofs.Repaired.{repaired_moved}
-use Rattle.alta_solver.proofs.Settling.{holds_on, keeps_on, tried_stuck}
+use Rattle.alta_solver.proofs.Settling.{holds_on, keeps_on}
 
 -- the element before the first at or above a number is below the number
 pub before_first_from : (xs : List ℕ) (to : ℕ) → 0 < to → to ≤ TOP → pred_of xs (first_from xs to) < to
@@ -27,36 +26,6 @@ before_first_from xs to some top =
     (cases_lt (pred_of xs f) to))
     (λ z. omega (arith, z, some))
     (pred_of-place xs f)
-
--- where the first place is below TOP behind a repair, the bound is mended
-pub mended_moved : (lists : List (List ℕ)) (b : Inequality) (old new : List ℕ) → IsRepaired lists b old new Moved → slice_index new 0 < TOP
-    → IsMended lists b old new Moved
-mended_moved lists b old new r led =
-    record {
-      forward = r.forward;
-      sized = r.sized;
-      keeps = r.keeps;
-      others = r.others;
-      moved = r.moved;
-      settled = r.settled;
-      led = λ _. led;
-      stuck = λ e. absurd cc;
-    }
-
--- where it is not, nothing mends it
-pub mended_stuck : (lists : List (List ℕ)) (b : Inequality) (old new : List ℕ) → 0 < length old → IsRepaired lists b old new Moved → TOP ≤ slice_index new 0
-    → IsMended lists b old new Stuck
-mended_stuck lists b old new some r past =
-    record {
-      forward = r.forward;
-      sized = r.sized;
-      keeps = r.keeps;
-      others = r.others;
-      moved = λ e. absurd cc;
-      settled = λ e. absurd cc;
-      led = λ n. absurd (n refl);
-      stuck = λ e x lt a p holds. omega (arith, r.keeps x a p holds 0 (omega (arith, r.sized, some)), lt, past);
-    }
 
 -- the first reader brought on to where reader `m + 1` stands
 pub led_repaired : (lists : List (List ℕ)) (old new : List ℕ) (m to : ℕ) → m + 1 < length old → slice_index old (m + 1) ≡ to → slice_index old 0 < to → to ≤ TOP
@@ -93,7 +62,7 @@ followed_repaired lists old new m to within there short top e =
 module _ (lists : List (List ℕ)) (bounds : List Inequality) (old new : List ℕ) (at : ℕ) (b : Inequality)
     (within : at < length bounds) (is : (d : Inequality) → get_or bounds at d ≡ b) (named : IsNamed (length lists) bounds) (sized : length old ≡ length lists)
     (next : ℕ) (inside : next ≤ length bounds) (free : (k : ℕ) (d : Inequality) → next ≤ k → k < length bounds → (get_or bounds k d).i ≢ b.j)
-    (m : IsMended lists b old new Moved) where
+    (m : IsRepaired lists b old new Moved) where
   -- bounds in which the reader that was moved is not bounded hold on
   hold_behind : (from : ℕ) → from ≤ next → HoldFrom lists bounds from old → HoldFrom lists bounds next new
   hold_behind from le h k d l w =
@@ -109,41 +78,41 @@ module _ (lists : List (List ℕ)) (bounds : List Inequality) (old new : List �
         forward = m.forward;
         sized = m.sized;
         keeps = keeps_on lists bounds old new at b within is named sized Moved m;
-        led = m.led (λ e. cc);
         hold = λ h k d l w. ⊎_elim (λ lt. here k d w lt l) (λ ge. hold_behind from le h k d l ge) (cases_lt k next);
         within = omega (arith, lower, inside);
         none = λ e. absurd cc;
       }
 
 -- the two bounds of a pair, where no other stands between them and what holds behind them
-pub pair_holds : (lists : List (List ℕ)) (bounds : List Inequality) (new : List ℕ) (m next : ℕ) → next ≡ 2 * m + 2
-    → ((d : Inequality) → get_or bounds (2 * m) d ≡ upper (m + 1)) → ((d : Inequality) → get_or bounds (2 * m + 1) d ≡ lower (m + 1))
+pub pair_holds : (lists : List (List ℕ)) (bounds : List Inequality) (new : List ℕ) (m next : ℕ) → next ≡ 2 * m + 2 → IsPair bounds m
     → MeetsBound lists new (upper (m + 1)) → MeetsBound lists new (lower (m + 1))
     → (k : ℕ) (d : Inequality) → 2 * m ≤ k → k < next → k < length bounds → MeetsBound lists new (get_or bounds k d)
-pair_holds lists bounds new m next e above below first second k d w l inside =
+pair_holds lists bounds new m next e pair first second k d w l inside =
     ⊎_elim
-    (λ same. subst (λ c. MeetsBound lists new c) (sym (ap (λ n. get_or bounds n d) same ∙ above d)) first)
+    (λ same. subst (λ c. MeetsBound lists new c) (sym (ap (λ n. get_or bounds n d) same ∙ pair.above d)) first)
     (λ n. let same : k ≡ 2 * m + 1 = omega (arith, n, w, l, e) in
-    subst (λ c. MeetsBound lists new c) (sym (ap (λ i. get_or bounds i d) same ∙ below d)) second)
+    subst (λ c. MeetsBound lists new c) (sym (ap (λ i. get_or bounds i d) same ∙ pair.below d)) second)
     (same_or_not k (2 * m))
 
--- where there is no solution, it does not matter how far the bounds held
-pub none_anywhere : (lists : List (List ℕ)) (bounds : List Inequality) (old new : List ℕ) (at other : ℕ) → IsTried lists bounds old new at None → IsTried lists bounds old new other None
-none_anywhere lists bounds old new at other t =
-    record { forward = t.forward; sized = t.sized; keeps = t.keeps; led = tt; hold = tt; within = tt; none = t.none }
+-- in the second bound of a pair the first reader is bounded
+pub behind_pair : (bounds : List Inequality) (m at : ℕ) → IsPair bounds m → IsBehind 0 bounds at → 2 * m + 2 ≤ at
+behind_pair bounds m at pair behind =
+    ⊎_elim
+    (λ lt. let d : Inequality = lower (m + 1) in
+    absurd (behind.free (2 * m + 1) d (omega (arith, lt)) pair.within (ap (λ (b : Inequality). b.i) (pair.below d))))
+    (λ ge. ge)
+    (cases_lt at (2 * m + 2))
 
 -- where both bounds of a pair hold, nothing has to move
-pub pair_settled : (lists : List (List ℕ)) (bounds : List Inequality) (xs : List ℕ) (m : ℕ) → 2 * m + 1 < length bounds
-    → ((d : Inequality) → get_or bounds (2 * m) d ≡ upper (m + 1)) → ((d : Inequality) → get_or bounds (2 * m + 1) d ≡ lower (m + 1))
-    → MeetsBound lists xs (upper (m + 1)) → MeetsBound lists xs (lower (m + 1)) → slice_index xs 0 < TOP
+pub pair_settled : (lists : List (List ℕ)) (bounds : List Inequality) (xs : List ℕ) (m : ℕ) → IsPair bounds m
+    → MeetsBound lists xs (upper (m + 1)) → MeetsBound lists xs (lower (m + 1))
     → IsTried lists bounds xs xs (2 * m + 2) (Some (2 * m))
-pair_settled lists bounds xs m within above below first second led =
+pair_settled lists bounds xs m pair first second =
     record {
       forward = λ i l. omega arith;
       sized = refl;
       keeps = λ x s h. h;
-      led = led;
-      hold = λ h k d l w. ⊎_elim (λ lt. pair_holds lists bounds xs m (2 * m + 2) refl above below first second k d w lt l) (λ ge. h k d l ge) (cases_lt k (2 * m + 2));
-      within = omega (arith, within);
+      hold = λ h k d l w. ⊎_elim (λ lt. pair_holds lists bounds xs m (2 * m + 2) refl pair first second k d w lt l) (λ ge. h k d l ge) (cases_lt k (2 * m + 2));
+      within = omega (arith, pair.within);
       none = λ e. absurd cc;
     }

@@ -8,7 +8,7 @@ use Rattle.alta_solver.specs.declared.least.Outcome.{Outcome}
 use Rattle.alta_solver.specs.declared.least.Outcome.TheVariants.{Settled, Moved, Stuck}
 use Rattle.alta_solver.specs.Inequality.{Inequality, IsNamed}
 use Rattle.alta_solver.specs.Solution.{list_at, low_side, MeetsBound, IsAtLeast, IsSolution, IsLeast}
-use Rattle.alta_solver.specs.Repair.{IsMended}
+use Rattle.alta_solver.specs.Repair.{IsRepaired}
 use Rattle.alta_solver.specs.Settling.{HoldFrom, IsSettling, IsTried}
 use Rattle.alta_solver.proofs.Raised.{same_or_not}
 use Rattle.alta_solver.proofs.Repaired.{high_side-mono}
@@ -27,14 +27,12 @@ holds_on lists c now new e h holds =
       holds,
     )
 
-pub settling_none : (lists : List (List ℕ)) (bounds : List Inequality) (old : List ℕ) → slice_index old 0 < TOP
-    → IsSettling lists bounds old old (length bounds)
-settling_none lists bounds old led =
+pub settling_none : (lists : List (List ℕ)) (bounds : List Inequality) (old : List ℕ) → IsSettling lists bounds old old (length bounds)
+settling_none lists bounds old =
     record {
       forward = λ i l. omega arith;
       sized = refl;
       keeps = λ x s h. h;
-      led = led;
       hold = λ k d l w. absurd (omega arith);
     }
 
@@ -46,16 +44,15 @@ module _ (lists : List (List ℕ)) (bounds : List Inequality) (old new : List �
   solution_place : (x : List ℕ) → IsSolution lists bounds x → IsPlace (list_at lists b.j) (slice_index x b.j)
   solution_place x h = h.places b.j (subst (λ c. c.j < length lists) (is b) (named at b within).1)
 
-  pub keeps_on : (o : Outcome) → IsMended lists b old new o → (x : List ℕ) → IsSolution lists bounds x → IsAtLeast old x → IsAtLeast new x
+  pub keeps_on : (o : Outcome) → IsRepaired lists b old new o → (x : List ℕ) → IsSolution lists bounds x → IsAtLeast old x → IsAtLeast new x
   keeps_on o m x h a = m.keeps x a (solution_place x h) (solution_holds x h)
 
-  pub tried_settled : IsMended lists b old new Settled → IsTried lists bounds old new (at + 1) (Some at)
+  pub tried_settled : IsRepaired lists b old new Settled → IsTried lists bounds old new (at + 1) (Some at)
   tried_settled m =
       record {
         forward = m.forward;
         sized = m.sized;
         keeps = keeps_on Settled m;
-        led = m.led (λ e. cc);
         hold = λ h k d l w.
             ⊎_elim
             (λ e. subst (λ c. MeetsBound lists new c) (sym (ap (λ n. get_or bounds n d) e ∙ is d)) (m.settled refl).1)
@@ -67,13 +64,12 @@ module _ (lists : List (List ℕ)) (bounds : List Inequality) (old new : List �
 
   pub tried_moved : (next : ℕ) → at ≤ next → next ≤ length bounds
       → ((k : ℕ) (d : Inequality) → next ≤ k → k < length bounds → (get_or bounds k d).i ≢ b.j)
-      → IsMended lists b old new Moved → IsTried lists bounds old new (at + 1) (Some next)
+      → IsRepaired lists b old new Moved → IsTried lists bounds old new (at + 1) (Some next)
   tried_moved next after inside free m =
       record {
         forward = m.forward;
         sized = m.sized;
         keeps = keeps_on Moved m;
-        led = m.led (λ e. cc);
         hold = λ h k d l w.
             ⊎_elim
             (λ e. let here : get_or bounds k d ≡ b = ap (λ n. get_or bounds n d) e ∙ is d in
@@ -85,16 +81,15 @@ module _ (lists : List (List ℕ)) (bounds : List Inequality) (old new : List �
         none = λ e. absurd cc;
       }
 
-  pub tried_stuck : IsMended lists b old new Stuck → IsTried lists bounds old new (at + 1) None
+  pub tried_stuck : IsRepaired lists b old new Stuck → IsTried lists bounds old new (at + 1) None
   tried_stuck m =
       record {
         forward = m.forward;
         sized = m.sized;
         keeps = keeps_on Stuck m;
-        led = tt;
         hold = tt;
         within = tt;
-        none = λ _ x h a. m.stuck refl x h.led a (solution_place x h) (solution_holds x h);
+        none = λ _ x h a. m.stuck refl x a (solution_place x h) (solution_holds x h);
       }
 
 -- one try after another
@@ -106,7 +101,6 @@ tried_then lists ks bounds old mid new at next result same one other =
       forward = at_least_trans old mid new one.sized one.forward two.forward;
       sized = two.sized ∙ one.sized;
       keeps = λ x s h. two.keeps x s (one.keeps x s h);
-      led = two.led;
       hold = elim result as (λ r. IfSome r (λ n. HoldFrom lists bounds next mid → HoldFrom lists bounds n new) → IfSome r (λ n. HoldFrom lists bounds at old → HoldFrom lists bounds n new)) [
         | Some n ↦ λ f h. f (one.hold h)
         | None ↦ λ f. tt
@@ -124,7 +118,6 @@ settling_on lists ks bounds old now new at next same s other =
       forward = at_least_trans old now new s.sized s.forward t.forward;
       sized = t.sized ∙ s.sized;
       keeps = λ x h a. t.keeps x h (s.keeps x h a);
-      led = t.led;
       hold = t.hold s.hold;
     }
 
@@ -139,19 +132,24 @@ settling_stuck lists ks bounds old now new at same s other =
 
 -- where all bounds hold, the places are the least solution
 pub settling_done : (lists : List (List ℕ)) (bounds : List Inequality) (old now : List ℕ) → IsSettling lists bounds old now 0
-    → length now ≡ length lists → ((i : ℕ) → i < length lists → IsPlace (list_at lists i) (slice_index now i))
+    → slice_index now 0 < TOP → length now ≡ length lists → ((i : ℕ) → i < length lists → IsPlace (list_at lists i) (slice_index now i))
     → IsLeast lists bounds old now
-settling_done lists bounds old now s sized places =
+settling_done lists bounds old now s led sized places =
     record {
       solution = record {
         sized = sized;
         places = places;
-        led = s.led;
+        led = led;
         bounded = λ k d l. s.hold k d l (omega arith);
       };
       above = s.forward;
       least = s.keeps;
     }
+
+-- where the first place is past its last location, there is no solution
+pub settling_past : (lists : List (List ℕ)) (bounds : List Inequality) (old now : List ℕ) (at : ℕ) → IsSettling lists bounds old now at
+    → 0 < length now → TOP ≤ slice_index now 0 → (x : List ℕ) → IsSolution lists bounds x → IsAtLeast old x → ⊥
+settling_past lists bounds old now at s some past x h a = omega (arith, s.keeps x h a 0 some, h.led, past)
 
 -- fewer bounds are left to test, and no more to move
 pub fewer_to_test : (a b n at next : ℕ) → b ≤ a → next < at → (n + 1) * b + next < (n + 1) * a + at

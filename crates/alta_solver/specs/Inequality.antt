@@ -1,5 +1,5 @@
 -- One bound: a side of variable i, plus `minus`, is at most a side of variable j, plus `plus`.
-use Rattle.std.specs.Prelude.{◌≡◌, ℕ, ◌+◌, ◌*◌, ◌<◌, ◌≤◌, List, length, slice_index_or, All}
+use Rattle.std.specs.Prelude.{◌≡◌, ◌≢◌, ℕ, ◌+◌, ◌*◌, ◌<◌, ◌≤◌, List, length, slice_index_or, All}
 use Rattle.alta_solver.specs.declared.form.Form.{Form}
 use Rattle.alta_solver.specs.declared.form.Form.TheVariants.{LocLoc, PrevLoc}
 
@@ -11,9 +11,21 @@ pub record Inequality : Type 0 where
   pub plus : ℕ
   pub minus : ℕ
 
+-- the bound is between two of n variables, and the parts of its constant are at most a million
+pub record IsBetween (n : ℕ) (b : Inequality) : Type 0 where
+  pub i : b.i < n
+  pub j : b.j < n
+  pub plus : b.plus ≤ 1000000
+  pub minus : b.minus ≤ 1000000
+
 -- each bound names two of n variables
 abbrev pub IsNamed : ℕ → List Inequality → Type 0
 IsNamed n bounds = All (λ b. (b.i < n) × (b.j < n)) bounds
+
+-- an index behind all bounds in which variable i is bounded
+pub record IsBehind (i : ℕ) (bounds : List Inequality) (at : ℕ) : Type 0 where
+  pub within : at ≤ length bounds
+  pub free : (k : ℕ) (d : Inequality) → at ≤ k → k < length bounds → (slice_index_or bounds k d).i ≢ i
 
 -- the place of variable i is at most that of variable 0
 abbrev pub upper : ℕ → Inequality
@@ -23,8 +35,12 @@ upper i = record { form = LocLoc; i = i; j = 0; plus = 0; minus = 0 }
 abbrev pub lower : ℕ → Inequality
 lower i = record { form = PrevLoc; i = 0; j = i; plus = 0; minus = 1 }
 
+-- the two bounds of variable m + 1 stand at 2 * m and behind it
+pub record IsPair (bounds : List Inequality) (m : ℕ) : Type 0 where
+  pub within : 2 * m + 1 < length bounds
+  pub above : (d : Inequality) → slice_index_or bounds (2 * m) d ≡ upper (m + 1)
+  pub below : (d : Inequality) → slice_index_or bounds (2 * m + 1) d ≡ lower (m + 1)
+
 -- the first bounds are in pairs the two of variable 1, the two of variable 2, and so on
 pub record IsPaired (pairs : ℕ) (bounds : List Inequality) : Type 0 where
-  pub sized : 2 * pairs ≤ length bounds
-  pub uppers : (m : ℕ) (d : Inequality) → m < pairs → slice_index_or bounds (2 * m) d ≡ upper (m + 1)
-  pub lowers : (m : ℕ) (d : Inequality) → m < pairs → slice_index_or bounds (2 * m + 1) d ≡ lower (m + 1)
+  pub each : (m : ℕ) → m < pairs → IsPair bounds m

@@ -1,4 +1,5 @@
 pub mod Inequality
+pub mod Moves
 pub mod Repair
 pub mod Setting
 pub mod Settling

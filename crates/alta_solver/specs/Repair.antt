@@ -1,6 +1,5 @@
 -- What a repair of one bound may do.
-use Rattle.std.specs.Prelude.{◌≡◌, ◌≢◌, ℕ, ◌<◌, List, length, slice_index}
-use Rattle.alta_codec.specs.declared.location.TheConstants.{TOP}
+use Rattle.std.specs.Prelude.{◌≡◌, ◌≢◌, ℕ, List, length, slice_index}
 use Rattle.alta_codec.specs.Rising.{IsPlace}
 use Rattle.alta_solver.specs.declared.least.Outcome.{Outcome}
 use Rattle.alta_solver.specs.declared.least.Outcome.TheVariants.{Settled, Moved, Stuck}
@@ -19,17 +18,3 @@ pub record IsRepaired (lists : List (List ℕ)) (bound : Inequality) (old new : 
   pub settled : outcome ≡ Settled → (new ≡ old) × MeetsBound lists new bound
   pub stuck : outcome ≡ Stuck → (x : List ℕ) → IsAtLeast old x → IsPlace (list_at lists bound.j) (slice_index x bound.j)
       → MeetsBound lists x bound → ⊥
-
--- The same, where the first place is below TOP before, and after unless it is stuck. Stuck: the bound holds at no
--- places from here on of which the first is below TOP.
-pub record IsMended (lists : List (List ℕ)) (bound : Inequality) (old new : List ℕ) (outcome : Outcome) : Type 0 where
-  pub forward : IsAtLeast old new
-  pub sized : length new ≡ length old
-  pub keeps : (x : List ℕ) → IsAtLeast old x → IsPlace (list_at lists bound.j) (slice_index x bound.j) → MeetsBound lists x bound
-      → IsAtLeast new x
-  pub others : (k : ℕ) → k ≢ bound.j → slice_index new k ≡ slice_index old k
-  pub moved : outcome ≡ Moved → bound.i ≢ bound.j → MeetsBound lists new bound
-  pub settled : outcome ≡ Settled → (new ≡ old) × MeetsBound lists new bound
-  pub led : outcome ≢ Stuck → slice_index new 0 < TOP
-  pub stuck : outcome ≡ Stuck → (x : List ℕ) → slice_index x 0 < TOP → IsAtLeast old x
-      → IsPlace (list_at lists bound.j) (slice_index x bound.j) → MeetsBound lists x bound → ⊥

@@ -3,9 +3,10 @@ ghost use Rattle.std.specs.Prelude.{◌≡◌, ◌≢◌, ◌↔◌, ℕ, ◌+�
 ghost use Rattle.alta_codec.specs.Rising.{IsRising, IsPlace, first_from, pred_of};
 ghost use Rattle.alta_codec.specs.declared.location.TheConstants.{TOP};
 ghost use Rattle.alta_solver.specs.Solution.{low_side, high_side, list_at, MeetsBound, IsSolution, IsAtLeast, IsLeast, IsRaised};
-ghost use Rattle.alta_solver.specs.Inequality.{Inequality, upper, lower, IsNamed, IsPaired};
-ghost use Rattle.alta_solver.specs.Repair.{IsRepaired, IsMended};
-ghost use Rattle.alta_solver.specs.Settling.{IsTried};
+ghost use Rattle.alta_solver.specs.Inequality.{Inequality, IsBetween, IsBehind, IsPair, IsPaired};
+ghost use Rattle.alta_solver.specs.Moves.{AreReady, AreKept, IsTested};
+ghost use Rattle.alta_solver.specs.Repair.{IsRepaired};
+ghost use Rattle.alta_solver.specs.Settling.{IsSettling};
 
 use crate::bound::Bound;
 use crate::form::Form;
@@ -59,12 +60,8 @@ fn reach<R: BackReader, L: Ledger>(readers: &mut [R], j: usize, to: Loc, steps: 
     requires within { j < length readers.old }
     requires short { pred_of (list_at (map R.list readers.old) j) (slice_index (map R.location readers.old) j) < to }
     requires top { to ≤ TOP }
-    ensures sound { All R.sound readers.new }
-    ensures lists { map R.list readers.new ≡ map R.list readers.old }
-    ensures alls { map R.all readers.new ≡ map R.all readers.old }
+    ensures kept { AreKept R.sound R.list R.all R.left readers.old readers.new steps.old steps.new }
     ensures places { map R.location readers.new ≡ slice_set (map R.location readers.old) j (first_from (list_at (map R.list readers.old) j) to) }
-    ensures keeps { sum_by R.left readers.new ≤ sum_by R.left readers.old }
-    ensures steps { steps.new + sum_by R.left readers.new ≤ steps.old + sum_by R.left readers.old }
 {
     if place_at(readers, j) < to {
         seek_at(readers, j, to, steps);
@@ -83,15 +80,11 @@ fn raise_past<R: BackReader, L: Ledger>(
     requires within { j < length readers.old }
     requires short { pred_of (list_at (map R.list readers.old) j) (slice_index (map R.location readers.old) j) < to }
     requires top { to ≤ TOP }
-    ensures sound { All R.sound readers.new }
-    ensures lists { map R.list readers.new ≡ map R.list readers.old }
-    ensures alls { map R.all readers.new ≡ map R.all readers.old }
+    ensures kept { AreKept R.sound R.list R.all R.left readers.old readers.new steps.old steps.new }
     ensures raised { IsTrue result → map R.location readers.new ≡ slice_set (map R.location readers.old) j (first_from (list_at (map R.list readers.old) j) (first_from (list_at (map R.list readers.old) j) to + 1)) }
     ensures none { result ≡ false → map R.location readers.new ≡ slice_set (map R.location readers.old) j TOP }
     ensures which { IsTrue result ↔ (first_from (list_at (map R.list readers.old) j) to < TOP) }
     ensures falls { IsTrue result → sum_by R.left readers.new < sum_by R.left readers.old }
-    ensures keeps { sum_by R.left readers.new ≤ sum_by R.left readers.old }
-    ensures steps { steps.new + sum_by R.left readers.new ≤ steps.old + sum_by R.left readers.old }
 {
     reach(readers, j, to, steps);
     let at = place_at(readers, j);
@@ -114,13 +107,9 @@ fn raise_side<R: BackReader, L: Ledger>(
     requires sound { All R.sound readers.old }
     requires within { j < length readers.old }
     requires short { high_side form (list_at (map R.list readers.old) j) (slice_index (map R.location readers.old) j) < need }
-    ensures sound { All R.sound readers.new }
-    ensures lists { map R.list readers.new ≡ map R.list readers.old }
-    ensures alls { map R.all readers.new ≡ map R.all readers.old }
+    ensures kept { AreKept R.sound R.list R.all R.left readers.old readers.new steps.old steps.new }
     ensures raised { IsRaised (list_at (map R.list readers.old) j) form need (map R.location readers.old) j (map R.location readers.new) result }
     ensures falls { IsTrue result → sum_by R.left readers.new < sum_by R.left readers.old }
-    ensures keeps { sum_by R.left readers.new ≤ sum_by R.left readers.old }
-    ensures steps { steps.new + sum_by R.left readers.new ≤ steps.old + sum_by R.left readers.old }
 {
     if need > TOP {
         return false;
@@ -146,17 +135,10 @@ fn repair<R: BackReader, L: Ledger>(
     steps: &mut Steps<L>,
 ) -> Outcome
     requires sound { All R.sound readers.old }
-    requires i_within { i < length readers.old }
-    requires j_within { j < length readers.old }
-    requires plus_within { plus ≤ 1000000 }
-    requires minus_within { minus ≤ 1000000 }
-    ensures sound { All R.sound readers.new }
-    ensures lists { map R.list readers.new ≡ map R.list readers.old }
-    ensures alls { map R.all readers.new ≡ map R.all readers.old }
+    requires between { IsBetween (length readers.old) (record { form = form; i = i; j = j; plus = plus; minus = minus }) }
+    ensures kept { AreKept R.sound R.list R.all R.left readers.old readers.new steps.old steps.new }
     ensures repaired { IsRepaired (map R.list readers.old) (record { form = form; i = i; j = j; plus = plus; minus = minus }) (map R.location readers.old) (map R.location readers.new) result }
     ensures falls { result ≡ Outcome.Moved → sum_by R.left readers.new < sum_by R.left readers.old }
-    ensures keeps { sum_by R.left readers.new ≤ sum_by R.left readers.old }
-    ensures steps { steps.new + sum_by R.left readers.new ≤ steps.old + sum_by R.left readers.old }
 {
     let low = low_at(readers, i, form) + minus;
     let high = high_at(readers, j, form) + plus;
@@ -170,51 +152,11 @@ fn repair<R: BackReader, L: Ledger>(
     }
 }
 
-/// Mends one bound that does not hold, and says that there is no solution where reader 0 has passed its last location.
-#[inline(always)]
-fn mend<R: BackReader, L: Ledger>(
-    readers: &mut [R],
-    form: Form,
-    i: usize,
-    j: usize,
-    plus: u64,
-    minus: u64,
-    steps: &mut Steps<L>,
-) -> Outcome
-    requires sound { All R.sound readers.old }
-    requires some { 0 < length readers.old }
-    requires i_within { i < length readers.old }
-    requires j_within { j < length readers.old }
-    requires plus_within { plus ≤ 1000000 }
-    requires minus_within { minus ≤ 1000000 }
-    requires led { slice_index (map R.location readers.old) 0 < TOP }
-    ensures sound { All R.sound readers.new }
-    ensures lists { map R.list readers.new ≡ map R.list readers.old }
-    ensures alls { map R.all readers.new ≡ map R.all readers.old }
-    ensures mended { IsMended (map R.list readers.old) (record { form = form; i = i; j = j; plus = plus; minus = minus }) (map R.location readers.old) (map R.location readers.new) result }
-    ensures falls { result ≡ Outcome.Moved → sum_by R.left readers.new < sum_by R.left readers.old }
-    ensures keeps { sum_by R.left readers.new ≤ sum_by R.left readers.old }
-    ensures steps { steps.new + sum_by R.left readers.new ≤ steps.old + sum_by R.left readers.old }
-{
-    match repair(readers, form, i, j, plus, minus, steps) {
-        Outcome::Settled => Outcome::Settled,
-        Outcome::Moved => {
-            if place_at(readers, 0) < TOP {
-                Outcome::Moved
-            } else {
-                Outcome::Stuck
-            }
-        }
-        Outcome::Stuck => Outcome::Stuck,
-    }
-}
-
 /// The index behind the last bound from `from` on in which reader `i` is bounded, `from` where there is none.
-fn behind_bounded(bounds: &[Bound], from: usize, i: usize) -> usize
+pub(crate) fn behind_bounded(bounds: &[Bound], from: usize, i: usize) -> usize
     requires { from ≤ length bounds.now }
     ensures after { from ≤ result }
-    ensures within { result ≤ length bounds.now }
-    ensures free { (k : ℕ) (d : Inequality) → result ≤ k → k < length bounds.now → (slice_index_or bounds.now k d).i ≢ i }
+    ensures behind { IsBehind i bounds.now result }
 {
     let mut at = bounds.len();
     'bounds: while at > from && bounds[at - 1].i() != i {
@@ -237,68 +179,49 @@ fn try_at<R: BackReader, L: Ledger>(
     minus: u64,
     steps: &mut Steps<L>,
 ) -> Option<usize>
-    requires sound { All R.sound readers.old }
-    requires some { 0 < length readers.old }
-    requires led { slice_index (map R.location readers.old) 0 < TOP }
-    requires named { IsNamed (length readers.old) bounds.now }
+    requires ready { AreReady R.sound bounds.now readers.old }
     requires within { at < length bounds.now }
     requires bound { (d : Inequality) → slice_index_or bounds.now at d ≡ record { form = form; i = i; j = j; plus = plus; minus = minus } }
     requires plus_within { plus ≤ 1000000 }
     requires minus_within { minus ≤ 1000000 }
-    ensures sound { All R.sound readers.new }
-    ensures lists { map R.list readers.new ≡ map R.list readers.old }
-    ensures alls { map R.all readers.new ≡ map R.all readers.old }
-    ensures tried { IsTried (map R.list readers.old) bounds.now (map R.location readers.old) (map R.location readers.new) (at + 1) result }
-    ensures falls { IfSome result (λ next. (next < at + 1) ⊎ (sum_by R.left readers.new < sum_by R.left readers.old)) }
-    ensures keeps { sum_by R.left readers.new ≤ sum_by R.left readers.old }
-    ensures steps { steps.new + sum_by R.left readers.new ≤ steps.old + sum_by R.left readers.old }
+    ensures { IsTested R.sound R.list R.all R.left R.location bounds.now (at + 1) result readers.old readers.new steps.old steps.new }
 {
-    match mend(readers, form, i, j, plus, minus, steps) {
+    match repair(readers, form, i, j, plus, minus, steps) {
         Outcome::Settled => Some(at),
         Outcome::Moved => Some(behind_bounded(bounds, at, j)),
         Outcome::Stuck => None,
     }
 }
 
-/// Brings the first reader on to `to`, where reader `m + 1` stands, so that both bounds of the pair hold. It answers as for one
-/// bound.
+/// Brings the first reader on to `to`, where reader `m + 1` stands, so that both bounds of the pair hold. It answers an index
+/// from which on the bounds hold, if those behind the pair did.
 #[inline(always)]
 fn lead<R: BackReader, L: Ledger>(
     readers: &mut [R],
     bounds: &[Bound],
+    behind_first: usize,
     m: usize,
     to: Loc,
     steps: &mut Steps<L>,
-) -> Option<usize>
-    requires sound { All R.sound readers.old }
-    requires named { IsNamed (length readers.old) bounds.now }
-    requires within { 2 * m + 1 < length bounds.now }
-    requires upper { (d : Inequality) → slice_index_or bounds.now (2 * m) d ≡ upper (m + 1) }
-    requires lower { (d : Inequality) → slice_index_or bounds.now (2 * m + 1) d ≡ lower (m + 1) }
+) -> usize
+    requires ready { AreReady R.sound bounds.now readers.old }
+    requires behind { IsBehind 0 bounds.now behind_first }
+    requires pair { IsPair bounds.now m }
     requires there { slice_index (map R.location readers.old) (m + 1) ≡ to }
     requires short { slice_index (map R.location readers.old) 0 < to }
     requires top { to ≤ TOP }
-    ensures sound { All R.sound readers.new }
-    ensures lists { map R.list readers.new ≡ map R.list readers.old }
-    ensures alls { map R.all readers.new ≡ map R.all readers.old }
-    ensures tried { IsTried (map R.list readers.old) bounds.now (map R.location readers.old) (map R.location readers.new) (2 * m + 2) result }
-    ensures falls { IfSome result (λ next. (next < 2 * m + 2) ⊎ (sum_by R.left readers.new < sum_by R.left readers.old)) }
-    ensures keeps { sum_by R.left readers.new ≤ sum_by R.left readers.old }
-    ensures steps { steps.new + sum_by R.left readers.new ≤ steps.old + sum_by R.left readers.old }
+    ensures { IsTested R.sound R.list R.all R.left R.location bounds.now (2 * m + 2) (Some result) readers.old readers.new steps.old steps.new }
 {
     seek_at(readers, 0, to, steps);
-    if place_at(readers, 0) == TOP {
-        return None;
-    }
-    let next = behind_bounded(bounds, 2 * m + 2, 0);
-    if next == 2 * m + 2 {
-        Some(2 * m)
+    if behind_first == 2 * m + 2 {
+        2 * m
     } else {
-        Some(next)
+        behind_first
     }
 }
 
-/// Brings reader `m + 1` on to `to`, the first place behind the element before the first reader's. It answers as for one bound.
+/// Brings reader `m + 1` on to `to`, the first place behind the element before the first reader's. It answers as `lead`
+/// does.
 #[inline(always)]
 fn follow<R: BackReader, L: Ledger>(
     readers: &mut [R],
@@ -306,63 +229,44 @@ fn follow<R: BackReader, L: Ledger>(
     m: usize,
     to: Loc,
     steps: &mut Steps<L>,
-) -> Option<usize>
-    requires sound { All R.sound readers.old }
-    requires named { IsNamed (length readers.old) bounds.now }
-    requires within { 2 * m + 1 < length bounds.now }
-    requires upper { (d : Inequality) → slice_index_or bounds.now (2 * m) d ≡ upper (m + 1) }
-    requires lower { (d : Inequality) → slice_index_or bounds.now (2 * m + 1) d ≡ lower (m + 1) }
-    requires led { slice_index (map R.location readers.old) 0 < TOP }
+) -> usize
+    requires ready { AreReady R.sound bounds.now readers.old }
+    requires pair { IsPair bounds.now m }
     requires there { pred_of (list_at (map R.list readers.old) 0) (slice_index (map R.location readers.old) 0) + 1 ≡ to }
     requires short { slice_index (map R.location readers.old) (m + 1) < to }
     requires top { to ≤ TOP }
-    ensures sound { All R.sound readers.new }
-    ensures lists { map R.list readers.new ≡ map R.list readers.old }
-    ensures alls { map R.all readers.new ≡ map R.all readers.old }
-    ensures tried { IsTried (map R.list readers.old) bounds.now (map R.location readers.old) (map R.location readers.new) (2 * m + 2) result }
-    ensures falls { IfSome result (λ next. (next < 2 * m + 2) ⊎ (sum_by R.left readers.new < sum_by R.left readers.old)) }
-    ensures keeps { sum_by R.left readers.new ≤ sum_by R.left readers.old }
-    ensures steps { steps.new + sum_by R.left readers.new ≤ steps.old + sum_by R.left readers.old }
+    ensures { IsTested R.sound R.list R.all R.left R.location bounds.now (2 * m + 2) (Some result) readers.old readers.new steps.old steps.new }
 {
     seek_at(readers, m + 1, to, steps);
     let next = behind_bounded(bounds, 2 * m + 2, m + 1);
     if next == 2 * m + 2 && place_at(readers, m + 1) <= place_at(readers, 0) {
-        Some(2 * m)
+        2 * m
     } else {
-        Some(next)
+        next
     }
 }
 
 /// Tests the two bounds that hold reader `m + 1` to the first one, of which one at most does not hold, and mends that one. It
-/// answers as for one bound.
+/// answers as `lead` does.
 fn try_pair<R: BackReader, L: Ledger>(
     readers: &mut [R],
     bounds: &[Bound],
+    behind_first: usize,
     m: usize,
     steps: &mut Steps<L>,
-) -> Option<usize>
-    requires sound { All R.sound readers.old }
-    requires some { 0 < length readers.old }
-    requires led { slice_index (map R.location readers.old) 0 < TOP }
-    requires named { IsNamed (length readers.old) bounds.now }
-    requires within { 2 * m + 1 < length bounds.now }
-    requires upper { (d : Inequality) → slice_index_or bounds.now (2 * m) d ≡ upper (m + 1) }
-    requires lower { (d : Inequality) → slice_index_or bounds.now (2 * m + 1) d ≡ lower (m + 1) }
-    ensures sound { All R.sound readers.new }
-    ensures lists { map R.list readers.new ≡ map R.list readers.old }
-    ensures alls { map R.all readers.new ≡ map R.all readers.old }
-    ensures tried { IsTried (map R.list readers.old) bounds.now (map R.location readers.old) (map R.location readers.new) (2 * m + 2) result }
-    ensures falls { IfSome result (λ next. (next < 2 * m + 2) ⊎ (sum_by R.left readers.new < sum_by R.left readers.old)) }
-    ensures keeps { sum_by R.left readers.new ≤ sum_by R.left readers.old }
-    ensures steps { steps.new + sum_by R.left readers.new ≤ steps.old + sum_by R.left readers.old }
+) -> usize
+    requires ready { AreReady R.sound bounds.now readers.old }
+    requires behind { IsBehind 0 bounds.now behind_first }
+    requires pair { IsPair bounds.now m }
+    ensures { IsTested R.sound R.list R.all R.left R.location bounds.now (2 * m + 2) (Some result) readers.old readers.new steps.old steps.new }
 {
     let at = place_at(readers, m + 1);
     if place_at(readers, 0) < at {
-        return lead(readers, bounds, m, at, steps);
+        return lead(readers, bounds, behind_first, m, at, steps);
     }
     let before = prev_at(readers, 0);
     if before < at {
-        return Some(2 * m);
+        return 2 * m;
     }
     follow(readers, bounds, m, before + 1, steps)
 }
@@ -372,26 +276,19 @@ fn try_before<R: BackReader, L: Ledger>(
     readers: &mut [R],
     bounds: &[Bound],
     pairs: usize,
+    behind_first: usize,
     at: usize,
     steps: &mut Steps<L>,
 ) -> Option<usize>
-    requires sound { All R.sound readers.old }
-    requires some { 0 < length readers.old }
-    requires led { slice_index (map R.location readers.old) 0 < TOP }
-    requires named { IsNamed (length readers.old) bounds.now }
+    requires ready { AreReady R.sound bounds.now readers.old }
     requires paired { IsPaired pairs bounds.now }
+    requires behind { IsBehind 0 bounds.now behind_first }
     requires some_left { 0 < at }
     requires within { at ≤ length bounds.now }
-    ensures sound { All R.sound readers.new }
-    ensures lists { map R.list readers.new ≡ map R.list readers.old }
-    ensures alls { map R.all readers.new ≡ map R.all readers.old }
-    ensures tried { IsTried (map R.list readers.old) bounds.now (map R.location readers.old) (map R.location readers.new) (at) result }
-    ensures falls { IfSome result (λ next. (next < at) ⊎ (sum_by R.left readers.new < sum_by R.left readers.old)) }
-    ensures keeps { sum_by R.left readers.new ≤ sum_by R.left readers.old }
-    ensures steps { steps.new + sum_by R.left readers.new ≤ steps.old + sum_by R.left readers.old }
+    ensures { IsTested R.sound R.list R.all R.left R.location bounds.now at result readers.old readers.new steps.old steps.new }
 {
     if at % 2 == 0 && at / 2 <= pairs {
-        return try_pair(readers, bounds, at / 2 - 1, steps);
+        return Some(try_pair(readers, bounds, behind_first, at / 2 - 1, steps));
     }
     let bound = &bounds[at - 1];
     try_at(
@@ -407,7 +304,8 @@ fn try_before<R: BackReader, L: Ledger>(
     )
 }
 
-/// Brings the readers to the least solution at or above where they stand. False where there is none.
+/// Brings the readers to the least places at or above where they stand at which all bounds hold. False where there is no
+/// solution. Nor is there one where the first reader has then passed its last location.
 ///
 /// It tests the bounds from the last to the first, each raise being one or two seeks, and after a raise goes on from the last
 /// bound that the raise can have broken. So a system that is settled costs one test of each bound, and each bound is tested
@@ -416,27 +314,20 @@ pub(crate) fn settle<R: BackReader, L: Ledger>(
     readers: &mut [R],
     bounds: &[Bound],
     pairs: usize,
+    behind_first: usize,
     steps: &mut Steps<L>,
 ) -> bool
-    requires sound { All R.sound readers.old }
-    requires some { 0 < length readers.old }
-    requires named { IsNamed (length readers.old) bounds.now }
+    requires ready { AreReady R.sound bounds.now readers.old }
     requires paired { IsPaired pairs bounds.now }
-    ensures sound { All R.sound readers.new }
-    ensures lists { map R.list readers.new ≡ map R.list readers.old }
-    ensures alls { map R.all readers.new ≡ map R.all readers.old }
+    requires behind { IsBehind 0 bounds.now behind_first }
+    ensures kept { AreKept R.sound R.list R.all R.left readers.old readers.new steps.old steps.new }
     ensures above { IsAtLeast (map R.location readers.old) (map R.location readers.new) }
-    ensures least { IsTrue result → IsLeast (map R.list readers.old) bounds.now (map R.location readers.old) (map R.location readers.new) }
+    ensures settled { IsTrue result → IsSettling (map R.list readers.old) bounds.now (map R.location readers.old) (map R.location readers.new) 0 }
     ensures none { result ≡ false → (x : List ℕ) → IsSolution (map R.list readers.old) bounds.now x → IsAtLeast (map R.location readers.old) x → ⊥ }
-    ensures keeps { sum_by R.left readers.new ≤ sum_by R.left readers.old }
-    ensures steps { steps.new + sum_by R.left readers.new ≤ steps.old + sum_by R.left readers.old }
 {
-    if place_at(readers, 0) == TOP {
-        return false;
-    }
     let mut at = bounds.len();
     'settle: while at > 0 {
-        match try_before(readers, bounds, pairs, at, steps) {
+        match try_before(readers, bounds, pairs, behind_first, at, steps) {
             Some(next) => at = next,
             None => return false,
         }

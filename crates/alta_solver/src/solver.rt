@@ -2,7 +2,7 @@
 ghost use Rattle.std.specs.Prelude.{◌≡◌, ◌↔◌, ℕ, ◌+◌, ◌*◌, ◌<◌, ◌≤◌, List, map, length, slice_index, slice_index_or, slice_set, All, sum_by, IsTrue, IsOk, IfOk, IfErr, false};
 ghost use Rattle.alta_codec.specs.Rising.{IsRising, first_from};
 ghost use Rattle.alta_solver.specs.Solution.{list_at, IsSolution, IsAtLeast, IsLeast};
-ghost use Rattle.alta_solver.specs.Inequality.{Inequality, upper, lower, IsNamed, IsPaired};
+ghost use Rattle.alta_solver.specs.Inequality.{upper, lower, IsNamed, IsPair, IsPaired};
 
 use crate::bound::Bound;
 use crate::form::Form;
@@ -45,8 +45,7 @@ fn is_lower(bound: &Bound, i: usize) -> bool
 /// Whether these two bounds hold reader `m + 1` to the first.
 fn is_pair(bounds: &[Bound], m: usize) -> bool
     requires { 2 * m + 1 < length bounds.now }
-    ensures upper { IsTrue result → (d : Inequality) → slice_index_or bounds.now (2 * m) d ≡ upper (m + 1) }
-    ensures lower { IsTrue result → (d : Inequality) → slice_index_or bounds.now (2 * m + 1) d ≡ lower (m + 1) }
+    ensures { IsTrue result → IsPair bounds.now m }
 {
     is_upper(&bounds[2 * m], m + 1) && is_lower(&bounds[2 * m + 1], m + 1)
 }
@@ -69,18 +68,20 @@ pub struct Solver<R: BackReader> {
     bounds: Vec<Bound>,
     /// How many pairs of bounds that hold a reader to the first stand in front.
     pairs: usize,
+    /// The index behind the last bound in which the first reader is bounded.
+    behind_first: usize,
 }
 
 impl<R: BackReader> Model for Solver<R> {
     ghost use Rattle.std.specs.Prelude.{ℕ, ◌<◌, List, length, All};
-    ghost use Rattle.alta_solver.specs.Inequality.{IsNamed, IsPaired};
+    ghost use Rattle.alta_solver.specs.Inequality.{IsBehind, IsNamed, IsPaired};
     ghost use Rattle.alta_solver.specs.Setting.{Setting};
 
     ghost Value = { Setting R };
 
     ghost view = { λ s. record { readers = s.readers.items; bounds = s.bounds.items } };
 
-    ghost invariant = { λ s. All R.sound s.readers.items × (0 < length s.readers.items) × IsNamed (length s.readers.items) s.bounds.items × IsPaired s.pairs s.bounds.items };
+    ghost invariant = { λ s. All R.sound s.readers.items × (0 < length s.readers.items) × IsNamed (length s.readers.items) s.bounds.items × IsPaired s.pairs s.bounds.items × IsBehind 0 s.bounds.items s.behind_first };
 }
 
 impl<R: BackReader> Solver<R> {
@@ -95,10 +96,12 @@ impl<R: BackReader> Solver<R> {
             return Err((readers, system));
         }
         let pairs = leading_pairs(system.bounds());
+        let behind_first = least::behind_bounded(system.bounds(), 0, 0);
         Ok(Solver {
             readers,
             bounds: system.into_bounds(),
             pairs,
+            behind_first,
         })
     }
 
@@ -159,6 +162,16 @@ impl<R: BackReader> Solver<R> {
         ensures keeps { sum_by R.left self.new.readers ≤ sum_by R.left self.old.readers }
         ensures steps { steps.new + sum_by R.left self.new.readers ≤ steps.old + sum_by R.left self.old.readers }
     {
-        least::settle(&mut self.readers, &self.bounds, self.pairs, steps)
+        let settled = least::settle(
+            &mut self.readers,
+            &self.bounds,
+            self.pairs,
+            self.behind_first,
+            steps,
+        );
+        if !settled {
+            return false;
+        }
+        many::place_at(&self.readers, 0) < TOP
     }
 }

@@ -1,13 +1,12 @@
-use Rattle.std.proofs.Common.{◌≡◌, ◌≢◌, ℕ, ◌+◌, ◌*◌, ◌<◌, ◌≤◌, Some, List, map, length, refl, sym, subst, ap, ◌∙◌, arith}
+use Rattle.std.proofs.Common.{◌≡◌, ◌≢◌, ℕ, ◌+◌, ◌*◌, ◌<◌, ◌≤◌, Some, List, map, length, refl, sym, subst, ap, ◌∙◌, arith, rules}
 use Rattle.std.specs.Prelude.{slice_index, slice_index_or}
 use Rattle.std.proofs.lemmas.List.{length-map}
-use Rattle.alta_codec.specs.declared.location.TheConstants.{TOP}
 use Rattle.alta_solver.specs.Inequality.{Inequality, upper, lower, IsNamed}
 use Rattle.alta_solver.specs.declared.least.Outcome.TheVariants.{Moved}
 use Rattle.alta_solver.specs.Repair.{IsRepaired}
 use Rattle.alta_solver.specs.Settling.{IsTried}
 use Rattle.alta_solver.specs.Solution.{MeetsBound}
-use Rattle.alta_solver.proofs.Pairs.{mended_moved, followed_repaired, tried_from, pair_holds}
+use Rattle.alta_solver.proofs.Pairs.{followed_repaired, tried_from, pair_holds}
 use Rattle.alta_solver.proofs.least.follow.Given.{Over}
 use Rattle.alta_solver.proofs.least.follow.Goals as goal
 use Rattle.alta_solver.proofs.least.follow.Goals.{After-seek_at}
@@ -29,13 +28,13 @@ module _ (g : Over) (c : After-seek_at g) where
 
   named : IsNamed (length lists) c.args.bounds.now
   unfolding lists
-  named = rw length-map c.requires.named
+  named = rw length-map c.requires.ready.named
 
   within : c.args.m + 1 < length old
   unfolding old
   within =
       let b : Inequality = upper (c.args.m + 1) in
-      let n : b.i < length c.args.readers.now = subst (λ (x : Inequality). x.i < length c.args.readers.now) (c.requires.upper b) (c.requires.named (2 * c.args.m) b (omega (arith, c.requires.within))).0 in
+      let n : b.i < length c.args.readers.now = subst (λ (x : Inequality). x.i < length c.args.readers.now) (c.requires.pair.above b) (c.requires.ready.named (2 * c.args.m) b (omega (arith, c.requires.pair.within))).0 in
       rw length-map n
 
   repaired : IsRepaired lists (lower (c.args.m + 1)) old new Moved
@@ -44,32 +43,25 @@ module _ (g : Over) (c : After-seek_at g) where
       followed_repaired (map g.R.Reader.list c.args.readers.now) (map g.R.Reader.location c.args.readers.now) (map g.R.Reader.location c.seek_at.new.readers) c.args.m c.args.to
       within c.requires.there c.requires.short c.requires.top c.seek_at.ensures.places
 
-  first_stays : slice_index new 0 ≡ slice_index old 0
-  first_stays = repaired.others 0 (λ e. omega (arith, e))
-
   below : MeetsBound lists new (lower (c.args.m + 1))
   below = repaired.moved refl (λ e. omega (arith, e))
-
-  led : slice_index new 0 < TOP
-  unfolding old
-  led = omega (arith, first_stays, c.requires.led)
 
   tried : (next first : ℕ) → next ≤ length c.args.bounds.now → 2 * c.args.m + 2 ≤ next → first ≤ next
       → ((k : ℕ) (d : Inequality) → next ≤ k → k < length c.args.bounds.now → (slice_index_or c.args.bounds.now k d).i ≢ c.args.m + 1)
       → ((k : ℕ) (d : Inequality) → first ≤ k → k < next → k < length c.args.bounds.now → MeetsBound lists new (slice_index_or c.args.bounds.now k d))
       → IsTried lists c.args.bounds.now old new (2 * c.args.m + 2) (Some first)
   tried next first inside after le free here =
-      tried_from lists c.args.bounds.now old new (2 * c.args.m + 1) (lower (c.args.m + 1)) c.requires.within c.requires.lower named sized
-      next inside free (mended_moved lists (lower (c.args.m + 1)) old new repaired led) (2 * c.args.m + 2) first after le here
+      tried_from lists c.args.bounds.now old new (2 * c.args.m + 1) (lower (c.args.m + 1)) c.requires.pair.within c.requires.pair.below named sized
+      next inside free repaired (2 * c.args.m + 2) first after le here
 
   both : (next : ℕ) → next ≡ 2 * c.args.m + 2 → slice_index new (c.args.m + 1) ≤ slice_index new 0 → (k : ℕ) (d : Inequality) → 2 * c.args.m ≤ k → k < next → k < length c.args.bounds.now
       → MeetsBound lists new (slice_index_or c.args.bounds.now k d)
-  both next e le = pair_holds lists c.args.bounds.now new c.args.m next e c.requires.upper c.requires.lower (omega (arith, le)) below
+  both next e le = pair_holds lists c.args.bounds.now new c.args.m next e c.requires.pair (omega (arith, le)) below
 
 pub seek_at-requires-clause-within : goal.seek_at-requires-clause-within
 seek_at-requires-clause-within g c =
     let b : Inequality = upper (c.args.m + 1) in
-    subst (λ (x : Inequality). x.i < length c.args.readers.now) (c.requires.upper b) (c.requires.named (2 * c.args.m) b (omega (arith, c.requires.within))).0
+    subst (λ (x : Inequality). x.i < length c.args.readers.now) (c.requires.pair.above b) (c.requires.ready.named (2 * c.args.m) b (omega (arith, c.requires.pair.within))).0
 
 pub place_at-requires-clause-within : goal.place_at-requires-clause-within
 unfolding old
@@ -77,15 +69,23 @@ place_at-requires-clause-within g c =
     let w = within g (goal.at.place_at-requires-clause-within g c).After-seek_at in
     omega (arith, w, length-map c.args.readers.now g.R.Reader.location, length-map c.args.readers.now g.R.Reader.list, length-map c.seek_at.new.readers g.R.Reader.list, ap length c.seek_at.ensures.lists)
 
-pub returns-then-place_at-clause-tried : goal.returns-then-place_at-clause-tried
+pub returns-then-place_at : goal.returns-then-place_at
 unfolding lists old new
-returns-then-place_at-clause-tried g c =
-    let a = (goal.at.returns-then-place_at-clause-tried g c).After-seek_at in let e = c.behind_bounded-next.ensures in
-    tried g a c.behind_bounded-next.result (2 * c.args.m) e.within e.after (omega (arith, e.after)) e.free
-    (both g a c.behind_bounded-next.result c.if-next-m.true (omega (arith, c.place_at.ensures.value, c.place_at-then-next-m.ensures.value, c.if-place_at.true)))
+returns-then-place_at g c =
+    let a = (goal.at.returns-then-place_at g c).After-seek_at in let e = c.behind_bounded-next.ensures in
+    record {
+      kept = search rules;
+      tried = tried g a c.behind_bounded-next.result (2 * c.args.m) e.behind.within e.after (omega (arith, e.after)) e.behind.free
+          (both g a c.behind_bounded-next.result c.if-next-m.true (omega (arith, c.place_at.ensures.value, c.place_at-then-next-m.ensures.value, c.if-place_at.true)));
+      falls = search rules;
+    }
 
-pub returns-else-next-m-clause-tried : goal.returns-else-next-m-clause-tried
+pub returns-else-next-m : goal.returns-else-next-m
 unfolding lists old new
-returns-else-next-m-clause-tried g c =
-    let a = (goal.at.returns-else-next-m-clause-tried g c).After-seek_at in let e = c.behind_bounded-next.ensures in
-    tried g a c.behind_bounded-next.result c.behind_bounded-next.result e.within e.after (omega arith) e.free (λ k d l w. absurd (omega (arith, l, w)))
+returns-else-next-m g c =
+    let a = (goal.at.returns-else-next-m g c).After-seek_at in let e = c.behind_bounded-next.ensures in
+    record {
+      kept = search rules;
+      tried = tried g a c.behind_bounded-next.result c.behind_bounded-next.result e.behind.within e.after (omega arith) e.behind.free (λ k d l w. absurd (omega (arith, l, w)));
+      falls = search rules;
+    }

@@ -1,14 +1,12 @@
-use Rattle.std.proofs.Common.{◌≡◌, ◌≢◌, ℕ, ◌+◌, ◌*◌, ◌<◌, ◌≤◌, None, Some, List, map, length, refl, sym, subst, ap, ◌∙◌, arith}
-use Rattle.std.specs.Prelude.{slice_index, slice_index_or}
+use Rattle.std.proofs.Common.{◌≡◌, ℕ, ◌+◌, ◌*◌, ◌<◌, ◌≤◌, Some, List, map, length, refl, sym, subst, ◌∙◌, arith, rules}
+use Rattle.std.specs.Prelude.{slice_index_or}
 use Rattle.std.proofs.lemmas.List.{length-map}
-use Rattle.alta_codec.specs.declared.location.TheConstants.{TOP}
 use Rattle.alta_solver.specs.Inequality.{Inequality, upper, lower, IsNamed}
 use Rattle.alta_solver.specs.declared.least.Outcome.TheVariants.{Moved}
 use Rattle.alta_solver.specs.Repair.{IsRepaired}
 use Rattle.alta_solver.specs.Settling.{IsTried}
 use Rattle.alta_solver.specs.Solution.{MeetsBound}
-use Rattle.alta_solver.proofs.Pairs.{mended_moved, mended_stuck, led_repaired, led_lower, tried_from, pair_holds, none_anywhere}
-use Rattle.alta_solver.proofs.Settling.{tried_stuck}
+use Rattle.alta_solver.proofs.Pairs.{led_repaired, led_lower, behind_pair, tried_from, pair_holds}
 use Rattle.alta_solver.proofs.least.lead.Given.{Over}
 use Rattle.alta_solver.proofs.least.lead.Goals as goal
 use Rattle.alta_solver.proofs.least.lead.Goals.{After-seek_at}
@@ -30,13 +28,13 @@ module _ (g : Over) (c : After-seek_at g) where
 
   named : IsNamed (length lists) c.args.bounds.now
   unfolding lists
-  named = rw length-map c.requires.named
+  named = rw length-map c.requires.ready.named
 
   within : c.args.m + 1 < length old
   unfolding old
   within =
       let b : Inequality = upper (c.args.m + 1) in
-      let n : b.i < length c.args.readers.now = subst (λ (x : Inequality). x.i < length c.args.readers.now) (c.requires.upper b) (c.requires.named (2 * c.args.m) b (omega (arith, c.requires.within))).0 in
+      let n : b.i < length c.args.readers.now = subst (λ (x : Inequality). x.i < length c.args.readers.now) (c.requires.pair.above b) (c.requires.ready.named (2 * c.args.m) b (omega (arith, c.requires.pair.within))).0 in
       rw length-map n
 
   repaired : IsRepaired lists (upper (c.args.m + 1)) old new Moved
@@ -54,39 +52,33 @@ module _ (g : Over) (c : After-seek_at g) where
   above : MeetsBound lists new (upper (c.args.m + 1))
   above = repaired.moved refl (λ e. omega (arith, e))
 
-  tried : (next first : ℕ) → next ≤ length c.args.bounds.now → 2 * c.args.m + 2 ≤ next → first ≤ next
-      → ((k : ℕ) (d : Inequality) → next ≤ k → k < length c.args.bounds.now → (slice_index_or c.args.bounds.now k d).i ≢ 0)
-      → ((k : ℕ) (d : Inequality) → first ≤ k → k < next → k < length c.args.bounds.now → MeetsBound lists new (slice_index_or c.args.bounds.now k d))
-      → slice_index new 0 < TOP → IsTried lists c.args.bounds.now old new (2 * c.args.m + 2) (Some first)
-  tried next first inside after le free here led =
-      tried_from lists c.args.bounds.now old new (2 * c.args.m) (upper (c.args.m + 1)) (omega (arith, c.requires.within)) c.requires.upper named sized
-      next inside free (mended_moved lists (upper (c.args.m + 1)) old new repaired led) (2 * c.args.m + 2) first after le here
+  after : 2 * c.args.m + 2 ≤ c.args.behind_first
+  after = behind_pair c.args.bounds.now c.args.m c.args.behind_first c.requires.pair c.requires.behind
 
-  both : (next : ℕ) → next ≡ 2 * c.args.m + 2 → (k : ℕ) (d : Inequality) → 2 * c.args.m ≤ k → k < next → k < length c.args.bounds.now
-      → MeetsBound lists new (slice_index_or c.args.bounds.now k d)
-  both next e = pair_holds lists c.args.bounds.now new c.args.m next e c.requires.upper c.requires.lower above below
+  tried : (first : ℕ) → first ≤ c.args.behind_first
+      → ((k : ℕ) (d : Inequality) → first ≤ k → k < c.args.behind_first → k < length c.args.bounds.now → MeetsBound lists new (slice_index_or c.args.bounds.now k d))
+      → IsTried lists c.args.bounds.now old new (2 * c.args.m + 2) (Some first)
+  tried first le here =
+      tried_from lists c.args.bounds.now old new (2 * c.args.m) (upper (c.args.m + 1)) (omega (arith, c.requires.pair.within)) c.requires.pair.above named sized
+      c.args.behind_first c.requires.behind.within c.requires.behind.free repaired (2 * c.args.m + 2) first after le here
 
-  stuck : TOP ≤ slice_index new 0 → IsTried lists c.args.bounds.now old new (2 * c.args.m + 1) None
-  stuck past =
-      tried_stuck lists c.args.bounds.now old new (2 * c.args.m) (upper (c.args.m + 1)) (omega (arith, c.requires.within)) c.requires.upper named sized
-      (mended_stuck lists (upper (c.args.m + 1)) old new (omega (arith, within)) repaired past)
-
-pub returns-then-place_at-eq-TOP-clause-tried : goal.returns-then-place_at-eq-TOP-clause-tried
+pub returns-then-behind_first-m : goal.returns-then-behind_first-m
 unfolding lists old new
-returns-then-place_at-eq-TOP-clause-tried g c =
-    let t = stuck g (goal.at.returns-then-place_at-eq-TOP-clause-tried g c).After-seek_at (omega (arith, c.place_at.ensures.value, c.if-place_at-eq-TOP.true)) in
-    none_anywhere _ _ _ _ _ (2 * c.args.m + 2) t
+returns-then-behind_first-m g c =
+    let a = (goal.at.returns-then-behind_first-m g c).After-seek_at in
+    record {
+      kept = search rules;
+      tried = tried g a (2 * c.args.m) (omega (arith, after g a))
+          (pair_holds (lists g a) c.args.bounds.now (new g a) c.args.m c.args.behind_first c.if-behind_first-m.true c.requires.pair (above g a) (below g a));
+      falls = search rules;
+    }
 
-pub returns-then-next-m-clause-tried : goal.returns-then-next-m-clause-tried
+pub returns-else-behind_first-m : goal.returns-else-behind_first-m
 unfolding lists old new
-returns-then-next-m-clause-tried g c =
-    let a = (goal.at.returns-then-next-m-clause-tried g c).After-seek_at in let e = c.behind_bounded-next.ensures in
-    tried g a c.behind_bounded-next.result (2 * c.args.m) e.within e.after (omega (arith, e.after)) e.free (both g a c.behind_bounded-next.result c.if-next-m.true)
-    (omega (arith, c.place_at.ensures.value, c.place_at.ensures.top, c.if-place_at-eq-TOP.false))
-
-pub returns-else-next-m-clause-tried : goal.returns-else-next-m-clause-tried
-unfolding lists old new
-returns-else-next-m-clause-tried g c =
-    let a = (goal.at.returns-else-next-m-clause-tried g c).After-seek_at in let e = c.behind_bounded-next.ensures in
-    tried g a c.behind_bounded-next.result c.behind_bounded-next.result e.within e.after (omega arith) e.free (λ k d l w. absurd (omega (arith, l, w)))
-    (omega (arith, c.place_at.ensures.value, c.place_at.ensures.top, c.if-place_at-eq-TOP.false))
+returns-else-behind_first-m g c =
+    let a = (goal.at.returns-else-behind_first-m g c).After-seek_at in
+    record {
+      kept = search rules;
+      tried = tried g a c.args.behind_first (omega arith) (λ k d l w. absurd (omega (arith, l, w)));
+      falls = search rules;
+    }

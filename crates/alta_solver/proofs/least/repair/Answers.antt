@@ -10,7 +10,7 @@ pub returns-then-raise_side-clause-repaired : goal.returns-then-raise_side-claus
 returns-then-raise_side-clause-repaired g c =
     let ls = map g.R.Reader.list c.args.readers.now in let xs = map g.R.Reader.location c.args.readers.now in
     let b : Inequality = record { form = c.args.form; i = c.args.i; j = c.args.j; plus = c.args.plus; minus = c.args.minus } in
-    let within : b.i < length xs = rw length-map c.requires.i_within in
+    let within : b.i < length xs = rw length-map c.requires.between.i in
     let short : (c.low_at.result + b.minus - b.plus) + b.plus ≤ low_side b.form (list_at ls b.i) (slice_index xs b.i) + b.minus =
     omega (arith, c.low_at.ensures.value) in
     let enough : low_side b.form (list_at ls b.i) (slice_index xs b.i) + b.minus ≤ (c.low_at.result + b.minus - b.plus) + b.plus =
@@ -21,7 +21,7 @@ pub returns-else-raise_side-clause-repaired : goal.returns-else-raise_side-claus
 returns-else-raise_side-clause-repaired g c =
     let ls = map g.R.Reader.list c.args.readers.now in let xs = map g.R.Reader.location c.args.readers.now in
     let b : Inequality = record { form = c.args.form; i = c.args.i; j = c.args.j; plus = c.args.plus; minus = c.args.minus } in
-    let within : b.i < length xs = rw length-map c.requires.i_within in
+    let within : b.i < length xs = rw length-map c.requires.between.i in
     let short : (c.low_at.result + b.minus - b.plus) + b.plus ≤ low_side b.form (list_at ls b.i) (slice_index xs b.i) + b.minus =
     omega (arith, c.low_at.ensures.value) in
     let enough : low_side b.form (list_at ls b.i) (slice_index xs b.i) + b.minus ≤ (c.low_at.result + b.minus - b.plus) + b.plus =

@@ -1,18 +1,15 @@
-use Rattle.std.proofs.Common.{◌≡◌, ◌+◌, ◌*◌, ◌≤◌, map, length}
-use Rattle.std.specs.Prelude.{All, sum_by}
+use Rattle.std.proofs.Common.{◌+◌, ◌*◌, ◌≤◌, map, length}
+use Rattle.std.specs.Prelude.{sum_by}
+use Rattle.alta_solver.specs.Moves.{AreKept}
 use Rattle.alta_solver.specs.Settling.{IsSettling}
 use Rattle.alta_solver.proofs.least.settle.Given as goal
 
 abbrev pub invariant-settle : goal.invariant-settle
 invariant-settle g l =
     record {
-      sound : All g.R.Reader.sound l.readers;
-      lists : map g.R.Reader.list l.readers ≡ map g.R.Reader.list l.initial.readers;
-      alls : map g.R.Reader.all l.readers ≡ map g.R.Reader.all l.initial.readers;
+      kept : AreKept g.R.Reader.sound g.R.Reader.list g.R.Reader.all g.R.Reader.left l.initial.readers l.readers l.initial.steps l.steps;
       settling : IsSettling (map g.R.Reader.list l.initial.readers) l.bounds (map g.R.Reader.location l.initial.readers) (map g.R.Reader.location l.readers) l.at;
       inside : l.at ≤ length l.bounds;
-      kept : sum_by g.R.Reader.left l.readers ≤ sum_by g.R.Reader.left l.initial.readers;
-      steps : l.steps + sum_by g.R.Reader.left l.readers ≤ l.initial.steps + sum_by g.R.Reader.left l.initial.readers;
     }
 
 -- each move makes the sum of what is left fall, and between two moves the number of bounds still to be tested falls

@@ -1,47 +1,60 @@
-use Rattle.std.proofs.Common.{◌≡◌, ◌<◌, map, length, sym, subst, ◌∙◌}
+use Rattle.std.proofs.Common.{◌≡◌, ◌<◌, map, length, sym, subst, ◌∙◌, rules}
 use Rattle.std.proofs.lemmas.List.{length-map}
 use Rattle.alta_solver.specs.Inequality.{Inequality, IsNamed}
 use Rattle.alta_solver.proofs.Settling.{tried_settled, tried_moved, tried_stuck}
 use Rattle.alta_solver.proofs.least.try_at.Given.{Over}
 use Rattle.alta_solver.proofs.least.try_at.Goals as goal
-use Rattle.alta_solver.proofs.least.try_at.Goals.{After-mend}
+use Rattle.alta_solver.proofs.least.try_at.Goals.{After-repair}
 
-pub mend-requires-clause-i_within : goal.mend-requires-clause-i_within
-mend-requires-clause-i_within g c =
+pub repair-requires-clause-between : goal.repair-requires-clause-between
+repair-requires-clause-between g c =
     let b : Inequality = record { form = c.args.form; i = c.args.i; j = c.args.j; plus = c.args.plus; minus = c.args.minus } in
-    subst (λ (x : Inequality). x.i < length c.args.readers.now) (c.requires.bound b) (c.requires.named c.args.at b c.requires.within).0
-
-pub mend-requires-clause-j_within : goal.mend-requires-clause-j_within
-mend-requires-clause-j_within g c =
-    let b : Inequality = record { form = c.args.form; i = c.args.i; j = c.args.j; plus = c.args.plus; minus = c.args.minus } in
-    subst (λ (x : Inequality). x.j < length c.args.readers.now) (c.requires.bound b) (c.requires.named c.args.at b c.requires.within).1
+    let n = c.requires.ready.named c.args.at b c.requires.within in
+    record {
+      i = subst (λ (x : Inequality). x.i < length c.args.readers.now) (c.requires.bound b) n.0;
+      j = subst (λ (x : Inequality). x.j < length c.args.readers.now) (c.requires.bound b) n.1;
+      plus = c.requires.plus_within;
+      minus = c.requires.minus_within;
+    }
 
 -- the bound, and that there are as many places as lists
-module _ (g : Over) (c : After-mend g) where
+module _ (g : Over) (c : After-repair g) where
   tested : Inequality
   tested = record { form = c.args.form; i = c.args.i; j = c.args.j; plus = c.args.plus; minus = c.args.minus }
 
   named : IsNamed (length (map g.R.Reader.list c.args.readers.now)) c.args.bounds.now
-  named = rw length-map c.requires.named
+  named = rw length-map c.requires.ready.named
 
   sized : length (map g.R.Reader.location c.args.readers.now) ≡ length (map g.R.Reader.list c.args.readers.now)
   sized = length-map c.args.readers.now g.R.Reader.location ∙ sym (length-map c.args.readers.now g.R.Reader.list)
 
-pub returns-in-Settled-clause-tried : goal.returns-in-Settled-clause-tried
+pub returns-in-Settled : goal.returns-in-Settled
 unfolding tested
-returns-in-Settled-clause-tried g c =
-    let m = (goal.at.returns-in-Settled-clause-tried g c).After-mend in
-    tried_settled _ _ _ _ c.args.at (tested g m) c.requires.within c.requires.bound (named g m) (sized g m) c.in-Settled.ensures.mended
+returns-in-Settled g c =
+    let m = (goal.at.returns-in-Settled g c).After-repair in
+    record {
+      kept = search rules;
+      tried = tried_settled _ _ _ _ c.args.at (tested g m) c.requires.within c.requires.bound (named g m) (sized g m) c.in-Settled.ensures.repaired;
+      falls = search rules;
+    }
 
-pub returns-in-Moved-clause-tried : goal.returns-in-Moved-clause-tried
+pub returns-in-Moved : goal.returns-in-Moved
 unfolding tested
-returns-in-Moved-clause-tried g c =
-    let m = (goal.at.returns-in-Moved-clause-tried g c).After-mend in
-    tried_moved _ _ _ _ c.args.at (tested g m) c.requires.within c.requires.bound (named g m) (sized g m)
-    c.behind_bounded.result c.behind_bounded.ensures.after c.behind_bounded.ensures.within c.behind_bounded.ensures.free c.in-Moved.ensures.mended
+returns-in-Moved g c =
+    let m = (goal.at.returns-in-Moved g c).After-repair in
+    record {
+      kept = search rules;
+      tried = tried_moved _ _ _ _ c.args.at (tested g m) c.requires.within c.requires.bound (named g m) (sized g m)
+          c.behind_bounded.result c.behind_bounded.ensures.after c.behind_bounded.ensures.behind.within c.behind_bounded.ensures.behind.free c.in-Moved.ensures.repaired;
+      falls = search rules;
+    }
 
-pub returns-in-Stuck-clause-tried : goal.returns-in-Stuck-clause-tried
+pub returns-in-Stuck : goal.returns-in-Stuck
 unfolding tested
-returns-in-Stuck-clause-tried g c =
-    let m = (goal.at.returns-in-Stuck-clause-tried g c).After-mend in
-    tried_stuck _ _ _ _ c.args.at (tested g m) c.requires.within c.requires.bound (named g m) (sized g m) c.in-Stuck.ensures.mended
+returns-in-Stuck g c =
+    let m = (goal.at.returns-in-Stuck g c).After-repair in
+    record {
+      kept = search rules;
+      tried = tried_stuck _ _ _ _ c.args.at (tested g m) c.requires.within c.requires.bound (named g m) (sized g m) c.in-Stuck.ensures.repaired;
+      falls = search rules;
+    }
