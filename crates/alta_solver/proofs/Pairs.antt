@@ -8,7 +8,7 @@ use Rattle.alta_codec.specs.Rising.{first_from, pred_of}
 use Rattle.alta_codec.proofs.Places.{first_from-above, first_from-least, pred_of-below, pred_of-place}
 use Rattle.alta_solver.specs.declared.form.Form.TheVariants.{LocLoc, PrevLoc}
 use Rattle.alta_solver.specs.declared.least.Outcome.TheVariants.{Moved}
-use Rattle.alta_solver.specs.Inequality.{Inequality, upper, lower, IsBehind, IsNamed, IsPair}
+use Rattle.alta_solver.specs.Inequality.{Inequality, upper, lower, IsBehindBounds, IsNamed, IsPair}
 use Rattle.alta_solver.specs.Repair.{IsRepaired}
 use Rattle.alta_solver.specs.Settling.{HoldFrom, IsTried}
 use Rattle.alta_solver.specs.Solution.{list_at, MeetsBound, IsRaised}
@@ -95,7 +95,7 @@ pair_holds lists bounds new m next e pair first second k d w l inside =
     (same_or_not k (2 * m))
 
 -- in the second bound of a pair the first reader is bounded
-pub behind_pair : (bounds : List Inequality) (m at : ℕ) → IsPair bounds m → IsBehind 0 bounds at → 2 * m + 2 ≤ at
+pub behind_pair : (bounds : List Inequality) (m at : ℕ) → IsPair bounds m → IsBehindBounds 0 bounds at → 2 * m + 2 ≤ at
 behind_pair bounds m at pair behind =
     ⊎_elim
     (λ lt. let d : Inequality = lower (m + 1) in

@@ -23,7 +23,7 @@ abbrev pub IsNamed : ℕ → List Inequality → Type 0
 IsNamed n bounds = All (λ b. (b.i < n) × (b.j < n)) bounds
 
 -- an index behind all bounds in which variable i is bounded
-pub record IsBehind (i : ℕ) (bounds : List Inequality) (at : ℕ) : Type 0 where
+pub record IsBehindBounds (i : ℕ) (bounds : List Inequality) (at : ℕ) : Type 0 where
   pub within : at ≤ length bounds
   pub free : (k : ℕ) (d : Inequality) → at ≤ k → k < length bounds → (slice_index_or bounds k d).i ≢ i
 

@@ -3,7 +3,7 @@ ghost use Rattle.std.specs.Prelude.{◌≡◌, ◌≢◌, ◌↔◌, ℕ, ◌+�
 ghost use Rattle.alta_codec.specs.Rising.{IsRising, IsPlace, first_from, pred_of};
 ghost use Rattle.alta_codec.specs.declared.location.TheConstants.{TOP};
 ghost use Rattle.alta_solver.specs.Solution.{low_side, high_side, list_at, MeetsBound, IsSolution, IsAtLeast, IsLeast, IsRaised};
-ghost use Rattle.alta_solver.specs.Inequality.{Inequality, IsBetween, IsBehind, IsPair, IsPaired};
+ghost use Rattle.alta_solver.specs.Inequality.{Inequality, IsBetween, IsBehindBounds, IsPair, IsPaired};
 ghost use Rattle.alta_solver.specs.Moves.{AreReady, AreKept, IsTested};
 ghost use Rattle.alta_solver.specs.Repair.{IsRepaired};
 ghost use Rattle.alta_solver.specs.Settling.{IsSettling};
@@ -156,7 +156,7 @@ fn repair<R: BackReader, L: Ledger>(
 pub(crate) fn behind_bounded(bounds: &[Bound], from: usize, i: usize) -> usize
     requires { from ≤ length bounds.now }
     ensures after { from ≤ result }
-    ensures behind { IsBehind i bounds.now result }
+    ensures behind { IsBehindBounds i bounds.now result }
 {
     let mut at = bounds.len();
     'bounds: while at > from && bounds[at - 1].i() != i {
@@ -205,7 +205,7 @@ fn lead<R: BackReader, L: Ledger>(
     steps: &mut Steps<L>,
 ) -> usize
     requires ready { AreReady R.sound bounds.now readers.old }
-    requires behind { IsBehind 0 bounds.now behind_first }
+    requires behind { IsBehindBounds 0 bounds.now behind_first }
     requires pair { IsPair bounds.now m }
     requires there { slice_index (map R.location readers.old) (m + 1) ≡ to }
     requires short { slice_index (map R.location readers.old) 0 < to }
@@ -256,7 +256,7 @@ fn try_pair<R: BackReader, L: Ledger>(
     steps: &mut Steps<L>,
 ) -> usize
     requires ready { AreReady R.sound bounds.now readers.old }
-    requires behind { IsBehind 0 bounds.now behind_first }
+    requires behind { IsBehindBounds 0 bounds.now behind_first }
     requires pair { IsPair bounds.now m }
     ensures { IsTested R.sound R.list R.all R.left R.location bounds.now (2 * m + 2) (Some result) readers.old readers.new steps.old steps.new }
 {
@@ -282,12 +282,12 @@ fn try_before<R: BackReader, L: Ledger>(
 ) -> Option<usize>
     requires ready { AreReady R.sound bounds.now readers.old }
     requires paired { IsPaired pairs bounds.now }
-    requires behind { IsBehind 0 bounds.now behind_first }
+    requires behind { IsBehindBounds 0 bounds.now behind_first }
     requires some_left { 0 < at }
     requires within { at ≤ length bounds.now }
     ensures { IsTested R.sound R.list R.all R.left R.location bounds.now at result readers.old readers.new steps.old steps.new }
 {
-    if at % 2 == 0 && at / 2 <= pairs {
+    if at <= 2 * pairs && at % 2 == 0 {
         return Some(try_pair(readers, bounds, behind_first, at / 2 - 1, steps));
     }
     let bound = &bounds[at - 1];
@@ -319,7 +319,7 @@ pub(crate) fn settle<R: BackReader, L: Ledger>(
 ) -> bool
     requires ready { AreReady R.sound bounds.now readers.old }
     requires paired { IsPaired pairs bounds.now }
-    requires behind { IsBehind 0 bounds.now behind_first }
+    requires behind { IsBehindBounds 0 bounds.now behind_first }
     ensures kept { AreKept R.sound R.list R.all R.left readers.old readers.new steps.old steps.new }
     ensures above { IsAtLeast (map R.location readers.old) (map R.location readers.new) }
     ensures settled { IsTrue result → IsSettling (map R.list readers.old) bounds.now (map R.location readers.old) (map R.location readers.new) 0 }

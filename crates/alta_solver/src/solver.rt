@@ -74,14 +74,14 @@ pub struct Solver<R: BackReader> {
 
 impl<R: BackReader> Model for Solver<R> {
     ghost use Rattle.std.specs.Prelude.{ℕ, ◌<◌, List, length, All};
-    ghost use Rattle.alta_solver.specs.Inequality.{IsBehind, IsNamed, IsPaired};
+    ghost use Rattle.alta_solver.specs.Inequality.{IsBehindBounds, IsNamed, IsPaired};
     ghost use Rattle.alta_solver.specs.Setting.{Setting};
 
     ghost Value = { Setting R };
 
     ghost view = { λ s. record { readers = s.readers.items; bounds = s.bounds.items } };
 
-    ghost invariant = { λ s. All R.sound s.readers.items × (0 < length s.readers.items) × IsNamed (length s.readers.items) s.bounds.items × IsPaired s.pairs s.bounds.items × IsBehind 0 s.bounds.items s.behind_first };
+    ghost invariant = { λ s. All R.sound s.readers.items × (0 < length s.readers.items) × IsNamed (length s.readers.items) s.bounds.items × IsPaired s.pairs s.bounds.items × IsBehindBounds 0 s.bounds.items s.behind_first };
 }
 
 impl<R: BackReader> Solver<R> {
