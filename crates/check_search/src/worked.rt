@@ -306,13 +306,14 @@ pub(crate) fn many(alloc: Global, plan: &Plan) -> Result<Snapshot, AllocError>
     Ok(Snapshot::new(tests, uses, rows, Vec::new(alloc)))
 }
 
-/// One of three lists of deleted ends.
+/// One of four lists of deleted ends.
 pub(crate) fn deleted(k: u8) -> &'static [Loc]
     ensures { IsRising result.now }
 {
     match k {
         0 => &[],
         1 => &[9],
-        _ => &[16],
+        2 => &[16],
+        _ => &[9, 16],
     }
 }
