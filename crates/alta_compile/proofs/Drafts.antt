@@ -5,7 +5,7 @@ use Rattle.std.proofs.lemmas.Bool.{cases_lt}
 use Rattle.std.proofs.lemmas.List.{append-nil}
 use Rattle.std.proofs.lemmas.List.Elements.{All-nil, All-cons, All-append, Contains-append_left, Contains-append_right}
 use Rattle.alta_docread.specs.Solutions.{IsHeld}
-use Rattle.alta_query.specs.Patterns.{Bound, neighbours}
+use Rattle.alta_query.specs.Patterns.{Bound, neighbours, near_pattern}
 use Rattle.alta_query.specs.declared.test.Test.{Test}
 use Rattle.alta_solver.specs.Inequality.{Inequality, IsNamed}
 use Rattle.alta_solver.specs.declared.form.Form.{Form}
@@ -119,3 +119,18 @@ pub neighbours_end : (old out : List Inequality) (base i : ℕ) (words : List Te
 neighbours_end old out base zero words some all h = absurd (omega arith)
 neighbours_end old out base (suc j) words some all h =
     sym (append-nil out) ∙ sym (ap (λ v. out ++ map (placed base) v) (neighbours_none j words j all)) ∙ h j refl
+
+-- two members were pushed
+two_pushed : {X : Type 0} (old mid new : List X) (x y : X) → mid ≡ old ++ x ∷ [] → new ≡ mid ++ y ∷ [] → new ≡ old ++ x ∷ y ∷ []
+two_pushed old mid new x y e f = f ∙ ap (λ l. l ++ y ∷ []) e ∙ append_assoc old (x ∷ []) (y ∷ [])
+
+-- the two tests of a NEAR, and its two bounds
+pub near_tests : (old mid new : List Test) (x y left right : Test) → mid ≡ old ++ x ∷ [] → new ≡ mid ++ y ∷ [] → x ≡ left → y ≡ right → new ≡ old ++ left ∷ right ∷ []
+near_tests old mid new x y left right e f is_left is_right = two_pushed old mid new x y e f ∙ ap (λ t. old ++ t ∷ y ∷ []) is_left ∙ ap (λ t. old ++ left ∷ t ∷ []) is_right
+
+pub near_bounds : (old mid new : List Inequality) (x y : Inequality) (base m n distance : ℕ) (left right : Test) → mid ≡ old ++ x ∷ [] → new ≡ mid ++ y ∷ [] → base ≡ m → m ≡ n
+    → x ≡ row LocLoc (base + 1) (base + 2) distance 0 → y ≡ row LocLoc (base + 2) (base + 1) distance 0 → new ≡ old ++ map (placed n) (near_pattern left distance right).bounds
+near_bounds old mid new x y base m n distance left right e f size len is_x is_y =
+    let first : x ≡ row LocLoc (suc (n + 0)) (suc (n + 1)) distance 0 = is_x ∙ row-same LocLoc (base + 1) (suc (n + 0)) (base + 2) (suc (n + 1)) distance 0 (omega arith) (omega arith) in
+    let second : y ≡ row LocLoc (suc (n + 1)) (suc (n + 0)) distance 0 = is_y ∙ row-same LocLoc (base + 2) (suc (n + 1)) (base + 1) (suc (n + 0)) distance 0 (omega arith) (omega arith) in
+    two_pushed old mid new x y e f ∙ ap (λ b. old ++ b ∷ y ∷ []) first ∙ ap (λ b. old ++ row LocLoc (suc (n + 0)) (suc (n + 1)) distance 0 ∷ b ∷ []) second

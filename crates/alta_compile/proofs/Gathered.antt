@@ -1,5 +1,7 @@
 -- Steps of the loops over the members of a query.
-use Rattle.std.proofs.Common.{◌≡◌, ℕ, zero, suc, ◌+◌, ◌<◌, ◌≤◌, true, false, List, [], ◌∷◌, ◌++◌, length, drop, get_or, map, refl, sym, subst, ap, ◌∙◌, arith, add-one, append_assoc}
+use Rattle.std.proofs.Common.{◌≡◌, ℕ, Bool, zero, suc, ◌+◌, ◌<◌, ◌≤◌, true, false, List, [], ◌∷◌, ◌++◌, length, drop, get_or, map, refl, sym, subst, ap, ◌∙◌, arith, add-one, append_assoc}
+use Rattle.std.specs.Prelude.{nat_eq}
+use Rattle.std.proofs.lemmas.Bool.Decides.{nat_tests}
 use Rattle.std.proofs.Math.Seq.{drop-cons}
 use Rattle.std.proofs.lemmas.List.{append-nil}
 use Rattle.std.proofs.lemmas.List.Elements.{All-nil, All-cons}
@@ -250,3 +252,7 @@ module _ (qs : List Shape) (ts : List Tree) (others : trees_of ts ≡ others_of 
       g ∙ ap (λ t. all_of (also t (trees_of ts))) (ap found h)
       ∙ ap (λ os. all_of (also (found (found_of (joint_pattern (atoms_in (shapes_of qs))))) os)) others
       ∙ sym (some-atoms (atoms_in (shapes_of qs)) (others_of (shapes_of qs)) (omega (arith, all-or-some qs, s, n)) (omega (arith, s, l)))
+
+-- a list that is not empty
+pub some_items : (n k : ℕ) (b : Bool) → b ≡ nat_eq n 0 → b ≡ false → n ≡ k → 0 < k
+some_items n k b e is len = grind (arith, nat_tests)

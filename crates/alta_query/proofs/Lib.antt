@@ -2,6 +2,11 @@ pub mod Complete
 pub mod Sound
 pub mod Exact
 pub mod Frames
+pub mod Ended
+pub mod Walks
+pub mod Firsts
+pub mod Runs
+pub mod Singles
 pub mod Lasts
 pub mod Seen
 pub mod Places

@@ -1,14 +1,9 @@
 -- What is a name is tested.
-use Rattle.std.proofs.Common.{◌≡◌, ℕ, ◌≤◌, List, length, refl, Bool, true, false, ◌&&◌}
-use Rattle.std.specs.Prelude.{nat_le, ◌↔◌, IsTrue}
-use Rattle.std.specs.Bool.{Decides}
-use Rattle.std.specs.List.{list_all, All}
-use Rattle.std.proofs.lemmas.Bool.Decides.{Decides-and, Decides-by_and}
-use Rattle.std.proofs.lemmas.Bool.{leb-true, le-leb}
-use Rattle.alta_query.proofs.Quoted.{both}
+use Rattle.std.proofs.Common.{◌≡◌, ℕ, List, refl, Bool, true, false}
+use Rattle.std.specs.Prelude.{◌↔◌, IsTrue}
 use Rattle.alta_codec.specs.Name.{IsName}
 use Rattle.alta_codec.proofs.NameLaws.{is_name-Decides}
-use Rattle.alta_codec.specs.Name.{is_graphic, is_name}
+use Rattle.alta_codec.specs.Name.{is_name}
 use Rattle.alta_query.specs.Spots.{name_token}
 use Rattle.alta_query.specs.Token.{operand, faulty}
 use Rattle.alta_query.specs.Shape.{name}

@@ -1,6 +1,6 @@
 -- The tokens from a place on, and what the machine makes of them.
 use Rattle.std.proofs.Common.{◌≡◌, ℕ, zero, suc, ◌+◌, ◌-◌, ◌≤◌, ◌<◌, List, [], ◌∷◌, length, drop, get_or, refl, sym, ap, ◌∙◌, add-one, false, Bool, true, if◌then◌else◌, Some, None, Result, Err, arith}
-use Rattle.std.proofs.lemmas.List.{drop-drop, length-drop, get_or-drop}
+use Rattle.std.proofs.lemmas.List.{drop-drop, length-drop, get_or-drop, at_drop_all}
 use Rattle.std.proofs.Math.Seq.{drop-cons}
 use Rattle.std.proofs.lemmas.Bool.Decides.{nat_tests}
 use Rattle.alta_query.specs.Shape.{Shape}
@@ -9,6 +9,7 @@ use Rattle.alta_query.specs.Spots.{is_blank, first_token, first_len, spots_from,
 use Rattle.alta_query.specs.Faults.{Fault, fault}
 use Rattle.alta_query.specs.Machine.{State, step, run, or_fault, cause_in}
 use Rattle.alta_query.specs.declared.fault.Cause.{Cause}
+use Rattle.alta_query.specs.declared.fault.Cause.TheVariants.{Empty}
 use Rattle.alta_query.proofs.Seen.{run_seen, seen_token}
 use Rattle.alta_query.proofs.Sound.{many_none}
 use Rattle.alta_query.proofs.Sound.{step_words}
@@ -83,3 +84,13 @@ step_fault seen s k c p ts us e r same spots some =
     let a : run_seen seen s (at p k ∷ ts) e ≡ r = rw spots at same in
     let b : or_fault p (cause_in s k) (run (step s k) ts e) ≡ r = sym (seen_token seen s p k ts e) ∙ a in
     sym (rw some at b)
+
+-- the text ends behind a token
+pub run_ended : (text : List ℕ) (seen : Bool) (s : State) (p e : ℕ) (r : Result Shape Fault) → length text ≤ p → seen ≡ true → run_seen seen s (spots_from p 0 (drop p text)) e ≡ r → run s [] e ≡ r
+run_ended text seen s p e r past is same =
+    sym (ap (λ b. run_seen b s (spots_from p 0 (drop p text)) e) is ∙ at_drop_all (λ t. run s (spots_from p 0 t) e) text p past) ∙ same
+
+-- the text ends without a token
+pub run_empty : (text : List ℕ) (seen : Bool) (s : State) (p e : ℕ) (r : Result Shape Fault) → length text ≤ p → seen ≡ false → run_seen seen s (spots_from p 0 (drop p text)) e ≡ r → r ≡ Err (fault 0 Empty)
+run_empty text seen s p e r past is same =
+    sym same ∙ ap (λ b. run_seen b s (spots_from p 0 (drop p text)) e) is ∙ at_drop_all (λ t. run_seen false s (spots_from p 0 t) e) text p past

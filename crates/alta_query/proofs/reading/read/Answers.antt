@@ -1,11 +1,13 @@
-use Rattle.std.proofs.Common.{false, length, get_or, ◌∙◌, sym, ap, subst, arith, rules}
+use Rattle.std.proofs.Common.{false, length, get_or, ◌∙◌, sym, ap, subst, arith, inr}
 use Rattle.alta_query.specs.Spots.{is_blank, spots, spots_from}
 use Rattle.alta_query.specs.Kept.{state_of}
 use Rattle.std.proofs.lemmas.Str.{IsCharBoundary-start, IsCharBoundary-after_ascii, IsCharBoundary-from_rest}
 use Rattle.alta_query.specs.Texts.{IsTextState}
 use Rattle.alta_query.proofs.Texts.{start_text, step_text, finish_text}
+use Rattle.alta_query.specs.Answer.{Gives}
+use Rattle.alta_query.proofs.Ended.{ran_out}
 use Rattle.alta_query.proofs.Seen.{run_seen, seen_start}
-use Rattle.alta_query.proofs.Places.{spots_token, spots_blank, blank_low, rest_within, step_kept}
+use Rattle.alta_query.proofs.Places.{spots_token, spots_blank, blank_low, rest_within, step_kept, step_fault, run_ended, run_empty}
 use Rattle.alta_query.proofs.reading.read.Goals as goal
 
 pub loop-at-init : goal.loop-at-init
@@ -22,7 +24,7 @@ pub loop-at-preserved : goal.loop-at-preserved
 loop-at-preserved c =
     let solid = sym (ap is_blank (ap (λ bytes. get_or bytes c.loop-at.at 0) c.as_bytes.ensures.value)) ∙ sym c.blank.ensures ∙ c.if-blank.false in
     let front = spots_token c.args.text.now c.loop-at.at c.in_ok-piece.piece.len _ c.loop-at-test.true solid c.in_ok-piece.ensures.positive (rw c.range_from.ensures.value at c.in_ok-piece.ensures.len) (rw c.range_from.ensures.value at c.in_ok-piece.ensures.token) in
-    let kept = step_kept _ _ _ _ _ _ _ _ _ c.loop-at.invariant.same front (sym c.cause.ensures ∙ search rules) c.in_ok-step.ensures.state in
+    let kept = step_kept _ _ _ _ _ _ _ _ _ c.loop-at.invariant.same front (sym c.cause.ensures ∙ c.in_default.is) c.in_ok-step.ensures.state in
     record {
       within = rest_within _ _ _ c.loop-at-test.true (rw c.range_from.ensures.value at c.in_ok-piece.ensures.within);
       boundary = IsCharBoundary-from_rest _ _ _ c.loop-at.invariant.within (rw c.range_from.ensures.value at c.in_ok-piece.ensures.boundary);
@@ -45,3 +47,26 @@ loop-at-preserved-then-blank c =
 pub returns-clause-text : goal.returns-clause-text
 returns-clause-text c =
     finish_text c.finish.result (state_of c.loop-at.machine) _ c.finish.ensures c.loop-at.invariant.texts
+
+pub returns-clause-reading : goal.returns-clause-reading
+returns-clause-reading c =
+    subst (Gives c.finish.result) (run_ended c.args.text.now _ _ _ _ _ c.loop-at-test.false c.if-not-seen.false c.loop-at.invariant.same) c.finish.ensures
+
+pub returns-then-not-seen-clause-reading : goal.returns-then-not-seen-clause-reading
+returns-then-not-seen-clause-reading c =
+    inr (run_empty c.args.text.now _ _ _ _ _ c.loop-at-test.false c.if-not-seen.true c.loop-at.invariant.same)
+
+pub returns-in-Some-clause-reading : goal.returns-in-Some-clause-reading
+returns-in-Some-clause-reading c =
+    let solid = sym (ap is_blank (ap (λ bytes. get_or bytes c.loop-at.at 0) c.as_bytes.ensures.value)) ∙ sym c.blank.ensures ∙ c.if-blank.false in
+    let front = spots_token c.args.text.now c.loop-at.at c.in_ok-piece.piece.len _ c.loop-at-test.true solid c.in_ok-piece.ensures.positive (rw c.range_from.ensures.value at c.in_ok-piece.ensures.len) (rw c.range_from.ensures.value at c.in_ok-piece.ensures.token) in
+    inr (step_fault _ _ _ _ _ _ _ _ _ c.loop-at.invariant.same front (sym c.in-Some.ensures))
+
+pub returns-in_err-piece-clause-reading : goal.returns-in_err-piece-clause-reading
+returns-in_err-piece-clause-reading c = ran_out _ _ c.from_residual.ensures.1
+
+pub returns-in_err-step-clause-reading : goal.returns-in_err-step-clause-reading
+returns-in_err-step-clause-reading c = ran_out _ _ c.from_residual-in_err-step.ensures.1
+
+pub step-requires : goal.step-requires
+step-requires c = sym c.cause.ensures ∙ c.in_default.is

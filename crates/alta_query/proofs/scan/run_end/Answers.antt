@@ -1,0 +1,16 @@
+use Rattle.std.proofs.Common.{sym, ◌∙◌, arith}
+use Rattle.alta_query.specs.Spots.{is_run}
+use Rattle.alta_query.proofs.Walks.{passed, stopped, ended}
+use Rattle.alta_query.proofs.scan.run_end.Goals as goal
+
+pub loop-n-preserved : goal.loop-n-preserved
+loop-n-preserved c = record {
+  within = omega arith;
+  same = passed is_run c.args.rest.now c.loop-n.n c.loop-n-test.true (sym c.runs.ensures ∙ c.if-runs.true) c.loop-n.invariant.same;
+}
+
+pub returns-else-runs-clause-len : goal.returns-else-runs-clause-len
+returns-else-runs-clause-len c = stopped is_run c.args.rest.now c.loop-n.n c.loop-n-test.true (sym c.runs.ensures ∙ c.if-runs.false) c.loop-n.invariant.same
+
+pub returns-after-loop-n-clause-len : goal.returns-after-loop-n-clause-len
+returns-after-loop-n-clause-len c = ended is_run c.args.rest.now c.loop-n.n c.loop-n-test.false c.loop-n.invariant.same
