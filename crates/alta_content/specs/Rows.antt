@@ -1,5 +1,5 @@
 -- The rows of documents: where each stands, and which may stand one behind the other.
-use Rattle.std.specs.Prelude.{ℕ, ◌+◌, ◌-◌, ◌<◌, ◌≤◌, not, nat_eq, Bool, List, [], ◌∷◌, map}
+use Rattle.std.specs.Prelude.{◌≡◌, ℕ, ◌+◌, ◌-◌, ◌<◌, ◌≤◌, not, nat_eq, Bool, List, [], ◌∷◌, length, map, slice_index}
 use Rattle.std.specs.List.{All, filter, list_any}
 use Rattle.alta_codec.specs.declared.location.TheConstants.{TOP}
 use Rattle.alta_codec.specs.Name.{IsName}
@@ -60,6 +60,10 @@ pub record IsPlaced (row : DocRow) : Type 0 where
 abbrev pub RowsRise : List DocRow → Type 0
 RowsRise [] = Unit {0}
 RowsRise (row ∷ more) = IsPlaced row × All (λ r. end_of row < r.first) more × RowsRise more
+
+-- each document begins right behind the end of the one before, so that no location between the first and the last is left out
+abbrev pub AreJoined : List DocRow → Type 0
+AreJoined documents = (i : ℕ) → i + 1 < length documents → slice_index (firsts_of documents) (i + 1) ≡ slice_index (ends_of documents) i + 1
 
 -- ---- rows that are left
 

@@ -2,7 +2,7 @@
 ghost use Rattle.std.specs.Prelude.{◌≡◌, ◌<◌, ◌↔◌, [], map, length, IsTrue, IfOk};
 ghost use Rattle.alta_codec.specs.Rising.{IsRising};
 ghost use Rattle.alta_codec.specs.declared.location.TheConstants.{TOP};
-ghost use Rattle.alta_content.specs.Rows.{end_of};
+ghost use Rattle.alta_content.specs.Rows.{AreJoined, end_of};
 
 use crate::document::DocRow;
 use alta_codec::Loc;
@@ -11,24 +11,25 @@ use std::marker::Model;
 use std::rc::Rc;
 
 /// The rows of the documents of a level, in rising order of their ends. The ends stand beside them in a list of their own, so
-/// that a look-up reads eight bytes a row. Contracts see the list of rows.
+/// that a look-up reads eight bytes a row. It is kept whether they stand side by side. Contracts see the list of rows.
 #[derive(Drop)]
 pub struct LevelRows {
     rows: Vec<DocRow>,
     ends: Vec<Loc>,
+    joined: bool,
 }
 
 impl Model for LevelRows {
-    ghost use Rattle.std.specs.Prelude.{List, map, ◌≡◌};
+    ghost use Rattle.std.specs.Prelude.{List, map, ◌≡◌, IsTrue};
     ghost use Rattle.alta_codec.specs.Rising.{IsRising};
-    ghost use Rattle.alta_content.specs.Rows.{end_of};
+    ghost use Rattle.alta_content.specs.Rows.{AreJoined, end_of};
     ghost use Rattle.alta_content.specs.declared.document.DocRow.{DocRow};
 
     ghost Value = { List DocRow };
 
     ghost view = { λ r. r.rows.items };
 
-    ghost invariant = { λ r. (r.ends.items ≡ map end_of r.rows.items) × IsRising (map end_of r.rows.items) };
+    ghost invariant = { λ r. (r.ends.items ≡ map end_of r.rows.items) × IsRising (map end_of r.rows.items) × (IsTrue r.joined → AreJoined r.rows.items) };
 }
 
 /// The location of a document's last cell.
@@ -50,6 +51,20 @@ pub fn ends_of(alloc: Global, rows: &[DocRow]) -> Result<Vec<Loc>, AllocError>
         ends.push(end_of(row))?;
     }
     Ok(ends)
+}
+
+/// Whether each document begins right behind the end of the one before.
+fn are_joined(rows: &[DocRow], ends: &[Loc]) -> bool
+    requires ends { ends.now ≡ map end_of rows.now }
+    requires rising { IsRising ends.now }
+    ensures { IsTrue result → AreJoined rows.now }
+{
+    for i in 1..rows.len() {
+        if rows[i].first != ends[i - 1] + 1 {
+            return false;
+        }
+    }
+    true
 }
 
 /// Equal rows, each with a name in memory of its own.
@@ -79,7 +94,8 @@ impl LevelRows {
         requires ends { ends.items ≡ map end_of rows.items }
         ensures { result ≡ rows.items }
     {
-        LevelRows { rows, ends }
+        let joined = are_joined(&rows, &ends);
+        LevelRows { rows, ends, joined }
     }
 
     /// The rows in a vector of their own: the vector that holds them, where nobody else keeps them, and else equal rows. Fails for
@@ -126,6 +142,13 @@ impl LevelRows {
         ensures { result.now ≡ self.now }
     {
         &self.rows
+    }
+
+    /// Whether each document is known to begin right behind the end of the one before.
+    pub fn is_joined(&self) -> bool
+        ensures { IsTrue result → AreJoined self.now }
+    {
+        self.joined
     }
 
     /// The ends of the documents.
