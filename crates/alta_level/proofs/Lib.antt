@@ -13,5 +13,6 @@ pub mod Spelled
 pub mod Once
 pub mod Decided
 pub mod Walks
+pub mod Joined
 pub mod DecodedTo
 pub mod BesideRows

@@ -37,7 +37,7 @@ fits_passed documents ends list out count last (Some from) f r a = λ z i k l w.
     let p = (f.ranges z).1 i l in
     ⊎_elim (λ first. let e : k ≡ 0 = omega arith in omega (arith, p, a, ap (λ j. get_or out j 0) e)) (λ later. omega (arith, p, a, r.rising 0 k (omega arith) w)) (cases_lt k 1)
 
-ends_many : (documents : List DocRow) → length (ends_of documents) ≡ length documents
+pub ends_many : (documents : List DocRow) → length (ends_of documents) ≡ length documents
 ends_many [] = refl
 ends_many (d ∷ ds) = ap (λ n. suc n) (ends_many ds)
 
@@ -115,7 +115,7 @@ at_zero xs k = let e : k ≡ 0 + k = omega arith in ap (λ i. get_or xs i 0) e
 
 -- ---- at the end
 
-ordered : (before : Before) (rows : List DocRow) → AreDocumentsBehind before rows → (i : ℕ) → i < length rows → get_or (firsts_of rows) i 0 ≤ get_or (ends_of rows) i 0
+pub ordered : (before : Before) (rows : List DocRow) → AreDocumentsBehind before rows → (i : ℕ) → i < length rows → get_or (firsts_of rows) i 0 ≤ get_or (ends_of rows) i 0
 unfolding AreDocumentsBehind
 ordered before [] h i l = absurd (omega arith)
 ordered before (row ∷ rows) h zero l = omega (arith, h.0.some_cells)

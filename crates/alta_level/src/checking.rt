@@ -13,7 +13,7 @@ use crate::comparing::compare;
 use crate::decoding::{DecodeFault, decode};
 use crate::ranges::{fits, is_end_term};
 use crate::stored::StoredList;
-use crate::walking::walk_list;
+use crate::walking::test_list;
 use alta_codec::Loc;
 use alta_content::LevelRows;
 use alta_table::LevelFault;
@@ -100,7 +100,7 @@ fn tested(list: &StoredList<'_>, documents: &LevelRows) -> Result<Bounds, LevelF
     ensures lean { result ≡ Err LevelFault.Memory → ⊥ }
 {
     let ends = is_end_term(list.term);
-    match walk_list(list.stream, list.summary, documents, ends) {
+    match test_list(list.stream, list.summary, documents, ends) {
         Ok(walked) => {
             if walked.bounds.count != list.count {
                 return Err(misfit(list));

@@ -11,7 +11,7 @@ use alta_codec::Loc;
 use alta_content::LevelRows;
 
 // The location of the first cell of a document.
-fn first_at(documents: &LevelRows, row: usize) -> Loc
+pub(crate) fn first_at(documents: &LevelRows, row: usize) -> Loc
     requires { row < length documents.now }
     ensures { result ≡ slice_index (firsts_of documents.now) row }
 {

@@ -1,17 +1,18 @@
 // A stream beside the rows of its summary and the ranges of documents, each number read once and none kept.
-ghost use Rattle.std.specs.Prelude.{◌↔◌, IfErr, IfOk, IsTrue};
-ghost use Rattle.alta_content.specs.Rows.{AreDocuments};
+ghost use Rattle.std.specs.Prelude.{◌↔◌, List, ℕ, false, IfErr, IfOk, IsTrue};
+ghost use Rattle.alta_codec.specs.Rising.{IsRising};
+ghost use Rattle.alta_content.specs.Rows.{AreDocuments, AreJoined};
 ghost use Rattle.alta_level.specs.Coded.{IsCoded};
 ghost use Rattle.alta_level.specs.Fitting.{AreFitting};
 ghost use Rattle.alta_postings.specs.Deltas.{decoded_list};
 ghost use Rattle.alta_words.specs.Fault.{IsPostingFault};
 ghost use Rattle.alta_words.specs.Word.{HasBounds, IsPosting};
 
-use crate::ranges::{is_fit, row_after};
+use crate::ranges::{first_at, is_fit, row_after};
 use alta_content::LevelRows;
 use alta_postings::fill_block;
 use alta_summary::Summary;
-use alta_words::{Bounds, Compared, PostingFault, summary_fault};
+use alta_words::{Bounds, Compared, PostingFault, check, summary_fault};
 use arrayvec::ArrayVec;
 
 /// What was read of a list whose stream and summary belong together.
@@ -57,10 +58,9 @@ fn walk(
     }
 }
 
-/// Reads a stream and a summary once each, as [`alta_words::check`] does, and looks at each location beside the documents:
-/// whether it lies in the range of one, and, where they have to be the `ends` of the documents, whether they are. It takes
-/// no memory.
-pub fn walk_list(
+// Reads a stream and a summary once each, and looks at each location beside the documents: whether it lies in the range of one,
+// and, where they have to be the `ends` of the documents, whether they are.
+fn walk_list(
     stream: &[u8],
     summary: &[u8],
     documents: &LevelRows,
@@ -77,4 +77,71 @@ pub fn walk_list(
         Ok(table) => walk(stream, &table, documents, ends),
         Err(wrong) => Err(summary_fault(stream, summary, wrong.place)),
     }
+}
+
+// Whether all locations of a list with these bounds lie in the ranges of documents that stand side by side: whether the first and
+// the last do.
+fn are_within(documents: &LevelRows, bounds: &Bounds) -> bool
+    requires documents { AreDocuments documents.now }
+    requires joined { AreJoined documents.now }
+    ensures { (list : List ℕ) → IsRising list → HasBounds list bounds.now.count bounds.now.first bounds.now.last → IsTrue result ↔ AreFitting documents.now false list }
+{
+    if bounds.count == 0 {
+        return true;
+    }
+    let ends = documents.ends();
+    if ends.is_empty() {
+        return false;
+    }
+    if bounds.first < first_at(documents, 0) {
+        return false;
+    }
+    if ends[ends.len() - 1] < bounds.last {
+        return false;
+    }
+    true
+}
+
+// The same as `walk_list` beside documents that stand side by side, of a term that is not `D`. No location is looked at beside them.
+fn walk_joined(stream: &[u8], summary: &[u8], documents: &LevelRows) -> Result<Walked, PostingFault>
+    requires documents { AreDocuments documents.now }
+    requires joined { AreJoined documents.now }
+    ensures coded { IfOk result (λ walked. IsCoded stream.now summary.now (decoded_list stream.now)) }
+    ensures posting { IfOk result (λ walked. IsPosting stream.now summary.now walked.bounds.rows) }
+    ensures bounds { IfOk result (λ walked. HasBounds (decoded_list stream.now) walked.bounds.count walked.bounds.first walked.bounds.last) }
+    ensures fits { IfOk result (λ walked. IsTrue walked.fits ↔ AreFitting documents.now false (decoded_list stream.now)) }
+    ensures fault { IfErr result (IsPostingFault stream.now summary.now) }
+{
+    match check(stream, summary) {
+        Ok(bounds) => Ok(Walked {
+            fits: are_within(documents, &bounds),
+            bounds,
+        }),
+        Err(fault) => Err(fault),
+    }
+}
+
+/// Tests a stream and a summary as [`alta_words::check`] does, and whether each location lies in the range of a document, and, where
+/// they have to be the `ends` of the documents, whether they are. Where the documents stand side by side, the first location and
+/// the last tell it of all. It takes no memory.
+pub fn test_list(
+    stream: &[u8],
+    summary: &[u8],
+    documents: &LevelRows,
+    ends: bool,
+) -> Result<Walked, PostingFault>
+    requires documents { AreDocuments documents.now }
+    ensures coded { IfOk result (λ walked. IsCoded stream.now summary.now (decoded_list stream.now)) }
+    ensures posting { IfOk result (λ walked. IsPosting stream.now summary.now walked.bounds.rows) }
+    ensures bounds { IfOk result (λ walked. HasBounds (decoded_list stream.now) walked.bounds.count walked.bounds.first walked.bounds.last) }
+    ensures fits { IfOk result (λ walked. IsTrue walked.fits ↔ AreFitting documents.now ends (decoded_list stream.now)) }
+    ensures fault { IfErr result (IsPostingFault stream.now summary.now) }
+{
+    if ends {
+        return walk_list(stream, summary, documents, ends);
+    }
+    if documents.is_joined() {
+        return walk_joined(stream, summary, documents);
+    }
+    walk_list(stream, summary, documents, ends)
 }
