@@ -82,7 +82,7 @@ looked_at tells state disk session result steps tasks text lawful can memory res
   unchanged = if_all result _ (λ r refusal. (refl, refl));
   only = err_weaker result (λ e. e ≡ Memory) _ (λ e is. inl (inl is)) memory;
   full = λ need gap tell is. let wanting : Full need gap ≡ Memory = is_memory result (Full need gap) memory is in absurd cc;
-  broken = λ place tell is. let wanting : Damaged place ≡ Memory = is_memory result (Damaged place) memory is in absurd cc;
+  still = λ place tell is. let wanting : Damaged place ≡ Memory = is_memory result (Damaged place) memory is in absurd cc;
   cause = λ is. let wanting : Disk ≡ Memory = is_memory result Disk memory is in absurd cc;
   faults = omega arith;
   same_limit = refl;
@@ -117,7 +117,7 @@ answers_by tells state disk disk_now session session_now result steps by tasks a
   unchanged = answers.unchanged;
   only = answers.only;
   full = answers.full;
-  broken = answers.broken;
+  still = answers.still;
   cause = answers.cause;
   faults = answers.faults;
   same_limit = answers.same_limit;
@@ -132,7 +132,7 @@ answers_failed tells state disk disk_now session session_now later e steps tasks
   unchanged = tt;
   only = answers.only;
   full = answers.full;
-  broken = answers.broken;
+  still = answers.still;
   cause = answers.cause;
   faults = answers.faults;
   same_limit = answers.same_limit;
@@ -170,7 +170,7 @@ changed tells state disk disk_now session session_now result change tasks text r
   unchanged = IfOk-weaker result (λ r. r ≡ text) (λ r. IsRefusal r → (disk_now ≡ disk) × (session_now ≡ session)) (λ r is refusal. absurd (no_refusal (subst IsRefusal is refusal))) reply.reply;
   only = err_weaker result (λ e. e ≡ Memory) _ (λ e is. inl (inl is)) reply.memory;
   full = λ need gap tell is. let wanting : Full need gap ≡ Memory = is_memory result (Full need gap) reply.memory is in absurd cc;
-  broken = λ place tell is. let wanting : Damaged place ≡ Memory = is_memory result (Damaged place) reply.memory is in absurd cc;
+  still = λ place tell is. let wanting : Damaged place ≡ Memory = is_memory result (Damaged place) reply.memory is in absurd cc;
   cause = λ is. let wanting : Disk ≡ Memory = is_memory result Disk reply.memory is in absurd cc;
   faults = faults;
   same_limit = same_limit;
@@ -201,7 +201,7 @@ turned tells state disk session cursors result steps tasks turn lawful can memor
       unchanged = IfOk-weaker result (λ reply. IsRefusal reply → cursors ≡ session.cursors) _ (λ reply same refusal. (refl, ap (with_cursors session) (same refusal))) refused;
       only = err_weaker result (λ e. e ≡ Memory) _ (λ e is. inl (inl is)) memory;
       full = λ need gap tell is. let wanting : Full need gap ≡ Memory = is_memory result (Full need gap) memory is in absurd cc;
-      broken = λ place tell is. let wanting : Damaged place ≡ Memory = is_memory result (Damaged place) memory is in absurd cc;
+      still = λ place tell is. let wanting : Damaged place ≡ Memory = is_memory result (Damaged place) memory is in absurd cc;
       cause = λ is. let wanting : Disk ≡ Memory = is_memory result Disk memory is in absurd cc;
       faults = omega arith;
       same_limit = refl;

@@ -31,7 +31,6 @@ module _ {C : Type 0} (take_faults give_faults : C → ℕ) where
   pub caused_on : (tells : Type 0) (a b c : C) (d e f : DiskState) (status : Status) → KeepsCounts take_faults give_faults a b d e → IsCaused tells give_faults b c e f status → IsCaused tells give_faults a c d f status
   caused_on tells a b c d e f status one two = record {
     full = two.full;
-    broken = two.broken;
     give_fault = λ is. rose_later (give_faults a) (give_faults b) (give_faults c) one.gives (two.give_fault is);
     disk_fault = λ is. rose_later d.faults e.faults f.faults one.faults (two.disk_fault is);
   }
@@ -40,7 +39,6 @@ module _ {C : Type 0} (take_faults give_faults : C → ℕ) where
 pub caused_memory : {C : Type 0} (tells : Type 0) (give_faults : C → ℕ) (a b : C) (d e : DiskState) (status : Status) → status ≡ Memory → IsCaused tells give_faults a b d e status
 caused_memory tells give_faults a b d e status memory = record {
   full = λ need gap tell is. absurd cc;
-  broken = λ place tell is. absurd cc;
   give_fault = λ is. absurd cc;
   disk_fault = λ is. absurd cc;
 }
@@ -48,7 +46,6 @@ caused_memory tells give_faults a b d e status memory = record {
 pub caused_input : {C : Type 0} (tells : Type 0) (give_faults : C → ℕ) (a b : C) (d e : DiskState) (status : Status) → status ≡ TakeFault → IsCaused tells give_faults a b d e status
 caused_input tells give_faults a b d e status failed = record {
   full = λ need gap tell is. absurd cc;
-  broken = λ place tell is. absurd cc;
   give_fault = λ is. absurd cc;
   disk_fault = λ is. absurd cc;
 }

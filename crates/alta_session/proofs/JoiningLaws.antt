@@ -1,25 +1,25 @@
 -- Laws of what lines do to levels.
-use Rattle.std.proofs.Common.{◌≡◌, ℕ, List, Result, Ok, Err, refl, ap, subst, sym, ◌∙◌}
-use Rattle.std.specs.Prelude.{IfErr, [], cond, nat_le}
+use Rattle.std.proofs.Common.{◌≡◌, ℕ, List, Result, Ok, Err, refl, subst, sym}
+use Rattle.std.specs.Prelude.{IfErr, Option, Some}
 use Rattle.alta_disk.specs.Disk.{DiskState}
 use Rattle.alta_images.specs.Broken.{IsBrokenAmong}
-use Rattle.alta_images.specs.Work.{enters}
-use Rattle.alta_journal.specs.declared.entry.Entry.TheVariants.{Delete}
+use Rattle.alta_images.specs.Work.{Task}
+use Rattle.alta_meta.specs.declared.document.State.{State}
 use Rattle.alta_model.specs.Lines.{Reading}
-use Rattle.alta_session.specs.Joining.{IdlesIn, Works, joins_in}
-use Rattle.alta_session.specs.Machine.{SearchesIn}
-use Rattle.alta_store.specs.Agreement.{room_of}
-use Rattle.alta_store.specs.Calls.{flush_joins, joined_by}
+use Rattle.alta_session.specs.Joining.{IdlesIn, Works, joins_where}
+use Rattle.alta_session.specs.Machine.{SearchesIn, started_at}
+use Rattle.alta_session.specs.Tasks.{task_in}
+use Rattle.alta_store.specs.Agreement.{Knows}
+use Rattle.alta_store.specs.Calls.{joined_by}
 use Rattle.alta_store.specs.declared.fault.StoreFault.{StoreFault}
 use Rattle.alta_store.specs.declared.fault.StoreFault.TheVariants.{Damaged, Memory}
 use Rattle.alta_store.specs.declared.store.Store.{Store}
 use Rattle.alta_session.proofs.AnsweringLaws.{is_memory}
-use Rattle.alta_store.proofs.Commits.{delete_bytes}
 
 -- no disk was called, and memory alone may have been wanting
 pub works_still : {D : Type 0} (tells : Type 0) (state : D → DiskState) (disk : D) (store : Store) (reading : Reading) (result : Result (List ℕ) StoreFault) → IfErr result (λ e. e ≡ Memory) → Works tells state disk disk store reading result
 works_still tells state disk store reading result memory = record {
-  joins = λ other place tell is. let wanting : Damaged place ≡ Memory = is_memory result (Damaged place) memory is in absurd cc;
+  joins = λ other s place knows tell is. let wanting : Damaged place ≡ Memory = is_memory result (Damaged place) memory is in absurd cc;
   idle = λ idle. (refl, memory);
 }
 
@@ -30,7 +30,7 @@ works_same {D} tells state disk disk_now store reading result same memory = subs
 -- it was done, and memory alone may have been wanting behind it
 pub works_done : {D : Type 0} (tells : Type 0) (state : D → DiskState) (disk disk_now : D) (store : Store) (reading : Reading) (result : Result (List ℕ) StoreFault) → IfErr result (λ e. e ≡ Memory) → (IdlesIn store reading → disk_now ≡ disk) → Works tells state disk disk_now store reading result
 works_done tells state disk disk_now store reading result memory idle = record {
-  joins = λ other place tell is. let wanting : Damaged place ≡ Memory = is_memory result (Damaged place) memory is in absurd cc;
+  joins = λ other s place knows tell is. let wanting : Damaged place ≡ Memory = is_memory result (Damaged place) memory is in absurd cc;
   idle = λ here. (idle here, memory);
 }
 
@@ -41,18 +41,18 @@ failed_done fault result is done = cc
 -- it searches
 pub works_searching : {D : Type 0} (tells : Type 0) (state : D → DiskState) (disk disk_now : D) (store : Store) (reading : Reading) (result : Result (List ℕ) StoreFault) → SearchesIn reading → (IdlesIn store reading → ⊥) → Works tells state disk disk_now store reading result
 works_searching tells state disk disk_now store reading result searches busy = record {
-  joins = λ other place tell is. absurd (other searches);
+  joins = λ other s place knows tell is. absurd (other searches);
   idle = λ here. absurd (busy here);
 }
 
 -- it failed
-pub works_failed : {D : Type 0} (tells : Type 0) (state : D → DiskState) (disk disk_now : D) (store : Store) (reading : Reading) (fault : StoreFault) → ((place : ℕ) → tells → fault ≡ Damaged place → IsBrokenAmong (joins_in store reading) (state disk).content place) → (IdlesIn store reading → ⊥)
+pub works_failed : {D : Type 0} (tells : Type 0) (state : D → DiskState) (disk disk_now : D) (store : Store) (reading : Reading) (fault : StoreFault) → ((s : State) (place : ℕ) → Knows store s → tells → fault ≡ Damaged place → IsBrokenAmong (joins_where store (task_in (started_at s) reading)) (state disk).content place) → (IdlesIn store reading → ⊥)
     → Works tells state disk disk_now store reading (Err fault)
 works_failed tells state disk disk_now store reading fault broken busy = record {
-  joins = λ other place tell is. let same : fault ≡ Damaged place = cc in broken place tell same;
+  joins = λ other s place knows tell is. let same : fault ≡ Damaged place = cc in broken s place knows tell same;
   idle = λ here. absurd (busy here);
 }
 
--- to delete takes as many bytes for each number
-pub delete_joins : (store : Store) (number : ℕ) → joined_by store (enters (Delete number)) ≡ joined_by store (enters (Delete 0))
-delete_joins store number = ap (λ (n : ℕ). cond (nat_le n (room_of store)) [] (flush_joins store)) (delete_bytes number ∙ sym (delete_bytes 0))
+-- the levels of the task that is asked
+pub joins_task : (store : Store) (image : List ℕ) (place : ℕ) (asked : Option Task) (task : Task) → asked ≡ Some task → IsBrokenAmong (joined_by store task) image place → IsBrokenAmong (joins_where store asked) image place
+joins_task store image place asked task is broken = subst (λ (t : Option Task). IsBrokenAmong (joins_where store t) image place) (sym is) broken

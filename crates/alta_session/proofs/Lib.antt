@@ -3,6 +3,7 @@ pub mod AgreementLaws
 pub mod AnsweringLaws
 pub mod AskLaws
 pub mod CursorLaws
+pub mod DamageLaws
 pub mod DeletingLaws
 pub mod DemoLaws
 pub mod EndingLaws

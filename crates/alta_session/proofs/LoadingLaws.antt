@@ -33,7 +33,7 @@ use Rattle.alta_query.specs.declared.test.Test.{Test}
 use Rattle.alta_search.specs.Plans.{tests_of}
 use Rattle.alta_search.specs.declared.cursors.OpenCursor.{OpenCursor}
 use Rattle.alta_search.specs.declared.cursors.TheConstants.{CURSORS}
-use Rattle.alta_session.specs.Loading.{HasBrokenList, Loads, Queries, loads_of_text, newest_in, of_load, open_loads, query_loads, search_loads, text_loads}
+use Rattle.alta_session.specs.Loading.{Loads, Queries, loads_of_text, newest_in, of_load, open_loads, query_loads, search_loads, text_loads}
 use Rattle.alta_session.specs.Machine.{IsRefusal}
 use Rattle.alta_session.specs.Searching.{IsNoQuery}
 use Rattle.alta_session.proofs.StatusLaws.{ok_answers, err_answers}
@@ -160,78 +160,6 @@ text_found store text q is = ap (query_loads (levels_of store) (newest_in store)
 pub text_none : (store : Store) (text : List ℕ) (f : Fault) → query_of text ≡ Err f → text_loads store text ≡ []
 unfolding loads_of_text
 text_none store text f is = ap (query_loads (levels_of store) (newest_in store)) is
-
--- ---- the levels of lists
-
--- each list is one of these levels, and one of its rows
-abbrev pub AreOf : List Tables → List Load → Type 0
-AreOf levels [] = Unit {0}
-AreOf levels (load ∷ loads) = Contains levels load.level × (load.row < length load.level.terms) × AreOf levels loads
-
-both_of : (levels : List Tables) (a b : List Load) → AreOf levels a → AreOf levels b → AreOf levels (a ++ b)
-both_of levels [] b one two = two
-both_of levels (x ∷ a) b one two = (one.0, one.1, both_of levels a b one.2 two)
-
-row_below : (i : ℕ) (rows : List TermRow) (term : List ℕ) (row : ℕ) → row_from i rows term ≡ Some row → row < i + length rows
-row_below i [] term row is = absurd cc
-row_below i (r ∷ rows) term row is = elim (bytes_eq r.term term) as (λ (b : Bool). cond b (Some i) (row_from (i + 1) rows term) ≡ Some row → row < i + length (r ∷ rows)) [
-  | true ↦ λ e. let same : i ≡ row = cc in omega (arith, same)
-  | false ↦ λ e. omega (arith, row_below (i + 1) rows term row e)
-] is
-
-of_option : (levels : List Tables) (number : ℕ) (level : Tables) (o : Option ℕ) → Contains levels level → ((row : ℕ) → o ≡ Some row → row < length level.terms) → AreOf levels (load_at number level o)
-of_option levels number level None among within = tt
-of_option levels number level (Some row) among within = (among, within row refl, tt)
-
-of_level : (levels : List Tables) (number : ℕ) (level : Tables) (term : List ℕ) → Contains levels level → AreOf levels (load_in number level term)
-of_level levels number level term among =
-    of_option levels number level (row_from 0 level.terms term) among (λ row is. omega (arith, row_below 0 level.terms term row is))
-
-first_is : (x : Tables) (xs : List Tables) → Contains (x ∷ xs) x
-first_is x xs = (zero, omega arith, refl)
-
-later_is : (x : Tables) (xs : List Tables) (y : Tables) → Contains xs y → Contains (x ∷ xs) y
-later_is x xs y (k, within, is) = (suc k, omega (arith, within), is)
-
-of_levels : (levels rest : List Tables) (number : ℕ) (term : List ℕ) → ((level : Tables) → Contains rest level → Contains levels level) → AreOf levels (loads_from number rest term)
-of_levels levels [] number term among = tt
-of_levels levels (level ∷ rest) number term among =
-    both_of levels (load_in number level term) (loads_from (number + 1) rest term) (of_level levels number level term (among level (first_is level rest)))
-    (of_levels levels rest (number + 1) term (λ l here. among l (later_is level rest l here)))
-
-of_terms : (levels : List Tables) (terms : List (List ℕ)) → AreOf levels (loads_of levels terms)
-of_terms levels [] = tt
-of_terms levels (term ∷ terms) = both_of levels (loads_from 0 levels term) (loads_of levels terms) (of_levels levels levels 0 term (λ l here. here)) (of_terms levels terms)
-
-of_tests : (levels : List Tables) (newest : Content) (tests : List Test) → AreOf levels (loads_of_tests levels newest tests)
-of_tests levels newest [] = tt
-of_tests levels newest (test ∷ tests) = both_of levels (loads_met levels newest test) (loads_of_tests levels newest tests) (of_terms levels (terms_met levels newest test)) (of_tests levels newest tests)
-
-of_query : (levels : List Tables) (newest : Content) (r : Result Shape Fault) → AreOf levels (query_loads levels newest r)
-of_query levels newest (Ok q) = of_tests levels newest (each_once (tests_of (plan_of q)))
-of_query levels newest (Err f) = tt
-
-pub of_text : (store : Store) (text : List ℕ) → AreOf (levels_of store) (text_loads store text)
-unfolding loads_of_text
-of_text store text = of_query (levels_of store) (newest_in store) (query_of text)
-
-pub of_either : (levels : List Tables) (b : Bool) (loads : List Load) → AreOf levels loads → AreOf levels (cond b [] loads)
-of_either levels true loads are = tt
-of_either levels false loads are = are
-
--- the first fault among them is one of their levels'
-fault_among : (levels : List Tables) (image : List ℕ) (loads : List Load) (p : ℕ) → AreOf levels loads → IsFirstFault image loads p → IsBrokenAmong levels image p
-fault_among levels image [] p of_them fault = absurd fault
-fault_among levels image (load ∷ loads) p of_them (inl fault) = record { level = load.level; among = of_them.0; broken = fault_of_level load.level image load.row p of_them.1 fault }
-fault_among levels image (load ∷ loads) p of_them (inr later) = fault_among levels image loads p of_them.2 later.1
-
--- where store and image hold the same
-pub broken_list : (store : Store) (image : List ℕ) (loads : List Load) (p : ℕ) → KeepsOpened store image → AreOf (levels_of store) loads → IsFirstFault image loads p → HasBrokenList image p
-broken_list store image loads p holds of_them fault = record {
-  opened = holds.opened;
-  is = holds.is;
-  broken = subst (λ (l : List Tables). IsBrokenAmong l image p) holds.keeps.levels (fault_among (levels_of store) image loads p of_them fault);
-}
 
 -- ---- the disk is as it was
 pub agrees_read : (tells : Type 0) (bytes : ℕ) (d e : DiskState) (store : Store) → IsLawful tells d → Agrees tells d store → Reads tells bytes d e → Agrees tells e store

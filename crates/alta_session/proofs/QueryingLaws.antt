@@ -19,14 +19,14 @@ use Rattle.alta_search.specs.declared.cursors.TheConstants.{CURSORS}
 use Rattle.alta_search.proofs.CursorAnswers.{same_length}
 use Rattle.alta_session.specs.Answering.{Answers, CanAnswer}
 use Rattle.alta_session.specs.Cursors.{Turn, Turns, opening, opened_by}
-use Rattle.alta_session.specs.Loading.{HasBrokenList, Queries}
+use Rattle.alta_session.specs.Loading.{Queries}
 use Rattle.alta_session.specs.Machine.{IsRefusal, Machine, turned_by}
 use Rattle.alta_session.specs.Searching.{IsNoQuery, answer_lines, counted_by, counting, found_by, found_line, searching}
 use Rattle.alta_session.specs.Tasks.{IsBy}
 use Rattle.alta_session.specs.declared.session.Session.{Session}
 use Rattle.alta_session.proofs.AnsweringLaws.{answers_by, if_so, ok_weaker, with_cursors}
 use Rattle.alta_session.proofs.CursorLaws.{found_other, cursor_other, lines_other, no_refusal}
-use Rattle.alta_session.proofs.LoadingLaws.{AreOf, agrees_read, broken_list}
+use Rattle.alta_session.proofs.LoadingLaws.{agrees_read}
 use Rattle.alta_session.proofs.TaskLaws.{worked_none}
 use Rattle.alta_store.specs.Agreement.{Agrees, levels_of}
 use Rattle.alta_store.specs.Answers.{IsOutside}
@@ -63,7 +63,7 @@ only_so (Err e) (inr damaged) = inr (inr damaged)
 -- ---- a call that answers a query, with this turn of the machine
 pub queried : {D : Type 0} (tells : Type 0) (state : D → DiskState) (disk disk_now : D) (session : Session) (cursors : List OpenCursor) (loads : List Load) (idle : Type 0) (result : Result (List ℕ) StoreFault)
     (steps : Machine → Machine × List ℕ) (tasks : Machine → Option Task) (turn : State → List OpenAnswers → Turn) → IsLawful tells (state disk) → CanAnswer tells (state disk) session
-    → Queries tells state disk disk_now loads idle result → AreOf (levels_of session.store) loads → IfOk result (λ reply. IsRefusal reply → cursors ≡ session.cursors)
+    → Queries tells state disk disk_now loads idle result → IfOk result (λ reply. IsRefusal reply → cursors ≡ session.cursors)
     → ((s : State) (all : List OpenAnswers) → tells → StandsFor s (state disk).content → AreOpen session.cursors all → Turns (turn s all) cursors result)
     → ((s : State) (all : List OpenAnswers) → AreOpen session.cursors all → IsRefusal (turn s all).1 → idle)
     → ((m : Machine) → steps m ≡ turned_by m (turn m.state m.cursors)) → ((m : Machine) → tasks m ≡ None) → Answers tells state disk disk_now session (with_cursors session cursors) result steps tasks
@@ -89,8 +89,7 @@ queried tells state disk disk_now session cursors loads idle result steps tasks 
           (λ reply same_disk same_cursors refusal. (same_disk refusal, ap (with_cursors session) (same_cursors refusal))) queries.refused kept;
       only = only_so result queries.loaded.only;
       full = λ need gap tell failed. absurd (not_full result need gap queries.loaded.only failed);
-      broken = λ place tell failed.
-          subst (λ (c : List ℕ). HasBrokenList c place) (sym (reads.content tell)) (broken_list session.store (state disk).content loads place (can.agrees.content tell) of_them (queries.loaded.first place tell failed));
+      still = λ place tell failed. reads.content tell;
       cause = queries.loaded.cause;
       faults = reads.costs.faults;
       same_limit = reads.costs.limit;

@@ -9,6 +9,7 @@ use Rattle.alta_catalog.specs.Knowing.{newest_of}
 use Rattle.alta_disk.specs.Disk.{DiskState, Same, Only, Passes, LeavesOnly, IsLawful}
 use Rattle.alta_disk.proofs.Moments.{leaves_then, leaves_by}
 use Rattle.alta_meta.specs.declared.document.State.{State}
+use Rattle.alta_images.specs.Broken.{IsBrokenAt}
 use Rattle.alta_images.specs.Holding.{Holding, IsHeld, IsJobOf}
 use Rattle.alta_session.specs.Agreement.{AgreesOn}
 use Rattle.alta_session.specs.Fullness.{IsFullExactly}
@@ -20,7 +21,7 @@ use Rattle.alta_session.specs.Spending.{OnlyReads, Spends, lines_bytes, newest_o
 use Rattle.alta_session.specs.Tasks.{IsBy, IsFirst, IsOn, IsWorked, worked_lines}
 use Rattle.alta_session.specs.declared.session.Session.{Session}
 use Rattle.alta_session.specs.declared.status.Status.{Status}
-use Rattle.alta_session.specs.declared.status.Status.TheVariants.{DiskFault, Done, Full, TooLong}
+use Rattle.alta_session.specs.declared.status.Status.TheVariants.{Damaged, DiskFault, Done, Full, TooLong}
 use Rattle.alta_session.proofs.FullnessLaws.{full_exactly}
 use Rattle.alta_session.proofs.ProgressLaws.{some_none}
 use Rattle.alta_images.specs.Standing.{StandsFor, view_of}
@@ -72,13 +73,15 @@ since_sync tells limit d e s lawful lawful_now passes tell same only stands =
 
 -- it was not opened
 pub serves_none : (tells : Type 0) (limit : ℕ) (told : Option (List Event)) (left : Option (List ℕ)) (d e : DiskState) (status : Status) → IsLawful tells d → IsLawful tells e → Passes Same d e → (tells → e.content ≡ d.content) → (status ≡ DiskFault) ⊎ Only e.content e.images
-    → (tells → (slot : Slot) → (root : Root) → Counts slot root d.content → e.taken ≤ d.taken + opening_bytes root d.content) → (status ≡ Done → ⊥) → (status ≡ TooLong → ⊥) → ((need gap : ℕ) → status ≡ Full need gap → ⊥) → Serves tells limit told told left left d e status
-serves_none tells limit told left d e status lawful lawful_now passes same settled read not_done not_long not_full = record {
+    → (tells → (slot : Slot) → (root : Root) → Counts slot root d.content → e.taken ≤ d.taken + opening_bytes root d.content) → (status ≡ Done → ⊥) → (status ≡ TooLong → ⊥) → ((need gap : ℕ) → status ≡ Full need gap → ⊥)
+    → ((place : ℕ) → tells → status ≡ Damaged place → IsBrokenAt d.content place) → Serves tells limit told told left left d e status
+serves_none tells limit told left d e status lawful lawful_now passes same settled read not_done not_long not_full broken = record {
   run = [];
   grew = grows_none told;
   read = consumes_none left;
   too_long = (λ long. absurd (not_long long), λ past. absurd (omega arith));
   last = λ past. absurd (omega arith);
+  damaged = λ place tell is. inl (broken place tell is);
   replies = λ s tell stands. record { begin = ([], refl); all = λ done. absurd (not_done done); in_time = λ k t. absurd t };
   full = λ s held tell stands here. full_exactly d.limit (started_at s) held [] [] status (λ need gap is. absurd (not_full need gap is)) (inr (held, refl));
   levels = λ s held tell stands here all. record { now = held; is = refl; held = subst (IsHeld held) (sym (same tell)) here.is };
@@ -137,6 +140,7 @@ serves_opened tells limit told told_now left left_now d m e session status lawfu
   read = runs.read;
   too_long = runs.too_long;
   last = runs.last;
+  damaged = λ place tell is. inr (runs.damaged place tell is);
   replies = λ s tell stands. (runs.each (started_at s) tell (agrees s tell stands)).replies;
   full = λ s held tell stands here. full_before limit d m e session runs.run status (started_at s) held same_limit (runs.each (started_at s) tell (agrees s tell stands)) (opened_by tells d m session held lawful_now tell none (same tell) here);
   levels = λ s held tell stands here all. levels_before limit d m e session runs.run status (started_at s) held same_limit (runs.each (started_at s) tell (agrees s tell stands)) (opened_by tells d m session held lawful_now tell none (same tell) here) all;

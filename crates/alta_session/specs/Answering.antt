@@ -6,7 +6,6 @@ use Rattle.alta_journal.specs.declared.places.TheConstants.{HEAD_BYTES}
 use Rattle.alta_session.specs.Agreement.{AgreesOn, HasNotFailed}
 use Rattle.alta_session.specs.Fullness.{IsFull}
 use Rattle.alta_session.specs.Machine.{Machine, IsRefusal}
-use Rattle.alta_session.specs.Loading.{HasBrokenList}
 use Rattle.alta_session.specs.Tasks.{IsBy, IsWorked, worked_where}
 use Rattle.alta_session.specs.declared.session.Session.{Session}
 use Rattle.alta_store.specs.Agreement.{Agrees}
@@ -52,7 +51,7 @@ pub record Answers {D : Type 0} (tells : Type 0) (state : D → DiskState) (disk
   -- each error comes from its cause
   pub only : IfErr result (λ e. IsOutside e ⊎ (((need gap : ℕ) × (e ≡ Full need gap)) ⊎ ((place : ℕ) × (e ≡ Damaged place))))
   pub full : (need gap : ℕ) → tells → result ≡ Err (Full need gap) → IsFull (state disk_now) need gap
-  pub broken : (place : ℕ) → tells → result ≡ Err (Damaged place) → HasBrokenList (state disk_now).content place
+  pub still : (place : ℕ) → tells → result ≡ Err (Damaged place) → (state disk_now).content ≡ (state disk).content
   pub cause : result ≡ Err Disk → Rose (state disk).faults (state disk_now).faults
   pub faults : (state disk).faults ≤ (state disk_now).faults
   pub same_limit : (state disk_now).limit ≡ (state disk).limit

@@ -2,6 +2,7 @@ pub mod Agreement
 pub mod Answering
 pub mod Asking
 pub mod Cursors
+pub mod Damage
 pub mod Demo
 pub mod Ending
 pub mod Fed

@@ -7,8 +7,6 @@ use Rattle.alta_compile.specs.Tree.{Tree}
 use Rattle.alta_content.specs.declared.content.Content.{Content}
 use Rattle.alta_disk.specs.Calls.{Reads}
 use Rattle.alta_disk.specs.Disk.{DiskState}
-use Rattle.alta_images.specs.Broken.{IsBrokenAmong}
-use Rattle.alta_images.specs.Opened.{Opened, IsOpened}
 use Rattle.alta_images.specs.Standing.{StandsFor}
 use Rattle.alta_loading.specs.Loads.{Load, IsFirstFault, IsWhole, load_sizes}
 use Rattle.alta_loading.specs.Met.{each_once, loads_of_tests}
@@ -113,11 +111,3 @@ pub record Queries {D : Type 0} (tells : Type 0) (state : D → DiskState) (disk
   pub undamaged : (s : State) → tells → StandsFor s (state disk).content → IfErr result IsOutside
   pub refused : IfOk result (λ reply. IsRefusal reply → disk_now ≡ disk)
   pub idles : idle → (disk_now ≡ disk) × IfErr result (λ e. e ≡ Memory)
-
--- ---- damage behind the opening
-
--- The image is opened, and a list of one of its levels is broken at a place.
-pub record HasBrokenList (image : List ℕ) (place : ℕ) : Type 0 where
-  pub opened : Opened
-  pub is : IsOpened opened image
-  pub broken : IsBrokenAmong opened.levels image place

@@ -6,6 +6,7 @@ use Rattle.alta_console.specs.Replies.{IsPartOfFirst}
 use Rattle.alta_console.specs.declared.event.Event.{Event}
 use Rattle.alta_disk.specs.Disk.{DiskState, LeavesOnly}
 use Rattle.alta_session.specs.Agreement.{AgreesOn}
+use Rattle.alta_session.specs.Damage.{SomeFindsDamage}
 use Rattle.alta_session.specs.Fullness.{IsFullOnly}
 use Rattle.alta_session.specs.Machine.{Machine, machine_after, replies}
 use Rattle.alta_session.specs.Spending.{Spends}
@@ -52,4 +53,5 @@ pub record StopsWithinFrom (disk disk_now : DiskState) (session : Session) (line
 pub record StopsWithin (tells : Type 0) (told told_now : Option (List Event)) (disk disk_now : DiskState) (session : Session) (lines : List (List ℕ)) (status : Status) : Type 0 where
   pub given : List ℕ
   pub gave : Gives told told_now given
+  pub damaged : (place : ℕ) → tells → status ≡ Damaged place → SomeFindsDamage disk_now.content lines place
   pub each : (m : Machine) → tells → AgreesOn tells disk session m → StopsWithinFrom disk disk_now session lines given status m

@@ -9,6 +9,7 @@ use Rattle.alta_console.specs.declared.event.Event.TheVariants.{Taken}
 use Rattle.alta_disk.specs.Disk.{DiskState, Each, Only, Same, Stands, Passes, LeavesOnly}
 use Rattle.alta_meta.specs.declared.document.State.{State}
 use Rattle.alta_session.specs.Agreement.{AgreesOn}
+use Rattle.alta_session.specs.Damage.{SomeFindsDamage}
 use Rattle.alta_session.specs.Fullness.{IsFullExactly}
 use Rattle.alta_session.specs.Machine.{Machine, started_at, replies}
 use Rattle.alta_session.specs.Progress.{StandsAfterSome, StandsAfter}
@@ -17,6 +18,7 @@ use Rattle.alta_session.specs.Tasks.{IsBy, IsDone, IsFirst, IsOn, IsWorked, work
 use Rattle.alta_session.specs.declared.session.Session.{Session}
 use Rattle.alta_session.specs.declared.status.Status.{Status}
 use Rattle.alta_session.specs.declared.status.Status.TheVariants.{Done, TooLong, Damaged, DiskFault}
+use Rattle.alta_images.specs.Broken.{IsBrokenAt}
 use Rattle.alta_images.specs.Holding.{Holding}
 use Rattle.alta_images.specs.Standing.{StandsFor}
 
@@ -75,6 +77,7 @@ pub record Runs (tells : Type 0) (limit : ℕ) (told told_now : Option (List Eve
   pub read : Consumes left left_now (taken_in run)
   pub too_long : (status ≡ TooLong) ↔ (limit < length (taken_in run))
   pub last : limit < length (taken_in run) → EndsPast limit run
+  pub damaged : (place : ℕ) → tells → status ≡ Damaged place → SomeFindsDamage disk_now.content (lines_in limit run) place
   pub each : (m : Machine) → tells → AgreesOn tells disk session m → RunsFrom limit disk disk_now session run status m
 
 -- The disk failed as it was opened: no line was taken, and what the disk may hold now it might have held before.
@@ -101,6 +104,8 @@ pub record Serves (tells : Type 0) (limit : ℕ) (told told_now : Option (List E
   pub read : Consumes left left_now (taken_in run)
   pub too_long : (status ≡ TooLong) ↔ (limit < length (taken_in run))
   pub last : limit < length (taken_in run) → EndsPast limit run
+  -- damage is found as the index is opened, or by a line
+  pub damaged : (place : ℕ) → tells → status ≡ Damaged place → IsBrokenAt disk.content place ⊎ SomeFindsDamage disk_now.content (lines_in limit run) place
   -- where the content stands for a state
   pub replies : (s : State) → tells → StandsFor s disk.content → Replies limit (started_at s) run status
   -- and has this

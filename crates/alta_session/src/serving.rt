@@ -13,7 +13,6 @@ ghost use Rattle.alta_session.specs.Keeping.{clip};
 ghost use Rattle.alta_session.specs.Fullness.{IsFull};
 ghost use Rattle.alta_session.specs.Progress.{StopsWithin};
 ghost use Rattle.alta_session.specs.Run.{KeepsDisk, Runs, Serves};
-ghost use Rattle.alta_session.specs.Loading.{HasBrokenList};
 ghost use Rattle.alta_session.specs.Status.{EndsLine, EndsRunning, IsOpened, Completes, Yields};
 ghost use Rattle.alta_root.specs.Slots.{HasNoRoot};
 ghost use Rattle.alta_images.specs.Broken.{IsBrokenAt};
@@ -285,9 +284,9 @@ fn answer_lines<C: Console, D: Disk>(
 /// taken than the limit, `DiskFault`, `TakeFault` or `GiveFault` where such a call failed, `Memory` where there was no
 /// memory, `NoRoot` where the disk has no index, `Damaged` where the index breaks a rule of the format, at opening with the first
 /// place that shows it (after these two nothing was taken or given, and the disk holds what it held), or later with the first fault of
-/// the lists that a line loads or joins, and never where the disk stands for a state, and `Full` where what a line writes to levels has no place
-/// below the limit of the disk: with the bytes that it needs and the greatest gap. Where every
-/// reply was given, the levels, their extents, the deleted ends and the journal's entries are those that the work of the lines gives.
+/// the lists that a line loads, or that of a level that it joins, and never where the disk stands for a state, and `Full` where what a
+/// line writes to levels has no place below the limit of the disk: with the bytes that it needs and the greatest gap. Where every reply
+/// was given, the levels, their extents, the deleted ends and the journal's entries are those that the work of the lines gives.
 pub fn serve<C: Console, D: Disk>(
     alloc: Global,
     console: &mut C,
@@ -304,10 +303,6 @@ pub fn serve<C: Console, D: Disk>(
     ensures undamaged { (place : ℕ) → D.tells → IsBrokenAt (D.state disk.old).content place
         → (console.new ≡ console.old) × KeepsDisk D.tells (D.state disk.old) (D.state disk.new) × ((result ≡ Status.Damaged place) ⊎ Yields result) }
     ensures unopened { result ≡ Status.NoRoot → (console.new ≡ console.old) × KeepsDisk D.tells (D.state disk.old) (D.state disk.new) }
-    // Damage is found so, or later, in a list of a level.
-    ensures damaged { (place : ℕ) → result ≡ Status.Damaged place
-        → ((console.new ≡ console.old) × KeepsDisk D.tells (D.state disk.old) (D.state disk.new) × (D.tells → IsBrokenAt (D.state disk.old).content place))
-        ⊎ (D.tells → HasBrokenList (D.state disk.new).content place) }
     // Where the content stands for a state, it is opened, and no damage is found.
     ensures stands { (s : State) → D.tells → StandsFor s (D.state disk.old).content → IsOpened result }
     ensures never { (result ≢ Status.Usage) × (result ≢ Status.Exists) }

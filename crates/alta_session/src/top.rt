@@ -6,7 +6,6 @@ ghost use Rattle.alta_meta.specs.declared.document.State.{State};
 ghost use Rattle.alta_make.specs.Script.{script, report};
 ghost use Rattle.alta_session.specs.Demo.{AsksDemo, Demonstrates};
 ghost use Rattle.alta_session.specs.Run.{KeepsDisk, Serves};
-ghost use Rattle.alta_session.specs.Loading.{HasBrokenList};
 ghost use Rattle.alta_session.specs.Status.{IsOpened, IsUnmade, Completes, Yields, EndsInit};
 ghost use Rattle.alta_root.specs.Slots.{HasNoRoot};
 ghost use Rattle.alta_images.specs.Broken.{IsBrokenAt};
@@ -67,9 +66,6 @@ pub fn alta<C: Console, D: Disk>(
     ensures undamaged { (place : ℕ) → words.now ≡ codes "run" ∷ [] → D.tells → IsBrokenAt (D.state disk.old).content place
         → (console.new ≡ console.old) × KeepsDisk D.tells (D.state disk.old) (D.state disk.new) × ((result ≡ Status.Damaged place) ⊎ Yields result) }
     ensures unopened { words.now ≡ codes "run" ∷ [] → result ≡ Status.NoRoot → (console.new ≡ console.old) × KeepsDisk D.tells (D.state disk.old) (D.state disk.new) }
-    ensures damaged { (place : ℕ) → words.now ≡ codes "run" ∷ [] → result ≡ Status.Damaged place
-        → ((console.new ≡ console.old) × KeepsDisk D.tells (D.state disk.old) (D.state disk.new) × (D.tells → IsBrokenAt (D.state disk.old).content place))
-        ⊎ (D.tells → HasBrokenList (D.state disk.new).content place) }
     ensures stands { (s : State) → D.tells → StandsFor s (D.state disk.old).content → IsOpened result }
     ensures full { (need gap : ℕ) → words.now ≡ codes "run" ∷ [] → D.tells → result ≡ Status.Full need gap → IsNarrow (D.state disk.old).limit (D.state disk.new).content need gap }
     ensures complete { (s : State) → words.now ≡ codes "run" ∷ [] → D.tells → StandsFor s (D.state disk.old).content → ¬ (Rose (C.take_faults console.old) (C.take_faults console.new)) → ¬ (Rose (C.give_faults console.old) (C.give_faults console.new)) → ¬ (Rose (D.state disk.old).faults (D.state disk.new).faults) → Completes result }

@@ -5,6 +5,7 @@ use Rattle.alta_session.specs.Tasks.{task_of}
 use Rattle.alta_session.specs.declared.status.Status.TheVariants.{GiveFault}
 use Rattle.std.proofs.lemmas.List.Elements.{All-head}
 use Rattle.alta_session.specs.Spending.{OnlyReads}
+use Rattle.alta_session.proofs.DamageLaws.{line_finds}
 use Rattle.alta_session.proofs.EndingLaws.{counts_disk}
 use Rattle.alta_session.proofs.SpendingLaws.{spends_line}
 use Rattle.alta_session.proofs.FedLaws.{fed_line, stops_line, stops_unanswered}
@@ -28,12 +29,13 @@ returns-in-Err-clause-err g c =
     (λ m held need gap tell agrees here is.
     (c.line.ensures.answers.from m tell agrees).full held need gap here (c.in-Err.is ∙ ap Err (status_full _ c.in-Err.fault need gap c.status_of.ensures is)))
     (λ m place tell agrees is. (c.line.ensures.answers.from m tell agrees).undamaged place (c.in-Err.is ∙ ap Err (status_damaged _ c.in-Err.fault place c.status_of.ensures is)))
+    (λ place tell is. line_finds g.D.Disk.tells g.D.Disk.state c.args.disk.now c.line.new.disk c.args.session.now c.args.line.now c.line.result place c.requires.can c.line.ensures.loads c.line.ensures.works c.line.ensures.answers.still tell
+    (c.in-Err.is ∙ ap Err (status_damaged _ c.in-Err.fault place c.status_of.ensures is)))
     (λ m tell agrees. spends_line g.D.Disk.tells g.D.Disk.state c.args.disk.now c.line.new.disk c.args.session.now m c.args.line.now c.line.result agrees.cursors c.line.ensures.no_disk c.line.ensures.loads)
 
 pub returns-in-Err-clause-caused : goal.returns-in-Err-clause-caused
 returns-in-Err-clause-caused g c = record {
   full = λ need gap tell is. c.line.ensures.answers.full need gap tell (c.in-Err.is ∙ ap Err (status_full _ c.in-Err.fault need gap c.status_of.ensures is));
-  broken = λ place tell is. c.line.ensures.answers.broken place tell (c.in-Err.is ∙ ap Err (status_damaged _ c.in-Err.fault place c.status_of.ensures is));
   give_fault = λ is. absurd (status_not c.status_of.result c.in-Err.fault c.status_of.ensures GiveFault tt is);
   disk_fault = λ is. c.line.ensures.answers.cause (c.in-Err.is ∙ ap Err (status_disk _ c.in-Err.fault c.status_of.ensures is));
 }
@@ -68,11 +70,11 @@ returns-clause-err g c =
     stops_line g.D.Disk.tells (g.C.Console.told c.args.console.now) (g.C.Console.told c.give_all.new.console) (g.D.Disk.state c.args.disk.now) (g.D.Disk.state c.line.new.disk) c.args.session.now c.args.line.now part.0 GiveFault
     (g.met.D.Disk.lawful c.line.new.disk) part.4
     (λ m tell agrees. (part.1, sym (c.as_bytes.ensures.value ∙ c.as_str.ensures ∙ (answers.from m tell agrees).reply) ∙ part.2, part.3))
-    (λ m tell agrees. (answers.from m tell agrees).images) (λ m held tell agrees here need gap is. absurd cc) (λ m place tell agrees is. absurd cc)
+    (λ m tell agrees. (answers.from m tell agrees).images) (λ m held tell agrees here need gap is. absurd cc) (λ m place tell agrees is. absurd cc) (λ place tell is. absurd cc)
     (λ m tell agrees. spends_line g.D.Disk.tells g.D.Disk.state c.args.disk.now c.line.new.disk c.args.session.now m c.args.line.now c.line.result agrees.cursors c.line.ensures.no_disk c.line.ensures.loads)
 
 pub returns-clause-caused : goal.returns-clause-caused
-returns-clause-caused g c = record { full = λ need gap tell is. absurd cc; broken = λ place tell is. absurd cc; give_fault = λ is. c.in-Err-give_all.ensures.failed; disk_fault = λ is. absurd cc }
+returns-clause-caused g c = record { full = λ need gap tell is. absurd cc; give_fault = λ is. c.in-Err-give_all.ensures.failed; disk_fault = λ is. absurd cc }
 
 pub returns-clause-counts : goal.returns-clause-counts
 returns-clause-counts g c = record { takes = c.give_all.ensures.take_count; gives = c.give_all.ensures.give_count; faults = c.line.ensures.answers.faults; limit = c.line.ensures.answers.same_limit }

@@ -108,14 +108,14 @@ returns-in-Err-feed-clause-counts g c =
     counts_on g.C.Console.take_faults g.C.Console.give_faults c.args.console.now c.take.new.self c.feed.new.console (g.D.Disk.state c.args.disk.now) (g.D.Disk.state c.takes.disk) (g.D.Disk.state c.feed.new.disk) (took g.C.Console.take_faults g.C.Console.give_faults c.args.console.now c.takes.console c.take.new.self (g.D.Disk.state c.args.disk.now) (g.D.Disk.state c.takes.disk) c.takes.invariant.counts c.take.ensures.take_count c.take.ensures.give_count) c.feed.ensures.counts
 
 pub returns-in-Ok-finish-clause-caused : goal.returns-in-Ok-finish-clause-caused
-returns-in-Ok-finish-clause-caused g c = record { full = λ need gap tell is. absurd cc; broken = λ place tell is. absurd cc; give_fault = λ is. absurd cc; disk_fault = λ is. absurd cc }
+returns-in-Ok-finish-clause-caused g c = record { full = λ need gap tell is. absurd cc; give_fault = λ is. absurd cc; disk_fault = λ is. absurd cc }
 
 pub returns-in-Ok-finish-clause-counts : goal.returns-in-Ok-finish-clause-counts
 returns-in-Ok-finish-clause-counts g c =
     counts_on g.C.Console.take_faults g.C.Console.give_faults c.args.console.now c.take.new.self c.finish.new.console (g.D.Disk.state c.args.disk.now) (g.D.Disk.state c.takes.disk) (g.D.Disk.state c.finish.new.disk) (took g.C.Console.take_faults g.C.Console.give_faults c.args.console.now c.takes.console c.take.new.self (g.D.Disk.state c.args.disk.now) (g.D.Disk.state c.takes.disk) c.takes.invariant.counts c.take.ensures.take_count c.take.ensures.give_count) c.finish.ensures.counts
 
 pub returns-then-n-limit-clause-caused : goal.returns-then-n-limit-clause-caused
-returns-then-n-limit-clause-caused g c = record { full = λ need gap tell is. absurd cc; broken = λ place tell is. absurd cc; give_fault = λ is. absurd cc; disk_fault = λ is. absurd cc }
+returns-then-n-limit-clause-caused g c = record { full = λ need gap tell is. absurd cc; give_fault = λ is. absurd cc; disk_fault = λ is. absurd cc }
 
 pub returns-then-n-limit-clause-counts : goal.returns-then-n-limit-clause-counts
 returns-then-n-limit-clause-counts g c = took g.C.Console.take_faults g.C.Console.give_faults c.args.console.now c.takes.console c.take.new.self (g.D.Disk.state c.args.disk.now) (g.D.Disk.state c.takes.disk) c.takes.invariant.counts c.take.ensures.take_count c.take.ensures.give_count

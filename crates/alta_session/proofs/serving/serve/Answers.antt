@@ -1,4 +1,4 @@
-use Rattle.std.proofs.Common.{inl, inr, refl, ◌∙◌, ap, Err, arith}
+use Rattle.std.proofs.Common.{refl, ◌∙◌, ap, Err, arith}
 use Rattle.alta_codec.specs.Faults.{Rose}
 use Rattle.alta_session.specs.Machine.{started_at}
 use Rattle.alta_session.specs.declared.status.Status.TheVariants.{Done, Usage, TakeFault, GiveFault, TooLong, Exists}
@@ -17,7 +17,8 @@ pub returns-in-Err : goal.returns-in-Err
 returns-in-Err g c = record {
   run = serves_none g.D.Disk.tells c.args.limit (g.C.Console.told c.args.console.now) (g.C.Console.left c.args.console.now) (g.D.Disk.state c.args.disk.now) (g.D.Disk.state c.start.new.disk) c.status_of.result (g.met.D.Disk.lawful c.args.disk.now) (g.met.D.Disk.lawful c.start.new.disk)
       c.start.ensures.opens.images c.start.ensures.opens.content (start_settled c.status_of.result c.in-Err.fault _ c.status_of.ensures c.in-Err.ensures.settled) c.start.ensures.opens.read (status_not _ c.in-Err.fault c.status_of.ensures Done tt) (status_not _ c.in-Err.fault c.status_of.ensures TooLong tt)
-      (λ need gap is. opening_not_full c.in-Err.fault c.status_of.result need gap c.in-Err.ensures.opens.only c.status_of.ensures is);
+      (λ need gap is. opening_not_full c.in-Err.fault c.status_of.result need gap c.in-Err.ensures.opens.only c.status_of.ensures is)
+      (λ place tell is. c.start.ensures.opens.damaged place tell (c.in-Err.is ∙ ap Err (status_damaged _ c.in-Err.fault place c.status_of.ensures is)));
   read_all = λ is. absurd (status_not _ c.in-Err.fault c.status_of.ensures Done tt is);
   no_root = λ tell is. c.start.ensures.opens.no_root tell (c.in-Err.is ∙ ap Err (status_rooted _ c.in-Err.fault c.status_of.ensures is));
   rooted = λ tell none. answers_status _ c.in-Err.fault StoreNoRoot c.status_of.ensures c.start.result c.in-Err.is (c.start.ensures.opens.rooted tell none);
@@ -27,11 +28,6 @@ returns-in-Err g c = record {
     answers_status _ c.in-Err.fault (StoreDamaged place) c.status_of.ensures c.start.result c.in-Err.is (c.start.ensures.opens.undamaged place tell broken),
   );
   unopened = λ is. (refl, record { content = c.start.ensures.opens.content; images = c.start.ensures.opens.images });
-  damaged = λ place is. inl (
-    refl,
-    record { content = c.start.ensures.opens.content; images = c.start.ensures.opens.images },
-    λ tell. c.start.ensures.opens.damaged place tell (c.in-Err.is ∙ ap Err (status_damaged _ c.in-Err.fault place c.status_of.ensures is)),
-  );
   stands = λ s tell stands. outside_opened _ c.in-Err.fault c.status_of.ensures (c.in-Err.ensures.opens.opened stands.opened tell (opened_of s (g.D.Disk.state c.args.disk.now).content stands));
   never = (status_not _ c.in-Err.fault c.status_of.ensures Usage tt, status_not _ c.in-Err.fault c.status_of.ensures Exists tt);
   full = λ need gap tell is. absurd (opening_not_full c.in-Err.fault c.status_of.result need gap c.in-Err.ensures.opens.only c.status_of.ensures is);
@@ -55,7 +51,6 @@ returns g c = record {
   rooted = λ tell none. absurd (ok_answers c.in-Ok.session StoreNoRoot c.start.result c.in-Ok.is (c.start.ensures.opens.rooted tell none));
   undamaged = λ place tell broken. absurd (ok_answers c.in-Ok.session (StoreDamaged place) c.start.result c.in-Ok.is (c.start.ensures.opens.undamaged place tell broken));
   unopened = λ is. absurd (running_rooted c.answer_lines.result c.answer_lines.ensures.ends is);
-  damaged = λ place is. inr (λ tell. c.answer_lines.ensures.caused.broken place tell is);
   stands = λ s tell stands. record {
     rooted = running_rooted c.answer_lines.result c.answer_lines.ensures.ends;
     whole = (c.answer_lines.ensures.run.each (started_at s) tell (c.in-Ok.ensures.agrees s (λ t. stands))).undamaged;

@@ -8,15 +8,14 @@ use Rattle.alta_meta.specs.declared.document.State.{State}
 use Rattle.alta_session.specs.Machine.{adding}
 use Rattle.alta_session.specs.Tasks.{task_of_add}
 use Rattle.alta_store.specs.Agreement.{Has}
-use Rattle.alta_store.specs.Calls.{RefusesAdd}
 use Rattle.alta_store.specs.declared.fault.StoreFault.TheVariants.{Damaged, Disk, Taken, Numbers, Full}
 use Rattle.alta_model.specs.Command.{adds}
 use Rattle.alta_model.specs.Lines.{asks}
-use Rattle.alta_session.proofs.JoiningLaws.{works_done, works_failed, works_still}
+use Rattle.alta_session.proofs.JoiningLaws.{joins_task, works_done, works_failed, works_still}
 use Rattle.alta_session.proofs.AddingLaws.{adding_bad, adding_taken, adding_full, adding_added, added_is_none, leaves_adding, refused_for, room_left}
 use Rattle.alta_session.proofs.AgreementLaws.{knows_state}
 use Rattle.alta_session.proofs.AnsweringLaws.{same_fault, same_store, looked, answers_same, changed, changed_rests}
-use Rattle.alta_session.proofs.ObeyingLaws.{obeyed_works, obeyed_full, narrow_at, add_only, task_broken}
+use Rattle.alta_session.proofs.ObeyingLaws.{obeyed_works, obeyed_full, narrow_at, add_only}
 use Rattle.alta_session.proofs.TaskLaws.{add_bad, add_taken, add_full, add_enters}
 use Rattle.alta_session.proofs.session.Session.add.Goals as goal
 
@@ -96,10 +95,7 @@ returns-in_default-clause-answers g c = record {
   full = λ need gap tell is.
       let same : c.in-Err.fault ≡ Full need gap = cc in
       narrow_at _ _ _ need gap c.add.ensures.obeys.costs.limit (c.add.ensures.obeys.narrow need gap tell (c.in-Err.is ∙ ap Err same));
-  broken = λ place tell is.
-      let same : c.in-Err.fault ≡ Damaged place = cc in
-      task_broken g.D.Disk.tells RefusesAdd (g.D.Disk.state c.args.disk.now) (g.D.Disk.state c.add.new.disk) c.args.self.now.store (enters (Add c.args.name.now c.args.title.now c.args.body.now)) c.add.result place tell
-      c.requires.can.agrees c.add.ensures.obeys.damage c.add.ensures.obeys.still (c.in-Err.is ∙ ap Err same);
+  still = λ place tell is. let same : c.in-Err.fault ≡ Damaged place = cc in c.add.ensures.obeys.still tell place (c.in-Err.is ∙ ap Err same);
   cause = λ is. let same : c.in-Err.fault ≡ Disk = cc in c.add.ensures.obeys.cause (c.in-Err.is ∙ ap Err same);
   faults = c.add.ensures.obeys.costs.faults;
   same_limit = c.add.ensures.obeys.costs.limit;
@@ -119,4 +115,11 @@ returns-in-Numbers-clause-works g c = works_done g.D.Disk.tells g.D.Disk.state c
 
 pub returns-in_default-clause-works : goal.returns-in_default-clause-works
 returns-in_default-clause-works g c =
-    works_failed g.D.Disk.tells g.D.Disk.state c.args.disk.now c.add.new.disk c.args.self.now.store (asks (adds c.args.name.now c.args.title.now c.args.body.now)) c.in-Err.fault (λ place tell is. (c.add.ensures.obeys.damage tell).broken place (c.in-Err.is ∙ ap Err is)) (λ none. absurd none)
+    works_failed g.D.Disk.tells g.D.Disk.state c.args.disk.now c.add.new.disk c.args.self.now.store (asks (adds c.args.name.now c.args.title.now c.args.body.now)) c.in-Err.fault
+    (λ s place knows tell is.
+    let not_taken : has_name c.args.name.now s ≡ true → ⊥ = λ taken. c.in_default.not-Taken (same_fault _ _ _ c.in-Err.is ((c.add.ensures.taken s knows).1 taken)) in
+    let not_full : (has_name c.args.name.now s ≡ false) × (4294967296 ≤ s.next) → ⊥ = λ full. c.in_default.not-Numbers (same_fault _ _ _ c.in-Err.is ((c.add.ensures.numbers s knows).1 full)) in
+    let left = room_left c.args.name.now s not_taken not_full in
+    joins_task c.args.self.now.store (g.D.Disk.state c.args.disk.now).content place _ (enters (Add c.args.name.now c.args.title.now c.args.body.now)) (add_enters c.args.name.now c.args.title.now c.args.body.now s (search rules) left.0 left.1)
+    ((c.add.ensures.obeys.damage tell).broken place (c.in-Err.is ∙ ap Err is)))
+    (λ none. absurd none)

@@ -9,17 +9,14 @@ use Rattle.alta_meta.specs.declared.document.State.{State}
 use Rattle.alta_session.specs.Machine.{deleting}
 use Rattle.alta_session.specs.Tasks.{task_of_delete}
 use Rattle.alta_store.specs.Agreement.{Has}
-use Rattle.alta_store.specs.Calls.{NoRefusal}
 use Rattle.alta_store.specs.declared.fault.StoreFault.TheVariants.{Damaged, Disk, Missing, Full}
-use Rattle.alta_images.specs.Broken.{IsBrokenAmong}
 use Rattle.alta_model.specs.Command.{deletes}
 use Rattle.alta_model.specs.Lines.{asks}
-use Rattle.alta_table.specs.Tables.{Tables}
-use Rattle.alta_session.proofs.JoiningLaws.{delete_joins, works_done, works_failed, works_still}
+use Rattle.alta_session.proofs.JoiningLaws.{joins_task, works_done, works_failed, works_still}
 use Rattle.alta_session.proofs.AgreementLaws.{knows_state}
 use Rattle.alta_session.proofs.AnsweringLaws.{same_fault, same_store, looked, answers_same, changed, changed_rests}
 use Rattle.alta_session.proofs.DeletingLaws.{deleting_bad, deleting_missing, deleting_deleted, leaves_deleting, missing_for, deleted_where, deleted_is_none}
-use Rattle.alta_session.proofs.ObeyingLaws.{obeyed_works, obeyed_full, narrow_at, some_only, task_broken}
+use Rattle.alta_session.proofs.ObeyingLaws.{obeyed_works, obeyed_full, narrow_at, some_only}
 use Rattle.alta_session.proofs.TaskLaws.{delete_bad, delete_missing, delete_enters}
 use Rattle.alta_session.proofs.session.Session.delete.Goals as goal
 
@@ -92,9 +89,7 @@ returns-in_default-clause-answers g c =
       unchanged = tt;
       only = some_only c.in-Err.fault obeys.only;
       full = λ need gap tell is. let same : c.in-Err.fault ≡ Full need gap = cc in narrow_at _ _ _ need gap obeys.costs.limit (obeys.narrow need gap tell (ap Err same));
-      broken = λ place tell is.
-          let same : c.in-Err.fault ≡ Damaged place = cc in
-          task_broken g.D.Disk.tells NoRefusal (g.D.Disk.state c.args.disk.now) (g.D.Disk.state c.delete.new.disk) c.args.self.now.store (enters (Delete n.0)) (Err c.in-Err.fault) place tell c.requires.agrees obeys.damage obeys.still (ap Err same);
+      still = λ place tell is. let same : c.in-Err.fault ≡ Damaged place = cc in obeys.still tell place (ap Err same);
       cause = λ is. let same : c.in-Err.fault ≡ Disk = cc in obeys.cause (ap Err same);
       faults = obeys.costs.faults;
       same_limit = obeys.costs.limit;
@@ -111,9 +106,10 @@ returns-in-Missing-clause-works g c = works_done g.D.Disk.tells g.D.Disk.state c
 
 pub returns-in_default-clause-works : goal.returns-in_default-clause-works
 returns-in_default-clause-works g c =
-    let intact = c.requires.agrees.intact in
-    let there : has_name c.args.name.now intact.state ≡ false → ⊥ = λ none. c.in_default.not-Missing (same_fault _ _ _ c.in-Err.is ((c.delete.ensures.missing intact.state intact.knows).1 none)) in
-    let n = deleted_where c.args.name.now intact.state there in
-    let obeys = c.in-Err.ensures.obeys intact.state n.0 intact.knows n.1 in
     works_failed g.D.Disk.tells g.D.Disk.state c.args.disk.now c.delete.new.disk c.args.self.now.store (asks (deletes c.args.name.now)) c.in-Err.fault
-    (λ place tell is. subst (λ (levels : List Tables). IsBrokenAmong levels (g.D.Disk.state c.args.disk.now).content place) (delete_joins c.args.self.now.store n.0) ((obeys.damage tell).broken place (ap Err is))) (λ none. absurd none)
+    (λ s place knows tell is.
+    let there : has_name c.args.name.now s ≡ false → ⊥ = λ none. c.in_default.not-Missing (same_fault _ _ _ c.in-Err.is ((c.delete.ensures.missing s knows).1 none)) in
+    let n = deleted_where c.args.name.now s there in
+    joins_task c.args.self.now.store (g.D.Disk.state c.args.disk.now).content place _ (enters (Delete n.0)) (delete_enters c.args.name.now s n.0 (search rules) n.1)
+    (((c.in-Err.ensures.obeys s n.0 knows n.1).damage tell).broken place (ap Err is)))
+    (λ none. absurd none)

@@ -1,5 +1,5 @@
 use Rattle.std.proofs.Common.{◌≡◌, ◌⊎◌, ◌≤◌, ◌++◌, ℕ, inl, List, length, codes, decimal, ◌∙◌, ap, sym, subst}
-use Rattle.std.specs.Prelude.{nat_le, Some}
+use Rattle.std.specs.Prelude.{Some}
 use Rattle.alta_meta.specs.declared.document.State.{State}
 use Rattle.alta_images.specs.Work.{flushes, merges, steps}
 use Rattle.alta_model.specs.Command.{adds, deletes, searches, counts as asks_count, explains, opens, fetches, closes, flushes as asks_flush, merges as asks_merge, steps as asks_step, asks_stats}
@@ -18,7 +18,6 @@ use Rattle.alta_session.proofs.JoiningLaws.{works_searching, works_still}
 use Rattle.alta_session.proofs.AgreementLaws.{knows_state}
 use Rattle.alta_session.proofs.AnsweringLaws.{if_so, looked, answers_by, step_rests, turned}
 use Rattle.alta_session.proofs.AskLaws.{adds_more, deletes_more}
-use Rattle.alta_session.proofs.LoadingLaws.{of_either, of_text}
 use Rattle.alta_session.proofs.TaskLaws.{task_reads}
 use Rattle.alta_session.proofs.QueryingLaws.{count_refuses, kept_all, open_refuses, queried, search_refuses}
 use Rattle.alta_store.specs.Agreement.{levels_of}
@@ -84,7 +83,7 @@ open-requires g c = c.requires.can.agrees
 pub returns-in-Search-clause-answers : goal.returns-in-Search-clause-answers
 returns-in-Search-clause-answers g c =
     queried g.D.Disk.tells g.D.Disk.state c.args.disk.now c.search.new.disk c.args.self.now c.args.self.now.cursors (text_loads c.args.self.now.store c.in-Search.text.now) (IsNoQuery c.in-Search.text.now) c.search.result (λ m. step m c.args.line.now) (λ m. task_of m c.args.line.now)
-    (λ s all. (all, searching c.in-Search.text.now s.documents)) (g.met.D.Disk.lawful c.args.disk.now) c.requires.can c.search.ensures.queries (of_text c.args.self.now.store c.in-Search.text.now)
+    (λ s all. (all, searching c.in-Search.text.now s.documents)) (g.met.D.Disk.lawful c.args.disk.now) c.requires.can c.search.ensures.queries
     (kept_all c.search.result c.args.self.now.cursors) (λ s all tell stands are. record { reply = c.search.ensures.reply s tell stands; open_now = if_so c.search.result (AreOpen c.args.self.now.cursors all) are })
     (λ s all are refusal. search_refuses c.in-Search.text.now s.documents refusal) c.in-Search.ensures.0 (λ m. task_reads m c.args.line.now (asks (searches c.in-Search.text.now)) c.in-Search.ensures.1)
 
@@ -98,7 +97,7 @@ returns-in-Search-clause-loads g c = λ searches.
 pub returns-in-Count-clause-answers : goal.returns-in-Count-clause-answers
 returns-in-Count-clause-answers g c =
     queried g.D.Disk.tells g.D.Disk.state c.args.disk.now c.count.new.disk c.args.self.now c.args.self.now.cursors (text_loads c.args.self.now.store c.in-Count.text.now) (IsNoQuery c.in-Count.text.now) c.count.result (λ m. step m c.args.line.now) (λ m. task_of m c.args.line.now)
-    (λ s all. (all, counting c.in-Count.text.now s.documents)) (g.met.D.Disk.lawful c.args.disk.now) c.requires.can c.count.ensures.queries (of_text c.args.self.now.store c.in-Count.text.now)
+    (λ s all. (all, counting c.in-Count.text.now s.documents)) (g.met.D.Disk.lawful c.args.disk.now) c.requires.can c.count.ensures.queries
     (kept_all c.count.result c.args.self.now.cursors) (λ s all tell stands are. record { reply = c.count.ensures.reply s tell stands; open_now = if_so c.count.result (AreOpen c.args.self.now.cursors all) are })
     (λ s all are refusal. count_refuses c.in-Count.text.now s.documents refusal) c.in-Count.ensures.0 (λ m. task_reads m c.args.line.now (asks (asks_count c.in-Count.text.now)) c.in-Count.ensures.1)
 
@@ -115,8 +114,7 @@ returns-in-Open-clause-answers g c =
     let session = c.args.self.now in
     let text = c.in-Open.text.now in
     queried g.D.Disk.tells g.D.Disk.state c.args.disk.now c.open.new.disk session c.open.new.cursors (open_loads session.store session.cursors text) (IsNoQuery text ⊎ (CURSORS ≤ length session.cursors)) c.open.result
-    (λ m. step m c.args.line.now) (λ m. task_of m c.args.line.now) (λ s all. opening text s.documents all) (g.met.D.Disk.lawful c.args.disk.now) c.requires.can c.open.ensures.queries
-    (of_either (levels_of session.store) (nat_le CURSORS (length session.cursors)) (text_loads session.store text) (of_text session.store text)) c.open.ensures.kept c.open.ensures.turned
+    (λ m. step m c.args.line.now) (λ m. task_of m c.args.line.now) (λ s all. opening text s.documents all) (g.met.D.Disk.lawful c.args.disk.now) c.requires.can c.open.ensures.queries c.open.ensures.kept c.open.ensures.turned
     (λ s all are refusal. open_refuses text s.documents session.cursors all are refusal) c.in-Open.ensures.0 (λ m. task_reads m c.args.line.now (asks (opens c.in-Open.text.now)) c.in-Open.ensures.1)
 
 pub returns-in-Open-clause-no_disk : goal.returns-in-Open-clause-no_disk

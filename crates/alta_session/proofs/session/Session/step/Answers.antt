@@ -10,7 +10,7 @@ use Rattle.alta_model.specs.Command.{steps as asks_step}
 use Rattle.alta_model.specs.Lines.{asks}
 use Rattle.alta_session.proofs.JoiningLaws.{failed_done, works_done, works_failed}
 use Rattle.alta_session.proofs.AnsweringLaws.{changed}
-use Rattle.alta_session.proofs.ObeyingLaws.{obeyed_works, obeyed_full, narrow_at, some_only, task_broken}
+use Rattle.alta_session.proofs.ObeyingLaws.{obeyed_works, obeyed_full, narrow_at, some_only}
 use Rattle.alta_session.proofs.session.Session.step.Goals as goal
 
 pub step-requires-clause-agrees : goal.step-requires-clause-agrees
@@ -55,9 +55,7 @@ returns-in-Err-clause-answers g c =
       unchanged = tt;
       only = some_only c.in-Err.fault obeys.only;
       full = λ need gap tell is. let same : c.in-Err.fault ≡ Full need gap = cc in narrow_at _ _ _ need gap obeys.costs.limit (obeys.narrow need gap tell (ap Err same));
-      broken = λ place tell is.
-          let same : c.in-Err.fault ≡ Damaged place = cc in
-          task_broken g.D.Disk.tells NoRefusal (g.D.Disk.state c.args.disk.now) (g.D.Disk.state c.step.new.disk) c.args.self.now.store (steps c.args.n) (Err c.in-Err.fault) place tell c.requires.agrees obeys.damage obeys.still (ap Err same);
+      still = λ place tell is. let same : c.in-Err.fault ≡ Damaged place = cc in obeys.still tell place (ap Err same);
       cause = λ is. let same : c.in-Err.fault ≡ Disk = cc in obeys.cause (ap Err same);
       faults = obeys.costs.faults;
       same_limit = obeys.costs.limit;
@@ -68,4 +66,4 @@ returns-in-Ok-clause-works g c = works_done g.D.Disk.tells g.D.Disk.state c.args
 
 pub returns-in-Err-clause-works : goal.returns-in-Err-clause-works
 returns-in-Err-clause-works g c =
-    works_failed g.D.Disk.tells g.D.Disk.state c.args.disk.now c.step.new.disk c.args.self.now.store (asks (asks_step c.args.n)) c.in-Err.fault (λ place tell is. (c.in-Err.ensures.obeys.damage tell).broken place (ap Err is)) (λ idle. failed_done c.in-Err.fault c.step.result c.in-Err.is (c.step.ensures.idle idle).0)
+    works_failed g.D.Disk.tells g.D.Disk.state c.args.disk.now c.step.new.disk c.args.self.now.store (asks (asks_step c.args.n)) c.in-Err.fault (λ s place knows tell is. (c.in-Err.ensures.obeys.damage tell).broken place (ap Err is)) (λ idle. failed_done c.in-Err.fault c.step.result c.in-Err.is (c.step.ensures.idle idle).0)

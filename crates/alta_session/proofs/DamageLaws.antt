@@ -1,0 +1,74 @@
+-- Laws of damage that lines find.
+use Rattle.std.proofs.Common.{◌≡◌, ◌⊎◌, ℕ, inl, inr, List, [], ◌∷◌, ◌++◌, length, map, drop, ap, sym, subst, ◌∙◌, Result, Err}
+use Rattle.alta_disk.specs.Disk.{DiskState}
+use Rattle.alta_model.specs.Command.{Command, adds, deletes, searches, counts, explains, opens, fetches, closes, flushes, merges, steps, asks_stats}
+use Rattle.alta_model.specs.Lines.{Reading, asks, refuses, reading_of}
+use Rattle.alta_session.specs.Answering.{CanAnswer}
+use Rattle.alta_session.specs.Damage.{FindsDamage, SomeFindsDamage}
+use Rattle.alta_session.specs.Joining.{Works}
+use Rattle.alta_session.specs.Keeping.{clip}
+use Rattle.alta_session.specs.Loading.{Loads, session_loads}
+use Rattle.alta_session.specs.Machine.{Searches, SearchesIn}
+use Rattle.alta_session.specs.declared.session.Session.{Session}
+use Rattle.alta_session.proofs.MachineLaws.{reading_clip}
+use Rattle.alta_store.specs.declared.fault.StoreFault.{StoreFault}
+use Rattle.alta_store.specs.declared.fault.StoreFault.TheVariants.{Damaged}
+
+-- a line searches or it does not
+which_searches : (command : Command) → SearchesIn (asks command) ⊎ (SearchesIn (asks command) → ⊥)
+which_searches (adds name title body) = inr (λ none. none)
+which_searches (deletes name) = inr (λ none. none)
+which_searches (searches text) = inl tt
+which_searches (counts text) = inl tt
+which_searches (explains text) = inr (λ none. none)
+which_searches (opens text) = inl tt
+which_searches (fetches cursor count) = inr (λ none. none)
+which_searches (closes cursor) = inr (λ none. none)
+which_searches flushes = inr (λ none. none)
+which_searches merges = inr (λ none. none)
+which_searches (steps count) = inr (λ none. none)
+which_searches asks_stats = inr (λ none. none)
+
+searches_or : (reading : Reading) → SearchesIn reading ⊎ (SearchesIn reading → ⊥)
+searches_or (asks command) = which_searches command
+searches_or (refuses fault) = inr (λ none. none)
+
+-- a line that was not answered for damage finds it
+pub line_finds : {D : Type 0} (tells : Type 0) (state : D → DiskState) (disk disk_now : D) (session : Session) (line : List ℕ) (result : Result (List ℕ) StoreFault) (place : ℕ) → CanAnswer tells (state disk) session
+    → (Searches line → Loads tells (session_loads session line) (state disk) (state disk_now) result) → Works tells state disk disk_now session.store (reading_of line) result
+    → ((p : ℕ) → tells → result ≡ Err (Damaged p) → (state disk_now).content ≡ (state disk).content) → tells → result ≡ Err (Damaged place) → FindsDamage (state disk_now).content (reading_of line) place
+line_finds tells state disk disk_now session line result place can loads works still tell is =
+    subst (λ (image : List ℕ). FindsDamage image (reading_of line) place) (sym (still place tell is)) (record {
+      store = session.store;
+      holds = can.agrees.content tell;
+      state = can.agrees.intact.state;
+      knows = can.agrees.intact.knows;
+      many = length session.cursors;
+      found = elim (searches_or (reading_of line)) [
+        | inl search ↦ inl ((loads search).first place tell is)
+        | inr other ↦ inr (works.joins other can.agrees.intact.state place can.agrees.intact.knows tell is)
+      ];
+    })
+
+-- ---- among lines
+pub some_first : (image : List ℕ) (xs ys : List (List ℕ)) (place : ℕ) → SomeFindsDamage image xs place → SomeFindsDamage image (xs ++ ys) place
+some_first image [] ys place none = absurd none
+some_first image (x ∷ xs) ys place (inl here) = inl here
+some_first image (x ∷ xs) ys place (inr later) = inr (some_first image xs ys place later)
+
+pub some_later : (image : List ℕ) (xs ys : List (List ℕ)) (place : ℕ) → SomeFindsDamage image ys place → SomeFindsDamage image (xs ++ ys) place
+some_later image [] ys place here = here
+some_later image (x ∷ xs) ys place here = inr (some_later image xs ys place here)
+
+abbrev first_or : List ℕ → List (List ℕ) → List ℕ
+first_or line [] = line
+first_or line (x ∷ xs) = x
+
+-- lines that are the same up to a clip find the same
+pub some_same : (image : List ℕ) (xs ys : List (List ℕ)) (place : ℕ) → map clip xs ≡ map clip ys → SomeFindsDamage image xs place → SomeFindsDamage image ys place
+some_same image [] ys place same none = absurd none
+some_same image (x ∷ xs) [] place same here = absurd cc
+some_same image (x ∷ xs) (y ∷ ys) place same (inl here) =
+    let reads : reading_of x ≡ reading_of y = sym (reading_clip x) ∙ ap (λ (l : List (List ℕ)). reading_of (first_or [] l)) same ∙ reading_clip y in
+    inl (subst (λ (r : Reading). FindsDamage image r place) reads here)
+some_same image (x ∷ xs) (y ∷ ys) place same (inr later) = inr (some_same image xs ys place (ap (λ (l : List (List ℕ)). drop 1 l) same) later)

@@ -1,0 +1,28 @@
+-- Damage that lines find behind the opening.
+use Rattle.std.specs.Prelude.{◌⊎◌, ℕ, List, [], ◌∷◌}
+use Rattle.alta_images.specs.Broken.{IsBrokenAmong}
+use Rattle.alta_loading.specs.Loads.{IsFirstFault}
+use Rattle.alta_meta.specs.declared.document.State.{State}
+use Rattle.alta_model.specs.Lines.{Reading, reading_of}
+use Rattle.alta_session.specs.Joining.{joins_where}
+use Rattle.alta_session.specs.Loading.{loads_in, newest_in}
+use Rattle.alta_session.specs.Machine.{started_at}
+use Rattle.alta_session.specs.Tasks.{task_in}
+use Rattle.alta_store.specs.Agreement.{KeepsOpened, Knows, levels_of}
+use Rattle.alta_store.specs.declared.store.Store.{Store}
+
+-- A line that is read so finds damage at this place, over a store that goes on with what the image is opened as: it is the first fault of
+-- the lists that the line loads, where so many cursors are open, or that of a list of a level that it joins.
+pub record FindsDamage (image : List ℕ) (reading : Reading) (place : ℕ) : Type 0 where
+  pub store : Store
+  pub holds : KeepsOpened store image
+  pub state : State
+  pub knows : Knows store state
+  pub many : ℕ
+  pub found : IsFirstFault image (loads_in (levels_of store) (newest_in store) many reading) place
+      ⊎ IsBrokenAmong (joins_where store (task_in (started_at state) reading)) image place
+
+-- one of these lines does
+abbrev pub SomeFindsDamage : List ℕ → List (List ℕ) → ℕ → Type 0
+SomeFindsDamage image [] place = ⊥
+SomeFindsDamage image (line ∷ lines) place = FindsDamage image (reading_of line) place ⊎ SomeFindsDamage image lines place
