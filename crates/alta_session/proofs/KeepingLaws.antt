@@ -8,34 +8,35 @@ use Rattle.std.proofs.lemmas.List.Elements.{All-nil, All-cons, All-append, All-t
 use Rattle.alta_codec.specs.Bytes.{Lacks}
 use Rattle.alta_console.specs.Lines.{whole_from, begun_from, last_piece}
 use Rattle.alta_console.proofs.LineLaws.{take_take, take_grow, whole_from_take, begun_from_take, last_piece_take, whole_from_none, begun_from_none}
+use Rattle.alta_model.specs.declared.line.TheConstants.{LINE_LIMIT}
 use Rattle.alta_session.specs.Keeping.{clip}
 use Rattle.memchr.specs.Find.{IsFirstByte, is_byte}
 
 -- with another beginning that is the same up to a clip, so is what follows
 pub clip_grow : (p q x : List ℕ) → clip p ≡ clip q → clip (p ++ x) ≡ clip (q ++ x)
 unfolding clip
-clip_grow p q x same = take_grow 65536 p q x same
+clip_grow p q x same = take_grow (LINE_LIMIT + 1) p q x same
 
 pub whole_from_clip : (p q xs : List ℕ) → clip p ≡ clip q → map clip (whole_from p xs) ≡ map clip (whole_from q xs)
 unfolding clip
-whole_from_clip p q xs same = whole_from_take 65536 p q xs same
+whole_from_clip p q xs same = whole_from_take (LINE_LIMIT + 1) p q xs same
 
 pub begun_from_clip : (p q xs : List ℕ) → clip p ≡ clip q → clip (begun_from p xs) ≡ clip (begun_from q xs)
 unfolding clip
-begun_from_clip p q xs same = begun_from_take 65536 p q xs same
+begun_from_clip p q xs same = begun_from_take (LINE_LIMIT + 1) p q xs same
 
 pub last_piece_clip : (line : List ℕ) → map clip (last_piece (clip line)) ≡ map clip (last_piece line)
 unfolding clip
-last_piece_clip line = last_piece_take 65536 line (lit< tt)
+last_piece_clip line = last_piece_take (LINE_LIMIT + 1) line (lit< tt)
 
 -- a clipped line is its own clip
 pub clip_clip : (p : List ℕ) → clip (clip p) ≡ clip p
 unfolding clip
-clip_clip p = ap (λ (l : List ℕ). take 65536 l) (sym (append-nil (take 65536 p))) ∙ take_take 65536 p [] ∙ ap (λ (l : List ℕ). take 65536 l) (append-nil p)
+clip_clip p = ap (λ (l : List ℕ). take (LINE_LIMIT + 1) l) (sym (append-nil (take (LINE_LIMIT + 1) p))) ∙ take_take (LINE_LIMIT + 1) p [] ∙ ap (λ (l : List ℕ). take (LINE_LIMIT + 1) l) (append-nil p)
 
-pub clip_short : (p : List ℕ) → length (clip p) ≤ 65536
+pub clip_short : (p : List ℕ) → length (clip p) ≤ LINE_LIMIT + 1
 unfolding clip
-clip_short p = omega (arith, length-take 65536 p)
+clip_short p = omega (arith, length-take (LINE_LIMIT + 1) p)
 
 -- no line that is kept has a newline
 abbrev IsOther : ℕ → Type 0
@@ -46,7 +47,7 @@ free_take n xs free = All-take IsOther n xs free
 
 pub free_clip : (xs : List ℕ) → Lacks 10 xs → Lacks 10 (clip xs)
 unfolding clip
-free_clip xs free = free_take 65536 xs free
+free_clip xs free = free_take (LINE_LIMIT + 1) xs free
 
 pub free_append : (xs ys : List ℕ) → Lacks 10 xs → Lacks 10 ys → Lacks 10 (xs ++ ys)
 free_append xs ys one two = All-append IsOther xs ys one two
@@ -109,9 +110,9 @@ take_keep n m line bytes short is =
     let sum : length line + (n - length line) ≡ n = omega arith in
     ap (λ (k : ℕ). line ++ take k bytes) is ∙ ap (λ (l : List ℕ). line ++ l) (take_min (n - length line) bytes) ∙ sym (take-append-add line bytes (n - length line)) ∙ ap (λ (k : ℕ). take k (line ++ bytes)) sum
 
-pub clip_keep : (m : ℕ) (line bytes : List ℕ) → length line ≤ 65536 → m ≡ min (65536 - length line) (length bytes) → line ++ take m bytes ≡ clip (line ++ bytes)
+pub clip_keep : (m : ℕ) (line bytes : List ℕ) → length line ≤ LINE_LIMIT + 1 → m ≡ min (LINE_LIMIT + 1 - length line) (length bytes) → line ++ take m bytes ≡ clip (line ++ bytes)
 unfolding clip
-clip_keep m line bytes short is = take_keep 65536 m line bytes short is
+clip_keep m line bytes short is = take_keep (LINE_LIMIT + 1) m line bytes short is
 
 -- a line of bytes without a newline, and one that ends at a newline
 pub whole_free : (p xs : List ℕ) → Lacks 10 xs → whole_from p xs ≡ []

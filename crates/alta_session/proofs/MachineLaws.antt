@@ -1,13 +1,15 @@
 -- Laws of the machine.
-use Rattle.std.proofs.Common.{◌≡◌, ℕ, ◌<◌, inl, inr, List, [], ◌∷◌, ◌++◌, length, take, suc, lit<, refl, ap, sym, ◌∙◌, arith, map}
+use Rattle.std.proofs.Common.{◌≡◌, ℕ, ◌+◌, ◌<◌, inl, inr, List, [], ◌∷◌, ◌++◌, length, take, suc, lit<, refl, ap, sym, ◌∙◌, arith, map}
 use Rattle.std.proofs.lemmas.Grind.{common_steps}
 use Rattle.std.proofs.lemmas.List.{length-take, take_all, take-map}
 use Rattle.std.proofs.lemmas.Bool.{cases_lt}
 use Rattle.alta_meta.specs.declared.document.State.{State}
 use Rattle.alta_model.specs.Command.{Command, adds, deletes, searches, counts, explains, opens, fetches, closes, flushes, merges, steps, asks_stats}
 use Rattle.alta_model.specs.Lines.{Reading, asks, refuses, reading_of}
+use Rattle.alta_model.specs.declared.line.TheConstants.{LINE_LIMIT}
 use Rattle.alta_model.specs.declared.line.LineFault.{LineFault}
 use Rattle.alta_model.specs.declared.line.LineFault.TheVariants.{TooLong, NotUtf8, Unknown, Bad}
+use Rattle.alta_model.proofs.Readings.{reading_long}
 use Rattle.alta_session.specs.Keeping.{clip}
 use Rattle.alta_session.specs.Machine.{Machine, refusal, adding, obeyed, answered, step, machine_after, replies}
 use Rattle.alta_session.proofs.CursorLaws.{opening_some, fetching_some, closing_some}
@@ -64,16 +66,8 @@ pub reply_some : (m : Machine) (line : List ℕ) → 0 < length (step m line).1
 unfolding step
 reply_some m line = answered_some m (reading_of line)
 
--- the machine does not see past the first 65,536 bytes of a line
-reading_long : (line : List ℕ) → 65535 < length line → reading_of line ≡ refuses TooLong
-unfolding reading_of
-reading_long line l = grind (arith, common_steps)
-
--- a line that is too long is refused
-pub step_long : (m : Machine) (line : List ℕ) → 65535 < length line → (reply : List ℕ) × (step m line ≡ (m, reply))
-step_long m line l = (refusal TooLong, step_reads m line (refuses TooLong) (reading_long line l))
-
-reading_take : (n : ℕ) (line : List ℕ) → 65535 < n → reading_of (take n line) ≡ reading_of line
+-- the machine does not see past the first bytes of a line, one more than a line may have
+reading_take : (n : ℕ) (line : List ℕ) → LINE_LIMIT < n → reading_of (take n line) ≡ reading_of line
 reading_take n line l =
     elim (cases_lt n (length line)) [
       | inl long ↦ reading_long (take n line) (omega (arith, length-take n line)) ∙ sym (reading_long line (omega arith))
@@ -82,7 +76,7 @@ reading_take n line l =
 
 pub reading_clip : (line : List ℕ) → reading_of (clip line) ≡ reading_of line
 unfolding clip
-reading_clip line = reading_take 65536 line (lit< tt)
+reading_clip line = reading_take (LINE_LIMIT + 1) line (omega arith)
 
 pub step_clip : (m : Machine) (line : List ℕ) → step m (clip line) ≡ step m line
 unfolding step

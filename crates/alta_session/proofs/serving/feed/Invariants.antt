@@ -1,5 +1,6 @@
-use Rattle.std.proofs.Common.{◌≡◌, ◌≤◌, ◌-◌, length, take}
+use Rattle.std.proofs.Common.{◌≡◌, ◌+◌, ◌≤◌, ◌-◌, length, take}
 use Rattle.alta_codec.specs.Bytes.{Lacks}
+use Rattle.alta_model.specs.declared.line.TheConstants.{LINE_LIMIT}
 use Rattle.alta_console.specs.Lines.{whole_from, begun_from}
 use Rattle.alta_session.specs.Ending.{KeepsCounts}
 use Rattle.alta_session.specs.Answering.{CanAnswer}
@@ -12,7 +13,7 @@ invariant-lines g l = record {
   within : l.at ≤ length l.piece;
   fed : Fed g.D.Disk.tells (g.C.Console.told l.fn.console) (g.C.Console.told l.console) (g.D.Disk.state l.fn.disk) (g.D.Disk.state l.disk) l.fn.session l.session (whole_from l.fn.begun.items (take l.at l.piece));
   begun : clip l.begun.items ≡ clip (begun_from l.fn.begun.items (take l.at l.piece));
-  short : length l.begun.items ≤ 65536;
+  short : length l.begun.items ≤ LINE_LIMIT + 1;
   free : Lacks 10 l.begun.items;
   can : CanAnswer g.D.Disk.tells (g.D.Disk.state l.disk) l.session;
   input_kept : g.C.Console.left l.console ≡ g.C.Console.left l.fn.console;
