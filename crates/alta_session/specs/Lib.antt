@@ -6,6 +6,7 @@ pub mod Damage
 pub mod Demo
 pub mod Ending
 pub mod Fed
+pub mod Found
 pub mod Fullness
 pub mod Going
 pub mod Joining

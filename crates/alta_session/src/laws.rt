@@ -1,10 +1,34 @@
-// What follows from the definitions alone. The function is empty: its contract is the law.
-ghost use Rattle.std.specs.Prelude.{ℕ, List};
+// What follows from definitions and contracts alone. Each function is empty but for the laws that it takes: its contract is the law.
+ghost use Rattle.std.specs.Prelude.{◌≡◌, ℕ, List, map};
+ghost use Rattle.alta_disk.specs.Disk.{DiskState};
+ghost use Rattle.alta_images.specs.Standing.{StandsFor};
 ghost use Rattle.alta_meta.specs.States.{IsState};
+ghost use Rattle.alta_meta.specs.declared.document.State.{State};
+ghost use Rattle.alta_model.specs.Deciding.{answers};
+ghost use Rattle.alta_query.specs.Shape.{Shape};
+ghost use Rattle.alta_search.specs.Documents.{told};
+ghost use Rattle.alta_search.specs.Told.{AnswerRow};
+ghost use Rattle.alta_session.specs.Found.{AreFound};
 ghost use Rattle.alta_session.specs.Machine.{Machine, step};
+ghost use Rattle.alta_store.specs.Agreement.{Agrees};
+
+use alta_disk::Disk;
+use alta_loading::levels_and_newest_documents_answer;
+use alta_store::{Store, a_search_sees_the_state};
 
 /// A line leaves a well-formed state well formed: the numbers of its documents rise, from 1 to below the next number, and no
 /// two documents have the same name.
 pub fn a_line_keeps_a_state()
     ensures { (m : Machine) → (line : List ℕ) → IsState m.state → IsState (step m line).0.state }
 {}
+
+/// Where a store agrees with its disk, and the disk stands for a state, a search over both answers the live documents of the state that
+/// match the query, in order. A search is `Store::sources`, `alta_loading::load_snapshot` over what it gives, and `alta_search::search`
+/// over the snapshot.
+pub fn a_search_answers_what_matches<D: Disk>()
+    ensures { (disk : D) (store : Store) (s : State) (q : Shape) (found : List AnswerRow) → D.tells → Agrees D.tells (D.state disk) store → StandsFor s (D.state disk).content
+        → AreFound store (D.state disk).content q found → found ≡ map told (answers s.documents q) }
+{
+    a_search_sees_the_state::<D>();
+    levels_and_newest_documents_answer();
+}

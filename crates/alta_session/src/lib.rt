@@ -12,7 +12,7 @@ mod session;
 mod status;
 mod top;
 
-pub use laws::a_line_keeps_a_state;
+pub use laws::{a_line_keeps_a_state, a_search_answers_what_matches};
 pub use serving::serve;
 pub use session::Session;
 pub use status::{Status, status_line};
