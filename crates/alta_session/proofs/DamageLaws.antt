@@ -1,5 +1,5 @@
 -- Laws of damage that lines find.
-use Rattle.std.proofs.Common.{◌≡◌, ◌⊎◌, ℕ, inl, inr, List, [], ◌∷◌, ◌++◌, length, map, drop, ap, sym, subst, ◌∙◌, Result, Err}
+use Rattle.std.proofs.Common.{◌≡◌, ◌⊎◌, ℕ, inl, inr, List, [], ◌∷◌, ◌++◌, length, map, ap, sym, subst, ◌∙◌, Result, Err}
 use Rattle.alta_disk.specs.Disk.{DiskState}
 use Rattle.alta_model.specs.Command.{Command, adds, deletes, searches, counts, explains, opens, fetches, closes, flushes, merges, steps, asks_stats}
 use Rattle.alta_model.specs.Lines.{Reading, asks, refuses, reading_of}
@@ -64,6 +64,10 @@ abbrev first_or : List ℕ → List (List ℕ) → List ℕ
 first_or line [] = line
 first_or line (x ∷ xs) = x
 
+abbrev rest_of : List (List ℕ) → List (List ℕ)
+rest_of [] = []
+rest_of (x ∷ xs) = xs
+
 -- lines that are the same up to a clip find the same
 pub some_same : (image : List ℕ) (xs ys : List (List ℕ)) (place : ℕ) → map clip xs ≡ map clip ys → SomeFindsDamage image xs place → SomeFindsDamage image ys place
 some_same image [] ys place same none = absurd none
@@ -71,4 +75,4 @@ some_same image (x ∷ xs) [] place same here = absurd cc
 some_same image (x ∷ xs) (y ∷ ys) place same (inl here) =
     let reads : reading_of x ≡ reading_of y = sym (reading_clip x) ∙ ap (λ (l : List (List ℕ)). reading_of (first_or [] l)) same ∙ reading_clip y in
     inl (subst (λ (r : Reading). FindsDamage image r place) reads here)
-some_same image (x ∷ xs) (y ∷ ys) place same (inr later) = inr (some_same image xs ys place (ap (λ (l : List (List ℕ)). drop 1 l) same) later)
+some_same image (x ∷ xs) (y ∷ ys) place same (inr later) = inr (some_same image xs ys place (ap rest_of same) later)

@@ -1,9 +1,9 @@
-use Rattle.std.proofs.Common.{◌≡◌, ◌++◌, ℕ, List, ap, sym, subst, ◌∙◌}
+use Rattle.std.proofs.Common.{◌≡◌, ℕ, List, map, sym, subst, ◌∙◌}
 use Rattle.alta_compile.specs.PlanOf.{plan_of}
 use Rattle.alta_images.specs.Ordered.{RowsPrecede}
+use Rattle.alta_images.specs.Standing.{tables_by}
 use Rattle.alta_loading.specs.Snapshots.{all_rows, loaded_view}
 use Rattle.alta_meta.specs.declared.document.Document.{Document}
-use Rattle.alta_content.specs.declared.document.DocRow.{DocRow}
 use Rattle.alta_model.specs.Deciding.{answers}
 use Rattle.alta_search.specs.Documents.{AreToCome}
 use Rattle.alta_search.specs.Plans.{tests_of}
@@ -20,5 +20,5 @@ returns g c = λ disk store s q found tell agrees stands are.
     let here : AreToCome (plan_of q) are.snapshot 0 (answers s.documents q) =
     subst (λ (v : View). AreToCome (plan_of q) v 0 (answers s.documents q)) (sym are.loaded)
     (subst (λ (levels : List Tables). AreToCome (plan_of q) (loaded_view levels are.newest.content image (tests_of (plan_of q)) are.gone) 0 (answers s.documents q)) (sym finds.tables)
-    (subst (λ (documents : List Document). AreToCome (plan_of q) (loaded_view _ are.newest.content image (tests_of (plan_of q)) are.gone) 0 (answers documents q)) (sym finds.documents) come)) in
+    (subst (λ (documents : List Document). AreToCome (plan_of q) (loaded_view (map tables_by finds.contents) are.newest.content image (tests_of (plan_of q)) are.gone) 0 (answers documents q)) (sym finds.documents) come)) in
     are.answers here.space here.shows ∙ here.answers
