@@ -1,7 +1,13 @@
 -- The range terms of a number, behind the term of its folding.
-use Rattle.std.proofs.Common.{◌≡◌, ℕ, zero, suc, ◌+◌, ◌-◌, ◌/◌, ◌^◌, ◌≤◌, ◌<◌, List, [], ◌∷◌, ◌++◌, length, get_or, arith, refl, sym, ap, ◌∙◌, subst, append-nil, append_assoc}
+use Rattle.std.proofs.Common.{◌≡◌, ℕ, zero, suc, ◌+◌, ◌-◌, ◌/◌, ◌^◌, ◌≤◌, ◌<◌, List, [], ◌∷◌, ◌++◌, length, get_or, arith, refl, sym, ap, ◌∙◌, subst, append-nil, append_assoc, Bool, false, ◌||◌, Option, Some, None}
+use Rattle.std.specs.Cmp.Lexicographic.{slice_cmp}
+use Rattle.std.specs.Int.{w32, to_be_bytes}
+use Rattle.std.specs.List.{AllByRecursion, list_any}
+use Rattle.std.specs.List.Sorted.{IsStrictlySortedBy}
+use Rattle.std.specs.Ordering.{nat_cmp}
+use Rattle.std.specs.declared.cmp.Ordering.TheVariants.{Less}
 use Rattle.alta_codec.specs.Order.{Precedes}
-use Rattle.alta_meta.specs.Cells.{AreInOrder, IsCell}
+use Rattle.alta_meta.specs.Cells.{AreInOrder, IsCell, numbered}
 use Rattle.alta_range.specs.Terms.{term_bytes, terms_from, range_terms}
 use Rattle.alta_range.proofs.TermLaws.{are_apart}
 
@@ -54,3 +60,50 @@ number_is_cell folding value e = record {
 
 pub cell_is : (folding : List ℕ) (value : ℕ) (terms : List (List ℕ)) → get_or folding 0 0 ≡ 87 → terms ≡ folding ∷ range_terms value → IsCell terms
 cell_is folding value terms e is = subst IsCell (sym is) (number_is_cell folding value e)
+
+-- ---- what holds of the terms of a word that is its folding
+
+abbrev After : List ℕ → List (List ℕ) → Type 0
+After term terms = AllByRecursion (λ next. slice_cmp nat_cmp term next ≡ Less) terms
+
+after : (n level value : ℕ) (term : List ℕ) → ((k prefix : ℕ) → level ≤ k → Precedes term (term_bytes k prefix)) → After term (terms_from value level n)
+unfolding terms_from
+after zero level value term first = tt
+after (suc n) level value term first = (first level (value / 2 ^ level) (omega arith), after n (level + 1) value term (λ k prefix le. first k prefix (omega arith)))
+
+sorted_from : (n level value : ℕ) → IsStrictlySortedBy (slice_cmp nat_cmp) (terms_from value level n)
+unfolding terms_from IsStrictlySortedBy
+sorted_from zero level value = tt
+sorted_from (suc n) level value = (
+  after n (level + 1) value (term_bytes level (value / 2 ^ level)) (λ k prefix le. are_apart.rising level k (value / 2 ^ level) prefix (omega arith)),
+  sorted_from n (level + 1) value,
+)
+
+-- they rise
+pub numbered_sorted : (folded : List ℕ) (number : Option ℕ) → IsStrictlySortedBy (slice_cmp nat_cmp) ((87 ∷ folded) ∷ numbered number)
+unfolding range_terms IsStrictlySortedBy
+numbered_sorted folded None = (tt, tt)
+numbered_sorted folded (Some value) = (after 33 0 value (87 ∷ folded) (λ k prefix le. word_first folded k prefix), sorted_from 33 0 value)
+
+each_from : (P : List ℕ → Type 0) → ((level prefix : ℕ) → P (term_bytes level prefix)) → (n level value : ℕ) → AllByRecursion P (terms_from value level n)
+unfolding terms_from
+each_from P each zero level value = tt
+each_from P each (suc n) level value = (each level (value / 2 ^ level), each_from P each n (level + 1) value)
+
+-- what holds of each range term
+pub numbered_all : (P : List ℕ → Type 0) → ((level prefix : ℕ) → P (88 ∷ 255 ∷ level ∷ to_be_bytes w32 prefix)) → (number : Option ℕ) → AllByRecursion P (numbered number)
+unfolding range_terms term_bytes
+numbered_all P each None = tt
+numbered_all P each (Some value) = each_from P each 33 0 value
+
+none_from : (p : List ℕ → Bool) → ((level prefix : ℕ) → p (term_bytes level prefix) ≡ false) → (n level value : ℕ) → list_any p (terms_from value level n) ≡ false
+unfolding terms_from
+none_from p none zero level value = refl
+none_from p none (suc n) level value =
+    ap (λ b. b || list_any p (terms_from value (level + 1) n)) (none level (value / 2 ^ level)) ∙ none_from p none n (level + 1) value
+
+-- what none of them passes
+pub numbered_none : (p : List ℕ → Bool) → ((level prefix : ℕ) → p (88 ∷ 255 ∷ level ∷ to_be_bytes w32 prefix) ≡ false) → (number : Option ℕ) → list_any p (numbered number) ≡ false
+unfolding range_terms term_bytes
+numbered_none p none None = refl
+numbered_none p none (Some value) = none_from p none 33 0 value
