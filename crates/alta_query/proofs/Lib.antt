@@ -25,3 +25,4 @@ pub mod Texts
 pub mod Members
 pub mod TextTokens
 pub mod TextWords
+pub mod ValueLaws
