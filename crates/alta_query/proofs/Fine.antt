@@ -26,11 +26,11 @@ use Rattle.alta_query.proofs.Unquoted.{all_weaker, run_spells, name_spells, near
 use Rattle.alta_query.proofs.Canonical.{canon_reads}
 
 -- the bytes are a run that is this token, behind no `name:`
-abbrev IsRunOf : List ℕ → Token → Type 0
+abbrev pub IsRunOf : List ℕ → Token → Type 0
 IsRunOf s t = (0 < length s) × (list_all is_run s ≡ true) × (starts_with nat_eq s (codes "name:") ≡ false) × (run_token s ≡ t)
 
 -- what a token of a text is
-abbrev IsFineLone : Lone → Type 0
+abbrev pub IsFineLone : Lone → Type 0
 IsFineLone (words title text tests) = (no_quote text ≡ true) × (has_words text ≡ true) × (tests ≡ tests_of text)
 IsFineLone (prefix title front test) = IsRunOf (spelled (operand (prefix title front test))) (operand (prefix title front test))
 IsFineLone (name text) = is_name text ≡ true
@@ -242,21 +242,21 @@ spots_fine (b ∷ bs) p zero =
 spots_fine (b ∷ bs) p (suc k) = spots_fine bs (p + 1) k
 
 -- the query that they spell
-abbrev IsFineSide : Side → Type 0
+abbrev pub IsFineSide : Side → Type 0
 IsFineSide s = IsFineLone (of_side s)
 
-abbrev IsFineAtom : Atom → Type 0
+abbrev pub IsFineAtom : Atom → Type 0
 IsFineAtom (lone a) = IsFineLone a
 IsFineAtom (near l k r) = IsFineSide l × (1 ≤ k) × (k ≤ 1000) × IsFineSide r
 
 abbrev mutual
-  IsFineShape : Shape → Type 0
+  pub IsFineShape : Shape → Type 0
   IsFineShape (atom a) = IsFineAtom a
   IsFineShape (all qs) = AreFineShapes qs
   IsFineShape (any qs) = AreFineShapes qs
   IsFineShape (negated q) = IsFineShape q
 
-  AreFineShapes : Shapes → Type 0
+  pub AreFineShapes : Shapes → Type 0
   AreFineShapes none = Unit {0}
   AreFineShapes (more q qs) = IsFineShape q × AreFineShapes qs
 
@@ -341,11 +341,15 @@ mutual
   canon_or_spell none f = no_tokens
   canon_or_spell (more q qs) f = token_and or_spells (spell_append (parens_if (is_any q) (canon q)) (canon_behind_or qs) (parens_spell (is_any q) (canon q) (canon_spell q f.0)) (canon_or_spell qs f.1))
 
+pub read_fine : (text : List ℕ) (q : Shape) → Reads (tokens_of (spots text)) q → IsFineShape q
+unfolding spots
+read_fine text q r = subst IsFineShape (sym r.is_any) (any_fine r.members (or_fine r.spelled (spots_fine text 0 0)))
+
 -- the canonical spelling of a query that some text spells
 pub reads_again : (text : List ℕ) (q : Shape) → Reads (tokens_of (spots text)) q → Reads (tokens_of (spots (canonical q))) q
 unfolding spots canonical
 reads_again text q r =
-    let fine : IsFineShape q = subst IsFineShape (sym r.is_any) (any_fine r.members (or_fine r.spelled (spots_fine text 0 0))) in
+    let fine : IsFineShape q = read_fine text q r in
     let cut : tokens_of (spots (with_tokens [] (canon q))) ≡ canon q = cut_written (canon q) (canon_spell q fine) in
     subst (λ ts. Reads ts q) (sym cut) (canon_reads (tokens_of (spots text)) q r)
 
@@ -372,5 +376,4 @@ mutual
   fine_each (more q qs) f = (fine_values q f.0, fine_each qs f.1)
 
 pub read_values : (text : List ℕ) (q : Shape) → Reads (tokens_of (spots text)) q → HasOrderedValues q
-unfolding spots
-read_values text q r = fine_values q (subst IsFineShape (sym r.is_any) (any_fine r.members (or_fine r.spelled (spots_fine text 0 0))))
+read_values text q r = fine_values q (read_fine text q r)

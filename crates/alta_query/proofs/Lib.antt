@@ -26,3 +26,4 @@ pub mod Members
 pub mod TextTokens
 pub mod TextWords
 pub mod ValueLaws
+pub mod PlainCells

@@ -12,7 +12,7 @@ mod test;
 mod word;
 
 pub use fault::{Cause, QueryFault};
-pub use laws::a_value_finds_numbers;
+pub use laws::{a_query_without_values_sees_no_ranges, a_value_finds_numbers};
 pub use printing::{print, reads_back};
 pub use query::{Atom, Queries, Query, Side};
 pub use reading::{
