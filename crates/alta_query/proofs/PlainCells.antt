@@ -1,9 +1,9 @@
 -- A query without values does not see the terms of ranges.
-use Rattle.std.proofs.Common.{◌≡◌, ◌⊎◌, ⊎_elim, inl, inr, ℕ, zero, suc, ◌+◌, ◌-◌, ◌/◌, ◌^◌, ◌≤◌, ◌<◌, Bool, true, false, ◌&&◌, ◌||◌, if◌then◌else◌, List, [], ◌∷◌, ◌++◌, length, get_or, map, take, drop, Option, Some, None, arith, refl, sym, ap, ◌∙◌, subst}
-use Rattle.std.specs.List.{All, list_any, prefix_len, take_while, position_or_len, starts_with, ends_with}
+use Rattle.std.proofs.Common.{◌≡◌, ⊎_elim, inl, inr, ℕ, zero, suc, ◌+◌, ◌-◌, ◌/◌, ◌^◌, ◌≤◌, ◌<◌, Bool, true, false, ◌||◌, if◌then◌else◌, List, [], ◌∷◌, ◌++◌, length, get_or, map, take, drop, Option, Some, None, arith, refl, sym, ap, ◌∙◌, subst}
+use Rattle.std.specs.List.{All, prefix_len, take_while, starts_with, ends_with}
 use Rattle.std.specs.Prelude.{◌↔◌, MatchOption, nat_eq, nat_le, nat_lt, codes}
 use Rattle.std.specs.Str.{IsUtf8, bytes_eq, chars}
-use Rattle.std.proofs.lemmas.Bool.{false≢true, leb-true, or_cases}
+use Rattle.std.proofs.lemmas.Bool.{false≢true}
 use Rattle.std.proofs.lemmas.Bool.Decides.{nat_tests}
 use Rattle.std.proofs.lemmas.List.Elements.{All-nil, All-cons, All-append, All-head, All-tail, All-map}
 use Rattle.std.proofs.lemmas.Slice.Eq.{bytes_eq-Decides}
@@ -11,16 +11,15 @@ use Rattle.std.proofs.lemmas.Str.{IsUtf8-past_char, encode_ascii}
 use Rattle.std.specs.Int.{w32, to_be_bytes}
 use Rattle.alta_codec.specs.Decimal.{is_count, value_of}
 use Rattle.alta_meta.specs.Cells.{cells_of, numbered, word_cell}
-use Rattle.alta_meta.specs.declared.kinds.TheConstants.{WORD, WRITTEN, NAME, START, TITLE_END, DOCUMENT_END}
+use Rattle.alta_meta.specs.declared.kinds.TheConstants.{WORD, WRITTEN, TITLE_END, DOCUMENT_END}
 use Rattle.alta_query.specs.Matches.{AllMatch, AnyMatches, Matches}
 use Rattle.alta_query.specs.Patterns.{AreMet, AtomMatches, IsMet, Pattern, Satisfies, SatisfiesOne, lone_pattern, meets, numbers_in, pattern_of, phrase_pattern, test_of, title_end, titled, value_patterns}
 use Rattle.alta_query.specs.Shape.{Side, word, stem, Lone, words, prefix, name, value, Atom, lone, near, Shape, Shapes, atom, all, any, negated, none, more}
 use Rattle.alta_query.specs.Spelling.{spelled}
-use Rattle.alta_query.specs.Spots.{dotted, is_undotted, near_token, ordered, plain_token, prefix_token, run_token, value_token, words_token}
+use Rattle.alta_query.specs.Spots.{is_undotted, near_token, ordered, plain_token, prefix_token, run_token, value_token, words_token}
 use Rattle.alta_query.specs.Texts.{AsksForText, HasTextTerm, HasTextTerms, HaveTextTerms}
 use Rattle.alta_query.specs.Token.{Token, open_paren, close_paren, and_word, or_word, not_word, near_word, operand, faulty}
 use Rattle.alta_query.specs.Values.{HasNoValue, HaveNoValue, SeesNoRanges, plain_cell, plain_cells_of}
-use Rattle.alta_query.specs.Canon.{of_side}
 use Rattle.alta_query.specs.Words.{has_words, is_only, is_stem, name_test, stem_test, tests_of, word_term, word_test}
 use Rattle.alta_query.specs.declared.fault.Cause.TheVariants as cause
 use Rattle.alta_query.specs.declared.test.Test.{Test}
@@ -244,9 +243,11 @@ document_alike test passes called title body =
     let plain_front : Cells = map plain_cell (words_of title) in
     let back : Cells = ((TITLE_END ∷ []) ∷ []) ∷ map word_cell (words_of body) in
     let plain_back : Cells = ((TITLE_END ∷ []) ∷ []) ∷ map plain_cell (words_of body) in
-    let end : Cells = ((DOCUMENT_END ∷ []) ∷ []) ∷ [] in
-    (refl, alike_append test (front ++ back) (plain_front ++ plain_back) end end
-    (alike_append test front plain_front back plain_back (words_alike test passes (words_of title)) (refl, words_alike test passes (words_of body))) (refl, tt))
+    let end : Cells = ((DOCUMENT_END ∷ []) ∷ []) ∷ [] in (
+      refl,
+      alike_append test (front ++ back) (plain_front ++ plain_back) end end
+          (alike_append test front plain_front back plain_back (words_alike test passes (words_of title)) (refl, words_alike test passes (words_of body))) (refl, tt),
+    )
 
 met_too : (test : Test) (cs ds : Cells) → Alike test cs ds → (k : ℕ) → IsMet cs test k → IsMet ds test k
 met_too test [] [] h k m = m

@@ -13,7 +13,7 @@ use Rattle.alta_range.specs.Numbers.{number_in}
 use Rattle.alta_query.specs.Grammar.{IsUnary, alone, two_sides, behind_not, in_parens, IsAnd, first_unary, beside_and, behind_and, IsOr, first_and, behind_or, Reads}
 use Rattle.alta_query.specs.Patterns.{phrase_pattern, test_of}
 use Rattle.alta_query.specs.Shape.{Lone, words, prefix, name, value, lone, Side, Shape, all_of}
-use Rattle.alta_query.specs.Spots.{is_blank, is_solid, is_quote, is_run, words_token, prefix_token, plain_token, name_token, near_token, is_undotted, ordered, dotted, value_token, run_token, quoted_token, quoted_len, is_quoted_title, first_token, first_len, spots_from, spots}
+use Rattle.alta_query.specs.Spots.{is_blank, is_solid, is_quote, is_run, words_token, prefix_token, plain_token, name_token, near_token, is_undotted, ordered, value_token, run_token, quoted_token, quoted_len, is_quoted_title, first_token, first_len, spots_from, spots}
 use Rattle.alta_query.specs.Texts.{HasTextTerm, AsksForText, HasTextTerms}
 use Rattle.alta_query.specs.Token.{Token, open_paren, close_paren, and_word, or_word, not_word, near_word, operand, faulty, side_of, at, tokens_of}
 use Rattle.alta_query.specs.Words.{has_words, tests_of, is_stem, stem_test}

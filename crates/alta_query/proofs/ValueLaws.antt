@@ -3,18 +3,17 @@ use Rattle.std.proofs.Common.{◌≡◌, ◌⊎◌, ⊎_elim, inl, inr, ℕ, zer
 use Rattle.std.specs.Char.{is_ascii_digit, to_ascii_lowercase}
 use Rattle.std.specs.Fmt.{decimal}
 use Rattle.std.specs.List.{All, Any, list_all, list_any}
-use Rattle.std.specs.Prelude.{◌↔◌, nat_lt}
-use Rattle.std.specs.Str.{IsUtf8, IsAscii, bytes_eq}
+use Rattle.std.specs.Prelude.{nat_lt}
+use Rattle.std.specs.Str.{IsUtf8, bytes_eq}
 use Rattle.std.proofs.lemmas.Bool.{false≢true, or_cases}
 use Rattle.std.proofs.lemmas.Bool.Decides.{nat_tests}
 use Rattle.std.proofs.lemmas.Fmt.{length-decimal-le}
-use Rattle.std.proofs.lemmas.List.{map-append}
 use Rattle.std.proofs.lemmas.List.Elements.{All-nil, All-cons, All-append, All-head, All-tail}
 use Rattle.std.proofs.lemmas.List.Folds.{list_any-append, list_any_at, Any-from_list_any, list_any-from_Any}
 use Rattle.std.proofs.lemmas.Slice.Eq.{bytes_eq-Decides}
 use Rattle.std.proofs.lemmas.Str.Ascii.{IsAscii-from_all, lowercase_is}
 use Rattle.alta_meta.specs.Cells.{cell_holds, cells_of, numbered, word_cell}
-use Rattle.alta_meta.specs.declared.kinds.TheConstants.{WORD, WRITTEN, NAME, START, TITLE_END, DOCUMENT_END, WORD_LIMIT}
+use Rattle.alta_meta.specs.declared.kinds.TheConstants.{WORD, WRITTEN, NAME, START, TITLE_END, DOCUMENT_END}
 use Rattle.alta_query.specs.Patterns.{IsKept, Satisfies, SatisfiesOne, range_pattern}
 use Rattle.alta_query.specs.Values.{IsValue, FindsNumbers}
 use Rattle.alta_query.proofs.Quoted.{both}

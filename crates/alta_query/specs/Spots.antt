@@ -1,5 +1,5 @@
 -- How a text is cut into tokens.
-use Rattle.std.specs.Prelude.{ℕ, zero, suc, ◌+◌, ◌-◌, ◌*◌, List, [], ◌∷◌, length, take, drop, Bool, true, false, not, ◌||◌, ◌&&◌, ◌==◌, nat_lt, nat_le, nat_eq, if◌then◌else◌, codes, Option, Some, None}
+use Rattle.std.specs.Prelude.{ℕ, zero, suc, ◌+◌, ◌-◌, List, [], ◌∷◌, length, take, drop, Bool, true, false, not, ◌||◌, ◌==◌, nat_lt, nat_le, nat_eq, if◌then◌else◌, codes, Option, Some, None}
 use Rattle.std.specs.List.{prefix_len, take_while, position_or_len, before_first, starts_with, ends_with}
 use Rattle.std.specs.Str.{bytes_eq}
 use Rattle.alta_codec.specs.Decimal.{is_count, value_of}
