@@ -6,7 +6,7 @@ use Rattle.alta_codec.specs.declared.extent.Extent.{Extent}
 use Rattle.alta_images.specs.Chain.{◌>>=◌}
 use Rattle.alta_images.specs.Opened.{Opened, IsOpened}
 use Rattle.alta_images.specs.Views.{View}
-use Rattle.alta_images.specs.Working.{Full, placed, placed_at}
+use Rattle.alta_images.specs.Working.{AreFirstGaps, Full, placed, placed_at}
 use Rattle.alta_images.proofs.FullLaws.{full_is, gap_short, ok_err, placed_first}
 use Rattle.alta_images.proofs.Tests.{by_test}
 use Rattle.alta_rewrite.specs.Drafts.{list_of, segment_of}
@@ -16,7 +16,7 @@ use Rattle.alta_root.specs.Gaps.{IsFirstGap, IsLongestGap, first_gap, greatest_g
 use Rattle.alta_root.specs.Root.{extents_of}
 use Rattle.alta_root.specs.declared.root.Root.{Root}
 use Rattle.alta_root.proofs.GapFunctions.{greatest_is}
-use Rattle.alta_store.specs.Calls.{AreFirstGaps, IsNarrow, IsRewrite, IsWork}
+use Rattle.alta_store.specs.Calls.{IsNarrow, IsRewrite, IsWork}
 
 -- ---- what is placed before
 

@@ -17,7 +17,7 @@ use Rattle.alta_images.specs.Standing.{StandsFor, StandsForEither, view_of}
 use Rattle.alta_images.specs.Switching.{with_entry}
 use Rattle.alta_images.specs.Views.{View}
 use Rattle.alta_images.specs.Work.{Task, enters, fits, flushes, gone, merges, newest_content, steps}
-use Rattle.alta_images.specs.Working.{Full, IsJoin, all_contents, entered, flushed, worked}
+use Rattle.alta_images.specs.Working.{AreFirstGaps, Full, IsJoin, all_contents, entered, flushed, worked}
 use Rattle.alta_joins.specs.Contents.{data_size}
 use Rattle.alta_joins.specs.Damages.{IsFirstDamage}
 use Rattle.alta_journal.specs.Places.{start_of}
@@ -29,7 +29,7 @@ use Rattle.alta_rewrite.specs.Drafts.{rewrite_places}
 use Rattle.alta_rewrite.specs.Rewrites.{HaveRows, IsComing, IsGiven, Replaces, no_content}
 use Rattle.alta_rewrite.specs.declared.ends.Ends.{Ends}
 use Rattle.alta_rewrite.specs.declared.levels.NextLevels.{NextLevels}
-use Rattle.alta_root.specs.Gaps.{IsFirstGap, IsLongestGap, taken_by}
+use Rattle.alta_root.specs.Gaps.{IsLongestGap, taken_by}
 use Rattle.alta_root.specs.Root.{extents_of}
 use Rattle.alta_store.specs.Agreement.{Agrees, Has, Keeps, Knows, levels_of, room_of}
 use Rattle.alta_store.specs.Answers.{IsOutside}
@@ -141,11 +141,6 @@ abbrev pub NoRefusal : StoreFault → Type 0
 NoRefusal fault = ⊥
 
 -- ---- where no place is left
-
--- each of these is the first gap of its length, beside what is taken and those before it
-abbrev pub AreFirstGaps : ℕ → List Extent → List Extent → Type 0
-AreFirstGaps limit taken [] = Unit {0}
-AreFirstGaps limit taken (extent ∷ more) = IsFirstGap taken extent.bytes limit extent.place × AreFirstGaps limit (taken ++ extent ∷ []) more
 
 -- levels that a flush, a step or a merge puts in place of others
 abbrev pub IsWork : View → NextLevels → Type 0
