@@ -1,13 +1,13 @@
 -- Why a switch of the root lacks a place.
 use Rattle.std.proofs.Common.{◌≡◌, ◌⊎◌, inl, inr, ⊎_elim, ℕ, zero, suc, ◌<◌, Bool, false, cond, List, [], ◌∷◌, ◌++◌, length, refl, sym, ◌∙◌, ap, subst, arith, Result, Ok, Err}
 use Rattle.std.specs.Prelude.{◌==◌, Option, Some, None}
-use Rattle.std.proofs.lemmas.List.{append-nil, append_assoc}
+use Rattle.std.proofs.lemmas.List.{append-nil}
 use Rattle.alta_codec.specs.declared.extent.Extent.{Extent}
 use Rattle.alta_images.specs.Chain.{◌>>=◌}
 use Rattle.alta_images.specs.Opened.{Opened, IsOpened}
 use Rattle.alta_images.specs.Views.{View}
 use Rattle.alta_images.specs.Working.{AreFirstGaps, Full, placed, placed_at}
-use Rattle.alta_images.proofs.FullLaws.{full_is, gap_short, ok_err, placed_first}
+use Rattle.alta_images.proofs.FullLaws.{first_append, full_is, gap_short, ok_err, placed_first}
 use Rattle.alta_images.proofs.Tests.{by_test}
 use Rattle.alta_rewrite.specs.Drafts.{list_of, segment_of}
 use Rattle.alta_rewrite.specs.Places.{as_list, place_for, places_for}
@@ -38,12 +38,6 @@ first_one taken bytes limit (Some extent) e =
         let found = placed_first taken bytes limit extent (is ∙ ap (λ (y : Extent). Ok y) (one x e)) in
         subst (λ (n : ℕ). IsFirstGap taken n limit extent.place) (sym found.1) found.0
     by_placed (Err full) is e = absurd cc
-
--- first gaps behind first gaps
-first_more : (limit : ℕ) (taken xs ys : List Extent) → AreFirstGaps limit taken xs → AreFirstGaps limit (taken ++ xs) ys → AreFirstGaps limit taken (xs ++ ys)
-first_more limit taken [] ys first more = subst (λ (es : List Extent). AreFirstGaps limit es ys) (append-nil taken) more
-first_more limit taken (x ∷ xs) ys first more =
-    (first.0, first_more limit (taken ++ x ∷ []) xs ys first.1 (subst (λ (es : List Extent). AreFirstGaps limit es ys) (sym (append_assoc taken (x ∷ []) xs)) more))
 
 -- ---- where no gap is long enough
 
@@ -82,7 +76,7 @@ places_short limit root oldest newest list full e =
     (λ last. ⊎_elim (λ found. absurd (ok_err _ full found.2))
     (λ is. record {
       extra = as_list first.0 ++ as_list last.0;
-      first = first_more limit (extents_of root) (as_list first.0) (as_list last.0) (oldest_first first.0 first.1) (first_one (taken_by root (as_list first.0)) newest limit last.0 last.1);
+      first = first_append limit (extents_of root) (as_list first.0) (as_list last.0) (oldest_first first.0 first.1) (first_one (taken_by root (as_list first.0)) newest limit last.0 last.1);
       short = place_short (taken_by root (as_list first.0 ++ as_list last.0)) list limit full is;
     })
     (first_failed (place_for (taken_by root (as_list first.0 ++ as_list last.0)) list limit) _ full last.2))

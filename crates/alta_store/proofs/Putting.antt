@@ -1,6 +1,6 @@
 -- Levels in place of others, on a store and its disk.
-use Rattle.std.proofs.Common.{◌≡◌, ◌⊎◌, inl, inr, ⊎_elim, ℕ, zero, suc, ◌+◌, ◌<◌, Bool, true, false, cond, Vec, Global, List, [], ◌∷◌, ◌++◌, length, map, take, drop, refl, sym, ◌∙◌, ap, ap₂, subst, arith, Result, Ok, Err}
-use Rattle.std.specs.Prelude.{◌==◌, Contains, Option, Some, None, ⊤}
+use Rattle.std.proofs.Common.{◌≡◌, ◌⊎◌, inl, inr, ⊎_elim, ℕ, ◌+◌, ◌<◌, true, Vec, Global, List, [], ◌∷◌, ◌++◌, map, take, drop, refl, sym, ◌∙◌, ap, ap₂, subst, arith, Result, Ok, Err}
+use Rattle.std.specs.Prelude.{Contains, Option, Some, None, ⊤}
 use Rattle.std.specs.List.{All}
 use Rattle.std.proofs.lemmas.Bool.{false≢true}
 use Rattle.std.proofs.lemmas.Grind.{flat_map-append}
@@ -32,7 +32,7 @@ use Rattle.alta_images.proofs.WrittenLaws.{held_stands}
 use Rattle.alta_images.specs.Standing.{StandsFor, tables_by, view_of}
 use Rattle.alta_images.specs.Views.{View, state_of}
 use Rattle.alta_images.specs.Work.{Job, coming, gone_among, newest, level_rows, stays}
-use Rattle.alta_images.specs.Working.{Full, content_to_come, rows_of as content_rows, switched}
+use Rattle.alta_images.specs.Working.{content_to_come, rows_of as content_rows, switched}
 use Rattle.alta_images.proofs.JoinLaws.{coming_rows}
 use Rattle.alta_images.proofs.KeptStates.{rows_by_levels, stay_contents}
 use Rattle.alta_images.proofs.Tests.{by_test, filter_drop, filter_keep}
