@@ -11,6 +11,7 @@ program has; `send_add`, `send_delete` and `add_all` keep many lines under way a
 and its standard library.
 """
 
+import contextlib
 import fcntl
 import os
 import re
@@ -270,7 +271,7 @@ class ProtocolFault(Error):
 
 
 class InUse(Error):
-    """Another client, or the program that it left, has the index open."""
+    """Another program has the index open: another client's, one that a client left, or one by hand."""
 
 
 class Closed(Error):
@@ -462,8 +463,8 @@ class Index:
     """An index in a file, by a program of its own that ends with `close` or at the end of a `with`.
 
     `create` makes the index where there is no file, or an empty one. `program` is the program's path: by default what the
-    variable BUNCOCEDAR_PROGRAM says, or else `alta` beside the folder of this client. The file is locked for the life of the
-    program; where another client has it, `patience` says how many seconds to wait before `InUse`.
+    variable BUNCOCEDAR_PROGRAM says, or else `alta` beside the folder of this client. The program locks the file as long as
+    it runs; where another program has it, `patience` says how many seconds to wait before `InUse`.
 
     Not to be called by two threads at once. Raises `Ended` where the index does not open.
     """
@@ -481,19 +482,18 @@ class Index:
             _make(self._program, self.path)
         if not os.path.exists(self.path):
             raise NoIndex(7, f"there is no file {self.path}")
-        lock = _locked(self.path, patience)
-        try:
-            self._process = _started(self._program, self.path, "run", pass_fds=(lock,))
-        finally:
-            os.close(lock)
-        self._said = _Said(self._process.stderr.fileno())
-        for pipe in (self._process.stdin, self._process.stdout, self._process.stderr):
-            os.set_blocking(pipe.fileno(), False)
-        try:
-            self.stats()
-        except BaseException:
-            self.kill()
-            raise
+        with _turn(self.path, patience):
+            self._process = _started(self._program, self.path, "run")
+            self._said = _Said(self._process.stderr.fileno())
+            for pipe in (self._process.stdin, self._process.stdout, self._process.stderr):
+                os.set_blocking(pipe.fileno(), False)
+            try:
+                self.stats()
+            except BaseException as error:
+                self.kill()
+                if isinstance(error, DiskFault) and _is_locked(self.path):
+                    raise _in_use(self.path) from None
+                raise
 
     def __enter__(self):
         return self
@@ -935,25 +935,56 @@ def _replace_empty(fresh, path):
         os.replace(fresh, path)
 
 
-def _locked(path, patience):
-    """A handle of the file, locked. The program keeps it too: it may outlive a client that was killed.
+@contextlib.contextmanager
+def _turn(path, patience):
+    """A client's turn to open the index at this path: no program has the file when it begins.
 
-    Where there is no file there is nothing to lock: the program then says that there is no index.
+    The program locks the file itself, and ends where another has it. So that no two clients start one at once, each holds
+    the lock of the file's folder until its program has the file. Where there are no locks nothing is waited for.
     """
-    try:
-        handle = os.open(path, os.O_RDWR)
-    except OSError:
-        return os.open(os.devnull, os.O_RDWR)
     until = time.monotonic() + patience
     while True:
-        try:
+        with _opened(os.path.dirname(os.path.realpath(path)), os.O_RDONLY) as folder:
+            if _lock(folder) and not _is_locked(path):
+                yield
+                return
+        if time.monotonic() >= until:
+            raise _in_use(path)
+        time.sleep(0.02)
+
+
+def _is_locked(path):
+    """Whether a program has locked the file."""
+    with _opened(path, os.O_RDWR) as file:
+        return not _lock(file)
+
+
+@contextlib.contextmanager
+def _opened(path, flags):
+    """A handle, or None where it can't be had: the program then says why."""
+    try:
+        handle = os.open(path, flags)
+    except OSError:
+        yield None
+        return
+    try:
+        yield handle
+    finally:
+        os.close(handle)
+
+
+def _lock(handle):
+    """Locks what the handle is of until it is closed; false where another handle has it locked."""
+    try:
+        if handle is not None:
             fcntl.flock(handle, fcntl.LOCK_EX | fcntl.LOCK_NB)
-            return handle
-        except BlockingIOError:
-            if time.monotonic() >= until:
-                os.close(handle)
-                raise InUse(f"{path} is open in another client, or in the program that it left") from None
-            time.sleep(0.02)
-        except OSError:
-            # The file system has no locks.
-            return handle
+    except BlockingIOError:
+        return False
+    except OSError:
+        # The file system has no locks.
+        pass
+    return True
+
+
+def _in_use(path):
+    return InUse(f"{path} is open in another program, or another client is opening it")

@@ -2,16 +2,18 @@
 loaded, by docs/QUERIES.md and docs/FORMAT.md and by nothing of the program's. Texts are ASCII.
 
 A query is a tuple: ("word", w), ("phrase", [w, ..]), ("prefix", stem), ("name", n), ("near", k, side, side), ("title", atom),
-("and", [q, ..]), ("or", [q, ..]), ("not", q). A test is ("is", term) or ("begins", term).
+("value", low, high), ("and", [q, ..]), ("or", [q, ..]), ("not", q). A test is ("is", term) or ("begins", term).
 """
 
 import re
 
 NUMBERS = 2**32
+LEVELS = 32
 CURSORS = 64
 ATOMS = ("word", "phrase", "prefix", "name", "near", "title")
 END = ("is", b"D")
 TITLE_END = ("is", b"T")
+NUMBER = re.compile(r"0|[1-9][0-9]{0,9}", re.ASCII)
 # letters are joined by one of `:.'`, and digits by one of `,;.'`
 RUN = re.compile(r"(?:\w|(?<=[A-Za-z])[:.'](?=[A-Za-z])|(?<=[0-9])[,;.'](?=[0-9]))+", re.ASCII)
 
@@ -24,12 +26,27 @@ def words_of(text):
     return [run for run in RUN.findall(text) if re.search("[A-Za-z0-9]", run)]
 
 
-def cell_of(word):
-    """The terms of a word."""
-    if len(word) > 128:
+def range_term(level, prefix):
+    """The term of the numbers whose quotient by 2 ** level is the prefix."""
+    return b"X\xff" + bytes([level]) + prefix.to_bytes(4, "big")
+
+
+def range_terms(word):
+    """The terms by which a word is found as a number, one of each level; none of a word that is no number."""
+    if not NUMBER.fullmatch(word) or int(word) >= NUMBERS:
         return []
+    return [range_term(level, int(word) >> level) for level in range(LEVELS + 1)]
+
+
+def spellings(word):
+    """The terms of a word's folding and of its spelling, where the two differ."""
     folded = [b"W" + word.lower().encode()]
     return folded if word == word.lower() else folded + [b"X" + word.encode()]
+
+
+def cell_of(word):
+    """The terms of a word."""
+    return [] if len(word) > 128 else spellings(word) + range_terms(word)
 
 
 def cells_of(name, title, body):
@@ -64,7 +81,17 @@ class Document:
 
 
 def test_of(word):
-    return ("is", cell_of(word)[-1])
+    return ("is", spellings(word)[-1])
+
+
+def cover(low, high):
+    """The terms of the ranges that cover the numbers from one to another: the greatest that begins at the first, and so on behind it."""
+    terms = []
+    while low <= high:
+        level = max(k for k in range(LEVELS + 1) if low % 2**k == 0 and low + 2**k - 1 <= high)
+        terms.append(range_term(level, low >> level))
+        low += 2**level
+    return terms
 
 
 def tests_of(atom):
@@ -75,7 +102,7 @@ def tests_of(atom):
     if kind == "word":
         return [test_of(atom[1])]
     if kind == "prefix":
-        return [("begins", cell_of(atom[1])[-1])]
+        return [("begins", spellings(atom[1])[-1])]
     if kind == "name":
         return [("is", b"N" + atom[1].encode())]
     if kind == "near":
@@ -88,6 +115,8 @@ def loads(query):
     kind = query[0]
     if kind in ATOMS:
         return [END] + tests_of(query)
+    if kind == "value":
+        return [test for term in cover(query[1], query[2]) for test in (END, ("is", term))]
     if kind == "not":
         return [END] + loads(query[1])
     if kind == "or":
@@ -115,6 +144,8 @@ def matches(query, places):
         return all(matches(member, places) for member in query[1])
     if kind == "or":
         return any(matches(member, places) for member in query[1])
+    if kind == "value":
+        return any(places(("is", term)) for term in cover(query[1], query[2]))
     if kind == "title":
         return any(place < end for place in last_places(query[1], places) for end in places(TITLE_END))
     return bool(last_places(query, places))
@@ -131,6 +162,8 @@ def spelled(query):
         return query[1] + "*"
     if kind == "name":
         return "name:" + query[1]
+    if kind == "value":
+        return f"value:{query[1]}..{query[2]}"
     if kind == "near":
         return f"{spelled(query[2])} NEAR/{query[1]} {spelled(query[3])}"
     if kind == "title":

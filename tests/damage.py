@@ -25,7 +25,7 @@ import tempfile
 import time
 from typing import NamedTuple
 
-from answers import Document, Machine, loads, meets, spelled
+from answers import NUMBERS, Document, Machine, loads, meets, spelled
 from held import Held, empty_file, slot_bytes
 from levels import entry_of_add, entry_of_delete, journal, level
 from reading import HALF, HALVES, HEAD, LEVELS, NOTHING, PAYLOAD, SLOT, SLOTS, Add, Extent, NoIndex, Root, opened
@@ -98,6 +98,10 @@ QUERIES = [
     ("and", [DOG, ("not", QUICK)]),
     ("and", [("or", [RED, QUICK]), DOG]),
     ("and", [("title", FOX), QUICK, ("not", ("word", "lazy"))]),
+    ("value", 1990, 1999),
+    ("value", 0, NUMBERS - 1),
+    ("not", ("value", 7, 7)),
+    ("and", [("value", 6, 1996), RED, ("value", 0, 3000)]),
 ]
 # each term of the spelled indexes but that of a document's start, by a query of its own; and with the queries above
 TERMS = [("word", word) for word in ("the", "quick", "red", "fox", "dog", "brown", "lazy", "over", "jumps", "Red", "Fox", "Over")]

@@ -25,7 +25,7 @@ SLOT = 4096
 HALF = 1048576
 HEAD = 2 * SLOT + 2 * HALF
 GATE = b"\xa5"
-WORDS = ["red", "Fox", "quick", "brown", "dog", "lazy", "Over", "jumps"]
+WORDS = ["red", "Fox", "quick", "brown", "dog", "lazy", "Over", "jumps", "7", "1996", "4294967295", "4294967296"]
 ASKED = [
     "red",
     "fox",
@@ -42,6 +42,10 @@ ASKED = [
     "NOT fox",
     "brown NOT dog",
     "(red OR over) AND NOT name:d1*",
+    "value:1990..1999",
+    "value:0..4294967295",
+    "value:1997..4294967294 OR value:7..7",
+    "NOT value:0..1996 red",
 ]
 
 

@@ -26,7 +26,7 @@ from held import Held, empty_file
 from reading import NoIndex, opened
 from segments import Broken
 
-WORDS = ["red", "Fox", "quick", "brown", "dog", "lazy", "Over", "fox"]
+WORDS = ["red", "Fox", "quick", "brown", "dog", "lazy", "Over", "fox", "7", "1996", "4294967295", "007"]
 NAMES = "abcdefghijkl"
 COUNTED = ("flush", "merge", "step")
 

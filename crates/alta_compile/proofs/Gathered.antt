@@ -1,11 +1,11 @@
 -- Steps of the loops over the members of a query.
-use Rattle.std.proofs.Common.{◌≡◌, ℕ, Bool, zero, suc, ◌+◌, ◌<◌, ◌≤◌, true, false, List, [], ◌∷◌, ◌++◌, length, drop, get_or, map, refl, sym, subst, ap, ◌∙◌, arith, add-one, append_assoc}
-use Rattle.std.specs.Prelude.{nat_eq}
+use Rattle.std.proofs.Common.{◌≡◌, ℕ, Bool, zero, suc, ◌+◌, ◌<◌, ◌≤◌, true, false, List, [], ◌∷◌, ◌++◌, length, drop, get_or, map, refl, sym, subst, ap, ◌∙◌, arith, add-one, append_assoc, Option, Some, None}
+use Rattle.std.specs.Prelude.{nat_eq, is_none, MatchOption}
 use Rattle.std.proofs.lemmas.Bool.Decides.{nat_tests}
 use Rattle.std.proofs.Math.Seq.{drop-cons}
 use Rattle.std.proofs.lemmas.List.{append-nil}
 use Rattle.std.proofs.lemmas.List.Elements.{All-nil, All-cons}
-use Rattle.alta_query.specs.Patterns.{Bound, Pattern, pattern_of}
+use Rattle.alta_query.specs.Patterns.{Bound, Pattern, pattern_of, numbers_in}
 use Rattle.alta_query.specs.Shape.{Shape, Shapes, atom, all, any, negated, more, shapes_of}
 use Rattle.alta_query.specs.View.{shape}
 use Rattle.alta_query.specs.declared.query.Query.{Query}
@@ -13,7 +13,7 @@ use Rattle.alta_query.specs.declared.test.Test.{Test}
 use Rattle.alta_solver.specs.Inequality.{Inequality, IsNamed}
 use Rattle.alta_compile.specs.Drafted.{placed, IsAdded, IsDraftOf, is_atom, AddsMember}
 use Rattle.alta_compile.specs.Joined.{shifted, joint_pattern}
-use Rattle.alta_compile.specs.PlanOf.{held, between, found_of, atoms_in, all_plan, plan_of, plans_of, others_of}
+use Rattle.alta_compile.specs.PlanOf.{held, between, found_of, atom_plan, with_pattern, with_value, atoms_in, all_plan, plan_of, plans_of, others_of}
 use Rattle.alta_compile.specs.Tree.{FoundTree, Tree, found, all_of, Trees, no_more, also, trees_of}
 use Rattle.alta_compile.specs.View.{tree}
 use Rattle.alta_compile.specs.declared.draft.Draft.{Draft}
@@ -76,9 +76,15 @@ gathered_more old new p rest whole a g =
           ∙ g.bounds;
     }
 
+-- the pattern of an atom that is no value, or nothing
+gathered_atom : (old new : Draft) (p : Pattern) (numbers : Option (ℕ × ℕ)) (rest : List Pattern) (whole : Pattern) → MatchOption numbers (IsAdded old new p) (λ n. new ≡ old)
+    → IsGathered old (with_pattern p numbers rest) whole → IsGathered new rest whole
+gathered_atom old new p None rest whole h g = gathered_more old new p rest whole h g
+gathered_atom old new p (Some n) rest whole h g = subst (λ d. IsGathered d rest whole) (sym h) g
+
 gathered_next : (old new : Draft) (q : Shape) (qs : Shapes) (whole : Pattern) → AddsMember old new q → IsGathered old (atoms_in (more q qs)) whole
     → IsGathered new (atoms_in qs) whole
-gathered_next old new (atom a) qs whole h g = gathered_more old new (pattern_of a) (atoms_in qs) whole h g
+gathered_next old new (atom a) qs whole h g = gathered_atom old new (pattern_of a) (numbers_in a) (atoms_in qs) whole h g
 gathered_next old new (all rs) qs whole h g = subst (λ d. IsGathered d (atoms_in qs) whole) (sym h) g
 gathered_next old new (any rs) qs whole h g = subst (λ d. IsGathered d (atoms_in qs) whole) (sym h) g
 gathered_next old new (negated r) qs whole h g = subst (λ d. IsGathered d (atoms_in qs) whole) (sym h) g
@@ -162,15 +168,23 @@ pub each_end : (items : List Query) (i : ℕ) (ps : List Plan) (whole : Trees) �
 each_end items i ps whole past same =
     sym (trees-end (map tree ps)) ∙ sym (ap (λ qs. trees_then (map tree ps) (plans_of (shapes_of (map shape qs)))) (drop-none items i past)) ∙ same
 
--- a member that is no atom, and one that is
+value_yes : (p : Pattern) (numbers : Option (ℕ × ℕ)) (ts : Trees) → is_none numbers ≡ false → with_value p numbers ts ≡ also (atom_plan p numbers) ts
+value_yes p None ts h = absurd cc
+value_yes p (Some n) ts h = refl
+
+value_no : (p : Pattern) (numbers : Option (ℕ × ℕ)) (ts : Trees) → is_none numbers ≡ true → with_value p numbers ts ≡ ts
+value_no p None ts h = refl
+value_no p (Some n) ts h = absurd cc
+
+-- a member that is a value or no atom, and one that is an atom
 other-yes : (q : Shape) (qs : Shapes) → is_atom q ≡ false → others_of (more q qs) ≡ also (plan_of q) (others_of qs)
-other-yes (atom a) qs h = absurd cc
+other-yes (atom a) qs h = value_yes (pattern_of a) (numbers_in a) (others_of qs) h
 other-yes (all rs) qs h = refl
 other-yes (any rs) qs h = refl
 other-yes (negated r) qs h = refl
 
 other-no : (q : Shape) (qs : Shapes) → is_atom q ≡ true → others_of (more q qs) ≡ others_of qs
-other-no (atom a) qs h = refl
+other-no (atom a) qs h = value_no (pattern_of a) (numbers_in a) (others_of qs) h
 other-no (all rs) qs h = absurd cc
 other-no (any rs) qs h = absurd cc
 other-no (negated r) qs h = absurd cc
@@ -211,9 +225,14 @@ size-trees : (ts : List Tree) → size (trees_of ts) ≡ length ts
 size-trees [] = refl
 size-trees (t ∷ ts) = omega (arith, size-trees ts)
 
+value-or-not : (p : Pattern) (numbers : Option (ℕ × ℕ)) (ts : Trees) (ps : List Pattern) (n : ℕ) → size ts + length ps ≡ n
+    → size (with_value p numbers ts) + length (with_pattern p numbers ps) ≡ suc n
+value-or-not p None ts ps n e = omega (arith, e)
+value-or-not p (Some m) ts ps n e = omega (arith, e)
+
 all-or-some : (qs : List Shape) → size (others_of (shapes_of qs)) + length (atoms_in (shapes_of qs)) ≡ length qs
 all-or-some [] = refl
-all-or-some (atom a ∷ qs) = omega (arith, all-or-some qs)
+all-or-some (atom a ∷ qs) = value-or-not (pattern_of a) (numbers_in a) (others_of (shapes_of qs)) (atoms_in (shapes_of qs)) (length qs) (all-or-some qs)
 all-or-some (all rs ∷ qs) = omega (arith, all-or-some qs)
 all-or-some (any rs ∷ qs) = omega (arith, all-or-some qs)
 all-or-some (negated r ∷ qs) = omega (arith, all-or-some qs)

@@ -3,7 +3,7 @@ use Rattle.std.proofs.Common.{◌≡◌, ℕ, zero, suc, ◌+◌, ◌<◌, ◌�
 use Rattle.std.specs.Prelude.{◌↔◌, All}
 use Rattle.std.proofs.lemmas.List.Elements.{All-nil, All-cons, All-head, All-tail}
 use Rattle.alta_query.specs.Patterns.{Bound, Pattern, AreMet, IsKept, Satisfies, neighbours, before_end, title_end, titled, phrase_pattern, lone_pattern, pattern_of}
-use Rattle.alta_query.specs.Shape.{Atom, lone, near, Lone, words, prefix, name}
+use Rattle.alta_query.specs.Shape.{Atom, lone, near, Lone, words, prefix, name, value}
 use Rattle.alta_query.specs.declared.test.Test.{Test}
 use Rattle.alta_compile.specs.Joined.{shifted, joint_pattern, SatisfiesEach}
 
@@ -165,6 +165,7 @@ lone_named : (a : Lone) → AreNamed (length (lone_pattern a).tests) (lone_patte
 lone_named (words title text ts) = titled_named title (phrase_pattern ts) (neighbours_named 0 (length ts) ts (omega arith))
 lone_named (prefix title text t) = titled_named title (phrase_pattern (t ∷ [])) tt
 lone_named (name text) = tt
+lone_named (value low high) = tt
 
 pub pattern_named : (a : Atom) → AreNamed (length (pattern_of a).tests) (pattern_of a).bounds
 pattern_named (lone a) = lone_named a

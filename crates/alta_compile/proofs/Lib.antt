@@ -10,3 +10,4 @@ pub mod Solved
 pub mod Spaces
 pub mod Texts
 pub mod Whole
+pub mod Ranges

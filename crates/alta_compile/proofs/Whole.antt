@@ -1,13 +1,17 @@
 -- The plan of a query that was read has a part in each AllOf and each AnyOf.
-use Rattle.std.proofs.Common.{ℕ, ◌<◌, List, [], ◌∷◌, ◌++◌, length, subst, sym, arith, length-append}
-use Rattle.std.specs.Prelude.{All}
+use Rattle.std.proofs.Common.{ℕ, ◌^◌, ◌<◌, ◌≤◌, List, [], ◌∷◌, ◌++◌, length, map, subst, sym, arith, length-append, Option, Some, None}
+use Rattle.std.specs.Prelude.{All, MatchOption}
 use Rattle.std.proofs.lemmas.List.Elements.{All-nil, All-cons, All-head, All-tail, All-push}
 use Rattle.alta_query.specs.Grammar.{IsUnary, alone, two_sides, behind_not, in_parens, IsAnd, first_unary, beside_and, behind_and, IsOr, first_and, behind_or, Reads}
-use Rattle.alta_query.specs.Patterns.{Pattern}
+use Rattle.alta_query.specs.Matches.{HasOrderedValues, HaveOrderedValues}
+use Rattle.alta_query.specs.Patterns.{Pattern, pattern_of, numbers_in}
 use Rattle.alta_query.specs.Shape.{Shape, Shapes, atom, all, any, negated, none, more, shapes_of, all_of as all_shape, any_of as any_shape}
 use Rattle.alta_query.specs.Token.{Token}
-use Rattle.alta_compile.specs.PlanOf.{plan_of, plans_of, others_of, atoms_in, all_plan}
-use Rattle.alta_compile.specs.Tree.{Trees, no_more, also}
+use Rattle.alta_compile.specs.PlanOf.{range_plan, either_of, atom_plan, with_value, plan_of, plans_of, others_of, atoms_in, all_plan}
+use Rattle.alta_range.specs.Covers.{Covers, cover_of}
+use Rattle.alta_range.specs.declared.range.Range.{Range}
+use Rattle.alta_range.proofs.Made.{cover_covers}
+use Rattle.alta_compile.specs.Tree.{Trees, no_more, also, trees_of}
 use Rattle.alta_compile.specs.Whole.{IsWhole, AreWhole}
 
 -- each And and each Or has a member
@@ -73,24 +77,45 @@ all_whole (p ∷ ps) no_more w = tt
 all_whole [] (also t ts) w = (tt, w)
 all_whole (p ∷ ps) (also t ts) w = (tt, (tt, w))
 
+ranges_whole : (ranges : List Range) → AreWhole (trees_of (map range_plan ranges))
+ranges_whole [] = tt
+ranges_whole (r ∷ ranges) = (tt, ranges_whole ranges)
+
+-- a cover of numbers in order has a range
+either_whole : (ranges : List Range) (low high : ℕ) → low ≤ high → Covers low high ranges → IsWhole (either_of (map range_plan ranges))
+either_whole [] low high le covers = absurd (omega (arith, covers))
+either_whole (r ∷ []) low high le covers = tt
+either_whole (r ∷ next ∷ ranges) low high le covers = (tt, ranges_whole (r ∷ next ∷ ranges))
+
+abbrev AreInOrder : Option (ℕ × ℕ) → Type 0
+AreInOrder numbers = MatchOption numbers (Unit {0}) (λ n. (n.0 ≤ n.1) × (n.1 < 2 ^ 32))
+
+value_whole : (p : Pattern) (numbers : Option (ℕ × ℕ)) → AreInOrder numbers → IsWhole (atom_plan p numbers)
+value_whole p None o = tt
+value_whole p (Some n) o = either_whole (cover_of n.0 n.1) n.0 n.1 o.0 (cover_covers n.0 n.1 o.1)
+
+with_whole : (p : Pattern) (numbers : Option (ℕ × ℕ)) (ts : Trees) → AreInOrder numbers → AreWhole ts → AreWhole (with_value p numbers ts)
+with_whole p None ts o w = w
+with_whole p (Some n) ts o w = (value_whole p (Some n) o, w)
+
 mutual
-  filled_whole : (q : Shape) → IsFilled q → IsWhole (plan_of q)
-  filled_whole (atom a) f = tt
-  filled_whole (all qs) f = all_whole (atoms_in qs) (others_of qs) (others_whole qs f.1)
-  filled_whole (any none) f = absurd f.0
-  filled_whole (any (more q qs)) f = (tt, (filled_whole q f.1.0, plans_whole qs f.1.1))
-  filled_whole (negated q) f = filled_whole q f
+  filled_whole : (q : Shape) → IsFilled q → HasOrderedValues q → IsWhole (plan_of q)
+  filled_whole (atom a) f o = value_whole (pattern_of a) (numbers_in a) o
+  filled_whole (all qs) f o = all_whole (atoms_in qs) (others_of qs) (others_whole qs f.1 o)
+  filled_whole (any none) f o = absurd f.0
+  filled_whole (any (more q qs)) f o = (tt, (filled_whole q f.1.0 o.0, plans_whole qs f.1.1 o.1))
+  filled_whole (negated q) f o = filled_whole q f o
 
-  plans_whole : (qs : Shapes) → AreFilled qs → AreWhole (plans_of qs)
-  plans_whole none f = tt
-  plans_whole (more q qs) f = (filled_whole q f.0, plans_whole qs f.1)
+  plans_whole : (qs : Shapes) → AreFilled qs → HaveOrderedValues qs → AreWhole (plans_of qs)
+  plans_whole none f o = tt
+  plans_whole (more q qs) f o = (filled_whole q f.0 o.0, plans_whole qs f.1 o.1)
 
-  others_whole : (qs : Shapes) → AreFilled qs → AreWhole (others_of qs)
-  others_whole none f = tt
-  others_whole (more (atom a) qs) f = others_whole qs f.1
-  others_whole (more (all rs) qs) f = (filled_whole (all rs) f.0, others_whole qs f.1)
-  others_whole (more (any rs) qs) f = (filled_whole (any rs) f.0, others_whole qs f.1)
-  others_whole (more (negated r) qs) f = (filled_whole (negated r) f.0, others_whole qs f.1)
+  others_whole : (qs : Shapes) → AreFilled qs → HaveOrderedValues qs → AreWhole (others_of qs)
+  others_whole none f o = tt
+  others_whole (more (atom a) qs) f o = with_whole (pattern_of a) (numbers_in a) (others_of qs) o.0 (others_whole qs f.1 o.1)
+  others_whole (more (all rs) qs) f o = (filled_whole (all rs) f.0 o.0, others_whole qs f.1 o.1)
+  others_whole (more (any rs) qs) f o = (filled_whole (any rs) f.0 o.0, others_whole qs f.1 o.1)
+  others_whole (more (negated r) qs) f o = (filled_whole (negated r) f.0 o.0, others_whole qs f.1 o.1)
 
-pub read_whole : (ts : List Token) (q : Shape) → Reads ts q → IsWhole (plan_of q)
-read_whole ts q r = filled_whole q (subst IsFilled (sym r.is_any) (any_filled r.members (or_filled r.spelled)))
+pub read_whole : (ts : List Token) (q : Shape) → Reads ts q → HasOrderedValues q → IsWhole (plan_of q)
+read_whole ts q r o = filled_whole q (subst IsFilled (sym r.is_any) (any_filled r.members (or_filled r.spelled))) o

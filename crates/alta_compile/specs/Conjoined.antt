@@ -1,13 +1,15 @@
 -- Queries that ask for words and against words, and for nothing else.
 use Rattle.std.specs.Prelude.{ℕ, Bool, true, false, ◌&&◌, ◌||◌, cond, is_some, List, [], ◌∷◌, ◌++◌, Option, Some, None}
-use Rattle.alta_query.specs.Shape.{Lone, words, prefix, name, Atom, lone, near, Shape, Shapes, atom, all, any, negated, none, more}
+use Rattle.alta_query.specs.Shape.{Lone, words, prefix, name, value, Atom, lone, near, Shape, Shapes, atom, all, any, negated, none, more}
 use Rattle.alta_query.specs.declared.test.Test.{Test}
+use Rattle.alta_query.specs.declared.test.Test.TheVariants.{Is, Begins}
 use Rattle.alta_compile.specs.declared.asked.Conjunction.{Conjunction}
 
--- the only test of a list
+-- the only test of a list, where it asks for one term
 abbrev pub only : List Test → Option Test
 only [] = None
-only (t ∷ []) = Some t
+only (Is term ∷ []) = Some (Is term)
+only (Begins start ∷ []) = None
 only (t ∷ s ∷ ts) = None
 
 -- the word of a text of one word without `title:`
@@ -16,6 +18,7 @@ lone_word (words true text tests) = None
 lone_word (words false text tests) = only tests
 lone_word (prefix title text test) = None
 lone_word (name text) = None
+lone_word (value low high) = None
 
 abbrev pub atom_word : Atom → Option Test
 atom_word (lone l) = lone_word l

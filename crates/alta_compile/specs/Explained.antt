@@ -1,6 +1,8 @@
 -- A plan in words: a line for each node, and under a Found one for each bound.
-use Rattle.std.specs.Prelude.{ℕ, suc, ◌-◌, nat_lt, if◌then◌else◌, List, [], ◌∷◌, ◌++◌, codes}
+use Rattle.std.specs.Prelude.{ℕ, suc, ◌-◌, Bool, ◌&&◌, ◌==◌, nat_lt, nat_eq, if◌then◌else◌, List, [], ◌∷◌, ◌++◌, length, get_or, drop, codes}
 use Rattle.std.specs.Fmt.{decimal}
+use Rattle.std.specs.Int.{w32, from_be_bytes}
+use Rattle.std.specs.List.{starts_with}
 use Rattle.alta_query.specs.declared.test.Test.{Test}
 use Rattle.alta_query.specs.declared.test.Test.TheVariants.{Is, Begins}
 use Rattle.alta_solver.specs.Inequality.{Inequality}
@@ -35,9 +37,21 @@ abbrev pub bound_lines : List ℕ → List Inequality → List ℕ
 bound_lines margin [] = []
 bound_lines margin (b ∷ bs) = margin ++ bound_line b ++ bound_lines margin bs
 
--- the bytes of a term, with a star behind those that begin it
+-- whether a term is a range's: `X`, a byte that is in no text, and five more
+abbrev pub is_range_term : List ℕ → Bool
+is_range_term term = starts_with nat_eq term (88 ∷ 255 ∷ []) && (length term == 7)
+
+-- the level and the prefix of a range's term
+abbrev pub range_text : List ℕ → List ℕ
+range_text term = codes "#" ++ decimal (get_or term 2 0) ++ codes ":" ++ decimal (from_be_bytes w32 (drop 3 term))
+
+-- a range by its level and its prefix, any other term by its bytes
+abbrev pub term_text : List ℕ → List ℕ
+term_text term = if is_range_term term then range_text term else term
+
+-- a term, with a star behind the bytes that begin one
 abbrev pub test_text : Test → List ℕ
-test_text (Is term) = term
+test_text (Is term) = term_text term
 test_text (Begins start) = start ++ codes "*"
 
 abbrev pub tests_text : List Test → List ℕ

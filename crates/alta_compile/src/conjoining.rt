@@ -1,5 +1,5 @@
 // Queries that are conjunctions of words and negated words.
-ghost use Rattle.std.specs.Prelude.{◌≡◌, ◌||◌, ◌++◌, cond, is_some, map, IfOk, OnOk};
+ghost use Rattle.std.specs.Prelude.{◌≡◌, ◌||◌, [], ◌∷◌, ◌++◌, cond, is_some, map, IfOk, OnOk};
 ghost use Rattle.std.specs.Option.{option_copied};
 ghost use Rattle.alta_query.specs.Shape.{shapes_of};
 ghost use Rattle.alta_query.specs.View.{shape, atom_view};
@@ -99,13 +99,22 @@ fn atom_test(atom: &Atom) -> Option<&Test>
     }
 }
 
-/// The test of a list of one.
+/// The test of a list of one, where it asks for one term.
 fn only_test(tests: &[Test]) -> Option<&Test>
     ensures { option_copied result ≡ only tests.now }
 {
-    if tests.len() == 1 {
-        Some(&tests[0])
-    } else {
-        None
+    match tests {
+        [test] => exact(test),
+        _ => None,
+    }
+}
+
+/// A test that asks for one term.
+fn exact(test: &Test) -> Option<&Test>
+    ensures { option_copied result ≡ only (test.now ∷ []) }
+{
+    match test {
+        Test::Is(_) => Some(test),
+        Test::Begins(_) => None,
     }
 }

@@ -95,7 +95,7 @@ impl Draft {
         }
     }
 
-    /// Adds what an atom asks for.
+    /// Adds what an atom asks for, and nothing for a value.
     pub(crate) fn add(&mut self, alloc: Global, atom: &Atom) -> Result<(), AllocError>
         ensures { OnOk result (IsAdded self.old self.new (pattern_of (atom_view atom.now))) }
     {
@@ -115,6 +115,7 @@ impl Draft {
                 let term = term(alloc, NAME, name.as_str().as_bytes())?;
                 self.add_term(term)
             }
+            Atom::Value { .. } => Ok(()),
         }
     }
 
@@ -146,7 +147,7 @@ impl Draft {
     }
 
     /// Adds the test for a term.
-    fn add_term(&mut self, term: Bytes) -> Result<(), AllocError>
+    pub(crate) fn add_term(&mut self, term: Bytes) -> Result<(), AllocError>
         ensures { OnOk result (IsAdded self.old self.new (phrase_pattern (Is term ∷ []))) }
     {
         self.tests.push(Test::Is(term))?;

@@ -1,10 +1,12 @@
 // A plan in words.
-ghost use Rattle.std.specs.Prelude.{◌≡◌, ◌++◌, [], map, codes, string_bytes, IfOk, OnOk};
+ghost use Rattle.std.specs.Prelude.{◌≡◌, ◌∷◌, ◌++◌, [], map, length, drop, nat_eq, codes, string_bytes, IfOk, OnOk};
 ghost use Rattle.std.specs.Fmt.{decimal};
+ghost use Rattle.std.specs.Int.{w32, from_be_bytes};
+ghost use Rattle.std.specs.List.{starts_with};
 ghost use Rattle.std.specs.Str.{IsUtf8};
 ghost use Rattle.std.specs.Str.Lossy.{utf8_lossy};
 ghost use Rattle.alta_compile.specs.Explained as spec;
-ghost use Rattle.alta_compile.specs.Explained.{explained, explained_each, tests_text, test_text, deeper};
+ghost use Rattle.alta_compile.specs.Explained.{explained, explained_each, tests_text, test_text, term_text, range_text, deeper};
 ghost use Rattle.alta_compile.specs.Tree.{trees_of, found, all_of, any_of, without};
 ghost use Rattle.alta_compile.specs.View.{tree};
 
@@ -16,7 +18,8 @@ use itoa::Buffer;
 use std::alloc::{AllocError, Global};
 
 /// A plan in words, a line for each node, indented by two spaces per depth: `all N` or `any N` with the number of parts,
-/// `not`, or `found D` and the tests. A test is the bytes of its term, with a `*` behind those that begin it. Under a
+/// `not`, or `found D` and the tests. A test is the bytes of its term, with a `*` behind those that begin it, and that of a range
+/// is written by its level and its prefix, as `#3:249`. Under a
 /// Found, one level deeper, stands a line for each bound, as `p0 <= x1-1`: `x` is the location of a variable and `p` its
 /// previous location. Bytes of a term that are no UTF-8 stand as U+FFFD. Fails for want of memory alone.
 pub fn explain(alloc: Global, plan: &Plan) -> Result<Text, AllocError>
@@ -146,21 +149,55 @@ fn put_tests(out: &mut Vec<u8>, tests: &[Test]) -> Result<(), AllocError>
     Ok(())
 }
 
-/// A test: the bytes of its term, with a star where they begin it.
+/// A test: its term, with a star behind the bytes that begin one.
 fn put_test(out: &mut Vec<u8>, test: &Test) -> Result<(), AllocError>
     ensures { OnOk result (out.new.items ≡ out.old.items ++ test_text test.now) }
 {
     match test {
-        Test::Is(term) => {
-            out.extend_from_slice(term.as_slice())?;
-            Ok(())
-        }
+        Test::Is(term) => put_term(out, term.as_slice()),
         Test::Begins(start) => {
             out.extend_from_slice(start.as_slice())?;
             out.extend_from_slice(b"*")?;
             Ok(())
         }
     }
+}
+
+/// A term: its bytes, but of a range its level and its prefix.
+fn put_term(out: &mut Vec<u8>, term: &[u8]) -> Result<(), AllocError>
+    ensures { OnOk result (out.new.items ≡ out.old.items ++ term_text term.now) }
+{
+    if is_range(term) && term.len() == 7 {
+        put_range(out, term)
+    } else {
+        out.extend_from_slice(term)
+    }
+}
+
+/// Whether the term begins as that of a range.
+fn is_range(term: &[u8]) -> bool
+    ensures { result ≡ starts_with nat_eq term.now (88 ∷ 255 ∷ []) }
+{
+    term.starts_with(&[b'X', 0xFF])
+}
+
+/// The level and the prefix of the term of a range.
+fn put_range(out: &mut Vec<u8>, term: &[u8]) -> Result<(), AllocError>
+    requires { length term.now ≡ 7 }
+    ensures { OnOk result (out.new.items ≡ out.old.items ++ range_text term.now) }
+{
+    out.extend_from_slice(b"#")?;
+    put_number(out, term[2] as usize)?;
+    out.extend_from_slice(b":")?;
+    put_number(out, prefix(term) as usize)
+}
+
+/// The prefix in the term of a range.
+fn prefix(term: &[u8]) -> u32
+    requires { length term.now ≡ 7 }
+    ensures { result ≡ from_be_bytes w32 (drop 3 term.now) }
+{
+    u32::from_be_bytes([term[3], term[4], term[5], term[6]])
 }
 
 /// A line for each bound, one level deeper than the margin.

@@ -1,14 +1,19 @@
 // What the plan of a query finds. Each function is a law, and has nothing to run.
-ghost use Rattle.std.specs.Prelude.{◌≡◌, ◌↔◌, ℕ, List, [], ◌∷◌, map, All, Any, Contains};
+ghost use Rattle.std.specs.Prelude.{◌≡◌, ◌↔◌, ℕ, List, [], ◌∷◌, ◌++◌, ◌^◌, ◌<◌, map, codes, All, Any, Contains};
+ghost use Rattle.std.specs.Fmt.{decimal};
 ghost use Rattle.std.specs.Str.{IsUtf8};
 ghost use Rattle.alta_codec.specs.Rising.{IsRising};
 ghost use Rattle.alta_compound.specs.Union.{union_of};
 ghost use Rattle.alta_docread.specs.Kept.{common};
 ghost use Rattle.alta_query.specs.Matches.{IsWellFormed, Matches};
-ghost use Rattle.alta_query.specs.Patterns.{Satisfies, pattern_of};
-ghost use Rattle.alta_query.specs.Shape.{Atom, Shape};
+ghost use Rattle.alta_query.specs.Patterns.{Satisfies, pattern_of, range_test};
+ghost use Rattle.alta_meta.specs.Cells.{cells_of};
+ghost use Rattle.alta_query.specs.Shape.{Atom, Shape, value, lone, atom};
+ghost use Rattle.alta_query.specs.Values.{HasNumber};
 ghost use Rattle.alta_query.specs.Texts.{HasTextTerms};
-ghost use Rattle.alta_compile.specs.Explained.{explained};
+ghost use Rattle.alta_range.specs.Covers.{IsRange};
+ghost use Rattle.alta_range.specs.declared.range.Range.{Range};
+ghost use Rattle.alta_compile.specs.Explained.{explained, test_text};
 ghost use Rattle.alta_compile.specs.Joined.{joint_pattern, SatisfiesEach};
 ghost use Rattle.alta_compile.specs.PlanOf.{found_of, plan_of};
 ghost use Rattle.alta_compile.specs.Space.{Placed, IsSpace, end_of, ends_of};
@@ -51,9 +56,23 @@ pub fn finds_what_matches()
         → Contains (plan_list space (plan_of q)) (end_of d) ↔ Matches d.cells q }
 {}
 
-/// The plan of a query whose terms are UTF-8, in words, is UTF-8. So are the terms of each query that was read.
+/// Numbers: in each space the end of a document whose cells a name, a title and a body make is in the list of the plan of a value
+/// exactly where a word of title or body is a number from the value's first to its last.
+pub fn a_plan_finds_numbers()
+    ensures { (space : List Placed) (d : Placed) (name title body : List ℕ) (low high : ℕ) → IsSpace space → Contains space d
+        → d.cells ≡ cells_of name title body → IsUtf8 title → IsUtf8 body → high < 2 ^ 32
+        → Contains (plan_list space (plan_of (atom (lone (value low high))))) (end_of d) ↔ HasNumber low high title body }
+{}
+
+/// The plan of a query whose terms are UTF-8, but for those of its values' ranges, in words, is UTF-8. So are the terms of each
+/// query that was read.
 pub fn a_plan_is_text()
     ensures { (q : Shape) → HasTextTerms q → IsUtf8 (explained [] (plan_of q)) }
+{}
+
+/// In words, a range of numbers is its level and its prefix.
+pub fn a_range_is_shown()
+    ensures { (r : Range) → IsRange r → test_text (range_test r) ≡ codes "#" ++ decimal r.level ++ codes ":" ++ decimal r.prefix }
 {}
 
 /// A plan's list rises, and holds ends of documents alone.

@@ -14,6 +14,7 @@ pub use compiling::compile;
 pub use conjoining::conjunction;
 pub use explaining::explain;
 pub use laws::{
-    a_plan_is_text, all_parts, atoms_as_one, finds_what_matches, not_the_part, one_atom, some_part,
+    a_plan_finds_numbers, a_plan_is_text, a_range_is_shown, all_parts, atoms_as_one,
+    finds_what_matches, not_the_part, one_atom, some_part,
 };
 pub use plan::{FoundPlan, Plan, Plans};

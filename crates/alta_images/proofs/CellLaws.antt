@@ -1,5 +1,5 @@
 -- The documents of the content of documents are those documents.
-use Rattle.std.proofs.Common.{◌≡◌, ⊎_elim, ℕ, zero, suc, ◌+◌, ◌<◌, ◌≤◌, Bool, true, false, ◌||◌, cond, List, [], ◌∷◌, ◌++◌, length, map, get_or, refl, sym, ap, subst, ◌∙◌, arith}
+use Rattle.std.proofs.Common.{◌≡◌, ⊎_elim, ℕ, zero, suc, ◌+◌, ◌<◌, ◌≤◌, Bool, true, false, ◌||◌, cond, List, [], ◌∷◌, ◌++◌, length, map, get_or, refl, sym, ap, subst, ◌∙◌, arith, Option}
 use Rattle.std.specs.Prelude.{nat_eq, nat_lt}
 use Rattle.std.specs.Cmp.Lexicographic.{slice_cmp}
 use Rattle.std.specs.List.{All, filter, list_any}
@@ -13,7 +13,9 @@ use Rattle.alta_content.specs.Lists.{locations_of, terms_of}
 use Rattle.alta_content.specs.Rows.{end_of}
 use Rattle.alta_content.specs.TermList.{TermList}
 use Rattle.alta_memlevel.specs.Added.{Added, IsInSpace, IsSpace, list_of, places_of}
-use Rattle.alta_meta.specs.Cells.{cell_holds, cells_of, word_cell}
+use Rattle.alta_meta.specs.Cells.{cell_holds, cells_of, numbered, word_cell}
+use Rattle.alta_meta.proofs.Ranges.{numbered_sorted}
+use Rattle.alta_range.specs.Numbers.{number_in}
 use Rattle.alta_meta.specs.declared.document.Document.{Document}
 use Rattle.alta_images.specs.Levels.{cell_at, document_of, locations_from}
 use Rattle.alta_images.proofs.NameLaws.{bytes_eq-swap}
@@ -227,12 +229,12 @@ name_two name = ((refl, tt), (tt, tt))
 
 word_sorted : (w : List ℕ × List ℕ) → Sorted (word_cell w)
 word_sorted (written, folded) =
-    by_cases (nat_lt 128 (length written) || nat_lt 128 (length folded)) (bytes_eq written folded)
+    by_cases (nat_lt 128 (length written) || nat_lt 128 (length folded)) (bytes_eq written folded) (number_in written)
   where
-    by_cases : (a b : Bool) → Sorted (cond a [] (cond b ((87 ∷ folded) ∷ []) ((87 ∷ folded) ∷ (88 ∷ written) ∷ [])))
-    by_cases true b = none_sorted
-    by_cases false true = one_sorted (87 ∷ folded)
-    by_cases false false = word_two written folded
+    by_cases : (a b : Bool) (number : Option ℕ) → Sorted (cond a [] (cond b ((87 ∷ folded) ∷ numbered number) ((87 ∷ folded) ∷ (88 ∷ written) ∷ [])))
+    by_cases true b number = none_sorted
+    by_cases false true number = numbered_sorted folded number
+    by_cases false false number = word_two written folded
 
 words_sorted : (ws : List (List ℕ × List ℕ)) → All Sorted (map word_cell ws)
 words_sorted [] = All-nil Sorted

@@ -22,7 +22,7 @@ use Rattle.alta_table.proofs.TableLaws.{length-tables_bytes}
 use Rattle.alta_images.specs.Chain.{◌>>=◌}
 use Rattle.alta_root.specs.Gaps.{first_gap, greatest_gap}
 use Rattle.alta_images.specs.Holding.{Holding, taken_by_held}
-use Rattle.alta_images.specs.Working.{Full, IsWanting, Placed, in_front, placed, placed_at, placed_levels, placed_list, held_then, switched, flushed, moved, entered, worked}
+use Rattle.alta_images.specs.Working.{AreFirstGaps, Full, IsWanting, Placed, in_front, placed, placed_at, placed_levels, placed_list, held_then, switched, flushed, moved, entered, worked}
 use Rattle.alta_root.proofs.GapFunctions.{first_some, first_none, greatest_is}
 use Rattle.alta_images.proofs.KeptStates.{by_levels, by_entries, ok_is, err_ok}
 use Rattle.alta_images.proofs.WellLaws.{all_of, by_merged, by_none, by_room, by_same, by_terms}
@@ -59,13 +59,17 @@ placed_first taken bytes limit extent e = by_gap (first_gap taken bytes limit) r
     by_gap (Some at) is e =
         let same = ok_is (record { place = at; bytes = bytes }) extent e in (subst (IsFirstGap taken bytes limit) (ap (λ (x : Extent). x.place) same) (first_some taken bytes limit at is), sym (ap (λ (x : Extent). x.bytes) same))
 
+first_of : (taken : List Extent) (extent : Extent) (bytes limit : ℕ) → placed taken bytes limit ≡ Ok extent → IsFirstGap taken extent.bytes limit extent.place
+first_of taken extent bytes limit e =
+    let first = placed_first taken bytes limit extent e in subst (λ b. IsFirstGap taken b limit extent.place) (sym first.1) first.0
+
 placed_full : (taken : List Extent) (bytes limit : ℕ) (full : Full) → 0 < bytes → placed taken bytes limit ≡ Err full → IsWanting taken limit full
 placed_full taken bytes limit full some e = by_gap (first_gap taken bytes limit) refl e
   where
     by_gap : (o : Option ℕ) → first_gap taken bytes limit ≡ o → placed_at taken bytes limit o ≡ Err full → IsWanting taken limit full
     by_gap None is e =
         subst (IsWanting taken limit) (full_is {A = Extent} (record { need = bytes; gap = greatest_gap taken limit }) full e)
-        (record { extra = []; longest = subst (λ (es : List Extent). IsLongestGap es limit (greatest_gap taken limit)) (sym (append-nil taken)) (greatest_is taken limit); short = gap_short taken bytes limit some is })
+        (record { extra = []; first = tt; longest = subst (λ (es : List Extent). IsLongestGap es limit (greatest_gap taken limit)) (sym (append-nil taken)) (greatest_is taken limit); short = gap_short taken bytes limit some is })
     by_gap (Some at) is e = absurd (ok_err (record { place = at; bytes = bytes }) full e)
 
 -- ---- what is written has bytes
@@ -89,9 +93,10 @@ stream_some (d ∷ ds) some = omega (arith, length-append (number_bytes (d - 0))
 
 -- ---- levels, and a list
 
-behind_extent : (taken : List Extent) (extent : Extent) (limit : ℕ) (full : Full) → IsWanting (taken ++ extent ∷ []) limit full → IsWanting taken limit full
-behind_extent taken extent limit full is = record {
+behind_extent : (taken : List Extent) (extent : Extent) (bytes limit : ℕ) (full : Full) → placed taken bytes limit ≡ Ok extent → IsWanting (taken ++ extent ∷ []) limit full → IsWanting taken limit full
+behind_extent taken extent bytes limit full placed_is is = record {
   extra = extent ∷ is.extra;
+  first = (first_of taken extent bytes limit placed_is, is.first);
   longest = subst (λ (es : List Extent). IsLongestGap es limit full.gap) (append_assoc taken (extent ∷ []) is.extra) is.longest;
   short = is.short;
 }
@@ -106,45 +111,61 @@ levels_full limit taken (stays level ∷ more) full e = by_rest limit taken leve
 levels_full limit taken (anew content ∷ more) full e =
     by_place limit taken content more full (placed taken (length (segment_bytes content)) limit) refl (λ extent is. levels_full limit (taken ++ extent ∷ []) more full is) e
   where
-    by_rest : (limit : ℕ) (taken : List Extent) (extent : Extent) (content : Content) (full : Full) (r : Result Placed Full) → (r ≡ Err full → IsWanting (taken ++ extent ∷ []) limit full)
-        → (r >>= λ rest. Ok (in_front (record { extent = extent; content = content }) rest)) ≡ Err full → IsWanting taken limit full
-    by_rest limit taken extent content full (Ok rest) go_on e = absurd (ok_err (in_front (record { extent = extent; content = content }) rest) full e)
-    by_rest limit taken extent content full (Err other) go_on e = behind_extent taken extent limit full (go_on (ap (λ (f : Full). Err f) (full_is {A = Placed} other full e)))
+    by_rest : (limit : ℕ) (taken : List Extent) (extent : Extent) (content : Content) (full : Full) (r : Result Placed Full) → placed taken (length (segment_bytes content)) limit ≡ Ok extent
+        → (r ≡ Err full → IsWanting (taken ++ extent ∷ []) limit full) → (r >>= λ rest. Ok (in_front (record { extent = extent; content = content }) rest)) ≡ Err full → IsWanting taken limit full
+    by_rest limit taken extent content full (Ok rest) there go_on e = absurd (ok_err (in_front (record { extent = extent; content = content }) rest) full e)
+    by_rest limit taken extent content full (Err other) there go_on e =
+        behind_extent taken extent (length (segment_bytes content)) limit full there (go_on (ap (λ (f : Full). Err f) (full_is {A = Placed} other full e)))
 
     by_place : (limit : ℕ) (taken : List Extent) (content : Content) (more : List Coming) (full : Full) (r : Result Extent Full) → placed taken (length (segment_bytes content)) limit ≡ r
         → ((extent : Extent) → placed_levels limit (taken ++ extent ∷ []) more ≡ Err full → IsWanting (taken ++ extent ∷ []) limit full)
         → (r >>= λ extent. placed_levels limit (taken ++ extent ∷ []) more >>= λ rest. Ok (in_front (record { extent = extent; content = content }) rest)) ≡ Err full → IsWanting taken limit full
-    by_place limit taken content more full (Ok extent) is go_on e = by_rest limit taken extent content full (placed_levels limit (taken ++ extent ∷ []) more) (go_on extent) e
+    by_place limit taken content more full (Ok extent) is go_on e = by_rest limit taken extent content full (placed_levels limit (taken ++ extent ∷ []) more) is (go_on extent) e
     by_place limit taken content more full (Err other) is go_on e =
         placed_full taken (length (segment_bytes content)) limit full (segment_some content) (is ∙ ap (λ (f : Full). Err f) (full_is {A = Placed} other full e))
 
--- what is taken then begins with what was
-record TakesMore (taken now : List Extent) : Type 0 where
+-- what is taken then begins with what was, and goes on by first gaps
+record TakesMore (limit : ℕ) (taken now : List Extent) : Type 0 where
   extra : List Extent
+  first : AreFirstGaps limit taken extra
   now_is : now ≡ taken ++ extra
 
-takes_behind : (taken now : List Extent) (extent : Extent) → TakesMore (taken ++ extent ∷ []) now → TakesMore taken now
-takes_behind taken now extent is = record { extra = extent ∷ is.extra; now_is = is.now_is ∙ append_assoc taken (extent ∷ []) is.extra }
+takes_behind : (limit bytes : ℕ) (taken now : List Extent) (extent : Extent) → placed taken bytes limit ≡ Ok extent → TakesMore limit (taken ++ extent ∷ []) now → TakesMore limit taken now
+takes_behind limit bytes taken now extent placed_is is = record {
+  extra = extent ∷ is.extra;
+  first = (first_of taken extent bytes limit placed_is, is.first);
+  now_is = is.now_is ∙ append_assoc taken (extent ∷ []) is.extra;
+}
 
-levels_taken : (limit : ℕ) (taken : List Extent) (levels : List Coming) (now : Placed) → placed_levels limit taken levels ≡ Ok now → TakesMore taken now.taken
-levels_taken limit taken [] now e = record { extra = []; now_is = ap (λ (p : Placed). p.taken) (sym (ok_is (record { levels = []; taken = taken }) now e)) ∙ sym (append-nil taken) }
+levels_taken : (limit : ℕ) (taken : List Extent) (levels : List Coming) (now : Placed) → placed_levels limit taken levels ≡ Ok now → TakesMore limit taken now.taken
+levels_taken limit taken [] now e = record { extra = []; first = tt; now_is = ap (λ (p : Placed). p.taken) (sym (ok_is (record { levels = []; taken = taken }) now e)) ∙ sym (append-nil taken) }
 levels_taken limit taken (stays level ∷ more) now e = by_rest taken level now (placed_levels limit taken more) (λ rest is. levels_taken limit taken more rest is) e
   where
-    by_rest : (taken : List Extent) (level : Level) (now : Placed) (r : Result Placed Full) → ((rest : Placed) → r ≡ Ok rest → TakesMore taken rest.taken) → (r >>= λ rest. Ok (in_front level rest)) ≡ Ok now → TakesMore taken now.taken
-    by_rest taken level now (Ok rest) go_on e = subst (λ (p : Placed). TakesMore taken p.taken) (ok_is (in_front level rest) now e) (go_on rest refl)
+    by_rest : (taken : List Extent) (level : Level) (now : Placed) (r : Result Placed Full) → ((rest : Placed) → r ≡ Ok rest → TakesMore limit taken rest.taken) → (r >>= λ rest. Ok (in_front level rest)) ≡ Ok now
+        → TakesMore limit taken now.taken
+    by_rest taken level now (Ok rest) go_on e = subst (λ (p : Placed). TakesMore limit taken p.taken) (ok_is (in_front level rest) now e) (go_on rest refl)
     by_rest taken level now (Err full) go_on e = absurd (err_ok now full e)
 levels_taken limit taken (anew content ∷ more) now e =
-    by_place limit taken content more now (placed taken (length (segment_bytes content)) limit) (λ extent rest is. levels_taken limit (taken ++ extent ∷ []) more rest is) e
+    by_place limit taken content more now (placed taken (length (segment_bytes content)) limit) refl (λ extent rest is. levels_taken limit (taken ++ extent ∷ []) more rest is) e
   where
-    by_rest : (taken : List Extent) (extent : Extent) (content : Content) (now : Placed) (r : Result Placed Full) → ((rest : Placed) → r ≡ Ok rest → TakesMore (taken ++ extent ∷ []) rest.taken)
-        → (r >>= λ rest. Ok (in_front (record { extent = extent; content = content }) rest)) ≡ Ok now → TakesMore taken now.taken
-    by_rest taken extent content now (Ok rest) go_on e = subst (λ (p : Placed). TakesMore taken p.taken) (ok_is (in_front (record { extent = extent; content = content }) rest) now e) (takes_behind taken rest.taken extent (go_on rest refl))
-    by_rest taken extent content now (Err full) go_on e = absurd (err_ok now full e)
+    by_rest : (limit : ℕ) (taken : List Extent) (extent : Extent) (content : Content) (now : Placed) (r : Result Placed Full) → placed taken (length (segment_bytes content)) limit ≡ Ok extent
+        → ((rest : Placed) → r ≡ Ok rest → TakesMore limit (taken ++ extent ∷ []) rest.taken) → (r >>= λ rest. Ok (in_front (record { extent = extent; content = content }) rest)) ≡ Ok now → TakesMore limit taken now.taken
+    by_rest limit taken extent content now (Ok rest) there go_on e =
+        subst (λ (p : Placed). TakesMore limit taken p.taken) (ok_is (in_front (record { extent = extent; content = content }) rest) now e)
+        (takes_behind limit (length (segment_bytes content)) taken rest.taken extent there (go_on rest refl))
+    by_rest limit taken extent content now (Err full) there go_on e = absurd (err_ok now full e)
 
-    by_place : (limit : ℕ) (taken : List Extent) (content : Content) (more : List Coming) (now : Placed) (r : Result Extent Full) → ((extent : Extent) (rest : Placed) → placed_levels limit (taken ++ extent ∷ []) more ≡ Ok rest → TakesMore (taken ++ extent ∷ []) rest.taken)
-        → (r >>= λ extent. placed_levels limit (taken ++ extent ∷ []) more >>= λ rest. Ok (in_front (record { extent = extent; content = content }) rest)) ≡ Ok now → TakesMore taken now.taken
-    by_place limit taken content more now (Ok extent) go_on e = by_rest taken extent content now (placed_levels limit (taken ++ extent ∷ []) more) (go_on extent) e
-    by_place limit taken content more now (Err full) go_on e = absurd (err_ok now full e)
+    by_place : (limit : ℕ) (taken : List Extent) (content : Content) (more : List Coming) (now : Placed) (r : Result Extent Full) → placed taken (length (segment_bytes content)) limit ≡ r
+        → ((extent : Extent) (rest : Placed) → placed_levels limit (taken ++ extent ∷ []) more ≡ Ok rest → TakesMore limit (taken ++ extent ∷ []) rest.taken)
+        → (r >>= λ extent. placed_levels limit (taken ++ extent ∷ []) more >>= λ rest. Ok (in_front (record { extent = extent; content = content }) rest)) ≡ Ok now → TakesMore limit taken now.taken
+    by_place limit taken content more now (Ok extent) is go_on e = by_rest limit taken extent content now (placed_levels limit (taken ++ extent ∷ []) more) is (go_on extent) e
+    by_place limit taken content more now (Err full) is go_on e = absurd (err_ok now full e)
+
+-- first gaps behind first gaps
+pub first_append : (limit : ℕ) (taken xs ys : List Extent) → AreFirstGaps limit taken xs → AreFirstGaps limit (taken ++ xs) ys → AreFirstGaps limit taken (xs ++ ys)
+first_append limit taken [] ys first more = subst (λ (es : List Extent). AreFirstGaps limit es ys) (append-nil taken) more
+first_append limit taken (x ∷ xs) ys first more =
+    (first.0, first_append limit (taken ++ x ∷ []) xs ys first.1 (subst (λ (es : List Extent). AreFirstGaps limit es ys) (sym (append_assoc taken (x ∷ []) xs)) more))
 
 list_full : (limit : ℕ) (held : Holding) (taken : List Extent) (deleted : List ℕ) (full : Full) → placed_list limit held taken deleted ≡ Err full → IsWanting taken limit full
 list_full limit held taken deleted full e =
@@ -157,13 +178,14 @@ list_full limit held taken deleted full e =
 switched_full : (limit : ℕ) (held : Holding) (levels : List Coming) (job : Option Job) (full : Full) → switched limit held levels job ≡ Err full → IsWanting (taken_by_held held) limit full
 switched_full limit held levels job full e = by_placed (placed_levels limit (taken_by_held held) levels) refl e
   where
-    by_list : (now : Placed) → TakesMore (taken_by_held held) now.taken → (r : Result Extent Full) → placed_list limit held now.taken (gone_among held.view (level_rows now.levels)) ≡ r
+    by_list : (now : Placed) → TakesMore limit (taken_by_held held) now.taken → (r : Result Extent Full) → placed_list limit held now.taken (gone_among held.view (level_rows now.levels)) ≡ r
         → (r >>= λ list. Ok (held_then held now.levels (gone_among held.view (level_rows now.levels)) list job)) ≡ Err full → IsWanting (taken_by_held held) limit full
     by_list now more (Ok list) is e = absurd (ok_err (held_then held now.levels (gone_among held.view (level_rows now.levels)) list job) full e)
     by_list now more (Err other) is e =
         let wanting = list_full limit held now.taken (gone_among held.view (level_rows now.levels)) full (is ∙ ap (λ (f : Full). Err f) (full_is {A = Holding} other full e)) in
         record {
           extra = more.extra ++ wanting.extra;
+          first = first_append limit (taken_by_held held) more.extra wanting.extra more.first (subst (λ (es : List Extent). AreFirstGaps limit es wanting.extra) more.now_is wanting.first);
           longest = subst (λ (es : List Extent). IsLongestGap es limit full.gap) (ap (λ (es : List Extent). es ++ wanting.extra) more.now_is ∙ append_assoc (taken_by_held held) more.extra wanting.extra) wanting.longest;
           short = wanting.short;
         }

@@ -11,7 +11,7 @@ use Rattle.alta_content.specs.Rows.{ends_among}
 use Rattle.alta_meta.specs.declared.document.Document.{Document}
 use Rattle.alta_meta.specs.declared.document.State.{State}
 use Rattle.alta_postings.specs.Deltas.{stream_bytes}
-use Rattle.alta_root.specs.Gaps.{IsLongestGap}
+use Rattle.alta_root.specs.Gaps.{IsFirstGap, IsLongestGap}
 use Rattle.alta_root.specs.Root.{AreApart, no_extent}
 use Rattle.alta_root.specs.declared.places.TheConstants.{HEAD_BYTES}
 use Rattle.alta_images.specs.Entries.{after_entry}
@@ -187,9 +187,16 @@ state_behind (steps n) s = s
 
 -- ---- where no place is left
 
--- A place is wanting: the gap is the greatest beside what was taken and what was placed before, and the need is above it.
+-- each of these is the first gap of its length, beside what was taken and those before it
+abbrev pub AreFirstGaps : ℕ → List Extent → List Extent → Type 0
+AreFirstGaps limit taken [] = Unit {0}
+AreFirstGaps limit taken (extent ∷ more) = IsFirstGap taken extent.bytes limit extent.place × AreFirstGaps limit (taken ++ extent ∷ []) more
+
+-- A place is wanting: the gap is the greatest beside what was taken and what was placed before, each at the first gap, and the need
+-- is above it.
 pub record IsWanting (taken : List Extent) (limit : ℕ) (full : Full) : Type 0 where
   pub extra : List Extent
+  pub first : AreFirstGaps limit taken extra
   pub longest : IsLongestGap (taken ++ extra) limit full.gap
   pub short : full.gap < full.need
 

@@ -228,7 +228,7 @@ pub fn work_keeps_the_state()
 {}
 
 /// A place that is found is the first gap of its length. Where work finds none, the gap that it answers is the greatest beside the
-/// root's extents and those placed before, and the need is above it.
+/// root's extents and those placed before, each of which is the first gap of its length then, and the need is above it.
 pub fn work_finds_gaps()
     ensures first { (taken : List Extent) → (bytes limit : ℕ) → (extent : Extent) → placed_extent taken bytes limit ≡ Ok extent → IsFirstGap taken bytes limit extent.place × (extent.bytes ≡ bytes) }
     ensures wanting { (limit : ℕ) → (held : Holding) → (task : Task) → (full : Full) → worked limit held task ≡ Err full → IsWanting (taken_by_held held) limit full }

@@ -2,7 +2,7 @@
 use Rattle.std.proofs.Common.{◌≡◌, ◌≢◌, inl, inr, ⊎_elim, ℕ, ◌+◌, ◌-◌, ◌<◌, ◌≤◌, List, [], ◌∷◌, ◌++◌, length, get_or, take, drop, refl, sym, ◌∙◌, ap, arith, append_assoc, length-append, length-drop, take-append-drop}
 use Rattle.std.specs.List.{flat_map}
 use Rattle.std.proofs.lemmas.Bool.{cases_eq}
-use Rattle.std.proofs.lemmas.List.{take_at, drop_more, take-take, drop-take, flat_map_more, get_or-take, get_or-drop, get_or_at, length-take, length-take-le}
+use Rattle.std.proofs.lemmas.List.{take_at, drop_at, drop_more, take-take, drop-take, flat_map_more, get_or-take, get_or-drop, get_or_at, length-take, length-take-le}
 use Rattle.std.proofs.lemmas.List.Elements.{All-nil, All-push}
 use Rattle.alta_disk.specs.Disk.{Holds, Torn}
 use Rattle.alta_disk.specs.Parts.{part}
@@ -178,6 +178,18 @@ pub byte_written : (at byte : ℕ) (old new : List ℕ) → at ≤ length old �
 byte_written at byte old new inside holds =
     ap (λ (l : List ℕ). get_or l at 0) (holds ∙ append_assoc (take at old) (byte ∷ []) (drop (at + 1) old))
     ∙ get_or_at (take at old) byte (drop (at + 1) old) 0 at (length-take-le at old inside)
+
+-- bytes behind a byte, and then that byte
+pub byte_and_more : (at byte : ℕ) (more old middle new : List ℕ) → at + 1 ≤ length old → Holds old (at + 1) more middle → Holds middle at (byte ∷ []) new → Holds old at (byte ∷ more) new
+byte_and_more at byte more old middle new inside one two =
+    let torn = holds_torn old (at + 1) more middle inside one in
+    let front : take at middle ≡ take at old = take_less at (at + 1) middle old (omega arith) torn.before in
+    let rest = drop (at + 1 + length more) old in
+    let behind : drop (at + 1) middle ≡ more ++ rest =
+    ap (λ (l : List ℕ). drop (at + 1) l) (one ∙ append_assoc (take (at + 1) old) more rest) ∙ drop_at (take (at + 1) old) (more ++ rest) (at + 1) (length-take-le (at + 1) old inside) in
+    let end : at + 1 + length more ≡ at + length (byte ∷ more) = omega arith in
+    two ∙ ap (λ (l : List ℕ). (l ++ byte ∷ []) ++ drop (at + 1) middle) front ∙ ap (λ (l : List ℕ). (take at old ++ byte ∷ []) ++ l) behind
+    ∙ append_assoc (take at old) (byte ∷ []) (more ++ rest) ∙ sym (append_assoc (take at old) (byte ∷ more) rest) ∙ ap (λ (n : ℕ). (take at old ++ byte ∷ more) ++ drop n old) end
 
 -- the half behind a first gate that was closed
 pub formatted : (start : ℕ) (d c : List ℕ) → start + HALF_BYTES ≤ HEAD_BYTES → HEAD_BYTES ≤ length d → Holds d start (0 ∷ []) c → EndsAt start start [] c

@@ -1,5 +1,5 @@
 // A record is written and synced behind its closed gate, and then the gate is opened and synced.
-ghost use Rattle.std.specs.Prelude.{◌≡◌, ◌+◌, ◌<◌, ◌≤◌, [], ◌∷◌, length, IfOk, IfErr, OnOk, OnErr};
+ghost use Rattle.std.specs.Prelude.{◌≡◌, ◌+◌, ◌<◌, ◌≤◌, [], ◌∷◌, ◌++◌, length, IfOk, IfErr, OnOk, OnErr};
 ghost use Rattle.alta_codec.specs.Faults.{HasCause, Rose};
 ghost use Rattle.alta_disk.specs.Disk.{DiskState, Holds, Stands, Torn, Only, Passes};
 ghost use Rattle.alta_journal.specs.declared.appending.JournalFault.TheVariants.{Disk as DiskFault};
@@ -31,7 +31,7 @@ impl From<Failed> for JournalFault {
 }
 
 /// Appends a record at the tail of its half, by two writes, each with its sync. After `Ok` every image that a stop may
-/// leave has the record, and the tail stands behind it. At each moment before, an image has the records that it had,
+/// leave has the record and behind it a closed gate, and all else as it was, and the tail stands there. At each moment before, an image has the records that it had,
 /// with the new one or without, and each byte outside the record and the next gate.
 ///
 /// In every image that a stop may leave, a closed gate stands at the tail's place.
@@ -45,6 +45,7 @@ pub fn append<D: Disk>(disk: &mut D, tail: &mut Tail, ready: &Ready) -> Result<(
     requires limit { HEAD_BYTES ≤ (D.state disk.old).limit }
 
     ensures appended { D.tells → OnOk result (Appended (start_of tail.old.half) tail.old.place ready.now.entry (D.state disk.old).content (D.state disk.new).content) }
+    ensures written { D.tells → OnOk result (Holds (D.state disk.old).content tail.old.place (record_of ready.now.entry ++ GATE_CLOSED ∷ []) (D.state disk.new).content) }
     ensures closed { OnOk result (Stands D.tells (D.state disk.new) (HasClosedGate tail.new.place)) }
     ensures durable { OnOk result (Only (D.state disk.new).content (D.state disk.new).images) }
     ensures tail { OnOk result (tail.new.place ≡ tail.old.place + length (record_of ready.now.entry)) }

@@ -1,6 +1,7 @@
 -- The cells of a document: their terms rise, keep the rules of terms, and only the last one has the term of the end.
-use Rattle.std.proofs.Common.{◌≡◌, ⊎_elim, ℕ, ◌+◌, ◌-◌, ◌≤◌, false, ◌||◌, cond, IsTrue, List, [], ◌∷◌, ◌++◌, length, map, get_or, refl, sym, ap, subst, ◌∙◌, arith, append_assoc, length-append, lit≤}
+use Rattle.std.proofs.Common.{◌≡◌, ⊎_elim, ℕ, ◌+◌, ◌-◌, ◌≤◌, false, ◌||◌, cond, IsTrue, List, [], ◌∷◌, ◌++◌, length, map, get_or, refl, sym, ap, subst, ◌∙◌, arith, append_assoc, length-append, lit≤, Option}
 use Rattle.std.specs.Prelude.{nat_lt, if◌then◌else◌, slice_index, IsUtf8}
+use Rattle.std.specs.Int.{w32, to_be_bytes}
 use Rattle.std.specs.List.{All, AllByRecursion}
 use Rattle.std.specs.List.Sorted.{IsStrictlySortedBy}
 use Rattle.std.specs.Str.{bytes_eq}
@@ -15,7 +16,9 @@ use Rattle.alta_codec.specs.Order.{Precedes}
 use Rattle.alta_content.specs.Lists.{end_term, is_kind}
 use Rattle.alta_text.specs.Words.{folded_of, words_of}
 use Rattle.alta_memlevel.specs.Added.{places_of}
-use Rattle.alta_meta.specs.Cells.{cell_holds, cells_of, word_cell}
+use Rattle.alta_meta.specs.Cells.{cell_holds, cells_of, numbered, word_cell}
+use Rattle.alta_meta.proofs.Ranges.{numbered_all, numbered_none, numbered_sorted}
+use Rattle.alta_range.specs.Numbers.{number_in}
 use Rattle.alta_content.proofs.Order.{Sorted}
 
 -- a term of a level: not empty, of a kind, and at most 129 bytes
@@ -29,24 +32,25 @@ pub record IsGood (cell : List (List ℕ)) : Type 0 where
 
 -- ---- the cell of a word
 
--- what holds of no term, of the folding alone, and of the folding and the spelling, holds of a word's cell
+-- what holds of no term, of the folding with the range terms of a number or of none, and of the folding and the spelling, holds of
+-- a word's cell
 word_case : (P : List (List ℕ) → Type 0) (w : List ℕ × List ℕ) → P []
-    → (length w.0 ≤ 128 → length w.1 ≤ 128 → P ((87 ∷ w.1) ∷ []))
+    → (length w.0 ≤ 128 → length w.1 ≤ 128 → P ((87 ∷ w.1) ∷ numbered (number_in w.0)))
     → (length w.0 ≤ 128 → length w.1 ≤ 128 → P ((87 ∷ w.1) ∷ (88 ∷ w.0) ∷ []))
     → P (word_cell w)
 word_case P w none one two =
     let long = nat_lt 128 (length w.0) || nat_lt 128 (length w.1) in
     let same = bytes_eq w.0 w.1 in
     ⊎_elim
-    (λ y. subst (λ b. P (if b then [] else (if same then (87 ∷ w.1) ∷ [] else (87 ∷ w.1) ∷ (88 ∷ w.0) ∷ []))) (sym y) none)
+    (λ y. subst (λ b. P (if b then [] else (if same then (87 ∷ w.1) ∷ numbered (number_in w.0) else (87 ∷ w.1) ∷ (88 ∷ w.0) ∷ []))) (sym y) none)
     (λ n.
     let p = or_parts (nat_lt 128 (length w.0)) (nat_lt 128 (length w.1)) n in
     let a : length w.0 ≤ 128 = omega (arith, ltb-false 128 (length w.0) p.0) in
     let b : length w.1 ≤ 128 = omega (arith, ltb-false 128 (length w.1) p.1) in
-    subst (λ b. P (if b then [] else (if same then (87 ∷ w.1) ∷ [] else (87 ∷ w.1) ∷ (88 ∷ w.0) ∷ []))) (sym n)
+    subst (λ b. P (if b then [] else (if same then (87 ∷ w.1) ∷ numbered (number_in w.0) else (87 ∷ w.1) ∷ (88 ∷ w.0) ∷ []))) (sym n)
     (⊎_elim
-    (λ e. subst (λ b. P (if b then (87 ∷ w.1) ∷ [] else (87 ∷ w.1) ∷ (88 ∷ w.0) ∷ [])) (sym e) (one a b))
-    (λ e. subst (λ b. P (if b then (87 ∷ w.1) ∷ [] else (87 ∷ w.1) ∷ (88 ∷ w.0) ∷ [])) (sym e) (two a b))
+    (λ e. subst (λ b. P (if b then (87 ∷ w.1) ∷ numbered (number_in w.0) else (87 ∷ w.1) ∷ (88 ∷ w.0) ∷ [])) (sym e) (one a b))
+    (λ e. subst (λ b. P (if b then (87 ∷ w.1) ∷ numbered (number_in w.0) else (87 ∷ w.1) ∷ (88 ∷ w.0) ∷ [])) (sym e) (two a b))
     (cases_Bool same)))
     (cases_Bool long)
 
@@ -63,10 +67,18 @@ two_good : (t u : List ℕ) → IsTerm t → IsTerm u → Precedes t u → IsGoo
 unfolding IsStrictlySortedBy
 two_good t u h k p = record { sorted = ((p, tt), (tt, tt)); terms = (h, (k, tt)) }
 
+-- a range's term
+range_good : (level prefix : ℕ) → IsTerm (88 ∷ 255 ∷ level ∷ to_be_bytes w32 prefix)
+range_good level prefix = (refl, refl, lit≤ tt)
+
+folding_good : (folded : List ℕ) (number : Option ℕ) → length folded ≤ 128 → IsGood ((87 ∷ folded) ∷ numbered number)
+folding_good folded number short =
+    record { sorted = numbered_sorted folded number; terms = ((refl, refl, omega (arith, short)), numbered_all IsTerm range_good number) }
+
 word_good : (w : List ℕ × List ℕ) → IsGood (word_cell w)
 word_good w =
     word_case IsGood w none_good
-    (λ a b. one_good (87 ∷ w.1) (refl, refl, omega (arith, b)))
+    (λ a b. folding_good w.1 (number_in w.0) b)
     (λ a b. two_good (87 ∷ w.1) (88 ∷ w.0) (refl, refl, omega (arith, b)) (refl, refl, omega (arith, a)) refl)
 
 words_good : (ws : List (List ℕ × List ℕ)) → All IsGood (map word_cell ws)
@@ -132,8 +144,11 @@ places_append first t (c ∷ cs) ys =
 abbrev NoEnd : List (List ℕ) → Type 0
 NoEnd cell = cell_holds end_term cell ≡ false
 
+range_no_end : (level prefix : ℕ) → bytes_eq (88 ∷ 255 ∷ level ∷ to_be_bytes w32 prefix) end_term ≡ false
+range_no_end level prefix = refl
+
 words_no_end : (ws : List (List ℕ × List ℕ)) → All NoEnd (map word_cell ws)
-words_no_end ws = All-map NoEnd word_cell ws (λ k d l. word_case NoEnd (get_or ws k d) refl (λ a b. refl) (λ a b. refl))
+words_no_end ws = All-map NoEnd word_cell ws (λ k d l. word_case NoEnd (get_or ws k d) refl (λ a b. numbered_none (λ held. bytes_eq held end_term) range_no_end (number_in (get_or ws k d).0)) (λ a b. refl))
 
 no_end : (name title body : List ℕ) → All NoEnd (before_end name title body)
 no_end name title body =

@@ -1,12 +1,16 @@
 // The cells of a document.
-ghost use Rattle.std.specs.Prelude.{◌≡◌, ◌↔◌, ◌∷◌, [], ◌++◌, map, IfOk, OnOk, Err};
+ghost use Rattle.std.specs.Prelude.{◌≡◌, ◌↔◌, ◌∷◌, [], ◌++◌, map, slice_index, IfOk, OnOk, Err};
 ghost use Rattle.alta_codec.specs.Name.{IsName};
 ghost use Rattle.alta_meta.specs.Cells.{cells_of, word_cell};
+ghost use Rattle.alta_range.specs.Terms.{range_terms};
 ghost use Rattle.alta_text.specs.Words.{folded_of, words_of};
 
 use crate::cell::Cell;
-use crate::kinds::{DOCUMENT_END, NAME, START, TITLE_END, WORD, WORD_LIMIT, WRITTEN, term};
+use crate::kinds::{
+    CELL_LIMIT, DOCUMENT_END, NAME, START, TITLE_END, WORD, WORD_LIMIT, WRITTEN, term,
+};
 use alta_codec::{Bytes, name_ok};
+use alta_range::{LEVELS, number};
 use alta_text::put_folded;
 use std::alloc::{AllocError, Global};
 use unicode_segmentation::UnicodeSegmentation;
@@ -101,8 +105,33 @@ fn cell_of(alloc: Global, written: &str) -> Result<Cell, AllocError>
         return Ok(Cell::empty());
     }
     if written.as_bytes() == folded {
-        return Ok(Cell::one(folding));
+        return match number(written) {
+            Some(value) => number_cell(alloc, folding, value),
+            None => Ok(Cell::one(folding)),
+        };
     }
     let spelling = term(alloc, WRITTEN, written.as_bytes())?;
     Ok(Cell::two(folding, spelling))
+}
+
+/// The cell of a number: the term of its folding, and behind it the number's range terms.
+fn number_cell(alloc: Global, folding: Bytes, value: u32) -> Result<Cell, AllocError>
+    requires { slice_index folding 0 ≡ 87 }
+    ensures { IfOk result (λ cell. cell ≡ folding ∷ range_terms value) }
+{
+    let mut terms = Vec::with_capacity(alloc, CELL_LIMIT)?;
+    terms.push(folding)?;
+    put_ranges(alloc, &mut terms, value)?;
+    Ok(Cell::many(terms))
+}
+
+/// Adds the range terms of a number, those of the lowest level first.
+fn put_ranges(alloc: Global, terms: &mut Vec<Bytes>, value: u32) -> Result<(), AllocError>
+    ensures { OnOk result (terms.new.items ≡ terms.old.items ++ range_terms value) }
+{
+    for level in 0..LEVELS + 1 {
+        let bytes = Vec::from_array(alloc, alta_range::term(value, level))?;
+        terms.push(Bytes::from_vec(bytes))?;
+    }
+    Ok(())
 }

@@ -1,14 +1,14 @@
-// A cell of a document: at most two terms, which rise.
+// A cell of a document: its terms, which rise.
 ghost use Rattle.std.specs.Prelude.{◌≡◌, ◌∷◌, [], length, slice_get};
 ghost use Rattle.std.specs.Option.{option_copied};
 ghost use Rattle.std.specs.Str.{bytes_eq};
 ghost use Rattle.alta_codec.specs.Order.{Precedes};
-ghost use Rattle.alta_meta.specs.Cells.{cell_holds, cell_begins};
+ghost use Rattle.alta_meta.specs.Cells.{IsCell, cell_holds, cell_begins};
 
 use alta_codec::Bytes;
 use std::marker::Model;
 
-/// What stands at one place of a document: at most two terms. Contracts see the rising list of them.
+/// What stands at one place of a document: at most two terms, or the 34 of a number. Contracts see the rising list of them.
 #[derive(Drop)]
 pub struct Cell {
     terms: Terms,
@@ -19,6 +19,7 @@ enum Terms {
     Empty,
     One(Bytes),
     Two(Bytes, Bytes),
+    Many(Vec<Bytes>),
 }
 
 impl Model for Cell {
@@ -61,6 +62,16 @@ impl Cell {
         }
     }
 
+    /// The cell of these terms, without a copy.
+    pub fn many(terms: Vec<Bytes>) -> Cell
+        requires { IsCell terms.items }
+        ensures { result ≡ terms.items }
+    {
+        Cell {
+            terms: Terms::Many(terms),
+        }
+    }
+
     /// How many terms it has.
     pub fn len(&self) -> usize
         ensures { result ≡ length self.now }
@@ -69,6 +80,7 @@ impl Cell {
             Terms::Empty => 0,
             Terms::One(_) => 1,
             Terms::Two(_, _) => 2,
+            Terms::Many(terms) => terms.len(),
         }
     }
 
@@ -79,6 +91,7 @@ impl Cell {
         match (i, &self.terms) {
             (0, Terms::One(first) | Terms::Two(first, _)) => Some(first),
             (1, Terms::Two(_, second)) => Some(second),
+            (_, Terms::Many(terms)) => terms.get(i),
             _ => None,
         }
     }
@@ -91,6 +104,7 @@ impl Cell {
             Terms::Empty => false,
             Terms::One(only) => only.as_slice() == term,
             Terms::Two(first, second) => first.as_slice() == term || second.as_slice() == term,
+            Terms::Many(terms) => terms.iter().any(|held| held.as_slice() == term),
         }
     }
 
@@ -102,6 +116,7 @@ impl Cell {
             Terms::Empty => false,
             Terms::One(only) => is_kind(only, kind, rest),
             Terms::Two(first, second) => is_kind(first, kind, rest) || is_kind(second, kind, rest),
+            Terms::Many(terms) => terms.iter().any(|held| is_kind(held, kind, rest)),
         }
     }
 
@@ -115,6 +130,7 @@ impl Cell {
             Terms::Two(first, second) => {
                 first.as_slice().starts_with(prefix) || second.as_slice().starts_with(prefix)
             }
+            Terms::Many(terms) => terms.iter().any(|held| held.as_slice().starts_with(prefix)),
         }
     }
 }

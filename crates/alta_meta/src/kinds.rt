@@ -25,8 +25,8 @@ pub const DOCUMENT_END: u8 = b'D';
 /// How many bytes a word may have, as written and as folded. The cell of a longer word is empty.
 pub const WORD_LIMIT: usize = 128;
 
-/// How many terms a cell may have.
-pub const CELL_LIMIT: usize = 2;
+/// How many terms a cell may have: that of a word's folding, and the 33 range terms of a number.
+pub const CELL_LIMIT: usize = 34;
 
 /// The term of a kind with the rest behind it.
 pub fn term(alloc: Global, kind: u8, rest: &[u8]) -> Result<Bytes, AllocError>

@@ -1,15 +1,15 @@
 -- Trying every place decides whether cells match.
 use Rattle.std.proofs.Common.{rules, ◌≡◌, ℕ, zero, suc, ◌+◌, ◌≤◌, ◌<◌, List, [], ◌∷◌, ◌++◌, append-nil, append_assoc, length, refl, ap, sym, subst, ◌∙◌, arith, Bool, true, false, inl, inr}
-use Rattle.std.specs.Prelude.{◌&&◌, ◌||◌, not, ◌⊎◌, get_or, IsTrue, ◌↔◌, nat_le}
+use Rattle.std.specs.Prelude.{◌&&◌, ◌||◌, not, ◌⊎◌, get_or, IsTrue, ◌↔◌, nat_le, Option, Some, None, MatchOption}
 use Rattle.std.specs.List.{All, list_all, list_any, range_with_len}
 use Rattle.std.proofs.lemmas.Bool.{false≢true, cases_lt, or_cases, leb-true}
 use Rattle.std.proofs.lemmas.Bool.Decides.{nat_tests}
 use Rattle.std.proofs.lemmas.List.Elements.{All-nil, All-cons, All-head, All-tail}
 use Rattle.alta_query.specs.Matches.{Matches, AllMatch, AnyMatches}
-use Rattle.alta_query.specs.Patterns.{Bound, IsMet, AreMet, IsKept, IsAnswer, Satisfies, meets, pattern_of}
+use Rattle.alta_query.specs.Patterns.{Bound, Pattern, IsMet, AreMet, IsKept, IsAnswer, Satisfies, SatisfiesOne, meets, pattern_of, numbers_in, value_patterns}
 use Rattle.alta_query.specs.Shape.{Shape, Shapes, atom, all, any, negated, none, more}
 use Rattle.alta_query.specs.declared.test.Test.{Test}
-use Rattle.alta_model.specs.Deciding.{is_kept, is_answered, is_match, all_match, any_matches}
+use Rattle.alta_model.specs.Deciding.{is_kept, is_answered, is_satisfied, is_value_match, is_match, all_match, any_matches}
 use Rattle.alta_model.proofs.Counts.{both}
 
 and_true : (a b : Bool) → a ≡ true → b ≡ true → (a && b) ≡ true
@@ -103,17 +103,43 @@ either_is : {A B C D : Type 0} → A ⊎ B → (A → C) → (B → D) → C ⊎
 either_is (inl a) f g = inl (f a)
 either_is (inr b) f g = inr (g b)
 
+-- ---- patterns
+
+decided_pattern : (cells : List (List (List ℕ))) (pattern : Pattern) → is_satisfied cells pattern ≡ true → Satisfies cells pattern
+decided_pattern cells pattern h = let k = answered_goes cells pattern.bounds [] pattern.tests h in (k.further, record { met = k.met; kept = k.kept })
+
+pattern_decided : (cells : List (List (List ℕ))) (pattern : Pattern) → Satisfies cells pattern → is_satisfied cells pattern ≡ true
+pattern_decided cells pattern (places, answer) = goes_answered cells pattern.bounds [] pattern.tests places answer.met answer.kept
+
+decided_one : (cells : List (List (List ℕ))) (patterns : List Pattern) → list_any (is_satisfied cells) patterns ≡ true → SatisfiesOne cells patterns
+decided_one cells [] h = absurd (false≢true h)
+decided_one cells (p ∷ ps) h = either_is (or_cases (is_satisfied cells p) (list_any (is_satisfied cells) ps) h) (decided_pattern cells p) (decided_one cells ps)
+
+one_decided : (cells : List (List (List ℕ))) (patterns : List Pattern) → SatisfiesOne cells patterns → list_any (is_satisfied cells) patterns ≡ true
+one_decided cells [] h = absurd h
+one_decided cells (p ∷ ps) (inl here) = or_first (is_satisfied cells p) (list_any (is_satisfied cells) ps) (pattern_decided cells p here)
+one_decided cells (p ∷ ps) (inr later) = or_second (is_satisfied cells p) (list_any (is_satisfied cells) ps) (one_decided cells ps later)
+
+abbrev IsValueMatch : List (List (List ℕ)) → Pattern → Option (ℕ × ℕ) → Type 0
+IsValueMatch cells pattern numbers = MatchOption numbers (Satisfies cells pattern) (λ n. SatisfiesOne cells (value_patterns n.0 n.1))
+
+decided_value : (cells : List (List (List ℕ))) (pattern : Pattern) (numbers : Option (ℕ × ℕ)) → is_value_match cells pattern numbers ≡ true → IsValueMatch cells pattern numbers
+decided_value cells pattern None h = decided_pattern cells pattern h
+decided_value cells pattern (Some n) h = decided_one cells (value_patterns n.0 n.1) h
+
+value_decided : (cells : List (List (List ℕ))) (pattern : Pattern) (numbers : Option (ℕ × ℕ)) → IsValueMatch cells pattern numbers → is_value_match cells pattern numbers ≡ true
+value_decided cells pattern None h = pattern_decided cells pattern h
+value_decided cells pattern (Some n) h = one_decided cells (value_patterns n.0 n.1) h
+
 mutual
   decided_match : (cells : List (List (List ℕ))) (q : Shape) → is_match cells q ≡ true → Matches cells q
-  decided_match cells (atom a) h =
-      let k = answered_goes cells (pattern_of a).bounds [] (pattern_of a).tests h in
-      (k.further, record { met = k.met; kept = k.kept })
+  decided_match cells (atom a) h = decided_value cells (pattern_of a) (numbers_in a) h
   decided_match cells (all qs) h = decided_all cells qs h
   decided_match cells (any qs) h = decided_any cells qs h
   decided_match cells (negated q) h = λ m. true_not (is_match cells q) h (match_decided cells q m)
 
   match_decided : (cells : List (List (List ℕ))) (q : Shape) → Matches cells q → is_match cells q ≡ true
-  match_decided cells (atom a) (places, answer) = goes_answered cells (pattern_of a).bounds [] (pattern_of a).tests places answer.met answer.kept
+  match_decided cells (atom a) h = value_decided cells (pattern_of a) (numbers_in a) h
   match_decided cells (all qs) h = all_decided cells qs h
   match_decided cells (any qs) h = any_decided cells qs h
   match_decided cells (negated q) h = not_true (is_match cells q) (λ b. h (decided_match cells q b))

@@ -1,21 +1,24 @@
 // Whether cells match an atom.
-ghost use Rattle.std.specs.Prelude.{◌≡◌, ◌↔◌, ◌∷◌, [], ◌≤◌, length, take, IsTrue};
+ghost use Rattle.std.specs.Prelude.{◌≡◌, ◌↔◌, ◌∷◌, [], ◌≤◌, length, map, take, All, IsTrue};
 ghost use Rattle.alta_model.specs.Near.{IsLast};
 ghost use Rattle.alta_model.specs.Phrase.{has_phrase};
-ghost use Rattle.alta_query.specs.Patterns.{Satisfies, in_title, phrase_pattern, pattern_of, title_end, titled};
+ghost use Rattle.alta_query.specs.Patterns.{AtomMatches, Satisfies, SatisfiesOne, in_title, phrase_pattern, range_pattern, title_end, titled, value_patterns};
 ghost use Rattle.alta_query.specs.View.{atom_view};
 ghost use Rattle.alta_query.specs.Words.{name_test};
+ghost use Rattle.alta_query.specs.declared.test.Test.TheVariants.{Is};
+ghost use Rattle.alta_range.specs.Covers.{IsRange};
 
 use crate::near::{holds_near, later};
 use crate::phrase::has_phrase;
 use alta_meta::Cell;
 use alta_meta::kinds::{NAME, TITLE_END};
 use alta_query::{Atom, Test};
+use alta_range::{Range, cover, range_term};
 use std::slice::from_ref;
 
-/// Whether some cells answer the pattern of the atom.
+/// Whether some cells answer the pattern of the atom, or one of the patterns of a value.
 pub fn atom_matches(atom: &Atom, cells: &[Cell]) -> bool
-    ensures { IsTrue result ↔ Satisfies cells.now (pattern_of (atom_view atom.now)) }
+    ensures { IsTrue result ↔ AtomMatches cells.now (atom_view atom.now) }
 {
     match atom {
         Atom::Words { title, tests, .. } => holds_words(*title, tests.as_slice(), cells),
@@ -26,7 +29,47 @@ pub fn atom_matches(atom: &Atom, cells: &[Cell]) -> bool
             right,
         } => holds_near(left.test(), *distance, right.test(), cells),
         Atom::Name { name } => holds_name(name.as_str(), cells),
+        Atom::Value { low, high } => holds_value(*low, *high, cells),
     }
+}
+
+// Whether the cells have a number from one to another.
+fn holds_value(low: u32, high: u32, cells: &[Cell]) -> bool
+    ensures { IsTrue result ↔ SatisfiesOne cells.now (value_patterns low high) }
+{
+    holds_one(cover(low, high).as_slice(), cells)
+}
+
+// Whether the cells have a number of one of the ranges.
+fn holds_one(ranges: &[Range], cells: &[Cell]) -> bool
+    requires { All IsRange ranges.now }
+    ensures { IsTrue result ↔ SatisfiesOne cells.now (map range_pattern ranges.now) }
+{
+    for range in ranges {
+        if holds_range(*range, cells) {
+            return true;
+        }
+    }
+    false
+}
+
+// Whether the cells have a number of the range.
+fn holds_range(range: Range, cells: &[Cell]) -> bool
+    requires { IsRange range }
+    ensures { IsTrue result ↔ Satisfies cells.now (range_pattern range) }
+{
+    has_term(&range_term(range), cells)
+}
+
+fn has_term(term: &[u8], cells: &[Cell]) -> bool
+    ensures { result ≡ has_phrase (Is term.now ∷ []) cells.now }
+{
+    for cell in cells {
+        if cell.holds(term) {
+            return true;
+        }
+    }
+    false
 }
 
 // Whether the cells have the words, in the title where that is asked for.

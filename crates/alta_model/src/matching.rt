@@ -8,11 +8,11 @@ use crate::atom::atom_matches;
 use alta_meta::{Cell, Document};
 use alta_query::Query;
 
-/// Whether a document matches a query: an atom by its pattern of tests and bounds, And, Or and Not by truth. It takes no
-/// memory.
+/// Whether a document matches a query: an atom by its pattern of tests and bounds, a value by one of its patterns, And, Or and
+/// Not by truth. It takes no memory.
 ///
-/// Each atom makes one pass over the document's cells, or two in a title. At each cell a phrase of n words tests n
-/// cells at most, and every other atom one or two.
+/// Each atom makes one pass over the document's cells, or two in a title, and a value one for each of at most 62 ranges. At each
+/// cell a phrase of n words tests n cells at most, and every other atom one or two.
 pub fn matches(query: &Query, document: &Document) -> bool
     ensures matched { IsTrue result ↔ Matches document.now.cells (shape query.now) }
     ensures decided { result ≡ is_match document.now.cells (shape query.now) }

@@ -1,7 +1,7 @@
 -- The canonical tokens of a query that some tokens spell spell it too.
 use Rattle.std.proofs.Common.{◌≡◌, ℕ, suc, ◌+◌, List, [], ◌∷◌, ◌++◌, refl, sym, ap, ◌∙◌, subst, Some, true, false, arith}
 use Rattle.std.proofs.lemmas.List.{append_assoc, append-nil}
-use Rattle.alta_query.specs.Shape.{Side, word, stem, Lone, words, prefix, name, Atom, lone, near, Shape, Shapes, atom, all, any, negated, none, more, shapes_of, all_of, any_of}
+use Rattle.alta_query.specs.Shape.{Side, word, stem, Lone, words, prefix, name, value, Atom, lone, near, Shape, Shapes, atom, all, any, negated, none, more, shapes_of, all_of, any_of}
 use Rattle.alta_query.specs.Token.{Token, close_paren, and_word, or_word, operand, side_of, weight, total_weight}
 use Rattle.alta_query.specs.Grammar.{IsUnary, alone, two_sides, behind_not, in_parens, IsAnd, first_unary, beside_and, behind_and, IsOr, first_and, behind_or, Reads}
 use Rattle.alta_query.specs.Canon.{is_any, is_compound, parens_if, of_side, canon, canon_all, canon_any, canon_behind_or}
@@ -137,6 +137,7 @@ side_again (words false text (test ∷ second ∷ tests)) l h = absurd (cc)
 side_again (prefix true text test) l h = absurd (cc)
 side_again (prefix false text test) l h = let e : stem text test ≡ l = cc in subst (λ x. side_of (of_side x) ≡ Some x) e refl
 side_again (name text) l h = absurd (cc)
+side_again (value low high) l h = absurd (cc)
 
 mutual
   unary_canon : {d : ℕ} {ts : List Token} {q : Shape} → IsUnary d ts q → Unaried d q
@@ -200,6 +201,7 @@ side_weight (words false text (test ∷ second ∷ tests)) l h = absurd (cc)
 side_weight (prefix true text test) l h = absurd (cc)
 side_weight (prefix false text test) l h = refl
 side_weight (name text) l h = absurd (cc)
+side_weight (value low high) l h = absurd (cc)
 
 mutual
   unary_words : {d : ℕ} {ts : List Token} {q : Shape} → IsUnary d ts q → total_weight ts ≡ shape_words q

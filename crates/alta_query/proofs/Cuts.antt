@@ -9,7 +9,7 @@ use Rattle.std.proofs.Math.Seq.{take-append_seam}
 use Rattle.std.proofs.lemmas.List.Sums.{prefix_len_stops}
 use Rattle.std.proofs.lemmas.Slice.Eq.{starts_is, bytes_eq-Decides}
 use Rattle.std.proofs.lemmas.Str.{IsCharBoundary-from_rest, IsCharBoundary-after_ascii, IsCharBoundary-before_ascii, IsCharBoundary-end, IsCharBoundary-from_take}
-use Rattle.alta_query.specs.Spots.{is_run, is_solid, is_quote}
+use Rattle.alta_query.specs.Spots.{is_run, is_solid, is_quote, is_undotted}
 
 stop_boundary : (p : ℕ → Bool) → ((b : ℕ) → p b ≡ false → b < 128) → (text : List ℕ) (n : ℕ) → n ≡ prefix_len p text → n ≤ length text → IsCharBoundary text n
 stop_boundary p low text n e within =
@@ -26,6 +26,12 @@ run_boundary = stop_boundary is_run run_low
 
 pub solid_boundary : (text : List ℕ) (n : ℕ) → n ≡ prefix_len is_solid text → n ≤ length text → IsCharBoundary text n
 solid_boundary = stop_boundary is_solid solid_low
+
+undotted_low : (b : ℕ) → is_undotted b ≡ false → b < 128
+undotted_low b h = grind (arith, nat_tests)
+
+pub undotted_boundary : (text : List ℕ) (n : ℕ) → n ≡ prefix_len is_undotted text → n ≤ length text → IsCharBoundary text n
+undotted_boundary = stop_boundary is_undotted undotted_low
 
 quote_low : (b : ℕ) → (is_quote b ≡ true) → b < 128
 quote_low b h = grind (arith, nat_tests)

@@ -1,5 +1,5 @@
 -- The tokens of a text can be spelled, and so can those of the query that they spell.
-use Rattle.std.proofs.Common.{◌≡◌, ℕ, zero, suc, ◌+◌, ◌-◌, ◌*◌, ◌≤◌, ◌<◌, List, [], ◌∷◌, ◌++◌, length, take, drop, refl, sym, ap, ◌∙◌, subst, Bool, true, false, ◌&&◌, Some, arith}
+use Rattle.std.proofs.Common.{◌≡◌, ℕ, zero, suc, ◌+◌, ◌-◌, ◌*◌, ◌^◌, ◌≤◌, ◌<◌, List, [], ◌∷◌, ◌++◌, length, take, drop, refl, sym, ap, ◌∙◌, subst, Bool, true, false, ◌&&◌, Option, Some, None, arith}
 use Rattle.std.specs.Prelude.{not, ◌==◌, nat_eq, nat_le, nat_lt, if◌then◌else◌, codes, slice_index}
 use Rattle.std.specs.List.{list_all, prefix_len, take_while, position_or_len, before_first, starts_with, ends_with, fold}
 use Rattle.std.specs.Char.{is_ascii_digit}
@@ -9,28 +9,32 @@ use Rattle.std.proofs.lemmas.Bool.Decides.{nat_tests, Decides-eqb}
 use Rattle.std.proofs.lemmas.Slice.Eq.{starts_is, bytes_eq-Decides}
 use Rattle.std.proofs.lemmas.List.{length-append, take-append-drop}
 use Rattle.alta_query.specs.Words.{has_words, tests_of, is_stem}
-use Rattle.alta_query.specs.Shape.{Side, word, stem, Lone, words, prefix, name, Atom, lone, near, Shape, Shapes, atom, all, any, negated, none, more, shapes_of, all_of, any_of}
+use Rattle.alta_query.specs.Shape.{Side, word, stem, Lone, words, prefix, name, value, Atom, lone, near, Shape, Shapes, atom, all, any, negated, none, more, shapes_of, all_of, any_of}
 use Rattle.alta_query.specs.Token.{Token, open_paren, close_paren, and_word, or_word, not_word, near_word, operand, faulty, Spot, at, tokens_of, side_of}
 use Rattle.alta_codec.specs.Decimal.{value_of}
 use Rattle.alta_codec.specs.Name.{is_name}
-use Rattle.alta_query.specs.Spots.{is_blank, is_solid, is_quote, is_run, first_token, first_len, run_token, plain_token, prefix_token, words_token, name_token, near_token, quoted_token, is_quoted_title, spots_from, spots}
+use Rattle.alta_range.specs.Numbers.{number_in}
+use Rattle.alta_range.proofs.Numerals.{are_read}
+use Rattle.alta_query.specs.Spots.{is_blank, is_solid, is_quote, is_run, first_token, first_len, run_token, plain_token, prefix_token, words_token, name_token, near_token, is_undotted, ordered, dotted, value_token, quoted_token, is_quoted_title, spots_from, spots}
 use Rattle.alta_query.specs.Grammar.{IsUnary, alone, two_sides, behind_not, in_parens, IsAnd, first_unary, beside_and, behind_and, IsOr, first_and, behind_or, Reads}
 use Rattle.alta_query.specs.Canon.{is_any, is_compound, parens_if, of_side, atom_tokens, canon, canon_all, canon_any, canon_behind_or}
 use Rattle.alta_query.specs.Spelling.{title_text, spelled, with_tokens, canonical}
 use Rattle.alta_query.proofs.Reread.{Spells, AllSpell, no_tokens, token_and, cut_written, open_spells, close_spells, or_spells, not_spells}
 use Rattle.alta_query.proofs.Quoted.{no_quote, both, words_spell}
-use Rattle.alta_query.proofs.Unquoted.{all_weaker, run_spells, name_spells, near_spells}
+use Rattle.alta_query.specs.Matches.{HasOrderedValues, HaveOrderedValues}
+use Rattle.alta_query.proofs.Unquoted.{all_weaker, run_spells, name_spells, near_spells, value_spells}
 use Rattle.alta_query.proofs.Canonical.{canon_reads}
 
 -- the bytes are a run that is this token, behind no `name:`
-abbrev IsRunOf : List ℕ → Token → Type 0
+abbrev pub IsRunOf : List ℕ → Token → Type 0
 IsRunOf s t = (0 < length s) × (list_all is_run s ≡ true) × (starts_with nat_eq s (codes "name:") ≡ false) × (run_token s ≡ t)
 
 -- what a token of a text is
-abbrev IsFineLone : Lone → Type 0
+abbrev pub IsFineLone : Lone → Type 0
 IsFineLone (words title text tests) = (no_quote text ≡ true) × (has_words text ≡ true) × (tests ≡ tests_of text)
 IsFineLone (prefix title front test) = IsRunOf (spelled (operand (prefix title front test))) (operand (prefix title front test))
 IsFineLone (name text) = is_name text ≡ true
+IsFineLone (value low high) = (low ≤ high) × (high < 2 ^ 32)
 
 abbrev IsFine : Token → Type 0
 IsFine open_paren = Unit {0}
@@ -47,6 +51,7 @@ lone_spells (words title text tests) f =
     subst (λ x. Spells (spelled (operand (words title text x))) (operand (words title text x))) (sym f.2) (words_spell title text f.0 f.1)
 lone_spells (prefix title front test) f = run_spells (spelled (operand (prefix title front test))) (operand (prefix title front test)) f.0 f.1 f.2 f.3
 lone_spells (name text) f = name_spells text f
+lone_spells (value low high) f = value_spells low high f.0 f.1
 
 -- cutting
 token_if : (P : Token → Type 0) (b : Bool) (x y : Token) → (b ≡ true → P x) → (b ≡ false → P y) → P (if b then x else y)
@@ -71,6 +76,7 @@ IsOwn run (near_word k) = (1 ≤ k) × (k ≤ 1000)
 IsOwn run (operand (words title text tests)) = IsFineLone (words title text tests)
 IsOwn run (operand (prefix title front test)) = spelled (operand (prefix title front test)) ≡ run
 IsOwn run (operand (name text)) = IsFineLone (name text)
+IsOwn run (operand (value low high)) = IsFineLone (value low high)
 IsOwn run (faulty c) = Unit {0}
 
 words_own : (run : List ℕ) (title : Bool) (text : List ℕ) → no_quote text ≡ true → IsOwn run (words_token title text)
@@ -131,6 +137,20 @@ near_own run digits =
     (value_low digits (leb-true 1 (length digits) n.0) m.1 l.1, leb-true (value_of digits) 1000 k.1))
     (λ e. tt)
 
+ordered_own : (run : List ℕ) (low high : Option ℕ) → ((n : ℕ) → high ≡ Some n → n < 2 ^ 32) → IsOwn run (ordered low high)
+ordered_own run None high small = tt
+ordered_own run (Some low) None small = tt
+ordered_own run (Some low) (Some high) small = token_if (IsOwn run) (nat_le low high) _ _ (λ e. (leb-true low high e, small high refl)) (λ e. tt)
+
+dotted_own : (run low rest : List ℕ) → IsOwn run (dotted low rest)
+dotted_own run low rest =
+    token_if (IsOwn run) (starts_with nat_eq rest (codes "..")) _ _
+    (λ e. ordered_own run (number_in low) (number_in (drop 2 rest)) (λ n is. ((are_read (drop 2 rest) n).0 is).1)) (λ e. tt)
+
+value_own : (run text : List ℕ) → IsOwn run (value_token text)
+unfolding value_token
+value_own run text = dotted_own run (take_while is_undotted text) (drop (prefix_len is_undotted text) text)
+
 title_split : (text : List ℕ) → starts_with nat_eq text (codes "title:") ≡ true → title_text true ++ drop 6 text ≡ text
 title_split text h = sym ((starts_is Decides-eqb text (codes "title:") (starts_with nat_eq text (codes "title:")) refl).0 h)
 
@@ -139,7 +159,8 @@ unfolding run_token
 run_own text h =
     token_if (IsOwn text) (bytes_eq text (codes "AND")) _ _ (λ e. tt) (λ e. token_if (IsOwn text) (bytes_eq text (codes "OR")) _ _ (λ e. tt) (λ e. token_if (IsOwn text) (bytes_eq text (codes "NOT")) _ _ (λ e. tt)
     (λ e. token_if (IsOwn text) (starts_with nat_eq text (codes "NEAR/")) _ _ (λ e. near_own text (drop 5 text))
-    (λ e. token_if (IsOwn text) (starts_with nat_eq text (codes "title:")) _ _ (λ e. plain_own text true (drop 6 text) (all_drop (λ b. not (is_quote b)) 6 text h) (title_split text e)) (λ e. plain_own text false text h refl)))))
+    (λ e. token_if (IsOwn text) (starts_with nat_eq text (codes "value:")) _ _ (λ e. value_own text (drop 6 text))
+    (λ e. token_if (IsOwn text) (starts_with nat_eq text (codes "title:")) _ _ (λ e. plain_own text true (drop 6 text) (all_drop (λ b. not (is_quote b)) 6 text h) (title_split text e)) (λ e. plain_own text false text h refl))))))
 
 star_some : (title : Bool) (front : List ℕ) → 0 < length (title_text title ++ (front ++ codes "*"))
 star_some true front = omega arith
@@ -157,6 +178,7 @@ fine_own run (operand (prefix title front test)) runs n is own =
     let e = sym own in
     (star_some title front, subst (λ s. list_all is_run s ≡ true) e runs, subst (λ s. starts_with nat_eq s (codes "name:") ≡ false) e n, subst (λ s. run_token s ≡ operand (prefix title front test)) e is)
 fine_own run (operand (name text)) runs n is own = own
+fine_own run (operand (value low high)) runs n is own = own
 fine_own run (faulty c) runs n is own = tt
 
 run_fine : (text : List ℕ) → list_all is_run text ≡ true → starts_with nat_eq text (codes "name:") ≡ false → no_quote text ≡ true → IsFine (run_token text)
@@ -220,21 +242,21 @@ spots_fine (b ∷ bs) p zero =
 spots_fine (b ∷ bs) p (suc k) = spots_fine bs (p + 1) k
 
 -- the query that they spell
-abbrev IsFineSide : Side → Type 0
+abbrev pub IsFineSide : Side → Type 0
 IsFineSide s = IsFineLone (of_side s)
 
-abbrev IsFineAtom : Atom → Type 0
+abbrev pub IsFineAtom : Atom → Type 0
 IsFineAtom (lone a) = IsFineLone a
 IsFineAtom (near l k r) = IsFineSide l × (1 ≤ k) × (k ≤ 1000) × IsFineSide r
 
 abbrev mutual
-  IsFineShape : Shape → Type 0
+  pub IsFineShape : Shape → Type 0
   IsFineShape (atom a) = IsFineAtom a
   IsFineShape (all qs) = AreFineShapes qs
   IsFineShape (any qs) = AreFineShapes qs
   IsFineShape (negated q) = IsFineShape q
 
-  AreFineShapes : Shapes → Type 0
+  pub AreFineShapes : Shapes → Type 0
   AreFineShapes none = Unit {0}
   AreFineShapes (more q qs) = IsFineShape q × AreFineShapes qs
 
@@ -268,6 +290,7 @@ side_fine (words false text (test ∷ second ∷ tests)) l h f = absurd (cc)
 side_fine (prefix true text test) l h f = absurd (cc)
 side_fine (prefix false text test) l h f = let e : stem text test ≡ l = cc in subst IsFineSide e f
 side_fine (name text) l h f = absurd (cc)
+side_fine (value low high) l h f = absurd (cc)
 
 mutual
   unary_fine : {d : ℕ} {ts : List Token} {q : Shape} → IsUnary d ts q → AllFine ts → IsFineShape q
@@ -318,10 +341,39 @@ mutual
   canon_or_spell none f = no_tokens
   canon_or_spell (more q qs) f = token_and or_spells (spell_append (parens_if (is_any q) (canon q)) (canon_behind_or qs) (parens_spell (is_any q) (canon q) (canon_spell q f.0)) (canon_or_spell qs f.1))
 
+pub read_fine : (text : List ℕ) (q : Shape) → Reads (tokens_of (spots text)) q → IsFineShape q
+unfolding spots
+read_fine text q r = subst IsFineShape (sym r.is_any) (any_fine r.members (or_fine r.spelled (spots_fine text 0 0)))
+
 -- the canonical spelling of a query that some text spells
 pub reads_again : (text : List ℕ) (q : Shape) → Reads (tokens_of (spots text)) q → Reads (tokens_of (spots (canonical q))) q
 unfolding spots canonical
 reads_again text q r =
-    let fine : IsFineShape q = subst IsFineShape (sym r.is_any) (any_fine r.members (or_fine r.spelled (spots_fine text 0 0))) in
+    let fine : IsFineShape q = read_fine text q r in
     let cut : tokens_of (spots (with_tokens [] (canon q))) ≡ canon q = cut_written (canon q) (canon_spell q fine) in
     subst (λ ts. Reads ts q) (sym cut) (canon_reads (tokens_of (spots text)) q r)
+
+-- the values of a query that some text spells
+fine_lone : (a : Lone) → IsFineLone a → HasOrderedValues (atom (lone a))
+fine_lone (words title text tests) f = tt
+fine_lone (prefix title front test) f = tt
+fine_lone (name text) f = tt
+fine_lone (value low high) f = f
+
+fine_atom : (a : Atom) → IsFineAtom a → HasOrderedValues (atom a)
+fine_atom (lone a) f = fine_lone a f
+fine_atom (near l k r) f = tt
+
+mutual
+  fine_values : (q : Shape) → IsFineShape q → HasOrderedValues q
+  fine_values (atom a) f = fine_atom a f
+  fine_values (all qs) f = fine_each qs f
+  fine_values (any qs) f = fine_each qs f
+  fine_values (negated q) f = fine_values q f
+
+  fine_each : (qs : Shapes) → AreFineShapes qs → HaveOrderedValues qs
+  fine_each none f = tt
+  fine_each (more q qs) f = (fine_values q f.0, fine_each qs f.1)
+
+pub read_values : (text : List ℕ) (q : Shape) → Reads (tokens_of (spots text)) q → HasOrderedValues q
+read_values text q r = fine_values q (read_fine text q r)

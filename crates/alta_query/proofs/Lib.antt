@@ -25,3 +25,5 @@ pub mod Texts
 pub mod Members
 pub mod TextTokens
 pub mod TextWords
+pub mod ValueLaws
+pub mod PlainCells

@@ -3,7 +3,7 @@ use Rattle.std.proofs.Common.{◌≡◌, ℕ, List, drop, sym, ◌∙◌, true, 
 use Rattle.std.specs.Prelude.{nat_eq, if◌then◌else◌, codes}
 use Rattle.std.specs.List.{starts_with}
 use Rattle.std.specs.Str.{bytes_eq}
-use Rattle.alta_query.specs.Spots.{run_token, near_token, plain_token}
+use Rattle.alta_query.specs.Spots.{run_token, near_token, value_token, plain_token}
 use Rattle.alta_query.specs.Token.{and_word, or_word, not_word}
 use Rattle.alta_query.proofs.Firsts.{if_no, if_yes}
 
@@ -33,10 +33,14 @@ module _ (text : List ℕ) where
   unfolding run_token
   run_near is h = sym (no_word _ _ _ _ is ∙ if_yes _ _ _ h)
 
-  pub run_title : IsNoWord text → starts_with nat_eq text (codes "NEAR/") ≡ false → starts_with nat_eq text (codes "title:") ≡ true → plain_token true (drop 6 text) ≡ run_token text
+  pub run_value : IsNoWord text → starts_with nat_eq text (codes "NEAR/") ≡ false → starts_with nat_eq text (codes "value:") ≡ true → value_token (drop 6 text) ≡ run_token text
   unfolding run_token
-  run_title is h k = sym (no_word _ _ _ _ is ∙ if_no _ _ _ h ∙ if_yes _ _ _ k)
+  run_value is h k = sym (no_word _ _ _ _ is ∙ if_no _ _ _ h ∙ if_yes _ _ _ k)
 
-  pub run_plain : IsNoWord text → starts_with nat_eq text (codes "NEAR/") ≡ false → starts_with nat_eq text (codes "title:") ≡ false → plain_token false text ≡ run_token text
+  pub run_title : IsNoWord text → starts_with nat_eq text (codes "NEAR/") ≡ false → starts_with nat_eq text (codes "value:") ≡ false → starts_with nat_eq text (codes "title:") ≡ true → plain_token true (drop 6 text) ≡ run_token text
   unfolding run_token
-  run_plain is h k = sym (no_word _ _ _ _ is ∙ if_no _ _ _ h ∙ if_no _ _ _ k)
+  run_title is h v k = sym (no_word _ _ _ _ is ∙ if_no _ _ _ h ∙ if_no _ _ _ v ∙ if_yes _ _ _ k)
+
+  pub run_plain : IsNoWord text → starts_with nat_eq text (codes "NEAR/") ≡ false → starts_with nat_eq text (codes "value:") ≡ false → starts_with nat_eq text (codes "title:") ≡ false → plain_token false text ≡ run_token text
+  unfolding run_token
+  run_plain is h v k = sym (no_word _ _ _ _ is ∙ if_no _ _ _ h ∙ if_no _ _ _ v ∙ if_no _ _ _ k)

@@ -1,6 +1,6 @@
 -- A query that a UTF-8 text is read as asks for UTF-8 terms: from the tokens of the text to the query.
-use Rattle.std.proofs.Common.{◌≡◌, ℕ, zero, suc, ◌+◌, ◌-◌, ◌<◌, List, [], ◌∷◌, ◌++◌, length, take, drop, Bool, true, false, ◌||◌, cond, Some, refl, sym, subst, arith}
-use Rattle.std.specs.Prelude.{◌==◌, nat_lt, nat_eq, not, codes}
+use Rattle.std.proofs.Common.{◌≡◌, ℕ, zero, suc, ◌+◌, ◌-◌, ◌<◌, List, [], ◌∷◌, ◌++◌, length, take, drop, Bool, true, false, ◌||◌, cond, Option, Some, None, refl, sym, subst, arith}
+use Rattle.std.specs.Prelude.{◌==◌, nat_lt, nat_le, nat_eq, not, codes}
 use Rattle.std.specs.List.{All, list_all, prefix_len, position_or_len, before_first, take_while, starts_with, ends_with}
 use Rattle.std.specs.Str.{IsUtf8, IsCharBoundary, bytes_eq}
 use Rattle.std.proofs.lemmas.Bool.{ltb-true, eqb-true}
@@ -9,10 +9,11 @@ use Rattle.std.proofs.lemmas.List.Sums.{prefix_len-le-length}
 use Rattle.std.proofs.lemmas.Str.{IsUtf8-drop, IsUtf8-take, IsUtf8-nil, IsCharBoundary-end, IsCharBoundary-from_rest}
 use Rattle.alta_codec.specs.Decimal.{is_count, value_of}
 use Rattle.alta_codec.specs.Name.{is_name}
+use Rattle.alta_range.specs.Numbers.{number_in}
 use Rattle.alta_query.specs.Grammar.{IsUnary, alone, two_sides, behind_not, in_parens, IsAnd, first_unary, beside_and, behind_and, IsOr, first_and, behind_or, Reads}
 use Rattle.alta_query.specs.Patterns.{phrase_pattern, test_of}
-use Rattle.alta_query.specs.Shape.{Lone, words, prefix, name, lone, Side, Shape, all_of}
-use Rattle.alta_query.specs.Spots.{is_blank, is_solid, is_quote, is_run, words_token, prefix_token, plain_token, name_token, near_token, run_token, quoted_token, quoted_len, is_quoted_title, first_token, first_len, spots_from, spots}
+use Rattle.alta_query.specs.Shape.{Lone, words, prefix, name, value, lone, Side, Shape, all_of}
+use Rattle.alta_query.specs.Spots.{is_blank, is_solid, is_quote, is_run, words_token, prefix_token, plain_token, name_token, near_token, is_undotted, ordered, value_token, run_token, quoted_token, quoted_len, is_quoted_title, first_token, first_len, spots_from, spots}
 use Rattle.alta_query.specs.Texts.{HasTextTerm, AsksForText, HasTextTerms}
 use Rattle.alta_query.specs.Token.{Token, open_paren, close_paren, and_word, or_word, not_word, near_word, operand, faulty, side_of, at, tokens_of}
 use Rattle.alta_query.specs.Words.{has_words, tests_of, is_stem, stem_test}
@@ -53,6 +54,7 @@ side_text (words false text (test ∷ next ∷ tests)) s e h = absurd (cc)
 side_text (prefix true text test) s e h = absurd (cc)
 side_text (prefix false text test) s e h = let k : HasTextTerm test = All-head HasTextTerm test [] h in grind (arith, k, e)
 side_text (name text) s e h = absurd (cc)
+side_text (value low high) s e h = absurd (cc)
 
 mutual
   unary_text : {d : ℕ} {ts : List Token} {q : Shape} → IsUnary d ts q → All IsTextToken ts → HasTextTerms q
@@ -105,6 +107,18 @@ near_token_text : (digits : List ℕ) → IsTextToken (near_token digits)
 unfolding near_token
 near_token_text digits = if_has IsTextToken (is_count 4 1000 digits) (near_word (value_of digits)) (faulty cause.Near) (λ is. tt) (λ is_none. tt)
 
+ordered_text : (low high : Option ℕ) → IsTextToken (ordered low high)
+ordered_text None high = tt
+ordered_text (Some low) None = tt
+ordered_text (Some low) (Some high) = if_has IsTextToken (nat_le low high) (operand (value low high)) (faulty cause.Value) (λ le. All-nil HasTextTerm) (λ greater. tt)
+
+value_token_text : (text : List ℕ) → IsTextToken (value_token text)
+unfolding value_token
+value_token_text text =
+    let rest = drop (prefix_len is_undotted text) text in
+    if_has IsTextToken (starts_with nat_eq rest (codes "..")) (ordered (number_in (take_while is_undotted text)) (number_in (drop 2 rest))) (faulty cause.Value)
+    (λ dots. ordered_text (number_in (take_while is_undotted text)) (number_in (drop 2 rest))) (λ none. tt)
+
 ascii_text : (bs : List ℕ) → list_all (λ b. nat_lt b 128) bs ≡ true → IsUtf8 bs
 ascii_text [] h = IsUtf8-nil
 ascii_text (b ∷ bs) h =
@@ -126,9 +140,10 @@ run_token_text text u =
     if_has IsTextToken (bytes_eq text (codes "OR")) or_word _ (λ is. tt) (λ no_or.
     if_has IsTextToken (bytes_eq text (codes "NOT")) not_word _ (λ is. tt) (λ no_not.
     if_has IsTextToken (starts_with nat_eq text (codes "NEAR/")) (near_token (drop 5 text)) _ (λ is. near_token_text (drop 5 text)) (λ no_near.
+    if_has IsTextToken (starts_with nat_eq text (codes "value:")) (value_token (drop 6 text)) _ (λ is. value_token_text (drop 6 text)) (λ no_value.
     if_has IsTextToken (starts_with nat_eq text (codes "title:")) (plain_token true (drop 6 text)) (plain_token false text)
     (λ titled. plain_token_text true (drop 6 text) (IsUtf8-drop text 6 u (head_boundary text (codes "title:") (starts_with nat_eq text (codes "title:")) u title_text refl titled)))
-    (λ plain. plain_token_text false text u)))))
+    (λ plain. plain_token_text false text u))))))
 
 quoted_token_text : (title : Bool) (rest : List ℕ) → IsUtf8 rest → IsTextToken (quoted_token title rest)
 unfolding quoted_token

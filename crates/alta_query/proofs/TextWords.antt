@@ -51,7 +51,7 @@ cut_scalars rule before (c ∷ cs) after h =
     (λ broken. All-cons AreScalars (c ∷ []) (cut rule (c ∷ before) cs after) one rest)
     (λ whole. prepend_scalars c (cut rule (c ∷ before) cs after) one rest)
 
-words_text : (text : List ℕ) → IsUtf8 text → All IsUtf8 (words text)
+pub words_text : (text : List ℕ) → IsUtf8 text → All IsUtf8 (words text)
 unfolding segments
 words_text text u =
     let pieces = cut is_word_break [] (chars text) [] in

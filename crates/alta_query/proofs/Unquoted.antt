@@ -1,5 +1,5 @@
 -- Runs, names and NEARs are cut off as they were written.
-use Rattle.std.proofs.Common.{◌≡◌, ℕ, ◌+◌, ◌-◌, ◌*◌, ◌/◌, ◌%◌, ◌^◌, ◌≤◌, ◌<◌, List, [], ◌∷◌, ◌++◌, length, take, refl, ap, ◌∙◌, arith, Bool, true, false, ◌&&◌, ◌||◌}
+use Rattle.std.proofs.Common.{◌≡◌, ℕ, ◌+◌, ◌-◌, ◌*◌, ◌/◌, ◌%◌, ◌^◌, ◌≤◌, ◌<◌, List, [], ◌∷◌, ◌++◌, length, take, drop, refl, ap, ap₂, ◌∙◌, append_assoc, arith, Bool, true, false, ◌&&◌, ◌||◌, Some}
 use Rattle.std.specs.Prelude.{not, ◌==◌, nat_eq, nat_le, if◌then◌else◌, codes, slice_index}
 use Rattle.std.specs.List.{list_all, prefix_len, take_while, starts_with}
 use Rattle.std.specs.Char.{is_ascii_digit}
@@ -11,11 +11,13 @@ use Rattle.std.specs.Cmp.Lexicographic.{pointwise}
 use Rattle.std.proofs.lemmas.Bool.{le-leb, leb-true}
 use Rattle.std.proofs.lemmas.Bool.Decides.{nat_tests}
 use Rattle.std.proofs.Math.Seq.{take-append_seam}
-use Rattle.alta_query.specs.Shape.{name}
+use Rattle.alta_query.specs.Shape.{name, value}
 use Rattle.alta_query.specs.Token.{Token, operand, near_word}
 use Rattle.alta_codec.specs.Decimal.{value_of}
 use Rattle.alta_codec.specs.Name.{is_graphic, is_name}
-use Rattle.alta_query.specs.Spots.{is_blank, is_solid, is_quote, is_run, first_token, first_len, run_token, name_token, near_token, is_quoted_title}
+use Rattle.alta_range.specs.Numbers.{number_in}
+use Rattle.alta_range.proofs.Numerals.{are_read}
+use Rattle.alta_query.specs.Spots.{is_blank, is_solid, is_quote, is_run, first_token, first_len, run_token, name_token, near_token, is_undotted, ordered, dotted, value_token, is_quoted_title}
 use Rattle.alta_query.specs.Spelling.{spelled}
 use Rattle.alta_query.proofs.Reread.{IsEnd, Spells}
 use Rattle.alta_query.proofs.Quoted.{both}
@@ -218,3 +220,57 @@ near_run_is k low high = near_is k low high
 
 pub near_spells : (k : ℕ) → 1 ≤ k → k ≤ 1000 → Spells (spelled (near_word k)) (near_word k)
 near_spells k low high = run_spells (78 ∷ 69 ∷ 65 ∷ 82 ∷ 47 ∷ decimal k) (near_word k) (omega arith) (near_runs k high) refl (near_run_is k low high)
+
+-- values
+digit_undotted : (b : ℕ) → is_ascii_digit b ≡ true → is_undotted b ≡ true
+digit_undotted b h = grind (arith, nat_tests)
+
+both_true : (a b : Bool) → a ≡ true → b ≡ true → (a && b) ≡ true
+both_true a b h k = rw (h, k) refl
+
+drop_front : (xs ys : List ℕ) → drop (length xs) (xs ++ ys) ≡ ys
+drop_front [] ys = refl
+drop_front (x ∷ xs) ys = drop_front xs ys
+
+-- a number is spelled in digits
+pub digits_of : (n : ℕ) → n < 2 ^ 32 → list_all is_ascii_digit (decimal n) ≡ true
+unfolding IsDecimal
+digits_of n small = (decimal_is n (omega arith)).0
+
+spelled_number : (n : ℕ) → n < 2 ^ 32 → number_in (decimal n) ≡ Some n
+spelled_number n small = (are_read (decimal n) n).1 (refl, small)
+
+undotted : (n : ℕ) → n < 2 ^ 32 → list_all is_undotted (decimal n) ≡ true
+undotted n small = all_weaker is_ascii_digit is_undotted digit_undotted (decimal n) (digits_of n small)
+
+dotted_is : (low high : ℕ) → low ≤ high → high < 2 ^ 32 → dotted (decimal low) (46 ∷ 46 ∷ decimal high) ≡ operand (value low high)
+dotted_is low high le small =
+    ap₂ ordered (spelled_number low (omega arith)) (spelled_number high small) ∙ if_yes (nat_le low high) _ _ (le-leb low high le)
+
+value_cut : (front rest : List ℕ) → list_all is_undotted front ≡ true → value_token (front ++ 46 ∷ rest) ≡ dotted front (46 ∷ rest)
+unfolding value_token
+value_cut front rest all =
+    ap₂ dotted (while_all is_undotted front (46 ∷ rest) all refl) (ap (λ n. drop n (front ++ 46 ∷ rest)) (prefix_all is_undotted front (46 ∷ rest) all refl) ∙ drop_front front (46 ∷ rest))
+
+value_is : (low high : ℕ) → low ≤ high → high < 2 ^ 32 → value_token ((decimal low ++ codes "..") ++ decimal high) ≡ operand (value low high)
+value_is low high le small =
+    ap value_token (append_assoc (decimal low) (codes "..") (decimal high))
+    ∙ value_cut (decimal low) (46 ∷ decimal high) (undotted low (omega arith))
+    ∙ dotted_is low high le small
+
+number_runs : (n : ℕ) → n < 2 ^ 32 → list_all is_run (decimal n) ≡ true
+number_runs n small = all_weaker is_ascii_digit is_run digit_run (decimal n) (digits_of n small)
+
+value_runs : (low high : ℕ) → low < 2 ^ 32 → high < 2 ^ 32 → list_all is_run (118 ∷ 97 ∷ 108 ∷ 117 ∷ 101 ∷ 58 ∷ ((decimal low ++ codes "..") ++ decimal high)) ≡ true
+value_runs low high x y =
+    let front : list_all is_run (decimal low ++ codes "..") ≡ true = list_all-append is_run (decimal low) (codes "..") ∙ both_true (list_all is_run (decimal low)) true (number_runs low x) refl in
+    list_all-append is_run (decimal low ++ codes "..") (decimal high) ∙ both_true (list_all is_run (decimal low ++ codes "..")) (list_all is_run (decimal high)) front (number_runs high y)
+
+value_run_is : (rest : List ℕ) → run_token (118 ∷ 97 ∷ 108 ∷ 117 ∷ 101 ∷ 58 ∷ rest) ≡ value_token rest
+unfolding run_token
+value_run_is rest = refl
+
+pub value_spells : (low high : ℕ) → low ≤ high → high < 2 ^ 32 → Spells (spelled (operand (value low high))) (operand (value low high))
+value_spells low high le small =
+    run_spells (118 ∷ 97 ∷ 108 ∷ 117 ∷ 101 ∷ 58 ∷ ((decimal low ++ codes "..") ++ decimal high)) (operand (value low high)) (omega arith)
+    (value_runs low high (omega arith) small) refl (value_run_is ((decimal low ++ codes "..") ++ decimal high) ∙ value_is low high le small)

@@ -16,3 +16,4 @@ pub mod Patterns
 pub mod Matches
 pub mod Reading
 pub mod Texts
+pub mod Values

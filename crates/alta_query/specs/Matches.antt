@@ -1,16 +1,16 @@
 -- Which cells a query matches.
-use Rattle.std.specs.Prelude.{◌⊎◌, ℕ, ◌+◌, ◌≤◌, List}
+use Rattle.std.specs.Prelude.{◌⊎◌, ℕ, ◌+◌, ◌^◌, ◌≤◌, ◌<◌, List, MatchOption}
 use Rattle.std.specs.Str.{IsUtf8}
-use Rattle.alta_query.specs.Shape.{Shape, Shapes, atom, all, any, negated, none, more}
-use Rattle.alta_query.specs.Patterns.{Satisfies, pattern_of}
+use Rattle.alta_query.specs.Shape.{Atom, Shape, Shapes, atom, all, any, negated, none, more}
+use Rattle.alta_query.specs.Patterns.{AtomMatches, numbers_in}
 use Rattle.alta_query.specs.Token.{tokens_of}
 use Rattle.alta_query.specs.Spots.{spots}
 use Rattle.alta_query.specs.Grammar.{Reads}
 
--- the cells of a document match: an atom where they satisfy its pattern, the others by truth
+-- the cells of a document match: an atom by its pattern, a value by one of its patterns, the others by truth
 abbrev mutual
   pub Matches : List (List (List ℕ)) → Shape → Type 0
-  Matches cells (atom a) = Satisfies cells (pattern_of a)
+  Matches cells (atom a) = AtomMatches cells a
   Matches cells (all qs) = AllMatch cells qs
   Matches cells (any qs) = AnyMatches cells qs
   Matches cells (negated q) = ¬ (Matches cells q)
@@ -42,3 +42,19 @@ abbrev mutual
   pub HaveMembers : Shapes → Type 0
   HaveMembers none = Unit {0}
   HaveMembers (more q qs) = HasMembers q × HaveMembers qs
+
+-- the numbers of an atom that is a value have 32 bits, and the second is no lower
+abbrev pub IsOrderedAtom : Atom → Type 0
+IsOrderedAtom a = MatchOption (numbers_in a) (Unit {0}) (λ numbers. (numbers.0 ≤ numbers.1) × (numbers.1 < 2 ^ 32))
+
+-- those of each value of the query
+abbrev mutual
+  pub HasOrderedValues : Shape → Type 0
+  HasOrderedValues (atom a) = IsOrderedAtom a
+  HasOrderedValues (all qs) = HaveOrderedValues qs
+  HasOrderedValues (any qs) = HaveOrderedValues qs
+  HasOrderedValues (negated q) = HasOrderedValues q
+
+  pub HaveOrderedValues : Shapes → Type 0
+  HaveOrderedValues none = Unit {0}
+  HaveOrderedValues (more q qs) = HasOrderedValues q × HaveOrderedValues qs

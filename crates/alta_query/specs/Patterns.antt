@@ -1,10 +1,13 @@
--- The pattern of an atom: tests that cells have to meet, and bounds between their places.
-use Rattle.std.specs.Prelude.{◌≡◌, ℕ, zero, suc, ◌+◌, ◌≤◌, ◌<◌, Bool, true, if◌then◌else◌, List, [], ◌∷◌, ◌++◌, length, get_or}
+-- The patterns of an atom: tests that cells have to meet, and bounds between their places.
+use Rattle.std.specs.Prelude.{◌≡◌, ◌⊎◌, ℕ, zero, suc, ◌+◌, ◌≤◌, ◌<◌, Bool, true, if◌then◌else◌, List, [], ◌∷◌, ◌++◌, length, map, get_or, Option, Some, None, MatchOption}
 use Rattle.std.specs.List.{All}
 use Rattle.alta_meta.specs.Cells.{cell_holds, cell_begins}
 use Rattle.alta_meta.specs.declared.kinds.TheConstants.{TITLE_END}
-use Rattle.alta_query.specs.Shape.{Side, word, stem, Lone, words, prefix, name, Atom, lone, near}
+use Rattle.alta_query.specs.Shape.{Side, word, stem, Lone, words, prefix, name, value, Atom, lone, near}
 use Rattle.alta_query.specs.Words.{name_test}
+use Rattle.alta_range.specs.Covers.{cover_of}
+use Rattle.alta_range.specs.Terms.{term_bytes}
+use Rattle.alta_range.specs.declared.range.Range.{Range}
 use Rattle.alta_query.specs.declared.test.Test.{Test}
 use Rattle.alta_query.specs.declared.test.Test.TheVariants.{Is, Begins}
 
@@ -87,11 +90,45 @@ abbrev pub test_of : Side → Test
 test_of (word text test) = test
 test_of (stem text test) = test
 
+-- the pattern of what one token asks for; a value has none of its own, but one for each range
 abbrev pub lone_pattern : Lone → Pattern
 lone_pattern (words title text tests) = titled title (phrase_pattern tests)
 lone_pattern (prefix title text test) = titled title (phrase_pattern (test ∷ []))
 lone_pattern (name text) = phrase_pattern (name_test text ∷ [])
+lone_pattern (value low high) = record { tests = []; bounds = [] }
 
 abbrev pub pattern_of : Atom → Pattern
 pattern_of (lone a) = lone_pattern a
 pattern_of (near left distance right) = near_pattern (test_of left) distance (test_of right)
+
+-- the test of a range: its term
+abbrev pub range_test : Range → Test
+range_test range = Is (term_bytes range.level range.prefix)
+
+-- the pattern of a range
+abbrev pub range_pattern : Range → Pattern
+range_pattern range = phrase_pattern (range_test range ∷ [])
+
+-- the patterns of the numbers from one to another: one for each range that covers them
+abbrev pub value_patterns : ℕ → ℕ → List Pattern
+value_patterns low high = map range_pattern (cover_of low high)
+
+-- the cells satisfy one of the patterns
+abbrev pub SatisfiesOne : List (List (List ℕ)) → List Pattern → Type 0
+SatisfiesOne cells [] = ⊥
+SatisfiesOne cells (pattern ∷ patterns) = Satisfies cells pattern ⊎ SatisfiesOne cells patterns
+
+-- the numbers of a value
+abbrev pub lone_numbers : Lone → Option (ℕ × ℕ)
+lone_numbers (words title text tests) = None
+lone_numbers (prefix title text test) = None
+lone_numbers (name text) = None
+lone_numbers (value low high) = Some (low, high)
+
+abbrev pub numbers_in : Atom → Option (ℕ × ℕ)
+numbers_in (lone a) = lone_numbers a
+numbers_in (near left distance right) = None
+
+-- the cells match a value where they satisfy one of its patterns, and any other atom where they satisfy its pattern
+abbrev pub AtomMatches : List (List (List ℕ)) → Atom → Type 0
+AtomMatches cells a = MatchOption (numbers_in a) (Satisfies cells (pattern_of a)) (λ numbers. SatisfiesOne cells (value_patterns numbers.0 numbers.1))

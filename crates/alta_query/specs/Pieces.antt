@@ -3,7 +3,7 @@ use Rattle.alta_query.specs.Shape as spec
 use Rattle.alta_query.specs.Words.{tests_of, stem_test, first_test}
 use Rattle.alta_query.specs.Token.{Token, open_paren, close_paren, and_word, or_word, not_word, near_word, operand, faulty}
 use Rattle.alta_query.specs.declared.scan.Lent as lent
-use Rattle.alta_query.specs.declared.scan.Lent.TheVariants.{Words, Prefix, Name}
+use Rattle.alta_query.specs.declared.scan.Lent.TheVariants.{Words, Prefix, Name, Value}
 use Rattle.alta_query.specs.declared.scan.LentSide as lent_side
 use Rattle.alta_query.specs.declared.scan.LentSide.TheVariants as side
 use Rattle.alta_query.specs.declared.scan.Kind.{Kind}
@@ -17,6 +17,7 @@ abbrev pub atom_in : lent.Lent → spec.Lone
 atom_in (Words title text) = spec.words title text.now (tests_of text.now)
 atom_in (Prefix title text) = spec.prefix title text.now (stem_test text.now)
 atom_in (Name text) = spec.name text.now
+atom_in (Value low high) = spec.value low high
 
 abbrev pub token_of : Kind → Token
 token_of kind.Open = open_paren

@@ -12,6 +12,7 @@ pub data Lone : Type 0 where
   words : Bool → List ℕ → List Test → Lone
   prefix : Bool → List ℕ → Test → Lone
   name : List ℕ → Lone
+  value : (low high : ℕ) → Lone
 
 -- what a query asks for at a place
 pub data Atom : Type 0 where

@@ -1,7 +1,7 @@
 -- The canonical spelling, as bytes.
 use Rattle.std.specs.Prelude.{ℕ, List, [], ◌∷◌, ◌++◌, Bool, true, false, codes}
 use Rattle.std.specs.Fmt.{decimal}
-use Rattle.alta_query.specs.Shape.{Lone, words, prefix, name, Shape}
+use Rattle.alta_query.specs.Shape.{Lone, words, prefix, name, value, Shape}
 use Rattle.alta_query.specs.Token.{Token, open_paren, close_paren, and_word, or_word, not_word, near_word, operand, faulty}
 use Rattle.alta_query.specs.Canon.{canon}
 
@@ -16,6 +16,7 @@ abbrev pub spelled_operand : Lone → List ℕ
 spelled_operand (words title text tests) = title_text title ++ quoted text
 spelled_operand (prefix title stem test) = title_text title ++ (stem ++ codes "*")
 spelled_operand (name text) = codes "name:" ++ text
+spelled_operand (value low high) = codes "value:" ++ decimal low ++ codes ".." ++ decimal high
 
 -- A token as it is written; no query has a faulty one.
 abbrev pub spelled : Token → List ℕ

@@ -1,10 +1,11 @@
 -- How a text is cut into tokens.
-use Rattle.std.specs.Prelude.{ℕ, zero, suc, ◌+◌, ◌-◌, ◌*◌, List, [], ◌∷◌, length, take, drop, Bool, true, false, not, ◌||◌, ◌&&◌, ◌==◌, nat_lt, nat_eq, if◌then◌else◌, codes}
+use Rattle.std.specs.Prelude.{ℕ, zero, suc, ◌+◌, ◌-◌, List, [], ◌∷◌, length, take, drop, Bool, true, false, not, ◌||◌, ◌==◌, nat_lt, nat_le, nat_eq, if◌then◌else◌, codes, Option, Some, None}
 use Rattle.std.specs.List.{prefix_len, take_while, position_or_len, before_first, starts_with, ends_with}
 use Rattle.std.specs.Str.{bytes_eq}
 use Rattle.alta_codec.specs.Decimal.{is_count, value_of}
 use Rattle.alta_codec.specs.Name.{is_name}
-use Rattle.alta_query.specs.Shape.{words, prefix, name}
+use Rattle.alta_range.specs.Numbers.{number_in}
+use Rattle.alta_query.specs.Shape.{words, prefix, name, value}
 use Rattle.alta_query.specs.Words.{has_words, tests_of, is_stem, stem_test}
 use Rattle.alta_query.specs.Token.{Token, open_paren, close_paren, and_word, or_word, not_word, near_word, operand, faulty, Spot, at}
 use Rattle.alta_query.specs.declared.fault.Cause.TheVariants as cause
@@ -42,14 +43,33 @@ unfoldable pub near_token : List ℕ → Token
 near_token digits =
     if is_count 4 1000 digits then near_word (value_of digits) else faulty cause.Near
 
+-- a byte that is no dot
+abbrev pub is_undotted : ℕ → Bool
+is_undotted b = not (b == 46)
+
+-- a value atom, where both are numbers and the second is no lower
+abbrev pub ordered : Option ℕ → Option ℕ → Token
+ordered None high = faulty cause.Value
+ordered (Some low) None = faulty cause.Value
+ordered (Some low) (Some high) = if nat_le low high then operand (value low high) else faulty cause.Value
+
+-- a number, and behind two dots another
+abbrev pub dotted : List ℕ → List ℕ → Token
+dotted low rest = if starts_with nat_eq rest (codes "..") then ordered (number_in low) (number_in (drop 2 rest)) else faulty cause.Value
+
+-- the numbers from one to another, cut at the first dot
+unfoldable pub value_token : List ℕ → Token
+value_token text = dotted (take_while is_undotted text) (drop (prefix_len is_undotted text) text)
+
 unfoldable pub run_token : List ℕ → Token
 run_token text =
     if bytes_eq text (codes "AND") then and_word
     else (if bytes_eq text (codes "OR") then or_word
     else (if bytes_eq text (codes "NOT") then not_word
     else (if starts_with nat_eq text (codes "NEAR/") then near_token (drop 5 text)
+    else (if starts_with nat_eq text (codes "value:") then value_token (drop 6 text)
     else (if starts_with nat_eq text (codes "title:") then plain_token true (drop 6 text)
-    else plain_token false text))))
+    else plain_token false text)))))
 
 -- a quoted piece, behind its first quote
 unfoldable pub quoted_token : Bool → List ℕ → Token

@@ -14,11 +14,11 @@ abbrev pub HasTextTerm : Test → Type 0
 HasTextTerm (Is term) = IsUtf8 term
 HasTextTerm (Begins start) = IsUtf8 start
 
--- each term that the atom asks for is UTF-8
+-- each term that the atom asks for is UTF-8, but those of a value's ranges
 abbrev pub AsksForText : Atom → Type 0
 AsksForText a = All HasTextTerm (pattern_of a).tests
 
--- each term of the query is UTF-8
+-- each term of the query is UTF-8, but those of its values' ranges
 abbrev mutual
   pub HasTextTerms : Shape → Type 0
   HasTextTerms (atom a) = AsksForText a

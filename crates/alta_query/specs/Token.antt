@@ -1,6 +1,6 @@
 -- The tokens of a query's text, with their places.
 use Rattle.std.specs.Prelude.{ℕ, ◌+◌, List, [], ◌∷◌, length, map, true, false, Option, Some, None}
-use Rattle.alta_query.specs.Shape.{Lone, words, prefix, name, Side, word, stem}
+use Rattle.alta_query.specs.Shape.{Lone, words, prefix, name, value, Side, word, stem}
 use Rattle.alta_query.specs.declared.fault.Cause.{Cause}
 
 pub data Token : Type 0 where
@@ -32,12 +32,14 @@ side_of (words false text (test ∷ next ∷ tests)) = None
 side_of (prefix true text test) = None
 side_of (prefix false text test) = Some (stem text test)
 side_of (name text) = None
+side_of (value low high) = None
 
 -- how many words an operand counts; words have one test each
 abbrev pub atom_weight : Lone → ℕ
 atom_weight (words title text tests) = length tests
 atom_weight (prefix title text test) = 1
 atom_weight (name text) = 1
+atom_weight (value low high) = 1
 
 abbrev pub weight : Token → ℕ
 weight open_paren = 0

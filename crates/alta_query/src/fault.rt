@@ -16,6 +16,8 @@ pub enum Cause {
     Near,
     /// What stands behind `name:` is no name.
     Name,
+    /// What stands behind `value:` isn't `a..b` of two numbers below 2 ^ 32 without leading zeros, the second no lower.
+    Value,
     /// A quote isn't closed.
     Quote,
     /// A `)` closes nothing, or a `(` isn't closed.

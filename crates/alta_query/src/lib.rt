@@ -2,6 +2,7 @@
 #![tactic(auto)]
 
 mod fault;
+mod laws;
 mod machine;
 mod printing;
 mod query;
@@ -11,9 +12,11 @@ mod test;
 mod word;
 
 pub use fault::{Cause, QueryFault};
+pub use laws::{a_query_without_values_sees_no_ranges, a_value_finds_numbers};
 pub use printing::{print, reads_back};
 pub use query::{Atom, Queries, Query, Side};
 pub use reading::{
-    a_query_asks_for_text, a_query_has_members, a_query_is_read_one_way, one_or_other, parse,
+    a_query_asks_for_text, a_query_has_members, a_query_has_ordered_values,
+    a_query_is_read_one_way, one_or_other, parse,
 };
 pub use test::{Test, Tests};

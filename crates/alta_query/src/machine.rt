@@ -229,6 +229,7 @@ fn owned(alloc: Global, lent: Lent) -> Result<Atom, AllocError>
         Lent::Name { name } => Ok(Atom::Name {
             name: copied(alloc, name)?,
         }),
+        Lent::Value { low, high } => Ok(Atom::Value { low, high }),
     }
 }
 

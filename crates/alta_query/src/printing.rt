@@ -1,7 +1,7 @@
 // From query to text.
 
 ghost use Rattle.std.specs.Prelude.{◌≡◌, ℕ, List, ◌++◌, string_bytes, IfOk, OnOk};
-ghost use Rattle.alta_query.specs.Shape.{Shape};
+ghost use Rattle.alta_query.specs.Shape.{Shape, value};
 ghost use Rattle.alta_query.specs.Grammar.{Reads};
 ghost use Rattle.alta_query.specs.Spots.{spots};
 ghost use Rattle.alta_query.specs.View.{shape, atom_view, side_view};
@@ -111,6 +111,10 @@ fn put_atom(alloc: Global, out: &mut String, atom: &Atom) -> Result<(), AllocErr
             out.push_str("name:")?;
             out.push_str(name.as_str())
         }
+        Atom::Value { low, high } => {
+            put_space(out)?;
+            put_value(alloc, out, *low, *high)
+        }
         Atom::Near {
             left,
             distance,
@@ -143,6 +147,17 @@ fn put_near(alloc: Global, out: &mut String, distance: u16) -> Result<(), AllocE
     put_space(out)?;
     out.push_str("NEAR/")?;
     out.push_str(digits.as_str())
+}
+
+fn put_value(alloc: Global, out: &mut String, low: u32, high: u32) -> Result<(), AllocError>
+    ensures { OnOk result (string_bytes out.new ≡ string_bytes out.old ++ spelled (operand (value low high))) }
+{
+    let first = low.to_string(alloc)?;
+    let last = high.to_string(alloc)?;
+    out.push_str("value:")?;
+    out.push_str(first.as_str())?;
+    out.push_str("..")?;
+    out.push_str(last.as_str())
 }
 
 fn put_title(out: &mut String, title: bool) -> Result<(), AllocError>

@@ -1,7 +1,7 @@
 // Queries.
 ghost use Rattle.std.specs.Prelude.{◌≡◌};
-ghost use Rattle.alta_query.specs.Patterns.{test_of};
-ghost use Rattle.alta_query.specs.View.{side_view};
+ghost use Rattle.alta_query.specs.Patterns.{test_of, numbers_in};
+ghost use Rattle.alta_query.specs.View.{side_view, atom_view};
 
 use crate::test::{Test, Tests};
 use alta_codec::Text;
@@ -72,6 +72,25 @@ pub enum Atom {
         /// The name.
         name: Text,
     },
+    /// A number of the title or the body.
+    Value {
+        /// What it is at least.
+        low: u32,
+        /// What it is at most, `low` or above in a query that was read.
+        high: u32,
+    },
+}
+
+impl Atom {
+    /// The lowest and the highest number of a value.
+    pub fn numbers(&self) -> Option<(u32, u32)>
+        ensures { result ≡ numbers_in (atom_view self.now) }
+    {
+        match self {
+            Atom::Value { low, high } => Some((*low, *high)),
+            _ => None,
+        }
+    }
 }
 
 /// A query.

@@ -11,7 +11,7 @@ ghost use Rattle.alta_query.specs.Token.{tokens_of};
 ghost use Rattle.alta_query.specs.Machine.{parse_of};
 ghost use Rattle.alta_query.specs.Reading.{query_of};
 ghost use Rattle.alta_query.specs.Answer.{Gives, IsMemory, fault_in};
-ghost use Rattle.alta_query.specs.Matches.{IsWellFormed, HasMembers};
+ghost use Rattle.alta_query.specs.Matches.{IsWellFormed, HasMembers, HasOrderedValues};
 ghost use Rattle.alta_query.specs.Texts.{HasTextTerms};
 
 use crate::fault::{Cause, QueryFault};
@@ -56,7 +56,7 @@ fn read(alloc: Global, text: &str) -> Result<Query, QueryFault>
 /// ends at the next quote; what begins with `name:` goes up to the next blank, and any other run up to the next blank,
 /// parenthesis or quote. `AND`, `OR`, `NOT` and `NEAR/k` are operators. A run that ends with `*` is a prefix, and any
 /// other run or quoted piece stands for its words, one behind the other. `title:` before a run or a quoted piece asks
-/// for the title. NOT binds first, then AND, which may be left out, then OR.
+/// for the title, and `value:a..b` for a number from a to b. NOT binds first, then AND, which may be left out, then OR.
 ///
 /// Else the answer is the first fault by its place in bytes, with its cause: at one token its own cause, then that it
 /// may not stand there, then [`Cause::Deep`], then [`Cause::Many`]. [`Cause::Memory`] comes for want of memory alone.
@@ -71,7 +71,7 @@ pub fn parse(alloc: Global, text: &str) -> Result<Query, QueryFault>
     ensures first { IfErr result (λ e. IsMemory e ⊎ (fault_of (spots text.now) (length text.now) ≡ Some (fault_in e))) }
     // The first fault is answered, unless memory runs out.
     ensures answered { (f : Fault) → fault_of (spots text.now) (length text.now) ≡ Some f → MatchResult result (λ q. ⊥) (λ e. IsMemory e ⊎ (fault_in e ≡ f)) }
-    // Each term of what is read is UTF-8.
+    // Each term of what is read is UTF-8, but those of ranges.
     ensures text { IfOk result (λ q. HasTextTerms (shape q)) }
 {
     read(alloc, text)
@@ -96,7 +96,12 @@ pub fn a_query_has_members()
     ensures { (q : Shape) → IsWellFormed q → HasMembers q }
 {}
 
-/// A law, and nothing to run: each term of a well-formed query is UTF-8.
+/// A law, and nothing to run: each term of a well-formed query is UTF-8, but those of its values' ranges.
 pub fn a_query_asks_for_text()
     ensures { (q : Shape) → IsWellFormed q → HasTextTerms q }
+{}
+
+/// A law, and nothing to run: the numbers of each value of a well-formed query have 32 bits, and the second is no lower.
+pub fn a_query_has_ordered_values()
+    ensures { (q : Shape) → IsWellFormed q → HasOrderedValues q }
 {}

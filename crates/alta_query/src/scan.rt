@@ -3,12 +3,13 @@ ghost use Rattle.std.specs.Prelude.{◌≡◌, ℕ, ◌+◌, ◌-◌, ◌<◌, �
 ghost use Rattle.std.specs.List.{prefix_len, take_while, position_or_len, starts_with, ends_with};
 ghost use Rattle.std.specs.Str.{IsCharBoundary};
 ghost use Rattle.alta_query.specs.Token.{side_of, atom_weight};
-ghost use Rattle.alta_query.specs.Spots.{is_blank, is_solid, is_quote, is_run, first_token, first_len, run_token, plain_token, prefix_token, words_token, name_token, near_token, quoted_token, quoted_len};
+ghost use Rattle.alta_query.specs.Spots.{is_blank, is_solid, is_quote, is_run, first_token, first_len, run_token, plain_token, prefix_token, words_token, name_token, near_token, quoted_token, quoted_len, value_token, ordered, is_undotted};
 ghost use Rattle.alta_query.specs.Pieces.{token_of, atom_in, side_in};
 
 use crate::fault::Cause;
 use crate::word::{count_words, has_short_words, is_whole_word};
 use alta_codec::{name_ok, read_count};
+use alta_range::number;
 use std::alloc::{AllocError, Global};
 
 /// An operand of one token, whose text is lent.
@@ -17,6 +18,7 @@ pub enum Lent<'a> {
     Words { title: bool, text: &'a str },
     Prefix { title: bool, stem: &'a str },
     Name { name: &'a str },
+    Value { low: u32, high: u32 },
 }
 
 /// What may stand beside a NEAR.
@@ -270,6 +272,8 @@ fn run(alloc: Global, text: &str) -> Result<Kind<'_>, AllocError>
         Ok(Kind::Not)
     } else if begins(text, "NEAR/") {
         Ok(near(behind(text, 5).as_bytes()))
+    } else if begins(text, "value:") {
+        Ok(value(behind(text, 6)))
     } else if begins(text, "title:") {
         plain(alloc, true, behind(text, 6))
     } else {
@@ -322,6 +326,52 @@ fn named(name: &str) -> Kind<'_>
     } else {
         Kind::Faulty(Cause::Name)
     }
+}
+
+/// The numbers from one to another.
+#[tactic(auto, unfolding(crate::specs::Spots::value_token))]
+fn value(text: &str) -> Kind<'_>
+    ensures { token_of result ≡ value_token text.now }
+{
+    let low = undotted_run(text);
+    let rest = behind(text, low.len());
+    if begins(rest, "..") {
+        between(number(low), number(behind(rest, 2)))
+    } else {
+        Kind::Faulty(Cause::Value)
+    }
+}
+
+/// The numbers from one to another, if both are numbers and the second is no lower.
+fn between<'a>(low: Option<u32>, high: Option<u32>) -> Kind<'a>
+    ensures { token_of result ≡ ordered low high }
+{
+    match (low, high) {
+        (Some(low), Some(high)) if low <= high => Kind::Operand(Lent::Value { low, high }),
+        _ => Kind::Faulty(Cause::Value),
+    }
+}
+
+/// The front up to the next dot.
+fn undotted_run(rest: &str) -> &str
+    ensures value { result.now ≡ take_while is_undotted rest.now }
+    ensures len { length result.now ≡ prefix_len is_undotted rest.now }
+    ensures boundary { IsCharBoundary rest.now (length result.now) }
+{
+    let len = undotted_end(rest.as_bytes());
+    &rest[..len]
+}
+
+/// The length of the bytes at the front that are no dots.
+fn undotted_end(rest: &[u8]) -> usize
+    ensures len { result ≡ prefix_len is_undotted rest.now }
+    ensures within { result ≤ length rest.now }
+{
+    let mut n = 0;
+    while n < rest.len() && rest[n] != b'.' {
+        n += 1;
+    }
+    n
 }
 
 /// The distance of a NEAR.

@@ -1,12 +1,17 @@
 -- Words that are numbers, and what std reads in them.
-use Rattle.std.proofs.Common.{rules, ◌≡◌, ◌≢◌, ℕ, zero, suc, ◌^◌, ◌<◌, List, [], ◌∷◌, length, get_or, arith, sym, ap, ◌∙◌, subst, true}
+use Rattle.std.proofs.Common.{rules, ◌≡◌, ◌≢◌, ℕ, zero, suc, ◌^◌, ◌<◌, List, [], ◌∷◌, length, get_or, arith, refl, sym, ap, ◌∙◌, subst, Bool, true, false, ◌&&◌, if◌then◌else◌}
 use Rattle.std.specs.Fmt.{decimal}
 use Rattle.std.specs.Result.{OkIff}
 use Rattle.std.specs.Str.{all_ascii_digits}
 use Rattle.std.specs.Str.Parse.{digits_value, ParsesUnsigned}
 use Rattle.std.proofs.lemmas.Fmt.{decimal_nonempty, first_decimal, digits_decimal, digits_value-decimal, decimal-digits_value, decimal_digit}
 use Rattle.std.proofs.lemmas.Str.Parse.{IsNumeralModel, numerals_by_value, parse_plain, parse_gives}
-use Rattle.std.specs.Prelude.{Result, Ok, Err}
+use Rattle.std.proofs.lemmas.Bool.{false≢true}
+use Rattle.std.proofs.lemmas.Bool.Decides.{nat_tests}
+use Rattle.std.proofs.lemmas.Slice.Eq.{bytes_eq-Decides}
+use Rattle.std.specs.Prelude.{◌↔◌, nat_lt, Option, Some, None, Result, Ok, Err}
+use Rattle.std.specs.Str.{bytes_eq}
+use Rattle.alta_range.specs.Numbers.{number_in}
 
 own : IsNumeralModel (λ ds. all_ascii_digits ds ≡ true) (digits_value 10)
 own = numerals_by_value _ (search rules)
@@ -38,3 +43,56 @@ spelled_is_read {E = E} word result n small spelled read =
 
 pub is_no_error : {E : Type 0} (result : Result ℕ E) (n : ℕ) (fault : E) → result ≡ Ok n → result ≡ Err fault → ⊥
 is_no_error result n fault ok err = let e = sym ok ∙ err in absurd cc
+
+-- ---- the number of a word, as a function
+
+lt_is : (m n : ℕ) → nat_lt m n ≡ true → m < n
+lt_is m n h = grind (arith, nat_tests)
+
+is_lt : (m n : ℕ) → m < n → nat_lt m n ≡ true
+is_lt m n h = grind (arith, nat_tests)
+
+some_is : (m n : ℕ) → (let o : Option ℕ = Some m in o) ≡ Some n → m ≡ n
+some_is m n e = cc
+
+none_is_no : (n : ℕ) → (let o : Option ℕ = None in o) ≡ Some n → ⊥
+none_is_no n e = cc
+
+read_case : (a b : Bool) (m n : ℕ) → (if a && b then Some m else None) ≡ Some n → (a ≡ true) × (b ≡ true) × (m ≡ n)
+read_case true true m n e = (refl, refl, some_is m n e)
+read_case true false m n e = absurd (none_is_no n e)
+read_case false b m n e = absurd (none_is_no n e)
+
+case_read : (a b : Bool) (m : ℕ) → a ≡ true → b ≡ true → (if a && b then Some m else None) ≡ Some m
+case_read true true m h k = refl
+case_read true false m h k = absurd (false≢true k)
+case_read false b m h k = absurd (false≢true h)
+
+number_spells : (word : List ℕ) (n : ℕ) → number_in word ≡ Some n → (decimal n ≡ word) × (n < 2 ^ 32)
+unfolding number_in
+number_spells word n e =
+    let m = digits_value 10 word in
+    let is = read_case (bytes_eq (decimal m) word) (nat_lt m (2 ^ 32)) m n e in
+    let spelled : decimal m ≡ word = (bytes_eq-Decides (decimal m) word).0 is.0 in
+    let small : m < 2 ^ 32 = lt_is m (2 ^ 32) is.1 in
+    (subst (λ (k : ℕ). decimal k ≡ word) is.2 spelled, subst (λ (k : ℕ). k < 2 ^ 32) is.2 small)
+
+spells_number : (word : List ℕ) (n : ℕ) → decimal n ≡ word → n < 2 ^ 32 → number_in word ≡ Some n
+unfolding number_in
+spells_number word n spelled small =
+    let value : digits_value 10 word ≡ n = sym (ap (digits_value 10) spelled) ∙ digits_value-decimal own n (omega arith) in
+    subst (λ (m : ℕ). (if bytes_eq (decimal m) word && nat_lt m (2 ^ 32) then Some m else None) ≡ Some n) (sym value)
+    (case_read (bytes_eq (decimal n) word) (nat_lt n (2 ^ 32)) n ((bytes_eq-Decides (decimal n) word).1 spelled) (is_lt n (2 ^ 32) small))
+
+pub are_read : (word : List ℕ) (n : ℕ) → (number_in word ≡ Some n) ↔ ((decimal n ≡ word) × (n < 2 ^ 32))
+are_read word n = (λ e. number_spells word n e, λ (spelled, small). spells_number word n spelled small)
+
+none_left : (o : Option ℕ) → ((n : ℕ) → o ≡ Some n → ⊥) → o ≡ None
+none_left (Some n) h = absurd (h n refl)
+none_left None h = refl
+
+pub no_number : (word : List ℕ) → ((n : ℕ) → n < 2 ^ 32 → decimal n ≢ word) → None ≡ number_in word
+no_number word h = sym (none_left (number_in word) (λ n e. let is = number_spells word n e in h n is.1 is.0))
+
+pub is_number : (word : List ℕ) (n : ℕ) → decimal n ≡ word → n < 2 ^ 32 → Some n ≡ number_in word
+is_number word n spelled small = sym (spells_number word n spelled small)

@@ -77,10 +77,10 @@ has_shares first last value range great has = record { level = range.level; low 
 third : List ℕ → ℕ
 third bytes = get_or bytes 2 0
 
-same_prefix : (a b : ℕ) → a < 2 ^ 32 → b < 2 ^ 32 → to_be_bytes w32 a ≡ to_be_bytes w32 b → a ≡ b
+pub same_prefix : (a b : ℕ) → a < 2 ^ 32 → b < 2 ^ 32 → to_be_bytes w32 a ≡ to_be_bytes w32 b → a ≡ b
 same_prefix a b x y e = sym (from_be_bytes-to_be_bytes_4 a x) ∙ (ap (λ (bs : List ℕ). from_be_bytes w32 bs) e ∙ from_be_bytes-to_be_bytes_4 b y)
 
-of_terms : (k j a b : ℕ) → term_bytes k a ≡ term_bytes j b → (k ≡ j) × (to_be_bytes w32 a ≡ to_be_bytes w32 b)
+pub of_terms : (k j a b : ℕ) → term_bytes k a ≡ term_bytes j b → (k ≡ j) × (to_be_bytes w32 a ≡ to_be_bytes w32 b)
 unfolding term_bytes
 of_terms k j a b e = (cc, cc)
 

@@ -1,8 +1,12 @@
 -- The statements of the laws.
-use Rattle.std.specs.Prelude.{◌≡◌, ◌⊎◌, ℕ, ◌^◌, ◌≤◌, ◌<◌, List, [], ◌∷◌, length}
+use Rattle.std.specs.Prelude.{◌≡◌, ◌⊎◌, ◌↔◌, ℕ, ◌^◌, ◌≤◌, ◌<◌, List, [], ◌∷◌, length, Some}
+use Rattle.std.specs.Fmt.{decimal}
 use Rattle.std.specs.List.{All}
-use Rattle.alta_range.specs.Covers.{Covers, Has}
-use Rattle.alta_range.specs.Terms.{Shares}
+use Rattle.std.specs.Str.{IsUtf8}
+use Rattle.alta_codec.specs.Order.{Precedes}
+use Rattle.alta_range.specs.Covers.{Covers, Has, IsRange, cover_of}
+use Rattle.alta_range.specs.Numbers.{number_in}
+use Rattle.alta_range.specs.Terms.{Shares, term_bytes}
 use Rattle.alta_range.specs.declared.range.Range.{Range}
 
 -- Exactly one of these ranges shares a term with the number.
@@ -24,3 +28,19 @@ CoversOnce = (first last : ℕ) (ranges : List Range) → last < 2 ^ 32 → Cove
 abbrev pub IsOneCover : Type 0
 IsOneCover = (first last : ℕ) (ranges : List Range) → last < 2 ^ 32 → Covers first last ranges
     → (length ranges ≤ 62) × ((others : List Range) → Covers first last others → others ≡ ranges)
+
+-- The cover as a list covers, and has ranges alone.
+abbrev pub IsMade : Type 0
+IsMade = (first last : ℕ) → last < 2 ^ 32 → Covers first last (cover_of first last) × All IsRange (cover_of first last)
+
+-- A word is read as a number exactly where it is that number's spelling.
+abbrev pub AreRead : Type 0
+AreRead = (word : List ℕ) (n : ℕ) → (number_in word ≡ Some n) ↔ ((decimal n ≡ word) × (n < 2 ^ 32))
+
+-- Of terms of ranges: equal ones have one level and one prefix, the term of a lower level comes first, none is text, and none is
+-- a byte with a text behind it.
+pub record AreApart : Type 0 where
+  pub one : (k j a b : ℕ) → a < 2 ^ 32 → b < 2 ^ 32 → term_bytes k a ≡ term_bytes j b → (k ≡ j) × (a ≡ b)
+  pub rising : (k j a b : ℕ) → k < j → Precedes (term_bytes k a) (term_bytes j b)
+  pub no_text : (level prefix : ℕ) → IsUtf8 (term_bytes level prefix) → ⊥
+  pub no_kind : (kind level prefix : ℕ) (text : List ℕ) → IsUtf8 text → kind ∷ text ≡ term_bytes level prefix → ⊥

@@ -1,3 +1,4 @@
 pub mod Covers
 pub mod Laws
+pub mod Numbers
 pub mod Terms

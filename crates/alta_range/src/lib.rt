@@ -13,7 +13,9 @@ mod terms;
 mod tests;
 
 pub use covering::cover;
-pub use laws::{a_cover_is_one, a_value_is_covered_once};
+pub use laws::{
+    a_cover_is_made, a_cover_is_one, a_number_is_read, a_value_is_covered_once, terms_are_apart,
+};
 pub use numeral::number;
 pub use range::{LEVELS, Range};
 pub use terms::{range_term, term};

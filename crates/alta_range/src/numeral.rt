@@ -1,11 +1,20 @@
 // Words that are numbers.
-ghost use Rattle.std.specs.Prelude.{◌≡◌, ◌≢◌, ℕ, ◌^◌, ◌<◌, length, slice_index, MatchOption, IsTrue, ◌↔◌};
+ghost use Rattle.std.specs.Prelude.{◌≡◌, ◌≢◌, ℕ, ◌^◌, ◌<◌, length, slice_index, MatchOption, IfSome, IsTrue, ◌↔◌};
 ghost use Rattle.std.specs.Fmt.{decimal};
+ghost use Rattle.alta_range.specs.Numbers.{number_in};
 
 /// The number from 0 to 4,294,967,295 that the word spells in decimal digits, without a sign and without a leading zero (but `0`
 /// itself). None exactly where it spells none.
 pub fn number(word: &str) -> Option<u32>
-    ensures { MatchOption result ((n : ℕ) → n < 2 ^ 32 → decimal n ≢ word.now) (λ n. decimal n ≡ word.now) }
+    ensures number { MatchOption result ((n : ℕ) → n < 2 ^ 32 → decimal n ≢ word.now) (λ n. decimal n ≡ word.now) }
+    ensures value { result ≡ number_in word.now }
+{
+    read(word)
+}
+
+fn read(word: &str) -> Option<u32>
+    ensures number { MatchOption result ((n : ℕ) → n < 2 ^ 32 → decimal n ≢ word.now) (λ n. decimal n ≡ word.now) }
+    ensures small { IfSome result (λ n. n < 2 ^ 32) }
 {
     match word.parse::<u32>() {
         Ok(n) if is_plain(word.as_bytes()) => Some(n),

@@ -1,7 +1,7 @@
 -- The uses of a query's tests.
 use Rattle.std.specs.Prelude.{Bool, false, List, [], ◌∷◌, ◌++◌, map}
 use Rattle.alta_query.specs.Patterns.{test_of}
-use Rattle.alta_query.specs.Shape.{words, prefix, name, Atom, lone, near, Shape, Shapes, atom, all, any, negated, none, more}
+use Rattle.alta_query.specs.Shape.{words, prefix, name, value, Atom, lone, near, Shape, Shapes, atom, all, any, negated, none, more}
 use Rattle.alta_query.specs.Words.{name_test}
 use Rattle.alta_query.specs.declared.test.Test.{Test}
 use Rattle.alta_rank.specs.declared.usage.Use.{Use}
@@ -9,11 +9,12 @@ use Rattle.alta_rank.specs.declared.usage.Use.{Use}
 abbrev pub use_of : Bool → Test → Use
 use_of title test = record { title = title; test = test }
 
--- each test of an atom, with whether the atom asks for it in the title
+-- each test of an atom, with whether the atom asks for it in the title; none of a value
 abbrev pub atom_uses : Atom → List Use
 atom_uses (lone (words title text tests)) = map (use_of title) tests
 atom_uses (lone (prefix title text test)) = use_of title test ∷ []
 atom_uses (lone (name text)) = use_of false (name_test text) ∷ []
+atom_uses (lone (value low high)) = []
 atom_uses (near left distance right) = use_of false (test_of left) ∷ use_of false (test_of right) ∷ []
 
 -- the uses of all atoms that stand under no NOT, in order

@@ -45,6 +45,7 @@ fn push_atom(alloc: Global, out: &mut Vec<Use>, atom: &Atom) -> Result<(), Alloc
         Atom::Prefix { title, test, .. } => push_tests(out, *title, from_ref(test)),
         Atom::Near { left, right, .. } => push_near(out, left.test(), right.test()),
         Atom::Name { name } => push_name(alloc, out, name.as_str()),
+        Atom::Value { .. } => Ok(()),
     }
 }
 

@@ -1,12 +1,14 @@
 // The other slot's gate is closed where it is open, its body is written and synced, and its gate is opened and synced.
-ghost use Rattle.std.specs.Prelude.{◌≡◌, ◌+◌, ◌≤◌, length, OnOk};
+ghost use Rattle.std.specs.Prelude.{◌≡◌, ◌+◌, ◌≤◌, ◌∷◌, length, OnOk};
 ghost use Rattle.alta_codec.specs.Faults.{HasCause};
 ghost use Rattle.alta_disk.specs.Disk.{DiskState, Only, Passes, Stands};
 ghost use Rattle.alta_disk.specs.Calls.{Costs};
+ghost use Rattle.alta_disk.specs.Parts.{part};
 ghost use Rattle.alta_root.specs.Places.{slot_start};
+ghost use Rattle.alta_root.specs.Root.{body_of};
 ghost use Rattle.alta_root.specs.Slots.{Counts};
 ghost use Rattle.alta_root.specs.Switches.{MayFollow, Switches, Switched, Closes, Closed};
-ghost use Rattle.alta_root.specs.declared.places.TheConstants.{HEAD_BYTES};
+ghost use Rattle.alta_root.specs.declared.places.TheConstants.{HEAD_BYTES, SLOT_BYTES};
 
 use crate::places::{GATE_CLOSED, GATE_OPEN, HEAD_BYTES};
 use crate::spelling::spell;
@@ -18,7 +20,8 @@ use alta_disk::{Disk, Failed, write_synced};
 ///
 /// The slot's gate is closed where it stands open, the body is written behind it, and the gate is opened, each followed
 /// by a sync. At each moment every image has what it had outside the slot, and either the root that counted before or
-/// this one; after `Ok` this one counts in every image. It takes no memory, and reads one byte.
+/// this one; after `Ok` this one counts in every image, and its slot has its one spelling, with zeros to its end. It takes no memory, and
+/// reads one byte.
 ///
 /// # Errors
 ///
@@ -29,6 +32,7 @@ pub fn switch<D: Disk>(disk: &mut D, slot: Slot, root: &Root) -> Result<(), Fail
     requires limit { HEAD_BYTES ≤ (D.state disk.old).limit }
 
     ensures switched { D.tells → OnOk result (Switched slot root.now (D.state disk.old).content (D.state disk.new).content) }
+    ensures written { D.tells → OnOk result (part (slot_start slot) SLOT_BYTES (D.state disk.new).content ≡ GATE_OPEN ∷ body_of root.now) }
     ensures durable { OnOk result (Only (D.state disk.new).content (D.state disk.new).images) }
     ensures counts { OnOk result (Stands D.tells (D.state disk.new) (Counts slot root.now)) }
 

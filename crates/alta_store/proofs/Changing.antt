@@ -20,7 +20,7 @@ use Rattle.alta_journal.specs.declared.entry.Entry.TheVariants.{Delete}
 use Rattle.alta_meta.specs.declared.document.State.{State}
 use Rattle.alta_store.specs.Agreement.{Agrees, Has, Keeps}
 use Rattle.alta_store.specs.Answers.{IsOutside}
-use Rattle.alta_store.specs.Calls.{BecomesFlushed, Changes, FindsFirstDamage, IsCause, IsNarrow, NoRefusal, Obeys, joined_by}
+use Rattle.alta_store.specs.Calls.{BecomesEntered, Changes, FindsFirstDamage, GetsRoom, IsCause, NoRefusal, Obeys, joined_by}
 use Rattle.alta_store.specs.declared.fault.StoreFault.{StoreFault}
 use Rattle.alta_store.specs.declared.fault.StoreFault.TheVariants as faults
 use Rattle.alta_store.specs.declared.store.Store.{Store}
@@ -31,7 +31,7 @@ abbrev pub Work : Type 0
 Work = ℕ → Holding → Result Holding Full
 
 abbrev pub Turns : Type 1
-Turns = ℕ → Opened → Opened → Type 0
+Turns = ℕ → Opened → Result Opened Full → Type 0
 
 -- ---- damage
 
@@ -82,7 +82,7 @@ costs_appended a b faults taken limit = record { faults = faults; taken_up = ome
 -- nothing was to be done
 pub changes_idle : (tells : Type 0) (work : Work) (turns : Turns) (bytes : ℕ) (joins : List Tables) (a : DiskState) (store : Store) (u : Unit {0})
     → IsLawful tells a → Agrees tells a store → (tells → joins ≡ []) → ((held : Holding) → tells → Has store held a.content → work a.limit held ≡ Ok held)
-    → ((o : Opened) → tells → IsOpened o a.content → turns a.limit o o × Keeps store o) → Changes tells work turns (λ s. s) NoRefusal bytes joins a a store store (Ok u)
+    → ((o : Opened) → tells → IsOpened o a.content → turns a.limit o (Ok o) × Keeps store o) → Changes tells work turns (λ s. s) NoRefusal bytes joins a a store store (Ok u)
 changes_idle tells work turns bytes joins a store u lawful agrees none same still = record {
   agrees = agrees;
   knows = λ s knows. knows;
@@ -91,11 +91,13 @@ changes_idle tells work turns bytes joins a store u lawful agrees none same stil
   images = λ s stands. leaves_start tells a (StandsForEither s s) lawful (λ image here. inl (images_stand tells a s lawful agrees.settled stands image here));
   stands = λ s told stands. stands;
   becomes = λ o told opened. (o, (still o told opened).0, opened, (still o told opened).1);
+  lacks = λ o need gap told opened e. absurd (not_ok (faults.Full need gap) e);
   narrow = λ need gap told e. absurd (not_ok (faults.Full need gap) e);
   damage = λ told. finds_none NoRefusal a.content joins (Ok u) (none told) (λ place e. not_ok (faults.Damaged place) e);
   undamaged = λ s told stands place e. not_ok (faults.Damaged place) e;
   unread = λ told none place e. not_ok (faults.Damaged place) e;
   still = λ told place e. absurd (not_ok (faults.Damaged place) e);
+  unwritten = λ told need gap e. absurd (not_ok (faults.Full need gap) e);
   only = tt;
   cause = λ e. absurd (not_ok faults.Disk e);
   costs = costs_none (bytes + sum_by data_size joins) a;
@@ -107,7 +109,7 @@ changes_idle tells work turns bytes joins a store u lawful agrees none same stil
 -- ---- the same in other words
 
 pub changes_as : {T : Type 0} (tells : Type 0) (work work' : Work) (turns turns' : Turns) (step : State → State) (refuses refuses' : StoreFault → Type 0) (bytes : ℕ) (joins : List Tables) (a b : DiskState) (store later : Store) (result : Result T StoreFault)
-    → ((held : Holding) → tells → Has store held a.content → work a.limit held ≡ work' a.limit held) → ((o p : Opened) → tells → IsOpened o a.content → turns a.limit o p → turns' a.limit o p) → ((e : StoreFault) → refuses e → refuses' e)
+    → ((held : Holding) → tells → Has store held a.content → work a.limit held ≡ work' a.limit held) → ((o : Opened) (outcome : Result Opened Full) → tells → IsOpened o a.content → turns a.limit o outcome → turns' a.limit o outcome) → ((e : StoreFault) → refuses e → refuses' e)
     → Changes tells work turns step refuses bytes joins a b store later result → Changes tells work' turns' step refuses' bytes joins a b store later result
 changes_as {T} tells work work' turns turns' step refuses refuses' bytes joins a b store later (Ok x) same leads may c = record {
   agrees = c.agrees;
@@ -116,12 +118,14 @@ changes_as {T} tells work work' turns turns' step refuses refuses' bytes joins a
   full = λ held need gap told has e. sym (same held told has) ∙ c.full held need gap told has e;
   images = c.images;
   stands = c.stands;
-  becomes = λ o told opened. let w = c.becomes o told opened in (w.0, leads o w.0 told opened w.1, w.2, w.3);
+  becomes = λ o told opened. let w = c.becomes o told opened in (w.0, leads o (Ok w.0) told opened w.1, w.2, w.3);
+  lacks = λ o need gap told opened e. leads o (Err (record { need = need; gap = gap })) told opened (c.lacks o need gap told opened e);
   narrow = c.narrow;
   damage = λ told. let d = c.damage told in record { first = d.first; broken = d.broken; damaged = λ place damage. absurd (d.damaged place damage).0 };
   undamaged = c.undamaged;
   unread = c.unread;
   still = c.still;
+  unwritten = c.unwritten;
   only = tt;
   cause = c.cause;
   costs = c.costs;
@@ -134,11 +138,13 @@ changes_as {T} tells work work' turns turns' step refuses refuses' bytes joins a
   images = c.images;
   stands = λ s told stands. tt;
   becomes = λ o told opened. tt;
+  lacks = λ o need gap told opened e. leads o (Err (record { need = need; gap = gap })) told opened (c.lacks o need gap told opened e);
   narrow = c.narrow;
   damage = λ told. let d = c.damage told in record { first = d.first; broken = d.broken; damaged = λ place damage. (tt, damaged_as refuses refuses' may place fault (d.damaged place damage).1) };
   undamaged = c.undamaged;
   unread = c.unread;
   still = c.still;
+  unwritten = c.unwritten;
   only = cause_as refuses refuses' may fault c.only;
   cause = c.cause;
   costs = c.costs;
@@ -155,6 +161,7 @@ changes_ok {T} {X} tells work turns step refuses bytes joins a b store later x y
   images = c.images;
   stands = c.stands;
   becomes = c.becomes;
+  lacks = λ o need gap told opened e. absurd (not_ok (faults.Full need gap) e);
   narrow = λ need gap told e. absurd (not_ok (faults.Full need gap) e);
   damage = λ told. record {
     first = λ place e. absurd (not_ok (faults.Damaged place) e);
@@ -164,6 +171,7 @@ changes_ok {T} {X} tells work turns step refuses bytes joins a b store later x y
   undamaged = λ s told stands place e. not_ok (faults.Damaged place) e;
   unread = λ told none place e. not_ok (faults.Damaged place) e;
   still = λ told place e. absurd (not_ok (faults.Damaged place) e);
+  unwritten = λ told need gap e. absurd (not_ok (faults.Full need gap) e);
   only = tt;
   cause = λ e. absurd (not_ok faults.Disk e);
   costs = c.costs;
@@ -186,6 +194,7 @@ changes_fault {T} {X} tells work turns step refuses refuses' bytes joins a b sto
   images = c.images;
   stands = λ s told stands. tt;
   becomes = λ o told opened. tt;
+  lacks = λ o need gap told opened e. c.lacks o need gap told opened (carried (faults.Full need gap) e);
   narrow = λ need gap told e. c.narrow need gap told (carried (faults.Full need gap) e);
   damage = λ told.
       let d = c.damage told in record {
@@ -199,6 +208,7 @@ changes_fault {T} {X} tells work turns step refuses refuses' bytes joins a b sto
   undamaged = λ s told stands place e. c.undamaged s told stands place (carried (faults.Damaged place) e);
   unread = λ told none place e. c.unread told none place (carried (faults.Damaged place) e);
   still = λ told place e. c.still told place (carried (faults.Damaged place) e);
+  unwritten = λ told need gap e. c.unwritten told need gap (carried (faults.Full need gap) e);
   only = subst (IsCause refuses') (sym is) (cause_as refuses refuses' may fault c.only);
   cause = λ e. c.cause (carried faults.Disk e);
   costs = c.costs;
@@ -233,10 +243,18 @@ chain_ok work then limit held middle is = ap (λ (r : Result Holding Full). r >>
 chain_err : (work then : Work) (limit : ℕ) (held : Holding) (full : Full) → work limit held ≡ Err full → (work limit held >>= then limit) ≡ Err full
 chain_err work then limit held full is = ap (λ (r : Result Holding Full). r >>= then limit) is
 
+abbrev pub goes_on : Turns → ℕ → Result Opened Full → Result Opened Full → Type 0
+goes_on next limit (Ok q) outcome = next limit q outcome
+goes_on next limit (Err full) outcome = outcome ≡ Err full
+
+-- by these turns, and then by the next, where a place was found
+abbrev pub through : Turns → Turns → Turns
+through turns next = λ limit o outcome. (middle : Result Opened Full) × turns limit o middle × goes_on next limit middle outcome
+
 -- the first failed
 pub changes_failed : {T : Type 0} (tells : Type 0) (work then : Work) (turns next : Turns) (step : State → State) (refuses : StoreFault → Type 0) (m n : ℕ) (joins : List Tables) (a b : DiskState) (store middle : Store) (fault : StoreFault)
     → Changes {T = Unit {0}} tells work turns (λ s. s) NoRefusal m joins a b store middle (Err fault)
-    → Changes {T = T} tells (λ limit held. work limit held >>= then limit) (λ limit o p. (q : Opened) × turns limit o q × next limit q p) step refuses (m + n) joins a b store middle (Err fault)
+    → Changes {T = T} tells (λ limit held. work limit held >>= then limit) (through turns next) step refuses (m + n) joins a b store middle (Err fault)
 changes_failed {T} tells work then turns next step refuses m n joins a b store middle fault c = record {
   agrees = tt;
   knows = λ s knows. tt;
@@ -245,6 +263,7 @@ changes_failed {T} tells work then turns next step refuses m n joins a b store m
   images = λ s stands. leaves_as a b (StandsForEither s s) (StandsForEither s (step s)) (c.images s stands) (λ image either. ⊎_elim (λ here. inl here) (λ here. inl here) either);
   stands = λ s told stands. tt;
   becomes = λ o told opened. tt;
+  lacks = λ o need gap told opened e. (Err (record { need = need; gap = gap }), c.lacks o need gap told opened (carried (faults.Full need gap) e), refl);
   narrow = λ need gap told e. c.narrow need gap told (carried (faults.Full need gap) e);
   damage = λ told.
       let d = c.damage told in record {
@@ -255,6 +274,7 @@ changes_failed {T} tells work then turns next step refuses m n joins a b store m
   undamaged = λ s told stands place e. c.undamaged s told stands place (carried (faults.Damaged place) e);
   unread = λ told none place e. c.unread told none place (carried (faults.Damaged place) e);
   still = λ told place e. c.still told place (carried (faults.Damaged place) e);
+  unwritten = λ told need gap e. c.unwritten told need gap (carried (faults.Full need gap) e);
   only = cause_as NoRefusal refuses (λ e none. absurd none) fault c.only;
   cause = λ e. c.cause (carried faults.Disk e);
   costs = costs_more (m + sum_by data_size joins) (m + n + sum_by data_size joins) a b (omega arith) c.costs;
@@ -268,15 +288,13 @@ changes_failed {T} tells work then turns next step refuses m n joins a b store m
 
 -- both were done, or the second failed, which reads no level
 module _ (tells : Type 0) (work then : Work) (turns next : Turns) (step : State → State) (refuses : StoreFault → Type 0) (m n : ℕ) (joins : List Tables) (a b c : DiskState) (store middle later : Store) (u : Unit {0})
-    (one : Changes tells work turns (λ s. s) NoRefusal m joins a b store middle (Ok u)) where
-  narrow_then : (need gap : ℕ) → IsNarrow b.limit c.content need gap → IsNarrow a.limit c.content need gap
-  narrow_then need gap narrow = subst (λ (limit : ℕ). IsNarrow limit c.content need gap) one.costs.limit narrow
-
+    (one : Changes tells work turns (λ s. s) NoRefusal m joins a b store middle (Ok u)) (finds : (limit : ℕ) (o : Opened) (full : Full) → next limit o (Err full) → ⊥) where
   abbrev both : Work
   both = λ limit held. work limit held >>= then limit
 
-  abbrev through : Turns
-  through = λ limit o p. (q : Opened) × turns limit o q × next limit q p
+  -- the second finds its place
+  no_want : {T : Type 0} (result : Result T StoreFault) → Changes tells then next step refuses n [] b c middle later result → (need gap : ℕ) → tells → result ≡ Err (faults.Full need gap) → ⊥
+  no_want result two need gap told e = let holds = one.agrees.content told in finds b.limit holds.opened (record { need = need; gap = gap }) (two.lacks holds.opened need gap told holds.is e)
 
   images_then : {T : Type 0} (result : Result T StoreFault) → Changes tells then next step refuses n [] b c middle later result → (s : State) → (tells → StandsFor s a.content) → LeavesOnly (StandsForEither s (step s)) a c
   images_then result two s stands =
@@ -296,7 +314,7 @@ module _ (tells : Type 0) (work then : Work) (turns next : Turns) (step : State 
       costs_more (m + sum_by data_size joins + (n + sum_by data_size [])) (m + n + sum_by data_size joins) a c (omega arith)
       (costs_then (m + sum_by data_size joins) (n + sum_by data_size []) a b c one.costs two.costs)
 
-  pub changes_then : {T : Type 0} (result : Result T StoreFault) → Changes tells then next step refuses n [] b c middle later result → Changes tells both through step refuses (m + n) joins a c store later result
+  pub changes_then : {T : Type 0} (result : Result T StoreFault) → Changes tells then next step refuses n [] b c middle later result → Changes tells both (through turns next) step refuses (m + n) joins a c store later result
   changes_then (Ok x) two = record {
     agrees = two.agrees;
     knows = λ s knows. two.knows s (one.knows s knows);
@@ -310,12 +328,14 @@ module _ (tells : Type 0) (work then : Work) (turns next : Turns) (step : State 
     becomes = λ o told opened.
         let w = one.becomes o told opened in
         let v = two.becomes w.0 told w.2 in
-        (v.0, (w.0, w.1, subst (λ (limit : ℕ). next limit w.0 v.0) one.costs.limit v.1), v.2, v.3);
-    narrow = λ need gap told e. narrow_then need gap (two.narrow need gap told e);
+        (v.0, (Ok w.0, w.1, subst (λ (limit : ℕ). next limit w.0 (Ok v.0)) one.costs.limit v.1), v.2, v.3);
+    lacks = λ o need gap told opened e. absurd (no_want (Ok x) two need gap told e);
+    narrow = λ need gap told e. absurd (no_want (Ok x) two need gap told e);
     damage = finds_then (Ok x) two;
     undamaged = λ s told stands place e. two.unread told refl place e;
     unread = λ told none place e. two.unread told refl place e;
     still = λ told place e. absurd (two.unread told refl place e);
+    unwritten = λ told need gap e. absurd (no_want (Ok x) two need gap told e);
     only = tt;
     cause = λ e. rose_later a.faults b.faults c.faults one.costs.faults (two.cause e);
     costs = costs_both (Ok x) two;
@@ -328,11 +348,13 @@ module _ (tells : Type 0) (work then : Work) (turns next : Turns) (step : State 
     images = images_then (Err fault) two;
     stands = λ s told stands. tt;
     becomes = λ o told opened. tt;
-    narrow = λ need gap told e. narrow_then need gap (two.narrow need gap told e);
+    lacks = λ o need gap told opened e. absurd (no_want (Err fault) two need gap told e);
+    narrow = λ need gap told e. absurd (no_want (Err fault) two need gap told e);
     damage = finds_then (Err fault) two;
     undamaged = λ s told stands place e. two.unread told refl place e;
     unread = λ told none place e. two.unread told refl place e;
     still = λ told place e. absurd (two.unread told refl place e);
+    unwritten = λ told need gap e. absurd (no_want (Err fault) two need gap told e);
     only = two.only;
     cause = λ e. rose_later a.faults b.faults c.faults one.costs.faults (two.cause e);
     costs = costs_both (Err fault) two;
@@ -348,14 +370,23 @@ enter_work entry limit held = by_case (fits held.view.entries entry)
     by_case true = refl
     by_case false = refl
 
+-- what is opened so has the entry then
+enter_turns : (entry : Entry) (limit : ℕ) (o : Opened) (roomy outcome : Result Opened Full) → GetsRoom limit entry o roomy → goes_on (λ limit o outcome. outcome ≡ Ok (with_entry o entry)) limit roomy outcome
+    → BecomesEntered limit entry o outcome
+enter_turns entry limit o (Ok q) outcome room goes = (Ok q, room, goes)
+enter_turns entry limit o (Err full) outcome room goes = (Err full, room, goes)
+
+-- an entry that is entered finds its place
+pub enters_finds : (entry : Entry) (limit : ℕ) (o : Opened) (full : Full) → ◌≡◌ {A = Result Opened Full} (Err full) (Ok (with_entry o entry)) → ⊥
+enters_finds entry limit o full e = absurd cc
+
 pub obeys_entry : {T : Type 0} (tells : Type 0) (entry : Entry) (step : State → State) (a b : DiskState) (store later : Store) (result : Result T StoreFault)
     → Changes tells (λ limit held. cond (fits held.view.entries entry) (Ok held) (flushed limit held) >>= λ then. Ok (entered then entry))
-    (λ limit o p. (q : Opened) × (((fits o.entries entry ≡ true) × (q ≡ o)) ⊎ ((fits o.entries entry ≡ false) × BecomesFlushed limit o q)) × (p ≡ with_entry q entry)) step NoRefusal (1 + 0) (joined_by store (enters entry)) a b store later result
+    (through (λ limit o outcome. GetsRoom limit entry o outcome) (λ limit o outcome. outcome ≡ Ok (with_entry o entry))) step NoRefusal (1 + 0) (joined_by store (enters entry)) a b store later result
     → Obeys tells (enters entry) step NoRefusal a b store later result
 obeys_entry tells entry step a b store later result c =
     changes_as tells _ _ _ _ step NoRefusal NoRefusal 1 (joined_by store (enters entry)) a b store later result (λ held told has. enter_work entry a.limit held)
-    (λ o p told opened turned.
-    ⊎_elim (λ fitted. inl (fitted.0, turned.2 ∙ ap (λ (q : Opened). with_entry q entry) fitted.1)) (λ flushed. inr (flushed.0, turned.0, flushed.1, turned.2)) turned.1)
+    (λ o outcome told opened turned. enter_turns entry a.limit o turned.0 outcome turned.1 turned.2)
     (λ e refused. refused) c
 
 -- a delete by the same number

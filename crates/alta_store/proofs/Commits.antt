@@ -137,11 +137,13 @@ module _ (tells : Type 0) (a : DiskState) (lawful : IsLawful tells a) (store : S
         images = λ s stands. either s (turn s) stands (λ told. turns s (knows_of tells a store agrees s told (stands told)));
         stands = λ s told stands. tt;
         becomes = λ o told opened. tt;
+        lacks = λ o need gap told opened failed. absurd (not_full need gap failed);
         narrow = λ need gap told failed. absurd (not_full need gap failed);
         damage = λ told. finds_outside NoRefusal a.content [] fault (inr is) (not_damaged fault (inr is));
         undamaged = λ s told stands place failed. not_damaged fault (inr is) place failed;
         unread = λ told none place failed. not_damaged fault (inr is) place failed;
         still = λ told place failed. absurd (not_damaged fault (inr is) place failed);
+        unwritten = λ told need gap failed. absurd (not_full need gap failed);
         only = inl (inr is);
         cause = λ failed. rose;
         costs = costs;
@@ -269,11 +271,13 @@ module _ (tells : Type 0) (a : DiskState) (lawful : IsLawful tells a) (store : S
                 subst (λ (n : Entry). IsOpened (with_entry o n) b.content) same (opened_more told o is),
                 subst (λ (n : Entry). Keeps later (with_entry o n)) same (keeps_more told o is),
               );
+              lacks = λ o need gap told is failed. absurd (ok_fails x (StoreFull need gap) failed);
               narrow = λ need gap told failed. absurd (ok_fails x (StoreFull need gap) failed);
               damage = λ told. finds_none NoRefusal a.content [] (Ok x) refl (λ place failed. ok_fails x (StoreDamaged place) failed);
               undamaged = λ s told stands place failed. ok_fails x (StoreDamaged place) failed;
               unread = λ told none place failed. ok_fails x (StoreDamaged place) failed;
               still = λ told place failed. absurd (ok_fails x (StoreDamaged place) failed);
+              unwritten = λ told need gap failed. absurd (ok_fails x (StoreFull need gap) failed);
               only = tt;
               cause = λ failed. absurd (ok_fails x StoreDisk failed);
               costs = costs;

@@ -41,7 +41,7 @@ use Rattle.alta_content.specs.Joining.{terms_in}
 
 -- a task that reads these levels
 abbrev pub ObeysOver : {T : Type 0} → Type 0 → Task → List Tables → DiskState → DiskState → Store → Store → Result T StoreFault → Type 0
-ObeysOver tells task joins a b store later result = Changes tells (λ limit held. worked limit held task) (λ limit o p. Becomes limit task o p) (λ s. s) NoRefusal 1 joins a b store later result
+ObeysOver tells task joins a b store later result = Changes tells (λ limit held. worked limit held task) (λ limit o outcome. Becomes limit task o outcome) (λ s. s) NoRefusal 1 joins a b store later result
 
 -- the two oldest levels, unless they were read as a join began
 abbrev pub two_of : Store → List Tables
@@ -117,7 +117,7 @@ module _ (tells : Type 0) (a : DiskState) (lawful : IsLawful tells a) (store : S
         → Obeys tells flushes (λ s. s) NoRefusal a b store later u
     flush_stays b lawful_b some later u job puts =
         subst (λ (joins : List Tables). ObeysOver tells flushes joins a b store later u) (sym (flush_reads tells a store agrees newest has_newest false (few_by store newest few)))
-        (changes_put tells a b lawful lawful_b store now later levels stays flushes Flushes (λ o p rewrite. inr rewrite) (λ told o is. let given = stays.given o told is in stay_kind told o is given.0 given.1)
+        (changes_put tells a b lawful lawful_b store now later levels stays flushes Flushes (λ o outcome rewrite. inr rewrite) (λ view levels kind. inl kind) (λ told o is. let given = stays.given o told is in stay_kind told o is given.0 given.1)
         (stay_switches some) u job puts)
 
 -- ---- a join in place of the two oldest
@@ -162,8 +162,8 @@ module _ (tells : Type 0) (a b c : DiskState) (lawful_a : IsLawful tells a) (law
       → Obeys tells flushes (λ s. s) NoRefusal a c store later u
   flush_joined some many later u job puts =
       subst (λ (joins : List Tables). ObeysOver tells flushes joins a c store later u) (sym (flush_reads tells a store agrees newest has_newest true many))
-      (changes_read tells (λ limit held. worked limit held flushes) (λ limit o p. Becomes limit flushes o p) 1 (two_of store) a b c lawful_a lawful_b store later u agrees reads whole
-      (changes_put tells b c lawful_b lawful_c store now later levels joined flushes Flushes (λ o p rewrite. inr rewrite)
+      (changes_read tells (λ limit held. worked limit held flushes) (λ limit o outcome. Becomes limit flushes o outcome) 1 (two_of store) a b c lawful_a lawful_b store later u agrees reads whole
+      (changes_put tells b c lawful_b lawful_c store now later levels joined flushes Flushes (λ o outcome rewrite. inr rewrite) (λ view levels kind. inl kind)
       (λ told o is.
       let given = joined.given o told is in
       inr (many_there tells b lawful_b store agrees_there newest has_newest told o is given.0 given.1 ∙ many, two_kind tells b lawful_b store agrees_there now drained no_job merging join.joining oldest newest oldest_is has_newest part levels replaces most told o is))
@@ -188,7 +188,7 @@ module _ (tells : Type 0) (a b c : DiskState) (lawful_a : IsLawful tells a) (law
       → Obeys tells (steps n) (λ s. s) NoRefusal a c store later u
   step_joined n ended two later u job puts =
       subst (λ (joins : List Tables). ObeysOver tells (steps n) joins a c store later u) (sym (step_reads store two))
-      (changes_read tells (λ limit held. worked limit held (steps n)) (λ limit o p. Becomes limit (steps n) o p) 1 (two_of store) a b c lawful_a lawful_b store later u agrees reads whole
-      (changes_put tells b c lawful_b lawful_c store now later levels joined (steps n) JoinsOldest (λ o p rewrite. inr rewrite)
+      (changes_read tells (λ limit held. worked limit held (steps n)) (λ limit o outcome. Becomes limit (steps n) o outcome) 1 (two_of store) a b c lawful_a lawful_b store later u agrees reads whole
+      (changes_put tells b c lawful_b lawful_c store now later levels joined (steps n) JoinsOldest (λ o outcome rewrite. inr rewrite) (λ view levels kind. inr (inl kind))
       (λ told o is. two_kind tells b lawful_b store agrees_there now drained no_job merging join.joining oldest newest oldest_is has_newest part levels replaces most told o is)
       (step_switches n ended) u job puts))

@@ -1,11 +1,11 @@
 -- A disk that was formatted.
-use Rattle.std.proofs.Common.{◌≡◌, inr, ℕ, ◌+◌, ◌<◌, ◌≤◌, List, [], ◌∷◌, ◌++◌, length, get_or, take, drop, refl, sym, ◌∙◌, ap, ap₂, subst, arith, ◌-◌, replicate}
+use Rattle.std.proofs.Common.{◌≡◌, inr, ℕ, ◌+◌, ◌<◌, ◌≤◌, List, [], ◌∷◌, ◌++◌, length, get_or, take, drop, refl, sym, ◌∙◌, ap, ap₂, subst, arith, ◌-◌, append_assoc, length-append, replicate}
 use Rattle.std.proofs.Math.Seq.{take-append-add}
-use Rattle.std.proofs.lemmas.List.{get_or-take, get_or-drop, take-take, drop-take, drop-drop, length-take-le, length-drop, take-replicate}
-use Rattle.std.proofs.lemmas.List.Elements.{All-head, All-tail, All-take, All-drop, All-get_or}
+use Rattle.std.proofs.lemmas.List.{get_or-take, get_or-drop, drop_at, take_at, take-append-drop, take-take, drop-take, drop-drop, length-take-le, length-drop, take-replicate}
+use Rattle.std.proofs.lemmas.List.Elements.{All-cons, All-head, All-tail, All-take, All-drop, All-get_or}
 use Rattle.alta_disk.specs.Disk.{Holds}
 use Rattle.alta_disk.specs.Parts.{part}
-use Rattle.alta_disk.specs.Writes.{holds_torn}
+use Rattle.alta_disk.specs.Writes.{drop_less, holds_torn, length-holds}
 use Rattle.alta_disk.proofs.PartLaws.{part_torn, part_written}
 use Rattle.alta_journal.specs.declared.places.TheConstants.{START_A, HEAD_BYTES}
 use Rattle.alta_journal.proofs.HalfLaws.{half_long, half_byte}
@@ -13,7 +13,7 @@ use Rattle.alta_images.specs.Switching.{empty_root, IsFormatted}
 use Rattle.alta_root.specs.Places.{fields_at, gate_of}
 use Rattle.alta_root.specs.Root.{body_of, fields_of, wide_bytes}
 use Rattle.alta_root.specs.declared.slot.Slot.TheVariants.{A}
-use Rattle.alta_store.specs.Clearing.{AreZero, IsClear, empty_fields}
+use Rattle.alta_store.specs.Clearing.{AreZero, IsClear, empty_fields, empty_head}
 use Rattle.alta_journal.proofs.Steps.{take_sum}
 
 -- the byte at a place
@@ -108,3 +108,42 @@ module _ (c0 c1 c2 : List ℕ) (clear : IsClear HEAD_BYTES c0) (body : Holds c0 
       λ is_open. absurd (omega (arith, half_byte START_A 0 c2 (omega arith) ∙ byte_behind START_A (omega arith) (omega arith), is_open)),
     );
   }
+
+-- ---- all bytes
+
+all_append : (xs ys : List ℕ) → AreZero xs → AreZero ys → AreZero (xs ++ ys)
+all_append [] ys first last = last
+all_append (x ∷ xs) ys first last = All-cons (λ b. b ≡ 0) x (xs ++ ys) (All-head (λ b. b ≡ 0) x xs first) (all_append xs ys (All-tail (λ b. b ≡ 0) x xs first) last)
+
+-- zeros behind zeros
+pub clear_write : (at : ℕ) (bytes old new : List ℕ) → AreZero bytes → IsClear at old → Holds old at bytes new → IsClear (at + length bytes) new
+clear_write at bytes old new zeros clear holds = record {
+  long = omega (arith, length-holds old at bytes new clear.long holds);
+  zeros = subst AreZero
+      (sym (ap (take (at + length bytes)) holds ∙ take_at (take at old ++ bytes) (drop (at + length bytes) old) (at + length bytes) (omega (arith, length-append (take at old) bytes, length-take-le at old clear.long))))
+      (all_append (take at old) bytes clear.zeros zeros);
+}
+
+-- a write before a place leaves what stands behind it
+pub behind_write : (at n : ℕ) (bytes old new : List ℕ) → at ≤ length old → Holds old at bytes new → at + length bytes ≤ n → drop n new ≡ drop n old
+behind_write at n bytes old new inside holds le = drop_less (at + length bytes) n new old le (holds_torn old at bytes new inside holds).after
+
+module _ (old c0 c1 c2 : List ℕ) (clear : IsClear HEAD_BYTES c0) (still : drop HEAD_BYTES c0 ≡ drop HEAD_BYTES old) (body : Holds c0 1 empty_fields c1) (gate : Holds c1 0 (165 ∷ []) c2) where
+  zeros_then : drop 40 c0 ≡ replicate (HEAD_BYTES - 40) 0 ++ drop HEAD_BYTES old
+  zeros_then =
+      sym (take-append-drop (HEAD_BYTES - 40) (drop 40 c0))
+      ∙ ap₂ (λ (xs ys : List ℕ). xs ++ ys)
+      (zeros_long (HEAD_BYTES - 40) (part 40 (HEAD_BYTES - 40) c0) (length-take-le (HEAD_BYTES - 40) (drop 40 c0) (omega (arith, clear.long, length-drop 40 c0))) (zero_part 40 (HEAD_BYTES - 40) HEAD_BYTES c0 (omega arith) clear.zeros))
+      (drop-drop (HEAD_BYTES - 40) 40 c0 ∙ still)
+
+  fields_then : drop 1 c1 ≡ empty_fields ++ drop 40 c0
+  fields_then =
+      ap (drop 1) (body ∙ append_assoc (take 1 c0) empty_fields (drop 40 c0))
+      ∙ drop_at (take 1 c0) (empty_fields ++ drop 40 c0) 1 (length-take-le 1 c0 (omega (arith, clear.long)))
+
+  pub whole_written : c2 ≡ empty_head ++ drop HEAD_BYTES old
+  unfolding empty_head
+  whole_written =
+      gate
+      ∙ ap (λ (l : List ℕ). 165 ∷ l)
+      (fields_then ∙ ap (λ (l : List ℕ). empty_fields ++ l) zeros_then ∙ sym (append_assoc empty_fields (replicate (HEAD_BYTES - 40) 0) (drop HEAD_BYTES old)))

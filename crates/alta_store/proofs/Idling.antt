@@ -1,5 +1,5 @@
 -- Tasks with nothing to do, and room for an entry.
-use Rattle.std.proofs.Common.{◌≡◌, ◌⊎◌, inl, inr, ℕ, ◌<◌, ◌≤◌, Bool, true, false, cond, List, [], ◌∷◌, length, map, take, refl, sym, ◌∙◌, ap, subst, arith, Result, Ok}
+use Rattle.std.proofs.Common.{◌≡◌, inl, inr, ℕ, ◌<◌, ◌≤◌, Bool, true, false, cond, List, [], ◌∷◌, length, map, take, refl, sym, ◌∙◌, ap, subst, arith, Result, Ok}
 use Rattle.std.specs.Prelude.{◌==◌, ◌&&◌, nat_le, Option, None, Some}
 use Rattle.std.proofs.lemmas.Bool.{false≢true}
 use Rattle.std.proofs.lemmas.List.{length-map}
@@ -23,7 +23,7 @@ use Rattle.alta_journal.specs.declared.entry.Entry.{Entry}
 use Rattle.alta_memlevel.specs.Added.{Added}
 use Rattle.alta_merge.specs.Merging.{Merging}
 use Rattle.alta_store.specs.Agreement.{Agrees, Has, HasNoEntry, IsJobIn, Keeps, MayGoOn, levels_of, room_of}
-use Rattle.alta_store.specs.Calls.{BecomesFlushed, Changes, MakesRoom, NoRefusal, Obeys, flush_joins, has_live, is_one, joined_by, merge_joins, step_joins, unless_read}
+use Rattle.alta_store.specs.Calls.{Changes, GetsRoom, MakesRoom, NoRefusal, Obeys, flush_joins, has_live, is_one, joined_by, merge_joins, step_joins, unless_read}
 use Rattle.alta_store.specs.declared.fault.StoreFault.{StoreFault}
 use Rattle.alta_store.specs.declared.store.Store.{Store}
 use Rattle.alta_store.proofs.Agreements.{kept}
@@ -148,7 +148,7 @@ module _ (tells : Type 0) (a : DiskState) (lawful : IsLawful tells a) (store : S
       (changes_as tells _ _ _ _ (λ s. s) NoRefusal NoRefusal 1 (flush_joins store) a b store later result
       (λ held told has.
       sym (ap (λ (x : Bool). cond x (Ok held) (flushed a.limit held)) (ap (λ (view : View). fits view.entries entry) has.is.view_is ∙ fits_not told has.is.opened has.is.is)))
-      (λ o p told is turned. inr (fits_not told o is, turned)) (λ e refused. refused) obeys)
+      (λ o outcome told is turned. inr (fits_not told o is, turned)) (λ e refused. refused) obeys)
     where
       wanting : nat_le (length (body_of entry)) (room_of store) ≡ false
       wanting = le_false (length (body_of entry)) (room_of store) short
@@ -159,4 +159,4 @@ module _ (tells : Type 0) (a : DiskState) (lawful : IsLawful tells a) (store : S
       Makes : List Tables → Type 0
       Makes joins =
           Changes tells (λ limit held. cond (fits held.view.entries entry) (Ok held) (flushed limit held))
-          (λ limit o p. ((fits o.entries entry ≡ true) × (p ≡ o)) ⊎ ((fits o.entries entry ≡ false) × BecomesFlushed limit o p)) (λ s. s) NoRefusal 1 joins a b store later result
+          (λ limit o outcome. GetsRoom limit entry o outcome) (λ s. s) NoRefusal 1 joins a b store later result

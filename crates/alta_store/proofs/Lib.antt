@@ -8,6 +8,7 @@ pub mod Holdings
 pub mod Joining
 pub mod Idling
 pub mod Kept
+pub mod Lacking
 pub mod Loads
 pub mod Naming
 pub mod Putting

@@ -1,6 +1,6 @@
 -- Levels in place of others, on a store and its disk.
-use Rattle.std.proofs.Common.{◌≡◌, ◌⊎◌, inl, inr, ⊎_elim, ℕ, zero, suc, ◌+◌, ◌<◌, Bool, true, false, cond, Vec, Global, List, [], ◌∷◌, ◌++◌, length, map, take, drop, refl, sym, ◌∙◌, ap, ap₂, subst, arith, Result, Ok, Err}
-use Rattle.std.specs.Prelude.{◌==◌, Contains, Option, Some, None, ⊤}
+use Rattle.std.proofs.Common.{◌≡◌, ◌⊎◌, inl, inr, ⊎_elim, ℕ, ◌+◌, ◌<◌, true, Vec, Global, List, [], ◌∷◌, ◌++◌, map, take, drop, refl, sym, ◌∙◌, ap, ap₂, subst, arith, Result, Ok, Err}
+use Rattle.std.specs.Prelude.{Contains, Option, Some, None, ⊤}
 use Rattle.std.specs.List.{All}
 use Rattle.std.proofs.lemmas.Bool.{false≢true}
 use Rattle.std.proofs.lemmas.Grind.{flat_map-append}
@@ -24,7 +24,6 @@ use Rattle.alta_content.proofs.Rises.{Contains-head, Contains-tail}
 use Rattle.alta_disk.specs.Calls.{Costs}
 use Rattle.alta_disk.proofs.Moments.{leaves_start, passes_start}
 use Rattle.alta_disk.specs.Disk.{DiskState, IsLawful, LeavesOnly, Only, Passes}
-use Rattle.alta_images.specs.Chain.{◌>>=◌}
 use Rattle.alta_images.specs.Entries.{after_entries}
 use Rattle.alta_images.specs.Holding.{Holding, IsHeld}
 use Rattle.alta_images.specs.Levels.{Level}
@@ -33,7 +32,7 @@ use Rattle.alta_images.proofs.WrittenLaws.{held_stands}
 use Rattle.alta_images.specs.Standing.{StandsFor, tables_by, view_of}
 use Rattle.alta_images.specs.Views.{View, state_of}
 use Rattle.alta_images.specs.Work.{Job, coming, gone_among, newest, level_rows, stays}
-use Rattle.alta_images.specs.Working.{Full, content_to_come, placed, placed_at, rows_of as content_rows, switched}
+use Rattle.alta_images.specs.Working.{content_to_come, rows_of as content_rows, switched}
 use Rattle.alta_images.proofs.JoinLaws.{coming_rows}
 use Rattle.alta_images.proofs.KeptStates.{rows_by_levels, stay_contents}
 use Rattle.alta_images.proofs.Tests.{by_test, filter_drop, filter_keep}
@@ -45,22 +44,18 @@ use Rattle.alta_memlevel.specs.Documents.{IsBefore}
 use Rattle.alta_merge.specs.Merging.{Merging}
 use Rattle.alta_meta.specs.declared.document.Document.{Document}
 use Rattle.alta_meta.specs.declared.document.State.{State}
-use Rattle.alta_rewrite.specs.Drafts.{list_of, rewrite_places, segment_of}
-use Rattle.alta_rewrite.specs.Places.{as_list, place_for, places_for}
+use Rattle.alta_rewrite.specs.Drafts.{rewrite_places}
 use Rattle.alta_rewrite.specs.Rewrites.{AgreesWith, HaveRows, IsRewritten, IsRewrittenOpened, MayRewrite, MayRewriteOpened, levels_to_come, rows_to_come, tables_in}
 use Rattle.alta_rewrite.specs.declared.ends.Ends.{Ends}
 use Rattle.alta_rewrite.specs.declared.fault.RewriteFault.{RewriteFault}
 use Rattle.alta_rewrite.specs.declared.fault.RewriteFault.TheVariants as rewrite_faults
 use Rattle.alta_rewrite.specs.declared.levels.NextLevels.{NextLevels}
 use Rattle.alta_rewrite.specs.declared.rewriting.Rewritten.{Rewritten}
-use Rattle.alta_root.specs.Gaps.{IsLongestGap, first_gap, greatest_gap, taken_by}
 use Rattle.alta_root.specs.declared.root.Root.{Root}
-use Rattle.alta_root.proofs.GapFunctions.{greatest_is}
 use Rattle.alta_rows.specs.All.{rows_of_levels}
 use Rattle.alta_store.specs.Agreement.{Agrees, GoesOnOver, IsIntact, Keeps, Knows, MayGoOn, levels_of}
 use Rattle.alta_store.specs.Answers.{IsOutside, of_rewrite}
-use Rattle.alta_store.specs.Calls.{IsNarrow}
-use Rattle.alta_store.specs.Putting.{IsGivenBy, MayPut, Puts, rows_of}
+use Rattle.alta_store.specs.Putting.{IsGivenBy, IsPut, MayPut, Puts, rows_of}
 use Rattle.alta_store.specs.declared.fault.StoreFault.{StoreFault}
 use Rattle.alta_store.specs.declared.fault.StoreFault.TheVariants as store_faults
 use Rattle.alta_store.specs.declared.store.Store.{Store}
@@ -68,7 +63,6 @@ use Rattle.alta_store.proofs.Agreements.{kept}
 use Rattle.alta_store.proofs.GoingOn.{goes_on_over, goes_on_there}
 use Rattle.alta_table.specs.Tables.{Tables}
 use Rattle.alta_content.proofs.Elements.{all_left}
-use Rattle.alta_images.proofs.FullLaws.{full_is, gap_short, ok_err}
 
 -- ---- rows
 
@@ -164,42 +158,6 @@ module _ (tells : Type 0) (a : DiskState) (before now : Store) (levels : NextLev
   pub may_rewrite_opened : (told : tells) (o : Opened) → IsOpened o a.content → (there : List Level) → HaveRows o there → IsGivenBy (view_of o there) levels → MayRewriteOpened o there levels ends next location a.content
   may_rewrite_opened told o is there have given = record { is = is; have = have; given = given ends next location (agrees_opened told o is there have) }
 
--- ---- where no gap is long enough
-
--- no gap beside what is taken is as long as what is needed
-abbrev IsShort : ℕ → List Extent → Full → Type 0
-IsShort limit taken full = IsLongestGap taken limit full.gap × (full.gap < full.need)
-
-place_short : (taken : List Extent) (bytes limit : ℕ) (full : Full) → place_for taken bytes limit ≡ Err full → IsShort limit taken full
-place_short taken bytes limit full e =
-    by_test (bytes == 0) (λ none. absurd (ok_err {A = Option Extent} None full (ap (λ (b : Bool). cond b (Ok None) (placed taken bytes limit >>= λ extent. Ok (Some extent))) (sym none) ∙ e)))
-    (λ some. by_gap (first_gap taken bytes limit) refl (ap (λ (b : Bool). cond b (Ok None) (placed taken bytes limit >>= λ extent. Ok (Some extent))) (sym some) ∙ e) (positive bytes some))
-  where
-    positive : (n : ℕ) → (n == 0) ≡ false → 0 < n
-    positive zero e = absurd cc
-    positive (suc n) e = omega arith
-
-    by_gap : (o : Option ℕ) → first_gap taken bytes limit ≡ o → (placed_at taken bytes limit o >>= λ extent. Ok (Some extent)) ≡ Err full → 0 < bytes → IsShort limit taken full
-    by_gap None is e some =
-        subst (IsShort limit taken) (full_is {A = Option Extent} (record { need = bytes; gap = greatest_gap taken limit }) full e) (greatest_is taken limit, gap_short taken bytes limit some is)
-    by_gap (Some at) is e some = absurd (ok_err {A = Option Extent} (Some (record { place = at; bytes = bytes })) full e)
-
-first_failed : {X Y : Type 0} (r : Result X Full) (f : X → Result Y Full) (full : Full) → (r >>= f) ≡ Err full → ((x : X) × (r ≡ Ok x) × (f x ≡ Err full)) ⊎ (r ≡ Err full)
-first_failed (Ok x) f full e = inl (x, refl, e)
-first_failed {X} {Y} (Err other) f full e = inr (ap (λ (g : Full). Err g) (full_is {A = Y} other full e))
-
-places_short : (limit : ℕ) (root : Root) (oldest newest list : ℕ) (full : Full) → places_for limit root oldest newest list ≡ Err full → (extra : List Extent) × IsShort limit (taken_by root extra) full
-places_short limit root oldest newest list full e =
-    ⊎_elim
-    (λ first. ⊎_elim
-    (λ last. ⊎_elim (λ found. absurd (ok_err _ full found.2))
-    (λ is. (as_list first.0 ++ as_list last.0, place_short (taken_by root (as_list first.0 ++ as_list last.0)) list limit full is))
-    (first_failed (place_for (taken_by root (as_list first.0 ++ as_list last.0)) list limit) _ full last.2))
-    (λ is. (as_list first.0, place_short (taken_by root (as_list first.0)) newest limit full is))
-    (first_failed (place_for (taken_by root (as_list first.0)) newest limit) _ full first.2))
-    (λ is. ([], place_short (taken_by root []) oldest limit full is))
-    (first_failed (place_for (taken_by root []) oldest limit) _ full e)
-
 -- ---- the root was not switched
 
 module _ (tells : Type 0) (a b : DiskState) (before now : Store) (levels : NextLevels) (may : MayPut tells a before now levels) (prepared : PreparedLevels)
@@ -238,18 +196,18 @@ module _ (tells : Type 0) (a b : DiskState) (before now : Store) (levels : NextL
         by_fault rewrite_faults.Memory e = absurd cc
         by_fault (rewrite_faults.Full n g) e = absurd cc
 
-    narrow_is : (need gap : ℕ) → tells → fault ≡ rewrite_faults.Full need gap → IsNarrow a.limit b.content need gap
-    narrow_is need gap told is =
-        let holds = may.agrees.content told in
-        let err = ap (λ (f : RewriteFault). Err f) is in
-        let short = places_short a.limit now.root (length (segment_of levels.oldest)) (length (segment_of levels.newest)) (length (list_of ends)) (record { need = need; gap = gap }) (why need gap err) in
-        let root_is : now.root ≡ holds.opened.root = may.drained.root ∙ holds.keeps.root in
+    -- a place is wanting, by the root that counts
+    lacks_is : (told : tells) (o : Opened) → IsOpened o a.content → (there : List Level) → HaveRows o there → IsGivenBy (view_of o there) levels → (need gap : ℕ) → fault ≡ rewrite_faults.Full need gap
+        → IsPut a.limit levels (view_of o there) o (Err (record { need = need; gap = gap }))
+    lacks_is told o is there have given need gap fault_is =
+        let rewrites = may_rewrite_opened tells a before now levels may prepared is_prepared ends listed_is deleted_is next location next_is location_is told o is there have given in
+        let root_is : now.root ≡ o.root = may.drained.root ∙ (kept before a.content (may.agrees.content told) o is).root in
         record {
-          opened = holds.opened;
-          is = subst (λ (x : DiskState). IsOpened holds.opened x.content) (sym (unwritten need gap err)) holds.is;
-          extra = short.0;
-          longest = subst (λ (root : Root). IsLongestGap (taken_by root short.0) a.limit gap) root_is short.1.0;
-          short = short.1.1;
+          ends = ends;
+          next = next;
+          location = location;
+          given = rewrites.given;
+          comes = ap (λ (root : Root). rewrite_places a.limit root levels ends) (sym root_is) ∙ why need gap (ap (λ (f : RewriteFault). Err f) fault_is);
         }
 
     pub put_failed : {T : Type 0} (later : Store) (other : StoreFault) → other ≡ of_rewrite fault → Puts {T = T} tells levels a b before later (Err other)
@@ -263,7 +221,8 @@ module _ (tells : Type 0) (a b : DiskState) (before now : Store) (levels : NextL
       passes = passes;
       images = images_put;
       becomes = λ o there told opened have given. tt;
-      narrow = λ need gap told e. narrow_is need gap told (full_of {T = T} other need gap is e);
+      lacks = λ o there need gap told opened have given e. lacks_is told o opened there have given need gap (full_of {T = T} other need gap is e);
+      unwritten = λ need gap e. ap (λ (state : DiskState). state.content) (unwritten need gap (ap (λ (f : RewriteFault). Err f) (full_of {T = T} other need gap is e)));
       only = subst (λ (f : StoreFault). IsOutside f ⊎ ((need : ℕ) × (gap : ℕ) × (f ≡ store_faults.Full need gap))) (sym is) (by_fault fault);
       cause = λ e. cause (ap (λ (f : RewriteFault). Err f) (disk_of {T = T} other is e));
       costs = costs;
@@ -287,7 +246,8 @@ put_nothing tells a lawful before now levels may later = record {
   images = λ held has. leaves_start tells a (StandsFor (state_of held.view)) lawful
       (λ z here. subst (StandsFor (state_of held.view)) (sym (may.agrees.settled z here)) (held_stands held a.content (has (lawful.told z here)).0));
   becomes = λ o there told opened have given. tt;
-  narrow = λ need gap told e. absurd (not_full need gap e);
+  lacks = λ o there need gap told opened have given e. absurd (not_full need gap e);
+  unwritten = λ need gap e. absurd (not_full need gap e);
   only = inl (inl refl);
   cause = λ e. absurd (not_disk e);
   costs = record { faults = omega arith; taken_up = omega arith; taken = omega arith; limit = refl };
@@ -508,8 +468,9 @@ module _ (tells : Type 0) (a b : DiskState) (lawful_a : IsLawful tells a) (lawfu
         becomes = λ o there told is have given.
             let rewrites = opened_may told o is there have given in
             let come = opened_then o there told rewrites in
-            (come.0, record { ends = ends; next = next; location = location; given = rewrites.given; coming = come.1.coming_is }, come.1.is, keeps_then told o come.0 is come.1);
-        narrow = λ need gap told e. absurd (not_ok (store_faults.Full need gap) e);
+            (come.0, record { ends = ends; next = next; location = location; given = rewrites.given; comes = come.1.coming_is }, come.1.is, keeps_then told o come.0 is come.1);
+        lacks = λ o there need gap told is have given e. absurd (not_ok (store_faults.Full need gap) e);
+        unwritten = λ need gap e. absurd (not_ok (store_faults.Full need gap) e);
         only = tt;
         cause = λ e. absurd (not_ok store_faults.Disk e);
         costs = costs;

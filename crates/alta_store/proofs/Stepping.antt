@@ -147,11 +147,13 @@ module _ (tells : Type 0) (a : DiskState) (lawful : IsLawful tells a) (store : S
     images = λ s stands. leaves_start tells a (StandsForEither s s) lawful (λ image here. inl (images_stand tells a s lawful agrees.settled stands image here));
     stands = λ s told stands. stands;
     becomes = λ o told is. (o, inl refl, is, keeps_join o (kept store a.content (agrees.content told) o is));
+    lacks = λ o need gap told is e. absurd (not_ok (faults.Full need gap) e);
     narrow = λ need gap told e. absurd (not_ok (faults.Full need gap) e);
     damage = λ told. finds_none NoRefusal a.content [] (Ok u) refl (λ place e. not_ok (faults.Damaged place) e);
     undamaged = λ s told stands place e. not_ok (faults.Damaged place) e;
     unread = λ told none place e. not_ok (faults.Damaged place) e;
     still = λ told place e. absurd (not_ok (faults.Damaged place) e);
+    unwritten = λ told need gap e. absurd (not_ok (faults.Full need gap) e);
     only = tt;
     cause = λ e. absurd (not_ok faults.Disk e);
     costs = costs_none 1 a;
@@ -173,7 +175,7 @@ step_moves tells a b lawful_a lawful_b store agrees reads whole two merging join
       which = join.which;
     } in
     subst (λ (joins : List Tables). ObeysOver tells (steps n) joins a b store (with_join store more) (Ok u)) (sym (step_reads store two))
-    (changes_read tells (λ limit held. worked limit held (steps n)) (λ limit o p. Becomes limit (steps n) o p) 1 (two_of store) a b b lawful_a lawful_b store (with_join store more) (Ok u) agrees reads whole
+    (changes_read tells (λ limit held. worked limit held (steps n)) (λ limit o outcome. Becomes limit (steps n) o outcome) 1 (two_of store) a b b lawful_a lawful_b store (with_join store more) (Ok u) agrees reads whole
     (changes_join tells b lawful_b store there merging join_there n more moves goes_on u))
 
 -- ---- a merge
@@ -267,6 +269,6 @@ module _ (tells : Type 0) (a b c : DiskState) (lawful_a : IsLawful tells a) (law
   pub merge_put : is_one store ≡ false → (later : Store) → (u : Result (Unit {0}) StoreFault) → OnOk u (later.job ≡ now.job) → Puts tells levels b c store later u → Obeys tells merges (λ s. s) NoRefusal a c store later u
   merge_put some later u job puts =
       subst (λ (joins : List Tables). ObeysOver tells merges joins a c store later u) (sym (ap (λ (x : Bool). cond x [] (levels_of store)) some))
-      (changes_read tells (λ limit held. worked limit held merges) (λ limit o p. Becomes limit merges o p) 1 (levels_of store) a b c lawful_a lawful_b store later u agrees reads whole
-      (changes_put tells b c lawful_b lawful_c store now later levels all_put merges JoinsAll (λ o p rewrite. inr rewrite)
+      (changes_read tells (λ limit held. worked limit held merges) (λ limit o outcome. Becomes limit merges o outcome) 1 (levels_of store) a b c lawful_a lawful_b store later u agrees reads whole
+      (changes_put tells b c lawful_b lawful_c store now later levels all_put merges JoinsAll (λ o outcome rewrite. inr rewrite) (λ view levels kind. inr (inr kind))
       (λ told o is. all_kind_put tells b lawful_b store agrees_there now drained no_job oldest newest has_newest part no_part rows_are levels replaces merged_there told o is) (merge_switches some) u job puts))

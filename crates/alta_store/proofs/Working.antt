@@ -11,7 +11,7 @@ use Rattle.alta_images.specs.Opened.{Opened, IsOpened}
 use Rattle.alta_images.specs.Standing.{StandsFor, StandsForEither, view_of}
 use Rattle.alta_images.specs.Views.{View, state_of}
 use Rattle.alta_images.specs.Work.{Job, Task}
-use Rattle.alta_images.specs.Working.{switched, worked}
+use Rattle.alta_images.specs.Working.{Full, switched, worked}
 use Rattle.alta_images.proofs.WellLaws.{work_well}
 use Rattle.alta_joins.specs.Contents.{AreSegmentsOn, data_size}
 use Rattle.alta_joins.specs.Damages.{IsFirstDamage}
@@ -22,13 +22,14 @@ use Rattle.alta_rewrite.specs.Rewrites.{levels_to_come}
 use Rattle.alta_rewrite.specs.declared.levels.NextLevels.{NextLevels}
 use Rattle.alta_store.specs.Agreement.{Agrees, GoesOnOver, Has, KeepsOpened, IsJobIn, Keeps, levels_of}
 use Rattle.alta_catalog.specs.Knowing.{gone_of}
-use Rattle.alta_store.specs.Calls.{Becomes, Changes, IsNarrow, IsRewrite, NoRefusal}
-use Rattle.alta_store.specs.Putting.{IsGivenBy, MayPut, Puts, ReadsLevels}
+use Rattle.alta_store.specs.Calls.{Becomes, Changes, IsNarrow, IsRewrite, IsWork, NoRefusal}
+use Rattle.alta_store.specs.Putting.{IsGivenBy, IsPut, MayPut, Puts, ReadsLevels}
 use Rattle.alta_store.specs.declared.fault.StoreFault.{StoreFault}
 use Rattle.alta_store.specs.declared.fault.StoreFault.TheVariants as faults
 use Rattle.alta_store.specs.declared.store.Store.{Store}
 use Rattle.alta_store.proofs.Changing.{Turns, Work, costs_more, finds_none, not_damaged, rose_later}
 use Rattle.alta_store.proofs.Holdings.{has_of}
+use Rattle.alta_store.proofs.Lacking.{narrow_rewrite}
 use Rattle.alta_table.specs.Tables.{Tables}
 
 -- what is shown where the disk tells
@@ -50,7 +51,8 @@ pub record Switches (limit : ℕ) (task : Task) (now : Store) (levels : NextLeve
   pub goes : (then : Holding) → switched limit held (levels_to_come levels held.view) job ≡ Ok then → IsJobIn now.job then.job
 
 module _ (tells : Type 0) (a b : DiskState) (lawful_a : IsLawful tells a) (lawful_b : IsLawful tells b) (store now later : Store) (levels : NextLevels) (may : MayPut tells a store now levels) (task : Task)
-    (kind : View → NextLevels → Type 0) (becomes_by : (o p : Opened) → IsRewrite a.limit kind o p → Becomes a.limit task o p)
+    (kind : View → NextLevels → Type 0) (becomes_by : (o : Opened) (outcome : Result Opened Full) → IsRewrite a.limit kind o outcome → Becomes a.limit task o outcome)
+    (work_is : (view : View) (levels : NextLevels) → kind view levels → IsWork view levels)
     (kind_is : (told : tells) (o : Opened) (is : IsOpened o a.content) → kind (view_of o (may.given o told is).0) levels)
     (switches : (held : Holding) → tells → Has store held a.content → Switches a.limit task now levels held) where
   images_put : {T : Type 0} (result : Result T StoreFault) → Puts tells levels a b store later result → (s : State) → (tells → StandsFor s a.content) → LeavesOnly (StandsForEither s s) a b
@@ -59,8 +61,33 @@ module _ (tells : Type 0) (a b : DiskState) (lawful_a : IsLawful tells a) (lawfu
       let found = has_of tells a lawful_a store may.agrees told s (stands told) in
       leaves_as a b (StandsFor (state_of found.0.view)) (StandsForEither s s) (puts.images found.0 (λ told. (found.1.is, (switches found.0 told found.1).given))) (λ image here. inl (subst (λ (t : State). StandsFor t image) found.2 here)))
 
+  -- what a rewrite comes to
+  rewritten : (told : tells) (o : Opened) (is : IsOpened o a.content) (outcome : Result Opened Full) → IsPut a.limit levels (view_of o (may.given o told is).0) o outcome → IsRewrite a.limit kind o outcome
+  rewritten told o is outcome put = record {
+    there = (may.given o told is).0;
+    have = (may.given o told is).1;
+    levels = levels;
+    kind_is = kind_is told o is;
+    ends = put.ends;
+    next = put.next;
+    location = put.location;
+    given = put.given;
+    comes = put.comes;
+  }
+
+  -- a place is wanting
+  lacks_put : {T : Type 0} (result : Result T StoreFault) → Puts tells levels a b store later result → (o : Opened) (need gap : ℕ) → tells → IsOpened o a.content → result ≡ Err (faults.Full need gap)
+      → IsRewrite a.limit kind o (Err (record { need = need; gap = gap }))
+  lacks_put result puts o need gap told is e =
+      let given = may.given o told is in rewritten told o is (Err (record { need = need; gap = gap })) (puts.lacks o given.0 need gap told is given.1 given.2 e)
+
+  narrow_put : {T : Type 0} (result : Result T StoreFault) → Puts tells levels a b store later result → (need gap : ℕ) → tells → result ≡ Err (faults.Full need gap) → IsNarrow a.limit b.content need gap
+  narrow_put result puts need gap told e =
+      let holds = may.agrees.content told in
+      narrow_rewrite a.limit kind work_is holds.opened b.content (subst (IsOpened holds.opened) (sym (puts.unwritten need gap e)) holds.is) need gap (lacks_put result puts holds.opened need gap told holds.is e)
+
   pub changes_put : (u : Result (Unit {0}) StoreFault) → OnOk u (later.job ≡ now.job) → Puts tells levels a b store later u
-      → Changes tells (λ limit held. worked limit held task) (λ limit o p. Becomes limit task o p) (λ s. s) NoRefusal 1 [] a b store later u
+      → Changes tells (λ limit held. worked limit held task) (λ limit o outcome. Becomes limit task o outcome) (λ s. s) NoRefusal 1 [] a b store later u
   changes_put (Ok x) job puts = record {
     agrees = puts.agrees;
     knows = puts.knows;
@@ -82,15 +109,17 @@ module _ (tells : Type 0) (a b : DiskState) (lawful_a : IsLawful tells a) (lawfu
         let given = may.given o told is in
         let w = puts.becomes o given.0 told is given.1 given.2 in (
           w.0,
-          becomes_by o w.0 (record { there = given.0; have = given.1; levels = levels; kind_is = kind_is told o is; ends = w.1.ends; next = w.1.next; location = w.1.location; given = w.1.given; coming = w.1.coming }),
+          becomes_by o (Ok w.0) (rewritten told o is (Ok w.0) w.1),
           w.2,
           w.3,
         );
+    lacks = λ o need gap told is e. absurd (not_ok (faults.Full need gap) e);
     narrow = λ need gap told e. absurd (not_ok (faults.Full need gap) e);
     damage = λ told. finds_none NoRefusal a.content [] (Ok x) refl (λ place e. not_ok (faults.Damaged place) e);
     undamaged = λ s told stands place e. not_ok (faults.Damaged place) e;
     unread = λ told none place e. not_ok (faults.Damaged place) e;
     still = λ told place e. absurd (not_ok (faults.Damaged place) e);
+    unwritten = λ told need gap e. absurd (not_ok (faults.Full need gap) e);
     only = tt;
     cause = λ e. absurd (not_ok faults.Disk e);
     costs = puts.costs;
@@ -106,11 +135,13 @@ module _ (tells : Type 0) (a b : DiskState) (lawful_a : IsLawful tells a) (lawfu
     images = images_put (Err fault) puts;
     stands = λ s told was. tt;
     becomes = λ o told is. tt;
-    narrow = puts.narrow;
+    lacks = λ o need gap told is e. becomes_by o (Err (record { need = need; gap = gap })) (lacks_put (Err fault) puts o need gap told is e);
+    narrow = narrow_put (Err fault) puts;
     damage = λ told. finds_none NoRefusal a.content [] (Err fault) refl no_damage;
     undamaged = λ s told stands place e. no_damage place e;
     unread = λ told none place e. no_damage place e;
     still = λ told place e. absurd (no_damage place e);
+    unwritten = λ told need gap e. puts.unwritten need gap e;
     only = ⊎_elim (λ outside. inl outside) (λ full. inr (inr (inl full))) puts.only;
     cause = puts.cause;
     costs = puts.costs;
@@ -152,6 +183,7 @@ changes_read {T} tells work turns bytes joins a b c lawful_a lawful_b store late
       (change.images s (λ told. subst (StandsFor s) (sym (reads.content told)) (stands told)));
   stands = λ s told stands. change.stands s told (subst (StandsFor s) (sym (reads.content told)) stands);
   becomes = by_result_becomes result change;
+  lacks = λ o need gap told is e. subst (λ (l : ℕ). turns l o (Err (record { need = need; gap = gap }))) limit (change.lacks o need gap told (subst (IsOpened o) (sym (reads.content told)) is) e);
   narrow = λ need gap told e. subst (λ (l : ℕ). IsNarrow l c.content need gap) limit (change.narrow need gap told e);
   damage = λ told. record {
     first = λ place e. absurd (change.unread told refl place e);
@@ -161,6 +193,7 @@ changes_read {T} tells work turns bytes joins a b c lawful_a lawful_b store late
   undamaged = λ s told stands place e. change.unread told refl place e;
   unread = λ told none place e. change.unread told refl place e;
   still = λ told place e. absurd (change.unread told refl place e);
+  unwritten = λ told need gap e. change.unwritten told need gap e ∙ reads.content told;
   only = change.only;
   cause = λ e. rose_later a.faults b.faults c.faults reads.costs.faults (change.cause e);
   costs = record {
@@ -185,10 +218,10 @@ changes_read {T} tells work turns bytes joins a b c lawful_a lawful_b store late
     by_result_works (Err fault) change held told has = tt
 
     by_result_becomes : (r : Result T StoreFault) → Changes tells work turns (λ s. s) NoRefusal bytes [] b c store later r
-        → (o : Opened) → tells → IsOpened o a.content → OnOk r ((p : Opened) × turns a.limit o p × IsOpened p c.content × Keeps later p)
+        → (o : Opened) → tells → IsOpened o a.content → OnOk r ((p : Opened) × turns a.limit o (Ok p) × IsOpened p c.content × Keeps later p)
     by_result_becomes (Ok x) change o told is =
         let w = change.becomes o told (subst (IsOpened o) (sym (reads.content told)) is) in
-        (w.0, subst (λ (l : ℕ). turns l o w.0) limit w.1, w.2, w.3)
+        (w.0, subst (λ (l : ℕ). turns l o (Ok w.0)) limit w.1, w.2, w.3)
     by_result_becomes (Err fault) change o told is = tt
 
 -- the levels were not read
@@ -203,6 +236,7 @@ changes_unread {T} {X} tells work turns bytes joins a b lawful_a lawful_b store 
   images = images_read tells a b lawful_a lawful_b store agrees (sum_by data_size joins) read.reads;
   stands = λ s told stands. tt;
   becomes = λ o told opened. tt;
+  lacks = λ o need gap told opened e. absurd (no_full need gap e);
   narrow = λ need gap told e. absurd (no_full need gap e);
   damage = λ told.
       let d = read.damage told in record {
@@ -213,6 +247,7 @@ changes_unread {T} {X} tells work turns bytes joins a b lawful_a lawful_b store 
   undamaged = λ s told stands place e. let found = segments s told stands in read.whole found.0 place told found.1 (carried (faults.Damaged place) e);
   unread = λ told none place e. read.unread told none place (carried (faults.Damaged place) e);
   still = λ told place e. read.reads.content told;
+  unwritten = λ told need gap e. absurd (no_full need gap e);
   only = ⊎_elim (λ outside. inl outside) (λ damage. inr (inr (inr damage))) read.only;
   cause = λ e. read.cause (carried faults.Disk e);
   costs = costs_more (sum_by data_size joins) (bytes + sum_by data_size joins) a b (omega arith) read.reads.costs;

@@ -1,5 +1,5 @@
 -- What a call that changes a store does, in one word.
-use Rattle.std.specs.Prelude.{◌≡◌, ◌⊎◌, ◌<◌, ◌+◌, ◌==◌, ◌&&◌, nat_le, ℕ, Bool, cond, true, false, List, [], length, map, take, Option, Some, None, Result, Ok, Err, OnOk, IfOk, IfErr}
+use Rattle.std.specs.Prelude.{◌≡◌, ◌⊎◌, ◌<◌, ◌+◌, ◌==◌, ◌&&◌, ◌++◌, nat_le, ℕ, Bool, cond, true, false, List, [], ◌∷◌, length, map, take, Option, Some, None, Result, Ok, Err, OnOk, IfOk, IfErr}
 use Rattle.std.specs.List.{sum_by}
 use Rattle.alta_catalog.specs.Knowing.{gone_of, memory_of}
 use Rattle.alta_codec.specs.Faults.{Rose}
@@ -9,6 +9,7 @@ use Rattle.alta_content.specs.declared.content.Content.{Content}
 use Rattle.alta_disk.specs.Calls.{Costs}
 use Rattle.alta_disk.specs.Disk.{DiskState, LeavesOnly}
 use Rattle.alta_images.specs.Broken.{IsBrokenAmong}
+use Rattle.alta_images.specs.Chain.{◌>>=◌}
 use Rattle.alta_images.specs.Holding.{Holding}
 use Rattle.alta_images.specs.Levels.{Level}
 use Rattle.alta_images.specs.Opened.{Opened, IsOpened}
@@ -16,7 +17,7 @@ use Rattle.alta_images.specs.Standing.{StandsFor, StandsForEither, view_of}
 use Rattle.alta_images.specs.Switching.{with_entry}
 use Rattle.alta_images.specs.Views.{View}
 use Rattle.alta_images.specs.Work.{Task, enters, fits, flushes, gone, merges, newest_content, steps}
-use Rattle.alta_images.specs.Working.{Full, IsJoin, all_contents, entered, flushed, worked}
+use Rattle.alta_images.specs.Working.{AreFirstGaps, Full, IsJoin, all_contents, entered, flushed, worked}
 use Rattle.alta_joins.specs.Contents.{data_size}
 use Rattle.alta_joins.specs.Damages.{IsFirstDamage}
 use Rattle.alta_journal.specs.Places.{start_of}
@@ -24,10 +25,12 @@ use Rattle.alta_journal.specs.Record.{body_of}
 use Rattle.alta_journal.specs.declared.entry.Entry.{Entry}
 use Rattle.alta_merge.specs.Merging.{Merging}
 use Rattle.alta_meta.specs.declared.document.State.{State}
+use Rattle.alta_rewrite.specs.Drafts.{rewrite_places}
 use Rattle.alta_rewrite.specs.Rewrites.{HaveRows, IsComing, IsGiven, Replaces, no_content}
 use Rattle.alta_rewrite.specs.declared.ends.Ends.{Ends}
 use Rattle.alta_rewrite.specs.declared.levels.NextLevels.{NextLevels}
 use Rattle.alta_root.specs.Gaps.{IsLongestGap, taken_by}
+use Rattle.alta_root.specs.Root.{extents_of}
 use Rattle.alta_store.specs.Agreement.{Agrees, Has, Keeps, Knows, levels_of, room_of}
 use Rattle.alta_store.specs.Answers.{IsOutside}
 use Rattle.alta_store.specs.declared.fault.StoreFault.{StoreFault}
@@ -69,10 +72,15 @@ joined_by store flushes = flush_joins store
 joined_by store merges = merge_joins store
 joined_by store (steps n) = step_joins store
 
--- ---- what a task makes of what is opened, whatever the streams of its levels are
+-- ---- what a task makes of what is opened, whatever the streams of its levels are: what is opened then, or the place that is wanting
 
--- The root is switched to levels of this kind.
-pub record IsRewrite (limit : ℕ) (kind : View → NextLevels → Type 0) (o p : Opened) : Type 0 where
+-- what a switch of the root to these levels comes to
+abbrev pub ComesTo : ℕ → Opened → NextLevels → Ends → ℕ → ℕ → Result Opened Full → Type 0
+ComesTo limit o levels ends next location (Ok p) = IsComing limit o p levels ends next location
+ComesTo limit o levels ends next location (Err full) = rewrite_places limit o.root levels ends ≡ Err full
+
+-- The root is switched to levels of this kind, or one of those to write, or the list, has no place.
+pub record IsRewrite (limit : ℕ) (kind : View → NextLevels → Type 0) (o : Opened) (outcome : Result Opened Full) : Type 0 where
   pub there : List Level
   pub have : HaveRows o there
   pub levels : NextLevels
@@ -81,7 +89,7 @@ pub record IsRewrite (limit : ℕ) (kind : View → NextLevels → Type 0) (o p 
   pub next : ℕ
   pub location : ℕ
   pub given : IsGiven (view_of o there) levels ends next location
-  pub coming : IsComing limit o p levels ends next location
+  pub comes : ComesTo limit o levels ends next location outcome
 
 -- all levels stay, and the newest documents come behind them
 abbrev pub AddsNewest : View → NextLevels → Type 0
@@ -103,28 +111,30 @@ abbrev pub Flushes : View → NextLevels → Type 0
 Flushes view levels = ((is_many view ≡ false) × AddsNewest view levels) ⊎ ((is_many view ≡ true) × JoinsOldest view levels)
 
 -- Behind a flush an image is opened as before, where the journal has no entry, or else with the newest documents in a level.
-abbrev pub BecomesFlushed : ℕ → Opened → Opened → Type 0
-BecomesFlushed limit o p = ((o.entries ≡ []) × (p ≡ o)) ⊎ IsRewrite limit Flushes o p
+abbrev pub BecomesFlushed : ℕ → Opened → Result Opened Full → Type 0
+BecomesFlushed limit o outcome = ((o.entries ≡ []) × (outcome ≡ Ok o)) ⊎ IsRewrite limit Flushes o outcome
 
 -- Behind a merge it is opened as before, where there is nothing to merge, or else with one level at most.
-abbrev pub BecomesMerged : ℕ → Opened → Opened → Type 0
-BecomesMerged limit o p = (((nat_le (length o.levels) 1 && length o.deleted == 0 && length o.entries == 0) ≡ true) × (p ≡ o)) ⊎ IsRewrite limit JoinsAll o p
+abbrev pub BecomesMerged : ℕ → Opened → Result Opened Full → Type 0
+BecomesMerged limit o outcome = (((nat_le (length o.levels) 1 && length o.deleted == 0 && length o.entries == 0) ≡ true) × (outcome ≡ Ok o)) ⊎ IsRewrite limit JoinsAll o outcome
 
 -- Behind a step it is opened as before, or with the two oldest levels joined.
-abbrev pub BecomesStepped : ℕ → Opened → Opened → Type 0
-BecomesStepped limit o p = (p ≡ o) ⊎ IsRewrite limit JoinsOldest o p
+abbrev pub BecomesStepped : ℕ → Opened → Result Opened Full → Type 0
+BecomesStepped limit o outcome = (outcome ≡ Ok o) ⊎ IsRewrite limit JoinsOldest o outcome
 
--- with an entry more, behind a flush where it does not fit
-abbrev pub BecomesEntered : ℕ → Entry → Opened → Opened → Type 0
-BecomesEntered limit entry o p =
-    ((fits o.entries entry ≡ true) × (p ≡ with_entry o entry))
-    ⊎ ((fits o.entries entry ≡ false) × (flushed : Opened) × BecomesFlushed limit o flushed × (p ≡ with_entry flushed entry))
+-- with room for an entry: as before where it fits, else behind a flush
+abbrev pub GetsRoom : ℕ → Entry → Opened → Result Opened Full → Type 0
+GetsRoom limit entry o outcome = ((fits o.entries entry ≡ true) × (outcome ≡ Ok o)) ⊎ ((fits o.entries entry ≡ false) × BecomesFlushed limit o outcome)
 
-abbrev pub Becomes : ℕ → Task → Opened → Opened → Type 0
-Becomes limit (enters entry) o p = BecomesEntered limit entry o p
-Becomes limit flushes o p = BecomesFlushed limit o p
-Becomes limit merges o p = BecomesMerged limit o p
-Becomes limit (steps n) o p = BecomesStepped limit o p
+-- with an entry more
+abbrev pub BecomesEntered : ℕ → Entry → Opened → Result Opened Full → Type 0
+BecomesEntered limit entry o outcome = (roomy : Result Opened Full) × GetsRoom limit entry o roomy × (outcome ≡ (roomy >>= λ p. Ok (with_entry p entry)))
+
+abbrev pub Becomes : ℕ → Task → Opened → Result Opened Full → Type 0
+Becomes limit (enters entry) o outcome = BecomesEntered limit entry o outcome
+Becomes limit flushes o outcome = BecomesFlushed limit o outcome
+Becomes limit merges o outcome = BecomesMerged limit o outcome
+Becomes limit (steps n) o outcome = BecomesStepped limit o outcome
 
 -- no fault refuses
 abbrev pub NoRefusal : StoreFault → Type 0
@@ -132,11 +142,18 @@ NoRefusal fault = ⊥
 
 -- ---- where no place is left
 
--- The image is opened, and a place is wanting: the gap is the greatest beside the extents of the root and others, and the need is above it.
+-- levels that a flush, a step or a merge puts in place of others
+abbrev pub IsWork : View → NextLevels → Type 0
+IsWork view levels = Flushes view levels ⊎ (JoinsOldest view levels ⊎ JoinsAll view levels)
+
+-- The image is opened, and a switch of its root, by a flush, a step or a merge, lacks a place: the gap is the greatest beside the extents of
+-- the root and those that are placed before in this switch, each at the first gap, and the need is above it.
 pub record IsNarrow (limit : ℕ) (image : List ℕ) (need gap : ℕ) : Type 0 where
   pub opened : Opened
   pub is : IsOpened opened image
+  pub lacks : IsRewrite limit IsWork opened (Err (record { need = need; gap = gap }))
   pub extra : List Extent
+  pub first : AreFirstGaps limit (extents_of opened.root) extra
   pub longest : IsLongestGap (taken_by opened.root extra) limit gap
   pub short : gap < need
 
@@ -156,7 +173,7 @@ pub record FindsFirstDamage {T : Type 0} (refuses : StoreFault → Type 0) (imag
 
 -- By this work, which turns what is opened so, and makes this of a state. It refuses by these faults; it reads the lists of these levels,
 -- and at most so many bytes beside them.
-pub record Changes {T : Type 0} (tells : Type 0) (work : ℕ → Holding → Result Holding Full) (turns : ℕ → Opened → Opened → Type 0) (step : State → State) (refuses : StoreFault → Type 0) (bytes : ℕ) (joins : List Tables) (before after : DiskState) (store later : Store) (result : Result T StoreFault) : Type 0 where
+pub record Changes {T : Type 0} (tells : Type 0) (work : ℕ → Holding → Result Holding Full) (turns : ℕ → Opened → Result Opened Full → Type 0) (step : State → State) (refuses : StoreFault → Type 0) (bytes : ℕ) (joins : List Tables) (before after : DiskState) (store later : Store) (result : Result T StoreFault) : Type 0 where
   -- once it is done, store and disk agree, and the store knows the state after
   pub agrees : OnOk result (Agrees tells after later)
   pub knows : (s : State) → Knows store s → OnOk result (Knows later (step s))
@@ -166,14 +183,16 @@ pub record Changes {T : Type 0} (tells : Type 0) (work : ℕ → Holding → Res
   -- at each moment an image stands for the state of before or the one after, and for the latter once it is done
   pub images : (s : State) → (tells → StandsFor s before.content) → LeavesOnly (StandsForEither s (step s)) before after
   pub stands : (s : State) → tells → StandsFor s before.content → OnOk result (StandsFor (step s) after.content)
-  -- what is opened then, on a disk that stands for no state too
-  pub becomes : (o : Opened) → tells → IsOpened o before.content → OnOk result ((p : Opened) × turns before.limit o p × IsOpened p after.content × Keeps later p)
+  -- what is opened then, and which place is wanting, on a disk that stands for no state too
+  pub becomes : (o : Opened) → tells → IsOpened o before.content → OnOk result ((p : Opened) × turns before.limit o (Ok p) × IsOpened p after.content × Keeps later p)
+  pub lacks : (o : Opened) (need gap : ℕ) → tells → IsOpened o before.content → result ≡ Err (faults.Full need gap) → turns before.limit o (Err (record { need = need; gap = gap }))
   -- each error comes from its cause
   pub narrow : (need gap : ℕ) → tells → result ≡ Err (faults.Full need gap) → IsNarrow before.limit after.content need gap
   pub damage : tells → FindsFirstDamage refuses before.content joins result
   pub undamaged : (s : State) → tells → StandsFor s before.content → (place : ℕ) → result ≡ Err (faults.Damaged place) → ⊥
   pub unread : tells → joins ≡ [] → (place : ℕ) → result ≡ Err (faults.Damaged place) → ⊥
   pub still : tells → (place : ℕ) → result ≡ Err (faults.Damaged place) → after.content ≡ before.content
+  pub unwritten : tells → (need gap : ℕ) → result ≡ Err (faults.Full need gap) → after.content ≡ before.content
   pub only : IfErr result (IsCause refuses)
   pub cause : result ≡ Err faults.Disk → Rose before.faults after.faults
   pub costs : Costs (bytes + sum_by data_size joins) before after
@@ -181,19 +200,18 @@ pub record Changes {T : Type 0} (tells : Type 0) (work : ℕ → Holding → Res
 -- a call that does a task
 abbrev pub Obeys : {T : Type 0} → Type 0 → Task → (State → State) → (StoreFault → Type 0) → DiskState → DiskState → Store → Store → Result T StoreFault → Type 0
 Obeys tells task step refuses before after store later result =
-    Changes tells (λ limit held. worked limit held task) (λ limit o p. Becomes limit task o p) step refuses 1 (joined_by store task) before after store later result
+    Changes tells (λ limit held. worked limit held task) (λ limit o outcome. Becomes limit task o outcome) step refuses 1 (joined_by store task) before after store later result
 
 -- a call that makes room for an entry, by a flush where its record does not fit
 abbrev pub MakesRoom : {T : Type 0} → Type 0 → Entry → DiskState → DiskState → Store → Store → Result T StoreFault → Type 0
 MakesRoom tells entry before after store later result =
     Changes tells (λ limit held. cond (fits held.view.entries entry) (Ok held) (flushed limit held))
-    (λ limit o p. ((fits o.entries entry ≡ true) × (p ≡ o)) ⊎ ((fits o.entries entry ≡ false) × BecomesFlushed limit o p))
-    (λ s. s) NoRefusal 1 (joined_by store (enters entry)) before after store later result
+    (λ limit o outcome. GetsRoom limit entry o outcome) (λ s. s) NoRefusal 1 (joined_by store (enters entry)) before after store later result
 
 -- a call that appends an entry
 abbrev pub Enters : {T : Type 0} → Type 0 → Entry → (State → State) → DiskState → DiskState → Store → Store → Result T StoreFault → Type 0
 Enters tells entry step before after store later result =
-    Changes tells (λ limit held. Ok (entered held entry)) (λ limit o p. p ≡ with_entry o entry) step NoRefusal 0 [] before after store later result
+    Changes tells (λ limit held. Ok (entered held entry)) (λ limit o outcome. outcome ≡ Ok (with_entry o entry)) step NoRefusal 0 [] before after store later result
 
 -- the name is taken, or no number is left
 abbrev pub RefusesAdd : StoreFault → Type 0

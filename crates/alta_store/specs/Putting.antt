@@ -16,15 +16,15 @@ use Rattle.alta_images.specs.Opened.{Opened, IsOpened, table_rows}
 use Rattle.alta_images.specs.Standing.{StandsFor, view_of}
 use Rattle.alta_images.specs.Views.{View, state_of}
 use Rattle.alta_images.specs.Work.{Job, coming}
-use Rattle.alta_images.specs.Working.{switched}
+use Rattle.alta_images.specs.Working.{Full, switched}
 use Rattle.alta_joins.specs.Contents.{AreSegmentsOn, data_size}
 use Rattle.alta_meta.specs.declared.document.State.{State}
-use Rattle.alta_rewrite.specs.Rewrites.{AgreesWith, HaveRows, IsComing, IsGiven, levels_to_come}
+use Rattle.alta_rewrite.specs.Rewrites.{AgreesWith, HaveRows, IsGiven, levels_to_come}
 use Rattle.alta_rewrite.specs.declared.ends.Ends.{Ends}
 use Rattle.alta_rewrite.specs.declared.levels.NextLevels.{NextLevels}
 use Rattle.alta_store.specs.Agreement.{Agrees, Keeps, Knows, levels_of}
 use Rattle.alta_store.specs.Answers.{IsOutside}
-use Rattle.alta_store.specs.Calls.{FindsFirstDamage, IsNarrow, NoRefusal}
+use Rattle.alta_store.specs.Calls.{ComesTo, FindsFirstDamage, NoRefusal}
 use Rattle.alta_store.specs.declared.fault.StoreFault.{StoreFault}
 use Rattle.alta_store.specs.declared.fault.StoreFault.TheVariants as faults
 use Rattle.alta_store.specs.declared.store.Store.{Store}
@@ -74,13 +74,13 @@ pub record MayPut (tells : Type 0) (disk : DiskState) (before now : Store) (leve
   pub given : (o : Opened) → tells → IsOpened o disk.content → (there : List Level) × HaveRows o there × IsGivenBy (view_of o there) levels
   pub goes_on : (now.job ≡ None) ⊎ ((levels.stay_from ≡ 0) × (levels.oldest.documents ≡ []) × (now.job ≡ before.job))
 
--- What is opened becomes what these levels make of it.
-pub record IsPut (limit : ℕ) (levels : NextLevels) (view : View) (o p : Opened) : Type 0 where
+-- What is opened becomes what these levels make of it, or a place is wanting.
+pub record IsPut (limit : ℕ) (levels : NextLevels) (view : View) (o : Opened) (outcome : Result Opened Full) : Type 0 where
   pub ends : Ends
   pub next : ℕ
   pub location : ℕ
   pub given : IsGiven view levels ends next location
-  pub coming : IsComing limit o p levels ends next location
+  pub comes : ComesTo limit o levels ends next location outcome
 
 -- The levels were put in place of those of before, and the journal is empty.
 pub record Puts {T : Type 0} (tells : Type 0) (levels : NextLevels) (before after : DiskState) (store later : Store) (result : Result T StoreFault) : Type 0 where
@@ -93,8 +93,10 @@ pub record Puts {T : Type 0} (tells : Type 0) (levels : NextLevels) (before afte
   pub passes : Passes (λ old new. ⊤) before after
   pub images : (held : Holding) → (tells → IsHeld held before.content × IsGivenBy held.view levels) → LeavesOnly (StandsFor (state_of held.view)) before after
   pub becomes : (o : Opened) (there : List Level) → tells → IsOpened o before.content → HaveRows o there → IsGivenBy (view_of o there) levels
-      → OnOk result ((p : Opened) × IsPut before.limit levels (view_of o there) o p × IsOpened p after.content × Keeps later p)
-  pub narrow : (need gap : ℕ) → tells → result ≡ Err (faults.Full need gap) → IsNarrow before.limit after.content need gap
+      → OnOk result ((p : Opened) × IsPut before.limit levels (view_of o there) o (Ok p) × IsOpened p after.content × Keeps later p)
+  pub lacks : (o : Opened) (there : List Level) (need gap : ℕ) → tells → IsOpened o before.content → HaveRows o there → IsGivenBy (view_of o there) levels
+      → result ≡ Err (faults.Full need gap) → IsPut before.limit levels (view_of o there) o (Err (record { need = need; gap = gap }))
+  pub unwritten : (need gap : ℕ) → result ≡ Err (faults.Full need gap) → after.content ≡ before.content
   pub only : IfErr result (λ e. IsOutside e ⊎ ((need : ℕ) × (gap : ℕ) × (e ≡ faults.Full need gap)))
   pub cause : result ≡ Err faults.Disk → Rose before.faults after.faults
   pub costs : Costs 1 before after

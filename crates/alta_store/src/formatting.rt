@@ -1,5 +1,5 @@
 // A disk without documents.
-ghost use Rattle.std.specs.Prelude.{◌≡◌, ◌≤◌, ◌+◌, ◌↔◌, true, length, IfOk, OnOk};
+ghost use Rattle.std.specs.Prelude.{◌≡◌, ◌≤◌, ◌+◌, ◌++◌, ◌↔◌, true, drop, length, IfOk, OnOk};
 ghost use Rattle.alta_codec.specs.Faults.{HasCause};
 ghost use Rattle.alta_disk.specs.Disk.{DiskState, Same, Passes, Stands};
 ghost use Rattle.alta_journal.specs.declared.places.TheConstants.{HEAD_BYTES};
@@ -7,7 +7,7 @@ ghost use Rattle.alta_images.specs.Holding.{IsHeld};
 ghost use Rattle.alta_images.specs.Opened.{IsOpened};
 ghost use Rattle.alta_images.specs.Standing.{StandsFor};
 ghost use Rattle.alta_images.specs.Switching.{empty_held, empty_opened};
-ghost use Rattle.alta_store.specs.Clearing.{AreZero, IsClear};
+ghost use Rattle.alta_store.specs.Clearing.{AreZero, IsClear, empty_head};
 ghost use Rattle.alta_images.specs.States.{empty};
 
 use alta_codec::Failed;
@@ -34,6 +34,8 @@ pub fn format<D: Disk>(disk: &mut D) -> Result<(), Failed>
     ensures formatted { OnOk result (Stands D.tells (D.state disk.new) (StandsFor empty)) }
     ensures opened { OnOk result (Stands D.tells (D.state disk.new) (IsOpened empty_opened)) }
     ensures holds { OnOk result (Stands D.tells (D.state disk.new) (IsHeld empty_held)) }
+    // The bytes to the journal's end are these, and those behind it stay.
+    ensures written { D.tells → OnOk result ((D.state disk.new).content ≡ empty_head ++ drop HEAD_BYTES (D.state disk.old).content) }
     ensures cause { HasCause (D.state disk.old).faults (D.state disk.new).faults result }
     ensures taken { (D.state disk.new).taken ≡ (D.state disk.old).taken }
     ensures same_limit { (D.state disk.new).limit ≡ (D.state disk.old).limit }
@@ -49,6 +51,7 @@ pub fn format<D: Disk>(disk: &mut D) -> Result<(), Failed>
 fn clear_head<D: Disk>(disk: &mut D) -> Result<(), Failed>
     requires { HEAD_BYTES ≤ (D.state disk.old).limit }
     ensures clear { D.tells → OnOk result (IsClear HEAD_BYTES (D.state disk.new).content) }
+    ensures behind { D.tells → OnOk result (drop HEAD_BYTES (D.state disk.new).content ≡ drop HEAD_BYTES (D.state disk.old).content) }
     ensures cause { HasCause (D.state disk.old).faults (D.state disk.new).faults result }
     ensures taken { (D.state disk.new).taken ≡ (D.state disk.old).taken }
     ensures same_limit { (D.state disk.new).limit ≡ (D.state disk.old).limit }
@@ -63,6 +66,7 @@ fn put_zeros<D: Disk>(disk: &mut D, zeros: &[u8]) -> Result<(), Failed>
     requires zeros { AreZero zeros.now }
     requires some { 1 ≤ length zeros.now }
     ensures clear { D.tells → OnOk result (IsClear HEAD_BYTES (D.state disk.new).content) }
+    ensures behind { D.tells → OnOk result (drop HEAD_BYTES (D.state disk.new).content ≡ drop HEAD_BYTES (D.state disk.old).content) }
     ensures cause { HasCause (D.state disk.old).faults (D.state disk.new).faults result }
     ensures taken { (D.state disk.new).taken ≡ (D.state disk.old).taken }
     ensures same_limit { (D.state disk.new).limit ≡ (D.state disk.old).limit }
@@ -70,10 +74,26 @@ fn put_zeros<D: Disk>(disk: &mut D, zeros: &[u8]) -> Result<(), Failed>
     let mut at = 0;
     while at < HEAD_BYTES {
         let n = (HEAD_BYTES - at).min(zeros.len() as u64);
-        match disk.write(at, &zeros[..n as usize]) {
+        match put_part(disk, at, &zeros[..n as usize]) {
             Ok(()) => at += n,
             Err(failed) => return Err(failed),
         }
     }
+    Ok(())
+}
+
+// Writes zeros behind those that are there.
+fn put_part<D: Disk>(disk: &mut D, at: u64, zeros: &[u8]) -> Result<(), Failed>
+    requires limit { HEAD_BYTES ≤ (D.state disk.old).limit }
+    requires clear { D.tells → IsClear at (D.state disk.old).content }
+    requires zeros { AreZero zeros.now }
+    requires fits { at + length zeros.now ≤ HEAD_BYTES }
+    ensures clear { D.tells → OnOk result (IsClear (at + length zeros.now) (D.state disk.new).content) }
+    ensures behind { D.tells → OnOk result (drop HEAD_BYTES (D.state disk.new).content ≡ drop HEAD_BYTES (D.state disk.old).content) }
+    ensures cause { HasCause (D.state disk.old).faults (D.state disk.new).faults result }
+    ensures taken { (D.state disk.new).taken ≡ (D.state disk.old).taken }
+    ensures same_limit { (D.state disk.new).limit ≡ (D.state disk.old).limit }
+{
+    disk.write(at, zeros)?;
     Ok(())
 }

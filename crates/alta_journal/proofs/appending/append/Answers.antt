@@ -7,6 +7,7 @@ use Rattle.alta_journal.specs.declared.places.TheConstants.{HALF_BYTES}
 use Rattle.alta_journal.proofs.HalfLaws.{start_fits}
 use Rattle.alta_journal.proofs.Moments.{body_passes, gate_passes, record_done, record_closed}
 use Rattle.alta_journal.proofs.Spelling.{record_long, body_long}
+use Rattle.alta_journal.proofs.Steps.{byte_and_more}
 use Rattle.alta_journal.proofs.appending.append.Goals as goal
 
 -- what is written is the body, as far as images go
@@ -45,6 +46,13 @@ returns-clause-appended g c = λ told.
     let fits : c.args.tail.now.place + 1 + length (body_of c.args.ready.now.entry) ≤ start_of c.args.tail.now.half + HALF_BYTES = omega (arith, ap length same) in
     record_done _ _ _ c.bytes-bytes.ensures.sound c.args.tail.now.starts fits (start_fits _) _ _ _ (c.requires.closed.content told)
     (holds_body _ _ _ _ _ same (c.in_ok-write_synced.ensures.written told)) (c.in_ok-write_synced-2.ensures.written told)
+
+-- the record and the next gate stand there, and all else is as it was
+pub returns-clause-written : goal.returns-clause-written
+returns-clause-written g c = λ told.
+    let same = c.bytes-bytes.ensures.bytes in
+    let closed = c.requires.closed.content told in
+    byte_and_more _ 165 (body_of c.args.ready.now.entry) _ _ _ (omega (arith, closed.0)) (holds_body _ _ _ _ _ same (c.in_ok-write_synced.ensures.written told)) (c.in_ok-write_synced-2.ensures.written told)
 
 -- the next record may follow
 pub returns-clause-closed : goal.returns-clause-closed

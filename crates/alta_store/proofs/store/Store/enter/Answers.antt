@@ -3,7 +3,7 @@ use Rattle.alta_images.specs.States.{with_added}
 use Rattle.alta_journal.proofs.Spelling.{add_long, body_long}
 use Rattle.alta_journal.specs.declared.entry.Entry.TheVariants.{Add}
 use Rattle.alta_store.specs.Calls.{NoRefusal}
-use Rattle.alta_store.proofs.Changing.{changes_failed, changes_then, obeys_entry}
+use Rattle.alta_store.proofs.Changing.{changes_failed, changes_then, enters_finds, obeys_entry}
 use Rattle.alta_store.proofs.Naming.{allowed_alike}
 use Rattle.alta_store.proofs.store.Store.enter.Goals as goal
 
@@ -41,7 +41,7 @@ returns-in-Ok-clause-obeys g c =
     let makes = c.in-Ok.ensures.makes entry (sym c.bytes_of_add.ensures) in
     obeys_entry g.D.Disk.tells entry (with_added c.args.name.now c.args.title.now c.args.body.now) (g.D.Disk.state c.args.disk.now) (g.D.Disk.state c.commit.new.disk) c.args.self.now c.commit.new.self _
     (changes_then g.D.Disk.tells _ _ _ _ (with_added c.args.name.now c.args.title.now c.args.body.now) NoRefusal 1 0 _ (g.D.Disk.state c.args.disk.now) (g.D.Disk.state c.make_room.new.disk) (g.D.Disk.state c.commit.new.disk)
-    c.args.self.now c.make_room.new.self c.commit.new.self _ makes _ c.commit.ensures.enters)
+    c.args.self.now c.make_room.new.self c.commit.new.self _ makes (enters_finds entry) _ c.commit.ensures.enters)
 
 pub returns-in-Ok-clause-number : goal.returns-in-Ok-clause-number
 returns-in-Ok-clause-number g c = λ s knows.

@@ -2,7 +2,7 @@ use Rattle.std.proofs.Common.{◌∙◌, arith}
 use Rattle.alta_images.specs.States.{with_deleted}
 use Rattle.alta_journal.specs.declared.entry.Entry.TheVariants.{Delete}
 use Rattle.alta_store.specs.Calls.{NoRefusal}
-use Rattle.alta_store.proofs.Changing.{changes_failed, changes_then, obeys_entry}
+use Rattle.alta_store.proofs.Changing.{changes_failed, changes_then, enters_finds, obeys_entry}
 use Rattle.alta_store.proofs.Commits.{delete_bytes}
 use Rattle.alta_store.proofs.Naming.{number_alike}
 use Rattle.alta_store.proofs.store.Store.leave_out.Goals as goal
@@ -27,7 +27,7 @@ returns-in-Ok-clause-obeys g c =
     let makes = c.in-Ok.ensures.makes (Delete c.args.number) (delete_bytes c.args.number) in
     obeys_entry g.D.Disk.tells (Delete c.args.number) (with_deleted c.args.name.now) (g.D.Disk.state c.args.disk.now) (g.D.Disk.state c.remove.new.disk) c.args.self.now c.remove.new.self _
     (changes_then g.D.Disk.tells _ _ _ _ (with_deleted c.args.name.now) NoRefusal 1 0 _ (g.D.Disk.state c.args.disk.now) (g.D.Disk.state c.make_room.new.disk) (g.D.Disk.state c.remove.new.disk)
-    c.args.self.now c.make_room.new.self c.remove.new.self _ makes _ c.remove.ensures.enters)
+    c.args.self.now c.make_room.new.self c.remove.new.self _ makes (enters_finds (Delete c.args.number)) _ c.remove.ensures.enters)
 
 pub returns-in-Err-clause-obeys : goal.returns-in-Err-clause-obeys
 returns-in-Err-clause-obeys g c =

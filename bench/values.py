@@ -1,0 +1,144 @@
+#!/usr/bin/env python3
+"""Measures what numbers cost: an add, the bytes of a level, and searches by value beside a numeric column next to SQLite's full-text index.
+
+usage: bench/values.py [--program PATH] [--before PATH] --lines FILE [--count N] [--repeat N]
+
+FILE has `add` lines, as `examples/packages.py - /var/lib/dpkg/status` or `examples/mail.py` write them. The first N documents go into a
+new index of the program, with a `merge` behind them; with --before also into one of a program that has no values, by turns, three
+times each. Prints of both the processor time of an add and the bytes of the level; of the program's level the part of the terms
+of ranges, in its table of terms and in its lists; and how many numbers the documents have.
+
+Then each of four values is counted so many times in one run of the program, and as often by SQLite in a table of a document's number and
+its number words with an index over both, which stands beside an FTS5 table on disk; the processor time of a run without lines is taken off. Prints
+the milliseconds a count of both, and what both count; the counts differ where letters beyond ASCII join digits.
+"""
+
+import argparse
+import os
+import resource
+import sqlite3
+import subprocess
+import sys
+import tempfile
+import time
+
+TOP = os.path.dirname(os.path.dirname(os.path.abspath(__file__)))
+sys.path.insert(0, os.path.join(TOP, "tests"))
+
+import segments
+from answers import NUMBER, NUMBERS, RUN
+from reading import read_roots
+
+VALUES = [(1990, 1999), (0, NUMBERS - 1), (7, 7), (1, NUMBERS - 2)]
+TURNS = 3
+
+
+def run(program, path, data):
+    """The processor seconds of a run that has to end with status 0, and what it printed."""
+    before = resource.getrusage(resource.RUSAGE_CHILDREN)
+    done = subprocess.run([program, path, "run"], input=data, stdout=subprocess.PIPE, check=True)
+    after = resource.getrusage(resource.RUSAGE_CHILDREN)
+    return after.ru_utime + after.ru_stime - before.ru_utime - before.ru_stime, done.stdout
+
+
+def made(program, path, lines):
+    """An index of these lines: the processor seconds of the adds alone, and its one level."""
+    subprocess.run([program, path, "init"], check=True)
+    seconds, _ = run(program, path, b"".join(lines))
+    run(program, path, b"merge\n")
+    with open(path, "rb") as file:
+        content = file.read()
+    (extent,) = read_roots(content)[1].levels
+    return seconds, content[extent.place : extent.place + extent.length]
+
+
+def parts(level):
+    """The bytes that the terms have in the table and in the lists, those of ranges and all: how many, table, lists."""
+    _, terms, document_bytes, term_bytes = segments.read_head(level)
+    at = 32 + document_bytes
+    end = at + term_bytes
+    sums = {True: [0, 0, 0], False: [0, 0, 0]}
+    term = b""
+    for _ in range(terms):
+        begun = at
+        shared, at = segments.number(level, at, end)
+        length, at = segments.number(level, at, end)
+        term = term[:shared] + level[at : at + length]
+        at += length
+        _, at = segments.number(level, at, end)
+        stream, at = segments.number(level, at, end)
+        summary, at = segments.number(level, at, end)
+        for index, size in enumerate((1, at - begun, stream + summary)):
+            sums[term.startswith(b"X\xff")][index] += size
+    return sums[True], [a + b for a, b in zip(*sums.values())]
+
+
+def numbers_of(text):
+    """The numbers among the words of a text, ASCII or not: a run of digits that no letter joins."""
+    return [int(word) for word in RUN.findall(text) if NUMBER.fullmatch(word) and int(word) < NUMBERS]
+
+
+def table_of(lines, path):
+    """An FTS5 table of the documents, and beside it a table of their numbers with an index; the bytes that the second adds, and how many."""
+    base = sqlite3.connect(path)
+    base.execute("create virtual table mail using fts5(title, body, content='', tokenize = 'unicode61 remove_diacritics 0')")
+    texts = [line[4:].rstrip(b"\n").decode().split("\t", 2)[1:] for line in lines]
+    base.executemany("insert into mail(title, body) values (?, ?)", texts)
+    base.commit()
+    pages = base.execute("pragma page_count").fetchone()[0]
+    rows = [(row, number) for row, text in enumerate(texts, 1) for part in text for number in numbers_of(part)]
+    base.execute("create table numbers(document integer, number integer)")
+    base.executemany("insert into numbers values (?, ?)", rows)
+    base.execute("create index by_number on numbers(number, document)")
+    base.commit()
+    size = (base.execute("pragma page_count").fetchone()[0] - pages) * base.execute("pragma page_size").fetchone()[0]
+    return base, size, len(rows)
+
+
+def compared(program, path, base, repeat):
+    """Counts of values by the program and by SQLite."""
+    opening = min(run(program, path, b"")[0] for _ in range(5))
+    print(f"opening {opening * 1e3:.1f} ms")
+    for low, high in VALUES:
+        seconds, out = run(program, path, f"count value:{low}..{high}\n".encode() * repeat)
+        begun = time.process_time()
+        for _ in range(repeat):
+            (found,) = base.execute("select count(distinct document) from numbers where number between ? and ?", (low, high)).fetchone()
+        peer = time.process_time() - begun
+        mine = (seconds - opening) / repeat
+        counted = out.split(b"\n")[0].decode()
+        print(f"value:{low}..{high}: {mine * 1e3:.3f} ms ({counted}), SQLite {peer / repeat * 1e3:.3f} ms (found {found})")
+
+
+def main():
+    parser = argparse.ArgumentParser(description=__doc__, formatter_class=argparse.RawDescriptionHelpFormatter)
+    parser.add_argument("--program", default=os.path.join(TOP, "crates", "alta_cli", "out", "alta_cli"))
+    parser.add_argument("--before")
+    parser.add_argument("--lines", required=True)
+    parser.add_argument("--count", type=int, default=10000)
+    parser.add_argument("--repeat", type=int, default=100)
+    options = parser.parse_args()
+    with open(options.lines, "rb") as file:
+        lines = file.readlines()[: options.count]
+    programs = [("with values", options.program)] + ([("without", options.before)] if options.before else [])
+    with tempfile.TemporaryDirectory() as folder:
+        base, size, numbers = table_of(lines, os.path.join(folder, "x.db"))
+        print(f"{len(lines)} documents, {sum(map(len, lines))} bytes of input, {numbers} numbers")
+        adds = {called: [] for called, _ in programs}
+        levels = {}
+        for turn in range(TURNS):
+            for called, program in programs:
+                seconds, levels[called] = made(program, os.path.join(folder, f"{called} {turn}"), lines)
+                adds[called].append(seconds)
+        for called, _ in programs:
+            print(f"{called}: {min(adds[called]) / len(lines) * 1e6:.1f} microseconds an add, a level of {len(levels[called])} bytes")
+        ranges, whole = parts(levels["with values"])
+        for what, part, total in zip(("terms", "bytes of the table of terms", "bytes of lists"), ranges, whole):
+            print(f"{what} of ranges: {part} of {total}")
+        print(f"SQLite's numbers and their index: {size} bytes")
+        compared(options.program, os.path.join(folder, "with values 0"), base, options.repeat)
+    return 0
+
+
+if __name__ == "__main__":
+    sys.exit(main())
