@@ -83,6 +83,7 @@ looked_at tells state disk session result steps tasks text lawful can memory res
   only = err_weaker result (λ e. e ≡ Memory) _ (λ e is. inl (inl is)) memory;
   full = λ need gap tell is. let wanting : Full need gap ≡ Memory = is_memory result (Full need gap) memory is in absurd cc;
   still = λ place tell is. let wanting : Damaged place ≡ Memory = is_memory result (Damaged place) memory is in absurd cc;
+  unwritten = λ need gap tell is. let wanting : Full need gap ≡ Memory = is_memory result (Full need gap) memory is in absurd cc;
   cause = λ is. let wanting : Disk ≡ Memory = is_memory result Disk memory is in absurd cc;
   faults = omega arith;
   same_limit = refl;
@@ -118,6 +119,7 @@ answers_by tells state disk disk_now session session_now result steps by tasks a
   only = answers.only;
   full = answers.full;
   still = answers.still;
+  unwritten = answers.unwritten;
   cause = answers.cause;
   faults = answers.faults;
   same_limit = answers.same_limit;
@@ -133,6 +135,7 @@ answers_failed tells state disk disk_now session session_now later e steps tasks
   only = answers.only;
   full = answers.full;
   still = answers.still;
+  unwritten = answers.unwritten;
   cause = answers.cause;
   faults = answers.faults;
   same_limit = answers.same_limit;
@@ -171,6 +174,7 @@ changed tells state disk disk_now session session_now result change tasks text r
   only = err_weaker result (λ e. e ≡ Memory) _ (λ e is. inl (inl is)) reply.memory;
   full = λ need gap tell is. let wanting : Full need gap ≡ Memory = is_memory result (Full need gap) reply.memory is in absurd cc;
   still = λ place tell is. let wanting : Damaged place ≡ Memory = is_memory result (Damaged place) reply.memory is in absurd cc;
+  unwritten = λ need gap tell is. let wanting : Full need gap ≡ Memory = is_memory result (Full need gap) reply.memory is in absurd cc;
   cause = λ is. let wanting : Disk ≡ Memory = is_memory result Disk reply.memory is in absurd cc;
   faults = faults;
   same_limit = same_limit;
@@ -202,6 +206,7 @@ turned tells state disk session cursors result steps tasks turn lawful can memor
       only = err_weaker result (λ e. e ≡ Memory) _ (λ e is. inl (inl is)) memory;
       full = λ need gap tell is. let wanting : Full need gap ≡ Memory = is_memory result (Full need gap) memory is in absurd cc;
       still = λ place tell is. let wanting : Damaged place ≡ Memory = is_memory result (Damaged place) memory is in absurd cc;
+      unwritten = λ need gap tell is. let wanting : Full need gap ≡ Memory = is_memory result (Full need gap) memory is in absurd cc;
       cause = λ is. let wanting : Disk ≡ Memory = is_memory result Disk memory is in absurd cc;
       faults = omega arith;
       same_limit = refl;

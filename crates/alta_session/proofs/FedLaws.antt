@@ -10,7 +10,7 @@ use Rattle.alta_disk.proofs.Moments.{leaves_start, leaves_then, leaves_as}
 use Rattle.alta_images.specs.Holding.{Holding}
 use Rattle.alta_session.specs.Agreement.{AgreesOn}
 use Rattle.alta_model.specs.Lines.{reading_of}
-use Rattle.alta_session.specs.Damage.{FindsDamage}
+use Rattle.alta_session.specs.Damage.{FindsDamage, WantsPlace}
 use Rattle.alta_session.specs.Fed.{Fed, FedFrom}
 use Rattle.alta_session.specs.Fullness.{IsFullOnly}
 use Rattle.alta_session.specs.Keeping.{clip}
@@ -21,7 +21,7 @@ use Rattle.alta_session.specs.Spending.{KeepsStore, Spends}
 use Rattle.alta_session.specs.declared.session.Session.{Session}
 use Rattle.alta_session.specs.declared.status.Status.{Status}
 use Rattle.alta_session.specs.declared.status.Status.TheVariants.{Full, Damaged}
-use Rattle.alta_session.proofs.DamageLaws.{some_first, some_later, some_same}
+use Rattle.alta_session.proofs.DamageLaws.{some_first, some_later, some_same, wants_first, wants_later, wants_same}
 use Rattle.alta_session.proofs.FullnessLaws.{full_on, full_more, full_clip, over_first}
 use Rattle.alta_session.proofs.GivenLaws.{given_behind, given_less, none_behind, none_given}
 use Rattle.alta_session.proofs.MachineLaws.{after_append, replies_append, replies_same, after_same, reply_some}
@@ -98,6 +98,7 @@ stops_on tells a b c d e f s0 s1 xs ys status first stops = record {
   given = first.given ++ stops.given;
   gave = gives_on a b c first.given stops.given first.gave stops.gave;
   damaged = λ place tell is. some_later f.content xs ys place (stops.damaged place tell is);
+  wanting = λ need gap tell is. wants_later f.limit f.content xs ys need gap (stops.wanting need gap tell is);
   each = λ m tell agrees.
       let one : FedFrom tells d e s0 s1 xs first.given m = first.each m tell agrees in
       let two : StopsWithinFrom e f s1 ys stops.given status (machine_after m xs) = stops.each (machine_after m xs) tell one.agrees in
@@ -121,6 +122,7 @@ stops_more tells a b d e s0 xs ys status stops = record {
   given = stops.given;
   gave = stops.gave;
   damaged = λ place tell is. some_first e.content xs ys place (stops.damaged place tell is);
+  wanting = λ need gap tell is. wants_first e.limit e.content xs ys need gap (stops.wanting need gap tell is);
   each = λ m tell agrees. let one : StopsWithinFrom d e s0 xs stops.given status m = stops.each m tell agrees in record {
     progress = progress_more m xs ys stops.given e.images one.progress;
     images = leaves_as d e (StandsAfterSome m xs) (StandsAfterSome m (xs ++ ys)) one.images (λ z here. some_more m xs ys z here);
@@ -139,6 +141,7 @@ stops_clip tells a b d e s0 xs ys status same stops = record {
   given = stops.given;
   gave = stops.gave;
   damaged = λ place tell is. some_same e.content xs ys place same (stops.damaged place tell is);
+  wanting = λ need gap tell is. wants_same e.limit e.content xs ys need gap same (stops.wanting need gap tell is);
   each = λ m tell agrees. let one : StopsWithinFrom d e s0 xs stops.given status m = stops.each m tell agrees in record {
     progress = progress_clip m xs ys stops.given e.images same one.progress;
     images = leaves_as d e (StandsAfterSome m xs) (StandsAfterSome m ys) one.images (λ z here. some_clip m xs ys z same here);
@@ -158,6 +161,7 @@ stops_none tells told d session lines status lawful not_full whole = record {
   given = [];
   gave = gives_none told;
   damaged = λ place tell is. absurd (whole place is);
+  wanting = λ need gap tell is. absurd (not_full need gap is);
   each = λ m tell agrees. record {
     progress = progress_none m lines d.images (images_stand tells d m.state lawful agrees.store.settled agrees.stands);
     images = leaves_none tells d session m lines lawful agrees;
@@ -177,6 +181,7 @@ stops_full tells a b d e s0 s1 lines status lawful not_full whole fed = record {
   given = fed.given;
   gave = fed.gave;
   damaged = λ place tell is. absurd (whole place is);
+  wanting = λ need gap tell is. absurd (not_full need gap is);
   each = λ m tell agrees. let one : FedFrom tells d e s0 s1 lines fed.given m = fed.each m tell agrees in record {
     progress = subst (λ (l : List ℕ). Progress m lines l e.images) (sym one.given_is) (progress_full m lines e.images (images_stand tells e (machine_after m lines).state lawful one.agrees.store.settled one.agrees.stands));
     images = one.images;
@@ -210,12 +215,13 @@ fed_line tells a b d e s0 s1 line reply gave is now leaves works same kept spend
 pub stops_line : (tells : Type 0) (a b : Option (List Event)) (d e : DiskState) (s0 : Session) (line part : List ℕ) (status : Status) → IsLawful tells e → Gives a b part → ((m : Machine) → tells → AgreesOn tells d s0 m → (left : List ℕ) × ((step m line).1 ≡ part ++ left) × (0 < length left))
     → ((m : Machine) → tells → AgreesOn tells d s0 m → LeavesOnly (StandsForEither m.state (step m line).0.state) d e)
     → ((m : Machine) (held : Holding) → tells → AgreesOn tells d s0 m → IsBy s0 d.content held → IsFullOnly d.limit held m (line ∷ []) part status)
-    → ((m : Machine) (place : ℕ) → tells → AgreesOn tells d s0 m → status ≡ Damaged place → ⊥) → ((place : ℕ) → tells → status ≡ Damaged place → FindsDamage e.content (reading_of line) place)
+    → ((m : Machine) (place : ℕ) → tells → AgreesOn tells d s0 m → status ≡ Damaged place → ⊥) → ((place : ℕ) → tells → status ≡ Damaged place → FindsDamage e.content (reading_of line) place) → ((need gap : ℕ) → tells → status ≡ Full need gap → WantsPlace e.limit e.content (reading_of line) need gap)
     → ((m : Machine) → tells → AgreesOn tells d s0 m → Spends d e s0 m (line ∷ [])) → StopsWithin tells a b d e s0 (line ∷ []) status
-stops_line tells a b d e s0 line part status lawful gave is leaves full whole finds spends = record {
+stops_line tells a b d e s0 line part status lawful gave is leaves full whole finds wants spends = record {
   given = part;
   gave = gave;
   damaged = λ place tell is. inl (finds place tell is);
+  wanting = λ need gap tell is. inl (wants need gap tell is);
   each = λ m tell agrees. let rest = is m tell agrees in record {
     progress = progress_stop m line [] part rest.0 e.images rest.1 rest.2 (leaves_now tells d e (StandsForEither m.state (step m line).0.state) lawful (leaves m tell agrees));
     images = leaves_as d e (StandsForEither m.state (step m line).0.state) (StandsAfterSome m (line ∷ [])) (leaves m tell agrees) (λ z here. some_either m line [] z here);
@@ -229,8 +235,8 @@ stops_line tells a b d e s0 line part status lawful gave is leaves full whole fi
 -- none of it was given
 pub stops_unanswered : (tells : Type 0) (a : Option (List Event)) (d e : DiskState) (s0 : Session) (line : List ℕ) (status : Status) → IsLawful tells e → ((m : Machine) → tells → AgreesOn tells d s0 m → LeavesOnly (StandsForEither m.state (step m line).0.state) d e)
     → ((m : Machine) (held : Holding) (need gap : ℕ) → tells → AgreesOn tells d s0 m → IsBy s0 d.content held → status ≡ Full need gap → worked_where d.limit held (task_of m line) ≡ Err (record { need = need; gap = gap }))
-    → ((m : Machine) (place : ℕ) → tells → AgreesOn tells d s0 m → status ≡ Damaged place → ⊥) → ((place : ℕ) → tells → status ≡ Damaged place → FindsDamage e.content (reading_of line) place)
+    → ((m : Machine) (place : ℕ) → tells → AgreesOn tells d s0 m → status ≡ Damaged place → ⊥) → ((place : ℕ) → tells → status ≡ Damaged place → FindsDamage e.content (reading_of line) place) → ((need gap : ℕ) → tells → status ≡ Full need gap → WantsPlace e.limit e.content (reading_of line) need gap)
     → ((m : Machine) → tells → AgreesOn tells d s0 m → Spends d e s0 m (line ∷ [])) → StopsWithin tells a a d e s0 (line ∷ []) status
-stops_unanswered tells a d e s0 line status lawful leaves full whole finds spends =
+stops_unanswered tells a d e s0 line status lawful leaves full whole finds wants spends =
     stops_line tells a a d e s0 line [] status lawful (gives_none a) (λ m tell agrees. ((step m line).1, refl, reply_some m line)) leaves
-    (λ m held tell agrees here need gap is. (0, over_first d.limit m held line need gap (one_worked d.limit m held line ∙ full m held need gap tell agrees here is), refl)) whole finds spends
+    (λ m held tell agrees here need gap is. (0, over_first d.limit m held line need gap (one_worked d.limit m held line ∙ full m held need gap tell agrees here is), refl)) whole finds wants spends

@@ -3,16 +3,17 @@ use Rattle.std.proofs.Common.{◌≡◌, ℕ, List, Result, Ok, Err, refl, subst
 use Rattle.std.specs.Prelude.{IfErr, Option, Some}
 use Rattle.alta_disk.specs.Disk.{DiskState}
 use Rattle.alta_images.specs.Broken.{IsBrokenAmong}
+use Rattle.alta_images.specs.Opened.{Opened, IsOpened}
 use Rattle.alta_images.specs.Work.{Task}
 use Rattle.alta_meta.specs.declared.document.State.{State}
 use Rattle.alta_model.specs.Lines.{Reading}
-use Rattle.alta_session.specs.Joining.{IdlesIn, Works, joins_where}
+use Rattle.alta_session.specs.Joining.{IdlesIn, FindsNoPlace, Works, joins_where}
 use Rattle.alta_session.specs.Machine.{SearchesIn, started_at}
 use Rattle.alta_session.specs.Tasks.{task_in}
 use Rattle.alta_store.specs.Agreement.{Knows}
-use Rattle.alta_store.specs.Calls.{joined_by}
+use Rattle.alta_store.specs.Calls.{Becomes, joined_by}
 use Rattle.alta_store.specs.declared.fault.StoreFault.{StoreFault}
-use Rattle.alta_store.specs.declared.fault.StoreFault.TheVariants.{Damaged, Memory}
+use Rattle.alta_store.specs.declared.fault.StoreFault.TheVariants.{Damaged, Full, Memory}
 use Rattle.alta_store.specs.declared.store.Store.{Store}
 use Rattle.alta_session.proofs.AnsweringLaws.{is_memory}
 
@@ -20,6 +21,7 @@ use Rattle.alta_session.proofs.AnsweringLaws.{is_memory}
 pub works_still : {D : Type 0} (tells : Type 0) (state : D → DiskState) (disk : D) (store : Store) (reading : Reading) (result : Result (List ℕ) StoreFault) → IfErr result (λ e. e ≡ Memory) → Works tells state disk disk store reading result
 works_still tells state disk store reading result memory = record {
   joins = λ other s place knows tell is. let wanting : Damaged place ≡ Memory = is_memory result (Damaged place) memory is in absurd cc;
+  lacks = λ s o need gap knows tell opened is. let wanting : Full need gap ≡ Memory = is_memory result (Full need gap) memory is in absurd cc;
   idle = λ idle. (refl, memory);
 }
 
@@ -31,6 +33,7 @@ works_same {D} tells state disk disk_now store reading result same memory = subs
 pub works_done : {D : Type 0} (tells : Type 0) (state : D → DiskState) (disk disk_now : D) (store : Store) (reading : Reading) (result : Result (List ℕ) StoreFault) → IfErr result (λ e. e ≡ Memory) → (IdlesIn store reading → disk_now ≡ disk) → Works tells state disk disk_now store reading result
 works_done tells state disk disk_now store reading result memory idle = record {
   joins = λ other s place knows tell is. let wanting : Damaged place ≡ Memory = is_memory result (Damaged place) memory is in absurd cc;
+  lacks = λ s o need gap knows tell opened is. let wanting : Full need gap ≡ Memory = is_memory result (Full need gap) memory is in absurd cc;
   idle = λ here. (idle here, memory);
 }
 
@@ -39,20 +42,27 @@ pub failed_done : {T : Type 0} {x : T} (fault : StoreFault) (result : Result T S
 failed_done fault result is done = cc
 
 -- it searches
-pub works_searching : {D : Type 0} (tells : Type 0) (state : D → DiskState) (disk disk_now : D) (store : Store) (reading : Reading) (result : Result (List ℕ) StoreFault) → SearchesIn reading → (IdlesIn store reading → ⊥) → Works tells state disk disk_now store reading result
-works_searching tells state disk disk_now store reading result searches busy = record {
+pub works_searching : {D : Type 0} (tells : Type 0) (state : D → DiskState) (disk disk_now : D) (store : Store) (reading : Reading) (result : Result (List ℕ) StoreFault) → SearchesIn reading → ((need gap : ℕ) → result ≡ Err (Full need gap) → ⊥) → (IdlesIn store reading → ⊥) → Works tells state disk disk_now store reading result
+works_searching tells state disk disk_now store reading result searches not_full busy = record {
   joins = λ other s place knows tell is. absurd (other searches);
+  lacks = λ s o need gap knows tell opened is. absurd (not_full need gap is);
   idle = λ here. absurd (busy here);
 }
 
 -- it failed
-pub works_failed : {D : Type 0} (tells : Type 0) (state : D → DiskState) (disk disk_now : D) (store : Store) (reading : Reading) (fault : StoreFault) → ((s : State) (place : ℕ) → Knows store s → tells → fault ≡ Damaged place → IsBrokenAmong (joins_where store (task_in (started_at s) reading)) (state disk).content place) → (IdlesIn store reading → ⊥)
+pub works_failed : {D : Type 0} (tells : Type 0) (state : D → DiskState) (disk disk_now : D) (store : Store) (reading : Reading) (fault : StoreFault) → ((s : State) (place : ℕ) → Knows store s → tells → fault ≡ Damaged place → IsBrokenAmong (joins_where store (task_in (started_at s) reading)) (state disk).content place)
+    → ((s : State) (o : Opened) (need gap : ℕ) → Knows store s → tells → IsOpened o (state disk).content → fault ≡ Full need gap → FindsNoPlace (state disk).limit (task_in (started_at s) reading) o need gap) → (IdlesIn store reading → ⊥)
     → Works tells state disk disk_now store reading (Err fault)
-works_failed tells state disk disk_now store reading fault broken busy = record {
+works_failed tells state disk disk_now store reading fault broken lacks busy = record {
   joins = λ other s place knows tell is. let same : fault ≡ Damaged place = cc in broken s place knows tell same;
+  lacks = λ s o need gap knows tell opened is. let same : fault ≡ Full need gap = cc in lacks s o need gap knows tell opened same;
   idle = λ here. absurd (busy here);
 }
 
 -- the levels of the task that is asked
 pub joins_task : (store : Store) (image : List ℕ) (place : ℕ) (asked : Option Task) (task : Task) → asked ≡ Some task → IsBrokenAmong (joined_by store task) image place → IsBrokenAmong (joins_where store asked) image place
 joins_task store image place asked task is broken = subst (λ (t : Option Task). IsBrokenAmong (joins_where store t) image place) (sym is) broken
+
+-- the want of the task that is asked
+pub lacks_task : (limit : ℕ) (o : Opened) (need gap : ℕ) (asked : Option Task) (task : Task) → asked ≡ Some task → Becomes limit task o (Err (record { need = need; gap = gap })) → FindsNoPlace limit asked o need gap
+lacks_task limit o need gap asked task is lacks = subst (λ (t : Option Task). FindsNoPlace limit t o need gap) (sym is) lacks

@@ -43,7 +43,7 @@ kept_all (Ok x) cursors = λ refusal. refl
 kept_all (Err e) cursors = tt
 
 -- ---- faults
-not_full : {T : Type 0} (r : Result T StoreFault) (need gap : ℕ) → IfErr r (λ e. IsOutside e ⊎ ((place : ℕ) × (e ≡ Damaged place))) → r ≡ Err (Full need gap) → ⊥
+pub not_full : {T : Type 0} (r : Result T StoreFault) (need gap : ℕ) → IfErr r (λ e. IsOutside e ⊎ ((place : ℕ) × (e ≡ Damaged place))) → r ≡ Err (Full need gap) → ⊥
 not_full (Ok x) need gap only is = cc
 not_full (Err e) need gap (inl (inl memory)) is = cc
 not_full (Err e) need gap (inl (inr disk)) is = cc
@@ -90,6 +90,7 @@ queried tells state disk disk_now session cursors loads idle result steps tasks 
       only = only_so result queries.loaded.only;
       full = λ need gap tell failed. absurd (not_full result need gap queries.loaded.only failed);
       still = λ place tell failed. reads.content tell;
+      unwritten = λ need gap tell failed. reads.content tell;
       cause = queries.loaded.cause;
       faults = reads.costs.faults;
       same_limit = reads.costs.limit;

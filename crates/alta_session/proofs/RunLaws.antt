@@ -13,7 +13,7 @@ use Rattle.alta_console.proofs.RunLaws.{given_takes_none, given_ends_none, given
 use Rattle.alta_disk.specs.Disk.{DiskState, LeavesOnly, IsLawful}
 use Rattle.alta_images.specs.Holding.{Holding}
 use Rattle.alta_session.specs.Agreement.{AgreesOn}
-use Rattle.alta_session.specs.Damage.{SomeFindsDamage}
+use Rattle.alta_session.specs.Damage.{SomeFindsDamage, SomeWantsPlace}
 use Rattle.alta_session.specs.Fed.{Fed, FedFrom}
 use Rattle.alta_session.specs.Fullness.{IsFullOnly, IsFullExactly}
 use Rattle.alta_session.specs.Going.{Goes, GoingFrom}
@@ -27,7 +27,7 @@ use Rattle.alta_session.specs.Spending.{KeepsStore, Spends}
 use Rattle.alta_session.specs.declared.session.Session.{Session}
 use Rattle.alta_session.specs.declared.status.Status.{Status}
 use Rattle.alta_session.specs.declared.status.Status.TheVariants.{Done, Full, TooLong, Damaged}
-use Rattle.alta_session.proofs.DamageLaws.{some_later}
+use Rattle.alta_session.proofs.DamageLaws.{some_later, wants_later}
 use Rattle.alta_session.proofs.FedLaws.{done_on, leaves_on, leaves_none, fed_clip, stops_clip, stops_none, stops_full}
 use Rattle.alta_session.proofs.FullnessLaws.{full_on, full_exactly}
 use Rattle.alta_session.proofs.GivenLaws.{given_behind}
@@ -221,6 +221,7 @@ runs_stopped tells limit a b c d la lb lc ld e f h s0 s1 kept taken piece status
       too_long = (λ long. absurd (ends_not_long status ends long), λ past. absurd (omega arith));
       last = λ past. absurd (omega arith);
       damaged = λ place tell is. subst (λ (l : List (List ℕ)). SomeFindsDamage h.content l place) (sym lines) (some_later h.content (whole bytes) later place (stops.damaged place tell is));
+      wanting = λ need gap tell is. subst (λ (l : List (List ℕ)). SomeWantsPlace h.limit h.content l need gap) (sym lines) (wants_later h.limit h.content (whole bytes) later need gap (stops.wanting need gap tell is));
       each = λ m tell agrees. let one : GoingFrom tells e f s0 s1 run m = goes.each m tell agrees in
           after_from tells limit e f h s0 s1 run gives (Taken piece) stops.given later status m one goes.keeps goes.same_limit (stops.each (machine_after m (whole bytes)) tell one.agrees) stops.gave.2 stops.gave.3 refl lines (λ done. absurd (ends_not_done status ends done)) (inl (ends_whole status ends (stops.each (machine_after m (whole bytes)) tell one.agrees).undamaged));
     }
@@ -244,6 +245,7 @@ runs_past tells limit a b c la lb lc e f s0 s1 kept taken piece lawful goes took
       too_long = (λ long. omega (arith, goes.taken_is, ap length taken_now, length-append bytes piece), λ over. refl);
       last = λ over. record { before = run; piece = piece; run_is = refl; within = goes.within };
       damaged = λ place tell is. absurd cc;
+      wanting = λ need gap tell is. absurd cc;
       each = λ m tell agrees. let one : GoingFrom tells e f s0 s1 run m = goes.each m tell agrees in
           after_from tells limit e f f s0 s1 run [] (Taken piece) stops.given [] TooLong m one goes.keeps goes.same_limit (stops.each (machine_after m (whole bytes)) tell one.agrees) tt refl refl lines (λ done. absurd cc) (inr (λ held here. record { now = held; is = refl; held = here.is }));
     }
@@ -273,6 +275,7 @@ ended_with tells limit a b c d la lb lc ld e f h s0 s1 kept taken status goes to
       too_long = (λ long. absurd (not_long long), λ past. absurd (omega arith));
       last = λ past. absurd (omega arith);
       damaged = λ place tell is. subst (λ (l : List (List ℕ)). SomeFindsDamage h.content l place) (sym lines) (some_later h.content (whole bytes) later place (stops.damaged place tell is));
+      wanting = λ need gap tell is. subst (λ (l : List (List ℕ)). SomeWantsPlace h.limit h.content l need gap) (sym lines) (wants_later h.limit h.content (whole bytes) later need gap (stops.wanting need gap tell is));
       each = λ m tell agrees. let one : GoingFrom tells e f s0 s1 run m = goes.each m tell agrees in
           after_from tells limit e f h s0 s1 run gives Ended stops.given later status m one goes.keeps goes.same_limit (stops.each (machine_after m (whole bytes)) tell one.agrees) stops.gave.2 stops.gave.3 refl lines (λ done. (ended, all (machine_after m (whole bytes)) tell one.agrees done))
           (ends (machine_after m (whole bytes)) tell one.agrees);
@@ -311,6 +314,7 @@ runs_failed tells limit a b c la lb lc e f s0 s1 kept taken status lawful goes s
       too_long = (λ long. absurd (not_long long), λ past. absurd (omega (arith, goes.within)));
       last = λ past. absurd (omega (arith, goes.within));
       damaged = λ place tell is. absurd (never place is);
+      wanting = λ need gap tell is. absurd (not_full need gap is);
       each = λ m tell agrees. let one : GoingFrom tells e f s0 s1 run m = goes.each m tell agrees in
           runs_from limit e f s0 run status m one.in_time
           (subst (λ (l : List (List ℕ)). Progress m l (given_in run) f.images) (sym lines) (subst (λ (l : List ℕ). Progress m (whole bytes) l f.images) (sym one.given_is) (progress_full m (whole bytes) f.images (images_stand tells f (machine_after m (whole bytes)).state lawful one.agrees.store.settled one.agrees.stands))))

@@ -82,6 +82,7 @@ serves_none tells limit told left d e status lawful lawful_now passes same settl
   too_long = (λ long. absurd (not_long long), λ past. absurd (omega arith));
   last = λ past. absurd (omega arith);
   damaged = λ place tell is. inl (broken place tell is);
+  wanting = λ need gap tell is. absurd (not_full need gap is);
   replies = λ s tell stands. record { begin = ([], refl); all = λ done. absurd (not_done done); in_time = λ k t. absurd t };
   full = λ s held tell stands here. full_exactly d.limit (started_at s) held [] [] status (λ need gap is. absurd (not_full need gap is)) (inr (held, refl));
   levels = λ s held tell stands here all. record { now = held; is = refl; held = subst (IsHeld held) (sym (same tell)) here.is };
@@ -141,6 +142,7 @@ serves_opened tells limit told told_now left left_now d m e session status lawfu
   too_long = runs.too_long;
   last = runs.last;
   damaged = λ place tell is. inr (runs.damaged place tell is);
+  wanting = λ need gap tell is. runs.wanting need gap tell is;
   replies = λ s tell stands. (runs.each (started_at s) tell (agrees s tell stands)).replies;
   full = λ s held tell stands here. full_before limit d m e session runs.run status (started_at s) held same_limit (runs.each (started_at s) tell (agrees s tell stands)) (opened_by tells d m session held lawful_now tell none (same tell) here);
   levels = λ s held tell stands here all. levels_before limit d m e session runs.run status (started_at s) held same_limit (runs.each (started_at s) tell (agrees s tell stands)) (opened_by tells d m session held lawful_now tell none (same tell) here) all;

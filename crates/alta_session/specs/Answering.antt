@@ -52,6 +52,7 @@ pub record Answers {D : Type 0} (tells : Type 0) (state : D → DiskState) (disk
   pub only : IfErr result (λ e. IsOutside e ⊎ (((need gap : ℕ) × (e ≡ Full need gap)) ⊎ ((place : ℕ) × (e ≡ Damaged place))))
   pub full : (need gap : ℕ) → tells → result ≡ Err (Full need gap) → IsFull (state disk_now) need gap
   pub still : (place : ℕ) → tells → result ≡ Err (Damaged place) → (state disk_now).content ≡ (state disk).content
+  pub unwritten : (need gap : ℕ) → tells → result ≡ Err (Full need gap) → (state disk_now).content ≡ (state disk).content
   pub cause : result ≡ Err Disk → Rose (state disk).faults (state disk_now).faults
   pub faults : (state disk).faults ≤ (state disk_now).faults
   pub same_limit : (state disk_now).limit ≡ (state disk).limit

@@ -1,10 +1,10 @@
--- Damage that lines find behind the opening.
+-- Damage that lines find behind the opening, and places that they want.
 use Rattle.std.specs.Prelude.{◌⊎◌, ℕ, List, [], ◌∷◌}
 use Rattle.alta_images.specs.Broken.{IsBrokenAmong}
 use Rattle.alta_loading.specs.Loads.{IsFirstFault}
 use Rattle.alta_meta.specs.declared.document.State.{State}
 use Rattle.alta_model.specs.Lines.{Reading, reading_of}
-use Rattle.alta_session.specs.Joining.{joins_where}
+use Rattle.alta_session.specs.Joining.{FindsNoPlace, joins_where}
 use Rattle.alta_session.specs.Loading.{loads_in, newest_in}
 use Rattle.alta_session.specs.Machine.{started_at}
 use Rattle.alta_session.specs.Tasks.{task_in}
@@ -26,3 +26,17 @@ pub record FindsDamage (image : List ℕ) (reading : Reading) (place : ℕ) : Ty
 abbrev pub SomeFindsDamage : List ℕ → List (List ℕ) → ℕ → Type 0
 SomeFindsDamage image [] place = ⊥
 SomeFindsDamage image (line ∷ lines) place = FindsDamage image (reading_of line) place ⊎ SomeFindsDamage image lines place
+
+-- A line that is read so wants a place, over a store that goes on with what the image is opened as: its task's work on that needs so many
+-- bytes, where the greatest gap has that many.
+pub record WantsPlace (limit : ℕ) (image : List ℕ) (reading : Reading) (need gap : ℕ) : Type 0 where
+  pub store : Store
+  pub holds : KeepsOpened store image
+  pub state : State
+  pub knows : Knows store state
+  pub lacks : FindsNoPlace limit (task_in (started_at state) reading) holds.opened need gap
+
+-- one of these lines does
+abbrev pub SomeWantsPlace : ℕ → List ℕ → List (List ℕ) → ℕ → ℕ → Type 0
+SomeWantsPlace limit image [] need gap = ⊥
+SomeWantsPlace limit image (line ∷ lines) need gap = WantsPlace limit image (reading_of line) need gap ⊎ SomeWantsPlace limit image lines need gap

@@ -31,6 +31,7 @@ pub record IsFullExactly (limit : ℕ) (held : Holding) (start : Machine) (lines
   pub only : IsFullOnly limit held start lines given status
   pub always : (answered need gap : ℕ) → Overflows limit held start lines answered need gap → (status ≡ Full need gap) ⊎ IsInterrupted status
 
--- On this disk a place is wanting: below its limit no gap has `need` bytes, and the greatest has `gap`.
+-- On this disk a place is wanting: a switch of its root, by a flush, a step or a merge, has to write `need` bytes, and the greatest gap
+-- that it finds then has `gap`.
 abbrev pub IsFull : DiskState → ℕ → ℕ → Type 0
 IsFull disk need gap = IsNarrow disk.limit disk.content need gap

@@ -2,6 +2,7 @@
 use Rattle.std.specs.Prelude.{◌≡◌, ◌<◌, ℕ, true, List, [], length, Option, Some, None, Result, Err, IfErr}
 use Rattle.alta_disk.specs.Disk.{DiskState}
 use Rattle.alta_images.specs.Broken.{IsBrokenAmong}
+use Rattle.alta_images.specs.Opened.{Opened, IsOpened}
 use Rattle.alta_images.specs.Work.{Task}
 use Rattle.alta_meta.specs.declared.document.State.{State}
 use Rattle.alta_model.specs.Command.{Command, adds, deletes, searches, counts, explains, opens, fetches, closes, flushes, merges, steps, asks_stats}
@@ -9,9 +10,9 @@ use Rattle.alta_model.specs.Lines.{Reading, asks, refuses}
 use Rattle.alta_session.specs.Machine.{SearchesIn, started_at}
 use Rattle.alta_session.specs.Tasks.{task_in}
 use Rattle.alta_store.specs.Agreement.{HasNoEntry, Knows, levels_of}
-use Rattle.alta_store.specs.Calls.{is_one, joined_by}
+use Rattle.alta_store.specs.Calls.{Becomes, is_one, joined_by}
 use Rattle.alta_store.specs.declared.fault.StoreFault.{StoreFault}
-use Rattle.alta_store.specs.declared.fault.StoreFault.TheVariants.{Memory, Damaged}
+use Rattle.alta_store.specs.declared.fault.StoreFault.TheVariants.{Memory, Damaged, Full}
 use Rattle.alta_store.specs.declared.store.Store.{Store}
 use Rattle.alta_table.specs.Tables.{Tables}
 
@@ -19,6 +20,11 @@ use Rattle.alta_table.specs.Tables.{Tables}
 abbrev pub joins_where : Store → Option Task → List Tables
 joins_where store None = []
 joins_where store (Some task) = joined_by store task
+
+-- the work of a task on what is opened needs so many bytes, and the greatest gap has that many
+abbrev pub FindsNoPlace : ℕ → Option Task → Opened → ℕ → ℕ → Type 0
+FindsNoPlace limit None opened need gap = ⊥
+FindsNoPlace limit (Some task) opened need gap = Becomes limit task opened (Err (record { need = need; gap = gap }))
 
 -- a flush of an empty journal, a merge of one level at most without deleted ends and entries, or a step over fewer than two levels
 abbrev pub IsIdle : Store → Command → Type 0
@@ -39,9 +45,11 @@ abbrev pub IdlesIn : Store → Reading → Type 0
 IdlesIn store (asks command) = IsIdle store command
 IdlesIn store (refuses fault) = ⊥
 
--- A line that is read so finds damage only in a list of a level that its task joins, unless it searches; and where it does nothing it calls
--- no disk and fails for want of memory alone.
+-- A line that is read so finds damage only in a list of a level that its task joins, unless it searches; it wants a place only where its
+-- task's work finds none; and where it does nothing it calls no disk and fails for want of memory alone.
 pub record Works {D : Type 0} (tells : Type 0) (state : D → DiskState) (disk disk_now : D) (store : Store) (reading : Reading) (result : Result (List ℕ) StoreFault) : Type 0 where
   pub joins : (SearchesIn reading → ⊥) → (s : State) (place : ℕ) → Knows store s → tells → result ≡ Err (Damaged place)
       → IsBrokenAmong (joins_where store (task_in (started_at s) reading)) (state disk).content place
+  pub lacks : (s : State) (o : Opened) (need gap : ℕ) → Knows store s → tells → IsOpened o (state disk).content → result ≡ Err (Full need gap)
+      → FindsNoPlace (state disk).limit (task_in (started_at s) reading) o need gap
   pub idle : IdlesIn store reading → (disk_now ≡ disk) × IfErr result (λ e. e ≡ Memory)

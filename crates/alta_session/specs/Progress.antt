@@ -6,14 +6,14 @@ use Rattle.alta_console.specs.Replies.{IsPartOfFirst}
 use Rattle.alta_console.specs.declared.event.Event.{Event}
 use Rattle.alta_disk.specs.Disk.{DiskState, LeavesOnly}
 use Rattle.alta_session.specs.Agreement.{AgreesOn}
-use Rattle.alta_session.specs.Damage.{SomeFindsDamage}
+use Rattle.alta_session.specs.Damage.{SomeFindsDamage, SomeWantsPlace}
 use Rattle.alta_session.specs.Fullness.{IsFullOnly}
 use Rattle.alta_session.specs.Machine.{Machine, machine_after, replies}
 use Rattle.alta_session.specs.Spending.{Spends}
 use Rattle.alta_session.specs.Tasks.{IsBy, IsDone, worked_lines}
 use Rattle.alta_session.specs.declared.session.Session.{Session}
 use Rattle.alta_session.specs.declared.status.Status.{Status}
-use Rattle.alta_session.specs.declared.status.Status.TheVariants.{Damaged}
+use Rattle.alta_session.specs.declared.status.Status.TheVariants.{Damaged, Full}
 use Rattle.alta_images.specs.Holding.{Holding}
 use Rattle.alta_images.specs.Standing.{StandsFor}
 
@@ -54,4 +54,5 @@ pub record StopsWithin (tells : Type 0) (told told_now : Option (List Event)) (d
   pub given : List ℕ
   pub gave : Gives told told_now given
   pub damaged : (place : ℕ) → tells → status ≡ Damaged place → SomeFindsDamage disk_now.content lines place
+  pub wanting : (need gap : ℕ) → tells → status ≡ Full need gap → SomeWantsPlace disk_now.limit disk_now.content lines need gap
   pub each : (m : Machine) → tells → AgreesOn tells disk session m → StopsWithinFrom disk disk_now session lines given status m

@@ -9,7 +9,7 @@ use Rattle.alta_console.specs.declared.event.Event.TheVariants.{Taken}
 use Rattle.alta_disk.specs.Disk.{DiskState, Each, Only, Same, Stands, Passes, LeavesOnly}
 use Rattle.alta_meta.specs.declared.document.State.{State}
 use Rattle.alta_session.specs.Agreement.{AgreesOn}
-use Rattle.alta_session.specs.Damage.{SomeFindsDamage}
+use Rattle.alta_session.specs.Damage.{SomeFindsDamage, SomeWantsPlace}
 use Rattle.alta_session.specs.Fullness.{IsFullExactly}
 use Rattle.alta_session.specs.Machine.{Machine, started_at, replies}
 use Rattle.alta_session.specs.Progress.{StandsAfterSome, StandsAfter}
@@ -17,7 +17,7 @@ use Rattle.alta_session.specs.Spending.{OnlyReads, Spends, lines_bytes, newest_o
 use Rattle.alta_session.specs.Tasks.{IsBy, IsDone, IsFirst, IsOn, IsWorked, worked_lines}
 use Rattle.alta_session.specs.declared.session.Session.{Session}
 use Rattle.alta_session.specs.declared.status.Status.{Status}
-use Rattle.alta_session.specs.declared.status.Status.TheVariants.{Done, TooLong, Damaged, DiskFault}
+use Rattle.alta_session.specs.declared.status.Status.TheVariants.{Done, TooLong, Damaged, DiskFault, Full}
 use Rattle.alta_images.specs.Broken.{IsBrokenAt}
 use Rattle.alta_images.specs.Holding.{Holding}
 use Rattle.alta_images.specs.Standing.{StandsFor}
@@ -78,6 +78,7 @@ pub record Runs (tells : Type 0) (limit : ℕ) (told told_now : Option (List Eve
   pub too_long : (status ≡ TooLong) ↔ (limit < length (taken_in run))
   pub last : limit < length (taken_in run) → EndsPast limit run
   pub damaged : (place : ℕ) → tells → status ≡ Damaged place → SomeFindsDamage disk_now.content (lines_in limit run) place
+  pub wanting : (need gap : ℕ) → tells → status ≡ Full need gap → SomeWantsPlace disk_now.limit disk_now.content (lines_in limit run) need gap
   pub each : (m : Machine) → tells → AgreesOn tells disk session m → RunsFrom limit disk disk_now session run status m
 
 -- The disk failed as it was opened: no line was taken, and what the disk may hold now it might have held before.
@@ -106,6 +107,8 @@ pub record Serves (tells : Type 0) (limit : ℕ) (told told_now : Option (List E
   pub last : limit < length (taken_in run) → EndsPast limit run
   -- damage is found as the index is opened, or by a line
   pub damaged : (place : ℕ) → tells → status ≡ Damaged place → IsBrokenAt disk.content place ⊎ SomeFindsDamage disk_now.content (lines_in limit run) place
+  -- and a place is wanting where the work of a line finds none
+  pub wanting : (need gap : ℕ) → tells → status ≡ Full need gap → SomeWantsPlace disk_now.limit disk_now.content (lines_in limit run) need gap
   -- where the content stands for a state
   pub replies : (s : State) → tells → StandsFor s disk.content → Replies limit (started_at s) run status
   -- and has this

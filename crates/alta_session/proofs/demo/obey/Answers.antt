@@ -6,7 +6,7 @@ use Rattle.alta_session.specs.Tasks.{task_of}
 use Rattle.alta_session.specs.declared.status.Status.TheVariants.{DiskFault, GiveFault, Full as StatusFull}
 use Rattle.std.proofs.lemmas.List.Elements.{All-head}
 use Rattle.alta_session.specs.Spending.{OnlyReads}
-use Rattle.alta_session.proofs.DamageLaws.{line_finds}
+use Rattle.alta_session.proofs.DamageLaws.{line_finds, line_wants}
 use Rattle.alta_session.proofs.SpendingLaws.{spends_line}
 use Rattle.alta_session.proofs.FedLaws.{fed_line, stops_unanswered}
 use Rattle.alta_session.proofs.StatusLaws.{line_ends, line_ends_run, status_not, status_damaged, status_full, status_disk}
@@ -34,6 +34,8 @@ returns-in-Err-clause-err g c =
     (λ m place tell agrees is. (c.line.ensures.answers.from m tell agrees).undamaged place (c.in-Err.is ∙ ap Err (status_damaged _ c.in-Err.fault place c.status_of.ensures is)))
     (λ place tell is. line_finds g.D.Disk.tells g.D.Disk.state c.args.disk.now c.line.new.disk c.args.session.now c.args.line.now c.line.result place c.requires.can c.line.ensures.loads c.line.ensures.works c.line.ensures.answers.still tell
     (c.in-Err.is ∙ ap Err (status_damaged _ c.in-Err.fault place c.status_of.ensures is)))
+    (λ need gap tell is. line_wants g.D.Disk.tells g.D.Disk.state c.args.disk.now c.line.new.disk c.args.session.now c.args.line.now c.line.result need gap c.requires.can c.line.ensures.works c.line.ensures.answers.unwritten c.line.ensures.answers.same_limit tell
+    (c.in-Err.is ∙ ap Err (status_full _ c.in-Err.fault need gap c.status_of.ensures is)))
     (λ m tell agrees. spends_line g.D.Disk.tells g.D.Disk.state c.args.disk.now c.line.new.disk c.args.session.now m c.args.line.now c.line.result agrees.cursors c.line.ensures.no_disk c.line.ensures.loads)
 
 pub returns-in-Err-clause-full : goal.returns-in-Err-clause-full

@@ -11,7 +11,7 @@ use Rattle.alta_store.specs.Agreement.{Has}
 use Rattle.alta_store.specs.declared.fault.StoreFault.TheVariants.{Damaged, Disk, Taken, Numbers, Full}
 use Rattle.alta_model.specs.Command.{adds}
 use Rattle.alta_model.specs.Lines.{asks}
-use Rattle.alta_session.proofs.JoiningLaws.{joins_task, works_done, works_failed, works_still}
+use Rattle.alta_session.proofs.JoiningLaws.{joins_task, lacks_task, works_done, works_failed, works_still}
 use Rattle.alta_session.proofs.AddingLaws.{adding_bad, adding_taken, adding_full, adding_added, added_is_none, leaves_adding, refused_for, room_left}
 use Rattle.alta_session.proofs.AgreementLaws.{knows_state}
 use Rattle.alta_session.proofs.AnsweringLaws.{same_fault, same_store, looked, answers_same, changed, changed_rests}
@@ -96,6 +96,7 @@ returns-in_default-clause-answers g c = record {
       let same : c.in-Err.fault ≡ Full need gap = cc in
       narrow_at _ _ _ need gap c.add.ensures.obeys.costs.limit (c.add.ensures.obeys.narrow need gap tell (c.in-Err.is ∙ ap Err same));
   still = λ place tell is. let same : c.in-Err.fault ≡ Damaged place = cc in c.add.ensures.obeys.still tell place (c.in-Err.is ∙ ap Err same);
+  unwritten = λ need gap tell is. let same : c.in-Err.fault ≡ Full need gap = cc in c.add.ensures.obeys.unwritten tell need gap (c.in-Err.is ∙ ap Err same);
   cause = λ is. let same : c.in-Err.fault ≡ Disk = cc in c.add.ensures.obeys.cause (c.in-Err.is ∙ ap Err same);
   faults = c.add.ensures.obeys.costs.faults;
   same_limit = c.add.ensures.obeys.costs.limit;
@@ -122,4 +123,10 @@ returns-in_default-clause-works g c =
     let left = room_left c.args.name.now s not_taken not_full in
     joins_task c.args.self.now.store (g.D.Disk.state c.args.disk.now).content place _ (enters (Add c.args.name.now c.args.title.now c.args.body.now)) (add_enters c.args.name.now c.args.title.now c.args.body.now s (search rules) left.0 left.1)
     ((c.add.ensures.obeys.damage tell).broken place (c.in-Err.is ∙ ap Err is)))
+    (λ s o need gap knows tell is lacks.
+    let not_taken : has_name c.args.name.now s ≡ true → ⊥ = λ taken. c.in_default.not-Taken (same_fault _ _ _ c.in-Err.is ((c.add.ensures.taken s knows).1 taken)) in
+    let not_full : (has_name c.args.name.now s ≡ false) × (4294967296 ≤ s.next) → ⊥ = λ full. c.in_default.not-Numbers (same_fault _ _ _ c.in-Err.is ((c.add.ensures.numbers s knows).1 full)) in
+    let left = room_left c.args.name.now s not_taken not_full in
+    lacks_task _ o need gap _ (enters (Add c.args.name.now c.args.title.now c.args.body.now)) (add_enters c.args.name.now c.args.title.now c.args.body.now s (search rules) left.0 left.1)
+    (c.add.ensures.obeys.lacks o need gap tell is (c.in-Err.is ∙ ap Err lacks)))
     (λ none. absurd none)

@@ -12,7 +12,7 @@ use Rattle.alta_store.specs.Agreement.{Has}
 use Rattle.alta_store.specs.declared.fault.StoreFault.TheVariants.{Damaged, Disk, Missing, Full}
 use Rattle.alta_model.specs.Command.{deletes}
 use Rattle.alta_model.specs.Lines.{asks}
-use Rattle.alta_session.proofs.JoiningLaws.{joins_task, works_done, works_failed, works_still}
+use Rattle.alta_session.proofs.JoiningLaws.{joins_task, lacks_task, works_done, works_failed, works_still}
 use Rattle.alta_session.proofs.AgreementLaws.{knows_state}
 use Rattle.alta_session.proofs.AnsweringLaws.{same_fault, same_store, looked, answers_same, changed, changed_rests}
 use Rattle.alta_session.proofs.DeletingLaws.{deleting_bad, deleting_missing, deleting_deleted, leaves_deleting, missing_for, deleted_where, deleted_is_none}
@@ -90,6 +90,7 @@ returns-in_default-clause-answers g c =
       only = some_only c.in-Err.fault obeys.only;
       full = λ need gap tell is. let same : c.in-Err.fault ≡ Full need gap = cc in narrow_at _ _ _ need gap obeys.costs.limit (obeys.narrow need gap tell (ap Err same));
       still = λ place tell is. let same : c.in-Err.fault ≡ Damaged place = cc in obeys.still tell place (ap Err same);
+      unwritten = λ need gap tell is. let same : c.in-Err.fault ≡ Full need gap = cc in obeys.unwritten tell need gap (ap Err same);
       cause = λ is. let same : c.in-Err.fault ≡ Disk = cc in obeys.cause (ap Err same);
       faults = obeys.costs.faults;
       same_limit = obeys.costs.limit;
@@ -112,4 +113,8 @@ returns-in_default-clause-works g c =
     let n = deleted_where c.args.name.now s there in
     joins_task c.args.self.now.store (g.D.Disk.state c.args.disk.now).content place _ (enters (Delete n.0)) (delete_enters c.args.name.now s n.0 (search rules) n.1)
     (((c.in-Err.ensures.obeys s n.0 knows n.1).damage tell).broken place (ap Err is)))
+    (λ s o need gap knows tell is lacks.
+    let there : has_name c.args.name.now s ≡ false → ⊥ = λ none. c.in_default.not-Missing (same_fault _ _ _ c.in-Err.is ((c.delete.ensures.missing s knows).1 none)) in
+    let n = deleted_where c.args.name.now s there in
+    lacks_task _ o need gap _ (enters (Delete n.0)) (delete_enters c.args.name.now s n.0 (search rules) n.1) ((c.in-Err.ensures.obeys s n.0 knows n.1).lacks o need gap tell is (ap Err lacks)))
     (λ none. absurd none)

@@ -56,6 +56,7 @@ returns-in-Err-clause-answers g c =
       only = some_only c.in-Err.fault obeys.only;
       full = λ need gap tell is. let same : c.in-Err.fault ≡ Full need gap = cc in narrow_at _ _ _ need gap obeys.costs.limit (obeys.narrow need gap tell (ap Err same));
       still = λ place tell is. let same : c.in-Err.fault ≡ Damaged place = cc in obeys.still tell place (ap Err same);
+      unwritten = λ need gap tell is. let same : c.in-Err.fault ≡ Full need gap = cc in obeys.unwritten tell need gap (ap Err same);
       cause = λ is. let same : c.in-Err.fault ≡ Disk = cc in obeys.cause (ap Err same);
       faults = obeys.costs.faults;
       same_limit = obeys.costs.limit;
@@ -66,4 +67,5 @@ returns-in-Ok-clause-works g c = works_done g.D.Disk.tells g.D.Disk.state c.args
 
 pub returns-in-Err-clause-works : goal.returns-in-Err-clause-works
 returns-in-Err-clause-works g c =
-    works_failed g.D.Disk.tells g.D.Disk.state c.args.disk.now c.merge.new.disk c.args.self.now.store (asks asks_merge) c.in-Err.fault (λ s place knows tell is. (c.in-Err.ensures.obeys.damage tell).broken place (ap Err is)) (λ idle. failed_done c.in-Err.fault c.merge.result c.in-Err.is (c.merge.ensures.idle idle).0)
+    works_failed g.D.Disk.tells g.D.Disk.state c.args.disk.now c.merge.new.disk c.args.self.now.store (asks asks_merge) c.in-Err.fault (λ s place knows tell is. (c.in-Err.ensures.obeys.damage tell).broken place (ap Err is))
+    (λ s o need gap knows tell is lacks. c.in-Err.ensures.obeys.lacks o need gap tell is (ap Err lacks)) (λ idle. failed_done c.in-Err.fault c.merge.result c.in-Err.is (c.merge.ensures.idle idle).0)

@@ -19,7 +19,7 @@ use Rattle.alta_session.proofs.AgreementLaws.{knows_state}
 use Rattle.alta_session.proofs.AnsweringLaws.{if_so, looked, answers_by, step_rests, turned}
 use Rattle.alta_session.proofs.AskLaws.{adds_more, deletes_more}
 use Rattle.alta_session.proofs.TaskLaws.{task_reads}
-use Rattle.alta_session.proofs.QueryingLaws.{count_refuses, kept_all, open_refuses, queried, search_refuses}
+use Rattle.alta_session.proofs.QueryingLaws.{count_refuses, kept_all, not_full, open_refuses, queried, search_refuses}
 use Rattle.alta_store.specs.Agreement.{levels_of}
 use Rattle.alta_session.proofs.session.Session.reply.Goals as goal
 
@@ -230,15 +230,15 @@ returns-in-Step-clause-works g c = subst (λ (r : Reading). Works g.D.Disk.tells
 
 pub returns-in-Search-clause-works : goal.returns-in-Search-clause-works
 returns-in-Search-clause-works g c =
-    subst (λ (r : Reading). Works g.D.Disk.tells g.D.Disk.state c.args.disk.now c.search.new.disk c.args.self.now.store r c.search.result) (sym c.in-Search.ensures.1) (works_searching g.D.Disk.tells g.D.Disk.state c.args.disk.now c.search.new.disk c.args.self.now.store (asks (searches c.in-Search.text.now)) c.search.result tt (λ none. absurd none))
+    subst (λ (r : Reading). Works g.D.Disk.tells g.D.Disk.state c.args.disk.now c.search.new.disk c.args.self.now.store r c.search.result) (sym c.in-Search.ensures.1) (works_searching g.D.Disk.tells g.D.Disk.state c.args.disk.now c.search.new.disk c.args.self.now.store (asks (searches c.in-Search.text.now)) c.search.result tt (λ need gap is. not_full c.search.result need gap c.search.ensures.queries.loaded.only is) (λ none. absurd none))
 
 pub returns-in-Count-clause-works : goal.returns-in-Count-clause-works
 returns-in-Count-clause-works g c =
-    subst (λ (r : Reading). Works g.D.Disk.tells g.D.Disk.state c.args.disk.now c.count.new.disk c.args.self.now.store r c.count.result) (sym c.in-Count.ensures.1) (works_searching g.D.Disk.tells g.D.Disk.state c.args.disk.now c.count.new.disk c.args.self.now.store (asks (asks_count c.in-Count.text.now)) c.count.result tt (λ none. absurd none))
+    subst (λ (r : Reading). Works g.D.Disk.tells g.D.Disk.state c.args.disk.now c.count.new.disk c.args.self.now.store r c.count.result) (sym c.in-Count.ensures.1) (works_searching g.D.Disk.tells g.D.Disk.state c.args.disk.now c.count.new.disk c.args.self.now.store (asks (asks_count c.in-Count.text.now)) c.count.result tt (λ need gap is. not_full c.count.result need gap c.count.ensures.queries.loaded.only is) (λ none. absurd none))
 
 pub returns-in-Open-clause-works : goal.returns-in-Open-clause-works
 returns-in-Open-clause-works g c =
-    subst (λ (r : Reading). Works g.D.Disk.tells g.D.Disk.state c.args.disk.now c.open.new.disk c.args.self.now.store r c.open.result) (sym c.in-Open.ensures.1) (works_searching g.D.Disk.tells g.D.Disk.state c.args.disk.now c.open.new.disk c.args.self.now.store (asks (opens c.in-Open.text.now)) c.open.result tt (λ none. absurd none))
+    subst (λ (r : Reading). Works g.D.Disk.tells g.D.Disk.state c.args.disk.now c.open.new.disk c.args.self.now.store r c.open.result) (sym c.in-Open.ensures.1) (works_searching g.D.Disk.tells g.D.Disk.state c.args.disk.now c.open.new.disk c.args.self.now.store (asks (opens c.in-Open.text.now)) c.open.result tt (λ need gap is. not_full c.open.result need gap c.open.ensures.queries.loaded.only is) (λ none. absurd none))
 
 pub returns-in-Explain-clause-works : goal.returns-in-Explain-clause-works
 returns-in-Explain-clause-works g c = works_still g.D.Disk.tells g.D.Disk.state c.args.disk.now c.args.self.now.store _ c.explain.result c.explain.ensures.memory
