@@ -58,6 +58,7 @@ fn name_of(cause: Cause) -> &'static str
         Cause::Prefix => "Prefix",
         Cause::Near => "Near",
         Cause::Name => "Name",
+        Cause::Value => "Value",
         Cause::Quote => "Quote",
         Cause::Paren => "Paren",
         Cause::Operand => "Operand",

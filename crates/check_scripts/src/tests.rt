@@ -152,6 +152,10 @@ fn queries_are_explained(rt: HostRuntime) -> Result<(), Fail> {
             "explain a (b OR NOT (c d)) \"d e\"",
             "\"a\" ( \"b\" OR NOT ( \"c\" \"d\" ) ) \"d e\"\nall 2\n  found D Wa Wd We\n    x1 <= x0\n    p0 <= x1-1\n    x2 <= x0\n    p0 <= x2-1\n    x3 <= x0\n    p0 <= x3-1\n    x2 <= x3-1\n    x3 <= x2+1\n  any 2\n    found D Wb\n      x1 <= x0\n      p0 <= x1-1\n    not\n      found D Wc Wd\n        x1 <= x0\n        p0 <= x1-1\n        x2 <= x0\n        p0 <= x2-1\n",
         ),
+        (
+            "explain value:1990..1999",
+            "value:1990..1999\nany 2\n  found D #1:995\n    x1 <= x0\n    p0 <= x1-1\n  found D #3:249\n    x1 <= x0\n    p0 <= x1-1\n",
+        ),
         ("explain fox OR", "! query 6 Operand\n"),
         ("explain", "! bad line\n"),
         ("explain ", "! query 0 Empty\n"),
@@ -253,6 +257,12 @@ fn scripts_are_answered(rt: HostRuntime) -> Result<(), Fail> {
             "added 1\n1 home\nfound 1\n",
             "search don't\nstats\nsearch \"page don't\"",
             "1 home\nfound 1\ndocuments 1 words 10 next 2\nfound 0\n",
+        ),
+        (
+            "add home\tAltaVista: Main Page\tDon't miss version 2.0, released in 1996!\nsearch value:1990..1999\ncount value:1997..2000\ncount value:5..4\ncount \"value 5\"\nadd z\t\t007 2.0\ncount value:0..9\n",
+            "added 1\n1 home\nfound 1\nfound 0\n! query 0 Value\nfound 0\nadded 2\nfound 0\n",
+            "flush\nadd n\t\t4294967295 4294967296 0\ncount value:1996..1996\nsearch value:0..4294967295\ncount value:4294967295..4294967295\ncount value:0..0\ncount fox value:1..9",
+            "ok\nadded 3\nfound 1\n1 home\n3 n\nfound 2\nfound 1\nfound 1\nfound 0\n",
         ),
     ];
     for (first, wanted, second, wanted_then) in rows {
