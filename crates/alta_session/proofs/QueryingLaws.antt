@@ -67,7 +67,7 @@ pub queried : {D : Type 0} (tells : Type 0) (state : D → DiskState) (disk disk
     → ((s : State) (all : List OpenAnswers) → tells → StandsFor s (state disk).content → AreOpen session.cursors all → Turns (turn s all) cursors result)
     → ((s : State) (all : List OpenAnswers) → AreOpen session.cursors all → IsRefusal (turn s all).1 → idle)
     → ((m : Machine) → steps m ≡ turned_by m (turn m.state m.cursors)) → ((m : Machine) → tasks m ≡ None) → Answers tells state disk disk_now session (with_cursors session cursors) result steps tasks
-queried tells state disk disk_now session cursors loads idle result steps tasks turn lawful can queries of_them kept turns idles is none =
+queried tells state disk disk_now session cursors loads idle result steps tasks turn lawful can queries kept turns idles is none =
     let reads = queries.loaded.reads in
     let agrees_now : Agrees tells (state disk_now) session.store = agrees_read tells (load_sizes loads) (state disk) (state disk_now) session.store lawful can.agrees reads in
     answers_by tells state disk disk_now session (with_cursors session cursors) result (λ m. turned_by m (turn m.state m.cursors)) steps (λ m. None) tasks (λ m. sym (is m)) (λ m. sym (none m)) (record {
