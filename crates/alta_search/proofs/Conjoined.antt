@@ -1,13 +1,13 @@
 -- The plan of a conjunction: its tests, and the list that it reads.
-use Rattle.std.proofs.Common.{◌≡◌, ◌⊎◌, ⊎_elim, inl, inr, ℕ, ◌+◌, Bool, true, false, ◌&&◌, ◌||◌, cond, List, [], ◌∷◌, ◌++◌, map, refl, sym, subst, ap, ◌∙◌, append-nil, arith}
-use Rattle.std.specs.Prelude.{◌↔◌, All, Contains, Option, Some, None, MatchOption, is_some}
-use Rattle.std.proofs.lemmas.List.Elements.{All-nil, All-cons, All-head, All-tail}
+use Rattle.std.proofs.Common.{◌≡◌, ◌⊎◌, ⊎_elim, inl, inr, ℕ, ◌+◌, Bool, true, false, ◌&&◌, ◌||◌, cond, List, [], ◌∷◌, ◌++◌, map, length, ◌<◌, refl, sym, subst, ap, ◌∙◌, append-nil, arith}
+use Rattle.std.specs.Prelude.{◌↔◌, All, Contains, IfSome, Option, Some, None, MatchOption, is_some}
+use Rattle.std.proofs.lemmas.List.Elements.{All-nil, All-cons, All-head, All-tail, All-append}
 use Rattle.alta_codec.specs.Rising.{IsRising, pred_of}
 use Rattle.alta_compile.specs.Conjoined.{atom_word, word_in, word_against, listed, words_in, words_against, are_words, is_some_word, conjunction_in, conjunction_of}
 use Rattle.alta_compile.specs.Joined.{joint_pattern}
 use Rattle.alta_compile.specs.PlanOf.{found_of, atom_plan, with_pattern, with_value, atoms_in, all_plan, plan_of, others_of}
 use Rattle.alta_compile.specs.Space.{Placed, IsSpace, document_end, end_of, ends_of, list_of}
-use Rattle.alta_compile.specs.Tree.{found, Trees, no_more, also, plan_list}
+use Rattle.alta_compile.specs.Tree.{Tree, found, Trees, no_more, also, plan_list}
 use Rattle.alta_compile.specs.declared.asked.Conjunction.{Conjunction}
 use Rattle.alta_compile.proofs.Ends.{plan_rises, plan_ends}
 use Rattle.alta_compile.proofs.Meaning.{plan_matches}
@@ -22,6 +22,8 @@ use Rattle.alta_query.specs.Shape.{words, prefix, name, value, Atom, lone, near,
 use Rattle.alta_query.specs.declared.test.Test.{Test}
 use Rattle.alta_query.specs.declared.test.Test.TheVariants.{Is, Begins}
 use Rattle.alta_search.specs.Conjoined.{tests_against, conjoined_tests}
+use Rattle.alta_search.specs.Leads.{IsConjunction}
+use Rattle.alta_search.specs.Met.{IsExact}
 use Rattle.alta_search.specs.Plans.{tests_of, tests_in}
 use Rattle.alta_search.proofs.Rising.{one_rising}
 
@@ -54,6 +56,19 @@ no_value (near left distance right) t h = refl
 
 word_plan : (a : Atom) (t : Test) → atom_word a ≡ Some t → plan_of (atom a) ≡ found (found_of (phrase_pattern (t ∷ [])))
 word_plan a t h = ap (atom_plan (pattern_of a)) (no_value a t h) ∙ ap (λ p. found (found_of p)) (is_word a t h)
+
+-- its test asks for one term
+exact_word : (a : Atom) (t : Test) → atom_word a ≡ Some t → IsExact t
+exact_word (lone (words true text ts)) t h = absurd cc
+exact_word (lone (words false text [])) t h = absurd cc
+exact_word (lone (words false text (Is w ∷ []))) t h = let same : Is w ≡ t = cc in subst IsExact same tt
+exact_word (lone (words false text (Begins s ∷ []))) t h = absurd cc
+exact_word (lone (words false text (Is u ∷ v ∷ ts))) t h = absurd cc
+exact_word (lone (words false text (Begins u ∷ v ∷ ts))) t h = absurd cc
+exact_word (lone (prefix title text u)) t h = absurd cc
+exact_word (lone (name text)) t h = absurd cc
+exact_word (lone (value low high)) t h = absurd cc
+exact_word (near left distance right) t h = absurd cc
 
 -- an option is some value or none
 some_or_none : (o : Option Test) → ((t : Test) × (o ≡ Some t)) ⊎ (o ≡ None)
@@ -241,3 +256,65 @@ conjoined_list space q c s h =
       (all_map (HasWithin (pred_of ends (end_of d)) (end_of d)) (list_of space) c.words).0 answer.each,
       (all_map (λ l. HasWithin (pred_of ends (end_of d)) (end_of d) l → ⊥) (list_of space) c.negated).0 answer.none,
     ))))
+
+-- ---- the words
+
+word_exact : (q : Shape) (t : Test) → word_in q ≡ Some t → IsExact t
+word_exact (atom a) t h = exact_word a t h
+word_exact (all qs) t h = absurd cc
+word_exact (any qs) t h = absurd cc
+word_exact (negated q) t h = absurd cc
+
+not_exact : (q : Shape) (t : Test) → word_against q ≡ Some t → IsExact t
+not_exact (atom a) t h = absurd cc
+not_exact (all qs) t h = absurd cc
+not_exact (any qs) t h = absurd cc
+not_exact (negated q) t h = word_exact q t h
+
+listed_exact : (o : Option Test) → ((t : Test) → o ≡ Some t → IsExact t) → All IsExact (listed o)
+listed_exact None h = All-nil IsExact
+listed_exact (Some t) h = All-cons IsExact t [] (h t refl) (All-nil IsExact)
+
+words_exact : (qs : Shapes) → All IsExact (words_in qs)
+words_exact none = All-nil IsExact
+words_exact (more q qs) = All-append IsExact (listed (word_in q)) (words_in qs) (listed_exact (word_in q) (word_exact q)) (words_exact qs)
+
+negated_exact : (qs : Shapes) → All IsExact (words_against qs)
+negated_exact none = All-nil IsExact
+negated_exact (more q qs) = All-append IsExact (listed (word_against q)) (words_against qs) (listed_exact (word_against q) (not_exact q)) (negated_exact qs)
+
+against_exact : (ns : List Test) → All IsExact ns → All IsExact (tests_against ns)
+against_exact [] h = All-nil IsExact
+against_exact (n ∷ ns) h =
+    All-cons IsExact document_end (document_end ∷ n ∷ tests_against ns) tt
+    (All-cons IsExact document_end (n ∷ tests_against ns) tt
+    (All-cons IsExact n (tests_against ns) (All-head IsExact n ns h) (against_exact ns (All-tail IsExact n ns h))))
+
+some_length : (ts : List Test) → is_some_word ts ≡ true → 0 < length ts
+some_length [] h = absurd cc
+some_length (t ∷ ts) h = omega arith
+
+-- each test of a conjunction asks for one term, and there is a word
+members_exact : (qs : Shapes) (c : Conjunction) → conjunction_in qs ≡ Some c → All IsExact (conjoined_tests c) × (0 < length c.words)
+members_exact qs c h =
+    let (each, some, is) = parts_of qs c h in
+    let all : All IsExact ((document_end ∷ words_in qs) ++ tests_against (words_against qs)) =
+    All-append IsExact (document_end ∷ words_in qs) (tests_against (words_against qs)) (All-cons IsExact document_end (words_in qs) tt (words_exact qs))
+    (against_exact (words_against qs) (negated_exact qs)) in
+    subst (λ (x : Conjunction). All IsExact (conjoined_tests x) × (0 < length x.words)) (sym is) (all, some_length (words_in qs) some)
+
+conjoined_exact : (q : Shape) (c : Conjunction) → conjunction_of q ≡ Some c → All IsExact (conjoined_tests c) × (0 < length c.words)
+conjoined_exact (atom a) c h = members_exact (more (atom a) none) c h
+conjoined_exact (all qs) c h = members_exact qs c h
+conjoined_exact (any qs) c h = absurd cc
+conjoined_exact (negated q) c h = absurd cc
+
+is_conjunction : (q : Shape) (c : Conjunction) → conjunction_of q ≡ Some c → IsConjunction (plan_of q) c
+is_conjunction q c h =
+    let tests = conjoined q c h in let (exact, some) = conjoined_exact q c h in
+    record { tests = tests; exact = subst (All IsExact) (sym tests) exact; some = some; finds = λ space s. conjoined_list space q c s h }
+
+-- the conjunction of the plan of a query
+pub asked_is : (q : Shape) (p : Tree) (o : Option Conjunction) → p ≡ plan_of q → o ≡ conjunction_of q → IfSome o (IsConjunction p)
+asked_is q p None same is = tt
+asked_is q p (Some c) same is = subst (λ t. IsConjunction t c) (sym same) (is_conjunction q c (sym is))

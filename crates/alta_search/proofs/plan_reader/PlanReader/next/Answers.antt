@@ -1,7 +1,7 @@
 use Rattle.std.proofs.Common.{subst}
 use Rattle.alta_search.specs.Walks.{PlanView, IsOnward}
 use Rattle.alta_search.specs.Ways.{way_view}
-use Rattle.alta_search.proofs.WayLaws.{way_reading}
+use Rattle.alta_search.proofs.LeadMoves.{way_reading}
 use Rattle.alta_search.proofs.plan_reader.PlanReader.next.Goals as goal
 
 pub returns-clause-onward : goal.returns-clause-onward
