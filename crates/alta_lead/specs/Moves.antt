@@ -38,7 +38,8 @@ module _ {R : Type 0} (list : R → List ℕ) where
     pub negated : AreAhead from (map list c.negated) (map location c.negated)
 
   -- Each reader is left `more` moves of the `most` that it had: whatever a move of a reader costs by the list that it
-  -- reads, the steps and the costs of `more` moves of each are at most the costs of `most` moves of each.
+  -- reads, the steps and the costs of `more` moves of each are at most the costs of `most` moves of each. Nothing is said of
+  -- readers that can cost more and more over the same list, as unions of ever more empty lists do.
   abbrev pub MovesEach : (R → ℕ) → Chains R → ℕ → ℕ → ℕ → ℕ → Type 0
   MovesEach cost c most more before after =
       (of : List ℕ → ℕ) → ((r : R) → cost r ≤ of (list r)) → after + more * cost_of of c ≤ before + most * cost_of of c

@@ -49,6 +49,9 @@ impl<R: BackReader> LeadReader<R> {
         requires words_unmoved { All (λ r. R.location r ≡ first_from (R.list r) 0) words.items }
         requires negated_unmoved { All (λ r. R.location r ≡ first_from (R.list r) 0) negated.items }
         ensures sound { ⟦<LeadReader<R> as Reader>⟧.sound result }
+        ensures same_ends { R.list result.ends.inner ≡ R.list ends.inner }
+        ensures same_words { map R.list result.words.items ≡ map R.list words.items }
+        ensures same_negated { map R.list result.negated.items ≡ map R.list negated.items }
         ensures list { ⟦<LeadReader<R> as Reader>⟧.list result ≡ ends_having (R.list ends.inner) (map R.list words.items) (map R.list negated.items) }
         ensures answers { (e : ℕ) → Contains (⟦<LeadReader<R> as Reader>⟧.list result) e ↔ IsAnswer (R.list ends.inner) (map R.list words.items) (map R.list negated.items) e }
         ensures all { ⟦<LeadReader<R> as Reader>⟧.all result ≡ R.all ends.inner ++ concat (map R.all words.items) ++ concat (map R.all negated.items) }

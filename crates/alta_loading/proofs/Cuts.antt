@@ -1,11 +1,11 @@
 -- The lists of a test rise one behind the other, term by term, whatever the disk tells.
-use Rattle.std.proofs.Common.{◌≡◌, ⊎_elim, ℕ, zero, suc, ◌+◌, ◌<◌, ◌≤◌, true, List, [], ◌∷◌, ◌++◌, length, map, get_or, refl, sym, ap, subst, ◌∙◌, arith, append-nil, append_assoc}
-use Rattle.std.specs.Prelude.{All, Contains, Option, Some, None, nat_le}
+use Rattle.std.proofs.Common.{◌≡◌, ⊎_elim, ℕ, zero, suc, ◌+◌, ◌<◌, ◌≤◌, true, cond, List, [], ◌∷◌, ◌++◌, length, map, get_or, drop, refl, sym, ap, subst, ◌∙◌, arith, append-nil, append_assoc}
+use Rattle.std.specs.Prelude.{All, Contains, IsTrue, Option, Some, None, nat_le}
 use Rattle.std.specs.Cmp.Lexicographic.{slice_cmp}
-use Rattle.std.specs.List.{concat}
+use Rattle.std.specs.List.{concat, filter}
 use Rattle.std.specs.List.Sorted.{IsStrictlyIncreasing, IsStrictlySortedBy}
 use Rattle.std.specs.Ordering.{nat_cmp}
-use Rattle.std.proofs.lemmas.Bool.{and_parts, leb-true, or_cases, or_left, or_right, true≢false}
+use Rattle.std.proofs.lemmas.Bool.{and_parts, cases_Bool, leb-true, or_cases, or_left, or_right, true≢false}
 use Rattle.std.proofs.lemmas.List.Elements.{All-nil, All-cons, All-head, All-tail, All-append, All-map, All-weaker}
 use Rattle.alta_codec.specs.Rising.{IsRising}
 use Rattle.alta_codec.proofs.Places.{Contains-head, Contains-tail}
@@ -30,8 +30,10 @@ use Rattle.alta_memlevel.proofs.Contents.{list_of_rises}
 use Rattle.alta_memlevel.proofs.Prefixes.{filter_rises}
 use Rattle.alta_memlevel.proofs.Read.{list_within}
 use Rattle.alta_query.specs.declared.test.Test.{Test}
-use Rattle.alta_search.specs.Lists.{AreKeys, IsCut, TermKey, term_in}
+use Rattle.alta_search.specs.Lists.{AreKeys, IsCut, TermKey, term_in, test_in, test_keys}
+use Rattle.alta_search.specs.Met.{MeetTest, MeetsTest}
 use Rattle.alta_search.specs.Newest.{term_meets}
+use Rattle.alta_search.specs.declared.lists.TestLists.{TestLists}
 use Rattle.alta_table.specs.Tables.{Tables}
 
 -- ---- lists in the ranges of rows
@@ -222,3 +224,22 @@ are_keys levels newest test = record {
 
 pub all_keyed : (levels : List Tables) (newest : Content) (tests : List Test) → All AreKeys (map (keys_met levels newest) tests)
 all_keyed levels newest tests = All-map AreKeys (keys_met levels newest) tests (λ k d l. are_keys levels newest (get_or tests k d))
+
+-- ---- each term meets its test
+
+terms_meet : (levels : List Tables) (newest : Content) (test : Test) (ts : List (List ℕ)) → MeetTest test (map (term_key levels newest) (filter (term_meets test) ts))
+terms_meet levels newest test [] = All-nil (λ (key : TermKey). IsTrue (term_meets test (term_in key)))
+terms_meet levels newest test (t ∷ ts) =
+    let P : TermKey → Type 0 = λ key. IsTrue (term_meets test (term_in key)) in
+    let rest = terms_meet levels newest test ts in
+    ⊎_elim
+    (λ yes. subst (λ b. All P (map (term_key levels newest) (cond b (t ∷ filter (term_meets test) ts) (filter (term_meets test) ts)))) (sym yes)
+    (All-cons P (term_key levels newest t) (map (term_key levels newest) (filter (term_meets test) ts)) yes rest))
+    (λ no. subst (λ b. All P (map (term_key levels newest) (cond b (t ∷ filter (term_meets test) ts) (filter (term_meets test) ts)))) (sym no) rest)
+    (cases_Bool (term_meets test t))
+
+pub all_meet : (levels : List Tables) (newest : Content) (loaded : List TestLists) → map test_keys loaded ≡ map (keys_met levels newest) (map test_in loaded) → All MeetsTest loaded
+all_meet levels newest [] h = All-nil MeetsTest
+all_meet levels newest (t ∷ ts) h =
+    let first : test_keys t ≡ keys_met levels newest (test_in t) = ap (λ l. get_or l 0 []) h in
+    All-cons MeetsTest t ts (subst (MeetTest (test_in t)) (sym first) (terms_meet levels newest (test_in t) (in_order (all_terms levels newest)))) (all_meet levels newest ts (ap (drop 1) h))

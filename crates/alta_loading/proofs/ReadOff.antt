@@ -7,10 +7,10 @@ use Rattle.std.specs.Str.{bytes_eq}
 use Rattle.std.proofs.lemmas.Bool.{and_parts, cases_Bool, eqb-true, leb-true, or_cases, true≢false}
 use Rattle.std.proofs.lemmas.List.Elements.{All-nil, All-cons, All-head, All-tail}
 use Rattle.alta_codec.specs.Rising.{IsRising}
-use Rattle.alta_codec.proofs.Places.{Contains-head, Contains-tail, Contains-cases, not-Contains-nil}
+use Rattle.alta_codec.proofs.ByIndex.{element}
+use Rattle.alta_codec.proofs.Places.{Contains-head, Contains-tail}
 use Rattle.alta_compile.specs.Space.{Placed, list_of}
 use Rattle.alta_compile.proofs.Spaces.{Has, HasAt, has-list, list-has, list-rises}
-use Rattle.alta_compound.specs.Unions.{RisesAbove, above_from_rising}
 use Rattle.alta_content.specs.Lists.{AreListsBehind, IsContent, TermsRise, locations_of, terms_of}
 use Rattle.alta_content.specs.Rows.{RowsRise, end_of}
 use Rattle.alta_content.specs.declared.content.Content.{Content}
@@ -31,6 +31,7 @@ use Rattle.alta_query.specs.declared.test.Test.{Test}
 use Rattle.alta_query.specs.declared.test.Test.TheVariants.{Is}
 use Rattle.alta_search.proofs.NewestAnswers.{added-apart}
 use Rattle.alta_search.proofs.NewestLists.{lists-same, placed_of, space_of}
+use Rattle.alta_search.proofs.Rising.{one_rising}
 
 -- a document by its row, its cells being read off the lists
 abbrev pub read_off : List TermList → DocRow → Added
@@ -39,28 +40,7 @@ read_off lists row = record { row = row; cells = (document_of lists row).cells }
 abbrev pub added_in : Content → List Added
 added_in content = map (read_off content.lists) content.documents
 
--- ---- two rising lists with the same elements are one
-
-above_all : (low : ℕ) (ys : List ℕ) (z : ℕ) → RisesAbove low ys → Contains ys z → low < z
-above_all low [] z r m = absurd (not-Contains-nil z m)
-above_all low (y ∷ ys) z (a, b, r) m = ⊎_elim (λ e. omega (arith, a, e)) (λ n. omega (arith, a, above_all y ys z r n)) (Contains-cases y ys z m)
-
-one_from : (low : ℕ) (xs ys : List ℕ) → RisesAbove low xs → RisesAbove low ys → ((z : ℕ) → Contains xs z → Contains ys z) → ((z : ℕ) → Contains ys z → Contains xs z) → xs ≡ ys
-one_from low [] [] r s h k = refl
-one_from low [] (y ∷ ys) r s h k = absurd (not-Contains-nil y (k y (Contains-head y ys)))
-one_from low (x ∷ xs) [] r s h k = absurd (not-Contains-nil x (h x (Contains-head x xs)))
-one_from low (x ∷ xs) (y ∷ ys) (a, b, r) (c, d, s) h k =
-    let below : y ≤ x = ⊎_elim (λ e. omega (arith, e)) (λ n. omega (arith, above_all y ys x s n)) (Contains-cases y ys x (h x (Contains-head x xs))) in
-    let above : x ≤ y = ⊎_elim (λ e. omega (arith, e)) (λ n. omega (arith, above_all x xs y r n)) (Contains-cases x xs y (k y (Contains-head y ys))) in
-    let same : x ≡ y = omega (arith, below, above) in
-    let there : (z : ℕ) → Contains xs z → Contains ys z =
-    λ z m. ⊎_elim (λ e. absurd (omega (arith, e, below, above, above_all x xs z r m))) (λ n. n) (Contains-cases y ys z (h z (Contains-tail x xs z m))) in
-    let back : (z : ℕ) → Contains ys z → Contains xs z =
-    λ z m. ⊎_elim (λ e. absurd (omega (arith, e, below, above, above_all y ys z s m))) (λ n. n) (Contains-cases x xs z (k z (Contains-tail y ys z m))) in
-    ap (λ v. v ∷ xs) same ∙ ap (λ l. y ∷ l) (one_from y xs ys (subst (λ v. RisesAbove v xs) same r) s there back)
-
-pub one_rising : (xs ys : List ℕ) → IsRising xs → IsRising ys → ((z : ℕ) → Contains xs z → Contains ys z) → ((z : ℕ) → Contains ys z → Contains xs z) → xs ≡ ys
-one_rising xs ys r s h k = one_from 0 xs ys (above_from_rising xs r) (above_from_rising ys s) h k
+-- ---- whether a list has a location
 
 pub among_contains : (x : ℕ) (xs : List ℕ) → among x xs ≡ true → Contains xs x
 among_contains x [] h = absurd (true≢false (sym h))
@@ -212,7 +192,7 @@ module _ (c : Content) (is : IsContent c) (rise : RowsPrecede c.documents) (t : 
   to_space : (z : ℕ) → Contains list z → Contains (list_of space (Is t)) z
   to_space z m =
       let here : among z list ≡ true = contains_among z list m in
-      let positive : 0 < z = above_all 0 list z (above_from_rising list lies.rising) m in
+      let positive : 0 < z = let (k, l, e) = element list z m in omega (arith, lies.rising.positive k l, e) in
       let (row, n, l, k) = in_has c.lists c.documents z (lies_at c.documents list z lies m) in
       let p = z - row.first in
       let at : z ≡ row.first + p = omega (arith, l) in

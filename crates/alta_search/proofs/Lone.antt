@@ -13,7 +13,7 @@ use Rattle.alta_search.specs.Words.{reader_list, reader_all, reader_place, reade
 use Rattle.alta_search.specs.declared.test_reader.TestReader.{TestReader}
 use Rattle.alta_search.proofs.Counts.{below_or_from}
 
-with_none : (low : ℕ) (xs : List ℕ) → RisesAbove low xs → union xs [] ≡ xs
+pub with_none : (low : ℕ) (xs : List ℕ) → RisesAbove low xs → union xs [] ≡ xs
 unfolding union put
 with_none low [] r = refl
 with_none low (x ∷ []) r = refl

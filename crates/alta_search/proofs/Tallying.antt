@@ -12,7 +12,6 @@ use Rattle.alta_compile.specs.Tree.{Tree, plan_list}
 use Rattle.alta_compile.proofs.Ends.{plan_ends}
 use Rattle.alta_compile.proofs.Spaces.{Has, apart_one, end-is}
 use Rattle.alta_compound.specs.Unions.{RisesAbove, above_from_rising, count_same}
-use Rattle.alta_docread.specs.DocView.{DocView}
 use Rattle.alta_docread.specs.Kept.{has, less}
 use Rattle.alta_docread.specs.KeptLaws.{true_or_false, has-Contains, Contains-has, less-has, less-rises}
 use Rattle.alta_content.specs.Rows.{end_of, ends_of}
@@ -22,7 +21,7 @@ use Rattle.alta_search.specs.Answers.{answers_in, count_live}
 use Rattle.alta_search.specs.Readers.{Each}
 use Rattle.alta_search.specs.Told.{no_row}
 use Rattle.alta_search.specs.View.{View, IsRowOf, Shows}
-use Rattle.alta_search.specs.Walks.{IsOnward}
+use Rattle.alta_search.specs.Walks.{PlanView, IsOnward}
 use Rattle.alta_search.proofs.Counts.{below_or_from}
 use Rattle.alta_search.proofs.Rows.{read_at, answers_from, answers_dead, answers_live, answers_past}
 use Rattle.alta_search.proofs.Walking.{onward_more, goes_up}
@@ -85,12 +84,12 @@ module _ (list gone : List ℕ) where
 -- ---- a walk that counts
 
 -- The reader went past so many ends, and to none above the place.
-pub record IsPassing (t u : DocView) (to k before after : ℕ) : Type 0 where
+pub record IsPassing (t u : PlanView) (to k before after : ℕ) : Type 0 where
   pub onward : IsOnward t u before after
   pub up : t.place ≤ u.place
   pub count : (gone : List ℕ) → ((z : ℕ) → Contains gone z → t.place ≤ z → to ≤ z) → k + count_live t.list gone u.place ≡ count_live t.list gone t.place
 
-module _ (t u v : DocView) (to k before between after : ℕ) (so_far : IsPassing t u to k before between) (on : IsOnward u v between after)
+module _ (t u v : PlanView) (to k before between after : ℕ) (so_far : IsPassing t u to k before between) (on : IsOnward u v between after)
     (top : to ≤ TOP) (below : u.place < to) (is : v.place ≡ first_from u.list (u.place + 1)) where
   there : v.place ≡ first_from t.list (u.place + 1)
   there = is ∙ ap (λ l. first_from l (u.place + 1)) so_far.onward.list
@@ -116,7 +115,7 @@ module _ (t u v : DocView) (to k before between after : ℕ) (so_far : IsPassing
   }
 
 -- no more were passed than fit
-pub passing_fits : (t u : DocView) (to k before after : ℕ) → IsPassing t u to k before after → k < TOP
+pub passing_fits : (t u : PlanView) (to k before after : ℕ) → IsPassing t u to k before after → k < TOP
 passing_fits t u to k before after p =
     omega (arith, p.count [] (λ z m h. absurd (not-Contains-nil z m)), live_fits t.list [] t.place (subst IsRising p.onward.list p.onward.stands.rising))
 
@@ -131,20 +130,20 @@ first_gone gone at place rising inside passed z (k, l, e) from =
     (cases_lt at k)) (cases_lt k at)
 
 -- The reader has so many ends behind it that were not deleted, and of the deleted ones so many.
-pub record IsTallying (t u : DocView) (gone : List ℕ) (k at before after : ℕ) : Type 0 where
+pub record IsTallying (t u : PlanView) (gone : List ℕ) (k at before after : ℕ) : Type 0 where
   pub onward : IsOnward t u before after
   pub count : k + count_live t.list gone u.place ≡ count_live t.list gone t.place
   pub within : at ≤ length gone
   pub passed : (i : ℕ) → i < at → get_or gone i 0 < u.place
 
-module _ (t u : DocView) (gone : List ℕ) (k at before between : ℕ) (so_far : IsTallying t u gone k at before between) where
+module _ (t u : PlanView) (gone : List ℕ) (k at before between : ℕ) (so_far : IsTallying t u gone k at before between) where
   -- no more are counted than fit
   pub tally_fits : (more left : ℕ) → IsRising t.list → more + left ≡ count_live u.list gone u.place → k + more < TOP
   tally_fits more left rising counted =
       omega (arith, so_far.count, counted, ap (λ l. count_live l gone u.place) so_far.onward.list, live_fits t.list gone t.place rising)
 
   -- all deleted ends are passed, and then all ends
-  pub tally_end : (v : DocView) (more after : ℕ) → length gone ≤ at → IsOnward u v between after → TOP ≤ v.place
+  pub tally_end : (v : PlanView) (more after : ℕ) → length gone ≤ at → IsOnward u v between after → TOP ≤ v.place
       → (((z : ℕ) → Contains gone z → u.place ≤ z → TOP ≤ z) → more + count_live u.list gone v.place ≡ count_live u.list gone u.place)
       → k + more ≡ count_live t.list gone t.place
   tally_end v more after all on past counted =

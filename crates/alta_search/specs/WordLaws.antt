@@ -3,7 +3,9 @@ use Rattle.std.proofs.Common.{◌≡◌, ℕ, map, refl, sym, subst}
 use Rattle.std.specs.Prelude.{Contains, ◌↔◌}
 use Rattle.alta_codec.specs.Rising.{IsRising, IsPlace, count_from}
 use Rattle.alta_compound.specs.OverReaders.{union_of-rises, in_step_place, gathered-members, gathered-left}
-use Rattle.alta_search.specs.Words.{chain_list, IsSoundTerm, term_list, term_place, term_left, IsSoundReader, reader_list, reader_all, reader_place, reader_left}
+use Rattle.alta_search.specs.Words.{chain_list, IsSoundTerm, term_list, term_place, term_left, IsSoundSingle, single_list, single_place, IsSoundReader, reader_list, reader_all, reader_place, reader_left}
+use Rattle.alta_search.specs.declared.single_reader.SingleReader.{SingleReader}
+use Rattle.alta_search.specs.declared.single_reader.SingleReader.TheVariants as single
 use Rattle.alta_search.specs.declared.term_reader.TermReader.{TermReader}
 use Rattle.alta_search.specs.declared.test_reader.TestReader.{TestReader}
 use Rattle.alta_search.specs.declared.test_reader.TestReader.TheVariants.{Coded, Plain, Any}
@@ -16,6 +18,16 @@ pub term_stands : (s : TermReader) → IsSoundTerm s → IsPlace (term_list s) (
 term_stands s h =
     subst (λ x. IsPlace (chain_list s.chain) x) (sym h.1)
     (chain_place (map leaf_list s.chain.leaves.items) (map leaf_place s.chain.leaves.items) s.chain.at h.0.1)
+
+pub single_rises : (s : SingleReader) → IsSoundSingle s → IsRising (single_list s)
+single_rises (single.Coded r) h = word_rises r h
+single_rises (single.Plain r) h = leaf_rises (leaf.Plain r) h
+single_rises (single.Chain r) h = h.0.1.rising
+
+pub single_stands : (s : SingleReader) → IsSoundSingle s → IsPlace (single_list s) (single_place s)
+single_stands (single.Coded r) h = word_stands r h
+single_stands (single.Plain r) h = leaf_stands (leaf.Plain r) h
+single_stands (single.Chain r) h = term_stands r h
 
 pub reader_rises : (s : TestReader) → IsSoundReader s → IsRising (reader_list s)
 reader_rises (Coded r) h = word_rises r h

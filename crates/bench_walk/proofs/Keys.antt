@@ -1,6 +1,6 @@
 -- Terms that are put behind one another.
 use Rattle.std.proofs.Common.{◌≡◌, ℕ, ◌+◌, ◌-◌, ◌<◌, ◌≤◌, List, [], ◌∷◌, ◌++◌, map, length, get_or, sym, subst, ap, ◌∙◌, arith}
-use Rattle.std.specs.Prelude.{All}
+use Rattle.std.specs.Prelude.{All, IsTrue}
 use Rattle.std.specs.List.{concat}
 use Rattle.std.specs.List.Sorted.{IsStrictlyIncreasing, IsStrictlySortedBy}
 use Rattle.std.specs.Cmp.Lexicographic.{slice_cmp}
@@ -15,7 +15,10 @@ use Rattle.alta_codec.specs.declared.location.TheConstants.{TOP}
 use Rattle.alta_content.specs.Rows.{end_of}
 use Rattle.alta_content.specs.declared.document.DocRow.{DocRow}
 use Rattle.alta_compound.specs.Unions.{RisesAbove, rising_from_above, above_from_rising}
-use Rattle.alta_search.specs.Lists.{IsCut, AreKeys, key_of, term_in, term_lists}
+use Rattle.alta_search.specs.Lists.{TermKey, IsCut, AreKeys, key_of, term_in, term_lists}
+use Rattle.alta_query.specs.declared.test.Test.{Test}
+use Rattle.alta_search.specs.Met.{MeetTest}
+use Rattle.alta_search.specs.Newest.{term_meets}
 use Rattle.alta_search.specs.declared.lists.TermLists.{TermLists}
 use Rattle.alta_search.proofs.Cuts.{keys_none, keys_push}
 
@@ -94,3 +97,14 @@ behind_last all front last term e keyed p =
     λ k d l. precedes_both (get_or (map term_in (map key_of front)) k d) last.term term (before k d l) p in
     subst (All (λ (t : TermLists). Precedes t.term term)) (sym e)
     (All-push (λ (t : TermLists). Precedes t.term term) front last (unkeyed (λ x. Precedes x term) front behind) p)
+
+-- ---- terms that meet a test
+
+pub none_met : (test : Test) (terms : List TermLists) → terms ≡ [] → MeetTest test (map key_of terms)
+none_met test terms e = subst (λ ts. MeetTest test (map key_of ts)) (sym e) (All-nil (λ (key : TermKey). IsTrue (term_meets test (term_in key))))
+
+pub put_met : (test : Test) (old new : List TermLists) (t : TermLists) (term : List ℕ) → new ≡ old ++ t ∷ [] → MeetTest test (map key_of old) → (key_of t).term ≡ term
+    → IsTrue (term_meets test term) → MeetTest test (map key_of new)
+put_met test old new t term pushed met e is =
+    subst (MeetTest test) (sym (ap (map key_of) pushed ∙ map_push key_of old t))
+    (All-push (λ (key : TermKey). IsTrue (term_meets test (term_in key))) (map key_of old) (key_of t) met (subst (λ x. IsTrue (term_meets test x)) (sym e) is))

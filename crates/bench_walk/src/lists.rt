@@ -5,6 +5,8 @@ ghost use Rattle.alta_codec.specs.Order.{Precedes};
 ghost use Rattle.alta_codec.specs.Rising.{IsRising};
 ghost use Rattle.alta_content.specs.Rows.{ends_of};
 ghost use Rattle.alta_search.specs.Lists.{stored_list, term_lists, key_of, test_in, test_lists, test_keys, IsCut, AreKeys};
+ghost use Rattle.alta_search.specs.Met.{MeetTest, MeetsTest};
+ghost use Rattle.alta_search.specs.Newest.{term_meets};
 
 use alta_codec::Bytes;
 use alta_content::LevelRows;
@@ -39,9 +41,11 @@ fn files_of(rt: &HostRuntime, folder: &str, term: &str) -> io::Result<ListFiles>
 }
 
 /// Whether the term meets the test.
-fn meets(test: &Test, term: &[u8]) -> bool {
+fn meets(test: &Test, term: &[u8]) -> bool
+    ensures { IsTrue result → IsTrue (term_meets test.now term.now) }
+{
     match test {
-        Test::Is(wanted) => wanted.as_slice() == term,
+        Test::Is(wanted) => term == wanted.as_slice(),
         Test::Begins(start) => term.starts_with(start.as_slice()),
     }
 }
@@ -148,20 +152,23 @@ fn follows(terms: &[TermLists], term: &[u8]) -> bool
     }
 }
 
-/// Adds the term of some files. One that is not behind all that are there counts as want of memory.
+/// Adds the term of some files. One that does not meet the test, or is not behind all that are there, counts as want of memory.
 fn put_term(
     alloc: Global,
     terms: &mut Vec<TermLists>,
+    test: &Test,
     files: ListFiles,
     rows: &Rc<LevelRows>,
 ) -> Result<(), AllocError>
     requires rising { IsRising (ends_of rows.now.value) }
     requires cut { IsCut (map term_lists terms.old.items) }
     requires keyed { AreKeys (map key_of terms.old.items) }
+    requires met { MeetTest test.now (map key_of terms.old.items) }
     ensures cut { OnOk result (IsCut (map term_lists terms.new.items)) }
     ensures keyed { OnOk result (AreKeys (map key_of terms.new.items)) }
+    ensures met { OnOk result (MeetTest test.now (map key_of terms.new.items)) }
 {
-    if !follows(terms, files.term.as_slice()) {
+    if !meets(test, files.term.as_slice()) || !follows(terms, files.term.as_slice()) {
         return Err(AllocError);
     }
     let term = term_of(alloc, files, rows)?;
@@ -169,19 +176,21 @@ fn put_term(
     Ok(())
 }
 
-/// The terms of these files.
+/// The terms of these files, which meet the test.
 fn terms_of(
     alloc: Global,
+    test: &Test,
     all: Vec<ListFiles>,
     rows: &Rc<LevelRows>,
 ) -> Result<Vec<TermLists>, AllocError>
     requires { IsRising (ends_of rows.now.value) }
     ensures cut { IfOk result (λ ts. IsCut (map term_lists ts.items)) }
     ensures keyed { IfOk result (λ ts. AreKeys (map key_of ts.items)) }
+    ensures met { IfOk result (λ ts. MeetTest test.now (map key_of ts.items)) }
 {
     let mut terms = Vec::new(alloc);
     for files in all {
-        put_term(alloc, &mut terms, files, rows)?;
+        put_term(alloc, &mut terms, test, files, rows)?;
     }
     Ok(terms)
 }
@@ -198,11 +207,12 @@ fn lists(
     ensures test { IfOk result (λ t. test_in t ≡ test) }
     ensures cut { IfOk result (λ t. IsCut (test_lists t)) }
     ensures keyed { IfOk result (λ t. AreKeys (test_keys t)) }
+    ensures met { IfOk result MeetsTest }
 {
     let alloc = rt.alloc();
     let mut files = Vec::new(alloc);
     put_files(rt, folder, terms, &test, &mut files)?;
-    let terms = terms_of(alloc, files, rows)?;
+    let terms = terms_of(alloc, &test, files, rows)?;
     Ok(TestLists { test, terms })
 }
 
@@ -218,6 +228,7 @@ pub(crate) fn tested(
     ensures tests { IfOk result (λ ts. map test_in ts.items ≡ order.items) }
     ensures cut { IfOk result (λ ts. All IsCut (map test_lists ts.items)) }
     ensures keyed { IfOk result (λ ts. All AreKeys (map test_keys ts.items)) }
+    ensures met { IfOk result (λ ts. All MeetsTest ts.items) }
 {
     let mut tests = Vec::new(rt.alloc());
     for test in order {

@@ -49,7 +49,7 @@ fn ask(rt: &HostRuntime, query: &Query, way: Way, rounds: u64, folder: &str) -> 
     let snapshot = snapshot(rt, folder, terms.as_str(), &plan)?;
     let (tests, _uses) = loading_order(alloc, &plan)?.into_parts();
     let files = files(rt, folder, terms.as_str(), tests.as_slice())?;
-    let (count, bytes) = uncounted(alloc, &plan, &snapshot, &files, way, rounds)?;
+    let (count, bytes) = uncounted(alloc, &plan, query, &snapshot, &files, way, rounds)?;
     println!(rt; "{count} {bytes}")?;
     Ok(())
 }

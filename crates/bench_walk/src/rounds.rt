@@ -1,11 +1,14 @@
 // A query asked again and again.
 ghost use Rattle.std.specs.Prelude.{◌≡◌, ◌<◌};
+ghost use Rattle.alta_compile.specs.PlanOf.{plan_of};
 ghost use Rattle.alta_compile.specs.View.{tree};
+ghost use Rattle.alta_query.specs.View.{shape};
 ghost use Rattle.alta_search.specs.Plans.{tests_of};
 
 use crate::lists::ListFiles;
 use alta_codec::Steps;
 use alta_compile::Plan;
+use alta_query::Query;
 use alta_search::{Page, Snapshot, count, search};
 use alta_words::Posting;
 use std::alloc::{AllocError, Global};
@@ -36,17 +39,19 @@ fn names(page: &Page) -> (u64, u64) {
 fn ask<L: Ledger>(
     alloc: Global,
     plan: &Plan,
+    query: &Query,
     snapshot: &Snapshot,
     named: bool,
     steps: &mut Steps<L>,
 ) -> Result<(u64, u64), AllocError>
-    requires { snapshot.now.tests ≡ tests_of (tree plan.now) }
+    requires tests { snapshot.now.tests ≡ tests_of (tree plan.now) }
+    requires query { tree plan.now ≡ plan_of (shape query.now) }
 {
     if named {
-        let page = search(alloc, plan, snapshot, steps)?;
+        let page = search(alloc, plan, query, snapshot, steps)?;
         Ok(names(&page))
     } else {
-        let count = count(alloc, plan, snapshot, steps)?;
+        let count = count(alloc, plan, query, snapshot, steps)?;
         Ok((count, 0))
     }
 }
@@ -66,6 +71,7 @@ fn check(all: &[ListFiles]) -> Result<(), AllocError> {
 fn rounds<L: Ledger>(
     alloc: Global,
     plan: &Plan,
+    query: &Query,
     snapshot: &Snapshot,
     files: &[ListFiles],
     way: Way,
@@ -73,6 +79,7 @@ fn rounds<L: Ledger>(
     blank: Blank,
 ) -> Result<(u64, u64), AllocError>
     requires tests { snapshot.now.tests ≡ tests_of (tree plan.now) }
+    requires query { tree plan.now ≡ plan_of (shape query.now) }
     requires name { blank.name ≡ L.name }
     requires parts { blank.parts ≡ L.parts }
     requires shared { 0 < L.parts }
@@ -84,7 +91,7 @@ fn rounds<L: Ledger>(
         if way.checked {
             check(files)?;
         }
-        let (more, longer) = ask(alloc, plan, snapshot, way.named, &mut steps)?;
+        let (more, longer) = ask(alloc, plan, query, snapshot, way.named, &mut steps)?;
         count = count.wrapping_add(more);
         bytes = bytes.wrapping_add(longer);
     }
@@ -95,12 +102,23 @@ fn rounds<L: Ledger>(
 pub(crate) fn uncounted(
     alloc: Global,
     plan: &Plan,
+    query: &Query,
     snapshot: &Snapshot,
     files: &[ListFiles],
     way: Way,
     turns: u64,
 ) -> Result<(u64, u64), AllocError>
-    requires { snapshot.now.tests ≡ tests_of (tree plan.now) }
+    requires tests { snapshot.now.tests ≡ tests_of (tree plan.now) }
+    requires query { tree plan.now ≡ plan_of (shape query.now) }
 {
-    rounds::<Brand>(alloc, plan, snapshot, files, way, turns, Blank::new(1))
+    rounds::<Brand>(
+        alloc,
+        plan,
+        query,
+        snapshot,
+        files,
+        way,
+        turns,
+        Blank::new(1),
+    )
 }

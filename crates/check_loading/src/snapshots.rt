@@ -196,7 +196,7 @@ fn answered<L: Ledger>(alloc: Global, query: &Query, blank: Blank) -> Result<Str
         return Err(Fail::new("levels that are not whole"));
     };
     let mut steps = Steps::<L>::new(blank);
-    let page = search(alloc, &plan, &snapshot, &mut steps)?;
+    let page = search(alloc, &plan, query, &snapshot, &mut steps)?;
     let names = named(alloc, &page)?;
     Ok(names)
 }

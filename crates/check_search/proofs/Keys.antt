@@ -1,6 +1,6 @@
 -- Terms that are put behind one another.
 use Rattle.std.proofs.Common.{◌≡◌, ℕ, ◌<◌, ◌≤◌, List, [], ◌∷◌, ◌++◌, map, length, get_or, sym, subst, ap, ◌∙◌, arith}
-use Rattle.std.specs.Prelude.{All}
+use Rattle.std.specs.Prelude.{All, IsTrue}
 use Rattle.std.specs.List.{concat}
 use Rattle.std.specs.List.Sorted.{IsStrictlyIncreasing}
 use Rattle.std.proofs.lemmas.List.{map_push}
@@ -9,7 +9,10 @@ use Rattle.alta_codec.specs.Order.{Precedes}
 use Rattle.alta_codec.specs.Rising.{IsRising}
 use Rattle.alta_codec.specs.declared.location.TheConstants.{TOP}
 use Rattle.alta_compound.specs.Unions.{RisesAbove, rising_from_above, above_from_rising}
-use Rattle.alta_search.specs.Lists.{IsCut, AreKeys, key_of, term_in, term_lists}
+use Rattle.alta_search.specs.Lists.{TermKey, IsCut, AreKeys, key_of, term_in, term_lists}
+use Rattle.alta_query.specs.declared.test.Test.{Test}
+use Rattle.alta_search.specs.Met.{MeetTest}
+use Rattle.alta_search.specs.Newest.{term_meets}
 use Rattle.alta_search.specs.declared.lists.TermLists.{TermLists}
 use Rattle.alta_search.proofs.Cuts.{keys_none, keys_push}
 
@@ -51,3 +54,14 @@ put_rising xs ys bound x more pushed (r, h) le some top lt =
   where
     below_up : (a b y : ℕ) → y < a → a ≤ b → y < b
     below_up a b y p q = omega arith
+
+-- ---- terms that meet a test
+
+pub none_met : (test : Test) (terms : List TermLists) → terms ≡ [] → MeetTest test (map key_of terms)
+none_met test terms e = subst (λ ts. MeetTest test (map key_of ts)) (sym e) (All-nil (λ (key : TermKey). IsTrue (term_meets test (term_in key))))
+
+pub put_met : (test : Test) (old new : List TermLists) (t : TermLists) (term : List ℕ) → new ≡ old ++ t ∷ [] → MeetTest test (map key_of old) → (key_of t).term ≡ term
+    → IsTrue (term_meets test term) → MeetTest test (map key_of new)
+put_met test old new t term pushed met e is =
+    subst (MeetTest test) (sym (ap (map key_of) pushed ∙ map_push key_of old t))
+    (All-push (λ (key : TermKey). IsTrue (term_meets test (term_in key))) (map key_of old) (key_of t) met (subst (λ x. IsTrue (term_meets test x)) (sym e) is))

@@ -1,17 +1,21 @@
 // Open cursors over three documents, of which each is an answer.
 ghost use Rattle.std.specs.Prelude.{◌≡◌, ◌<◌, [], ◌∷◌, length, IfOk};
 ghost use Rattle.alta_codec.specs.Rising.{IsRising};
+ghost use Rattle.alta_compile.specs.PlanOf.{plan_of};
 ghost use Rattle.alta_compile.specs.Space.{document_end};
 ghost use Rattle.alta_compile.specs.View.{tree};
 ghost use Rattle.alta_content.specs.Rows.{ends_of};
 ghost use Rattle.alta_search.specs.Lists.{test_in, test_lists, test_keys, IsCut, AreKeys};
+ghost use Rattle.alta_search.specs.Met.{MeetsTest};
 ghost use Rattle.alta_search.specs.Plans.{tests_of};
+ghost use Rattle.alta_query.specs.Shape.{any, negated, none};
+ghost use Rattle.alta_query.specs.View.{shape};
 
 use alta_codec::{Bytes, Loc, Steps, Text};
-use alta_compile::Plan;
+use alta_compile::{Plan, compile};
 use alta_content::{DocRow, LevelRows};
 use alta_meta::kinds::DOCUMENT_END;
-use alta_query::Test;
+use alta_query::{Query, Test};
 use alta_rows::AllRows;
 use alta_search::{
     CURSORS, Cursor, Cursors, LevelList, Page, Snapshot, Stored, TermLists, TestLists,
@@ -30,12 +34,21 @@ fn ends() -> &'static [Loc]
     &[2, 4, 6]
 }
 
-/// The plan of all documents.
-fn plan(alloc: Global) -> Result<Plan, AllocError>
-    ensures { IfOk result (λ plan. tests_of (tree plan) ≡ document_end ∷ []) }
+/// The query that all documents match.
+fn query(alloc: Global) -> Result<Query, AllocError>
+    ensures { IfOk result (λ query. shape query ≡ negated (any none)) }
 {
-    let none = Plan::AnyOf(Vec::new(alloc));
-    Ok(Plan::Without(Box::new(alloc, none)?))
+    let none = Query::Or(Vec::new(alloc));
+    Ok(Query::Not(Box::new(alloc, none)?))
+}
+
+/// Its plan.
+fn plan(alloc: Global, query: &Query) -> Result<Plan, AllocError>
+    requires { shape query.now ≡ negated (any none) }
+    ensures plan { IfOk result (λ plan. tree plan ≡ plan_of (shape query.now)) }
+    ensures tests { IfOk result (λ plan. tests_of (tree plan) ≡ document_end ∷ []) }
+{
+    compile(alloc, query)
 }
 
 /// The test of document ends with its lists.
@@ -43,6 +56,7 @@ fn lists(alloc: Global) -> Result<TestLists, AllocError>
     ensures test { IfOk result (λ t. test_in t ≡ document_end) }
     ensures cut { IfOk result (λ t. IsCut (test_lists t)) }
     ensures keyed { IfOk result (λ t. AreKeys (test_keys t)) }
+    ensures met { IfOk result MeetsTest }
 {
     let test = Test::Is(Bytes::from_vec(Vec::from_slice(alloc, &[DOCUMENT_END])?));
     let term = Bytes::from_vec(Vec::from_slice(alloc, &[DOCUMENT_END])?);
@@ -90,7 +104,9 @@ fn cursor(alloc: Global) -> Result<Cursor, AllocError> {
     let mut uses = Vec::new(alloc);
     uses.push(0)?;
     let snapshot = Snapshot::new(tests, uses, rows(alloc)?, Vec::new(alloc));
-    Ok(Cursor::new(plan(alloc)?, snapshot))
+    let query = query(alloc)?;
+    let plan = plan(alloc, &query)?;
+    Cursor::new(alloc, plan, &query, snapshot)
 }
 
 /// The number of one more cursor, or 0 where no further one may be opened.

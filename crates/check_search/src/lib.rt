@@ -4,6 +4,8 @@
 #[cfg(test)]
 mod cursors;
 #[cfg(test)]
+mod figures;
+#[cfg(test)]
 mod tests;
 #[cfg(test)]
 mod worked;

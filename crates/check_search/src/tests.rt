@@ -1,9 +1,10 @@
 // What searches, counts and pages of the two documents answer, beside what their queries match.
 ghost use Rattle.std.specs.Prelude.{◌≡◌, ◌<◌};
 
+use crate::figures::{one_without_another, rare_and_common};
 use crate::worked::{deleted, many, snapshot};
 use alta_codec::{Steps, Text};
-use alta_compile::{Plan, compile};
+use alta_compile::compile;
 use alta_meta::{Cells, Document, cells};
 use alta_model::matches;
 use alta_query::{Query, parse};
@@ -54,13 +55,14 @@ fn tell(told: &mut String, page: &Page) -> Result<(), AllocError> {
 fn tell_pages<L: Ledger>(
     alloc: Global,
     told: &mut String,
-    plan: Plan,
+    query: &Query,
     gone: u8,
     size: u64,
     steps: &mut Steps<L>,
 ) -> Result<(), AllocError> {
+    let plan = compile(alloc, query)?;
     let snapshot = snapshot(alloc, &plan, deleted(gone))?;
-    let mut cursor = Cursor::new(plan, snapshot);
+    let mut cursor = Cursor::new(alloc, plan, query, snapshot)?;
     for _page in 0..3u8 {
         let page = cursor.fetch(alloc, size, steps)?;
         told.push_str("/")?;
@@ -72,15 +74,16 @@ fn tell_pages<L: Ledger>(
 /// What a search tells, and then one name fewer or more where the count is another.
 fn searched<L: Ledger>(
     alloc: Global,
-    plan: &Plan,
+    query: &Query,
     gone: u8,
     steps: &mut Steps<L>,
 ) -> Result<String, AllocError> {
     let mut told = String::new(alloc);
-    let snapshot = snapshot(alloc, plan, deleted(gone))?;
-    let page = search(alloc, plan, &snapshot, steps)?;
+    let plan = compile(alloc, query)?;
+    let snapshot = snapshot(alloc, &plan, deleted(gone))?;
+    let page = search(alloc, &plan, query, &snapshot, steps)?;
     tell(&mut told, &page)?;
-    if count(alloc, plan, &snapshot, steps)? != page.answers.len() as u64 {
+    if count(alloc, &plan, query, &snapshot, steps)? != page.answers.len() as u64 {
         told.push_str("?")?;
     }
     Ok(told)
@@ -93,9 +96,9 @@ fn told<L: Ledger>(
     gone: u8,
     steps: &mut Steps<L>,
 ) -> Result<String, AllocError> {
-    let mut told = searched(alloc, &compile(alloc, query)?, gone, steps)?;
-    tell_pages(alloc, &mut told, compile(alloc, query)?, gone, 1, steps)?;
-    tell_pages(alloc, &mut told, compile(alloc, query)?, gone, 2, steps)?;
+    let mut told = searched(alloc, query, gone, steps)?;
+    tell_pages(alloc, &mut told, query, gone, 1, steps)?;
+    tell_pages(alloc, &mut told, query, gone, 2, steps)?;
     Ok(told)
 }
 
@@ -156,12 +159,8 @@ fn asked(k: u8) -> (&'static str, u8, &'static str) {
     }
 }
 
-/// The first of a thousand answers, and whether more are left.
-fn first_of_many<L: Ledger>(
-    alloc: Global,
-    query: &Query,
-    blank: Blank,
-) -> Result<String, AllocError>
+/// How many answers a search for a rare word and a common one tells over the thousand and one documents.
+fn few_of_many<L: Ledger>(alloc: Global, query: &Query, blank: Blank) -> Result<u64, AllocError>
     requires name { blank.name ≡ L.name }
     requires parts { blank.parts ≡ L.parts }
     requires shared { 0 < L.parts }
@@ -169,22 +168,56 @@ fn first_of_many<L: Ledger>(
     let mut steps = Steps::<L>::new(blank);
     let plan = compile(alloc, query)?;
     let snapshot = many(alloc, &plan)?;
-    let mut told = String::new(alloc);
-    if count(alloc, &plan, &snapshot, &mut steps)? != 1000 {
-        told.push_str("?")?;
+    let page = rare_and_common(alloc, &plan, query, &snapshot, &mut steps)?;
+    Ok(page.answers.len() as u64)
+}
+
+/// How many of the two documents have a word and not another.
+fn few_without<L: Ledger>(alloc: Global, query: &Query, blank: Blank) -> Result<u64, AllocError>
+    requires name { blank.name ≡ L.name }
+    requires parts { blank.parts ≡ L.parts }
+    requires shared { 0 < L.parts }
+{
+    let mut steps = Steps::<L>::new(blank);
+    let plan = compile(alloc, query)?;
+    let snapshot = snapshot(alloc, &plan, deleted(0))?;
+    let page = one_without_another(alloc, &plan, query, &snapshot, &mut steps)?;
+    Ok(page.answers.len() as u64)
+}
+
+/// The same, where nobody counts: of a rare word and a common one, or of a word without another.
+fn uncounted_few(alloc: Global, query: &Query, without: bool) -> Result<u64, AllocError> {
+    if without {
+        few_without::<Brand>(alloc, query, Blank::new(1))
+    } else {
+        few_of_many::<Brand>(alloc, query, Blank::new(1))
     }
-    let page = Cursor::new(plan, snapshot).fetch(alloc, 1, &mut steps)?;
-    if page.answers.len() == 1 && page.answers.row(0).number == 1 {
-        told.push_str("1")?;
+}
+
+/// How many of the thousand and one documents the query finds, the number of the first of them, and whether more are left.
+fn first_of_many<L: Ledger>(
+    alloc: Global,
+    query: &Query,
+    blank: Blank,
+) -> Result<(u64, u64, bool), AllocError>
+    requires name { blank.name ≡ L.name }
+    requires parts { blank.parts ≡ L.parts }
+    requires shared { 0 < L.parts }
+{
+    let mut steps = Steps::<L>::new(blank);
+    let plan = compile(alloc, query)?;
+    let snapshot = many(alloc, &plan)?;
+    let found = count(alloc, &plan, query, &snapshot, &mut steps)?;
+    let mut cursor = Cursor::new(alloc, plan, query, snapshot)?;
+    let page = cursor.fetch(alloc, 1, &mut steps)?;
+    if page.answers.len() == 0 {
+        return Ok((found, 0, page.more));
     }
-    if page.more {
-        told.push_str("+")?;
-    }
-    Ok(told)
+    Ok((found, page.answers.row(0).number, page.more))
 }
 
 /// The same, where nobody counts.
-fn uncounted_first(alloc: Global, query: &Query) -> Result<String, AllocError> {
+fn uncounted_first(alloc: Global, query: &Query) -> Result<(u64, u64, bool), AllocError> {
     first_of_many::<Brand>(alloc, query, Blank::new(1))
 }
 
@@ -201,10 +234,57 @@ fn answers_are_the_matches(rt: HostRuntime) -> Result<(), Fail> {
         let told = uncounted(alloc, &query, gone)?;
         assert_eq!(rt; told.as_str(), telling(names), "{text}");
     }
-    let Ok(query) = parse(alloc, "x") else {
-        return Err(Fail::new("no query"));
-    };
-    let first = uncounted_first(alloc, &query)?;
-    assert_eq!(rt; first.as_str(), "1+");
+    Ok(())
+}
+
+/// A query over the thousand and one documents: how many it finds, the number of the first, and whether more are left behind it.
+fn asked_of_many(k: u8) -> (&'static str, u64, u64, bool) {
+    match k {
+        0 => ("common", 1001, 1, true),
+        1 => ("rare common", 1, 1001, false),
+        2 => ("common rare", 1, 1001, false),
+        3 => ("common NOT rare", 1000, 1, true),
+        4 => ("rare NOT common", 0, 0, false),
+        5 => ("common absent", 0, 0, false),
+        6 => ("common NOT absent", 1001, 1, true),
+        _ => ("rare NOT absent", 1, 1001, false),
+    }
+}
+
+#[test]
+fn rare_words_find_their_documents(rt: HostRuntime) -> Result<(), Fail> {
+    let alloc = rt.alloc();
+    for k in 0..8 {
+        let (text, found, first, more) = asked_of_many(k);
+        let Ok(query) = parse(alloc, text) else {
+            return Err(Fail::new("no query"));
+        };
+        let (count, number, left) = uncounted_first(alloc, &query)?;
+        assert_eq!(rt; count, found, "{text}");
+        assert_eq!(rt; number, first, "{text}");
+        assert_eq!(rt; left, more, "{text}");
+    }
+    Ok(())
+}
+
+/// A query that few steps answer with one document, and whether it is one of a word without another.
+fn asked_few(k: u8) -> (&'static str, bool) {
+    match k {
+        0 => ("rare common", false),
+        1 => ("common rare", false),
+        _ => ("quick NOT red", true),
+    }
+}
+
+#[test]
+fn few_steps_find_as_much(rt: HostRuntime) -> Result<(), Fail> {
+    let alloc = rt.alloc();
+    for k in 0..3 {
+        let (text, without) = asked_few(k);
+        let Ok(query) = parse(alloc, text) else {
+            return Err(Fail::new("no query"));
+        };
+        assert_eq!(rt; uncounted_few(alloc, &query, without)?, 1, "{text}");
+    }
     Ok(())
 }

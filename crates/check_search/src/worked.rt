@@ -8,6 +8,8 @@ ghost use Rattle.alta_codec.specs.Rising.{IsRising};
 ghost use Rattle.alta_compile.specs.View.{tree};
 ghost use Rattle.alta_content.specs.Rows.{end_of, ends_of};
 ghost use Rattle.alta_search.specs.Lists.{stored_list, term_lists, key_of, test_in, test_lists, test_keys, IsCut, AreKeys};
+ghost use Rattle.alta_search.specs.Met.{MeetTest, MeetsTest};
+ghost use Rattle.alta_search.specs.Newest.{term_meets};
 ghost use Rattle.alta_search.specs.Plans.{tests_of};
 
 use alta_codec::{Bytes, Loc, Text};
@@ -48,9 +50,11 @@ fn row(k: u8) -> Row
 }
 
 /// Whether the term meets the test.
-fn meets(test: &Test, term: &[u8]) -> bool {
+fn meets(test: &Test, term: &[u8]) -> bool
+    ensures { IsTrue result → IsTrue (term_meets test.now term.now) }
+{
     match test {
-        Test::Is(wanted) => wanted.as_slice() == term,
+        Test::Is(wanted) => term == wanted.as_slice(),
         Test::Begins(start) => term.starts_with(start.as_slice()),
     }
 }
@@ -143,6 +147,7 @@ fn follows(terms: &[TermLists], term: &[u8]) -> bool
 fn terms(alloc: Global, test: &Test) -> Result<Vec<TermLists>, AllocError>
     ensures cut { IfOk result (λ ts. IsCut (map term_lists ts.items)) }
     ensures keyed { IfOk result (λ ts. AreKeys (map key_of ts.items)) }
+    ensures met { IfOk result (λ ts. MeetTest test.now (map key_of ts.items)) }
 {
     let mut terms = Vec::new(alloc);
     for k in 0..13 {
@@ -151,32 +156,62 @@ fn terms(alloc: Global, test: &Test) -> Result<Vec<TermLists>, AllocError>
     Ok(terms)
 }
 
-/// The lists of a term of a thousand documents of four cells each, of which the body is `x`: it stands in each, this far
-/// behind the one before.
-fn thousand(alloc: Global, term: &[u8], offset: u64) -> Result<Vec<TermLists>, AllocError>
-    requires { (0 < offset) × (offset < 5) }
-    ensures cut { IfOk result (λ ts. IsCut (map term_lists ts.items)) }
-    ensures keyed { IfOk result (λ ts. AreKeys (map key_of ts.items)) }
+/// The terms of a thousand and one documents of five cells each, of which the body is `common`, and that of the last
+/// `rare common`: how far behind the one before each stands, and in how many of the documents, from the last one back.
+fn many_row(k: u8) -> (&'static [u8], u64, u64)
+    ensures offset { (0 < result.1) × (result.1 < 6) }
+    ensures some { (0 < result.2) × (result.2 ≤ 1001) }
 {
-    let mut locs = Vec::new(alloc);
-    for k in 0..1000u64 {
-        locs.push(4 * k + offset)?;
+    match k {
+        0 => (b"D", 5, 1001),
+        1 => (b"Wcommon", 4, 1001),
+        _ => (b"Wrare", 3, 1),
     }
-    let mut terms = Vec::new(alloc);
-    terms.push(one(alloc, term, 0, Stored::Plain(locs))?)?;
-    Ok(terms)
 }
 
-/// Of a thousand documents the lists of the term of document ends where it meets the test, or else those of `x`.
+/// The list of a term that stands in the last of the thousand and one documents, so many of them, this far behind the one
+/// before.
+fn many_list(alloc: Global, offset: u64, count: u64) -> Result<Stored, AllocError>
+    requires offset { (0 < offset) × (offset < 6) }
+    requires some { (0 < count) × (count ≤ 1001) }
+    ensures rising { IfOk result (λ l. IsRising (stored_list l)) }
+    ensures some { IfOk result (λ l. 0 < length (stored_list l)) }
+{
+    let mut locs = Vec::new(alloc);
+    for k in 0..count {
+        locs.push(5 * (1001 - count + k) + offset)?;
+    }
+    Ok(Stored::Plain(locs))
+}
+
+/// Of the thousand and one documents the lists of the terms that meet a test.
 fn many_terms(alloc: Global, test: &Test) -> Result<Vec<TermLists>, AllocError>
     ensures cut { IfOk result (λ ts. IsCut (map term_lists ts.items)) }
     ensures keyed { IfOk result (λ ts. AreKeys (map key_of ts.items)) }
+    ensures met { IfOk result (λ ts. MeetTest test.now (map key_of ts.items)) }
 {
-    if meets(test, b"D") {
-        thousand(alloc, b"D", 4)
-    } else {
-        thousand(alloc, b"Wx", 3)
+    let mut terms = Vec::new(alloc);
+    for k in 0..3 {
+        put_many(alloc, &mut terms, test, k)?;
     }
+    Ok(terms)
+}
+
+/// Adds the list of a term of the thousand and one documents, if it meets the test and comes behind those that are there.
+fn put_many(alloc: Global, terms: &mut Vec<TermLists>, test: &Test, k: u8) -> Result<(), AllocError>
+    requires cut { IsCut (map term_lists terms.old.items) }
+    requires keyed { AreKeys (map key_of terms.old.items) }
+    requires met { MeetTest test.now (map key_of terms.old.items) }
+    ensures cut { OnOk result (IsCut (map term_lists terms.new.items)) }
+    ensures keyed { OnOk result (AreKeys (map key_of terms.new.items)) }
+    ensures met { OnOk result (MeetTest test.now (map key_of terms.new.items)) }
+{
+    let (name, offset, count) = many_row(k);
+    if meets(test, name) && follows(terms, name) {
+        let stored = many_list(alloc, offset, count)?;
+        terms.push(one(alloc, name, 0, stored)?)?;
+    }
+    Ok(())
 }
 
 /// A test with its lists.
@@ -184,6 +219,7 @@ fn lists(alloc: Global, test: Test, many: bool) -> Result<TestLists, AllocError>
     ensures test { IfOk result (λ t. test_in t ≡ test) }
     ensures cut { IfOk result (λ t. IsCut (test_lists t)) }
     ensures keyed { IfOk result (λ t. AreKeys (test_keys t)) }
+    ensures met { IfOk result MeetsTest }
 {
     let terms = if many {
         many_terms(alloc, &test)?
@@ -197,8 +233,10 @@ fn lists(alloc: Global, test: Test, many: bool) -> Result<TestLists, AllocError>
 fn put_term(alloc: Global, terms: &mut Vec<TermLists>, test: &Test, k: u8) -> Result<(), AllocError>
     requires cut { IsCut (map term_lists terms.old.items) }
     requires keyed { AreKeys (map key_of terms.old.items) }
+    requires met { MeetTest test.now (map key_of terms.old.items) }
     ensures cut { OnOk result (IsCut (map term_lists terms.new.items)) }
     ensures keyed { OnOk result (AreKeys (map key_of terms.new.items)) }
+    ensures met { OnOk result (MeetTest test.now (map key_of terms.new.items)) }
 {
     let (name, old, new) = row(k);
     if meets(test, name) && follows(terms, name) {
@@ -242,6 +280,7 @@ fn tested(alloc: Global, order: Vec<Test>, many: bool) -> Result<Vec<TestLists>,
     ensures tests { IfOk result (λ ts. map test_in ts.items ≡ order.items) }
     ensures cut { IfOk result (λ ts. All IsCut (map test_lists ts.items)) }
     ensures keyed { IfOk result (λ ts. All AreKeys (map test_keys ts.items)) }
+    ensures met { IfOk result (λ ts. All MeetsTest ts.items) }
 {
     let mut tests = Vec::new(alloc);
     for test in order {
@@ -283,20 +322,20 @@ fn documents(alloc: Global) -> Result<AllRows, AllocError>
     AllRows::new(alloc, levels)
 }
 
-/// The rows of a thousand documents, in one level.
+/// The rows of the thousand and one documents, in one level.
 fn many_documents(alloc: Global) -> Result<AllRows, AllocError>
     ensures { IfOk result (λ rows. IsRising (ends_of rows)) }
 {
     let mut rows = Vec::new(alloc);
-    for k in 0..1000u64 {
-        rows.push(document(alloc, k + 1, 4 * k + 1, 4, "x")?)?;
+    for k in 0..1001u64 {
+        rows.push(document(alloc, k + 1, 5 * k + 1, 5, "x")?)?;
     }
     let mut levels = Vec::new(alloc);
     levels.push(level_of(alloc, rows)?)?;
     AllRows::new(alloc, levels)
 }
 
-/// The snapshot of a thousand documents for a plan.
+/// The snapshot of the thousand and one documents for a plan.
 pub(crate) fn many(alloc: Global, plan: &Plan) -> Result<Snapshot, AllocError>
     ensures { IfOk result (λ s. s.tests ≡ tests_of (tree plan.now)) }
 {

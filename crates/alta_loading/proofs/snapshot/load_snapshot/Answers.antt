@@ -9,7 +9,7 @@ use Rattle.alta_images.specs.Ordered.{RowsPrecede}
 use Rattle.alta_loading.specs.Loads.{IsWhole, Tells, load_sizes}
 use Rattle.alta_loading.specs.Met.{keys_met, loads_of_tests, lists_met}
 use Rattle.alta_loading.specs.Snapshots.{all_rows, loaded_view}
-use Rattle.alta_loading.proofs.Cuts.{all_keyed}
+use Rattle.alta_loading.proofs.Cuts.{all_keyed, all_meet}
 use Rattle.alta_loading.proofs.Loaded.{once_loaded, tests_whole, view_is}
 use Rattle.alta_loading.proofs.Runs.{tells_fault, tells_value}
 use Rattle.alta_model.specs.Deciding.{answers}
@@ -25,6 +25,11 @@ use Rattle.alta_loading.proofs.snapshot.load_snapshot.Goals as goal
 
 pub new-requires-clause-keyed : goal.new-requires-clause-keyed
 new-requires-clause-keyed g c = subst (All AreKeys) (sym c.in-Ok.ensures.keys) (all_keyed c.args.levels.now c.args.newest.now.content c.into_vec.result.items)
+
+pub new-requires-clause-met : goal.new-requires-clause-met
+new-requires-clause-met g c =
+    all_meet c.args.levels.now c.args.newest.now.content c.in-Ok.tests.items
+    (c.in-Ok.ensures.keys ∙ ap (map (keys_met c.args.levels.now c.args.newest.now.content)) (sym c.in-Ok.ensures.tests))
 
 pub returns-in_ok-gone-in-Ok-clause-view : goal.returns-in_ok-gone-in-Ok-clause-view
 returns-in_ok-gone-in-Ok-clause-view g c = λ told.

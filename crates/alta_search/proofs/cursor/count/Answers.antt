@@ -1,20 +1,30 @@
-use Rattle.std.proofs.Common.{map, refl, sym, ap, ◌∙◌, arith}
+use Rattle.std.proofs.Common.{refl, subst, ap, ◌∙◌, arith}
 use Rattle.alta_compile.specs.View.{tree}
-use Rattle.alta_docread.specs.View.{tree_of}
 use Rattle.alta_search.specs.Answers.{count_live}
-use Rattle.alta_search.specs.Lists.{lists_at}
-use Rattle.alta_search.specs.Words.{reader_list, reader_all, reader_place, reader_left}
-use Rattle.alta_search.proofs.Paging.{count_is}
+use Rattle.alta_compile.specs.Conjoined.{conjunction_of}
+use Rattle.alta_query.specs.View.{shape}
+use Rattle.alta_search.specs.Leads.{AreByRarest}
+use Rattle.alta_search.proofs.Paging.{count_is, rarest_onward, rarest_failed}
 use Rattle.alta_search.proofs.cursor.count.Goals as goal
 
 pub returns-clause-count : goal.returns-clause-count
 returns-clause-count g c = λ space shows.
-    let read = tree_of reader_list reader_all reader_place reader_left in
     let s = c.args.snapshot.now in
-    let u = c.start-reader.result in let v = c.tally.new.reader in
+    let u = c.in_ok-reader.reader in let v = c.tally.new.reader in
     c.tally.ensures.count
     ∙ ap (λ gone. count_live u.list gone u.place) c.gone.ensures.value
-    ∙ count_is (tree c.args.plan.now) s (map (lists_at c.uses.result.0.now) c.uses.result.1.now) (map (lists_at c.uses.result.0.now) c.in_ok-node._rest.now)
-    (read c.in_ok-node.node) u v 0
-    c.args.steps.now c.node.new.steps c.start-reader.new.steps c.tally.new.steps c.in_ok-node.ensures.planted c.start-reader.ensures c.tally.ensures.onward (omega arith)
-    (sym c.uses.ensures.cuts) c.requires space shows refl
+    ∙ count_is (tree c.args.plan.now) s u v 0
+    c.args.steps.now c.begin.new.steps c.tally.new.steps c.in_ok-reader.ensures.begun c.tally.ensures.onward (omega arith)
+    space shows refl
+
+pub returns-clause-rarest : goal.returns-clause-rarest
+returns-clause-rarest g c =
+    subst (λ o. AreByRarest o c.args.snapshot.now c.args.steps.now c.tally.new.steps) c.in_ok-found.ensures.found
+    (rarest_onward c.in_ok-found.found c.args.snapshot.now c.in_ok-reader.reader c.tally.new.reader c.args.steps.now c.begin.new.steps c.tally.new.steps
+    c.in_ok-reader.ensures.moves c.tally.ensures.onward)
+
+pub returns-in_err-reader-clause-rarest : goal.returns-in_err-reader-clause-rarest
+returns-in_err-reader-clause-rarest g c = subst (λ o. AreByRarest o c.args.snapshot.now c.args.steps.now c.begin.new.steps) c.in_ok-found.ensures.found c.begin.ensures.rarest
+
+pub returns-in_err-found-clause-rarest : goal.returns-in_err-found-clause-rarest
+returns-in_err-found-clause-rarest g c = rarest_failed (conjunction_of (shape c.args.query.now)) c.args.snapshot.now c.args.steps.now c.args.steps.now (omega arith)

@@ -10,5 +10,5 @@ pub ends-preserved : goal.ends-preserved
 ends-preserved g c =
     let e = c.next.ensures in
     passing_step c.args.reader.now c.ends.reader c.next.new.self c.args.to c.ends.passed c.args.steps.now c.ends.steps c.next.new.steps c.ends.invariant
-    (record { stands = e.sound; list = e.list; all = e.all; one = e.one_found; steps = e.steps }) c.requires.top
+    e.onward c.requires.top
     (subst (λ n. n < c.args.to) c.loc.ensures.location c.ends-test.true) e.location

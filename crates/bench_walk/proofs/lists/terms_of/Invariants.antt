@@ -1,6 +1,11 @@
 use Rattle.std.proofs.Common.{map}
 use Rattle.alta_search.specs.Lists.{term_lists, key_of, IsCut, AreKeys}
+use Rattle.alta_search.specs.Met.{MeetTest}
 use Rattle.bench_walk.proofs.lists.terms_of.Given as goal
 
 abbrev pub invariant-loop-files : goal.invariant-loop-files
-invariant-loop-files l = IsCut (map term_lists l.terms.items) × AreKeys (map key_of l.terms.items)
+invariant-loop-files l = record {
+  cut : IsCut (map term_lists l.terms.items);
+  keyed : AreKeys (map key_of l.terms.items);
+  met : MeetTest l.test (map key_of l.terms.items);
+}

@@ -4,6 +4,7 @@ use Rattle.std.proofs.lemmas.List.{map_push}
 use Rattle.std.proofs.lemmas.List.Elements.{All-push}
 use Rattle.alta_query.specs.declared.test.Test.{Test}
 use Rattle.alta_search.specs.Lists.{test_in, test_lists, test_keys, IsCut, AreKeys}
+use Rattle.alta_search.specs.Met.{MeetsTest}
 use Rattle.alta_search.specs.declared.lists.TestLists.{TestLists}
 use Rattle.bench_walk.proofs.lists.tested.Goals as goal
 
@@ -19,4 +20,5 @@ loop-test-preserved c =
           (All-push IsCut (map test_lists c.loop-test.tests.items) (test_lists t) inv.cut c.in_ok-lists.ensures.cut);
       keyed = subst (All AreKeys) (sym (ap (map test_keys) pushed ∙ map_push test_keys c.loop-test.tests.items t))
           (All-push AreKeys (map test_keys c.loop-test.tests.items) (test_keys t) inv.keyed c.in_ok-lists.ensures.keyed);
+      met = subst (All MeetsTest) (sym pushed) (All-push MeetsTest c.loop-test.tests.items t inv.met c.in_ok-lists.ensures.met);
     }

@@ -1,4 +1,5 @@
-use Rattle.std.proofs.Common.{◌≡◌, ℕ, List, [], ◌∷◌, ◌++◌, map, sym, subst, ap, ◌∙◌, rules}
+use Rattle.std.proofs.Common.{◌≡◌, ℕ, List, [], ◌∷◌, ◌++◌, map, refl, sym, subst, ap, ◌∙◌, rules}
+use Rattle.std.specs.Prelude.{IsTrue}
 use Rattle.std.specs.List.Sorted.{IsStrictlyIncreasing}
 use Rattle.std.proofs.lemmas.List.Elements.{All-nil}
 use Rattle.alta_codec.specs.Order.{Precedes}
@@ -6,6 +7,12 @@ use Rattle.alta_search.specs.Lists.{AreKeys, key_of, level_in}
 use Rattle.alta_search.specs.declared.lists.LevelList.{LevelList}
 use Rattle.alta_search.specs.declared.lists.TermLists.{TermLists}
 use Rattle.alta_search.proofs.Cuts.{keys_none, keys_push}
+use Rattle.alta_meta.specs.declared.kinds.TheConstants.{DOCUMENT_END}
+use Rattle.alta_query.specs.declared.test.Test.{Test}
+use Rattle.alta_query.specs.declared.test.Test.TheVariants.{Is}
+use Rattle.alta_search.specs.Met.{MeetTest}
+use Rattle.alta_search.specs.Newest.{term_meets}
+use Rattle.check_search.proofs.Keys.{none_met, put_met}
 use Rattle.check_search.proofs.cursors.lists.Goals as goal
 
 one : (n : ℕ) → IsStrictlyIncreasing (n ∷ [])
@@ -24,3 +31,14 @@ pub returns-clause-keyed : goal.returns-clause-keyed
 returns-clause-keyed c =
     one_term c.push-2.new.self.items c.new-terms.result.items (record { term = c.from_vec-term.result; levels = c.push.new.self }) c.in_ok-push-2.ensures.items c.new-terms.ensures.items
     (one_level c.push.new.self.items c.new-levels.result.items _ c.in_ok-push.ensures.items c.new-levels.ensures.items)
+
+met_term : (test : Test) (terms none : List TermLists) (t : TermLists) → terms ≡ none ++ t ∷ [] → none ≡ [] → test ≡ Is (DOCUMENT_END ∷ []) → t.term ≡ DOCUMENT_END ∷ [] → MeetTest test (map key_of terms)
+met_term test terms none t pushed empty is named =
+    put_met test none terms t (DOCUMENT_END ∷ []) pushed (none_met test none empty) named (subst (λ x. IsTrue (term_meets x (DOCUMENT_END ∷ []))) (sym is) refl)
+
+pub returns-clause-met : goal.returns-clause-met
+returns-clause-met c =
+    let first : c.from_vec-test.result ≡ DOCUMENT_END ∷ [] = search rules in
+    let second : c.from_vec-term.result ≡ DOCUMENT_END ∷ [] = search rules in
+    met_term (Is c.from_vec-test.result) c.push-2.new.self.items c.new-terms.result.items (record { term = c.from_vec-term.result; levels = c.push.new.self })
+    c.in_ok-push-2.ensures.items c.new-terms.ensures.items (ap Is first) second

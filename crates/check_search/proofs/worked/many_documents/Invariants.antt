@@ -4,4 +4,4 @@ use Rattle.check_search.proofs.Keys.{RisesBelow}
 use Rattle.check_search.proofs.worked.many_documents.Given as goal
 
 abbrev pub invariant-loop-k : goal.invariant-loop-k
-invariant-loop-k l = RisesBelow (4 * l.k + 1) (map end_of l.rows.items)
+invariant-loop-k l = RisesBelow (5 * l.k + 1) (map end_of l.rows.items)

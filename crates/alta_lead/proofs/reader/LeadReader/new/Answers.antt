@@ -27,3 +27,12 @@ returns-clause-moves g c =
     let R = g.R.Reader in let a = c.args in
     made_moves R.sound R.list R.all R.location R.left R.cost a.lead (record { ends = a.ends.inner; words = a.words.items; negated = a.negated.items }) (chains_of c.bring.new.self) 1 c.bring.new.self.at
     a.steps.now c.bring.new.steps c.bring.ensures.gone
+
+pub returns-clause-same_ends : goal.returns-clause-same_ends
+returns-clause-same_ends g c = c.bring.ensures.gone.moved.ends.same_list
+
+pub returns-clause-same_words : goal.returns-clause-same_words
+returns-clause-same_words g c = c.bring.ensures.gone.moved.words.lists
+
+pub returns-clause-same_negated : goal.returns-clause-same_negated
+returns-clause-same_negated g c = c.bring.ensures.gone.moved.negated.lists
