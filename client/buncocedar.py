@@ -12,6 +12,7 @@ and its standard library.
 """
 
 import fcntl
+import operator
 import os
 import re
 import select
@@ -282,17 +283,31 @@ class Closed(Error):
 
 def name_ok(name):
     """Whether the text is a name: 1 to 64 graphic ASCII characters."""
-    return _NAME.fullmatch(name) is not None
+    return _NAME.fullmatch(_text(name, "a name")) is not None
 
 
-def one_line(text):
+def one_line(text, what="a text"):
     """The text as it stands in a line: tabs, newlines and carriage returns are spaces, and lone surrogates U+FFFD."""
-    text = text.translate({9: " ", 10: " ", 13: " "})
+    text = _text(text, what).translate({9: " ", 10: " ", 13: " "})
     try:
         text.encode()
     except UnicodeEncodeError:
         text = text.encode("utf-16", "surrogatepass").decode("utf-16", "replace")
     return text
+
+
+def _text(text, what):
+    if not isinstance(text, str):
+        raise TypeError(f"{what} must be a str, not {type(text).__name__}")
+    return text
+
+
+def _whole(number, what):
+    """The whole number, in digits. A text of digits is none: what stands behind them would stand in the line too."""
+    try:
+        return str(int(operator.index(number)))
+    except TypeError:
+        raise TypeError(f"{what} must be an int, not {type(number).__name__}") from None
 
 
 def fitted(text, room):
@@ -313,7 +328,7 @@ def add_line(name, title, body, cut=False):
     """
     if not name_ok(name):
         raise BadName("! bad name", ascii(name[:80]))
-    title, body = one_line(title), one_line(body)
+    title, body = one_line(title, "a title"), one_line(body, "a body")
     line = f"add {name}\t{title}\t{body}".encode()
     whole = len(line)
     if whole > LINE_LIMIT:
@@ -521,6 +536,7 @@ class Index:
     def send_add(self, name, title, body, cut=False):
         """Sends what `add` sends, and answers its `Reply` at once, or when one of those under way has come."""
         line, dropped = add_line(name, title, body, cut)
+        line = line[:-1]
 
         def made(last):
             number = Added(last[1])
@@ -533,7 +549,7 @@ class Index:
         """Sends what `delete` sends, and answers its `Reply` at once, or when one of those under way has come."""
         if not name_ok(name):
             raise BadName("! bad name", ascii(name[:80]))
-        return self._send(f"delete {name}\n".encode(), f"delete {name}", _DELETED, _first_number)
+        return self._send(f"delete {name}".encode(), f"delete {name}", _DELETED, _first_number)
 
     def add_all(self, documents, cut=False):
         """Adds documents, each a (name, title, body), with many under way, and gives for each in order (name, outcome).
@@ -581,7 +597,7 @@ class Index:
     def explain(self, query):
         """The query's canonical spelling and, in the lines behind it, its plan. Raises `QueryFault`."""
         # The reply's end shows only by the next reply's begin.
-        reply = self._ask("explain", query, _STATS, _nothing, _ANYTHING, more="stats\n", after_refusal=True)
+        reply = self._ask("explain", query, _STATS, _nothing, _ANYTHING, behind=b"stats\n", after_refusal=True)
         reply.result()
         return "\n".join(reply.rows)
 
@@ -605,7 +621,7 @@ class Index:
 
     def step(self, terms):
         """Moves the joining of the two oldest levels on by so many terms, 1 to 1,000,000."""
-        self._say(f"step {terms}", _OK, _nothing)
+        self._say(f"step {_whole(terms, 'terms')}", _OK, _nothing)
 
     # -- The end.
 
@@ -633,20 +649,22 @@ class Index:
 
     # -- Lines and replies.
 
-    def _ask(self, word, query, last, made, row=None, more="", after_refusal=False):
-        query = one_line(query)
-        line = f"{word} {query}\n{more}".encode()
-        length = len(line) - len(more) - 1
-        if length > LINE_LIMIT:
-            raise _too_long(length, word)
-        return self._send(line, word, last, made, row, query, after_refusal)
+    def _ask(self, word, query, last, made, row=None, behind=b"", after_refusal=False):
+        query = one_line(query, "a query")
+        line = f"{word} {query}".encode()
+        if len(line) > LINE_LIMIT:
+            raise _too_long(len(line), word)
+        return self._send(line, word, last, made, row, query, behind, after_refusal)
 
     def _say(self, line, last, made):
-        return self._send(f"{line}\n".encode(), line, last, made).result()
+        return self._send(line.encode(), line, last, made).result()
 
-    def _send(self, line, command, last, made, row=None, query=None, after_refusal=False):
+    def _send(self, line, command, last, made, row=None, query=None, behind=b"", after_refusal=False):
+        """Sends a line, and a line of this client `behind` it, where the reply's end shows only by that one's."""
+        if b"\n" in line:
+            raise BadLine("! bad line", f"a newline in the line of {ascii(command[:80])}")
         self._check()
-        reply = Reply(self, line, command, last, made, row, query, after_refusal)
+        reply = Reply(self, line + b"\n" + behind, command, last, made, row, query, after_refusal)
         while self.under_way() >= LINES_UNDER_WAY or len(self._out) > BYTES_WAITING:
             self._turn()
             self._check()
@@ -767,8 +785,8 @@ class Cursor:
 
     def page(self, count):
         """The next `Page`, of at most so many rows, 1 to 1,000,000. Raises `NoSuchCursor` where it was closed."""
-        line = f"fetch {self.number} {count}"
-        reply = self._index._send(f"{line}\n".encode(), line, _PAGE_END, lambda last: last[0] == "more", _ROW)
+        line = f"fetch {self.number} {_whole(count, 'count')}"
+        reply = self._index._send(line.encode(), line, _PAGE_END, lambda last: last[0] == "more", _ROW)
         more = reply.result()
         return Page(list(reply.rows), more)
 

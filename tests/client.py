@@ -82,6 +82,18 @@ class Texts(unittest.TestCase):
         self.assertEqual(raised.exception.length, 65_536)
         self.assertIn("65,536 bytes", str(raised.exception))
 
+    def test_other_types(self):
+        for call, message in [
+            (lambda: buncocedar.add_line(1, "", ""), "a name must be a str, not int"),
+            (lambda: buncocedar.add_line("a", None, ""), "a title must be a str, not NoneType"),
+            (lambda: buncocedar.add_line("a", "", b"x"), "a body must be a str, not bytes"),
+            (lambda: buncocedar.one_line(["x"]), "a text must be a str, not list"),
+            (lambda: buncocedar.name_ok(b"a"), "a name must be a str, not bytes"),
+        ]:
+            with self.assertRaises(TypeError) as raised:
+                call()
+            self.assertEqual(str(raised.exception), message)
+
     def test_cut(self):
         words = "word " * 20_000
         line, dropped = buncocedar.add_line("a", "title", words, cut=True)
@@ -156,6 +168,27 @@ class Calls(Case):
             with self.assertRaises(buncocedar.TooManyCursors):
                 index.cursor("x")
             self.assertEqual(opened[0].number, 1)
+
+    def test_other_types(self):
+        with self.fake() as index:
+            index.add("a", "", "x")
+            cursor = index.cursor("x")
+            for call, message in [
+                (lambda: index.search(None), "a query must be a str, not NoneType"),
+                (lambda: index.count(b"x"), "a query must be a str, not bytes"),
+                (lambda: index.explain(1), "a query must be a str, not int"),
+                (lambda: index.cursor(["x"]), "a query must be a str, not list"),
+                (lambda: index.add("b", "", b"x"), "a body must be a str, not bytes"),
+                (lambda: index.delete(1), "a name must be a str, not int"),
+                (lambda: index.step("1"), "terms must be an int, not str"),
+                (lambda: index.step(1.0), "terms must be an int, not float"),
+                (lambda: cursor.page("1"), "count must be an int, not str"),
+                (lambda: cursor.page(None), "count must be an int, not NoneType"),
+            ]:
+                with self.assertRaises(TypeError) as raised:
+                    call()
+                self.assertEqual(str(raised.exception), message)
+            self.assertEqual(index.stats().documents, 1)
 
     def test_a_search_that_is_left(self):
         with self.fake() as index:
@@ -492,6 +525,44 @@ class RealProgram(Case):
         self.assertEqual(raised.exception.place, 8193)
         with self.assertRaises(buncocedar.DiskFault):
             Index(self.folder.name, program=PROGRAM)
+
+    def test_no_text_is_a_command(self):
+        # Whatever a caller hands on, from a form as it may be, stays an argument of its call.
+        with self.index() as index:
+            index.add("victim", "", "x")
+            cursor = index.cursor("x")
+            texts = ["1\ndelete victim", "1\r\ndelete victim", "1\tdelete victim", "\ndelete victim\n", "delete victim", "1"]
+            for text in texts:
+                for call in (cursor.page, index.step, lambda text: list(cursor.pages(text))):
+                    with self.assertRaises(TypeError):
+                        call(text)
+                for call in (index.search, index.count, index.explain, index.cursor):
+                    with contextlib.suppress(buncocedar.Refused):
+                        call(text)
+                with contextlib.suppress(buncocedar.Refused):
+                    index.add(text, "", "")
+                index.add(f"new{texts.index(text)}", text, text)
+                with self.assertRaises(buncocedar.Refused):
+                    index.delete(text + "\n")
+                stray = buncocedar.Cursor(index, text)
+                for call in (lambda: stray.page(1), stray.close):
+                    with contextlib.suppress(buncocedar.Refused):
+                        call()
+                self.assertEqual(index.count("name:victim"), 1)
+                self.assertEqual(cursor.number, 1)
+            self.assertEqual(index.stats().documents, 8)
+        with self.index() as index:
+            self.assertEqual(index.count("name:victim"), 1)
+
+    def test_numbers_that_are_none(self):
+        with self.index() as index:
+            index.add("a", "", "x")
+            cursor = index.cursor("x")
+            for number in (0, -1, 1_000_001, 10**30):
+                for call in (cursor.page, index.step):
+                    with self.assertRaises(buncocedar.BadLine):
+                        call(number)
+            self.assertEqual(cursor.page(True), ([(1, "a")], False))
 
     def test_many_levels(self):
         # An index has sixteen levels at most, and each flush makes one or joins two.
