@@ -11,6 +11,7 @@ program has; `send_add`, `send_delete` and `add_all` keep many lines under way a
 and its standard library.
 """
 
+import copy
 import fcntl
 import operator
 import os
@@ -20,8 +21,11 @@ import signal
 import subprocess
 import sys
 import tempfile
+import threading
 import time
 import unicodedata
+import warnings
+import weakref
 from collections import deque
 from typing import NamedTuple
 
@@ -29,6 +33,8 @@ LINE_LIMIT = 65_535  # bytes of a command line
 TITLE_ROOM = 4_096  # bytes that a title keeps where its line is cut
 LINES_UNDER_WAY = 64  # lines without a reply, at most
 BYTES_WAITING = 262_144  # bytes of lines that wait to be written, before one more is sent
+REFUSALS_KEPT = 1_000  # refused replies that nobody has taken yet, before the oldest is warned of
+SECONDS_TO_END = 5  # that a program has to end, once it can read no more lines
 
 _NAME = re.compile(r"[!-~]{1,64}")
 _NUMBER = r"(0|[1-9][0-9]*)"
@@ -46,6 +52,16 @@ _ANYTHING = re.compile(".*", re.DOTALL)
 
 class Error(Exception):
     """What may go wrong between a caller, this client and the program."""
+
+    def __reduce__(self):
+        """So that it can be copied and pickled, whatever its kind is made of."""
+        return _made_again, (type(self), self.args, self.__dict__)
+
+
+def _made_again(kind, words, fields):
+    error = kind.__new__(kind, *words)
+    error.__dict__.update(fields)
+    return error
 
 
 # --- Refusals: the line changed nothing, and the index goes on.
@@ -406,7 +422,7 @@ class Reply:
         self.rows = deque()
         self.answered = False  # the program has given the whole reply, be it a refusal
         self.settled = False  # it is answered, or never will be
-        self.error = None  # the refusal, or what came in place of a reply
+        self._error = None
         self._index = index
         self._line = line
         self._last = last
@@ -417,6 +433,12 @@ class Reply:
         self._begun = False
         self._value = None
 
+    @property
+    def error(self):
+        """The refusal, or what came in place of a reply. Whoever looks at it has been told."""
+        self._index._untaken.pop(self, None)
+        return self._error
+
     def result(self):
         """Waits for the reply and gives its value, or raises its refusal, or the end of the program that came before it."""
         while not self.settled:
@@ -424,7 +446,7 @@ class Reply:
         if not self.answered:
             self._index._told = True
         if self.error is not None:
-            raise self.error
+            raise copy.copy(self.error)
         return self._value
 
     def begin(self):
@@ -449,15 +471,15 @@ class Reply:
         first = not self._begun
         self._begun = True
         if first and line.startswith("! "):
-            self.error = _refusal(line, self.command, self._query)
-            if isinstance(self.error, ProtocolFault):
-                raise self.error
+            self._error = _refusal(line, self.command, self._query)
+            if isinstance(self._error, ProtocolFault):
+                raise self._error
             return not self._after_refusal
         last = self._last.fullmatch(line)
         if last:
-            self._value = None if self.error else self._made(last)
+            self._value = None if self._error else self._made(last)
             return True
-        row = self._row.fullmatch(line) if self._row and not self.error else None
+        row = self._row.fullmatch(line) if self._row and not self._error else None
         if not row:
             raise ProtocolFault(self.command, line)
         self.rows.append((int(row[1]), row[2]) if self._row is _ROW else line)
@@ -466,8 +488,10 @@ class Reply:
     def _settle(self, error=None):
         """Marks it as answered, or as one that never will be for this reason."""
         self.answered = error is None
-        self.error = self.error or error
+        self._error = self._error or error
         self.settled = True
+        if self.answered and self._error is not None:
+            self._index._keep_refusal(self)
 
 
 # --- The index.
@@ -480,7 +504,8 @@ class Index:
     variable BUNCOCEDAR_PROGRAM says, or else `alta` beside the folder of this client. The file is locked for the life of the
     program; where another client has it, `patience` says how many seconds to wait before `InUse`.
 
-    Not to be called by two threads at once. Raises `Ended` where the index does not open.
+    One thread at a time: a call while another one waits for the program raises `RuntimeError`. Raises `Ended` where the
+    index does not open. An index that is dropped without `close` lets its program end, and so does the end of Python.
     """
 
     def __init__(self, path, create=False, program=None, patience=10.0):
@@ -492,6 +517,8 @@ class Index:
         self._in = bytearray()
         self._end = None
         self._told = False
+        self._untaken = {}  # refused replies that nobody has taken, the oldest first
+        self._alone = threading.Lock()
         if create and not _holds_bytes(self.path):
             _make(self._program, self.path)
         if not os.path.exists(self.path):
@@ -504,6 +531,7 @@ class Index:
         self._said = _Said(self._process.stderr.fileno())
         for pipe in (self._process.stdin, self._process.stdout, self._process.stderr):
             os.set_blocking(pipe.fileno(), False)
+        self._let_go = weakref.finalize(self, _let_go, self._process, self.path, os.getpid())
         try:
             self.stats()
         except BaseException:
@@ -514,10 +542,17 @@ class Index:
         return self
 
     def __exit__(self, kind, value, trace):
+        """Ends the program: at once where the block was broken off, and else when what was sent is answered."""
         if kind is None:
             self.close()
-        else:
+        elif issubclass(kind, (KeyboardInterrupt, SystemExit)):
             self.kill()
+        else:
+            # What broke the block goes on; a refusal or an end beside it is no more than told.
+            try:
+                self.close()
+            except Error as error:
+                warnings.warn(f"{self.path}: {error}", RuntimeWarning, stacklevel=2)
 
     # -- Documents.
 
@@ -555,7 +590,8 @@ class Index:
         """Adds documents, each a (name, title, body), with many under way, and gives for each in order (name, outcome).
 
         The outcome is the `Added` number or the `Refused`. Where the program ends, its `Ended` is raised behind the outcome
-        of the last document that was answered, and no further document is taken.
+        of the last document that was answered, and no further document is taken. Nothing is sent before the first outcome is
+        asked for: `add_many` is for who wants none of them.
         """
         sent = deque()
         for name, title, body in documents:
@@ -572,6 +608,16 @@ class Index:
             yield name, _outcome(outcome)
         if self._end is not None:
             self._check()
+
+    def add_many(self, documents, cut=False):
+        """Adds documents, each a (name, title, body), and answers how many, and a (name, `Refused`) for each that was not."""
+        added, refusals = 0, []
+        for name, outcome in self.add_all(documents, cut):
+            if isinstance(outcome, Refused):
+                refusals.append((name, outcome))
+            else:
+                added += 1
+        return added, refusals
 
     def under_way(self):
         """How many lines were sent that have no reply yet: 64 at most."""
@@ -626,14 +672,24 @@ class Index:
     # -- The end.
 
     def close(self):
-        """Waits until every line is answered, and ends the program. Raises its `Ended` where nothing raised it yet."""
+        """Waits until every line is answered, and ends the program.
+
+        Raises its `Ended` where nothing raised it yet, or the first `Refused` of a line that was sent and whose reply nobody
+        has taken.
+        """
         self.settle()
         if self._end is None:
             self._process.stdin.close()
         while self._end is None:
             self._turn()
+        untaken = list(self._untaken)
+        self._untaken.clear()
         if not self._told and not isinstance(self._end, Closed):
             self._check()
+        if untaken:
+            error = copy.copy(untaken[0].error)
+            error.args = (f"{error} (nobody took the replies to {len(untaken):,} refused lines: this is the first)",)
+            raise error
 
     def kill(self):
         """Ends the program at once. Of the lines without a reply the first one may be done, and no other."""
@@ -659,6 +715,12 @@ class Index:
     def _say(self, line, last, made):
         return self._send(line.encode(), line, last, made).result()
 
+    def _keep_refusal(self, reply):
+        self._untaken[reply] = None
+        if len(self._untaken) > REFUSALS_KEPT:
+            oldest = next(iter(self._untaken))
+            warnings.warn(f"{self.path}: {oldest.error} (nobody took this reply)", RuntimeWarning, stacklevel=2)
+
     def _send(self, line, command, last, made, row=None, query=None, behind=b"", after_refusal=False):
         """Sends a line, and a line of this client `behind` it, where the reply's end shows only by that one's."""
         if b"\n" in line:
@@ -669,31 +731,38 @@ class Index:
             self._turn()
             self._check()
         # One step, so that an interrupt leaves no line without its reply and no reply without its line.
-        self._fresh.append(reply)
-        self._turn(0)
+        self._turn(0, reply)
         return reply
 
     def _check(self):
         """Raises the end of the program where it has ended."""
         if self._end is not None:
             self._told = True
-            raise self._end
+            raise copy.copy(self._end)
 
-    def _turn(self, seconds=None):
+    def _turn(self, seconds=None, reply=None):
         """Waits until the program takes or gives something, or so many seconds, and moves all that can be moved.
 
-        The one place that reads and writes, so that neither side waits for the other. A call that is interrupted in
-        here may have lost a piece of a reply: nothing is read any more then, and the program is ended.
+        The one place that reads and writes, so that neither side waits for the other: before it waits, it takes the line of
+        this `reply`. A call that is interrupted in here may have lost a piece of a reply: nothing is read any more then, and
+        the program is ended.
         """
-        if self._end is not None:
-            return
+        if not self._alone.acquire(blocking=False):
+            raise RuntimeError(f"{self.path}: another thread, or what a signal has interrupted, waits for the program")
         try:
-            self._move(seconds)
+            if reply is not None:
+                self._fresh.append(reply)
+            if self._end is None:
+                self._move(seconds)
+            else:
+                self._give_up()
         except BaseException as error:
             _kill(self._process)
             self._finish(error if isinstance(error, Error) else Ended(-signal.SIGKILL, "ended after an interrupt"))
             if not isinstance(error, Error):
                 raise
+        finally:
+            self._alone.release()
 
     def _move(self, seconds):
         while self._fresh:
@@ -747,9 +816,10 @@ class Index:
 
     def _finish(self, error):
         """Takes the end of the program, once its output has ended or it was killed. What is under way gets no reply."""
+        self._let_go.detach()
         self._process.stdin.close()
         try:
-            status = self._process.wait(5)
+            status = self._process.wait(SECONDS_TO_END)
         except subprocess.TimeoutExpired:
             _kill(self._process)
             status = self._process.wait()
@@ -758,12 +828,17 @@ class Index:
             asked = status == 0 and not self.under_way()
             error = Closed("the index was closed") if asked else _ended(status, self._said.line)
         self._end = error
-        for replies in (self._pending, self._fresh):
-            while replies:
-                replies.popleft()._settle(error)
+        self._give_up()
         self._out.clear()
         self._process.stdout.close()
         self._process.stderr.close()
+
+
+    def _give_up(self):
+        """Settles what is under way: behind the end it gets no reply."""
+        for replies in (self._pending, self._fresh):
+            while replies:
+                replies.popleft()._settle(self._end)
 
 
 class Cursor:
@@ -896,6 +971,27 @@ def _kill(process):
             os.killpg(process.pid, signal.SIGKILL)
         except ProcessLookupError:
             pass
+
+
+def _let_go(process, path, owner):
+    """Ends the program of an index that nobody has any more, in the process that started it: what it took it answers."""
+    if os.getpid() != owner:
+        return
+    process.stdin.close()
+    end = time.monotonic() + SECONDS_TO_END
+    poll = select.poll()
+    poll.register(process.stdout, select.POLLIN)
+    while poll.poll(max(0, end - time.monotonic()) * 1000):
+        if not os.read(process.stdout.fileno(), 1 << 16):
+            break
+    try:
+        process.wait(max(0.1, end - time.monotonic()))
+    except subprocess.TimeoutExpired:
+        _kill(process)
+        process.wait()
+    process.stdout.close()
+    process.stderr.close()
+    warnings.warn(f"the index {path} was not closed", ResourceWarning, stacklevel=2)
 
 
 def _holds_bytes(path):

@@ -7,16 +7,22 @@ Without --program the tests of the real program are left out, and that is said.
 """
 
 import contextlib
+import copy
 import faulthandler
+import gc
 import io
 import json
 import os
+import pickle
 import signal
 import subprocess
 import sys
 import tempfile
+import threading
 import time
+import traceback
 import unittest
+import warnings
 
 TOP = os.path.dirname(os.path.dirname(os.path.abspath(__file__)))
 sys.path.insert(0, os.path.join(TOP, "client"))
@@ -294,6 +300,159 @@ class Calls(Case):
         self.assertNotIn("alta: full", told.getvalue())
 
 
+class Traps(Case):
+    """What a caller may forget, or do at a bad moment."""
+
+    def test_an_index_that_is_dropped(self):
+        with self.assertWarns(ResourceWarning):
+            index = self.fake()
+            index.add("a", "", "")
+            del index
+            gc.collect()
+        # The program has ended and the lock is free: nobody waits for it.
+        with self.fake() as index:
+            self.assertEqual(index.stats().documents, 1)
+        with self.assertWarns(ResourceWarning):
+            self.assertEqual(self.fake().stats().documents, 1)
+            gc.collect()
+        with self.assertWarns(ResourceWarning):
+            # More replies than the pipe holds stand before the program's end.
+            index = self.fake(slow=True)
+            rows = [index.search("NOT name:! OR name:!") for _ in range(3)]
+            del index, rows
+            gc.collect()
+        # A cursor and the rows of a search keep the index that they are of.
+        with warnings.catch_warnings():
+            warnings.simplefilter("error")
+            rows = self.fake().search("NOT name:! OR name:!")
+            gc.collect()
+            self.assertEqual(next(rows), (1, "a"))
+        with self.assertWarns(ResourceWarning):
+            self.assertEqual(list(rows), [])
+            gc.collect()
+
+    def test_an_index_at_the_end_of_python(self):
+        script = (
+            "import os, sys; sys.path.insert(0, sys.argv[1]); from buncocedar import Index\n"
+            "index = Index(sys.argv[2], create=True, program=sys.argv[3])\n"
+            "index.add('a', '', '')\n"
+            "if os.fork() == 0:\n    sys.exit(0)\n"
+            "os.wait()\n"
+            "index.add('b', '', '')\n"
+        )
+        words = [sys.executable, "-W", "always", "-c", script, os.path.join(TOP, "client"), self.path, FAKE]
+        done = subprocess.run(words, capture_output=True, timeout=PATIENCE)
+        self.assertEqual((done.returncode, done.stderr.count(b"was not closed")), (0, 1), done.stderr)
+        with self.fake() as index:
+            self.assertEqual(index.stats().documents, 2)
+
+    def test_a_block_that_breaks(self):
+        with self.assertRaises(ValueError):
+            with self.fake() as index:
+                for i in range(60):
+                    index.send_add(f"n{i}", "", "")
+                raise ValueError
+        with self.fake() as index:
+            self.assertEqual(index.stats().documents, 60)
+        for kind in (KeyboardInterrupt, SystemExit):
+            with self.assertRaises(kind):
+                with self.fake(silent=1):
+                    raise kind
+        # The error goes on, and what else was refused is told beside it.
+        with self.assertWarnsRegex(RuntimeWarning, "name taken"), self.assertRaises(ValueError):
+            with self.fake() as index:
+                index.send_add("n0", "", "")
+                raise ValueError
+
+    def test_a_refusal_that_nobody_took(self):
+        with self.assertRaisesRegex(buncocedar.NameTaken, "add a .*2 refused lines"):
+            with self.fake() as index:
+                for _ in range(3):
+                    index.send_add("a", "", "")
+        with self.fake() as index:
+            replies = [index.send_add("a", "", ""), index.send_delete("b"), index.send_add("a", "", "")]
+            with self.assertRaises(buncocedar.NameTaken):
+                replies[0].result()
+            index.settle()
+            self.assertIsInstance(replies[1].error, buncocedar.NoSuchDocument)
+            self.assertIsInstance(replies[2].error, buncocedar.NameTaken)
+        # It is raised once, and after an end the end is what counts.
+        index = self.fake()
+        index.send_add("a", "", "")
+        with self.assertRaises(buncocedar.NameTaken):
+            index.close()
+        index.close()
+        # Of very many the first are told on the way.
+        with self.assertWarns(RuntimeWarning), self.assertRaisesRegex(buncocedar.NameTaken, "1,000 refused"):
+            with self.fake() as index:
+                for _ in range(1001):
+                    index.send_add("a", "", "")
+
+    def test_adding_many(self):
+        documents = [("a", "", "x"), ("a", "", ""), ("b c", "", ""), ("d", "", "x" * 70_000), ("e", "", "x")]
+        with self.fake() as index:
+            added, refusals = index.add_many(iter(documents))
+            self.assertEqual(added, 2)
+            kinds = [(name, type(refusal)) for name, refusal in refusals]
+            long = ("d", buncocedar.LineTooLong)
+            self.assertEqual(kinds, [("a", buncocedar.NameTaken), ("b c", buncocedar.BadName), long])
+            self.assertEqual(index.add_many([]), (0, []))
+            self.assertEqual(index.add_many([documents[3]], cut=True), (1, []))
+        with self.assertRaises(buncocedar.Full):
+            with self.fake(room=3) as index:
+                index.add_many((f"n{i}", "", "") for i in range(100))
+
+    def test_one_thread_at_a_time(self):
+        index = self.fake(silent=1, mark=self.mark)
+        seen = []
+
+        def wait():
+            try:
+                index.add("a", "", "")
+            except buncocedar.Error as error:
+                seen.append(error)
+
+        thread = threading.Thread(target=wait)
+        thread.start()
+        until(lambda: os.path.exists(self.mark))
+        for call in (index.stats, lambda: index.send_add("b", "", ""), lambda: index.count("x"), index.settle, index.close):
+            with self.assertRaisesRegex(RuntimeError, "another thread"):
+                call()
+        # What a signal's handler may do ends it.
+        index.break_off()
+        thread.join()
+        self.assertEqual([type(error) for error in seen], [buncocedar.Ended])
+        self.assertEqual(index.under_way(), 0)
+
+    def test_an_error_is_raised_anew(self):
+        index = self.fake(end=[1, 8])
+        reply = index.send_add("a", "", "")
+        raised = []
+        for call in (reply.result, reply.result, index.stats, index.stats, index.stats):
+            with self.assertRaises(buncocedar.Full) as caught:
+                call()
+            raised.append(caught.exception)
+        self.assertEqual(len(set(map(id, raised))), 5)
+        depths = [len(traceback.extract_tb(error.__traceback__)) for error in raised]
+        self.assertEqual((depths[0], depths[2], depths[3]), (depths[1], depths[3], depths[4]))
+        index.close()
+
+    def test_errors_are_copied_and_pickled(self):
+        long = buncocedar.LineTooLong("! line too long", "add a")
+        long.length = 70_000
+        for error in [
+            buncocedar.QueryFault("(fox", 4, "Paren"),
+            buncocedar._ended(8, "alta: full, need 321, greatest gap 123"),
+            buncocedar._ended(6, "alta: damaged at 8193"),
+            buncocedar.ProtocolFault("stats", "what"),
+            buncocedar.InUse("busy"),
+            long,
+        ]:
+            for other in (copy.copy(error), pickle.loads(pickle.dumps(error))):
+                self.assertIsNot(other, error)
+                self.assertEqual((type(other), str(other), vars(other)), (type(error), str(error), vars(error)))
+
+
 class UnderWay(Case):
     def add_many(self, index, count, body=""):
         outcomes = []
@@ -563,6 +722,35 @@ class RealProgram(Case):
                     with self.assertRaises(buncocedar.BadLine):
                         call(number)
             self.assertEqual(cursor.page(True), ([(1, "a")], False))
+
+    def test_an_index_that_is_dropped(self):
+        with self.assertWarns(ResourceWarning):
+            self.index().add("a", "", "")
+            gc.collect()
+        with self.index() as index:
+            self.assertEqual(index.stats().documents, 1)
+
+    def test_threads(self):
+        # Each call of four threads answers right or says that it is one too many, and the index goes on.
+        with self.index() as index:
+            index.add("a", "", "x")
+            seen = []
+
+            def count():
+                for _ in range(100):
+                    try:
+                        seen.append(index.count("x"))
+                    except RuntimeError:
+                        seen.append(RuntimeError)
+
+            threads = [threading.Thread(target=count) for _ in range(4)]
+            for thread in threads:
+                thread.start()
+            for thread in threads:
+                thread.join()
+            self.assertEqual(len(seen), 400)
+            self.assertLessEqual(set(seen), {1, RuntimeError})
+            self.assertEqual(index.stats().documents, 1)
 
     def test_many_levels(self):
         # An index has sixteen levels at most, and each flush makes one or joins two.
