@@ -16,8 +16,10 @@ import fcntl
 import operator
 import os
 import re
+import resource
 import select
 import signal
+import stat
 import subprocess
 import sys
 import tempfile
@@ -34,6 +36,7 @@ TITLE_ROOM = 4_096  # bytes that a title keeps where its line is cut
 LINES_UNDER_WAY = 64  # lines without a reply, at most
 BYTES_WAITING = 262_144  # bytes of lines that wait to be written, before one more is sent
 REFUSALS_KEPT = 1_000  # refused replies that nobody has taken yet, before the oldest is warned of
+SCANT_ROOM = 4_194_304  # bytes: with fewer free a disk counts as full
 SECONDS_TO_END = 5  # that a program has to end, once it can read no more lines
 
 _NAME = re.compile(r"[!-~]{1,64}")
@@ -172,58 +175,78 @@ def _refusal(reply, command, query):
 
 
 class Ended(Error):
-    """The program ended, by `status`: its exit status, or a signal's number below 0. `line` is what it said.
+    """The program ended, by `status`: its exit status, or a signal's number below 0. `line` is what it said, `path` the index.
 
     Of the lines without a reply the first one may be done, and no other. Only where this client was interrupted while it read,
     as by a KeyboardInterrupt, may it have lost replies, so that any of them may be done.
     """
 
-    advice = "what was answered is stored"
+    advice = ""
+    stored = "what was answered is stored"
 
-    def __init__(self, status, line=""):
-        said = line or (f"ended by signal {-status}" if status < 0 else "ended without a word")
-        super().__init__(f"{said} (status {status}): {self.advice}")
+    def __init__(self, status, line="", path=None, opened=True):
+        said = line or (f"ended by signal {_signal_name(-status)}" if status < 0 else "ended without a word")
+        place = "" if path is None else f"{path}: "
+        hints = "; ".join(filter(None, (self.hint(path), self.stored if opened else "")))
+        super().__init__(f"{place}{said} (status {status}){': ' if hints else ''}{hints}")
         self.status = status
         self.line = line
+        self.path = path
+
+    def hint(self, path):
+        """What there is to be said of the cause, or to be done."""
+        return self.advice
+
+
+def _signal_name(number):
+    try:
+        return f"{number}, {signal.strsignal(number)}"
+    except ValueError:
+        return str(number)
 
 
 class Usage(Ended):
     """Status 1."""
 
     advice = "the program does not know the words that it was started with, or the path is no UTF-8"
+    stored = ""
 
 
 class DiskFault(Ended):
-    """Status 2: a call of the disk failed."""
+    """Status 2: a call of the disk failed. The message says why, where the system does: `disk_cause`."""
 
-    advice = "the file could not be read or written, as on a full disk; what was answered is stored"
+    advice = "the file could not be read or written"
+
+    def hint(self, path):
+        return (path and disk_cause(path)) or self.advice
 
 
 class InputFault(Ended):
     """Status 3."""
 
-    advice = "the program could not read its lines; what was answered is stored"
+    advice = "the program could not read its lines"
 
 
 class OutputFault(Ended):
     """Status 4."""
 
-    advice = "the program could not write its replies; what was answered is stored"
+    advice = "the program could not write its replies"
 
 
 class OutOfMemory(Ended):
     """Status 5."""
 
-    advice = "what was answered is stored; with more memory the index opens again"
+    advice = "with more memory the index opens again"
 
 
 class Damaged(Ended):
     """Status 6: `place` is the first byte of the file that breaks a rule of the format, or None."""
 
     advice = "the file was changed by something else; use a copy of it, or make the index again"
+    stored = ""
 
-    def __init__(self, status, line=""):
-        super().__init__(status, line)
+    def __init__(self, status, line="", path=None, opened=True):
+        super().__init__(status, line, path, opened)
         self.place = next(iter(_numbers(line)), None)
 
 
@@ -231,28 +254,39 @@ class NoIndex(Ended):
     """Status 7."""
 
     advice = "the file is no index; if making it was stopped, delete it and make it again"
+    stored = ""
+
+
+class NoFile(NoIndex):
+    """There is no file where an index was to be opened; no program was started."""
+
+    advice = "make it first, by create=True or by the program's word init"
+
+    def __init__(self, path):
+        super().__init__(7, "no index: there is no such file", path)
 
 
 class Full(Ended):
     """Status 8: the next record has `need` bytes, and there is room for `gap`. No line without a reply was done."""
 
-    advice = "the index is full; what was answered is stored, and the rest needs another index"
+    advice = "the index is full, and the rest needs another one"
 
-    def __init__(self, status, line=""):
-        super().__init__(status, line)
+    def __init__(self, status, line="", path=None, opened=True):
+        super().__init__(status, line, path, opened)
         self.need, self.gap = (_numbers(line) + [None, None])[:2]
 
 
 class InputTooLong(Ended):
     """Status 9: more than 2^40 bytes of lines in one run."""
 
-    advice = "what was answered is stored; the index opens again"
+    advice = "the index opens again"
 
 
 class IndexExists(Ended):
     """Status 10: the file that was to be made is an index already."""
 
     advice = "an index is never written over"
+    stored = ""
 
 
 _ENDS = {
@@ -269,10 +303,34 @@ _ENDS = {
 }
 
 
-def _ended(status, line):
+def _ended(status, line, path=None, opened=True):
     """The end with this status. Only the program itself says why, save where it has no memory for that."""
     known = line or status == 5
-    return (_ENDS.get(status, Ended) if known else Ended)(status, line)
+    return (_ENDS.get(status, Ended) if known else Ended)(status, line, path, opened)
+
+
+def disk_cause(path):
+    """Why the file at the path may be one that can't be read or written, as far as the system tells, or None."""
+    folder = os.path.dirname(os.path.abspath(path))
+    try:
+        found = os.stat(path)
+        room = os.statvfs(folder)
+    except FileNotFoundError:
+        return f"there is no file {path}" if os.path.isdir(folder) else f"there is no folder {folder}"
+    except OSError as error:
+        return f"{path}: {error.strerror}"
+    free = (room.f_bavail if os.geteuid() else room.f_bfree) * room.f_frsize
+    most = resource.getrlimit(resource.RLIMIT_FSIZE)[0]
+    causes = {
+        f"{path} is a folder": stat.S_ISDIR(found.st_mode),
+        f"{path} is no plain file": not stat.S_ISREG(found.st_mode),
+        f"the file system of {path} is for reading only": room.f_flag & os.ST_RDONLY,
+        f"no right to read {path}": not os.access(path, os.R_OK),
+        f"no right to write {path}": not os.access(path, os.W_OK),
+        f"a file may have {most:,} bytes at most here (ulimit -f)": most <= found.st_size + SCANT_ROOM and most >= 0,
+        f"the disk of {path} is full: {free:,} bytes free; make room, then run this again": free < SCANT_ROOM,
+    }
+    return next((cause for cause, applies in causes.items() if applies), None)
 
 
 def _numbers(line):
@@ -517,12 +575,13 @@ class Index:
         self._in = bytearray()
         self._end = None
         self._told = False
+        self._opened = False
         self._untaken = {}  # refused replies that nobody has taken, the oldest first
         self._alone = threading.Lock()
         if create and not _holds_bytes(self.path):
             _make(self._program, self.path)
         if not os.path.exists(self.path):
-            raise NoIndex(7, f"there is no file {self.path}")
+            raise NoFile(self.path)
         lock = _locked(self.path, patience)
         try:
             self._process = _started(self._program, self.path, "run", pass_fds=(lock,))
@@ -534,6 +593,7 @@ class Index:
         self._let_go = weakref.finalize(self, _let_go, self._process, self.path, os.getpid())
         try:
             self.stats()
+            self._opened = True
         except BaseException:
             self.kill()
             raise
@@ -758,7 +818,7 @@ class Index:
                 self._give_up()
         except BaseException as error:
             _kill(self._process)
-            self._finish(error if isinstance(error, Error) else Ended(-signal.SIGKILL, "ended after an interrupt"))
+            self._finish(error if isinstance(error, Error) else self._broken_off())
             if not isinstance(error, Error):
                 raise
         finally:
@@ -826,13 +886,16 @@ class Index:
         self._said.take_all()
         if error is None:
             asked = status == 0 and not self.under_way()
-            error = Closed("the index was closed") if asked else _ended(status, self._said.line)
+            error = Closed("the index was closed") if asked else _ended(status, self._said.line, self.path, self._opened)
         self._end = error
         self._give_up()
         self._out.clear()
         self._process.stdout.close()
         self._process.stderr.close()
 
+
+    def _broken_off(self):
+        return Ended(-signal.SIGKILL, "ended after an interrupt", self.path)
 
     def _give_up(self):
         """Settles what is under way: behind the end it gets no reply."""
@@ -960,6 +1023,8 @@ def _started(program, path, word, **options):
         stderr=subprocess.PIPE,
         bufsize=0,
         start_new_session=True,
+        # A file that grows past a limit is a fault that the program answers, and no signal.
+        restore_signals=False,
         **options,
     )
 
@@ -1004,7 +1069,11 @@ def _make(program, path):
     Where another client has made one meanwhile, that one stays.
     """
     folder = os.path.dirname(os.path.abspath(path))
-    with tempfile.TemporaryDirectory(prefix=".making-", dir=folder) as place:
+    try:
+        making = tempfile.TemporaryDirectory(prefix=".making-", dir=folder)
+    except OSError as error:
+        raise OSError(error.errno, f"no index can be made: {error.strerror}", path) from None
+    with making as place:
         fresh = os.path.join(place, "index.alta")
         process = _started(program, fresh, "init")
         said = _Said(process.stderr.fileno())
@@ -1020,7 +1089,7 @@ def _make(program, path):
             process.stdout.close()
             process.stderr.close()
         if status != 0:
-            raise _ended(status, said.line)
+            raise _ended(status, said.line, path, opened=False)
         if os.path.exists(path):
             _replace_empty(fresh, path)
         else:

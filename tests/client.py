@@ -14,6 +14,7 @@ import io
 import json
 import os
 import pickle
+import resource
 import signal
 import subprocess
 import sys
@@ -22,6 +23,7 @@ import threading
 import time
 import traceback
 import unittest
+import unittest.mock
 import warnings
 
 TOP = os.path.dirname(os.path.dirname(os.path.abspath(__file__)))
@@ -453,6 +455,74 @@ class Traps(Case):
                 self.assertEqual((type(other), str(other), vars(other)), (type(error), str(error), vars(error)))
 
 
+class Messages(Case):
+    """What is said of an end: which file it is, why, and what is to be done."""
+
+    def said_by_nobody(self, path):
+        """The cause as a process without rights sees it."""
+        os.chmod(self.folder.name, 0o755)
+        read, write = os.pipe()
+        child = os.fork()
+        if child == 0:
+            if os.getuid() == 0:
+                os.setuid(65534)
+            os.write(write, str(buncocedar.disk_cause(path)).encode())
+            os._exit(0)
+        os.close(write)
+        os.waitpid(child, 0)
+        with open(read) as file:
+            return file.read()
+
+    def test_causes(self):
+        self.fake().close()
+        link = os.path.join(self.folder.name, "link")
+        os.symlink(os.path.join(self.folder.name, "gone"), link)
+        for path, cause in [
+            (self.folder.name, f"{self.folder.name} is a folder"),
+            (os.path.join(self.folder.name, "none"), f"there is no file {self.folder.name}/none"),
+            (os.path.join(self.folder.name, "none", "x"), f"there is no folder {self.folder.name}/none"),
+            (link, f"there is no file {link}"),
+            ("/dev/null", "/dev/null is no plain file"),
+            (os.path.join(self.path, "x"), f"{self.path}/x: Not a directory"),
+            (self.path, None),
+        ]:
+            self.assertEqual(buncocedar.disk_cause(path), cause)
+        os.chmod(self.path, 0o444)
+        self.assertEqual(self.said_by_nobody(self.path), f"no right to write {self.path}")
+        os.chmod(self.path, 0)
+        self.assertEqual(self.said_by_nobody(self.path), f"no right to read {self.path}")
+        os.chmod(self.path, 0o644)
+        with unittest.mock.patch.object(buncocedar, "SCANT_ROOM", 1 << 62):
+            self.assertRegex(buncocedar.disk_cause(self.path), r"the disk of .*/x\.alta is full: [0-9,]+ bytes free; make room")
+
+    def test_words(self):
+        for error, words in [
+            (buncocedar._ended(8, "alta: full, need 3, greatest gap 2", "x.alta"), ["x.alta: alta: full", "(status 8)", "stored"]),
+            (buncocedar._ended(6, "alta: damaged at 88", "x.alta"), ["x.alta: alta: damaged at 88", "a copy"]),
+            (buncocedar._ended(-25, "", "x.alta"), ["x.alta: ended by signal 25", "File size limit", "stored"]),
+            (buncocedar._ended(7, "alta: no index", "x.alta"), ["x.alta: alta: no index", "delete it"]),
+            (buncocedar.NoFile("x.alta"), ["x.alta: no index: there is no such file", "create=True"]),
+        ]:
+            for word in words:
+                self.assertIn(word, str(error))
+        self.assertNotIn("stored", str(buncocedar._ended(2, "alta: disk fault", self.folder.name, opened=False)))
+        self.assertNotIn("delete", str(buncocedar.NoFile("x.alta")))
+
+    def test_a_file_that_is_missing(self):
+        with self.assertRaises(buncocedar.NoFile) as raised:
+            Index(self.path, program=FAKE)
+        self.assertEqual((raised.exception.path, raised.exception.status), (self.path, 7))
+        with self.assertRaises(FileNotFoundError) as raised:
+            Index(os.path.join(self.path, "none"), create=True, program=FAKE)
+        self.assertEqual(raised.exception.filename, os.path.join(self.path, "none"))
+
+    def test_an_end_while_opening(self):
+        with self.assertRaises(buncocedar.DiskFault) as raised:
+            self.fake(end=[0, 2])
+        self.assertIn(self.path, str(raised.exception))
+        self.assertNotIn("stored", str(raised.exception))
+
+
 class UnderWay(Case):
     def add_many(self, index, count, body=""):
         outcomes = []
@@ -682,8 +752,26 @@ class RealProgram(Case):
         with self.assertRaises(buncocedar.Damaged) as raised:
             self.index()
         self.assertEqual(raised.exception.place, 8193)
-        with self.assertRaises(buncocedar.DiskFault):
+        with self.assertRaisesRegex(buncocedar.DiskFault, "is a folder"):
             Index(self.folder.name, program=PROGRAM)
+        with self.assertRaisesRegex(buncocedar.DiskFault, "/dev/null is no plain file"):
+            Index("/dev/null", program=PROGRAM)
+
+    def test_a_limit_on_files(self):
+        # The program answers the fault, and no signal ends it; what was answered is stored.
+        with self.index() as index:
+            index.add("a", "", "x")
+        limits = resource.getrlimit(resource.RLIMIT_FSIZE)
+        try:
+            resource.setrlimit(resource.RLIMIT_FSIZE, (2_105_344, limits[1]))
+            with self.assertRaisesRegex(buncocedar.DiskFault, r"2,105,344 bytes at most here \(ulimit -f\); what was answered"):
+                with self.index() as index:
+                    index.add("b", "", "x")
+                    index.flush()
+        finally:
+            resource.setrlimit(resource.RLIMIT_FSIZE, limits)
+        with self.index() as index:
+            self.assertEqual(index.stats().documents, 2)
 
     def test_no_text_is_a_command(self):
         # Whatever a caller hands on, from a form as it may be, stays an argument of its call.
