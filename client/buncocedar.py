@@ -19,6 +19,7 @@ import re
 import resource
 import select
 import signal
+import socket
 import stat
 import subprocess
 import sys
@@ -37,6 +38,7 @@ LINES_UNDER_WAY = 64  # lines without a reply, at most
 BYTES_WAITING = 262_144  # bytes of lines that wait to be written, before one more is sent
 REFUSALS_KEPT = 1_000  # refused replies that nobody has taken yet, before the oldest is warned of
 SCANT_ROOM = 4_194_304  # bytes: with fewer free a disk counts as full
+SECONDS_OF_SILENCE = 0.5  # of a wait for an index that is in use, before it is told
 SECONDS_TO_END = 5  # that a program has to end, once it can read no more lines
 
 _NAME = re.compile(r"[!-~]{1,64}")
@@ -185,10 +187,11 @@ class Ended(Error):
     stored = "what was answered is stored"
 
     def __init__(self, status, line="", path=None, opened=True):
-        said = line or (f"ended by signal {_signal_name(-status)}" if status < 0 else "ended without a word")
+        said = line or (f"ended by signal {_signal_name(-status)}" if status and status < 0 else "ended without a word")
         place = "" if path is None else f"{path}: "
         hints = "; ".join(filter(None, (self.hint(path), self.stored if opened else "")))
-        super().__init__(f"{place}{said} (status {status}){': ' if hints else ''}{hints}")
+        number = "" if status is None else f" (status {status})"
+        super().__init__(f"{place}{said}{number}{': ' if hints else ''}{hints}")
         self.status = status
         self.line = line
         self.path = path
@@ -289,6 +292,12 @@ class IndexExists(Ended):
     stored = ""
 
 
+class ServerEnded(Ended):
+    """The server of the index has ended; `status` is None. The index can be opened again, with or without a server."""
+
+    advice = "open the index again"
+
+
 _ENDS = {
     1: Usage,
     2: DiskFault,
@@ -305,6 +314,8 @@ _ENDS = {
 
 def _ended(status, line, path=None, opened=True):
     """The end with this status. Only the program itself says why, save where it has no memory for that."""
+    if status is None:
+        return ServerEnded(status, line, path, opened)
     known = line or status == 5
     return (_ENDS.get(status, Ended) if known else Ended)(status, line, path, opened)
 
@@ -345,7 +356,7 @@ class ProtocolFault(Error):
 
 
 class InUse(Error):
-    """Another client, or the program that it left, has the index open."""
+    """Another client, or the program that it left, has the index open. The message says which and since when: `holder`."""
 
 
 class Closed(Error):
@@ -560,37 +571,57 @@ class Index:
 
     `create` makes the index where there is no file, or an empty one. `program` is the program's path: by default what the
     variable BUNCOCEDAR_PROGRAM says, or else `alta` beside the folder of this client. The file is locked for the life of the
-    program; where another client has it, `patience` says how many seconds to wait before `InUse`.
+    program; where another client has it, `patience` says how many seconds to wait before `InUse`, and `on_wait` is called
+    once, with what there is to be waited for, when that takes longer than a moment.
+
+    Where a server of the index listens (`server.py`), the index is opened by it, and shared with its other clients; with
+    `server=False` it is not.
 
     One thread at a time: a call while another one waits for the program raises `RuntimeError`. Raises `Ended` where the
     index does not open. An index that is dropped without `close` lets its program end, and so does the end of Python.
     """
 
-    def __init__(self, path, create=False, program=None, patience=10.0):
+    def __init__(self, path, create=False, program=None, patience=10.0, on_wait=None, server=None):
         self.path = os.fspath(path)
-        self._program = program or default_program()
         self._fresh = deque()  # replies to lines that no turn has looked at yet
         self._pending = deque()  # replies to the lines before them
         self._out = bytearray()
         self._in = bytearray()
+        self._untaken = {}  # refused replies that nobody has taken, the oldest first
+        self._alone = threading.Lock()
+        if server is False or not self._is_served():
+            self._open(create, program or default_program(), patience, on_wait)
+
+    def _is_served(self):
+        """Opens the index by its server, where one listens and goes on."""
+        service = _connected(self.path)
+        try:
+            if service is not None:
+                self._begin(service)
+        except ServerEnded:
+            return False
+        return service is not None
+
+    def _open(self, create, program, patience, on_wait):
+        """Opens the index by a program of its own."""
+        if create and not _holds_bytes(self.path):
+            _make(program, self.path)
+        if not os.path.exists(self.path):
+            raise NoFile(self.path)
+        lock = _locked(self.path, patience, on_wait)
+        try:
+            link = _Program(program, self.path, pass_fds=(lock,))
+        finally:
+            os.close(lock)
+        self._begin(link)
+
+    def _begin(self, link):
+        """Takes the program or the server behind this link, once it has answered."""
+        self._link = link
         self._end = None
         self._told = False
         self._opened = False
-        self._untaken = {}  # refused replies that nobody has taken, the oldest first
-        self._alone = threading.Lock()
-        if create and not _holds_bytes(self.path):
-            _make(self._program, self.path)
-        if not os.path.exists(self.path):
-            raise NoFile(self.path)
-        lock = _locked(self.path, patience)
-        try:
-            self._process = _started(self._program, self.path, "run", pass_fds=(lock,))
-        finally:
-            os.close(lock)
-        self._said = _Said(self._process.stderr.fileno())
-        for pipe in (self._process.stdin, self._process.stdout, self._process.stderr):
-            os.set_blocking(pipe.fileno(), False)
-        self._let_go = weakref.finalize(self, _let_go, self._process, self.path, os.getpid())
+        self._let_go = weakref.finalize(self, _let_go, link, self.path, os.getpid())
         try:
             self.stats()
             self._opened = True
@@ -739,7 +770,7 @@ class Index:
         """
         self.settle()
         if self._end is None:
-            self._process.stdin.close()
+            self._link.close_input()
         while self._end is None:
             self._turn()
         untaken = list(self._untaken)
@@ -755,13 +786,13 @@ class Index:
         """Ends the program at once. Of the lines without a reply the first one may be done, and no other."""
         self._told = True
         if self._end is None:
-            _kill(self._process)
+            self._link.kill()
         while self._end is None:
             self._turn()
 
     def break_off(self):
         """Ends the program from a signal handler: the calls that wait for it then go on as where it was killed."""
-        _kill(self._process)
+        self._link.kill()
 
     # -- Lines and replies.
 
@@ -817,7 +848,7 @@ class Index:
             else:
                 self._give_up()
         except BaseException as error:
-            _kill(self._process)
+            self._link.kill()
             self._finish(error if isinstance(error, Error) else self._broken_off())
             if not isinstance(error, Error):
                 raise
@@ -830,35 +861,41 @@ class Index:
             self._pending.append(reply)
             self._out += reply._line
             reply._line = None
-        stdin, stdout = self._process.stdin, self._process.stdout
+        link = self._link
+        wanted = {link.output: select.POLLIN}
+        if link.said is not None and link.said.open:
+            wanted[link.said.file] = select.POLLIN
+        if self._out and link.input is not None:
+            wanted[link.input] = wanted.get(link.input, 0) | select.POLLOUT
         poll = select.poll()
-        poll.register(stdout, select.POLLIN)
-        if self._said.open:
-            poll.register(self._said.file, select.POLLIN)
-        if self._out and not stdin.closed:
-            poll.register(stdin, select.POLLOUT)
-        for file, _ in poll.poll(None if seconds is None else seconds * 1000):
+        for file, events in wanted.items():
+            poll.register(file, events)
+        for file, events in poll.poll(None if seconds is None else seconds * 1000):
+            # A socket is both input and output.
+            if file == link.input and (events & select.POLLOUT or file != link.output):
+                self._write(file)
+            if file == link.output and events & ~select.POLLOUT:
+                self._read(file)
+            elif link.said is not None and file == link.said.file:
+                link.said.take()
             if self._end is not None:
                 break
-            if file == stdout.fileno():
-                self._read(file)
-            elif file == self._said.file:
-                self._said.take()
-            else:
-                self._write(file)
 
     def _write(self, file):
         try:
             del self._out[: os.write(file, self._out)]
         except BlockingIOError:
             pass
-        except BrokenPipeError:
-            # The program has ended or takes no more; what it gave is still to be read.
+        except (BrokenPipeError, ConnectionResetError):
+            # The other side has ended or takes no more; what it gave is still to be read.
             self._out.clear()
-            self._process.stdin.close()
+            self._link.give_up_input()
 
     def _read(self, file):
-        data = os.read(file, 1 << 16)
+        try:
+            data = os.read(file, 1 << 16)
+        except ConnectionResetError:
+            data = b""
         if not data:
             self._finish(None)
             return
@@ -869,6 +906,8 @@ class Index:
         self._in += rest
         for line in lines:
             text = line.decode(errors="replace")
+            if self._link.takes(text):
+                continue
             if not self._pending:
                 raise ProtocolFault("no line", text)
             if self._pending[0]._take(text):
@@ -877,22 +916,14 @@ class Index:
     def _finish(self, error):
         """Takes the end of the program, once its output has ended or it was killed. What is under way gets no reply."""
         self._let_go.detach()
-        self._process.stdin.close()
-        try:
-            status = self._process.wait(SECONDS_TO_END)
-        except subprocess.TimeoutExpired:
-            _kill(self._process)
-            status = self._process.wait()
-        self._said.take_all()
+        status, line = self._link.ended()
         if error is None:
             asked = status == 0 and not self.under_way()
-            error = Closed("the index was closed") if asked else _ended(status, self._said.line, self.path, self._opened)
+            error = Closed("the index was closed") if asked else _ended(status, line, self.path, self._opened)
         self._end = error
         self._give_up()
         self._out.clear()
-        self._process.stdout.close()
-        self._process.stderr.close()
-
+        self._in.clear()
 
     def _broken_off(self):
         return Ended(-signal.SIGKILL, "ended after an interrupt", self.path)
@@ -1038,24 +1069,123 @@ def _kill(process):
             pass
 
 
-def _let_go(process, path, owner):
+class _Program:
+    """The program of an index, behind its pipes: the files that lines go into, that replies and other words come out of."""
+
+    def __init__(self, program, path, **options):
+        self.process = _started(program, path, "run", **options)
+        pipes = (self.process.stdin, self.process.stdout, self.process.stderr)
+        for pipe in pipes:
+            os.set_blocking(pipe.fileno(), False)
+        self.input, self.output, said = (pipe.fileno() for pipe in pipes)
+        self.said = _Said(said)
+
+    def close_input(self):
+        """Lets the program end, once it has answered what it was given."""
+        self.input = None
+        self.process.stdin.close()
+
+    give_up_input = close_input
+
+    def kill(self):
+        _kill(self.process)
+
+    def takes(self, line):
+        """Whether a line is not part of a reply."""
+        return False
+
+    def ended(self):
+        """Waits for the end, and answers its status and the line of it."""
+        self.close_input()
+        try:
+            status = self.process.wait(SECONDS_TO_END)
+        except subprocess.TimeoutExpired:
+            self.kill()
+            status = self.process.wait()
+        self.said.take_all()
+        self.process.stdout.close()
+        self.process.stderr.close()
+        return status, self.said.line
+
+
+class _Service:
+    """The server of an index, behind a socket, which speaks as the program does; when that ends, it says so in a line."""
+
+    said = None
+    end_line = re.compile("! ended (-?[0-9]+) (.*)", re.DOTALL)
+
+    def __init__(self, connection):
+        connection.setblocking(False)
+        self.connection = connection
+        self.input = self.output = connection.fileno()
+        self.status = None, "the server of the index has ended"
+
+    def close_input(self):
+        """Lets the server end this connection, once it has answered what it was given."""
+        self.input = None
+        self.status = 0, ""
+        self._shut(socket.SHUT_WR)
+
+    def give_up_input(self):
+        self.input = None
+
+    def kill(self):
+        self.status = -signal.SIGKILL, "the connection to the server was ended"
+        self._shut(socket.SHUT_RDWR)
+
+    def _shut(self, which):
+        try:
+            self.connection.shutdown(which)
+        except OSError:
+            pass
+
+    def takes(self, line):
+        """Whether a line is not part of a reply."""
+        told = self.end_line.fullmatch(line)
+        if told:
+            self.status = int(told[1]), told[2]
+        return told is not None
+
+    def ended(self):
+        """The status and line of the program's end, where the server told it, or of the server's."""
+        self.connection.close()
+        return self.status
+
+
+def server_path(path):
+    """Where the server of an index listens: a socket beside its file."""
+    return os.path.realpath(path) + ".socket"
+
+
+def _connected(path):
+    """A link to the server of the index, or None where none listens that its owner or this user has started."""
+    place = server_path(path)
+    connection = socket.socket(socket.AF_UNIX)
+    try:
+        if os.stat(place).st_uid in (os.geteuid(), os.stat(path).st_uid):
+            connection.connect(place)
+            return _Service(connection)
+    except OSError:
+        # None was started, or the path is too long for one, or it was killed and the socket's file is what it left.
+        pass
+    connection.close()
+    return None
+
+
+def _let_go(link, path, owner):
     """Ends the program of an index that nobody has any more, in the process that started it: what it took it answers."""
     if os.getpid() != owner:
         return
-    process.stdin.close()
+    link.close_input()
     end = time.monotonic() + SECONDS_TO_END
     poll = select.poll()
-    poll.register(process.stdout, select.POLLIN)
-    while poll.poll(max(0, end - time.monotonic()) * 1000):
-        if not os.read(process.stdout.fileno(), 1 << 16):
-            break
+    poll.register(link.output, select.POLLIN)
     try:
-        process.wait(max(0.1, end - time.monotonic()))
-    except subprocess.TimeoutExpired:
-        _kill(process)
-        process.wait()
-    process.stdout.close()
-    process.stderr.close()
+        while poll.poll(max(0, end - time.monotonic()) * 1000) and os.read(link.output, 1 << 16):
+            pass
+    except ConnectionResetError:
+        pass
+    link.ended()
     warnings.warn(f"the index {path} was not closed", ResourceWarning, stacklevel=2)
 
 
@@ -1118,7 +1248,7 @@ def _replace_empty(fresh, path):
         os.replace(fresh, path)
 
 
-def _locked(path, patience):
+def _locked(path, patience, on_wait):
     """A handle of the file, locked. The program keeps it too: it may outlive a client that was killed.
 
     Where there is no file there is nothing to lock: the program then says that there is no index.
@@ -1127,16 +1257,76 @@ def _locked(path, patience):
         handle = os.open(path, os.O_RDWR)
     except OSError:
         return os.open(os.devnull, os.O_RDWR)
-    until = time.monotonic() + patience
+    waiting = _Waiting(path, patience, on_wait)
     while True:
         try:
             fcntl.flock(handle, fcntl.LOCK_EX | fcntl.LOCK_NB)
             return handle
         except BlockingIOError:
-            if time.monotonic() >= until:
+            if waiting.is_over():
                 os.close(handle)
-                raise InUse(f"{path} is open in another client, or in the program that it left") from None
-            time.sleep(0.02)
+                raise _in_use(path) from None
         except OSError:
             # The file system has no locks.
             return handle
+
+
+class _Waiting:
+    """A wait for an index that another one has open: for so many seconds, and told once."""
+
+    def __init__(self, path, patience, on_wait):
+        self.path = path
+        self.begun = time.monotonic()
+        self.patience = patience
+        self.on_wait = on_wait
+
+    def is_over(self):
+        """Waits a moment, and tells whether that was the last one."""
+        waited = time.monotonic() - self.begun
+        if self.on_wait is not None and waited >= SECONDS_OF_SILENCE:
+            self.on_wait(str(_in_use(self.path)))
+            self.on_wait = None
+        if waited < self.patience:
+            time.sleep(0.02)
+        return waited >= self.patience
+
+
+def _in_use(path):
+    return InUse(f"{path} is open in {holder(path) or 'another client, or in the program that it left'}")
+
+
+def holder(path):
+    """Which process has the index open, by whom it was started and since when, in words; None where the system tells none."""
+    try:
+        found = os.stat(path)
+        with open("/proc/locks", encoding="ascii") as file:
+            locks = [line.split() for line in file]
+    except OSError:
+        return None
+    place = f"{os.major(found.st_dev):02x}:{os.minor(found.st_dev):02x}:{found.st_ino}"
+    owners = (int(words[4]) for words in locks if words[1] == "FLOCK" and words[5] == place)
+    return next((_process_words(owner) for owner in owners if owner > 0), None)
+
+
+def _process_words(number):
+    """A process in words: its number, its command, since when it runs, and what has started it."""
+    try:
+        with open(f"/proc/{number}/stat", encoding="utf-8", errors="replace") as file:
+            fields = file.read().rpartition(")")[2].split()
+        with open("/proc/uptime", encoding="ascii") as file:
+            booted = time.time() - float(file.read().split()[0])
+    except OSError:
+        return f"process {number}"
+    began = time.localtime(booted + int(fields[19]) / os.sysconf("SC_CLK_TCK"))
+    parent = int(fields[1])
+    starter = f", started by process {parent} ({_command_words(parent)})" if parent > 1 else ""
+    return f"process {number} ({_command_words(number)}) since {time.strftime('%Y-%m-%d %H:%M:%S', began)}{starter}"
+
+
+def _command_words(number):
+    try:
+        with open(f"/proc/{number}/cmdline", "rb") as file:
+            words = file.read().rstrip(b"\0").replace(b"\0", b" ").decode(errors="replace")
+    except OSError:
+        words = "?"
+    return _printable(words if len(words) <= 80 else words[:77] + "...")

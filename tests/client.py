@@ -668,6 +668,31 @@ class UnderWay(Case):
         self.fake().close()
 
 
+class Waiting(Case):
+    def test_who_is_waited_for(self):
+        told = []
+        with self.fake():
+            with self.assertRaises(buncocedar.InUse) as raised:
+                Index(self.path, program=FAKE, patience=1, on_wait=told.append)
+            self.assertEqual(len(told), 1)
+            for text in (told[0], str(raised.exception)):
+                self.assertIn(f"{self.path} is open in ", text)
+                if os.path.exists("/proc/locks"):
+                    self.assertRegex(text, f"process {os.getpid()} .*client.py.* since [0-9]{{4}}-[0-9-]+ [0-9:]+")
+            # A wait that is no longer than a moment is not told.
+            with self.assertRaises(buncocedar.InUse):
+                Index(self.path, program=FAKE, patience=0.1, on_wait=told.append)
+            self.assertEqual(len(told), 1)
+        self.assertIsNone(buncocedar.holder(self.path))
+        self.assertIsNone(buncocedar.holder(os.path.join(self.folder.name, "none")))
+
+    def test_a_wait_that_ends_well(self):
+        index = self.fake()
+        index.add("a", "", "")
+        with Index(self.path, program=FAKE, patience=PATIENCE, on_wait=lambda text: index.close()) as other:
+            self.assertEqual(other.stats().documents, 1)
+
+
 class RealProgram(Case):
     """What the program itself answers, as far as it is built."""
 
