@@ -1,5 +1,5 @@
 #!/usr/bin/env python3
-"""Tests of `client/buncocedar.py`: with a program that misbehaves as told, and with the real one.
+"""Tests of `client/buncocedar`: with a program that misbehaves as told, and with the real one.
 
 usage: tests/client.py [--program PATH]
 

@@ -18,6 +18,7 @@ import os
 import re
 import resource
 import select
+import shutil
 import signal
 import socket
 import stat
@@ -569,8 +570,8 @@ class Reply:
 class Index:
     """An index in a file, by a program of its own that ends with `close` or at the end of a `with`.
 
-    `create` makes the index where there is no file, or an empty one. `program` is the program's path: by default what the
-    variable BUNCOCEDAR_PROGRAM says, or else `alta` beside the folder of this client. The file is locked for the life of the
+    `create` makes the index where there is no file, or an empty one. `program` is the program's path: by default
+    what `default_program` finds. The file is locked for the life of the
     program; where another client has it, `patience` says how many seconds to wait before `InUse`, and `on_wait` is called
     once, with what there is to be waited for, when that takes longer than a moment.
 
@@ -759,6 +760,27 @@ class Index:
     def step(self, terms):
         """Moves the joining of the two oldest levels on by so many terms, 1 to 1,000,000."""
         self._say(f"step {_whole(terms, 'terms')}", _OK, _nothing)
+
+    # -- Any line.
+
+    def answer(self, line):
+        """The lines that the program answers to a command line, given in bytes without a newline; a refusal is one of them.
+
+        For who has lines from elsewhere, as a server. A line that this client cannot tell the end of a reply to is refused.
+        """
+        word = line.partition(b" ")[0]
+        if len(line) > LINE_LIMIT:
+            return ["! line too long"]
+        if word not in _FORMS:
+            return ["! unknown command" if _is_utf8(line) else "! not UTF-8"]
+        last, row = _FORMS[word]
+        explains = word == b"explain"
+        reply = self._send(line, word.decode(), last, _whole_line, row, "", b"stats\n" if explains else b"", explains)
+        try:
+            end = reply.result()
+        except Refused as refusal:
+            return [refusal.reply]
+        return [*reply.rows] if explains else [*reply.rows, end]
 
     # -- The end.
 
@@ -977,6 +999,35 @@ class Cursor:
         self._index._say(f"close {self.number}", _CLOSED, _nothing)
 
 
+# Of the reply to each command the last line, and the lines before it.
+_FORMS = {
+    b"add": (_ADDED, None),
+    b"delete": (_DELETED, None),
+    b"search": (_FOUND, _ANYTHING),
+    b"count": (_FOUND, None),
+    b"explain": (_STATS, _ANYTHING),
+    b"open": (_CURSOR, None),
+    b"fetch": (_PAGE_END, _ANYTHING),
+    b"close": (_CLOSED, None),
+    b"stats": (_STATS, None),
+    b"flush": (_OK, None),
+    b"merge": (_OK, None),
+    b"step": (_OK, None),
+}
+
+
+def _is_utf8(line):
+    try:
+        line.decode()
+    except UnicodeDecodeError:
+        return False
+    return True
+
+
+def _whole_line(last):
+    return last[0]
+
+
 def _first_number(last):
     return int(last[1])
 
@@ -1003,9 +1054,21 @@ def _outcome(outcome):
 
 
 def default_program():
-    """The path of the program: the variable BUNCOCEDAR_PROGRAM, or `alta` beside the folder of this client."""
-    top = os.path.dirname(os.path.dirname(os.path.abspath(__file__)))
-    return os.environ.get("BUNCOCEDAR_PROGRAM") or os.path.join(top, "alta")
+    """The path of the program.
+
+    It is what the variable BUNCOCEDAR_PROGRAM says, or `alta` of the checkout that this client is in, or else `alta` or
+    `alta_cli` on the PATH.
+    """
+    top = os.path.dirname(os.path.dirname(os.path.dirname(os.path.abspath(__file__))))
+    checkout = os.path.join(top, "alta")
+    if os.environ.get("BUNCOCEDAR_PROGRAM"):
+        return os.environ["BUNCOCEDAR_PROGRAM"]
+    if os.path.isdir(os.path.join(top, "crates")) and os.path.exists(checkout):
+        return checkout
+    found = shutil.which("alta") or shutil.which("alta_cli")
+    if found is None:
+        raise FileNotFoundError(2, "the program is missing: install it, or set BUNCOCEDAR_PROGRAM to its path", "alta")
+    return found
 
 
 class _Said:
