@@ -678,7 +678,8 @@ class Waiting(Case):
             for text in (told[0], str(raised.exception)):
                 self.assertIn(f"{self.path} is open in ", text)
                 if os.path.exists("/proc/locks"):
-                    self.assertRegex(text, f"process {os.getpid()} .*client.py.* since [0-9]{{4}}-[0-9-]+ [0-9:]+")
+                    self.assertRegex(text, r"process [0-9]+ \(.*fake.*\) since [0-9]{4}-[0-9-]+ [0-9:]+, started by process")
+                    self.assertIn(f"process {os.getpid()} (", text)
             # A wait that is no longer than a moment is not told.
             with self.assertRaises(buncocedar.InUse):
                 Index(self.path, program=FAKE, patience=0.1, on_wait=told.append)

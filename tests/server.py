@@ -306,7 +306,7 @@ class Together:
     def test_many_clients_and_a_slow_one(self):
         server = self.serve()
         with self.index() as index:
-            index.add_many((f"old{i:050}", "", "old") for i in range(12_000))
+            index.add_many((f"old{i:050}", "", "old") for i in range(3_000))
         # It asks for some megabytes, and reads none of them.
         slow = self.raw()
         slow.sendall(b"search old\n" * 5)
@@ -320,7 +320,7 @@ class Together:
                         rows = list(index.search(f"word{number}"))
                         if [name for _, name in rows] != [f"c{number}-{j}" for j in range(i + 1)]:
                             faults.append(rows)
-                        if not index.count("old") == 12_000:
+                        if not index.count("old") == 3_000:
                             faults.append("old")
             except Exception as error:
                 faults.append(error)
@@ -335,11 +335,11 @@ class Together:
         file = slow.makefile("rb")
         slow.shutdown(socket.SHUT_WR)
         lines = file.read().split(b"\n")
-        self.assertEqual(len(lines), 5 * 12_001 + 1)
-        self.assertEqual(lines[12_000::12_001], [b"found 12000"] * 5)
+        self.assertEqual(len(lines), 5 * 3_001 + 1)
+        self.assertEqual(lines[3_000::3_001], [b"found 3000"] * 5)
         self.assertEqual(self.end(server)[0], 0)
         with self.index() as index:
-            self.assertEqual(index.stats().documents, 12_000 + 31 * 20)
+            self.assertEqual(index.stats().documents, 3_000 + 31 * 20)
 
     def stopped(self, number, seconds):
         """Ends a server by this signal while eight clients add, and compares what was answered with what is stored."""

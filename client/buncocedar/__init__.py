@@ -11,6 +11,7 @@ program has; `send_add`, `send_delete` and `add_all` keep many lines under way a
 and its standard library.
 """
 
+import contextlib
 import copy
 import fcntl
 import operator
@@ -357,7 +358,7 @@ class ProtocolFault(Error):
 
 
 class InUse(Error):
-    """Another client, or the program that it left, has the index open. The message says which and since when: `holder`."""
+    """Another program has the index open: another client's, one that a client left, or one by hand. The message says which."""
 
 
 class Closed(Error):
@@ -570,10 +571,10 @@ class Reply:
 class Index:
     """An index in a file, by a program of its own that ends with `close` or at the end of a `with`.
 
-    `create` makes the index where there is no file, or an empty one. `program` is the program's path: by default
-    what `default_program` finds. The file is locked for the life of the
-    program; where another client has it, `patience` says how many seconds to wait before `InUse`, and `on_wait` is called
-    once, with what there is to be waited for, when that takes longer than a moment.
+    `create` makes the index where there is no file, or an empty one. `program` is the program's path: by default what
+    `default_program` finds. The program locks the file as long as it runs; where another program has it, `patience` says how
+    many seconds to wait before `InUse`, and `on_wait` is called once, with who is waited for, when that takes more than a
+    moment.
 
     Where a server of the index listens (`server.py`), the index is opened by it, and shared with its other clients; with
     `server=False` it is not.
@@ -590,8 +591,10 @@ class Index:
         self._in = bytearray()
         self._untaken = {}  # refused replies that nobody has taken, the oldest first
         self._alone = threading.Lock()
-        if server is False or not self._is_served():
-            self._open(create, program or default_program(), patience, on_wait)
+        waiting = _Waiting(self.path, patience, on_wait)
+        while not (server is not False and self._is_served() or self._is_started(create, program or default_program())):
+            if waiting.is_over():
+                raise _in_use(self.path)
 
     def _is_served(self):
         """Opens the index by its server, where one listens and goes on."""
@@ -603,18 +606,22 @@ class Index:
             return False
         return service is not None
 
-    def _open(self, create, program, patience, on_wait):
-        """Opens the index by a program of its own."""
+    def _is_started(self, create, program):
+        """Opens the index by a program of its own, where no other one has it."""
         if create and not _holds_bytes(self.path):
             _make(program, self.path)
         if not os.path.exists(self.path):
             raise NoFile(self.path)
-        lock = _locked(self.path, patience, on_wait)
-        try:
-            link = _Program(program, self.path, pass_fds=(lock,))
-        finally:
-            os.close(lock)
-        self._begin(link)
+        with _turn(self.path) as is_free:
+            try:
+                if is_free:
+                    self._begin(_Program(program, self.path))
+            except DiskFault:
+                # One that does not ask for its turn, as one by hand, may have been sooner.
+                if not _is_locked(self.path):
+                    raise
+                return False
+            return is_free
 
     def _begin(self, link):
         """Takes the program or the server behind this link, once it has answered."""
@@ -1311,27 +1318,48 @@ def _replace_empty(fresh, path):
         os.replace(fresh, path)
 
 
-def _locked(path, patience, on_wait):
-    """A handle of the file, locked. The program keeps it too: it may outlive a client that was killed.
+@contextlib.contextmanager
+def _turn(path):
+    """Whether it is this client's turn to open the index at this path: no program has the file then.
 
-    Where there is no file there is nothing to lock: the program then says that there is no index.
+    The program locks the file itself, and ends where another has it. So that no two clients start one at once, each holds
+    the lock of the file's folder until its program has the file. Where there are no locks it is always its turn.
     """
+    with _opened(os.path.dirname(os.path.realpath(path)), os.O_RDONLY) as folder:
+        yield _lock(folder) and not _is_locked(path)
+
+
+def _is_locked(path):
+    """Whether a program has locked the file."""
+    with _opened(path, os.O_RDWR) as file:
+        return not _lock(file)
+
+
+@contextlib.contextmanager
+def _opened(path, flags):
+    """A handle, or None where it can't be had: the program then says why."""
     try:
-        handle = os.open(path, os.O_RDWR)
+        handle = os.open(path, flags)
     except OSError:
-        return os.open(os.devnull, os.O_RDWR)
-    waiting = _Waiting(path, patience, on_wait)
-    while True:
-        try:
+        yield None
+        return
+    try:
+        yield handle
+    finally:
+        os.close(handle)
+
+
+def _lock(handle):
+    """Locks what the handle is of until it is closed; false where another handle has it locked."""
+    try:
+        if handle is not None:
             fcntl.flock(handle, fcntl.LOCK_EX | fcntl.LOCK_NB)
-            return handle
-        except BlockingIOError:
-            if waiting.is_over():
-                os.close(handle)
-                raise _in_use(path) from None
-        except OSError:
-            # The file system has no locks.
-            return handle
+    except BlockingIOError:
+        return False
+    except OSError:
+        # The file system has no locks.
+        pass
+    return True
 
 
 class _Waiting:
@@ -1355,7 +1383,7 @@ class _Waiting:
 
 
 def _in_use(path):
-    return InUse(f"{path} is open in {holder(path) or 'another client, or in the program that it left'}")
+    return InUse(f"{path} is open in {holder(path) or 'another program, or another client is opening it'}")
 
 
 def holder(path):
