@@ -8,6 +8,7 @@ Without --program the tests of the real program are left out, and that is said.
 
 import contextlib
 import copy
+import datetime
 import faulthandler
 import gc
 import io
@@ -119,6 +120,23 @@ class Texts(unittest.TestCase):
         self.assertEqual(buncocedar.fitted("red  fox", 4), "red")
         self.assertEqual(buncocedar.fitted("red", 2), "re")
         self.assertEqual(buncocedar.fitted(" reddish", 3), " re")
+
+    def test_ranges_of_values(self):
+        day, moment = datetime.date(2024, 1, 31), datetime.datetime(2024, 12, 1, 23, 59)
+        for first, last, query in [
+            (1990, 1999, "value:1990..1999"),
+            (0, 4_294_967_295, "value:0..4294967295"),
+            (7, 7, "value:7..7"),
+            (day, moment, "value:20240131..20241201"),
+            (20240101, day, "value:20240101..20240131"),
+        ]:
+            self.assertEqual(buncocedar.value_range(first, last), query)
+        for first, last in [(2, 1), (-1, 5), (0, 4_294_967_296), (moment, day)]:
+            with self.assertRaises(ValueError):
+                buncocedar.value_range(first, last)
+        for first, last in [("1", 2), (1, None), (1.0, 2)]:
+            with self.assertRaises(TypeError):
+                buncocedar.value_range(first, last)
 
     def test_marks(self):
         for text, place, shown in [

@@ -11,8 +11,11 @@ program has; `send_add`, `send_delete` and `add_all` keep many lines under way a
 and its standard library.
 """
 
+from __future__ import annotations
+
 import contextlib
 import copy
+import datetime
 import fcntl
 import operator
 import os
@@ -32,10 +35,54 @@ import unicodedata
 import warnings
 import weakref
 from collections import deque
-from typing import NamedTuple
+from typing import Any, Callable, Iterable, Iterator, List, NamedTuple, Optional, Tuple, Union
+
+__version__ = "0.1.0"
+__all__ = [
+    "Added",
+    "BadLine",
+    "BadName",
+    "Closed",
+    "Cursor",
+    "Damaged",
+    "DiskFault",
+    "Ended",
+    "Error",
+    "Full",
+    "InUse",
+    "Index",
+    "IndexExists",
+    "InputFault",
+    "InputTooLong",
+    "LineTooLong",
+    "NameTaken",
+    "NoFile",
+    "NoIndex",
+    "NoNumbersLeft",
+    "NoSuchCursor",
+    "NoSuchDocument",
+    "NotUtf8",
+    "OutOfMemory",
+    "OutputFault",
+    "Page",
+    "ProtocolFault",
+    "QueryFault",
+    "Refused",
+    "Reply",
+    "ServerEnded",
+    "Stats",
+    "TooManyCursors",
+    "UnknownCommand",
+    "Usage",
+    "value_range",
+]
+
+Document = Tuple[str, str, str]  # name, title and body
+Row = Tuple[int, str]  # number and name
 
 LINE_LIMIT = 65_535  # bytes of a command line
 TITLE_ROOM = 4_096  # bytes that a title keeps where its line is cut
+MOST_VALUE = 4_294_967_295  # that a range of values may name
 LINES_UNDER_WAY = 64  # lines without a reply, at most
 BYTES_WAITING = 262_144  # bytes of lines that wait to be written, before one more is sent
 REFUSALS_KEPT = 1_000  # refused replies that nobody has taken yet, before the oldest is warned of
@@ -322,7 +369,7 @@ def _ended(status, line, path=None, opened=True):
     return (_ENDS.get(status, Ended) if known else Ended)(status, line, path, opened)
 
 
-def disk_cause(path):
+def disk_cause(path: str) -> Optional[str]:
     """Why the file at the path may be one that can't be read or written, as far as the system tells, or None."""
     folder = os.path.dirname(os.path.abspath(path))
     try:
@@ -368,12 +415,12 @@ class Closed(Error):
 # --- Texts.
 
 
-def name_ok(name):
+def name_ok(name: str) -> bool:
     """Whether the text is a name: 1 to 64 graphic ASCII characters."""
     return _NAME.fullmatch(_text(name, "a name")) is not None
 
 
-def one_line(text, what="a text"):
+def one_line(text: str, what: str = "a text") -> str:
     """The text as it stands in a line: tabs, newlines and carriage returns are spaces, and lone surrogates U+FFFD."""
     text = _text(text, what).translate({9: " ", 10: " ", 13: " "})
     try:
@@ -397,7 +444,7 @@ def _whole(number, what):
         raise TypeError(f"{what} must be an int, not {type(number).__name__}") from None
 
 
-def fitted(text, room):
+def fitted(text: str, room: int) -> str:
     """The text where it has at most so many bytes, and else its front up to a word's end, or what fits of its first word."""
     data = text.encode()
     if len(data) <= room:
@@ -407,7 +454,7 @@ def fitted(text, room):
     return (front or data[:room]).decode(errors="ignore")
 
 
-def add_line(name, title, body, cut=False):
+def add_line(name: str, title: str, body: str, cut: bool = False) -> Tuple[bytes, int]:
     """The line that adds a document, as bytes with its newline, and how many bytes of title and body were cut off.
 
     Raises `BadName`, and `LineTooLong` where the line has more than 65,535 bytes. With `cut` such a line is cut at the end
@@ -432,7 +479,23 @@ def _too_long(length, command):
     return error
 
 
-def columns(text):
+def value_range(first: Union[int, datetime.date], last: Union[int, datetime.date]) -> str:
+    """The query for a number from the first to the last one, both among them: `value:20240101..20241231`.
+
+    A date, or a date with its time, stands for the number of its day, as 20240131 for 2024-01-31. Raises `ValueError` where
+    the first is above the last or one is none of 0 to 4,294,967,295.
+    """
+    low, high = (_whole(_day(value), "a value") for value in (first, last))
+    if not 0 <= int(low) <= int(high) <= MOST_VALUE:
+        raise ValueError(f"no range of values from 0 to {MOST_VALUE:,}: {low} to {high}")
+    return f"value:{low}..{high}"
+
+
+def _day(value):
+    return value.year * 10_000 + value.month * 100 + value.day if isinstance(value, datetime.date) else value
+
+
+def columns(text: str) -> int:
     """How many columns of a terminal the text takes: two for a wide character, none for one that is put on another."""
     return sum(map(_columns_of, text))
 
@@ -443,7 +506,7 @@ def _columns_of(character):
     return 2 if unicodedata.east_asian_width(character) in "WF" else 1
 
 
-def marked(text, place):
+def marked(text: str, place: int) -> str:
     """The text on a line and a mark on the next, under the character at this byte of its UTF-8, or behind its end.
 
     Of a long text only what is near the mark is shown. What cannot be printed is a U+FFFD.
@@ -481,7 +544,7 @@ class Stats(NamedTuple):
 class Page(NamedTuple):
     """Rows (number, name) of a cursor, and whether there are more."""
 
-    rows: list
+    rows: List[Row]
     more: bool
 
 
@@ -505,12 +568,12 @@ class Reply:
         self._value = None
 
     @property
-    def error(self):
+    def error(self) -> Optional[Error]:
         """The refusal, or what came in place of a reply. Whoever looks at it has been told."""
         self._index._untaken.pop(self, None)
         return self._error
 
-    def result(self):
+    def result(self) -> Any:
         """Waits for the reply and gives its value, or raises its refusal, or the end of the program that came before it."""
         while not self.settled:
             self._index._turn()
@@ -520,14 +583,14 @@ class Reply:
             raise copy.copy(self.error)
         return self._value
 
-    def begin(self):
+    def begin(self) -> None:
         """Waits for the first line of the reply, and raises as `result` where there is no more to come."""
         while not (self._begun or self.settled):
             self._index._turn()
         if self.settled:
             self.result()
 
-    def each(self):
+    def each(self) -> Iterator[Any]:
         """The rows as they come, up to the end of the reply."""
         while True:
             while self.rows:
@@ -583,7 +646,17 @@ class Index:
     index does not open. An index that is dropped without `close` lets its program end, and so does the end of Python.
     """
 
-    def __init__(self, path, create=False, program=None, patience=10.0, on_wait=None, server=None):
+    path: str
+
+    def __init__(
+        self,
+        path: Union[str, os.PathLike[str]],
+        create: bool = False,
+        program: Optional[str] = None,
+        patience: float = 10.0,
+        on_wait: Optional[Callable[[str], object]] = None,
+        server: Optional[bool] = None,
+    ) -> None:
         self.path = os.fspath(path)
         self._fresh = deque()  # replies to lines that no turn has looked at yet
         self._pending = deque()  # replies to the lines before them
@@ -637,10 +710,10 @@ class Index:
             self.kill()
             raise
 
-    def __enter__(self):
+    def __enter__(self) -> Index:
         return self
 
-    def __exit__(self, kind, value, trace):
+    def __exit__(self, kind: Any, value: Any, trace: Any) -> None:
         """Ends the program: at once where the block was broken off, and else when what was sent is answered."""
         if kind is None:
             self.close()
@@ -655,7 +728,7 @@ class Index:
 
     # -- Documents.
 
-    def add(self, name, title, body, cut=False):
+    def add(self, name: str, title: str, body: str, cut: bool = False) -> Added:
         """Stores a document and answers its number, an `Added`: it is stored when this returns.
 
         Tabs, newlines and carriage returns in title and body become spaces. Raises `BadName`, `NameTaken`, `NoNumbersLeft`,
@@ -663,11 +736,11 @@ class Index:
         """
         return self.send_add(name, title, body, cut).result()
 
-    def delete(self, name):
+    def delete(self, name: str) -> int:
         """Deletes the document of this name and answers its number. Raises `BadName` and `NoSuchDocument`."""
         return self.send_delete(name).result()
 
-    def send_add(self, name, title, body, cut=False):
+    def send_add(self, name: str, title: str, body: str, cut: bool = False) -> Reply:
         """Sends what `add` sends, and answers its `Reply` at once, or when one of those under way has come."""
         line, dropped = add_line(name, title, body, cut)
         line = line[:-1]
@@ -679,13 +752,13 @@ class Index:
 
         return self._send(line, f"add {name}", _ADDED, made)
 
-    def send_delete(self, name):
+    def send_delete(self, name: str) -> Reply:
         """Sends what `delete` sends, and answers its `Reply` at once, or when one of those under way has come."""
         if not name_ok(name):
             raise BadName("! bad name", ascii(name[:80]))
         return self._send(f"delete {name}".encode(), f"delete {name}", _DELETED, _first_number)
 
-    def add_all(self, documents, cut=False):
+    def add_all(self, documents: Iterable[Document], cut: bool = False) -> Iterator[Tuple[str, Union[Added, Refused]]]:
         """Adds documents, each a (name, title, body), with many under way, and gives for each in order (name, outcome).
 
         The outcome is the `Added` number or the `Refused`. Where the program ends, its `Ended` is raised behind the outcome
@@ -708,7 +781,7 @@ class Index:
         if self._end is not None:
             self._check()
 
-    def add_many(self, documents, cut=False):
+    def add_many(self, documents: Iterable[Document], cut: bool = False) -> Tuple[int, List[Tuple[str, Refused]]]:
         """Adds documents, each a (name, title, body), and answers how many, and a (name, `Refused`) for each that was not."""
         added, refusals = 0, []
         for name, outcome in self.add_all(documents, cut):
@@ -718,59 +791,59 @@ class Index:
                 added += 1
         return added, refusals
 
-    def under_way(self):
+    def under_way(self) -> int:
         """How many lines were sent that have no reply yet: 64 at most."""
         return len(self._fresh) + len(self._pending)
 
-    def settle(self):
+    def settle(self) -> None:
         """Waits until every line that was sent is answered, or will not be."""
         while self.under_way():
             self._turn()
 
     # -- Queries.
 
-    def search(self, query):
+    def search(self, query: str) -> Iterator[Row]:
         """The live documents that match, as an iterator of (number, name) in order of number. Raises `QueryFault`."""
         reply = self._ask("search", query, _FOUND, _first_number, _ROW)
         reply.begin()
         return reply.each()
 
-    def count(self, query):
+    def count(self, query: str) -> int:
         """How many live documents match. Raises `QueryFault`."""
         return self._ask("count", query, _FOUND, _first_number).result()
 
-    def explain(self, query):
+    def explain(self, query: str) -> str:
         """The query's canonical spelling and, in the lines behind it, its plan. Raises `QueryFault`."""
         # The reply's end shows only by the next reply's begin.
         reply = self._ask("explain", query, _STATS, _nothing, _ANYTHING, behind=b"stats\n", after_refusal=True)
         reply.result()
         return "\n".join(reply.rows)
 
-    def cursor(self, query):
+    def cursor(self, query: str) -> Cursor:
         """A `Cursor` over the documents that match now. Raises `QueryFault` and `TooManyCursors`."""
         return Cursor(self, self._ask("open", query, _CURSOR, _first_number).result())
 
-    def stats(self):
+    def stats(self) -> Stats:
         """The `Stats` of the index."""
         return self._say("stats", _STATS, lambda last: Stats(int(last[1]), int(last[2]), int(last[3])))
 
     # -- Upkeep.
 
-    def flush(self):
+    def flush(self) -> None:
         """Writes the journal's documents as a level, and empties the journal."""
         self._say("flush", _OK, _nothing)
 
-    def merge(self):
+    def merge(self) -> None:
         """Joins all levels and the journal into one level, without the deleted documents."""
         self._say("merge", _OK, _nothing)
 
-    def step(self, terms):
+    def step(self, terms: int) -> None:
         """Moves the joining of the two oldest levels on by so many terms, 1 to 1,000,000."""
         self._say(f"step {_whole(terms, 'terms')}", _OK, _nothing)
 
     # -- Any line.
 
-    def answer(self, line):
+    def answer(self, line: bytes) -> List[str]:
         """The lines that the program answers to a command line, given in bytes without a newline; a refusal is one of them.
 
         For who has lines from elsewhere, as a server. A line that this client cannot tell the end of a reply to is refused.
@@ -791,7 +864,7 @@ class Index:
 
     # -- The end.
 
-    def close(self):
+    def close(self) -> None:
         """Waits until every line is answered, and ends the program.
 
         Raises its `Ended` where nothing raised it yet, or the first `Refused` of a line that was sent and whose reply nobody
@@ -811,7 +884,7 @@ class Index:
             error.args = (f"{error} (nobody took the replies to {len(untaken):,} refused lines: this is the first)",)
             raise error
 
-    def kill(self):
+    def kill(self) -> None:
         """Ends the program at once. Of the lines without a reply the first one may be done, and no other."""
         self._told = True
         if self._end is None:
@@ -819,7 +892,7 @@ class Index:
         while self._end is None:
             self._turn()
 
-    def break_off(self):
+    def break_off(self) -> None:
         """Ends the program from a signal handler: the calls that wait for it then go on as where it was killed."""
         self._link.kill()
 
@@ -974,21 +1047,21 @@ class Cursor:
         self.number = number
         self._index = index
 
-    def __enter__(self):
+    def __enter__(self) -> Cursor:
         return self
 
-    def __exit__(self, kind, value, trace):
+    def __exit__(self, kind: Any, value: Any, trace: Any) -> None:
         if self._index._end is None:
             self.close()
 
-    def page(self, count):
+    def page(self, count: int) -> Page:
         """The next `Page`, of at most so many rows, 1 to 1,000,000. Raises `NoSuchCursor` where it was closed."""
         line = f"fetch {self.number} {_whole(count, 'count')}"
         reply = self._index._send(line.encode(), line, _PAGE_END, lambda last: last[0] == "more", _ROW)
         more = reply.result()
         return Page(list(reply.rows), more)
 
-    def pages(self, count):
+    def pages(self, count: int) -> Iterator[Page]:
         """The pages up to the end, none of them empty."""
         more = True
         while more:
@@ -997,11 +1070,11 @@ class Cursor:
             if page.rows:
                 yield page
 
-    def __iter__(self):
+    def __iter__(self) -> Iterator[Row]:
         for page in self.pages(1000):
             yield from page.rows
 
-    def close(self):
+    def close(self) -> None:
         """Gives the cursor back."""
         self._index._say(f"close {self.number}", _CLOSED, _nothing)
 
@@ -1060,7 +1133,7 @@ def _outcome(outcome):
 # --- The program.
 
 
-def default_program():
+def default_program() -> str:
     """The path of the program.
 
     It is what the variable BUNCOCEDAR_PROGRAM says, or `alta` of the checkout that this client is in, or else `alta` or
@@ -1222,7 +1295,7 @@ class _Service:
         return self.status
 
 
-def server_path(path):
+def server_path(path: str) -> str:
     """Where the server of an index listens: a socket beside its file."""
     return os.path.realpath(path) + ".socket"
 
@@ -1386,7 +1459,7 @@ def _in_use(path):
     return InUse(f"{path} is open in {holder(path) or 'another program, or another client is opening it'}")
 
 
-def holder(path):
+def holder(path: str) -> Optional[str]:
     """Which process has the index open, by whom it was started and since when, in words; None where the system tells none."""
     try:
         found = os.stat(path)
