@@ -705,6 +705,20 @@ class Waiting(Case):
         self.assertIsNone(buncocedar.holder(self.path))
         self.assertIsNone(buncocedar.holder(os.path.join(self.folder.name, "none")))
 
+    def test_scripts_tell_it(self):
+        with self.fake():
+            for script, words in [("find.py", ["x"]), ("folder.py", [self.folder.name]), ("shell.py", [])]:
+                done = subprocess.run(
+                    [sys.executable, os.path.join(TOP, "examples", script), self.path, *words, "--wait", "0.8"],
+                    env={**os.environ, "BUNCOCEDAR_PROGRAM": FAKE},
+                    stdin=subprocess.DEVNULL,
+                    capture_output=True,
+                    text=True,
+                    timeout=PATIENCE,
+                )
+                self.assertEqual(done.returncode, 3, done.stderr)
+                self.assertEqual(done.stderr.count(f"{self.path} is open in "), 2, done.stderr)
+
     def test_a_wait_that_ends_well(self):
         index = self.fake()
         index.add("a", "", "")
