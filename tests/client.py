@@ -515,7 +515,7 @@ class Messages(Case):
 
     def test_words(self):
         for error, words in [
-            (buncocedar._ended(8, "alta: full, need 3, greatest gap 2", "x.alta"), ["x.alta: alta: full", "(status 8)", "stored"]),
+            (buncocedar._ended(8, "alta: full, need 3, greatest gap 2", "x.alta"), ["x.alta: alta: full", "(status 8)"]),
             (buncocedar._ended(6, "alta: damaged at 88", "x.alta"), ["x.alta: alta: damaged at 88", "a copy"]),
             (buncocedar._ended(-25, "", "x.alta"), ["x.alta: ended by signal 25", "File size limit", "stored"]),
             (buncocedar._ended(7, "alta: no index", "x.alta"), ["x.alta: alta: no index", "delete it"]),

@@ -34,7 +34,7 @@ LEVELS_KEPT = 12  # of the sixteen that an index may have
 SECONDS_TO_LEAVE = 2  # that clients have to take their last replies when the server ends
 STOPPED = 3
 
-_ON_A_CURSOR = re.compile(rb"(fetch|close) ([0-9]{1,20})(?![0-9])")
+_ON_A_CURSOR = re.compile(rb"(fetch|close) (0|[1-9][0-9]{0,19})(?![0-9])")
 _NO_CURSOR = b"65"  # a number that no cursor has
 _OPEN_SLOTS = (b"\xa5\x01", b"\xa5\x02")  # an open gate and a version whose slots have their levels counted here
 
@@ -89,9 +89,9 @@ class Session:
 
     def reply(self, line):
         """The reply to a line in pieces, each of some lines."""
-        word, _, rest = line.partition(b" ")
-        if word == b"search" and len(line) <= LINE_LIMIT:
-            yield from self.search(rest)
+        word, blank, query = line.partition(b" ")
+        if word == b"search" and blank and len(line) <= LINE_LIMIT:
+            yield from self.search(query)
         elif word == b"open":
             lines = self.ask(line)
             if lines[0].startswith("cursor "):
