@@ -14,6 +14,7 @@ import gc
 import io
 import json
 import os
+import pathlib
 import pickle
 import resource
 import signal
@@ -307,6 +308,13 @@ class Calls(Case):
         self.assertEqual(os.listdir(self.folder.name), ["x.alta"])
         with self.assertRaises(OSError):
             Index(self.path, program=os.path.join(self.folder.name, "nothing"))
+
+    def test_other_kinds_of_paths(self):
+        for path in (os.fsencode(self.path), pathlib.Path(self.path)):
+            with Index(path, create=True, program=FAKE) as index:
+                self.assertEqual((index.path, index.stats().documents), (self.path, 0))
+        with self.assertRaises(TypeError):
+            Index(1, program=FAKE)
 
     def test_what_a_program_says_beside(self):
         told = io.StringIO()

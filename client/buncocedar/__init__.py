@@ -650,14 +650,14 @@ class Index:
 
     def __init__(
         self,
-        path: Union[str, os.PathLike[str]],
+        path: Union[str, bytes, os.PathLike],
         create: bool = False,
         program: Optional[str] = None,
         patience: float = 10.0,
         on_wait: Optional[Callable[[str], object]] = None,
         server: Optional[bool] = None,
     ) -> None:
-        self.path = os.fspath(path)
+        self.path = os.fsdecode(path)
         self._fresh = deque()  # replies to lines that no turn has looked at yet
         self._pending = deque()  # replies to the lines before them
         self._out = bytearray()
