@@ -1,7 +1,7 @@
 #!/usr/bin/env python3
 """A program that speaks the lines of the index program, and misbehaves as it is told: for the tests of the client.
 
-It takes the words `PATH init` and `PATH run`, and keeps what it stores as lines of the file. A search finds the documents
+It takes the words `PATH init` and `PATH run`, and keeps what it stores as lines of the file, which it locks. A search finds the documents
 that have all words of the query, and one with `NOT name:!` all. The variable FAKE has what it is to do, as
 JSON:
 
@@ -21,6 +21,7 @@ mark PATH   makes this file when it falls silent or deaf, with its process numbe
 """
 
 import atexit
+import fcntl
 import json
 import os
 import shutil
@@ -67,6 +68,10 @@ def installed():
 class Store:
     def __init__(self, path):
         self.file = open(path, "r+b")
+        try:
+            fcntl.flock(self.file, fcntl.LOCK_EX | fcntl.LOCK_NB)
+        except BlockingIOError:
+            end(2)
         if self.file.readline() != b"fake\n":
             end(7)
         self.documents = {}

@@ -16,10 +16,12 @@ use std::rt::Files;
 const FILE_LIMIT: u64 = 1 << 40;
 
 /// A file as a disk, of at most 2^40 bytes. It is opened at the first call, and made where it is missing; its folder
-/// is synced then, so that a stop loses no file that this process or an earlier one made.
+/// is synced then, so that a stop loses no file that this process or an earlier one made. It is locked for this disk
+/// alone as long as it is open, by the system's advisory lock on whole files.
 ///
-/// A call fails where the file can't be opened, where it is longer than the limit, where a read ends early, where a
-/// write takes nothing, and at each other error of the system. Without a path every call fails.
+/// A call fails where the file can't be opened or locked, as where another holds the lock, where it is longer than the
+/// limit, where a read ends early, where a write takes nothing, and at each other error of the system. Without a path
+/// every call fails.
 #[derive(Drop)]
 pub struct FileDisk<R: Files<File = File> + Drop> {
     rt: R,
@@ -56,6 +58,7 @@ impl<R: Files<File = File> + Drop> FileDisk<R> {
             return Err(ErrorKind::NotFound.into());
         };
         let file = open_file(&self.rt, path)?;
+        file.try_lock()?;
         sync_folder(&self.rt, path)?;
         length_within(&file)?;
         self.file = Some(file);
