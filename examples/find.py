@@ -286,6 +286,7 @@ class View:
         self.places = places
         self.paint = Paint(wants_colour(options.color))
         self.terminal = sys.stdout.isatty()
+        self.path = None
 
     def clean(self, text):
         """The text for where it is written: a terminal is not to be steered by it."""
@@ -297,8 +298,7 @@ class View:
         if options.json:
             self.write(json.dumps(self.described(number, name, wanted)))
         elif options.paths:
-            found = self.places.found(name)
-            self.write(shown_path(found.path) if found else name)
+            self.show_path(name)
         elif options.names:
             self.write(name)
         elif options.show:
@@ -307,6 +307,15 @@ class View:
             self.write(f"{number} {self.paint(NAME, name)}")
             if options.context:
                 self.context(name, wanted)
+
+    def show_path(self, name):
+        """Writes the file in which a document stands, once for those that stand side by side."""
+        found = self.places.found(name)
+        if found is None:
+            print(f"find: {name}: where it was found is not known", file=sys.stderr)
+        elif found.path != self.path:
+            self.path = found.path
+            self.write(shown_path(found.path))
 
     def write(self, text):
         raw = self.options.json or self.options.null

@@ -493,10 +493,10 @@ class Import:
 
         Where the source gave nothing, or a part of it could not be looked at, that says nothing of what is in it.
         """
-        if self.unseen or not self.used:
-            return
         self.index.settle()
         self.collect()
+        if self.sent or self.unseen or not self.used:
+            return
         self.gone = [
             name
             for name, stamp in self.stamps.of.items()

@@ -388,6 +388,91 @@ class Folders(Case):
         self.assertEqual(sorted(self.stored()), sorted(f"p{i}" for i in range(added)))
         self.assertNotIn("not stored", said)
 
+    def test_an_interrupt_while_the_source_is_quiet(self):
+        process = self.start("packages.py", self.path, stdin=subprocess.PIPE)
+        process.stdin.write("Package: a\nDescription: a\n\nPackage: b\nDescription: b\n\n")
+        process.stdin.flush()
+        until(lambda: os.path.exists(self.path) and b"add b" in self.read(self.path))
+        process.send_signal(signal.SIGINT)
+        self.assertEqual(process.wait(PATIENCE), 130)
+        said = process.communicate()[1]
+        self.assertIn("2 documents: 2 added\n", said)
+        self.assertIn("interrupted: run this again", said)
+        stanzas = self.write("status", "Package: a\nDescription: a\n\nPackage: b\nDescription: b\n")
+        self.assertIn("0 added, 2 unchanged", self.run_script("packages.py", self.path, stanzas))
+
+    def test_what_is_gone(self):
+        notes = self.notes(4)
+        self.write("notes/long", "word " * (LINE_LIMIT // 2))
+        self.write("others/003.txt", "another")
+        self.run_script("folder.py", self.path, notes)
+        self.run_script("folder.py", self.path, self.at("others"))
+        for name in ("001.txt", "long"):
+            os.remove(self.at(f"notes/{name}"))
+        said = self.run_script("folder.py", self.path, notes)
+        self.assertIn("2 documents of earlier runs not seen any more, and still in the index; --prune deletes such", said)
+        self.assertIn("long~p2", self.stored())
+        said = self.run_script("folder.py", "--prune", self.path, notes)
+        self.assertIn("3 documents: 0 added, 3 unchanged\n", said)
+        self.assertIn("2 documents of earlier runs not seen any more, and deleted\n", said)
+        self.assertEqual(sorted(self.stored()), ["000.txt", "002.txt", "003.txt", "003.txt~2"])
+        self.assertNotIn("not seen", self.run_script("folder.py", "--prune", self.path, notes))
+        self.assertFalse({"001.txt", "long"} & set(stamps.Records(self.path + ".stamps").of))
+        # What comes again is new.
+        self.write("notes/001.txt", "text 1")
+        self.assertIn("1 added, 3 unchanged", self.run_script("folder.py", "--prune", self.path, notes))
+        # A source that gives nothing, or whose end was not reached, says nothing of what is gone.
+        shutil.rmtree(notes)
+        os.mkdir(notes)
+        self.assertIn("nothing was pruned", self.run_script("folder.py", "--prune", self.path, notes))
+        self.write("notes/000.txt", "text 0")
+        said = self.run_script("folder.py", "--prune", self.path, notes, do={"end": [3, -9]}, expect=3)
+        self.assertNotIn("not seen", said)
+        self.assertEqual(len(self.stored()), 5)
+
+    def test_what_cannot_be_seen_is_not_gone(self):
+        source = stamps.Source("folder", self.place.name)
+        text = importing.Text("", "text")
+        options = importing.Options(prune=True)
+        seen = importing.Document("a", b"1", lambda: text)
+        unseen = folder.no_document("sub", importing.Unseen("Permission denied"))
+        told = io.StringIO()
+        with mock.patch.dict(os.environ, {"BUNCOCEDAR_PROGRAM": FAKE}), contextlib.redirect_stderr(told):
+            importing.bring("folder", self.path, source, [seen, importing.Document("sub/b", b"1", lambda: text)])
+            self.assertEqual(importing.bring("folder", self.path, source, [seen, unseen], options), 1)
+        self.assertIn("refused sub: Permission denied", told.getvalue())
+        self.assertIn("nothing was pruned", told.getvalue())
+        self.assertEqual(set(self.stored()), {"a", "sub/b"})
+
+    def test_merges(self):
+        class Merging(importing.Index):
+            merges = []
+
+            def merge(self):
+                self.merges.append(self.stats().documents)
+                super().merge()
+
+        notes = self.notes(30)
+        source = stamps.Source("folder", notes)
+        for merge, merges in ((True, [10, 20, 30]), (False, [])):
+            Merging.merges.clear()
+            if os.path.exists(self.path):
+                os.remove(self.path)
+            with mock.patch.object(importing, "MERGE_BYTES", 10 * len("000.txttext 0")), mock.patch.object(importing, "Index", Merging):
+                with mock.patch.dict(os.environ, {"BUNCOCEDAR_PROGRAM": FAKE}), contextlib.redirect_stderr(io.StringIO()):
+                    options = importing.Options(merge=merge)
+                    self.assertEqual(importing.bring("folder", self.path, source, folder.files(notes), options), 0)
+            self.assertEqual([number for number in Merging.merges], merges)
+        # A program without levels, and one that ends in a merge.
+        for do, status, stored in (({"old": True}, 0, 30), ({"end": [13, -9]}, 3, 10)):
+            os.remove(self.path)
+            told = io.StringIO()
+            with contextlib.redirect_stderr(told):
+                with mock.patch.object(importing, "MERGE_BYTES", 10 * len("000.txttext 0")):
+                    with mock.patch.dict(os.environ, {"BUNCOCEDAR_PROGRAM": FAKE, "FAKE": json.dumps(do)}):
+                        self.assertEqual(importing.bring("folder", self.path, source, folder.files(notes)), status, told.getvalue())
+            self.assertEqual(len(self.stored()), stored)
+
     def test_a_second_interrupt(self):
         # A program that answers no more is ended, and the counts are those of what it answered.
         notes = self.notes(300)
@@ -432,6 +517,12 @@ class Folders(Case):
         said = self.run_script("folder.py", "-", notes, expect=1)
         self.assertEqual(self.out.split("\n")[:2], ["add 000.txt\t000.txt\ttext 0", "add 001.txt\t001.txt\ttext 1"])
         self.assertIn("3 documents written, 0 in parts, 0 passed over, 1 refused", said)
+
+    def test_lines_that_cannot_be_written(self):
+        notes = self.notes(3)
+        with open("/dev/full", "w") as full:
+            said = self.run_script("folder.py", "-", notes, stdout=full, expect=3)
+        self.assertEqual(said, "folder: standard output could not be written: No space left on device\n")
 
     def test_progress(self):
         notes = self.notes(50)
@@ -930,6 +1021,73 @@ class RealProgram(Case):
         self.assertEqual(len(self.found("letter")), 200)
         self.assertEqual(len(self.found("x")), 16)
         self.assertIn("200 documents: 0 added, 200 unchanged\n", self.run_script("mail.py", self.path, path))
+
+    def test_made_beside(self):
+        path = self.mailbox(50, 1000)
+        said = self.run_script("mail.py", "--fast", self.path, path)
+        self.assertIn("50 documents: 50 added\n", said)
+        self.assertEqual(sorted(os.listdir(self.place.name)), ["mail.mbox", "x.alta", "x.alta.stamps"])
+        self.assertEqual(len(self.found("letter")), 50)
+        self.assertEqual(self.found("w7"), ["8 7@x"])
+        # The index is there now, and is added to.
+        path = self.mailbox(60, 1000)
+        said = self.run_script("mail.py", "--fast", self.path, path)
+        self.assertIn("x.alta is there already", said)
+        self.assertIn("60 documents: 10 added, 50 unchanged\n", said)
+        # An interrupt keeps what was done.
+        self.path = self.at("y.alta")
+        process = self.start("packages.py", "--fast", self.path, stdin=subprocess.PIPE)
+        process.stdin.write("".join(f"Package: p{i}\nDescription: letter {i}\n\n" for i in range(5)))
+        process.stdin.flush()
+        pattern = os.path.join(importing.MEMORY if os.path.isdir(importing.MEMORY) else tempfile.gettempdir(), "buncocedar-*/index.alta")
+        until(lambda: any(b"letter 4" in self.read(beside) for beside in glob.glob(pattern)))
+        self.assertFalse(os.path.exists(self.path))
+        process.send_signal(signal.SIGINT)
+        self.assertIn("5 documents: 5 added\n", process.communicate(timeout=PATIENCE)[1])
+        self.assertEqual(process.returncode, 130)
+        self.assertEqual(len(self.found("letter")), 5)
+
+    def test_back_to_a_message(self):
+        path = self.write(
+            "mail.mbox",
+            b"From a Mon Jan  1 00:00:00 2024\nMessage-ID: <a@x>\nFrom: Ann Lee <ann@example.org>\nTo: bob@example.org\n"
+            b"Date: Tue, 2 Jan 2024 10:00:00 +0100\nSubject: Report\nContent-Type: multipart/mixed; boundary=b\n\n--b\n\n"
+            b"The report of\nthe year.\n--b\nContent-Type: application/pdf; name=plan.pdf\n\nx\n--b--\n\n"
+            b"From b Mon Jan  1 00:00:00 2024\nMessage-ID: <b@x>\nFrom: bob@example.org\nTo: ann@example.org\n\nThanks, Ann.\n",
+        )
+        self.run_script("mail.py", self.path, path)
+        for query, rows in [
+            ('"from ann"', ["1 a@x"]),
+            ("from NEAR/3 bob", ["2 b@x"]),
+            ('"to bob"', ["1 a@x"]),
+            ("20240102", ["1 a@x"]),
+            ("2024*", ["1 a@x"]),
+            ('"attachment plan.pdf"', ["1 a@x"]),
+            ("ann", ["2 b@x", "1 a@x"]),
+        ]:
+            self.assertEqual(self.found(query), rows, query)
+        self.run_script("find.py", self.path, '"report of the year"', "--context")
+        self.assertRegex(self.out, r"1 a@x\n    .*mail.mbox: 2024-01-02 Ann Lee <ann@example.org>: Report\n    The report of\nfound 1\n")
+        self.run_script("find.py", self.path, "name:b@x", "--show")
+        self.assertEqual(self.out, "Subject: \nFrom: bob@example.org\nTo: ann@example.org\n\nThanks, Ann.\n")
+
+    def test_long_documents(self):
+        # The last words of a part begin the next one, so that no phrase is lost.
+        words = [f"w{number}" for number in range(LINE_LIMIT // 2)]
+        self.write("notes/long.txt", "\n".join(words))
+        self.run_script("folder.py", self.path, self.at("notes"))
+        parts = len(stamps.Records(self.path + ".stamps").of["long.txt"].numbers)
+        self.assertGreater(parts, 1)
+        with importing.Index(self.path, program=PROGRAM) as index:
+            self.assertEqual(index.count("w*"), parts)
+            lost = [at for at in range(len(words) - 1) if at % 97 == 0 and not index.count(f'"{words[at]} {words[at + 1]}"')]
+            self.assertEqual(lost, [])
+            # Each border has its words twice, and so each phrase over it.
+            text = importing.Text("long.txt", "\n".join(words))
+            begins = [body.split(" ")[:2] for _, _, body in importing.parts_of("long.txt", text, False)[1:]]
+            self.assertEqual([index.count(f'"{first} {second}"') for first, second in begins], [2] * (parts - 1))
+        self.run_script("find.py", self.path, words[-1], "--context")
+        self.assertRegex(self.out, rf"long.txt:{len(words)}: {words[-1]}\nfound 1")
 
     def test_more_than_a_journal(self):
         path = self.mailbox(200, 1000)
