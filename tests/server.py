@@ -296,6 +296,13 @@ class Ends(Case):
         os.chmod(self.path, 0o640)
         self.serve()
         self.assertEqual(stat.S_IMODE(os.stat(self.socket).st_mode), 0o640)
+        # What only leads to a server elsewhere is none of this index.
+        other = os.path.join(self.folder, "other.alta")
+        os.symlink(self.socket, other + ".socket")
+        with Index(other, create=True, program=self.program) as index:
+            index.add("a", "", "")
+        with self.index() as index:
+            self.assertEqual(index.stats().documents, 0)
         # A client that wants a program of its own does not get the server.
         with self.assertRaises(buncocedar.InUse):
             Index(self.path, program=self.program, patience=0, server=False)

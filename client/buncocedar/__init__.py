@@ -1305,7 +1305,8 @@ def _connected(path):
     place = server_path(path)
     connection = socket.socket(socket.AF_UNIX)
     try:
-        if os.stat(place).st_uid in (os.geteuid(), os.stat(path).st_uid):
+        found = os.lstat(place)
+        if stat.S_ISSOCK(found.st_mode) and found.st_uid in (os.geteuid(), os.stat(path).st_uid):
             connection.connect(place)
             return _Service(connection)
     except OSError:

@@ -63,6 +63,7 @@ class Session:
         self.thread = threading.Thread(target=self.run, daemon=True)
 
     def run(self):
+        self.server.sessions.add(self)
         try:
             with self.connection, self.connection.makefile("rb") as file:
                 with contextlib.suppress(Ended, Stopped):
@@ -214,13 +215,10 @@ class Server:
         while not self._stopped:
             try:
                 connection, _ = self.listener.accept()
-            except OSError:
-                # There are too many files open, or the server ends.
+                Session(self, connection).thread.start()
+            except (OSError, RuntimeError):
+                # There are too many files or threads, or the server ends.
                 time.sleep(0.1)
-                continue
-            session = Session(self, connection)
-            self.sessions.add(session)
-            session.thread.start()
 
     def _do(self, line, future):
         try:
