@@ -99,10 +99,10 @@ def check_stamps(path, live):
     if not count:
         return WHOLE
     if lost:
-        say(f"{stamps_path(path)}: of {count:,} documents {len(lost):,} are not in the index as they were brought in, {lost[0]} among them")
+        say(f"{path}.stamps: of {count:,} documents {len(lost):,} are not in the index as they were brought in, {lost[0]} among them")
         say("the importing scripts bring them in again")
         return DAMAGED
-    say(f"{stamps_path(path)}: its {count:,} documents are in the index")
+    say(f"{path}.stamps: its {count:,} documents are in the index")
     return WHOLE
 
 

@@ -152,9 +152,13 @@ class Wanted:
 
     def broken_phrase(self, lines):
         """The line in which the first phrase begins that goes on in the next."""
-        for number in range(len(lines) - 1 if self.long else 0):
-            if spans_of(f"{lines[number]} {lines[number + 1]}", self.long)[1]:
-                return number
+        text = "\n".join(lines)
+        fold = text.casefold()
+        for folds, pattern in self.long:
+            searched = fold if folds else text
+            match = pattern.search(searched)
+            if match:
+                return searched.count("\n", 0, match.start())
         return None
 
 

@@ -311,7 +311,8 @@ def show(archive, name, as_it_stands):
                 sys.stdout.buffer.flush()
             else:
                 text = Message(raw).text()
-                write(printable(f"Subject: {text.title}\n{text.head}\n\n{text.body.rstrip()}\n"))
+                shown = f"Subject: {text.title}\n{text.head}\n\n{text.body.rstrip()}\n"
+                write(printable(shown) if sys.stdout.isatty() else shown)
             return 0
     print(f"mail: {archive}: it has no message {name}", file=sys.stderr)
     return 1

@@ -206,16 +206,21 @@ def checked(scripts, path, status, *texts):
     expect(contents(path) == before, "the check has changed the index")
 
 
-def checks(scripts, chance):
+def list_of(level, wanted):
+    """Where in a level the list of a term begins."""
+    _, count, document_bytes, term_bytes = read_head(level)
+    terms = read_terms(level, 32 + document_bytes, 32 + document_bytes + term_bytes, count)
+    return next(bounds[0] for term, _, bounds in terms if term == wanted)
+
+
+def checks(scripts):
     """Whole indexes and broken ones."""
     changes = [f"d{i}" if delete else (f"d{i}", "red fox", "the lazy dog " * 30) for i in range(12) for delete in ([0, 1] if i == 4 else [0])]
     content, places, found = levels.split(random.Random(3), changes, len(changes))
     path = put(scripts.at("x.alta"), content)
     checked(scripts, path, 0, "whole: 11 documents", "free room")
     number, (level, place) = max(enumerate(zip(found, places), 1), key=lambda pair: len(pair[1][0]))
-    _, count, document_bytes, term_bytes = read_head(level)
-    terms = read_terms(level, 32 + document_bytes, 32 + document_bytes + term_bytes, count)
-    at = place + next(bounds[0] for term, _, bounds in terms if term == b"Wlazy")
+    at = place + list_of(level, b"Wlazy")
     slot, root = reading.read_roots(content)
     for bad, value, where in (
         (at, 0, f"in level {number} of {len(root.levels)}"),
@@ -231,9 +236,10 @@ def checks(scripts, chance):
     one = scripts.at("one.alta")
     levels.answered(scripts.program, one, [*(f"add d{i}\t\tred fox" for i in range(99)), "merge"])
     checked(scripts, one, 0, "whole: 99 documents", "levels: 1")
-    content = contents(one)
-    slot, root = reading.read_roots(content)
-    put(one, content[: root.levels[0].place + root.levels[0].length - 3] + b"\0" + content[root.levels[0].place + root.levels[0].length - 2 :])
+    content = bytearray(contents(one))
+    place, length = reading.read_roots(content)[1].levels[0]
+    content[place + list_of(bytes(content[place : place + length]), b"Wred")] = 0
+    put(one, content)
     checked(scripts, one, 1, "in level 1 of 1")
     put(one, content[: reading.HEAD - 1])
     checked(scripts, one, 1, f"damaged at {reading.HEAD - 1}")
@@ -275,7 +281,7 @@ def main():
         program_made(scripts)
         refusals(scripts, chance)
         killed(scripts, chance)
-        checks(scripts, chance)
+        checks(scripts)
         lost(scripts)
     print(f"upkeep: {options.rounds} rounds of copies, and what is refused, killed, damaged and lost")
 
