@@ -11,8 +11,8 @@ use std::test::Fail;
 
 const LIMIT: u64 = 1 << 40;
 
-// The calls of a disk by which an index without documents is opened.
-const OPENING: u64 = 6;
+// The calls of a disk by which an index without documents is opened: a sync, the length, both slots and a half of the journal.
+const OPENING: u64 = 5;
 
 const FIRST: &[u8] = b"add a\tRed Fox\tthe quick red fox\n";
 
