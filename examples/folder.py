@@ -17,9 +17,11 @@ import zlib
 from importing import BAD_USE, TEXT_LIMIT, Document, NoText, Text, Unfit, Unseen, arguments, bring_as
 from stamps import Place, stamps_path
 
+from buncocedar import server_path
+
 BINARY_LOOK = 8_192  # bytes that are looked at for a NUL
 CHUNK = 1 << 20
-SKIPPED = (".git", ".hg", ".svn", "*.alta", "*.alta.stamps", "*.alta.stamps.new")
+SKIPPED = (".git", ".hg", ".svn", "*.alta", "*.alta.stamps", "*.alta.stamps.new", "*.alta.socket")
 
 
 def no_document(path, why):
@@ -127,7 +129,7 @@ def main():
         print(f"folder: {options.folder} is no folder", file=sys.stderr)
         return BAD_USE
     stamps = stamps_path(options.index)
-    without = {os.path.realpath(options.index), stamps, f"{stamps}.new"}
+    without = {os.path.realpath(options.index), stamps, f"{stamps}.new", server_path(options.index)}
     selection = Selection(options.only, options.skip)
     return bring_as("folder", options, os.path.realpath(options.folder), files(options.folder, without, selection, options.latin_1))
 

@@ -196,7 +196,8 @@ class Lines(Case):
             with open(os.path.join(self.folder, "notes", name), "w") as file:
                 file.write("The quick fox")
         server = self.serve()
-        words = [os.path.join(self.folder, "notes")]
+        # The folder has the index and the server's socket besides, which are no documents.
+        words = [self.folder]
         for script, arguments, status in [("folder.py", words, 0), ("find.py", ["fox"], 0), ("find.py", ["dog"], 1)]:
             done = subprocess.run(
                 [sys.executable, os.path.join(TOP, "examples", script), self.path, *arguments],
