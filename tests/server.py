@@ -206,6 +206,7 @@ class Lines(Case):
                 timeout=PATIENCE,
             )
             self.assertEqual(done.returncode, status, done.stderr)
+            self.assertNotIn(b"passed over", done.stderr)
         self.assertEqual(self.end(server)[0], 0)
 
 
