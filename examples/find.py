@@ -525,6 +525,10 @@ class History:
             print(f"find: the history could not be kept: {error}", file=sys.stderr)
 
 
+def say(text):
+    print(f"find: {text}", file=sys.stderr)
+
+
 # --- Words.
 
 
@@ -540,6 +544,7 @@ def words():
         prog="examples/find.py", description=__doc__, formatter_class=argparse.RawDescriptionHelpFormatter
     )
     parser.add_argument("index", metavar="INDEX")
+    parser.add_argument("--wait", metavar="SECONDS", type=float, default=10.0, help="how long to wait for who has it open")
     parser.add_argument("query", metavar="QUERY", nargs="?", help="without one, queries are read line by line")
     parser.add_argument("--limit", "--last", metavar="N", type=count_of, help="no more than the N newest (20 at the prompt)")
     parser.add_argument("--oldest", action="store_true", help="the oldest first, as they come from the index")
@@ -573,7 +578,7 @@ def main():
     view = View(options, places)
     status = 3
     try:
-        with quiet_end(), Index(options.index) as index:
+        with quiet_end(), Index(options.index, patience=options.wait, on_wait=say) as index:
             if options.query is None:
                 limit = PROMPT_LIMIT if options.limit is None and sys.stdin.isatty() else options.limit
                 with History():

@@ -267,6 +267,7 @@ class Options(NamedTuple):
     prune: bool = False
     merge: bool = True
     verbose: bool = False
+    wait: float = 10.0
 
 
 class Import:
@@ -611,7 +612,7 @@ def bring(tool, path, source, documents, options=Options(), fast=False):
             return bring_beside(log, path, source, documents, options)
         return bring_into(log, path, source, documents, options)
     except (Error, OSError, Unusable) as error:
-        log.say(f"{path}: {error}")
+        log.say(error if str(error).startswith(path) else f"{path}: {error}")
         return STOPPED
     except KeyboardInterrupt:
         log.say("broken off: run this again, and it goes on from here")
@@ -619,7 +620,7 @@ def bring(tool, path, source, documents, options=Options(), fast=False):
 
 
 def bring_into(log, path, source, documents, options):
-    with Index(path, create=True) as index, Interrupts(index) as interrupts:
+    with Index(path, create=True, patience=options.wait, on_wait=log.say) as index, Interrupts(index) as interrupts:
         stamps = Stamps(stamps_path(path))
         work = Import(index, stamps, source, options, log)
         work.run(documents, interrupts)
@@ -706,10 +707,11 @@ def arguments(tool, describe, *names):
     parser.add_argument("--whole", action="store_true", help="refuse what is too long for a line, in place of parts")
     parser.add_argument("--no-merge", action="store_true", help=f"do not join the levels each {MERGE_BYTES:,} bytes")
     parser.add_argument("--verbose", action="store_true", help="list what is passed over, since it is no text")
+    parser.add_argument("--wait", metavar="SECONDS", type=float, default=10.0, help="how long to wait for who has it open")
     return parser
 
 
 def bring_as(tool, words, path, documents):
     """Brings documents in as the words of a script say; the path is that of their source."""
-    options = Options(words.whole, words.prune, not words.no_merge, words.verbose)
+    options = Options(words.whole, words.prune, not words.no_merge, words.verbose, words.wait)
     return bring(tool, words.index, Source(tool, path), documents, options, words.fast)

@@ -14,6 +14,7 @@ import gc
 import io
 import json
 import os
+import pathlib
 import pickle
 import resource
 import signal
@@ -308,6 +309,13 @@ class Calls(Case):
         with self.assertRaises(OSError):
             Index(self.path, program=os.path.join(self.folder.name, "nothing"))
 
+    def test_other_kinds_of_paths(self):
+        for path in (os.fsencode(self.path), pathlib.Path(self.path)):
+            with Index(path, create=True, program=FAKE) as index:
+                self.assertEqual((index.path, index.stats().documents), (self.path, 0))
+        with self.assertRaises(TypeError):
+            Index(1, program=FAKE)
+
     def test_what_a_program_says_beside(self):
         told = io.StringIO()
         with contextlib.redirect_stderr(told):
@@ -515,7 +523,7 @@ class Messages(Case):
 
     def test_words(self):
         for error, words in [
-            (buncocedar._ended(8, "alta: full, need 3, greatest gap 2", "x.alta"), ["x.alta: alta: full", "(status 8)", "stored"]),
+            (buncocedar._ended(8, "alta: full, need 3, greatest gap 2", "x.alta"), ["x.alta: alta: full", "(status 8)"]),
             (buncocedar._ended(6, "alta: damaged at 88", "x.alta"), ["x.alta: alta: damaged at 88", "a copy"]),
             (buncocedar._ended(-25, "", "x.alta"), ["x.alta: ended by signal 25", "File size limit", "stored"]),
             (buncocedar._ended(7, "alta: no index", "x.alta"), ["x.alta: alta: no index", "delete it"]),
@@ -704,6 +712,20 @@ class Waiting(Case):
             self.assertEqual(len(told), 1)
         self.assertIsNone(buncocedar.holder(self.path))
         self.assertIsNone(buncocedar.holder(os.path.join(self.folder.name, "none")))
+
+    def test_scripts_tell_it(self):
+        with self.fake():
+            for script, words in [("find.py", ["x"]), ("folder.py", [self.folder.name]), ("shell.py", [])]:
+                done = subprocess.run(
+                    [sys.executable, os.path.join(TOP, "examples", script), self.path, *words, "--wait", "0.8"],
+                    env={**os.environ, "BUNCOCEDAR_PROGRAM": FAKE},
+                    stdin=subprocess.DEVNULL,
+                    capture_output=True,
+                    text=True,
+                    timeout=PATIENCE,
+                )
+                self.assertEqual(done.returncode, 3, done.stderr)
+                self.assertEqual(done.stderr.count(f"{self.path} is open in "), 2, done.stderr)
 
     def test_a_wait_that_ends_well(self):
         index = self.fake()

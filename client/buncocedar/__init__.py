@@ -650,14 +650,14 @@ class Index:
 
     def __init__(
         self,
-        path: Union[str, os.PathLike[str]],
+        path: Union[str, bytes, os.PathLike],
         create: bool = False,
         program: Optional[str] = None,
         patience: float = 10.0,
         on_wait: Optional[Callable[[str], object]] = None,
         server: Optional[bool] = None,
     ) -> None:
-        self.path = os.fspath(path)
+        self.path = os.fsdecode(path)
         self._fresh = deque()  # replies to lines that no turn has looked at yet
         self._pending = deque()  # replies to the lines before them
         self._out = bytearray()
@@ -1305,7 +1305,8 @@ def _connected(path):
     place = server_path(path)
     connection = socket.socket(socket.AF_UNIX)
     try:
-        if os.stat(place).st_uid in (os.geteuid(), os.stat(path).st_uid):
+        found = os.lstat(place)
+        if stat.S_ISSOCK(found.st_mode) and found.st_uid in (os.geteuid(), os.stat(path).st_uid):
             connection.connect(place)
             return _Service(connection)
     except OSError:

@@ -34,7 +34,7 @@ LEVELS_KEPT = 12  # of the sixteen that an index may have
 SECONDS_TO_LEAVE = 2  # that clients have to take their last replies when the server ends
 STOPPED = 3
 
-_ON_A_CURSOR = re.compile(rb"(fetch|close) ([0-9]{1,20})(?![0-9])")
+_ON_A_CURSOR = re.compile(rb"(fetch|close) (0|[1-9][0-9]{0,19})(?![0-9])")
 _NO_CURSOR = b"65"  # a number that no cursor has
 _OPEN_SLOTS = (b"\xa5\x01", b"\xa5\x02")  # an open gate and a version whose slots have their levels counted here
 
@@ -63,6 +63,7 @@ class Session:
         self.thread = threading.Thread(target=self.run, daemon=True)
 
     def run(self):
+        self.server.sessions.add(self)
         try:
             with self.connection, self.connection.makefile("rb") as file:
                 with contextlib.suppress(Ended, Stopped):
@@ -89,9 +90,9 @@ class Session:
 
     def reply(self, line):
         """The reply to a line in pieces, each of some lines."""
-        word, _, rest = line.partition(b" ")
-        if word == b"search" and len(line) <= LINE_LIMIT:
-            yield from self.search(rest)
+        word, blank, query = line.partition(b" ")
+        if word == b"search" and blank and len(line) <= LINE_LIMIT:
+            yield from self.search(query)
         elif word == b"open":
             lines = self.ask(line)
             if lines[0].startswith("cursor "):
@@ -214,13 +215,10 @@ class Server:
         while not self._stopped:
             try:
                 connection, _ = self.listener.accept()
-            except OSError:
-                # There are too many files open, or the server ends.
+                Session(self, connection).thread.start()
+            except (OSError, RuntimeError):
+                # There are too many files or threads, or the server ends.
                 time.sleep(0.1)
-                continue
-            session = Session(self, connection)
-            self.sessions.add(session)
-            session.thread.start()
 
     def _do(self, line, future):
         try:

@@ -1,6 +1,6 @@
 //! What an image of a disk means once levels are on it: what opening finds, the first place that is broken, and the state that it
-//! stands for; and what writes, a switch of the root, a flush, a merge and a step do to that. There are laws alone: no call is built on
-//! them yet.
+//! stands for; and what writes, a switch of the root, a flush, a merge and a step do to that. There are laws alone: the crates that open,
+//! change and join levels, the catalog and the store are built on them.
 #![tactic(auto)]
 
 mod laws;

@@ -25,8 +25,7 @@ pub enum Status {
     Damaged { place: u64 },
     /// The disk has no index.
     NoRoot,
-    /// What has to be written needs this many bytes, and the greatest gap has that many; or a level more than 16 is needed, with 17 and
-    /// 16.
+    /// What has to be written needs this many bytes, and the greatest gap has that many.
     Full { need: u64, gap: u64 },
     /// The input has more bytes than it may have.
     TooLong,

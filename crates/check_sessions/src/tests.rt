@@ -11,6 +11,9 @@ use std::test::Fail;
 
 const LIMIT: u64 = 1 << 40;
 
+// The calls of a disk by which an index without documents is opened.
+const OPENING: u64 = 6;
+
 const FIRST: &[u8] = b"add a\tRed Fox\tthe quick red fox\n";
 
 const FLUSHED: &[u8] = b"add a\tRed Fox\tthe quick red fox\nflush\n";
@@ -82,10 +85,12 @@ fn lines_are_answered_in_order(rt: HostRuntime) -> Result<(), Fail> {
         (b"flush\nmerge\n", b"ok\nok\n"),
         (b"\nadd a\t\t", b"! unknown command\nadded 1\n"),
     ];
+    // The first gives each input byte by byte, to its end.
+    let sizes: [&[usize]; 3] = [&[0; 64], &[1, 1, 9, 2, 1], &[99, 3, 1, 1, 7]];
     for (input, want) in rows {
-        for pieces in [[0, 0, 0, 0, 0], [1, 1, 9, 2, 1], [99, 3, 1, 1, 7]] {
+        for pieces in sizes {
             let mut disk = made(alloc)?;
-            let (status, given) = call(alloc, &mut disk, "run", input, &pieces, &[])?;
+            let (status, given) = call(alloc, &mut disk, "run", input, pieces, &[])?;
             assert_eq!(rt; status, Status::Done);
             assert_eq!(rt; given.as_slice(), want);
         }
@@ -210,6 +215,32 @@ fn each_stop_keeps_what_was_answered(rt: HostRuntime) -> Result<(), Fail> {
             assert_eq!(rt; status, Status::Done);
             let kept = count(&given, b"! name taken");
             assert!(rt; acked <= kept && kept <= acked.saturating_add(1));
+        }
+    }
+    Ok(())
+}
+
+// An add makes four calls: a write and a sync of its record, and of its gate.
+#[test]
+fn a_stop_at_a_gate_leaves_a_line_whole_or_absent(rt: HostRuntime) -> Result<(), Fail> {
+    let alloc = rt.alloc();
+    let rows: [(u64, &[u8], &[u8], bool); 3] = [
+        (OPENING + 2, FIRST, b"", false),
+        (OPENING + 3, BOTH, b"", false),
+        (OPENING + 4, BOTH, b"added 1\n", true),
+    ];
+    for (calls, input, want, is_kept) in rows {
+        let mut disk = FuseDisk::new(made(alloc)?, calls);
+        let (status, given) = call(alloc, &mut disk, "run", input, &[], &[])?;
+        assert_eq!(rt; status, Status::DiskFault);
+        assert_eq!(rt; given.as_slice(), want);
+        let inner = disk.into_inner();
+        for pick in 0..6 {
+            let mut again = disk_of(alloc, inner.image(alloc, pick)?)?;
+            let (status, given) = call(alloc, &mut again, "run", b"count fox\n", &[], &[])?;
+            assert_eq!(rt; status, Status::Done);
+            let is_found = count(&given, b"found 1") == 1;
+            assert!(rt; is_found || (!is_kept && count(&given, b"found 0") == 1));
         }
     }
     Ok(())
