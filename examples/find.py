@@ -228,7 +228,8 @@ def whole_documents(rows, places):
 
 def lines_backwards(file):
     """The lines of a file, each behind a newline, the last one first."""
-    end, rest = file.seek(0, os.SEEK_END), b""
+    file.seek(0, os.SEEK_END)
+    end, rest = file.tell(), b""
     while end:
         begin = max(0, end - BLOCK)
         file.seek(begin)
