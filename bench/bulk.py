@@ -2,13 +2,15 @@
 """Measures adding many documents with a merge behind them, beside SQLite's full-text index, and how the cost grows.
 
 usage: bench/bulk.py [--program PATH] [--lines FILE | --texts FOLDER] [--count N] [--parts N,N,..] [--folder FOLDER] [--fast]
+                     [--merge-each BYTES]
 
 FILE has `add` lines, as `examples/packages.py` writes them. Without one, the text files below FOLDER (/usr/share/doc), packed ones
 too, are cut at empty lines into documents of 400 bytes or more, in the order of their paths. The first N of the documents
 (60,000) are added, and so are a half and a fourth of them (--parts gives other parts), each into a new index in FOLDER (a new one in
 the current folder by default), by:
 
-- the program, an add and its commit a line, then by a run that only opens the index, and then by another that merges;
+- the program, an add and its commit a line, then by a run that only opens the index, and then by another that merges; with
+  --merge-each it also merges whenever so many bytes of lines have gone in, as the importing scripts do with 12,000,000;
 - FTS5, which keeps no texts, with a commit for each document, in WAL mode, synced each time; and then optimized (left out with --fast);
 - FTS5 in one transaction, and then optimized.
 
@@ -148,6 +150,17 @@ def documents_of(options):
     return found
 
 
+def with_merges(lines, each):
+    """The lines, with a merge behind each so many bytes of them; none for no bytes."""
+    since = 0
+    for line in lines:
+        yield line
+        since += len(line)
+        if each and since >= each:
+            yield b"merge\n"
+            since = 0
+
+
 # ---- the indexes
 
 
@@ -219,7 +232,10 @@ def measure(program, options, lines):
         source = os.path.join(folder, "lines")
         with open(source, "wb") as file:
             file.writelines(lines)
-        found = {"program": by_program(program, folder, source, len(lines), text)}
+        given = os.path.join(folder, "given")
+        with open(given, "wb") as file:
+            file.writelines(with_merges(lines, options.merge_each))
+        found = {"program": by_program(program, folder, given, len(lines), text)}
         for how in ("commits", "bulk")[options.fast :]:
             found[f"FTS5, {how}"] = by_table(folder, source, len(lines), text, how)
     told = ", ".join(f"{name} {given.removeprefix('found ')}" for name, given in found.items())
@@ -235,6 +251,7 @@ def main():
     parser.add_argument("--parts", type=lambda text: [int(word) for word in text.split(",")], default=[4, 2, 1])
     parser.add_argument("--folder", default=".")
     parser.add_argument("--fast", action="store_true")
+    parser.add_argument("--merge-each", metavar="BYTES", type=int, default=0)
     options = parser.parse_args()
     program = os.path.abspath(options.program)
     if not os.access(program, os.X_OK):

@@ -1,30 +1,44 @@
 """Brings documents into an index: those that are new or have changed, and none twice, through any stop.
 
-Beside the index stands a file of stamps, one line for each document that the index has answered: its name, its number, a
-digest that changes when the document does, and a digest of where it came from. A stamp is written behind its document's
-reply, so a stop may leave a document without its stamp, and never a stamp without its document; and a stamp counts only
-where the index has a document of that name and number. What has no stamp that counts is added, after what stands under its
+What is done is kept beside the index, in a file of stamps (`stamps.py`). A stamp is written behind the replies to its
+document, so a stop may leave a document without its stamp, and never a stamp without its document; and a stamp counts only
+where the index has documents of those names and numbers. What has no stamp that counts is added, after what stands under its
 name is deleted.
+
+A document that is too long for a line goes in as several, its parts: `NAME`, `NAME~p2`, `NAME~p3`, .., each with its title and
+with the last hundred words of the part before, so that a phrase over the border is found.
 """
 
 import argparse
-import hashlib
+import contextlib
 import itertools
 import os
 import re
 import signal
 import sys
+import tempfile
 import time
 from collections import deque
-from typing import Callable, NamedTuple, Optional
+from typing import Callable, NamedTuple
 
 sys.path.insert(0, os.path.join(os.path.dirname(os.path.dirname(os.path.abspath(__file__))), "client"))
 
 import buncocedar  # noqa: E402
-from buncocedar import Error, Full, Index, Refused, Reply  # noqa: E402
+from buncocedar import Error, Full, Index, Refused  # noqa: E402
+from indexfile import Unusable, put_packed, read_root, sync_folder  # noqa: E402
+from stamps import Source, Stamp, Stamps, digest, name_of, numbered, part_name, part_of, stamps_path, stem_of  # noqa: E402
 
 EVERY_DOCUMENT = "NOT name:! OR name:!"
-TEXT_LIMIT = 4_194_304  # bytes of a text that are looked at: a line has room for far fewer
+TEXT_LIMIT = 33_554_432  # bytes of a text that are looked at
+OVERLAP = 100  # words of a part that the next one has too
+# Bytes of lines from one merge to the next. A full journal, of a megabyte, becomes a level, and there are sixteen at most:
+# with fewer between two merges no level is joined twice.
+MERGE_BYTES = 12_000_000
+LEVEL_BYTES = 1_000_000
+MEMORY = "/dev/shm"
+
+# What goes into a stamp besides the document: another one, and all documents are made anew once.
+FORM = b"parts and fields\n"
 
 # Exit statuses, besides 0 and those of a signal.
 SOME_REFUSED = 1
@@ -33,41 +47,36 @@ STOPPED = 3
 
 
 class Text(NamedTuple):
-    """What of a document goes into its line; `beyond` is how many bytes of its text were not looked at."""
+    """What of a document goes into its lines: the head into each. `beyond` is how many bytes of its text were not looked at."""
 
     title: str
     body: str
     beyond: int = 0
+    head: str = ""
 
 
 class Document(NamedTuple):
-    """A document to be brought in. `load` is called only where it is new or has changed, and raises `Unfit` or `OSError`."""
+    """A document to be brought in. `load` is called only where it is new or has changed, and raises `Unfit` or `OSError`.
+
+    `place` is where it stands in its source, as `stamps.Place` spells it.
+    """
 
     wanted: str
     stamp: bytes
     load: Callable[[], Text]
+    place: str = ""
 
 
 class Unfit(Exception):
     """Why a document can't be brought in."""
 
 
-def digest(data, size=16):
-    return hashlib.blake2b(data, digest_size=size).hexdigest()
+class NoText(Unfit):
+    """It is no text: it is passed over, and no fault."""
 
 
-def name_of(wanted):
-    """The wanted name where it keeps the rule on names, and else one near it, with an end that is its own."""
-    if buncocedar.name_ok(wanted):
-        return wanted
-    end = "~" + digest(wanted.encode(errors="surrogatepass"), 4)
-    return re.sub("[^!-~]+", "-", wanted)[: 64 - len(end)].strip("-") + end
-
-
-def numbered(name, number):
-    """The name of the document that wants this name as the first, the second, .."""
-    end = f"~{number}" if number > 1 else ""
-    return name[: 64 - len(end)] + end
+class Unseen(Unfit):
+    """Why a part of the source could not be looked at: documents may stand there."""
 
 
 def spaced(text):
@@ -75,70 +84,65 @@ def spaced(text):
     return re.sub("[ \t\r\n\f\v]+", " ", text).strip(" ")
 
 
-# --- Stamps.
+# --- Parts.
 
 
-class Stamp(NamedTuple):
-    number: int
-    stamp: str
-    source: str
+def character_start(data, at):
+    """The start of the character that has this byte of UTF-8."""
+    while data[at] & 0xC0 == 0x80:
+        at -= 1
+    return at
 
 
-class Stamps:
-    """The stamps beside an index. A line that was torn by a stop is passed over; the last line of a name counts.
+def overlap_start(data, least, end):
+    """Where the last words before a place begin: a hundred, or as many as stand behind `least`."""
+    at = end
+    for _ in range(OVERLAP):
+        blank = data.rfind(b" ", least, at)
+        if blank < 0:
+            break
+        at = blank
+    return at + 1 if at < end else character_start(data, least)
 
-    `fault` says why they can't be written, from then on: what is stored without a stamp is added again by the next run.
-    """
 
-    line = re.compile(b"([!-~]{1,64}) ([1-9][0-9]*) ([0-9a-f]{32}) ([0-9a-f]{8})")
+def pieces(text, room):
+    """The text in pieces of at most so many bytes, cut at a blank where there is one, each with the last words before it."""
+    data = text.encode()
+    begin = 0
+    while len(data) - begin > room:
+        blank = data.rfind(b" ", begin + room // 2, begin + room + 1)
+        end = blank if blank > 0 else character_start(data, begin + room)
+        yield data[begin:end].decode()
+        begin = overlap_start(data, end - room // 4, end)
+    yield data[begin:].decode()
 
-    def __init__(self, path):
-        self.path = path
-        self.of = {}
-        self.fault = None
-        try:
-            with open(path, "rb") as file:
-                lines = file.read().split(b"\n")
-        except FileNotFoundError:
-            lines = [b""]
-        for match in filter(None, map(self.line.fullmatch, lines[:-1])):
-            name, number, stamp, source = match[0].decode().split(" ")
-            self.of[name] = Stamp(int(number), stamp, source)
-        if len(lines) > 2 * len(self.of) + 1000:
-            self.rewrite()
-            lines = [b""]
-        self.file = os.open(path, os.O_WRONLY | os.O_CREAT | os.O_APPEND, 0o666)
-        if lines[-1]:
-            self.write("\n")
 
-    def rewrite(self):
-        """Writes the file anew without the lines that count no more."""
-        fresh = self.path + ".new"
-        with open(fresh, "w", encoding="ascii") as file:
-            file.writelines(self.spelled(name, stamp) for name, stamp in self.of.items())
-            file.flush()
-            os.fsync(file.fileno())
-        os.replace(fresh, self.path)
+def size(text):
+    """How many bytes of UTF-8 a text has."""
+    return len(text) if text.isascii() else len(text.encode())
 
-    def spelled(self, name, stamp):
-        return f"{name} {stamp.number} {stamp.stamp} {stamp.source}\n"
 
-    def put(self, stamps):
-        """Writes the stamps of some names."""
-        self.of.update(stamps)
-        self.write("".join(self.spelled(name, stamp) for name, stamp in stamps.items()))
+def joined(*texts):
+    return " ".join(filter(None, texts))
 
-    def write(self, text):
-        data = text.encode()
-        try:
-            while data and self.fault is None:
-                data = data[os.write(self.file, data) :]
-        except OSError as error:
-            self.fault = f"the stamps could not be written to {self.path}: {error.strerror}"
 
-    def close(self):
-        os.fsync(self.file)
-        os.close(self.file)
+def parts_of(name, text, whole):
+    """The parts of a document, each a (name, title, body). Raises `Unfit` where `whole` asks for one and it has more."""
+    title, body, head = (buncocedar.one_line(spaced(part)) for part in (text.title, text.body, text.head))
+    limit, room = buncocedar.LINE_LIMIT, buncocedar.TITLE_ROOM
+    length = len(f"add {name}\t{title}\t{joined(head, body)}".encode())
+    if length <= limit:
+        return [(name, title, joined(head, body))]
+    if whole:
+        raise Unfit(f"its line has {length:,} bytes where {limit:,} may be")
+    if len(head.encode()) > room:
+        head, body = "", joined(head, body)
+    short = buncocedar.fitted(title, room)
+    if short != title:
+        body = joined(title, body)
+    front = len(f"add \t{short}\t{head} ".encode()) + 64
+    found = enumerate(pieces(body, limit - front), 1)
+    return [(part_name(name, number), short, joined(head, piece)) for number, piece in found]
 
 
 # --- What is said.
@@ -173,6 +177,10 @@ class Log:
             self.shown = True
 
 
+class Interrupted(BaseException):
+    """An interrupt while the import waits for its source."""
+
+
 class Interrupts:
     """Interrupts while an import runs: the first asks it to end, the second ends the program, the third breaks all off."""
 
@@ -182,6 +190,7 @@ class Interrupts:
         self.index = index
         self.count = 0
         self.signal = 0
+        self.waits = False
 
     def __enter__(self):
         self.before = {each: signal.signal(each, self.take) for each in (signal.SIGINT, signal.SIGTERM)}
@@ -199,10 +208,29 @@ class Interrupts:
             os.write(2, self.notes.get(self.count, b""))
         except OSError:
             pass
+        if self.waits:
+            # A read of the source would go on waiting.
+            self.waits = False
+            raise Interrupted
         if self.count == 2:
             self.index.break_off()
         elif self.count > 2:
             raise KeyboardInterrupt
+
+    def each(self, documents):
+        """The documents of a source, up to an interrupt."""
+        documents = iter(documents)
+        while True:
+            try:
+                self.waits = True
+                document = None if self.count else next(documents, None)
+            except Interrupted:
+                document = None
+            finally:
+                self.waits = False
+            if document is None:
+                break
+            yield document
 
 
 def several(number, word="document"):
@@ -213,41 +241,92 @@ def several(number, word="document"):
 
 
 class Sent(NamedTuple):
-    """A document under way: `gone` is the reply to the deletion before it, `reply` that to its add, where it was sent."""
+    """A document under way: how many parts it has, and the replies to the deletions before it and to the adds of its parts."""
 
     name: str
-    stamp: str
     kind: str
-    gone: Optional[Reply]
-    reply: Optional[Reply]
+    stamp: str
+    place: str
+    count: int
+    gone: list
+    added: list
+
+    def is_answered(self):
+        """Replies come in the order of their lines, so the last one is there when all are."""
+        return len(self.added) == self.count and self.added[-1][1].answered
+
+    def was_deleted(self):
+        """Whether something that stood under its name is deleted."""
+        return any(reply.answered and reply.error is None for _, reply in self.gone)
+
+
+class Options(NamedTuple):
+    """How an import is to be done, as its words say."""
+
+    whole: bool = False
+    prune: bool = False
+    merge: bool = True
+    verbose: bool = False
+    wait: float = 10.0
 
 
 class Import:
     """One run over the documents of a source. The counts are of documents, each in one of them."""
 
-    def __init__(self, index, stamps, source, whole, log):
+    def __init__(self, index, stamps, source, options, log):
         self.index = index
         self.stamps = stamps
-        self.source = digest(source.encode(errors="surrogatepass"), 4)
-        self.whole = whole
+        self.source = stamps.source(*source)
+        self.options = options
         self.log = log
         self.live = {name: number for number, name in index.search(EVERY_DOCUMENT)}
+        self.parts = {}  # of each stem the number of its last part
+        for name in self.live:
+            self.note_part(name)
         self.used = {}
         self.sent = deque()
-        self.counts = dict.fromkeys(("added", "changed", "added again", "unchanged", "repeated", "refused", "left"), 0)
-        self.cut = 0
+        kinds = ("added", "changed", "added again", "unchanged", "repeated", "passed over", "refused", "left")
+        self.counts = dict.fromkeys(kinds, 0)
+        self.in_parts = 0
+        self.unread = 0
         self.without_text = []
         self.bytes = 0
+        self.since_merge = LEVEL_BYTES * levels_behind_the_first(index.path)
+        self.gone = []
+        self.pruned = 0
+        self.unseen = False
         self.first_left = None
         self.end = None
         self.fault = None
         self.interrupted = False
         self.begun = time.monotonic()
+        self.look_for_losses()
+
+    def note_part(self, name):
+        stem, number = part_of(name) or (None, 0)
+        if stem is not None:
+            self.parts[stem] = max(number, self.parts.get(stem, 0))
+
+    def look_for_losses(self):
+        """Says where the index has forgotten what an earlier run brought in."""
+        following = self.index.stats().next if self.stamps.of else 0
+        numbers = [number for stamp in self.stamps.of.values() for number in stamp.numbers if number >= following]
+        if numbers:
+            self.log.say(
+                f"the index has lost the documents {min(numbers):,} to {max(numbers):,} since the last run: its file was changed, or "
+                "made anew, or an older copy put in its place; what is still in the archives is added again"
+            )
+
+    # -- One document.
+
+    def counts_for(self, name, stamp):
+        """Whether a stamp counts: the index has all its parts."""
+        return all(self.live.get(part_name(name, part)) == number for part, number in enumerate(stamp.numbers, 1))
 
     def choose(self, document):
         """The name that the document gets, its stamp and what becomes of it: "unchanged", "repeated", or what it counts as."""
         wanted = name_of(document.wanted)
-        stamp = digest(document.stamp)
+        stamp = digest(FORM + document.stamp)
         for number in itertools.count(1):
             name = numbered(wanted, number)
             if name in self.used:
@@ -255,7 +334,7 @@ class Import:
                     return name, stamp, "repeated"
                 continue
             known = self.stamps.of.get(name)
-            counts = known is not None and self.live.get(name) == known.number
+            counts = known is not None and self.counts_for(name, known)
             if counts and known.stamp != stamp and known.source != self.source:
                 continue
             self.used[name] = stamp
@@ -263,9 +342,10 @@ class Import:
                 return name, stamp, "added again" if name in self.live else "added"
             if known.stamp != stamp:
                 return name, stamp, "changed"
-            if known.source != self.source:
-                # The source has moved, or two have this document: its next change is this source's.
-                self.stamps.put({name: known._replace(source=self.source)})
+            place = document.place or known.place
+            if (known.source, known.place) != (self.source, place):
+                # It has moved, or two sources have this document: its next change is this source's.
+                self.stamps.put({name: known._replace(source=self.source, place=place)})
             return name, stamp, "unchanged"
 
     def take(self, document):
@@ -277,7 +357,12 @@ class Import:
             self.leave(name)
         else:
             try:
-                self.send(name, stamp, kind, document.load())
+                self.send(Sent(name, kind, stamp, document.place, 0, [], []), document.load())
+            except NoText as why:
+                self.pass_over(document.wanted, why)
+            except Unseen as fault:
+                self.unseen = True
+                self.refuse(name, document.wanted, fault)
             except (Unfit, Refused) as fault:
                 self.refuse(name, document.wanted, fault)
             except OSError as error:
@@ -286,70 +371,155 @@ class Import:
                 # Whatever a reader of bad input may raise: it is said, and ends nothing.
                 self.refuse(name, document.wanted, f"it could not be read: {error!r}")
 
-    def send(self, name, stamp, kind, text):
-        title, body = spaced(text.title), spaced(text.body)
-        if self.whole and text.beyond:
+    def send(self, sent, text):
+        """Sends a document. What is refused here is refused before its older text is deleted."""
+        if self.options.whole and text.beyond:
             raise Unfit(f"its text has more than {TEXT_LIMIT:,} bytes")
-        # Refused here, it is refused before its older text is deleted.
-        line, dropped = buncocedar.add_line(name, title, body, cut=not self.whole)
-        gone = None
+        parts = parts_of(sent.name, text, self.options.whole)
+        sent = sent._replace(count=len(parts))
+        self.sent.append(sent)
         try:
-            if kind != "added":
-                gone = self.index.send_delete(name)
-            reply = self.index.send_add(name, title, body, cut=not self.whole)
+            self.replace(sent, parts)
         except Refused:
+            self.sent.pop()
             raise
         except Error as end:
             self.end = end
-            self.sent.append(Sent(name, stamp, kind, gone, None))
             return
-        self.sent.append(Sent(name, stamp, kind, gone, reply))
-        self.bytes += len(line)
-        if dropped or text.beyond:
-            self.cut += 1
-            self.log.say(f"cut {name}: {dropped + text.beyond:,} bytes of its text left out")
+        self.in_parts += len(parts) > 1
+        if text.beyond:
+            self.unread += 1
+            self.log.say(f"cut {sent.name}: {text.beyond:,} bytes of its text left out, behind {TEXT_LIMIT:,}")
+        if self.options.merge and self.since_merge >= MERGE_BYTES:
+            self.merge()
+
+    def replace(self, sent, parts):
+        """Sends the lines that put these parts in the place of all that stands under the document's name.
+
+        This is the one place that sends adds, and with `prune` the one that sends deletions.
+        """
+        for name in self.standing(sent.name):
+            sent.gone.append((name, self.index.send_delete(name)))
+        for name, title, body in parts:
+            sent.added.append((name, self.index.send_add(name, title, body)))
+            length = size(title) + size(body)
+            self.bytes += length
+            self.since_merge += length
+            self.collect()
+
+    def standing(self, name):
+        """The names under which the index has a document and its parts."""
+        count = max(1, self.parts.get(stem_of(name), 1))
+        names = (part_name(name, number) for number in range(1, count + 1))
+        return [name for name in names if name in self.live]
+
+    def merge(self):
+        """Joins all levels, so that no level is written again for each full journal."""
+        self.since_merge = 0
+        self.log.progress(lambda: f"{several(self.stored())} stored; the levels are joined")
+        try:
+            self.index.merge()
+        except Refused:
+            # An older program, which has no levels.
+            pass
+        except Error as end:
+            self.end = end
+
+    # -- Replies.
 
     def collect(self):
         """Takes the replies that have come, in order, and writes the stamps of what is stored."""
         stamps = {}
-        while self.sent and self.sent[0].reply is not None and self.sent[0].reply.answered:
+        while self.sent and self.sent[0].is_answered():
             sent = self.sent.popleft()
-            try:
-                number = int(sent.reply.result())
-            except Refused as refusal:
-                self.refuse(sent.name, sent.name, refusal)
-                if was_deleted(sent):
-                    self.without_text.append(sent.name)
-                continue
-            self.counts[sent.kind] += 1
-            self.live[sent.name] = number
-            stamps[sent.name] = Stamp(number, sent.stamp, self.source)
+            numbers = self.numbers_of(sent)
+            if numbers:
+                self.counts[sent.kind] += 1
+                stamps[sent.name] = Stamp(numbers, sent.stamp, self.source, sent.place)
         if stamps:
             self.stamps.put(stamps)
+
+    def numbers_of(self, sent):
+        """The numbers of a document's parts, all answered; none where one of them was refused."""
+        for name, reply in sent.gone:
+            if reply.error is None:
+                self.live.pop(name, None)
+        refusals = [reply.error for _, reply in sent.added if reply.error is not None]
+        for name, reply in sent.added:
+            if reply.error is None:
+                self.live[name] = int(reply.result())
+                self.note_part(name)
+        if refusals:
+            self.refuse(sent.name, sent.name, refusals[0])
+            if sent.was_deleted():
+                self.without_text.append(sent.name)
+            return ()
+        return tuple(self.live[name] for name, _ in sent.added)
 
     def refuse(self, name, wanted, why):
         self.counts["refused"] += 1
         self.log.say(f"refused {name if name == wanted else ascii(wanted)}: {why}")
 
+    def pass_over(self, wanted, why):
+        self.counts["passed over"] += 1
+        if self.options.verbose:
+            self.log.say(f"passed over {ascii(wanted)}: {why}")
+
     def leave(self, name):
         self.counts["left"] += 1
         self.first_left = self.first_left or name
 
+    # -- The run.
+
     def run(self, documents, interrupts):
         """Brings the documents in up to their end, an interrupt, or a fault, and takes the replies under way."""
         try:
-            for document in documents:
+            for document in interrupts.each(documents):
                 self.take(document)
                 self.collect()
                 self.log.progress(self.so_far)
-                self.interrupted = interrupts.count > 0
-                if self.interrupted or self.stamps.fault:
+                if self.stamps.fault:
                     break
         except OSError as error:
             self.fault = f"the source could not be read: {error}"
+        if not (interrupts.count or self.fault or self.stamps.fault or self.end):
+            self.look_for_gone()
         self.finish()
         self.interrupted = interrupts.count > 0
         self.fault = self.fault or self.stamps.fault
+
+    def look_for_gone(self):
+        """Finds what an earlier run brought in and this one did not see, and deletes it where that is asked for.
+
+        Where the source gave nothing, or a part of it could not be looked at, that says nothing of what is in it.
+        """
+        self.index.settle()
+        self.collect()
+        if self.sent or self.unseen or not self.used:
+            return
+        self.gone = [
+            name
+            for name, stamp in self.stamps.of.items()
+            if stamp.source == self.source and name not in self.used and self.counts_for(name, stamp)
+        ]
+        if self.options.prune:
+            self.prune()
+
+    def prune(self):
+        for name in self.gone:
+            sent = Sent(name, "", "", "", 0, [], [])
+            try:
+                self.replace(sent, [])
+                self.index.settle()
+            except Error as end:
+                self.end = end
+                break
+            if not sent.was_deleted():
+                break
+            for part, _ in sent.gone:
+                del self.live[part]
+            self.stamps.drop([name])
+            self.pruned += 1
 
     def finish(self):
         """Waits for the replies under way. What gets none is left; where its older text is deleted, that is noted."""
@@ -363,8 +533,10 @@ class Import:
             self.first_left = self.sent[0].name
         for sent in self.sent:
             self.leave(sent.name)
-            if was_deleted(sent):
+            if sent.was_deleted():
                 self.without_text.append(sent.name)
+
+    # -- What is said of it.
 
     def stored(self):
         return self.counts["added"] + self.counts["changed"] + self.counts["added again"]
@@ -380,8 +552,13 @@ class Import:
         counts = self.counts
         parts = [f"{number:,} {kind}" for kind, number in counts.items() if kind != "left" and (number or kind == "added")]
         self.log.say(f"{several(sum(counts.values()))}: {', '.join(parts)}")
-        if self.cut:
-            self.log.say(f"{several(self.cut)} sent cut at a word's end, to the {buncocedar.LINE_LIMIT:,} bytes of a line")
+        if counts["passed over"] and not self.options.verbose:
+            self.log.say("what is passed over is no text; --verbose lists it")
+        if self.in_parts:
+            self.log.say(f"{several(self.in_parts)} in parts, since a line has {buncocedar.LINE_LIMIT:,} bytes")
+        if self.unread:
+            self.log.say(f"{several(self.unread)} cut")
+        self.report_gone()
         if self.end is not None:
             self.log.say(f"the program ended: {self.end}")
         if counts["left"]:
@@ -397,6 +574,15 @@ class Import:
         elif self.end is not None or self.fault:
             self.log.say("run this again, and it goes on from here")
 
+    def report_gone(self):
+        if self.pruned:
+            self.log.say(f"{several(self.pruned)} of earlier runs not seen any more, and deleted")
+        left = len(self.gone) - self.pruned
+        if left:
+            self.log.say(f"{several(left)} of earlier runs not seen any more, and still in the index; --prune deletes such")
+        if self.options.prune and (self.unseen or not self.used):
+            self.log.say("nothing was pruned: the source gave nothing, or not all of it could be looked at")
+
     def doubt(self):
         """What is not known of the first document without a reply, since the program may have ended behind its commit."""
         if self.sent and not isinstance(self.end, Full):
@@ -404,28 +590,42 @@ class Import:
         return ""
 
 
-def was_deleted(sent):
-    return sent.gone is not None and sent.gone.answered and sent.gone.error is None
+def levels_behind_the_first(path):
+    """How many levels were written since the last merge, as far as the file tells it."""
+    try:
+        with open(path, "rb") as file:
+            return max(0, len(read_root(file).levels) - 1)
+    except (OSError, Unusable):
+        return 0
 
 
-def bring(tool, path, source, documents, whole):
+def bring(tool, path, source, documents, options=Options(), fast=False):
     """Brings the documents of a source into the index at the path, and answers the exit status."""
     log = Log(tool)
     if path == "-":
-        return write_lines(log, documents, whole)
+        return write_lines(log, documents, options.whole)
     try:
-        with Index(path, create=True) as index, Interrupts(index) as interrupts:
-            stamps = Stamps(f"{os.path.realpath(path)}.stamps")
-            work = Import(index, stamps, source, whole, log)
-            work.run(documents, interrupts)
-            work.report()
-            stamps.close()
-    except (Error, OSError) as error:
-        log.say(f"{path}: {error}")
+        if fast and os.path.exists(path) and os.path.getsize(path):
+            log.say(f"{path} is there already, so it is added to where it stands")
+            fast = False
+        if fast:
+            return bring_beside(log, path, source, documents, options)
+        return bring_into(log, path, source, documents, options)
+    except (Error, OSError, Unusable) as error:
+        log.say(error if str(error).startswith(path) else f"{path}: {error}")
         return STOPPED
     except KeyboardInterrupt:
         log.say("broken off: run this again, and it goes on from here")
         return 128 + signal.SIGINT
+
+
+def bring_into(log, path, source, documents, options):
+    with Index(path, create=True, patience=options.wait, on_wait=log.say) as index, Interrupts(index) as interrupts:
+        stamps = Stamps(stamps_path(path))
+        work = Import(index, stamps, source, options, log)
+        work.run(documents, interrupts)
+        work.report()
+        stamps.close()
     if work.interrupted:
         return 128 + interrupts.signal
     if work.end is not None or work.fault:
@@ -433,31 +633,64 @@ def bring(tool, path, source, documents, whole):
     return SOME_REFUSED if work.counts["refused"] else 0
 
 
+def bring_beside(log, path, source, documents, options):
+    """Makes the index in memory, where there are no syncs to wait for, and moves what came of it into place, without holes."""
+    folder = MEMORY if os.path.isdir(MEMORY) and os.access(MEMORY, os.W_OK) else None
+    with tempfile.TemporaryDirectory(prefix="buncocedar-", dir=folder) as place:
+        beside = os.path.join(place, "index.alta")
+        status = bring_into(log, beside, source, documents, options)
+        with open(beside, "rb") as built:
+            with contextlib.suppress(FileNotFoundError):
+                if not os.path.getsize(path):
+                    os.remove(path)
+            put_packed(built, path)
+        with open(stamps_path(beside), "rb") as file:
+            put_stamps(file.read(), stamps_path(path))
+    return status
+
+
+def put_stamps(content, path):
+    """Puts the stamps of an index that was built beside into their place."""
+    with open(path + ".new", "wb") as file:
+        file.write(content)
+        file.flush()
+        os.fsync(file.fileno())
+    os.replace(path + ".new", path)
+    sync_folder(path)
+
+
 def write_lines(log, documents, whole):
     """Writes the `add` lines of the documents to standard output, in place of adding them."""
-    written = cut = refused = 0
+    written = in_parts = passed_over = refused = 0
     used = set()
     for document in documents:
         wanted = name_of(document.wanted)
         name = next(name for name in (numbered(wanted, number) for number in itertools.count(1)) if name not in used)
         used.add(name)
         try:
-            text = document.load()
-            line, dropped = buncocedar.add_line(name, spaced(text.title), spaced(text.body), cut=not whole)
+            parts = parts_of(name, document.load(), whole)
+        except NoText:
+            passed_over += 1
+            continue
         except Exception as error:
             refused += 1
             log.say(f"refused {ascii(document.wanted)}: {error}")
             continue
         try:
-            sys.stdout.buffer.write(line)
+            for part in parts:
+                sys.stdout.buffer.write(buncocedar.add_line(*part)[0])
             sys.stdout.buffer.flush()
-        except BrokenPipeError:
-            # The reader has enough. What is still buffered goes nowhere, so that the end says nothing of it.
+        except OSError as error:
+            # What is still buffered goes nowhere, so that the end says nothing of it.
             os.dup2(os.open(os.devnull, os.O_WRONLY), sys.stdout.fileno())
-            break
+            if isinstance(error, BrokenPipeError):
+                break
+            log.say(f"standard output could not be written: {error.strerror}")
+            return STOPPED
         written += 1
-        cut += dropped + text.beyond > 0
-    log.say(f"{several(written)} written, {cut:,} of them cut at a word's end, {refused:,} refused")
+        in_parts += len(parts) > 1
+    said = [f"{several(written)} written", f"{in_parts:,} in parts", f"{passed_over:,} passed over", f"{refused:,} refused"]
+    log.say(", ".join(said))
     return SOME_REFUSED if refused else 0
 
 
@@ -469,5 +702,16 @@ def arguments(tool, describe, *names):
     parser.add_argument("index", metavar="INDEX", help="made where there is none; - writes the add lines to standard output")
     for name, about in names:
         parser.add_argument(name.lower().strip("[]"), metavar=name.strip("[]"), nargs="?" if "[" in name else None, help=about)
-    parser.add_argument("--whole", action="store_true", help="refuse what is too long for a line, in place of cutting it")
+    parser.add_argument("--prune", action="store_true", help="delete what earlier runs brought in and is gone from the source")
+    parser.add_argument("--fast", action="store_true", help="make a new index in memory, and move it into place at the end")
+    parser.add_argument("--whole", action="store_true", help="refuse what is too long for a line, in place of parts")
+    parser.add_argument("--no-merge", action="store_true", help=f"do not join the levels each {MERGE_BYTES:,} bytes")
+    parser.add_argument("--verbose", action="store_true", help="list what is passed over, since it is no text")
+    parser.add_argument("--wait", metavar="SECONDS", type=float, default=10.0, help="how long to wait for who has it open")
     return parser
+
+
+def bring_as(tool, words, path, documents):
+    """Brings documents in as the words of a script say; the path is that of their source."""
+    options = Options(words.whole, words.prune, not words.no_merge, words.verbose, words.wait)
+    return bring(tool, words.index, Source(tool, path), documents, options, words.fast)

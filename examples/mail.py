@@ -1,20 +1,27 @@
 #!/usr/bin/env python3
 """Brings the messages of a mail archive into an index: an mbox file, a Maildir folder, or one message.
 
-The name is the Message-ID, made to fit the rule on names; the title is the Subject; the body is the text of the plain text
-parts, or of the HTML parts where there are none. What a mail reader notes in a message, as that it was read, is no change.
+The name is the Message-ID, made to fit the rule on names; the title is the Subject; the body begins with lines `From: ..`,
+`To: ..`, `Cc: ..`, `Date: 2024-01-31 20240131` and `Attachment: ..`, and then has the text of the plain text parts, or of the
+HTML parts where there are none. What a mail reader notes in a message, as that it was read, is no change.
+
+With --show the words are ARCHIVE NAME, and the message of this name is printed; with --raw as it stands in the archive.
 """
 
+import datetime
 import email
 import email.errors
 import email.header
+import email.utils
 import html.parser
 import itertools
 import os
 import re
 import sys
 
-from importing import BAD_USE, TEXT_LIMIT, Document, Text, Unfit, arguments, bring, digest
+from importing import BAD_USE, TEXT_LIMIT, Document, Text, Unfit, Unseen, arguments, bring_as
+from stamps import Place, digest, name_of, numbered, part_of, stem_of
+from terminal import printable, write
 
 DATED = re.compile(rb"From .* (Mon|Tue|Wed|Thu|Fri|Sat|Sun)\b.*\d:\d\d")
 FIELD = re.compile(rb"([!-9;-~]+)[ \t]*:")
@@ -25,43 +32,60 @@ NOTED = re.compile(rb"(?i)(Status|X-Status|X-Keywords|X-UID|X-Mozilla-[^:]*|Cont
 
 
 def split(lines):
-    """The messages of an mbox, as bytes; what stands before the first one is given as a message too.
+    """The messages of an mbox, each with the place of its first byte; what stands before the first one is given as one too.
 
-    A message begins at a line `From ` behind an empty line, where it has a date or a header field is next.
+    A message begins behind a line `From ` behind an empty line, where it has a date or a header field is next.
     """
     message = []
+    begin = at = 0
     blank = True
     lines = itertools.chain(lines, [b""])
     line = next(lines)
     for following in lines:
+        at += len(line)
         if blank and line.startswith(b"From ") and (DATED.match(line) or FIELD.match(following)):
             if message:
-                yield b"".join(message)
-            message = []
+                yield begin, b"".join(message)
+            begin, message = at, []
         else:
             message.append(line)
         blank = not line.strip()
         line = following
     if message:
-        yield b"".join(message)
+        yield begin, b"".join(message)
 
 
 def maildir(top):
-    """The messages of a Maildir and of the folders in it, as bytes."""
-    for folder, folders, names in os.walk(top):
+    """The messages of a Maildir and of the folders in it: the path of each below it, and its bytes or why there are none."""
+    unread = []
+    for folder, folders, names in os.walk(top, onerror=unread.append):
         folders.sort()
         if os.path.basename(folder) in ("cur", "new"):
             for name in sorted(names):
-                with open(os.path.join(folder, name), "rb") as file:
-                    yield file.read()
+                path = os.path.join(folder, name)
+                yield os.path.relpath(path, top), content_of(path)
+    for error in unread:
+        yield os.path.relpath(error.filename, top), Unseen(error.strerror)
 
 
-def raw_messages(path):
+def content_of(path):
+    """The bytes of a file; where a mail reader has moved it meanwhile, that it is unseen."""
+    try:
+        with open(path, "rb") as file:
+            return file.read()
+    except OSError as error:
+        return Unseen(error.strerror)
+
+
+def messages(path):
+    """Of each message of an archive where it stands in it, as `stamps.Place` spells it, and its bytes or why there are none."""
     if os.path.isdir(path):
-        yield from maildir(path)
+        for below, raw in maildir(path):
+            yield Place(below).spelled(), raw
     else:
         with open(path, "rb") as file:
-            yield from split(file)
+            for begin, raw in split(file):
+                yield Place("", begin, len(raw)).spelled(), raw
 
 
 # --- Messages.
@@ -81,13 +105,18 @@ def parted(raw):
     return found, body
 
 
+def values(found, name):
+    """The values of the fields of this name, each on one line."""
+    return [
+        re.sub(rb"[ \t]*\r?\n[ \t]*", b" ", rest).strip()
+        for front, _, rest in (field.partition(b":") for field in found)
+        if front.strip().lower() == name
+    ]
+
+
 def value(found, name):
     """The value of the first field of this name, on one line; empty where there is none."""
-    for field in found:
-        front, _, rest = field.partition(b":")
-        if front.strip().lower() == name:
-            return re.sub(rb"[ \t]*\r?\n[ \t]*", b" ", rest).strip()
-    return b""
+    return next(iter(values(found, name)), b"")
 
 
 def decoded(data, charset=None):
@@ -167,43 +196,140 @@ def is_text(part):
     return part.get_content_maintype() == "text" and not part.is_multipart() and not part.get_filename()
 
 
+def file_name(part):
+    """The name of a file that is attached, empty where a part is none."""
+    try:
+        name = part.get_filename()
+    except (LookupError, ValueError, TypeError):
+        return ""
+    return heading(name.encode(errors="surrogateescape")) if name else ""
+
+
+def date_of(text):
+    """A message's date as it is written there, with a number that ranges of values find: `2024-01-31 20240131`."""
+    try:
+        day = datetime.date(*email.utils.parsedate_tz(text)[:3]).isoformat()
+    except (TypeError, ValueError, IndexError, OverflowError):
+        return text
+    return f"{day} {day.replace('-', '')}"
+
+
+def head_of(found, attached):
+    """The lines of a message's header that are searched: who wrote it to whom, when, and what is attached."""
+    lines = [f"{field}: {heading(data)}" for field in ("From", "To", "Cc") for data in values(found, field.lower().encode())]
+    lines += [f"Date: {date_of(decoded(data))}" for data in values(found, b"date")[:1]]
+    lines += [f"Attachment: {name}" for name in attached]
+    return "\n".join(lines)
+
+
 def text_of_message(found, body):
     message = email.message_from_bytes(b"".join(found) + b"\n" + body)
-    parts = [part for part in message.walk() if is_text(part)]
-    plain = [part for part in parts if part.get_content_subtype() != "html"]
-    texts = [text_of(part) for part in plain or parts]
+    parts = list(message.walk())
+    texts = [part for part in parts if is_text(part)]
+    plain = [part for part in texts if part.get_content_subtype() != "html"]
+    shown = [text_of(part) for part in plain or texts]
+    head = head_of(found, filter(None, map(file_name, parts)))
     title = heading(value(found, b"subject"))
-    return Text(title, "\n".join(text for text, _ in texts), sum(beyond for _, beyond in texts))
+    return Text(title, "\n".join(text for text, _ in shown), sum(beyond for _, beyond in shown), head)
+
+
+class Message:
+    """A message: its fields, its body, its digest, and the name that it wants. One without Message-ID is named by its digest."""
+
+    def __init__(self, raw):
+        self.found, self.body = parted(raw)
+        kept = b"".join(field for field in self.found if not NOTED.match(field))
+        # The empty line before the next message is there only when there is a next one.
+        self.stamp = digest(kept + b"\n" + self.body.rstrip(b"\r\n"))
+        name = decoded(re.sub(rb"^.*<|>.*$", b"", value(self.found, b"message-id")).strip())
+        self.wanted = name or f"message-{self.stamp}"
+
+    def text(self):
+        return text_of_message(self.found, self.body)
 
 
 def documents(messages):
-    """A document for each message. One without Message-ID is named by its digest."""
-    for raw in messages:
-        found, body = parted(raw)
-        if found:
-            kept = b"".join(field for field in found if not NOTED.match(field))
-            # The empty line before the next message is there only when there is a next one.
-            stamp = digest(kept + b"\n" + body.rstrip(b"\r\n")).encode()
-            name = decoded(re.sub(rb"^.*<|>.*$", b"", value(found, b"message-id")).strip())
-            yield Document(
-                name or f"message-{stamp.decode()}", stamp, lambda found=found, body=body: text_of_message(found, body)
-            )
+    """A document for each message."""
+    for place, raw in messages:
+        if isinstance(raw, Unfit):
+            yield Document(f"the message {place}", place.encode(), raised(raw))
+            continue
+        message = Message(raw)
+        if message.found:
+            yield Document(message.wanted, message.stamp.encode(), message.text, place)
         elif raw.strip():
-            yield Document("text between messages", raw, not_a_message)
+            yield Document("text between messages", raw, raised(Unfit("it has no header")))
 
 
-def not_a_message():
-    raise Unfit("it has no header")
+def raised(fault):
+    def load():
+        raise fault
+
+    return load
+
+
+# --- Back to a message.
+
+
+def raw_at(found):
+    """The bytes of a message that was brought in, where it stands there still."""
+    with open(found.path, "rb") as file:
+        file.seek(found.begin or 0)
+        return file.read(-1 if found.begin is None else found.length)
+
+
+def read(found):
+    """The text of a message that was brought in, as `find.py` shows it."""
+    message = Message(raw_at(found))
+    if not message.found:
+        raise Unfit("it has moved since it was brought in: run mail.py again")
+    return message.text()
+
+
+def named(archive):
+    """The messages of an archive by the names that an import into a new index gives them."""
+    used = {}
+    for _, raw in messages(archive):
+        if isinstance(raw, Unfit):
+            continue
+        message = Message(raw)
+        wanted = name_of(message.wanted)
+        names = (numbered(wanted, number) for number in itertools.count(1))
+        name = next(name for name in names if used.get(name, message.stamp) == message.stamp)
+        if message.found and name not in used:
+            used[name] = message.stamp
+            yield name, raw
+
+
+def show(archive, name, as_it_stands):
+    """Prints the message of this name, or of the one that this is a part of."""
+    part = part_of(name)
+    for each, raw in named(archive):
+        if each == name or part and stem_of(each) == part[0]:
+            if as_it_stands:
+                sys.stdout.buffer.write(raw)
+                sys.stdout.buffer.flush()
+            else:
+                text = Message(raw).text()
+                shown = f"Subject: {text.title}\n{text.head}\n\n{text.body.rstrip()}\n"
+                write(printable(shown) if sys.stdout.isatty() else shown)
+            return 0
+    print(f"mail: {archive}: it has no message {name}", file=sys.stderr)
+    return 1
 
 
 def main():
     parser = arguments("mail", __doc__, ("ARCHIVE", "an mbox file, a Maildir folder, or a file of one message"))
+    parser.add_argument("--show", action="store_true", help="print a message: the words are ARCHIVE NAME")
+    parser.add_argument("--raw", action="store_true", help="print it as it stands in the archive")
     options = parser.parse_args()
-    if not os.path.exists(options.archive):
-        print(f"mail: {options.archive}: there is none", file=sys.stderr)
+    archive = options.index if options.show else options.archive
+    if not os.path.exists(archive):
+        print(f"mail: {archive}: there is none", file=sys.stderr)
         return BAD_USE
-    messages = raw_messages(options.archive)
-    return bring("mail", options.index, os.path.realpath(options.archive), documents(messages), options.whole)
+    if options.show:
+        return show(archive, options.archive, options.raw)
+    return bring_as("mail", options, os.path.realpath(archive), documents(messages(archive)))
 
 
 if __name__ == "__main__":

@@ -4,21 +4,28 @@
 The name is the package's name, the title the description's first line, the body the rest of the description.
 """
 
+import os
 import sys
 
-from importing import BAD_USE, Document, Text, arguments, bring
+from importing import BAD_USE, Document, Text, Unfit, arguments, bring_as
+from stamps import Place
 
 
 def stanzas(source):
-    """The fields of each stanza: a name, and the lines of its value. Lines of another form are passed over."""
+    """Of each stanza the place of its first byte, its length, and its fields: a name, and the lines of its value.
+
+    Lines of another form are passed over.
+    """
+    begin = at = 0
     fields = {}
     value = None
     for line in source:
-        line = line.rstrip("\r\n")
+        at += len(line)
+        line = line.decode(errors="replace").rstrip("\r\n")
         if not line:
             if fields:
-                yield fields
-            fields, value = {}, None
+                yield begin, at - begin, fields
+            begin, fields, value = at, {}, None
         elif line[0] in " \t":
             if value is not None:
                 value.append(line.strip())
@@ -28,18 +35,36 @@ def stanzas(source):
             if colon:
                 fields[name] = value
     if fields:
-        yield fields
+        yield begin, at - begin, fields
 
 
-def packages(source):
-    """A document for each stanza that describes a package; of a removed one the status file has no description."""
-    for fields in stanzas(source):
-        package = fields.get("Package")
-        description = fields.get("Description") or fields.get("Description-en")
-        if package and description:
-            body = " ".join("" if line == "." else line for line in description[1:])
-            text = Text(description[0], body)
-            yield Document(package[0], f"{text.title}\n{text.body}".encode(), lambda text=text: text)
+def text_of(fields):
+    """The description of a package, None where there is none, as of one that was removed."""
+    description = fields.get("Description") or fields.get("Description-en")
+    if not (fields.get("Package") and description):
+        return None
+    return Text(description[0], "\n".join("" if line == "." else line for line in description[1:]))
+
+
+def packages(source, path=None):
+    """A document for each stanza that describes a package; the path is that of the file, where it is one."""
+    for begin, length, fields in stanzas(source):
+        text = text_of(fields)
+        if text is not None:
+            stamp = f"{text.title}\n{' '.join(text.body.splitlines())}".encode()
+            place = Place(path, begin, length).spelled() if path else ""
+            yield Document(fields["Package"][0], stamp, lambda text=text: text, place)
+
+
+def read(found):
+    """The description that stands in a piece of a file, as `find.py` shows it."""
+    with open(found.path, "rb") as file:
+        file.seek(found.begin)
+        stanza = next(stanzas(file.read(found.length).splitlines(True)), None)
+    text = text_of(stanza[2]) if stanza else None
+    if text is None:
+        raise Unfit("it has changed since it was brought in: run packages.py again")
+    return text
 
 
 def main():
@@ -49,12 +74,14 @@ def main():
         parser.print_usage(sys.stderr)
         return BAD_USE
     try:
-        source = open(sys.stdin.fileno() if options.file is None else options.file, encoding="utf-8", errors="replace")
+        source = open(sys.stdin.fileno() if options.file is None else options.file, "rb")
     except OSError as error:
         print(f"packages: {options.file}: {error.strerror}", file=sys.stderr)
         return BAD_USE
+    path = os.path.realpath(options.file) if options.file and os.path.isfile(options.file) else None
     with source:
-        return bring("packages", options.index, "packages", packages(source), options.whole)
+        # All files of descriptions are one source, since a package may stand in each.
+        return bring_as("packages", options, "packages", packages(source, path))
 
 
 if __name__ == "__main__":

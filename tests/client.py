@@ -1,5 +1,5 @@
 #!/usr/bin/env python3
-"""Tests of `client/buncocedar.py`: with a program that misbehaves as told, and with the real one.
+"""Tests of `client/buncocedar`: with a program that misbehaves as told, and with the real one.
 
 usage: tests/client.py [--program PATH]
 
@@ -7,16 +7,26 @@ Without --program the tests of the real program are left out, and that is said.
 """
 
 import contextlib
+import copy
+import datetime
 import faulthandler
+import gc
 import io
 import json
 import os
+import pathlib
+import pickle
+import resource
 import signal
 import subprocess
 import sys
 import tempfile
+import threading
 import time
+import traceback
 import unittest
+import unittest.mock
+import warnings
 
 TOP = os.path.dirname(os.path.dirname(os.path.abspath(__file__)))
 sys.path.insert(0, os.path.join(TOP, "client"))
@@ -82,6 +92,18 @@ class Texts(unittest.TestCase):
         self.assertEqual(raised.exception.length, 65_536)
         self.assertIn("65,536 bytes", str(raised.exception))
 
+    def test_other_types(self):
+        for call, message in [
+            (lambda: buncocedar.add_line(1, "", ""), "a name must be a str, not int"),
+            (lambda: buncocedar.add_line("a", None, ""), "a title must be a str, not NoneType"),
+            (lambda: buncocedar.add_line("a", "", b"x"), "a body must be a str, not bytes"),
+            (lambda: buncocedar.one_line(["x"]), "a text must be a str, not list"),
+            (lambda: buncocedar.name_ok(b"a"), "a name must be a str, not bytes"),
+        ]:
+            with self.assertRaises(TypeError) as raised:
+                call()
+            self.assertEqual(str(raised.exception), message)
+
     def test_cut(self):
         words = "word " * 20_000
         line, dropped = buncocedar.add_line("a", "title", words, cut=True)
@@ -99,6 +121,23 @@ class Texts(unittest.TestCase):
         self.assertEqual(buncocedar.fitted("red  fox", 4), "red")
         self.assertEqual(buncocedar.fitted("red", 2), "re")
         self.assertEqual(buncocedar.fitted(" reddish", 3), " re")
+
+    def test_ranges_of_values(self):
+        day, moment = datetime.date(2024, 1, 31), datetime.datetime(2024, 12, 1, 23, 59)
+        for first, last, query in [
+            (1990, 1999, "value:1990..1999"),
+            (0, 4_294_967_295, "value:0..4294967295"),
+            (7, 7, "value:7..7"),
+            (day, moment, "value:20240131..20241201"),
+            (20240101, day, "value:20240101..20240131"),
+        ]:
+            self.assertEqual(buncocedar.value_range(first, last), query)
+        for first, last in [(2, 1), (-1, 5), (0, 4_294_967_296), (moment, day)]:
+            with self.assertRaises(ValueError):
+                buncocedar.value_range(first, last)
+        for first, last in [("1", 2), (1, None), (1.0, 2)]:
+            with self.assertRaises(TypeError):
+                buncocedar.value_range(first, last)
 
     def test_marks(self):
         for text, place, shown in [
@@ -156,6 +195,27 @@ class Calls(Case):
             with self.assertRaises(buncocedar.TooManyCursors):
                 index.cursor("x")
             self.assertEqual(opened[0].number, 1)
+
+    def test_other_types(self):
+        with self.fake() as index:
+            index.add("a", "", "x")
+            cursor = index.cursor("x")
+            for call, message in [
+                (lambda: index.search(None), "a query must be a str, not NoneType"),
+                (lambda: index.count(b"x"), "a query must be a str, not bytes"),
+                (lambda: index.explain(1), "a query must be a str, not int"),
+                (lambda: index.cursor(["x"]), "a query must be a str, not list"),
+                (lambda: index.add("b", "", b"x"), "a body must be a str, not bytes"),
+                (lambda: index.delete(1), "a name must be a str, not int"),
+                (lambda: index.step("1"), "terms must be an int, not str"),
+                (lambda: index.step(1.0), "terms must be an int, not float"),
+                (lambda: cursor.page("1"), "count must be an int, not str"),
+                (lambda: cursor.page(None), "count must be an int, not NoneType"),
+            ]:
+                with self.assertRaises(TypeError) as raised:
+                    call()
+                self.assertEqual(str(raised.exception), message)
+            self.assertEqual(index.stats().documents, 1)
 
     def test_a_search_that_is_left(self):
         with self.fake() as index:
@@ -249,6 +309,13 @@ class Calls(Case):
         with self.assertRaises(OSError):
             Index(self.path, program=os.path.join(self.folder.name, "nothing"))
 
+    def test_other_kinds_of_paths(self):
+        for path in (os.fsencode(self.path), pathlib.Path(self.path)):
+            with Index(path, create=True, program=FAKE) as index:
+                self.assertEqual((index.path, index.stats().documents), (self.path, 0))
+        with self.assertRaises(TypeError):
+            Index(1, program=FAKE)
+
     def test_what_a_program_says_beside(self):
         told = io.StringIO()
         with contextlib.redirect_stderr(told):
@@ -259,6 +326,227 @@ class Calls(Case):
                     index.add("b", "", "")
         self.assertEqual(told.getvalue().count("fake: "), 3002)
         self.assertNotIn("alta: full", told.getvalue())
+
+
+class Traps(Case):
+    """What a caller may forget, or do at a bad moment."""
+
+    def test_an_index_that_is_dropped(self):
+        with self.assertWarns(ResourceWarning):
+            index = self.fake()
+            index.add("a", "", "")
+            del index
+            gc.collect()
+        # The program has ended and the lock is free: nobody waits for it.
+        with self.fake() as index:
+            self.assertEqual(index.stats().documents, 1)
+        with self.assertWarns(ResourceWarning):
+            self.assertEqual(self.fake().stats().documents, 1)
+            gc.collect()
+        with self.assertWarns(ResourceWarning):
+            # More replies than the pipe holds stand before the program's end.
+            index = self.fake(slow=True)
+            rows = [index.search("NOT name:! OR name:!") for _ in range(3)]
+            del index, rows
+            gc.collect()
+        # A cursor and the rows of a search keep the index that they are of.
+        with warnings.catch_warnings():
+            warnings.simplefilter("error")
+            rows = self.fake().search("NOT name:! OR name:!")
+            gc.collect()
+            self.assertEqual(next(rows), (1, "a"))
+        with self.assertWarns(ResourceWarning):
+            self.assertEqual(list(rows), [])
+            gc.collect()
+
+    def test_an_index_at_the_end_of_python(self):
+        script = (
+            "import os, sys; sys.path.insert(0, sys.argv[1]); from buncocedar import Index\n"
+            "index = Index(sys.argv[2], create=True, program=sys.argv[3])\n"
+            "index.add('a', '', '')\n"
+            "if os.fork() == 0:\n    sys.exit(0)\n"
+            "os.wait()\n"
+            "index.add('b', '', '')\n"
+        )
+        words = [sys.executable, "-W", "always", "-c", script, os.path.join(TOP, "client"), self.path, FAKE]
+        done = subprocess.run(words, capture_output=True, timeout=PATIENCE)
+        self.assertEqual((done.returncode, done.stderr.count(b"was not closed")), (0, 1), done.stderr)
+        with self.fake() as index:
+            self.assertEqual(index.stats().documents, 2)
+
+    def test_a_block_that_breaks(self):
+        with self.assertRaises(ValueError):
+            with self.fake() as index:
+                for i in range(60):
+                    index.send_add(f"n{i}", "", "")
+                raise ValueError
+        with self.fake() as index:
+            self.assertEqual(index.stats().documents, 60)
+        for kind in (KeyboardInterrupt, SystemExit):
+            with self.assertRaises(kind):
+                with self.fake(silent=1):
+                    raise kind
+        # The error goes on, and what else was refused is told beside it.
+        with self.assertWarnsRegex(RuntimeWarning, "name taken"), self.assertRaises(ValueError):
+            with self.fake() as index:
+                index.send_add("n0", "", "")
+                raise ValueError
+
+    def test_a_refusal_that_nobody_took(self):
+        with self.assertRaisesRegex(buncocedar.NameTaken, "add a .*2 refused lines"):
+            with self.fake() as index:
+                for _ in range(3):
+                    index.send_add("a", "", "")
+        with self.fake() as index:
+            replies = [index.send_add("a", "", ""), index.send_delete("b"), index.send_add("a", "", "")]
+            with self.assertRaises(buncocedar.NameTaken):
+                replies[0].result()
+            index.settle()
+            self.assertIsInstance(replies[1].error, buncocedar.NoSuchDocument)
+            self.assertIsInstance(replies[2].error, buncocedar.NameTaken)
+        # It is raised once, and after an end the end is what counts.
+        index = self.fake()
+        index.send_add("a", "", "")
+        with self.assertRaises(buncocedar.NameTaken):
+            index.close()
+        index.close()
+        # Of very many the first are told on the way.
+        with self.assertWarns(RuntimeWarning), self.assertRaisesRegex(buncocedar.NameTaken, "1,000 refused"):
+            with self.fake() as index:
+                for _ in range(1001):
+                    index.send_add("a", "", "")
+
+    def test_adding_many(self):
+        documents = [("a", "", "x"), ("a", "", ""), ("b c", "", ""), ("d", "", "x" * 70_000), ("e", "", "x")]
+        with self.fake() as index:
+            added, refusals = index.add_many(iter(documents))
+            self.assertEqual(added, 2)
+            kinds = [(name, type(refusal)) for name, refusal in refusals]
+            long = ("d", buncocedar.LineTooLong)
+            self.assertEqual(kinds, [("a", buncocedar.NameTaken), ("b c", buncocedar.BadName), long])
+            self.assertEqual(index.add_many([]), (0, []))
+            self.assertEqual(index.add_many([documents[3]], cut=True), (1, []))
+        with self.assertRaises(buncocedar.Full):
+            with self.fake(room=3) as index:
+                index.add_many((f"n{i}", "", "") for i in range(100))
+
+    def test_one_thread_at_a_time(self):
+        index = self.fake(silent=1, mark=self.mark)
+        seen = []
+
+        def wait():
+            try:
+                index.add("a", "", "")
+            except buncocedar.Error as error:
+                seen.append(error)
+
+        thread = threading.Thread(target=wait)
+        thread.start()
+        until(lambda: os.path.exists(self.mark))
+        for call in (index.stats, lambda: index.send_add("b", "", ""), lambda: index.count("x"), index.settle, index.close):
+            with self.assertRaisesRegex(RuntimeError, "another thread"):
+                call()
+        # What a signal's handler may do ends it.
+        index.break_off()
+        thread.join()
+        self.assertEqual([type(error) for error in seen], [buncocedar.Ended])
+        self.assertEqual(index.under_way(), 0)
+
+    def test_an_error_is_raised_anew(self):
+        index = self.fake(end=[1, 8])
+        reply = index.send_add("a", "", "")
+        raised = []
+        for call in (reply.result, reply.result, index.stats, index.stats, index.stats):
+            with self.assertRaises(buncocedar.Full) as caught:
+                call()
+            raised.append(caught.exception)
+        self.assertEqual(len(set(map(id, raised))), 5)
+        depths = [len(traceback.extract_tb(error.__traceback__)) for error in raised]
+        self.assertEqual((depths[0], depths[2], depths[3]), (depths[1], depths[3], depths[4]))
+        index.close()
+
+    def test_errors_are_copied_and_pickled(self):
+        long = buncocedar.LineTooLong("! line too long", "add a")
+        long.length = 70_000
+        for error in [
+            buncocedar.QueryFault("(fox", 4, "Paren"),
+            buncocedar._ended(8, "alta: full, need 321, greatest gap 123"),
+            buncocedar._ended(6, "alta: damaged at 8193"),
+            buncocedar.ProtocolFault("stats", "what"),
+            buncocedar.InUse("busy"),
+            long,
+        ]:
+            for other in (copy.copy(error), pickle.loads(pickle.dumps(error))):
+                self.assertIsNot(other, error)
+                self.assertEqual((type(other), str(other), vars(other)), (type(error), str(error), vars(error)))
+
+
+class Messages(Case):
+    """What is said of an end: which file it is, why, and what is to be done."""
+
+    def said_by_nobody(self, path):
+        """The cause as a process without rights sees it."""
+        os.chmod(self.folder.name, 0o755)
+        read, write = os.pipe()
+        child = os.fork()
+        if child == 0:
+            if os.getuid() == 0:
+                os.setuid(65534)
+            os.write(write, str(buncocedar.disk_cause(path)).encode())
+            os._exit(0)
+        os.close(write)
+        os.waitpid(child, 0)
+        with open(read) as file:
+            return file.read()
+
+    def test_causes(self):
+        self.fake().close()
+        link = os.path.join(self.folder.name, "link")
+        os.symlink(os.path.join(self.folder.name, "gone"), link)
+        for path, cause in [
+            (self.folder.name, f"{self.folder.name} is a folder"),
+            (os.path.join(self.folder.name, "none"), f"there is no file {self.folder.name}/none"),
+            (os.path.join(self.folder.name, "none", "x"), f"there is no folder {self.folder.name}/none"),
+            (link, f"there is no file {link}"),
+            ("/dev/null", "/dev/null is no plain file"),
+            (os.path.join(self.path, "x"), f"{self.path}/x: Not a directory"),
+            (self.path, None),
+        ]:
+            self.assertEqual(buncocedar.disk_cause(path), cause)
+        os.chmod(self.path, 0o444)
+        self.assertEqual(self.said_by_nobody(self.path), f"no right to write {self.path}")
+        os.chmod(self.path, 0)
+        self.assertEqual(self.said_by_nobody(self.path), f"no right to read {self.path}")
+        os.chmod(self.path, 0o644)
+        with unittest.mock.patch.object(buncocedar, "SCANT_ROOM", 1 << 62):
+            self.assertRegex(buncocedar.disk_cause(self.path), r"the disk of .*/x\.alta is full: [0-9,]+ bytes free; make room")
+
+    def test_words(self):
+        for error, words in [
+            (buncocedar._ended(8, "alta: full, need 3, greatest gap 2", "x.alta"), ["x.alta: alta: full", "(status 8)"]),
+            (buncocedar._ended(6, "alta: damaged at 88", "x.alta"), ["x.alta: alta: damaged at 88", "a copy"]),
+            (buncocedar._ended(-25, "", "x.alta"), ["x.alta: ended by signal 25", "File size limit", "stored"]),
+            (buncocedar._ended(7, "alta: no index", "x.alta"), ["x.alta: alta: no index", "delete it"]),
+            (buncocedar.NoFile("x.alta"), ["x.alta: no index: there is no such file", "create=True"]),
+        ]:
+            for word in words:
+                self.assertIn(word, str(error))
+        self.assertNotIn("stored", str(buncocedar._ended(2, "alta: disk fault", self.folder.name, opened=False)))
+        self.assertNotIn("delete", str(buncocedar.NoFile("x.alta")))
+
+    def test_a_file_that_is_missing(self):
+        with self.assertRaises(buncocedar.NoFile) as raised:
+            Index(self.path, program=FAKE)
+        self.assertEqual((raised.exception.path, raised.exception.status), (self.path, 7))
+        with self.assertRaises(FileNotFoundError) as raised:
+            Index(os.path.join(self.path, "none"), create=True, program=FAKE)
+        self.assertEqual(raised.exception.filename, os.path.join(self.path, "none"))
+
+    def test_an_end_while_opening(self):
+        with self.assertRaises(buncocedar.DiskFault) as raised:
+            self.fake(end=[0, 2])
+        self.assertIn(self.path, str(raised.exception))
+        self.assertNotIn("stored", str(raised.exception))
 
 
 class UnderWay(Case):
@@ -406,6 +694,46 @@ class UnderWay(Case):
         self.fake().close()
 
 
+class Waiting(Case):
+    def test_who_is_waited_for(self):
+        told = []
+        with self.fake():
+            with self.assertRaises(buncocedar.InUse) as raised:
+                Index(self.path, program=FAKE, patience=1, on_wait=told.append)
+            self.assertEqual(len(told), 1)
+            for text in (told[0], str(raised.exception)):
+                self.assertIn(f"{self.path} is open in ", text)
+                if os.path.exists("/proc/locks"):
+                    self.assertRegex(text, r"process [0-9]+ \(.*fake.*\) since [0-9]{4}-[0-9-]+ [0-9:]+, started by process")
+                    self.assertIn(f"process {os.getpid()} (", text)
+            # A wait that is no longer than a moment is not told.
+            with self.assertRaises(buncocedar.InUse):
+                Index(self.path, program=FAKE, patience=0.1, on_wait=told.append)
+            self.assertEqual(len(told), 1)
+        self.assertIsNone(buncocedar.holder(self.path))
+        self.assertIsNone(buncocedar.holder(os.path.join(self.folder.name, "none")))
+
+    def test_scripts_tell_it(self):
+        with self.fake():
+            for script, words in [("find.py", ["x"]), ("folder.py", [self.folder.name]), ("shell.py", [])]:
+                done = subprocess.run(
+                    [sys.executable, os.path.join(TOP, "examples", script), self.path, *words, "--wait", "0.8"],
+                    env={**os.environ, "BUNCOCEDAR_PROGRAM": FAKE},
+                    stdin=subprocess.DEVNULL,
+                    capture_output=True,
+                    text=True,
+                    timeout=PATIENCE,
+                )
+                self.assertEqual(done.returncode, 3, done.stderr)
+                self.assertEqual(done.stderr.count(f"{self.path} is open in "), 2, done.stderr)
+
+    def test_a_wait_that_ends_well(self):
+        index = self.fake()
+        index.add("a", "", "")
+        with Index(self.path, program=FAKE, patience=PATIENCE, on_wait=lambda text: index.close()) as other:
+            self.assertEqual(other.stats().documents, 1)
+
+
 class RealProgram(Case):
     """What the program itself answers, as far as it is built."""
 
@@ -490,8 +818,93 @@ class RealProgram(Case):
         with self.assertRaises(buncocedar.Damaged) as raised:
             self.index()
         self.assertEqual(raised.exception.place, 8193)
-        with self.assertRaises(buncocedar.DiskFault):
+        with self.assertRaisesRegex(buncocedar.DiskFault, "is a folder"):
             Index(self.folder.name, program=PROGRAM)
+        with self.assertRaisesRegex(buncocedar.DiskFault, "/dev/null is no plain file"):
+            Index("/dev/null", program=PROGRAM)
+
+    def test_a_limit_on_files(self):
+        # The program answers the fault, and no signal ends it; what was answered is stored.
+        with self.index() as index:
+            index.add("a", "", "x")
+        limits = resource.getrlimit(resource.RLIMIT_FSIZE)
+        try:
+            resource.setrlimit(resource.RLIMIT_FSIZE, (2_105_344, limits[1]))
+            with self.assertRaisesRegex(buncocedar.DiskFault, r"2,105,344 bytes at most here \(ulimit -f\); what was answered"):
+                with self.index() as index:
+                    index.add("b", "", "x")
+                    index.flush()
+        finally:
+            resource.setrlimit(resource.RLIMIT_FSIZE, limits)
+        with self.index() as index:
+            self.assertEqual(index.stats().documents, 2)
+
+    def test_no_text_is_a_command(self):
+        # Whatever a caller hands on, from a form as it may be, stays an argument of its call.
+        with self.index() as index:
+            index.add("victim", "", "x")
+            cursor = index.cursor("x")
+            texts = ["1\ndelete victim", "1\r\ndelete victim", "1\tdelete victim", "\ndelete victim\n", "delete victim", "1"]
+            for text in texts:
+                for call in (cursor.page, index.step, lambda text: list(cursor.pages(text))):
+                    with self.assertRaises(TypeError):
+                        call(text)
+                for call in (index.search, index.count, index.explain, index.cursor):
+                    with contextlib.suppress(buncocedar.Refused):
+                        call(text)
+                with contextlib.suppress(buncocedar.Refused):
+                    index.add(text, "", "")
+                index.add(f"new{texts.index(text)}", text, text)
+                with self.assertRaises(buncocedar.Refused):
+                    index.delete(text + "\n")
+                stray = buncocedar.Cursor(index, text)
+                for call in (lambda: stray.page(1), stray.close):
+                    with contextlib.suppress(buncocedar.Refused):
+                        call()
+                self.assertEqual(index.count("name:victim"), 1)
+                self.assertEqual(cursor.number, 1)
+            self.assertEqual(index.stats().documents, 8)
+        with self.index() as index:
+            self.assertEqual(index.count("name:victim"), 1)
+
+    def test_numbers_that_are_none(self):
+        with self.index() as index:
+            index.add("a", "", "x")
+            cursor = index.cursor("x")
+            for number in (0, -1, 1_000_001, 10**30):
+                for call in (cursor.page, index.step):
+                    with self.assertRaises(buncocedar.BadLine):
+                        call(number)
+            self.assertEqual(cursor.page(True), ([(1, "a")], False))
+
+    def test_an_index_that_is_dropped(self):
+        with self.assertWarns(ResourceWarning):
+            self.index().add("a", "", "")
+            gc.collect()
+        with self.index() as index:
+            self.assertEqual(index.stats().documents, 1)
+
+    def test_threads(self):
+        # Each call of four threads answers right or says that it is one too many, and the index goes on.
+        with self.index() as index:
+            index.add("a", "", "x")
+            seen = []
+
+            def count():
+                for _ in range(100):
+                    try:
+                        seen.append(index.count("x"))
+                    except RuntimeError:
+                        seen.append(RuntimeError)
+
+            threads = [threading.Thread(target=count) for _ in range(4)]
+            for thread in threads:
+                thread.start()
+            for thread in threads:
+                thread.join()
+            self.assertEqual(len(seen), 400)
+            self.assertLessEqual(set(seen), {1, RuntimeError})
+            self.assertEqual(index.stats().documents, 1)
 
     def test_many_levels(self):
         # An index has sixteen levels at most, and each flush makes one or joins two.

@@ -12,6 +12,7 @@ import argparse
 import difflib
 import os
 import re
+import shutil
 import subprocess
 import sys
 import tempfile
@@ -64,9 +65,10 @@ def prepare(folder, program):
     """A folder in which the commands find what they name: the program, the scripts, and some input."""
     for name in SHARED:
         os.symlink(os.path.join(TOP, name), os.path.join(folder, name))
-    with open(os.path.join(folder, "alta"), "w") as file:
-        file.write(f'#!/bin/sh\nexec "{program}" "$@"\n')
-    os.chmod(os.path.join(folder, "alta"), 0o755)
+    shutil.copy(os.path.join(TOP, "alta"), folder)
+    built = os.path.join(folder, "crates", "alta_cli", "out")
+    os.makedirs(built)
+    os.symlink(program, os.path.join(built, "alta_cli"))
     with open(os.path.join(folder, "archive.mbox"), "w") as file:
         file.write(MAILBOX)
 

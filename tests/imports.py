@@ -41,7 +41,10 @@ import find  # noqa: E402
 import folder  # noqa: E402
 import importing  # noqa: E402
 import mail  # noqa: E402
-from importing import name_of  # noqa: E402
+import stamps  # noqa: E402
+import terminal  # noqa: E402
+from buncocedar import LINE_LIMIT  # noqa: E402
+from stamps import name_of  # noqa: E402
 
 
 def until(done):
@@ -124,6 +127,18 @@ class Case(unittest.TestCase):
     def bodies(self):
         return {name: body for name, (_, _, body) in self.stored().items()}
 
+    def whole(self, name):
+        """The body of a document from its parts, without what two of them share, and how many there are."""
+        bodies = self.bodies()
+        body, number = bodies[name], 1
+        while stamps.part_name(name, number + 1) in bodies:
+            number += 1
+            following = bodies[stamps.part_name(name, number)]
+            shared = " ".join(body[-5_000:].split(" ")[-importing.OVERLAP :])
+            self.assertTrue(following.startswith(shared + " "), number)
+            body += following[len(shared) :]
+        return body, number
+
 
 class Folders(Case):
     def notes(self, count):
@@ -141,22 +156,29 @@ class Folders(Case):
         self.write("notes/latin", "stra\u00dfe".encode("latin-1"))
         self.write("notes/" + "long" * 30, "long")
         self.write("notes/" + "long" * 30 + "er", "longer")
-        self.write("notes/big", "word " * 20_000)
+        long = " ".join(f"word{i}" for i in range(LINE_LIMIT // 4))
+        self.write("notes/big", long)
         self.write(b"notes/\xff\xfe.txt".decode(errors="surrogateescape"), "odd")
         self.write("notes/marked", "\ufeffmark")
-        self.write("notes/huge", "\u65e5" * 2_000_000)
+        self.write("notes/huge", "\u65e5" * LINE_LIMIT)
+        self.write("notes/packed.gz", gzip.compress(b"packed text"))
+        self.write("notes/torn.gz", gzip.compress(b"packed text" * 99)[:30])
+        self.write("notes/no.gz", b"not packed")
+        self.write("notes/.git/config", "of the repository")
+        self.write("notes/other.alta", b"\xa5\0\0")
+        self.write("notes/other.alta.stamps", "a 1 2 3")
         os.mkfifo(self.at("notes/pipe"))
         os.symlink("nowhere", self.at("notes/broken"))
         index = self.at("notes/x.alta")
         said = self.run_script("folder.py", index, self.at("notes"), expect=1)
-        self.assertIn("15 documents: 11 added, 4 refused", said)
+        self.assertIn("18 documents: 11 added, 3 passed over, 4 refused\n", said)
         for line in (
             "refused no-text: no UTF-8, first at byte 3",
             "refused latin: no UTF-8, first at byte 4",
-            "refused pipe: no file",
-            "refused broken: No such file or directory",
-            "cut big: ",
-            "2 documents sent cut at a word's end",
+            "refused no.gz: it can't be unpacked: Not a gzipped file",
+            "refused torn.gz: it can't be unpacked: Compressed file ended",
+            "what is passed over is no text; --verbose lists it",
+            f"2 documents in parts, since a line has {LINE_LIMIT:,} bytes",
         ):
             self.assertIn(line, said)
         self.path = index
@@ -165,16 +187,27 @@ class Folders(Case):
         self.assertEqual(bodies["two-words.txt"], "b")
         self.assertEqual(bodies[name_of("two words.txt")], "a")
         self.assertEqual(bodies["sub/empty"], "")
-        self.assertEqual(bodies["nul"], "a\0b")
         self.assertEqual(bodies["marked"], "mark")
-        self.assertTrue(bodies["big"].endswith("word word"))
-        self.assertEqual(set(bodies["huge"]), {"\u65e5"})
-        self.assertEqual(len(bodies), 11)
-        # Nothing is done a second time, the index is no document of itself, and what is too long is refused on demand.
-        self.assertIn("0 added, 11 unchanged, 4 refused", self.run_script("folder.py", index, self.at("notes"), expect=1))
+        self.assertEqual(bodies["packed.gz"], "packed text")
+        self.assertEqual(self.whole("big")[0], long)
+        self.assertGreater(self.whole("big")[1], 1)
+        self.assertEqual({line for name, line in bodies.items() if name.startswith("huge~p")} & {""}, set())
+        self.assertEqual(set("".join(body for name, body in bodies.items() if name.startswith("huge"))), {"\u65e5"})
+        self.assertFalse([name for name in bodies if "git" in name or "other" in name])
+        # Nothing is done a second time, and the index is no document of itself.
+        said = self.run_script("folder.py", "--verbose", index, self.at("notes"), expect=1)
+        self.assertIn("0 added, 11 unchanged, 3 passed over, 4 refused", said)
+        for line in ("passed over 'nul': binary", "passed over 'pipe': no regular file", "passed over 'broken': a link to nothing"):
+            self.assertIn(line, said)
+        # What is too long is refused on demand, Latin-1 is read, and what is not wanted is left out.
         self.path = self.at("y.alta")
-        said = self.run_script("folder.py", "--whole", self.path, self.at("notes"), expect=1)
-        self.assertRegex(said, r"refused big: ! line too long: add big, 100,0\d\d bytes where 65,535 may be")
+        words = ("--whole", "--latin-1", "--skip", "no*", "--skip", "*.gz", self.path, self.at("notes"))
+        said = self.run_script("folder.py", *words, expect=1)
+        self.assertRegex(said, rf"refused big: its line has [\d,]+ bytes where {LINE_LIMIT:,} may be")
+        self.assertEqual(self.bodies()["latin"], "stra\u00dfe")
+        self.assertNotIn("no-text", self.bodies())
+        self.path = self.at("z.alta")
+        self.assertIn("2 documents: 2 added", self.run_script("folder.py", "--only", "*s.txt", self.path, self.at("notes")))
 
     def test_second_runs(self):
         notes = self.notes(20)
@@ -184,6 +217,12 @@ class Folders(Case):
         self.write("notes/new.txt", "new")
         self.assertIn("21 documents: 1 added, 1 changed, 19 unchanged", self.run_script("folder.py", self.path, notes))
         self.assertEqual(self.stored()["007.txt"], (22 - 1, "007.txt", "another text"))
+        # What the index has lost is said, and brought in again.
+        content = self.read(self.path)
+        self.write("x.alta", b"".join(content.splitlines(True)[:-3]))
+        said = self.run_script("folder.py", self.path, notes)
+        self.assertIn("the index has lost the documents 21 to 22 since the last run", said)
+        self.assertIn("1 added, 1 added again, 19 unchanged", said)
         self.assertEqual(len(self.stored()), 21)
         # Without its stamps everything is added again, once.
         os.remove(self.path + ".stamps")
@@ -223,7 +262,8 @@ class Folders(Case):
         variables = {"BUNCOCEDAR_PROGRAM": FAKE}
         with mock.patch.object(importing, "Stamps", OnFullDisk), mock.patch.dict(os.environ, variables):
             with contextlib.redirect_stderr(told):
-                self.assertEqual(importing.bring("folder", self.path, notes, folder.files(notes, set()), False), 3)
+                source = stamps.Source("folder", notes)
+                self.assertEqual(importing.bring("folder", self.path, source, folder.files(notes)), 3)
         self.assertIn("stopped: the stamps could not be written", told.getvalue())
         added = int(re.search(r"(\d+) added", told.getvalue())[1])
         self.assertGreater(added, 0)
@@ -292,12 +332,12 @@ class Folders(Case):
         notes = self.notes(3)
         self.run_script("folder.py", self.path, notes)
         self.write("notes/001.txt", "a new text")
-        for end, done, left in [(2, False, 3), (2, True, 2), (3, False, 2), (3, True, 3)]:
+        for end, done, left in [(3, False, 3), (3, True, 2), (4, False, 2), (4, True, 3)]:
             with self.subTest(end=end, done=done):
                 before = {path: self.read(path) for path in (self.path, self.path + ".stamps")}
                 said = self.run_script("folder.py", self.path, notes, do={"end": [end, -9], "done": done}, expect=3)
                 self.assertIn("1 document not stored", said)
-                self.assertEqual("its older text is deleted" in said, end == 3)
+                self.assertEqual("its older text is deleted" in said, end == 4)
                 self.assertEqual(len(self.stored()), left)
                 self.run_script("folder.py", self.path, notes)
                 self.assertEqual(self.bodies(), {"000.txt": "text 0", "001.txt": "a new text", "002.txt": "text 2"})
@@ -348,6 +388,91 @@ class Folders(Case):
         self.assertEqual(sorted(self.stored()), sorted(f"p{i}" for i in range(added)))
         self.assertNotIn("not stored", said)
 
+    def test_an_interrupt_while_the_source_is_quiet(self):
+        process = self.start("packages.py", self.path, stdin=subprocess.PIPE)
+        process.stdin.write("Package: a\nDescription: a\n\nPackage: b\nDescription: b\n\n")
+        process.stdin.flush()
+        until(lambda: os.path.exists(self.path) and b"add b" in self.read(self.path))
+        process.send_signal(signal.SIGINT)
+        self.assertEqual(process.wait(PATIENCE), 130)
+        said = process.communicate()[1]
+        self.assertIn("2 documents: 2 added\n", said)
+        self.assertIn("interrupted: run this again", said)
+        stanzas = self.write("status", "Package: a\nDescription: a\n\nPackage: b\nDescription: b\n")
+        self.assertIn("0 added, 2 unchanged", self.run_script("packages.py", self.path, stanzas))
+
+    def test_what_is_gone(self):
+        notes = self.notes(4)
+        self.write("notes/long", "word " * (LINE_LIMIT // 2))
+        self.write("others/003.txt", "another")
+        self.run_script("folder.py", self.path, notes)
+        self.run_script("folder.py", self.path, self.at("others"))
+        for name in ("001.txt", "long"):
+            os.remove(self.at(f"notes/{name}"))
+        said = self.run_script("folder.py", self.path, notes)
+        self.assertIn("2 documents of earlier runs not seen any more, and still in the index; --prune deletes such", said)
+        self.assertIn("long~p2", self.stored())
+        said = self.run_script("folder.py", "--prune", self.path, notes)
+        self.assertIn("3 documents: 0 added, 3 unchanged\n", said)
+        self.assertIn("2 documents of earlier runs not seen any more, and deleted\n", said)
+        self.assertEqual(sorted(self.stored()), ["000.txt", "002.txt", "003.txt", "003.txt~2"])
+        self.assertNotIn("not seen", self.run_script("folder.py", "--prune", self.path, notes))
+        self.assertFalse({"001.txt", "long"} & set(stamps.Records(self.path + ".stamps").of))
+        # What comes again is new.
+        self.write("notes/001.txt", "text 1")
+        self.assertIn("1 added, 3 unchanged", self.run_script("folder.py", "--prune", self.path, notes))
+        # A source that gives nothing, or whose end was not reached, says nothing of what is gone.
+        shutil.rmtree(notes)
+        os.mkdir(notes)
+        self.assertIn("nothing was pruned", self.run_script("folder.py", "--prune", self.path, notes))
+        self.write("notes/000.txt", "text 0")
+        said = self.run_script("folder.py", "--prune", self.path, notes, do={"end": [3, -9]}, expect=3)
+        self.assertNotIn("not seen", said)
+        self.assertEqual(len(self.stored()), 5)
+
+    def test_what_cannot_be_seen_is_not_gone(self):
+        source = stamps.Source("folder", self.place.name)
+        text = importing.Text("", "text")
+        options = importing.Options(prune=True)
+        seen = importing.Document("a", b"1", lambda: text)
+        unseen = folder.no_document("sub", importing.Unseen("Permission denied"))
+        told = io.StringIO()
+        with mock.patch.dict(os.environ, {"BUNCOCEDAR_PROGRAM": FAKE}), contextlib.redirect_stderr(told):
+            importing.bring("folder", self.path, source, [seen, importing.Document("sub/b", b"1", lambda: text)])
+            self.assertEqual(importing.bring("folder", self.path, source, [seen, unseen], options), 1)
+        self.assertIn("refused sub: Permission denied", told.getvalue())
+        self.assertIn("nothing was pruned", told.getvalue())
+        self.assertEqual(set(self.stored()), {"a", "sub/b"})
+
+    def test_merges(self):
+        class Merging(importing.Index):
+            merges = []
+
+            def merge(self):
+                self.merges.append(self.stats().documents)
+                super().merge()
+
+        notes = self.notes(30)
+        source = stamps.Source("folder", notes)
+        for merge, merges in ((True, [10, 20, 30]), (False, [])):
+            Merging.merges.clear()
+            if os.path.exists(self.path):
+                os.remove(self.path)
+            with mock.patch.object(importing, "MERGE_BYTES", 10 * len("000.txttext 0")), mock.patch.object(importing, "Index", Merging):
+                with mock.patch.dict(os.environ, {"BUNCOCEDAR_PROGRAM": FAKE}), contextlib.redirect_stderr(io.StringIO()):
+                    options = importing.Options(merge=merge)
+                    self.assertEqual(importing.bring("folder", self.path, source, folder.files(notes), options), 0)
+            self.assertEqual([number for number in Merging.merges], merges)
+        # A program without levels, and one that ends in a merge.
+        for do, status, stored in (({"old": True}, 0, 30), ({"end": [13, -9]}, 3, 10)):
+            os.remove(self.path)
+            told = io.StringIO()
+            with contextlib.redirect_stderr(told):
+                with mock.patch.object(importing, "MERGE_BYTES", 10 * len("000.txttext 0")):
+                    with mock.patch.dict(os.environ, {"BUNCOCEDAR_PROGRAM": FAKE, "FAKE": json.dumps(do)}):
+                        self.assertEqual(importing.bring("folder", self.path, source, folder.files(notes)), status, told.getvalue())
+            self.assertEqual(len(self.stored()), stored)
+
     def test_a_second_interrupt(self):
         # A program that answers no more is ended, and the counts are those of what it answered.
         notes = self.notes(300)
@@ -391,7 +516,13 @@ class Folders(Case):
         self.write("notes/bad", b"\xff")
         said = self.run_script("folder.py", "-", notes, expect=1)
         self.assertEqual(self.out.split("\n")[:2], ["add 000.txt\t000.txt\ttext 0", "add 001.txt\t001.txt\ttext 1"])
-        self.assertIn("3 documents written, 0 of them cut at a word's end, 1 refused", said)
+        self.assertIn("3 documents written, 0 in parts, 0 passed over, 1 refused", said)
+
+    def test_lines_that_cannot_be_written(self):
+        notes = self.notes(3)
+        with open("/dev/full", "w") as full:
+            said = self.run_script("folder.py", "-", notes, stdout=full, expect=3)
+        self.assertEqual(said, "folder: standard output could not be written: No space left on device\n")
 
     def test_progress(self):
         notes = self.notes(50)
@@ -425,11 +556,14 @@ class Mail(Case):
             (b"junk\n\nFrom a\nA: b\n", [b"junk\n\n", b"A: b\n"]),
             (b"From a Mon Jan 1 00:00\n\0broken\nA: b\n", [b"\0broken\nA: b\n"]),
         ]:
-            self.assertEqual(list(mail.split(archive.splitlines(True))), messages, archive)
+            found = list(mail.split(archive.splitlines(True)))
+            self.assertEqual([raw for _, raw in found], messages, archive)
+            for begin, raw in found:
+                self.assertEqual(archive[begin : begin + len(raw)], raw)
 
     def message(self, head, body):
         line_end = b"\r\n" if b"\r\n" in head else b"\n"
-        return next(mail.documents([head + 2 * line_end + body])).load()
+        return next(mail.documents([("", head + 2 * line_end + body)])).load()
 
     def test_messages(self):
         html = b"Subject: h\nContent-Type: text/html"
@@ -466,7 +600,24 @@ class Mail(Case):
             b"Content-Disposition: attachment; filename=a.txt\n\nattached\n--b\n"
             b"Content-Type: image/png\n\nno\n--b\n\nlast\n--b--\n"
         )
-        self.assertEqual(next(mail.documents([parts])).load().body, "first\nlast")
+        text = next(mail.documents([("", parts)])).load()
+        self.assertEqual((text.body, text.head), ("first\nlast", "Attachment: a.txt"))
+
+    def test_heads(self):
+        for head, lines in [
+            (b"From: Ann <ann@x>\nTo: bob@x,\n\tcid@x\nCc: =?utf-8?q?D=C3=A9d=C3=A9?= <d@x>\nTo: eve@x", 
+             ["From: Ann <ann@x>", "To: bob@x, cid@x", "To: eve@x", "Cc: D\u00e9d\u00e9 <d@x>"]),
+            (b"Date: Mon, 1 Jan 2024 23:30:00 -0800", ["Date: 2024-01-01 20240101"]),
+            (b"Date: 3 Feb 99 1:2", ["Date: 1999-02-03 19990203"]),
+            (b"Date: 30 Feb 2024 10:00:00 +0000", ["Date: 30 Feb 2024 10:00:00 +0000"]),
+            (b"Date: yesterday", ["Date: yesterday"]),
+            (b"From: \xff", ["From: \u00ff"]),
+            (b"Content-Type: image/png; name*=utf-8''na%C3%AFve.png", ["Attachment: na\u00efve.png"]),
+            (b'Content-Type: image/png; name="=?utf-8?q?na=C3=AFve.png?="', ["Attachment: na\u00efve.png"]),
+            (b"", []),
+        ]:
+            found = self.message(b"Subject: x\n" + head, b"")
+            self.assertEqual(found.head.split("\n") if found.head else [], lines, head)
 
     def test_archives(self):
         deep = b"Message-ID: <deep@x>\n"
@@ -483,7 +634,7 @@ class Mail(Case):
                 b"From a@b Mon Jan  1 00:00:00 2024\nMessage-ID: <with blanks @x>\nSubject: odd \xff\n\nname\n",
                 b"From a@b Mon Jan  1 00:00:00 2024\n\nno header\n",
                 b"From a@b Mon Jan  1 00:00:00 2024\n" + deep,
-                b"From a@b Mon Jan  1 00:00:00 2024\nMessage-ID: <long@x>\n\n" + b"word " * 4_200_000 + b"\n",
+                b"From a@b Mon Jan  1 00:00:00 2024\nMessage-ID: <long@x>\n\n" + b" ".join(b"%d" % i for i in range(1_000_000)) + b"\n",
                 b"From a@b Mon Jan  1 00:00:00 2024\nMessage-ID: <big@x>\nContent-Type: multipart/mixed; boundary=b\n\n"
                 b"--b\n\nthe text of it\n--b\nContent-Type: image/png\nContent-Transfer-Encoding: base64\n\n"
                 + attached
@@ -495,7 +646,8 @@ class Mail(Case):
         said = self.run_script("mail.py", self.path, path, expect=1)
         self.assertRegex(said, "11 documents: [89] added, 1 repeated, [12] refused")
         self.assertIn("it has no header", said)
-        self.assertRegex(said, "cut long@x: 20,9[0-9]{2},[0-9]{3} bytes of its text left out")
+        self.assertIn(f"1 document in parts, since a line has {LINE_LIMIT:,} bytes", said)
+        self.assertEqual(self.whole("long@x")[0], " ".join(map(str, range(1_000_000))))
         bodies = self.bodies()
         self.assertEqual(bodies["one@x"], "the text of one")
         self.assertEqual(bodies["one@x~2"], "the text of another")
@@ -551,14 +703,30 @@ class Packages(Case):
 
 
 class Find(Case):
-    def test_terms(self):
+    def test_phrases(self):
         plan = (
-            '"red" "Fox" NOT ( "brown" OR "dog" )\nall 2\n  found D Wred XFox Wqui* T\n    x1 <= x0\n  not\n    any 2\n'
-            "      found D Wbrown\n      found D Wdog\n  found D Ncat Wlast\n"
+            '"red fox" NOT ( "brown" OR "dog" )\nall 2\n  found D Wred XFox Wqui* T\n    x1 <= x0\n    x1 <= x2-1\n'
+            "    x2 <= x1+1\n    x2 <= x3-1\n  not\n    any 2\n      found D Wbrown\n      found D Wdog\n  found D Ncat Wlast\n"
         )
-        self.assertEqual(
-            find.wanted_terms(plan), [("red", False, True), ("Fox", False, False), ("qui", True, True), ("last", False, True)]
-        )
+        red, fox, qui, last = map(find.term_of, ("Wred", "XFox", "Wqui*", "Wlast"))
+        self.assertEqual(find.wanted_phrases(plan), [[red, fox], [qui], [last]])
+        self.assertEqual((red.folded, fox.folded, qui.open_end, last.open_end), (True, False, True, False))
+
+    def test_best_lines(self):
+        plan = '"file descriptor"\nfound D Wfile Wdescriptor\n  x1 <= x2-1\n  x2 <= x1+1\n'
+        wanted = find.Wanted(plan)
+        for lines, best in [
+            (["a file", "descriptor file", "a File-Descriptor", "file descriptor"], 2),
+            (["file", "of a file", "descriptor file"], 1),
+            (["a file", "a descriptor of a file"], 1),
+            (["nothing", "of a file", "descriptor", "no"], 1),
+            (["files", "descriptors"], None),
+        ]:
+            self.assertEqual(wanted.best_line(lines), best, lines)
+        self.assertEqual(wanted.spans("a File  Descriptor; file"), [(2, 18)])
+        self.assertEqual(wanted.spans("a file; a descriptor"), [(2, 6), (10, 20)])
+        folds = find.Wanted('"strasse"\nfound D Wstrasse\n')
+        self.assertEqual(folds.spans("\u0130 die Stra\u00dfe, STRASSE"), [(6, 12), (14, 21)])
 
     def test_answers(self):
         self.write("notes/a b.txt", "nothing here\n the  quick red fox, " + "and more " * 40 + "\n")
@@ -566,18 +734,134 @@ class Find(Case):
         self.run_script("folder.py", self.path, self.at("notes"))
         self.run_script("find.py", self.path, "quick red")
         name = name_of("a b.txt")
+        self.assertEqual(self.out, f"2 c.txt\n1 {name}\nfound 2\n")
+        self.run_script("find.py", self.path, "quick red", "--oldest")
         self.assertEqual(self.out, f"1 {name}\n2 c.txt\nfound 2\n")
-        self.run_script("find.py", self.path, "quick", "--context", self.at("notes"))
+        self.run_script("find.py", "--context", self.path, "quick", "--oldest")
         lines = self.out.split("\n")
         self.assertRegex(lines[1], r"^    .*/notes/a b.txt:2: the quick red fox, and .*\.\.\.$")
         self.assertRegex(lines[3], r"^    .*/notes/c.txt:1: quick$")
-        self.run_script("find.py", self.path, "quick", "--limit", "1")
+        self.run_script("find.py", "--around", "1", self.path, "quick", "--limit", "1")
+        self.assertRegex(self.out, r"^2 c.txt\n    .*/c.txt:1: quick\n    .*/c.txt-2- and red\n\.\.\. and 1 more\nfound 2\n$")
+        for words in (("--limit", "1"), ("--last", "1")):
+            self.run_script("find.py", self.path, "quick", *words)
+            self.assertEqual(self.out, "2 c.txt\n... and 1 more\nfound 2\n")
+        self.run_script("find.py", self.path, "quick", "--limit", "1", "--oldest")
         self.assertEqual(self.out, f"1 {name}\n... and 1 more\nfound 2\n")
         self.run_script("find.py", self.path, "zebra", expect=1)
         self.assertEqual(self.out, "found 0\n")
         said = self.run_script("find.py", self.path, "fault 8 Paren \u65e5)", expect=2)
         self.assertEqual(said.split("\n")[1:3], ["  fault 8 Paren \u65e5)", "          ^"])
         self.assertIn("no index", self.run_script("find.py", self.at("none"), "x", expect=3))
+        self.assertIn("--limit", self.run_script("find.py", self.path, "x", "--limit", "-3", expect=2))
+
+    def test_for_other_programs(self):
+        self.write("notes/a b.txt", "quick\n")
+        self.write("notes/c.txt", "so quick\n")
+        self.run_script("folder.py", self.path, self.at("notes"))
+        paths = [os.path.realpath(self.at(f"notes/{name}")) for name in ("c.txt", "a b.txt")]
+        self.run_script("find.py", self.path, "quick", "--paths", "-0")
+        self.assertEqual(self.out, "".join(f"{path}\0" for path in paths))
+        self.run_script("find.py", self.path, "quick", "--names")
+        self.assertEqual(self.out, f"c.txt\n{name_of('a b.txt')}\n")
+        self.run_script("find.py", self.path, "quick", "--count")
+        self.assertEqual(self.out, "2\n")
+        self.run_script("find.py", self.path, "zebra", "--count", expect=1)
+        self.run_script("find.py", self.path, "quick", "--json", "--context", "--limit", "1")
+        known = {"number": 2, "name": "c.txt", "path": paths[0], "title": "c.txt", "line": 1, "text": "so quick"}
+        self.assertEqual(json.loads(self.out), known)
+        self.run_script("find.py", self.path, "quick", "--show")
+        self.assertEqual(self.out, "so quick\n")
+        # A file that is gone, a folder that has moved, and an index whose stamps are gone.
+        os.remove(paths[0])
+        self.run_script("find.py", self.path, "quick", "--context", "--limit", "1")
+        self.assertRegex(self.out, r"\n    .*/c.txt \(gone\)\n")
+        self.assertIn("find: c.txt: gone", self.run_script("find.py", self.path, "quick", "--show"))
+        shutil.move(self.at("notes"), self.at("moved"))
+        self.run_script("find.py", self.path, "quick", "--paths", "--oldest", "--limit", "1", "--source", self.at("moved"))
+        self.assertEqual(self.out, self.at("moved/a b.txt") + "\n")
+        os.remove(self.path + ".stamps")
+        self.assertIn("is not known", self.run_script("find.py", self.path, "quick", "--context", expect=2))
+
+    def test_parts_are_one_answer(self):
+        for name in ("a.txt", "long" * 20):
+            self.write(f"notes/{name}", "quick " + "word " * (LINE_LIMIT // 2) + "quick")
+        self.write("notes/a.txt~p2", "quick")
+        self.run_script("folder.py", self.path, self.at("notes"))
+        self.assertGreaterEqual(len(self.bodies()), 7)
+        rows = {"a.txt", name_of("a.txt~p2"), name_of("long" * 20)}
+        self.run_script("find.py", self.path, "quick", "--names")
+        self.assertEqual(sorted(self.out.split()), sorted(rows))
+        self.run_script("find.py", self.path, "quick")
+        self.assertIn("found 3\n", self.out)
+        self.run_script("find.py", self.path, "quick", "--count")
+        self.assertEqual(self.out, "3\n")
+        # Fewer parts leave none of the older ones.
+        self.write("notes/a.txt", "quick")
+        self.assertIn("1 changed, 2 unchanged", self.run_script("folder.py", self.path, self.at("notes")))
+        self.assertEqual([name for name in self.bodies() if name.startswith("a.txt")], [name_of("a.txt~p2"), "a.txt"])
+
+    def test_backwards(self):
+        with mock.patch.object(find, "BLOCK", 7), mock.patch.object(find, "KEPT_IN_MEMORY", 20):
+            for count in (0, 1, 2, 50):
+                rows = [(number, f"name{number}") for number in range(1, count + 1)]
+                self.assertEqual(list(find.backwards(iter(rows))), rows[::-1])
+
+    def test_mail_and_packages(self):
+        archive = (
+            b"From a Mon Jan  1 00:00:00 2024\nMessage-ID: <one@x>\nFrom: ann@x\nDate: 1 Jan 2024 10:00\nSubject: Red\n\n"
+            b"of a quick \x1b[2J fox\n\nFrom b Mon Jan  1 00:00:00 2024\nMessage-ID: <two@x>\nFrom: bob@x\nSubject: Re: Red\n\nquick\n"
+        )
+        path = self.write("mail.mbox", archive)
+        self.run_script("mail.py", self.path, path)
+        box = mailbox.Maildir(self.at("Mail"), create=True)
+        box.add(b"Message-ID: <three@x>\nSubject: s\n\nthe quick letter\n")
+        self.run_script("mail.py", self.path, self.at("Mail"))
+        status = self.write("status", "Package: dog\nDescription: a dog\n quick and lazy\n\nPackage: fox\nDescription: x\n quick\n")
+        self.run_script("packages.py", self.path, status)
+        self.run_script("find.py", self.path, "quick", "--context", "--oldest")
+        shown = [line.replace(os.path.realpath(self.place.name) + "/", "") for line in self.out.split("\n")]
+        shown[7] = re.sub("new/.*: s", "new/N: s", shown[7])
+        self.assertEqual(
+            shown,
+            [
+                "1 one@x",
+                "    mail.mbox: 2024-01-01 ann@x: Red",
+                "    of a quick \x1b[2J fox",
+                "2 two@x",
+                "    mail.mbox: bob@x: Re: Red",
+                "    quick",
+                "3 three@x",
+                "    Mail/new/N: s",
+                "    the quick letter",
+                "4 dog",
+                "    status: a dog",
+                "    quick and lazy",
+                "5 fox",
+                "    status: x",
+                "    quick",
+                "found 5",
+                "",
+            ],
+        )
+        self.run_script("find.py", self.path, "from: ann@x", "--show")
+        self.assertEqual(self.out, "Subject: Red\nFrom: ann@x\nDate: 2024-01-01 20240101\n\nof a quick \x1b[2J fox\n")
+        self.run_script("find.py", self.path, "lazy", "--json")
+        known = json.loads(self.out)
+        self.assertEqual(self.read(status)[known["begin"] :][: known["length"]].split(b"\n")[0], b"Package: dog")
+        # By the archive alone.
+        self.run_script("mail.py", "--show", path, "two@x")
+        self.assertEqual(self.out, "Subject: Re: Red\nFrom: bob@x\n\nquick\n")
+        self.run_script("mail.py", "--show", "--raw", path, "two@x")
+        self.assertEqual(self.out, "Message-ID: <two@x>\nFrom: bob@x\nSubject: Re: Red\n\nquick\n")
+        self.assertIn("it has no message three@x", self.run_script("mail.py", "--show", path, "three@x", expect=1))
+        # Where a message has moved, the next run notes it.
+        self.write("mail.mbox", archive[archive.index(b"From b") :])
+        said = self.run_script("mail.py", self.path, path)
+        self.assertIn("1 document: 0 added, 1 unchanged", said)
+        self.assertIn("1 document of earlier runs not seen any more, and still in the index", said)
+        self.run_script("find.py", self.path, "bob@x", "--show")
+        self.assertEqual(self.out, "Subject: Re: Red\nFrom: bob@x\n\nquick\n")
 
     def test_prompt(self):
         self.write("notes/c.txt", "quick\n")
@@ -587,27 +871,67 @@ class Find(Case):
             said = self.run_script("find.py", self.path, stdin=file)
         self.assertEqual(self.out, "1 c.txt\nfound 1\nfound 0\n1 c.txt\nfound 1\n")
         self.assertIn("! query 0 Word", said)
+        # These are words where no one types.
+        queries = self.write("queries", "help\nquit\n")
+        with open(queries) as file:
+            self.run_script("find.py", self.path, stdin=file, expect=1)
+        self.assertEqual(self.out, "found 0\nfound 0\n")
 
-    def test_terminal(self):
-        for number in range(25):
-            self.write(f"notes/{number:02}", "quick")
-        self.run_script("folder.py", self.path, self.at("notes"))
+    def typed(self, *lines, words=(), **variables):
+        """What a terminal shows where these lines are typed at the prompt."""
         ours, theirs = pty.openpty()
-        process = self.start("find.py", self.path, stdin=theirs, stdout=theirs)
+        variables = {"BUNCOCEDAR_HISTORY": self.at("history"), "TERM": "xterm", **variables}
+        with mock.patch.dict(os.environ, variables):
+            process = self.start("find.py", *words, self.path, stdin=theirs, stdout=theirs)
         os.close(theirs)
         shown = ""
-        for typed in (b"quick\n", b"fault 2 Word\n", b"\x04"):
+        for line in lines:
             # Typed only at the prompt, which sets how the terminal reads.
             while not shown.endswith("find> "):
                 shown += os.read(ours, 4096).decode()
-            os.write(ours, typed)
+            os.write(ours, line)
             shown += " "
         shown += read_all(ours)
-        said = process.communicate(timeout=PATIENCE)[1]
-        self.assertEqual(process.returncode, 2)
-        self.assertIn("find> ", shown)
-        self.assertIn("20 19\r\n... and 5 more\r\nfound 25\r\n", shown)
-        self.assertIn("! query 2 Word", said)
+        self.said = process.communicate(timeout=PATIENCE)[1]
+        self.status = process.returncode
+        return shown
+
+    def test_terminal(self):
+        for number in range(25):
+            self.write(f"notes/{number:02}", "so quick \x1b]0;title\x07")
+        self.run_script("folder.py", self.path, self.at("notes"))
+        shown = self.typed(b"quick\n", b"fault 2 Word\n", b"\x04", words=("--color", "never"))
+        self.assertEqual(self.status, 2)
+        self.assertIn("25 24\r\n24 23\r\n", shown)
+        self.assertIn("6 05\r\n... and 5 more\r\nfound 25\r\n", shown)
+        self.assertIn("! query 2 Word", self.said)
+        shown = self.typed(b"help\n", b"show 3\n", b"show 24\n", b"quit\n", words=("--context",))
+        self.assertEqual(self.status, 0)
+        self.assertIn("show N    prints document N", shown)
+        self.assertEqual(shown.count("so quick \ufffd]0;title\ufffd\r\n"), 2)
+        if find.readline is not None:
+            self.assertEqual(self.read(self.at("history")).decode().split("\n")[-5:-1], ["help", "show 3", "show 24", "quit"])
+            self.assertNotIn("\x1b]0;", self.typed(b"\x1b[A\n", words=("--context",)))
+            self.assertFalse(self.typed(b"quick\n", b"\x04", words=("--context",)).count("\x07"))
+
+    def test_colours(self):
+        self.write("notes/c.txt", "so Quick, quick\n")
+        self.run_script("folder.py", self.path, self.at("notes"))
+        for choice, marked in (("always", True), ("never", False), ("auto", False)):
+            self.run_script("find.py", self.path, "quick", "--context", "--color", choice)
+            self.assertEqual(self.out.count(terminal.MARK), 2 * marked)
+
+    def test_pager(self):
+        self.write("notes/c.txt", "quick\n")
+        self.run_script("folder.py", self.path, self.at("notes"))
+        for pager, shows in (("sed s/^/paged:/", "paged:1 c.txt\r\npaged:found 1\r\n"), ("/no/such", "1 c.txt\r\nfound 1\r\n")):
+            ours, theirs = pty.openpty()
+            with mock.patch.dict(os.environ, {"PAGER": pager}):
+                process = self.start("find.py", "--color", "never", self.path, "quick", stdout=theirs)
+            os.close(theirs)
+            self.assertEqual(read_all(ours), shows)
+            process.communicate(timeout=PATIENCE)
+            self.assertEqual(process.returncode, 0)
 
 
 class RealProgram(Case):
@@ -697,6 +1021,73 @@ class RealProgram(Case):
         self.assertEqual(len(self.found("letter")), 200)
         self.assertEqual(len(self.found("x")), 16)
         self.assertIn("200 documents: 0 added, 200 unchanged\n", self.run_script("mail.py", self.path, path))
+
+    def test_made_beside(self):
+        path = self.mailbox(50, 1000)
+        said = self.run_script("mail.py", "--fast", self.path, path)
+        self.assertIn("50 documents: 50 added\n", said)
+        self.assertEqual(sorted(os.listdir(self.place.name)), ["mail.mbox", "x.alta", "x.alta.stamps"])
+        self.assertEqual(len(self.found("letter")), 50)
+        self.assertEqual(self.found("w7"), ["8 7@x"])
+        # The index is there now, and is added to.
+        path = self.mailbox(60, 1000)
+        said = self.run_script("mail.py", "--fast", self.path, path)
+        self.assertIn("x.alta is there already", said)
+        self.assertIn("60 documents: 10 added, 50 unchanged\n", said)
+        # An interrupt keeps what was done.
+        self.path = self.at("y.alta")
+        process = self.start("packages.py", "--fast", self.path, stdin=subprocess.PIPE)
+        process.stdin.write("".join(f"Package: p{i}\nDescription: letter {i}\n\n" for i in range(5)))
+        process.stdin.flush()
+        pattern = os.path.join(importing.MEMORY if os.path.isdir(importing.MEMORY) else tempfile.gettempdir(), "buncocedar-*/index.alta")
+        until(lambda: any(b"letter 4" in self.read(beside) for beside in glob.glob(pattern)))
+        self.assertFalse(os.path.exists(self.path))
+        process.send_signal(signal.SIGINT)
+        self.assertIn("5 documents: 5 added\n", process.communicate(timeout=PATIENCE)[1])
+        self.assertEqual(process.returncode, 130)
+        self.assertEqual(len(self.found("letter")), 5)
+
+    def test_back_to_a_message(self):
+        path = self.write(
+            "mail.mbox",
+            b"From a Mon Jan  1 00:00:00 2024\nMessage-ID: <a@x>\nFrom: Ann Lee <ann@example.org>\nTo: bob@example.org\n"
+            b"Date: Tue, 2 Jan 2024 10:00:00 +0100\nSubject: Report\nContent-Type: multipart/mixed; boundary=b\n\n--b\n\n"
+            b"The report of\nthe year.\n--b\nContent-Type: application/pdf; name=plan.pdf\n\nx\n--b--\n\n"
+            b"From b Mon Jan  1 00:00:00 2024\nMessage-ID: <b@x>\nFrom: bob@example.org\nTo: ann@example.org\n\nThanks, Ann.\n",
+        )
+        self.run_script("mail.py", self.path, path)
+        for query, rows in [
+            ('"from ann"', ["1 a@x"]),
+            ("from NEAR/3 bob", ["2 b@x"]),
+            ('"to bob"', ["1 a@x"]),
+            ("20240102", ["1 a@x"]),
+            ("2024*", ["1 a@x"]),
+            ('"attachment plan.pdf"', ["1 a@x"]),
+            ("ann", ["2 b@x", "1 a@x"]),
+        ]:
+            self.assertEqual(self.found(query), rows, query)
+        self.run_script("find.py", self.path, '"report of the year"', "--context")
+        self.assertRegex(self.out, r"1 a@x\n    .*mail.mbox: 2024-01-02 Ann Lee <ann@example.org>: Report\n    The report of\nfound 1\n")
+        self.run_script("find.py", self.path, "name:b@x", "--show")
+        self.assertEqual(self.out, "Subject: \nFrom: bob@example.org\nTo: ann@example.org\n\nThanks, Ann.\n")
+
+    def test_long_documents(self):
+        # The last words of a part begin the next one, so that no phrase is lost.
+        words = [f"w{number}" for number in range(LINE_LIMIT // 2)]
+        self.write("notes/long.txt", "\n".join(words))
+        self.run_script("folder.py", self.path, self.at("notes"))
+        parts = len(stamps.Records(self.path + ".stamps").of["long.txt"].numbers)
+        self.assertGreater(parts, 1)
+        with importing.Index(self.path, program=PROGRAM) as index:
+            self.assertEqual(index.count("w*"), parts)
+            lost = [at for at in range(len(words) - 1) if at % 97 == 0 and not index.count(f'"{words[at]} {words[at + 1]}"')]
+            self.assertEqual(lost, [])
+            # Each border has its words twice, and so each phrase over it.
+            text = importing.Text("long.txt", "\n".join(words))
+            begins = [body.split(" ")[:2] for _, _, body in importing.parts_of("long.txt", text, False)[1:]]
+            self.assertEqual([index.count(f'"{first} {second}"') for first, second in begins], [2] * (parts - 1))
+        self.run_script("find.py", self.path, words[-1], "--context")
+        self.assertRegex(self.out, rf"long.txt:{len(words)}: {words[-1]}\nfound 1")
 
     def test_more_than_a_journal(self):
         path = self.mailbox(200, 1000)

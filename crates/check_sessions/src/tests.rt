@@ -11,8 +11,8 @@ use std::test::Fail;
 
 const LIMIT: u64 = 1 << 40;
 
-// The calls of a disk by which an index without documents is opened.
-const OPENING: u64 = 6;
+// The calls of a disk by which an index without documents is opened: a sync, the length, both slots and a half of the journal.
+const OPENING: u64 = 5;
 
 const FIRST: &[u8] = b"add a\tRed Fox\tthe quick red fox\n";
 
@@ -239,9 +239,8 @@ fn a_stop_at_a_gate_leaves_a_line_whole_or_absent(rt: HostRuntime) -> Result<(),
             let mut again = disk_of(alloc, inner.image(alloc, pick)?)?;
             let (status, given) = call(alloc, &mut again, "run", b"count fox\n", &[], &[])?;
             assert_eq!(rt; status, Status::Done);
-            assert!(rt;
-                given.as_slice() == b"found 1\n" || (!is_kept && given.as_slice() == b"found 0\n")
-            );
+            let is_found = count(&given, b"found 1") == 1;
+            assert!(rt; is_found || (!is_kept && count(&given, b"found 0") == 1));
         }
     }
     Ok(())

@@ -1,0 +1,316 @@
+"""One index for many clients: a server behind a socket beside the index's file.
+
+Each client speaks the lines of the program; `buncocedar.Index`, and what stands on it, finds the server by itself. One thread
+owns the index, and answers one line, or one page of a search, after another, of each client one at a time: so neither a large
+search nor a client that reads slowly keeps the others waiting. A thread for each client reads its lines and writes its
+replies. A client has cursors of its own, which end with it. While nobody asks, levels are joined by steps, so that no add has
+to wait for a join.
+
+An interrupt (SIGINT, SIGTERM) ends the server when the line that it is at is answered, a second one ends the program at once.
+However it ends, what a client was answered is stored. The status is 0 where it was asked to end, and 3 where the index could
+not be opened or the program has ended.
+"""
+
+import argparse
+import contextlib
+import errno
+import os
+import queue
+import re
+import signal
+import socket
+import stat
+import sys
+import threading
+import time
+from concurrent.futures import Future
+
+from . import LINE_LIMIT, Ended, Error, Index, server_path
+
+PAGE = 1_000  # rows of a search, at a time
+IDLE_SECONDS = 0.5  # without a line, before levels are joined
+STEP_TERMS = 5_000  # of a join, between two looks for a line
+LEVELS_KEPT = 12  # of the sixteen that an index may have
+SECONDS_TO_LEAVE = 2  # that clients have to take their last replies when the server ends
+STOPPED = 3
+
+_ON_A_CURSOR = re.compile(rb"(fetch|close) (0|[1-9][0-9]{0,19})(?![0-9])")
+_NO_CURSOR = b"65"  # a number that no cursor has
+_OPEN_SLOTS = (b"\xa5\x01", b"\xa5\x02")  # an open gate and a version whose slots have their levels counted here
+
+
+class Stopped(Exception):
+    """The server ends, and takes no further line."""
+
+
+def level_count(path):
+    """How many levels the root of the index names, as docs/FORMAT.md says; none where the file is of another version."""
+    with open(path, "rb") as file:
+        slots = [os.pread(file.fileno(), 4, place) for place in (0, 4_096)]
+    roots = [(slot[2], slot[3]) for slot in slots if slot[:2] in _OPEN_SLOTS and len(slot) == 4]
+    if len(roots) == 2 and (roots[0][0] + 1) % 256 == roots[1][0]:
+        roots.reverse()
+    return roots[0][1] if roots else 0
+
+
+class Session:
+    """A client, whose lines are answered one after another."""
+
+    def __init__(self, server, connection):
+        self.server = server
+        self.connection = connection
+        self.cursors = set()
+        self.thread = threading.Thread(target=self.run, daemon=True)
+
+    def run(self):
+        self.server.sessions.add(self)
+        try:
+            with self.connection, self.connection.makefile("rb") as file:
+                with contextlib.suppress(Ended, Stopped):
+                    for line in whole_lines(file):
+                        for piece in self.reply(line):
+                            self.say(piece)
+                end = self.server.end
+                if end is not None:
+                    self.say([f"! ended {end.status} {end.line}"])
+        except OSError:
+            # The client has gone.
+            pass
+        finally:
+            with contextlib.suppress(Ended, Stopped):
+                for number in self.cursors:
+                    self.ask(b"close %d" % number)
+            self.server.sessions.discard(self)
+
+    def say(self, lines):
+        self.connection.sendall("".join(f"{line}\n" for line in lines).encode())
+
+    def ask(self, line):
+        return self.server.ask(line)
+
+    def reply(self, line):
+        """The reply to a line in pieces, each of some lines."""
+        word, blank, query = line.partition(b" ")
+        if word == b"search" and blank and len(line) <= LINE_LIMIT:
+            yield from self.search(query)
+        elif word == b"open":
+            lines = self.ask(line)
+            if lines[0].startswith("cursor "):
+                self.cursors.add(int(lines[0].split(" ")[1]))
+            yield lines
+        else:
+            lines = self.ask(self.of_its_own(line))
+            if lines[0].startswith("closed "):
+                self.cursors.discard(int(lines[0].split(" ")[1]))
+            yield lines
+
+    def of_its_own(self, line):
+        """The line as it is, and where it names a cursor of another client with a number that no cursor has."""
+        named = _ON_A_CURSOR.match(line)
+        if named is None or int(named[2]) in self.cursors:
+            return line
+        return named[1] + b" " + _NO_CURSOR + line[named.end() :]
+
+    def search(self, query):
+        """A search, by a cursor: the others are answered between its pages."""
+        opened = self.ask(b"open " + query)
+        if opened[0] == "! too many cursors":
+            yield self.ask(b"search " + query)
+        elif opened[0].startswith("! "):
+            yield opened
+        else:
+            yield from self.rows(int(opened[0].split(" ")[1]))
+
+    def rows(self, number):
+        found = 0
+        more = True
+        try:
+            while more:
+                *rows, end = self.ask(b"fetch %d %d" % (number, PAGE))
+                found += len(rows)
+                more = end == "more"
+                yield rows
+        finally:
+            self.ask(b"close %d" % number)
+        yield [f"found {found}"]
+
+
+def whole_lines(file):
+    """The lines of a file, without their ends. What stands behind the last end is none, and a line too long is cut."""
+    room = LINE_LIMIT + 2
+    while True:
+        front = part = file.readline(room)
+        while part and not part.endswith(b"\n"):
+            part = file.readline(room)
+        if not part:
+            return
+        yield front.rstrip(b"\n")
+
+
+class Server:
+    """The owner of an index, and the clients of a listening socket."""
+
+    def __init__(self, index, listener):
+        self.index = index
+        self.listener = listener
+        self.sessions = set()
+        self.end = None  # how the program has ended
+        self._jobs = queue.SimpleQueue()  # lines, each with the future of its reply; None asks the server to end
+        self._stopped = False
+
+    def ask(self, line):
+        """The lines of the reply, when the owner has come to it: for the threads of clients."""
+        if self._stopped:
+            raise Stopped
+        future = Future()
+        self._jobs.put((line, future))
+        return future.result()
+
+    def stop(self):
+        """Asks the server to end. A handler of a signal may do so too."""
+        self._jobs.put(None)
+
+    def run(self):
+        """Answers lines until the server is asked to end, or the program ends."""
+        threading.Thread(target=self._accept, daemon=True).start()
+        seconds = IDLE_SECONDS
+        while self.end is None:
+            try:
+                job = self._jobs.get(timeout=seconds)
+            except queue.Empty:
+                seconds = 0 if self._tidy() else None
+                continue
+            if job is None:
+                return
+            self._do(*job)
+            seconds = IDLE_SECONDS
+
+    def close(self):
+        """Takes no further client or line, waits a moment for those that have a reply to take, and ends the program."""
+        self._stopped = True
+        # While the index is still held, since the next one to have it may listen there.
+        with contextlib.suppress(OSError):
+            os.unlink(server_path(self.index.path))
+        with contextlib.suppress(OSError):
+            self.listener.shutdown(socket.SHUT_RDWR)
+        self.listener.close()
+        sessions = list(self.sessions)
+        for session in sessions:
+            with contextlib.suppress(OSError):
+                session.connection.shutdown(socket.SHUT_RD)
+        self._refuse_jobs()
+        until = time.monotonic() + SECONDS_TO_LEAVE
+        for session in sessions:
+            session.thread.join(max(0, until - time.monotonic()))
+        self.index.close()
+
+    def _refuse_jobs(self):
+        with contextlib.suppress(queue.Empty):
+            while True:
+                job = self._jobs.get_nowait()
+                if job is not None:
+                    job[1].set_exception(Stopped())
+
+    def _accept(self):
+        while not self._stopped:
+            try:
+                connection, _ = self.listener.accept()
+                Session(self, connection).thread.start()
+            except (OSError, RuntimeError):
+                # There are too many files or threads, or the server ends.
+                time.sleep(0.1)
+
+    def _do(self, line, future):
+        try:
+            future.set_result(self.index.answer(line))
+        except Error as error:
+            self._fail(error)
+            future.set_exception(self.end)
+
+    def _tidy(self):
+        """Moves a join on where there are many levels, and tells whether there may be more to do."""
+        try:
+            if level_count(self.index.path) <= LEVELS_KEPT:
+                return False
+            self.index.step(STEP_TERMS)
+        except Error as error:
+            self._fail(error)
+        return True
+
+    def _fail(self, error):
+        self.end = error if isinstance(error, Ended) else Ended(-signal.SIGKILL, str(error), self.index.path)
+
+
+def listening(path):
+    """A socket that listens beside the index, for whoever may write the index's file. Only who has the index may make it."""
+    place = server_path(path)
+    with contextlib.suppress(FileNotFoundError):
+        if not stat.S_ISSOCK(os.lstat(place).st_mode):
+            raise FileExistsError(errno.EEXIST, "no socket, and it stands where the server would listen", place)
+        # A server that was killed has left it.
+        os.unlink(place)
+    listener = socket.socket(socket.AF_UNIX)
+    mask = os.umask(0o177)
+    try:
+        listener.bind(place)
+        os.chmod(place, os.stat(path).st_mode & 0o666)
+        listener.listen(128)
+    except OSError as error:
+        listener.close()
+        raise OSError(error.errno, f"the server cannot listen: {error.strerror or error}", place) from None
+    finally:
+        os.umask(mask)
+    return listener
+
+
+def handle_signals(server):
+    """The first interrupt asks the server to end, the next one ends the program at once."""
+    asked = []
+
+    def take(number, frame):
+        if asked:
+            server.index.break_off()
+        else:
+            server.stop()
+        asked.append(number)
+
+    for number in (signal.SIGINT, signal.SIGTERM):
+        signal.signal(number, take)
+
+
+def say(text):
+    print(f"server: {text}", file=sys.stderr, flush=True)
+
+
+def serve(options):
+    """Serves an index until it is asked to end, and answers the exit status."""
+    with Index(options.index, options.create, patience=options.wait, on_wait=say, server=False) as index:
+        server = Server(index, listening(options.index))
+        try:
+            handle_signals(server)
+            say(f"listening at {server_path(options.index)}")
+            server.run()
+        finally:
+            server.close()
+    if server.end is not None:
+        say(server.end)
+        return STOPPED
+    return 0
+
+
+def main():
+    parser = argparse.ArgumentParser(
+        prog="buncocedar.server", description=__doc__, formatter_class=argparse.RawDescriptionHelpFormatter
+    )
+    parser.add_argument("index", metavar="INDEX")
+    parser.add_argument("--create", action="store_true", help="make the index where there is none")
+    parser.add_argument("--wait", metavar="SECONDS", type=float, default=10.0, help="how long to wait for who has it open")
+    try:
+        return serve(parser.parse_args())
+    except (Error, OSError) as error:
+        say(error)
+        return STOPPED
+
+
+if __name__ == "__main__":
+    sys.exit(main())

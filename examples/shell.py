@@ -1,0 +1,212 @@
+#!/usr/bin/env python3
+"""A prompt for all commands of an index.
+
+A line is a command of the program, as README.md has them; `help` prints them. `add NAME` alone asks for title and body, since
+a tab completes words here. Lines that come from a file or a pipe are answered in the same way, and a refusal is an error of
+theirs. The status is 0, 1 where a line that was not typed was refused, 2 for wrong words, and 3 where the index could not be
+asked.
+"""
+
+import argparse
+import os
+import sys
+
+from importing import Index
+from terminal import printable, quiet_end
+
+from buncocedar import Error, Refused
+
+try:
+    import readline
+except ImportError:
+    readline = None
+
+HELP = """add NAME            stores a document: title and body are asked for
+delete NAME         takes a document out of all answers
+search QUERY        the documents that match
+count QUERY         how many match
+explain QUERY       how the query is read and answered
+open QUERY          a cursor over the answers as they are now
+fetch CURSOR COUNT  its next answers
+close CURSOR        gives it back
+stats               how many documents and words there are, and the next number
+flush               writes the newest documents out of the journal
+merge               joins all levels to one
+step TERMS          a part of such a joining
+help, quit          this text; the end, as Ctrl-D
+A query: words, "a phrase", qui*, title:fox, name:x, red NEAR/5 fox, AND, OR, NOT, ( )"""
+WORDS = [line.split()[0] for line in HELP.split("\n")[:12]] + ["help", "quit", "title:", "name:", "NEAR/", "AND", "OR", "NOT"]
+SOME_REFUSED = 1
+STOPPED = 3
+
+
+def history_path():
+    """The file of the prompt's history, or none where BUNCOCEDAR_HISTORY is set and empty."""
+    state = os.environ.get("XDG_STATE_HOME") or os.path.join(os.path.expanduser("~"), ".local", "state")
+    return os.environ.get("BUNCOCEDAR_HISTORY", os.path.join(state, "buncocedar", "shell_history"))
+
+
+def completed(text, state):
+    fitting = [word for word in WORDS if text and word.startswith(text)]
+    return fitting[state] if state < len(fitting) else None
+
+
+class Prompt:
+    """The lines of a terminal, with a history over sessions, or those of a file or pipe."""
+
+    def __init__(self):
+        self.typed = sys.stdin.isatty()
+        self.path = history_path() if readline and self.typed else ""
+
+    def __enter__(self):
+        if self.path:
+            readline.set_completer(completed)
+            readline.set_completer_delims(" ()")
+            readline.parse_and_bind("tab: complete")
+            readline.set_history_length(1000)
+            try:
+                readline.read_history_file(self.path)
+            except OSError:
+                pass
+        return self
+
+    def __exit__(self, *what):
+        if not self.path:
+            return
+        try:
+            os.makedirs(os.path.dirname(os.path.abspath(self.path)), mode=0o700, exist_ok=True)
+            readline.write_history_file(self.path)
+        except OSError as error:
+            print(f"shell: the history could not be kept: {error}", file=sys.stderr)
+
+    def ask(self, text):
+        """A line, or none at the end."""
+        try:
+            return input(text if self.typed else "")
+        except EOFError:
+            return None
+
+    def lines(self):
+        """The lines up to the end or a `quit`, without empty ones and without those that are interrupted."""
+        while True:
+            try:
+                line = self.ask("alta> ")
+            except KeyboardInterrupt:
+                print()
+                continue
+            if line is None and self.typed:
+                print()
+            if line is None or self.typed and line.strip() in ("quit", "exit"):
+                return
+            if line.strip():
+                yield line
+
+
+def shown(text):
+    """The text as it is written: on a terminal without what would steer it."""
+    return printable(text) if sys.stdout.isatty() else text
+
+
+class Shell:
+    def __init__(self, index, prompt):
+        self.index = index
+        self.prompt = prompt
+
+    def answer(self, line):
+        """Prints the reply to a line, and tells whether it was done."""
+        word, _, rest = line.partition(" ")
+        try:
+            if self.prompt.typed and line.strip() in ("help", "?"):
+                print(HELP)
+            elif self.prompt.typed and word == "add" and "\t" not in rest:
+                self.add(rest.strip())
+            elif word == "search":
+                self.search(rest)
+            elif word == "explain":
+                print(shown(self.index.explain(rest)))
+            elif word == "count":
+                print(f"found {self.index.count(rest)}")
+            elif word == "open":
+                print(f"cursor {self.index.cursor(rest).number}")
+            else:
+                self.say(line)
+        except Refused as refusal:
+            print(refusal, file=sys.stderr)
+            return False
+        sys.stdout.flush()
+        return True
+
+    def add(self, name):
+        title = self.prompt.ask("title> ")
+        body = None if title is None else self.prompt.ask("body> ")
+        if body is not None:
+            print(f"added {self.index.add(name, title, body)}")
+
+    def search(self, query):
+        found = 0
+        for number, name in self.index.search(query):
+            found += 1
+            print(f"{number} {name}")
+        print(f"found {found}")
+
+    def say(self, line):
+        """Any other line, as it is."""
+        *rows, last = self.index.answer(line.encode(errors="replace"))
+        for row in rows:
+            print(shown(row))
+        if last.startswith("! "):
+            raise Refused(last)
+        print(shown(last))
+
+
+def opened(options):
+    return Index(
+        options.index,
+        create=options.create,
+        patience=options.wait,
+        on_wait=lambda text: print(f"shell: {text}: waiting", file=sys.stderr),
+    )
+
+
+def run(options, prompt):
+    """Answers lines up to the end, and answers the status."""
+    status = 0
+    index = opened(options)
+    try:
+        for line in prompt.lines():
+            try:
+                if not Shell(index, prompt).answer(line) and not prompt.typed:
+                    status = SOME_REFUSED
+            except KeyboardInterrupt:
+                # A call that waits for the program is broken off with it.
+                if not prompt.typed:
+                    raise
+                index.kill()
+                index = opened(options)
+                print("\nbroken off: the index is opened anew, without cursors", file=sys.stderr)
+    finally:
+        index.close()
+    return status
+
+
+def main():
+    parser = argparse.ArgumentParser(
+        prog="examples/shell.py", description=__doc__, formatter_class=argparse.RawDescriptionHelpFormatter
+    )
+    parser.add_argument("index", metavar="INDEX")
+    parser.add_argument("--create", action="store_true", help="make the index where there is none")
+    parser.add_argument("--wait", metavar="SECONDS", type=float, default=10.0, help="how long to wait for who has it open")
+    options = parser.parse_args()
+    try:
+        with Prompt() as prompt, quiet_end():
+            return run(options, prompt)
+    except KeyboardInterrupt:
+        return 130
+    except (Error, OSError) as error:
+        print(f"shell: {error}", file=sys.stderr)
+        return STOPPED
+    return 0
+
+
+if __name__ == "__main__":
+    sys.exit(main())

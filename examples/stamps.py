@@ -1,0 +1,226 @@
+"""What an import keeps beside an index: of each document a stamp, and where it was found.
+
+The file of stamps has a line for each document that the index has answered:
+
+    NAME NUMBERS STAMP SOURCE [PLACE]
+
+NUMBERS are those of its parts, with commas between; STAMP is a digest that changes when the document does; SOURCE is the
+digest of what it came from, and PLACE where in it: a path below it, and `@BEGIN+LENGTH` where it is a piece of a file. A line
+`= SOURCE KIND PATH` says what a source is, and a line `- NAME` that a document is gone. Paths are written as in URLs. A line
+that was torn by a stop is passed over; the last line of a name or of a source counts.
+"""
+
+import hashlib
+import os
+import re
+from typing import NamedTuple, Optional
+from urllib.parse import quote, unquote_to_bytes
+
+NAME_LIMIT = 64
+STEM_LIMIT = 58  # characters of a name before the end of a part, as `~p2`
+
+_NAME = "[!-~]{1,64}"
+_STAMP = re.compile(f"({_NAME}) ([1-9][0-9]*(?:,[1-9][0-9]*)*) ([0-9a-f]{{32}}) ([0-9a-f]{{8}})(?: ([!-~]+))?".encode())
+_SOURCE = re.compile(b"= ([0-9a-f]{8}) ([a-z]+) ([!-~]+)")
+_GONE = re.compile(f"- ({_NAME})".encode())
+_PART = re.compile("(.+)~p([1-9][0-9]*)", re.DOTALL)
+_PLACE = re.compile(r"([^@]*)(?:@([0-9]+)\+([0-9]+))?")
+
+
+def digest(data, size=16):
+    return hashlib.blake2b(data, digest_size=size).hexdigest()
+
+
+# --- Names.
+
+
+def name_of(wanted):
+    """The wanted name where it keeps the rule on names, and else one near it, with an end that is its own."""
+    if re.fullmatch(_NAME, wanted) and not _PART.fullmatch(wanted):
+        return wanted
+    end = "~" + digest(wanted.encode(errors="surrogatepass"), 4)
+    return re.sub("[^!-~]+", "-", wanted)[: NAME_LIMIT - len(end)].strip("-") + end
+
+
+def numbered(name, number):
+    """The name of the document that wants this name as the first, the second, .."""
+    end = f"~{number}" if number > 1 else ""
+    return name[: NAME_LIMIT - len(end)] + end
+
+
+def stem_of(name):
+    """What the names of a document's further parts begin with: its name, or one near it that leaves room for their ends."""
+    if len(name) <= STEM_LIMIT:
+        return name
+    end = "~" + digest(name.encode(), 4)
+    return name[: STEM_LIMIT - len(end)] + end
+
+
+def part_name(name, number):
+    """The name of a part of a document, counted from 1: the first has the document's own."""
+    return name if number == 1 else f"{stem_of(name)}~p{number}"
+
+
+def part_of(name):
+    """The stem and the number of a part behind the first, None for any other name."""
+    match = _PART.fullmatch(name)
+    return (match[1], int(match[2])) if match else None
+
+
+# --- Stamps.
+
+
+class Place(NamedTuple):
+    """Where a document stands in its source: a path below it, and a piece of that file where it is not all of it."""
+
+    path: str = ""
+    begin: Optional[int] = None
+    length: int = 0
+
+    def spelled(self):
+        piece = "" if self.begin is None else f"@{self.begin}+{self.length}"
+        return quote(os.fsencode(self.path)) + piece
+
+
+def place_of(text):
+    """The place that is spelled so."""
+    path, begin, length = _PLACE.fullmatch(text).groups()
+    return Place(os.fsdecode(unquote_to_bytes(path)), *((int(begin), int(length)) if begin else ()))
+
+
+class Stamp(NamedTuple):
+    """Of a document: the numbers of its parts, the digest of what it was made of, its source, and its place there."""
+
+    numbers: tuple
+    stamp: str
+    source: str
+    place: str = ""
+
+
+class Source(NamedTuple):
+    """What documents came from: `kind` is the script that reads it."""
+
+    kind: str
+    path: str
+
+
+class Found(NamedTuple):
+    """Where a document was found: the file, the piece of it where it is not all of it, and its digest then."""
+
+    kind: str
+    path: str
+    begin: Optional[int]
+    length: int
+    stamp: str
+
+
+class Records:
+    """What a file of stamps says: `of` each name its `Stamp`, and `sources` by their digests. `lines` is how many it has."""
+
+    def __init__(self, path):
+        self.path = path
+        self.of = {}
+        self.sources = {}
+        try:
+            with open(path, "rb") as file:
+                lines = file.read().split(b"\n")
+        except FileNotFoundError:
+            lines = [b""]
+        self.torn = bool(lines.pop())
+        self.lines = len(lines)
+        for line in lines:
+            self._take(line)
+
+    def _take(self, line):
+        match = _STAMP.fullmatch(line)
+        if match:
+            name, numbers, stamp, source, place = (part.decode() if part else "" for part in match.groups())
+            self.of[name] = Stamp(tuple(map(int, numbers.split(","))), stamp, source, place)
+        elif _SOURCE.fullmatch(line):
+            source, kind, path = line[2:].decode().split(" ")
+            self.sources[source] = Source(kind, os.fsdecode(unquote_to_bytes(path)))
+        elif _GONE.fullmatch(line):
+            self.of.pop(line[2:].decode(), None)
+
+    def found(self, name, moved=None):
+        """Where the document of this name was found, or None; `moved` is the path of its source today."""
+        stamp = self.of.get(name)
+        source = self.sources.get(stamp.source) if stamp else None
+        if source is None or not stamp.place:
+            return None
+        place = place_of(stamp.place)
+        top = moved or source.path
+        path = os.path.join(top, place.path) if place.path else top
+        return Found(source.kind, path, place.begin, place.length, stamp.stamp)
+
+
+class Stamps(Records):
+    """The stamps beside an index, to be added to.
+
+    `fault` says why they can't be written, from then on: what is stored without a stamp is added again by the next run.
+    """
+
+    def __init__(self, path):
+        super().__init__(path)
+        self.fault = None
+        if self.lines > 2 * len(self.of) + len(self.sources) + 1000:
+            self.rewrite()
+            self.torn = False
+        self.file = os.open(path, os.O_WRONLY | os.O_CREAT | os.O_APPEND, 0o666)
+        if self.torn:
+            self.write("\n")
+
+    def rewrite(self):
+        """Writes the file anew without the lines that count no more."""
+        fresh = self.path + ".new"
+        with open(fresh, "w", encoding="ascii") as file:
+            file.writelines(source_line(digest, source) for digest, source in self.sources.items())
+            file.writelines(stamp_line(name, stamp) for name, stamp in self.of.items())
+            file.flush()
+            os.fsync(file.fileno())
+        os.replace(fresh, self.path)
+
+    def source(self, kind, path):
+        """Notes a source, and answers its digest."""
+        known = digest(path.encode(errors="surrogatepass"), 4)
+        if self.sources.get(known) != Source(kind, path):
+            self.sources[known] = Source(kind, path)
+            self.write(source_line(known, self.sources[known]))
+        return known
+
+    def put(self, stamps):
+        """Writes the stamps of some names."""
+        self.of.update(stamps)
+        self.write("".join(stamp_line(name, stamp) for name, stamp in stamps.items()))
+
+    def drop(self, names):
+        """Writes that these names are gone."""
+        for name in names:
+            del self.of[name]
+        self.write("".join(f"- {name}\n" for name in names))
+
+    def write(self, text):
+        data = text.encode()
+        try:
+            while data and self.fault is None:
+                data = data[os.write(self.file, data) :]
+        except OSError as error:
+            self.fault = f"the stamps could not be written to {self.path}: {error.strerror}"
+
+    def close(self):
+        os.fsync(self.file)
+        os.close(self.file)
+
+
+def stamp_line(name, stamp):
+    place = f" {stamp.place}" if stamp.place else ""
+    return f"{name} {','.join(map(str, stamp.numbers))} {stamp.stamp} {stamp.source}{place}\n"
+
+
+def source_line(known, source):
+    return f"= {known} {source.kind} {quote(os.fsencode(source.path))}\n"
+
+
+def stamps_path(index):
+    """The path of the stamps beside an index, also where it is named by a link."""
+    return f"{os.path.realpath(index)}.stamps"

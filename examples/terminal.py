@@ -1,0 +1,86 @@
+"""What the scripts write: text that a terminal can show, in colours, and through a pager."""
+
+import contextlib
+import os
+import shlex
+import subprocess
+import sys
+
+MARK, NAME, PLACE, PLAIN = "\x1b[1;31m", "\x1b[35m", "\x1b[32m", "\x1b[0m"
+
+
+def printable(text):
+    """The text without what would steer a terminal: a tab is blanks, and what cannot be printed a U+FFFD."""
+    return "".join(
+        character if character.isprintable() or character == "\n" else "    " if character == "\t" else "\ufffd" for character in text
+    )
+
+
+def write(text):
+    """Writes text and flushes; a reader that has enough ends it quietly."""
+    with quiet_end():
+        sys.stdout.write(text)
+        sys.stdout.flush()
+
+
+@contextlib.contextmanager
+def quiet_end():
+    """Where the reader of standard output has gone, what is still buffered goes nowhere, and the end says nothing of it."""
+    try:
+        yield
+    except BrokenPipeError:
+        os.dup2(os.open(os.devnull, os.O_WRONLY), sys.stdout.fileno())
+
+
+class Paint:
+    """Colours, or none."""
+
+    def __init__(self, on):
+        self.on = on
+
+    def __call__(self, colour, text):
+        return f"{colour}{text}{PLAIN}" if self.on else text
+
+    def marked(self, text, spans):
+        """The text with these spans of it marked; they rise and don't meet."""
+        if not self.on:
+            return text
+        at, shown = 0, []
+        for begin, end in spans:
+            shown += [text[at:begin], MARK, text[begin:end], PLAIN]
+            at = end
+        return "".join([*shown, text[at:]])
+
+
+def wants_colour(choice):
+    """Whether to write in colours: always, never, or on a terminal whose user has not set NO_COLOR."""
+    if choice == "auto":
+        return sys.stdout.isatty() and not os.environ.get("NO_COLOR") and os.environ.get("TERM") != "dumb"
+    return choice == "always"
+
+
+@contextlib.contextmanager
+def paged(wanted):
+    """Standard output through the user's pager, which ends by itself where all fits on the screen."""
+    words = shlex.split(os.environ.get("PAGER", "less")) if wanted and sys.stdout.isatty() else []
+    try:
+        pager = subprocess.Popen(words, stdin=subprocess.PIPE, env={"LESS": "FRX", **os.environ}) if words else None
+    except OSError:
+        pager = None
+    if pager is None:
+        yield
+        return
+    sys.stdout.flush()
+    terminal = os.dup(sys.stdout.fileno())
+    os.dup2(pager.stdin.fileno(), sys.stdout.fileno())
+    pager.stdin.close()
+    try:
+        with quiet_end():
+            yield
+            sys.stdout.flush()
+    finally:
+        os.dup2(terminal, sys.stdout.fileno())
+        os.close(terminal)
+        while pager.poll() is None:
+            with contextlib.suppress(KeyboardInterrupt):
+                pager.wait()

@@ -1,0 +1,462 @@
+#!/usr/bin/env python3
+"""Tests of `client/buncocedar/server.py`: with a program that misbehaves as told, and with the real one.
+
+usage: tests/server.py [--program PATH]
+
+Without --program the tests of the real program are left out, and that is said.
+"""
+
+import contextlib
+import faulthandler
+import json
+import os
+import random
+import signal
+import socket
+import stat
+import subprocess
+import sys
+import tempfile
+import threading
+import time
+import unittest
+
+TOP = os.path.dirname(os.path.dirname(os.path.abspath(__file__)))
+sys.path.insert(0, os.path.join(TOP, "client"))
+
+import buncocedar  # noqa: E402
+import fake  # noqa: E402
+from buncocedar import Index  # noqa: E402
+from buncocedar.server import LEVELS_KEPT, level_count  # noqa: E402
+
+FAKE = fake.installed()
+PROGRAM = None
+MEMORY = "/dev/shm" if os.access("/dev/shm", os.W_OK) else None  # where a sync takes no time
+PATIENCE = 120  # seconds after which what should have come counts as missing
+
+
+def until(done):
+    """Waits until this is so. The tests rest on what happened, and never on how long it took."""
+    end = time.monotonic() + PATIENCE
+    while not done():
+        if time.monotonic() > end:
+            raise AssertionError("it does not come")
+        time.sleep(0.01)
+
+
+class Case(unittest.TestCase):
+    program = FAKE
+
+    def setUp(self):
+        if self.program is None:
+            self.skipTest("no program")
+        folder = tempfile.TemporaryDirectory(dir=MEMORY)
+        self.addCleanup(folder.cleanup)
+        self.folder = folder.name
+        self.path = os.path.join(self.folder, "x.alta")
+        self.socket = self.path + ".socket"
+
+    def serve(self, **do):
+        """A server of the index that listens."""
+        server = subprocess.Popen(
+            [sys.executable, os.path.join(TOP, "client", "server.py"), self.path, "--create"],
+            env={**os.environ, "BUNCOCEDAR_PROGRAM": self.program, "FAKE": json.dumps(do)},
+            stderr=subprocess.PIPE,
+            text=True,
+        )
+        self.addCleanup(self.end, server)
+        self.assertIn("listening at", server.stderr.readline())
+        return server
+
+    def end(self, server):
+        """Asks the server to end, and answers its status and what it said."""
+        if server.poll() is None:
+            server.send_signal(signal.SIGTERM)
+        said = "" if server.stderr.closed else server.communicate(timeout=PATIENCE)[1]
+        return server.wait(PATIENCE), said
+
+    def index(self, **options):
+        return Index(self.path, program=self.program, patience=PATIENCE, **options)
+
+    def raw(self):
+        """A connection that speaks the lines itself."""
+        connection = socket.socket(socket.AF_UNIX)
+        self.addCleanup(connection.close)
+        connection.settimeout(PATIENCE)
+        connection.connect(self.socket)
+        return connection
+
+
+class Lines(Case):
+    def test_two_clients(self):
+        server = self.serve()
+        with self.index() as one, self.index() as other:
+            self.assertEqual(one.add("a", "Red Fox", "the quick red fox"), 1)
+            self.assertEqual(other.add("b", "", "fox"), 2)
+            for index in (one, other):
+                self.assertEqual(list(index.search("fox")), [(1, "a"), (2, "b")])
+                self.assertEqual(index.count("red"), 1)
+                self.assertEqual(list(index.search("zebra")), [])
+                self.assertEqual(index.explain("fox"), '"fox"\nfound D Wfox\n  x1 <= x0')
+                self.assertEqual(index.stats(), (2, 7, 3))
+                self.assertIsNone(index.flush())
+                self.assertIsNone(index.step(10))
+                self.assertIsNone(index.merge())
+            with self.assertRaises(buncocedar.NameTaken):
+                other.add("a", "", "")
+            with self.assertRaises(buncocedar.QueryFault) as raised:
+                one.search("fault 8 Paren )")
+            self.assertEqual((raised.exception.place, raised.exception.cause), (8, "Paren"))
+            with self.assertRaises(buncocedar.QueryFault):
+                one.explain("fault 8 Paren )")
+            self.assertEqual(other.delete("a"), 1)
+            self.assertEqual(one.add_many((f"n{i}", "", "fox") for i in range(500)), (500, []))
+            self.assertEqual(other.stats().documents, 501)
+        self.assertEqual(self.end(server), (0, ""))
+        self.assertFalse(os.path.exists(self.socket))
+        with self.index() as index:
+            self.assertEqual(index.stats().documents, 501)
+
+    def test_large_answers(self):
+        self.serve()
+        with self.index() as index:
+            self.assertEqual(index.add_many((f"n{i}", "", "x") for i in range(3500)), (3500, []))
+            rows = index.search("x")
+            self.assertEqual(next(rows), (1, "n0"))
+            self.assertEqual(index.count("x"), 3500)
+            self.assertEqual(len(list(rows)), 3499)
+            # Where all cursors are taken, a search is answered at once.
+            cursors = [index.cursor("x") for _ in range(64)]
+            self.assertEqual(len(list(index.search("x"))), 3500)
+            with self.assertRaises(buncocedar.TooManyCursors):
+                index.cursor("x")
+            cursors[0].close()
+            self.assertEqual(len(list(index.search("x"))), 3500)
+
+    def test_cursors_are_of_their_client(self):
+        self.serve()
+        with self.index() as one, self.index() as other:
+            one.add_many((name, "", "x") for name in "abc")
+            cursor = one.cursor("x")
+            stray = buncocedar.Cursor(other, cursor.number)
+            for call in (lambda: stray.page(1), stray.close):
+                with self.assertRaises(buncocedar.NoSuchCursor):
+                    call()
+            self.assertEqual(cursor.page(2), ([(1, "a"), (2, "b")], True))
+            cursor.close()
+            with self.assertRaises(buncocedar.NoSuchCursor):
+                cursor.page(1)
+            # They end with their client, and so do those of a search that is left.
+            rows = other.search("x")
+            next(rows)
+            for _ in range(63):
+                other.cursor("x")
+            other.kill()
+            cursors = []
+
+            def opens():
+                with contextlib.suppress(buncocedar.TooManyCursors):
+                    cursors.append(one.cursor("x"))
+                return len(cursors) == 64
+
+            until(opens)
+
+    def test_lines_as_they_may_come(self):
+        self.serve()
+        connection = self.raw()
+        file = connection.makefile("rb")
+        for line, reply in [
+            (b"add a\t\tx", b"added 1"),
+            (b"what", b"! unknown command"),
+            (b"\xff", b"! not UTF-8"),
+            (b"", b"! unknown command"),
+            (b"search " + b"x" * 65_528, b"found 0"),
+            (b"search " + b"x" * 65_529, b"! line too long"),
+            (b"add b\t\t" + b"x" * 1_000_000, b"! line too long"),
+            (b"count x", b"found 1"),
+        ]:
+            connection.sendall(line + b"\n")
+            self.assertEqual(file.readline(), reply + b"\n")
+        # A line that is broken off is none.
+        connection.sendall(b"count x\nadd b\t\tx")
+        connection.shutdown(socket.SHUT_WR)
+        self.assertEqual(file.read(), b"found 1\n")
+        with self.index() as index:
+            self.assertEqual(index.stats().documents, 1)
+
+    def test_refusals_of_the_program(self):
+        self.serve(say=[2, "! no numbers left"])
+        with self.index() as index:
+            with self.assertRaises(buncocedar.NoNumbersLeft):
+                index.add("a", "", "")
+
+    def test_scripts_find_it(self):
+        os.mkdir(os.path.join(self.folder, "notes"))
+        for name in "ab":
+            with open(os.path.join(self.folder, "notes", name), "w") as file:
+                file.write("The quick fox")
+        server = self.serve()
+        # The folder has the index and the server's socket besides, which are no documents.
+        words = [self.folder]
+        for script, arguments, status in [("folder.py", words, 0), ("find.py", ["fox"], 0), ("find.py", ["dog"], 1)]:
+            done = subprocess.run(
+                [sys.executable, os.path.join(TOP, "examples", script), self.path, *arguments],
+                env={**os.environ, "BUNCOCEDAR_PROGRAM": "/nonexistent"},
+                capture_output=True,
+                timeout=PATIENCE,
+            )
+            self.assertEqual(done.returncode, status, done.stderr)
+            self.assertNotIn(b"passed over", done.stderr)
+        self.assertEqual(self.end(server)[0], 0)
+
+
+class Ends(Case):
+    def test_of_the_program(self):
+        # Each client is told of the same end, and so is who started the server.
+        server = self.serve(room=3)
+        one, other, idle = self.index(), self.index(), self.index()
+        one.add_many((name, "", "") for name in "abc")
+        with self.assertRaises(buncocedar.Full) as raised:
+            other.add("d", "", "")
+        self.assertEqual((raised.exception.need, raised.exception.gap), (321, 123))
+        for index in (one, idle):
+            with self.assertRaises(buncocedar.Full):
+                index.stats()
+        status, said = self.end(server)
+        self.assertEqual(status, 3)
+        self.assertIn("alta: full, need 321, greatest gap 123 (status 8)", said)
+        for index in (one, other, idle):
+            index.close()
+
+    def test_of_the_server(self):
+        server = self.serve()
+        index = self.index()
+        index.add("a", "", "")
+        self.assertEqual(self.end(server)[0], 0)
+        with self.assertRaises(buncocedar.ServerEnded) as raised:
+            index.stats()
+        self.assertIsNone(raised.exception.status)
+        index.close()
+        with self.index() as again:
+            self.assertEqual(again.stats().documents, 1)
+
+    def test_of_a_client(self):
+        self.serve()
+        index = self.index()
+        replies = [index.send_add(f"n{i}", "", "") for i in range(60)]
+        replies[10].result()
+        index.kill()
+        answered = sum(reply.answered for reply in replies)
+        self.assertGreaterEqual(answered, 11)
+        with self.assertRaises(buncocedar.Ended):
+            index.stats()
+        with self.index() as other:
+            # What is under way of it is the line that the server is at.
+            self.assertIn(other.stats().documents, (answered, answered + 1))
+
+    def test_interrupted_at_a_line_that_takes_long(self):
+        mark = os.path.join(self.folder, "mark")
+        server = self.serve(silent=1, mark=mark)
+        connection = self.raw()
+        connection.sendall(b"stats\n")
+        until(lambda: os.path.exists(mark))
+        for _ in range(2):
+            server.send_signal(signal.SIGINT)
+            time.sleep(0.2)
+        self.assertEqual(server.wait(PATIENCE), 3)
+        server.communicate()
+        self.assertIn(b"! ended -9", connection.makefile("rb").read())
+
+    def test_where_it_cannot_listen(self):
+        with self.index(create=True):
+            pass
+        with open(self.socket, "w") as file:
+            file.write("my notes\n")
+        words = [sys.executable, os.path.join(TOP, "client", "server.py")]
+        environment = {**os.environ, "BUNCOCEDAR_PROGRAM": self.program}
+
+        def refused(*more):
+            done = subprocess.run([*words, *more], env=environment, capture_output=True, text=True, timeout=PATIENCE)
+            self.assertEqual(done.returncode, 3)
+            return done.stderr
+
+        self.assertIn("no socket", refused(self.path))
+        with open(self.socket) as file:
+            self.assertEqual(file.read(), "my notes\n")
+        os.remove(self.socket)
+        self.assertIn("no such file", refused(os.path.join(self.folder, "none")))
+        self.serve()
+        self.assertIn("is open in", refused(self.path, "--wait", "0"))
+        long = os.path.join(self.folder, "x" * 100)
+        self.assertIn("cannot listen", refused(long, "--create"))
+        with Index(long, program=self.program) as index:
+            self.assertEqual(index.stats().documents, 0)
+
+    def test_who_may_ask(self):
+        with self.index(create=True):
+            pass
+        os.chmod(self.path, 0o640)
+        self.serve()
+        self.assertEqual(stat.S_IMODE(os.stat(self.socket).st_mode), 0o640)
+        # What only leads to a server elsewhere is none of this index.
+        other = os.path.join(self.folder, "other.alta")
+        os.symlink(self.socket, other + ".socket")
+        with Index(other, create=True, program=self.program) as index:
+            index.add("a", "", "")
+        with self.index() as index:
+            self.assertEqual(index.stats().documents, 0)
+        # A client that wants a program of its own does not get the server.
+        with self.assertRaises(buncocedar.InUse):
+            Index(self.path, program=self.program, patience=0, server=False)
+
+
+class Together:
+    """32 clients at once, and ends at any moment: over either program."""
+
+    def test_many_clients_and_a_slow_one(self):
+        server = self.serve()
+        with self.index() as index:
+            index.add_many((f"old{i:050}", "", "old") for i in range(3_000))
+        # It asks for some megabytes, and reads none of them.
+        slow = self.raw()
+        slow.sendall(b"search old\n" * 5)
+        faults = []
+
+        def work(number):
+            try:
+                with self.index() as index:
+                    if index.count("old") != 3_000:
+                        faults.append("old")
+                    for i in range(10):
+                        index.add(f"c{number}-{i}", "", f"word{number}")
+                        rows = list(index.search(f"word{number}"))
+                        if [name for _, name in rows] != [f"c{number}-{j}" for j in range(i + 1)]:
+                            faults.append(rows)
+            except Exception as error:
+                faults.append(error)
+
+        threads = [threading.Thread(target=work, args=(number,)) for number in range(31)]
+        for thread in threads:
+            thread.start()
+        for thread in threads:
+            thread.join(PATIENCE)
+        self.assertEqual(faults, [])
+        self.assertFalse(any(thread.is_alive() for thread in threads))
+        file = slow.makefile("rb")
+        slow.shutdown(socket.SHUT_WR)
+        lines = file.read().split(b"\n")
+        self.assertEqual(len(lines), 5 * 3_001 + 1)
+        self.assertEqual(lines[3_000::3_001], [b"found 3000"] * 5)
+        self.assertEqual(self.end(server)[0], 0)
+        with self.index() as index:
+            self.assertEqual(index.stats().documents, 3_000 + 31 * 10)
+
+    def stopped(self, number, seconds):
+        """Ends a server by this signal while eight clients add, and compares what was answered with what is stored."""
+        server = self.serve()
+        sent = [[] for _ in range(8)]
+
+        def work(replies, client):
+            with contextlib.suppress(buncocedar.Error):
+                index = self.index()
+                for i in range(100_000):
+                    replies.append(index.send_add(f"r{number}-{self.round}-{client}-{i}", "", "x"))
+
+        self.round = getattr(self, "round", 0) + 1
+        threads = [threading.Thread(target=work, args=(replies, client)) for client, replies in enumerate(sent)]
+        for thread in threads:
+            thread.start()
+        until(lambda: any(len(replies) > 70 for replies in sent))
+        time.sleep(seconds)
+        server.send_signal(number)
+        for thread in threads:
+            thread.join(PATIENCE)
+        server.communicate(timeout=PATIENCE)
+        with self.index() as index:
+            for client, replies in enumerate(sent):
+                answered = [i for i, reply in enumerate(replies) if reply.answered and reply.error is None]
+                self.assertEqual(answered, list(range(len(answered))))
+                names = {name for _, name in index.search("NOT name:! OR name:!")}
+                stored = {f"r{number}-{self.round}-{client}-{i}" for i in range(len(replies))} & names
+                self.assertLessEqual({f"r{number}-{self.round}-{client}-{i}" for i in answered}, stored)
+                # What was not answered is not done, save the line that the server was at.
+                self.assertLessEqual(len(stored), len(answered) + 1)
+
+    def test_stopped_at_any_moment(self):
+        chance = random.Random(62)
+        for number in (signal.SIGKILL, signal.SIGTERM, signal.SIGKILL, signal.SIGINT):
+            self.stopped(number, chance.random() / 2)
+
+
+class TogetherFake(Together, Case):
+    pass
+
+
+class TogetherReal(Together, Case):
+    program = None
+
+    def test_levels_are_joined_while_nobody_asks(self):
+        server = self.serve()
+        with self.index() as index:
+            for i in range(LEVELS_KEPT + 3):
+                index.add(f"n{i}", "", f"x word{i}")
+                index.flush()
+            until(lambda: level_count(self.path) <= LEVELS_KEPT)
+            self.assertEqual(index.count("x"), LEVELS_KEPT + 3)
+            self.assertEqual(len(list(index.search("x"))), LEVELS_KEPT + 3)
+        self.assertEqual(self.end(server)[0], 0)
+
+    def test_levels_are_counted(self):
+        with self.index(create=True) as index:
+            self.assertEqual(level_count(self.path), 0)
+            for i in range(1, 4):
+                index.add(f"n{i}", "", "x")
+                index.flush()
+                self.assertEqual(level_count(self.path), i)
+            index.merge()
+            self.assertEqual(level_count(self.path), 1)
+
+    def test_the_same_answers(self):
+        self.serve()
+        with self.index() as index:
+            index.add("a", "Red Fox", "the quick red fox")
+            index.add("b", "", "brown dog")
+            self.assertEqual(list(index.search('"red fox" OR dog')), [(1, "a"), (2, "b")])
+            self.assertEqual(index.explain("red AND fox").split("\n")[:2], ['"red" "fox"', "found D Wred Wfox"])
+            with self.assertRaises(buncocedar.QueryFault) as raised:
+                index.search("(fox")
+            self.assertEqual((raised.exception.place, raised.exception.cause), (4, "Paren"))
+            connection = self.raw()
+            file = connection.makefile("rb")
+            for line, reply in [
+                (b"fetch 1 x", b"! bad line"),
+                (b"fetch 1", b"! bad line"),
+                (b"fetch 1 1", b"! no such cursor"),
+                (b"fetch 01 1", b"! bad line"),
+                (b"fetch +1 1", b"! bad line"),
+                (b"fetch  1 1", b"! bad line"),
+                (b"fetch " + b"9" * 5_000 + b" 1", b"! bad line"),
+                (b"close 1", b"! no such cursor"),
+                (b"search", b"! bad line"),
+                (b"search ", b"! query 0 Empty"),
+                (b"add a\xff\t\t", b"! not UTF-8"),
+                (b"stats now", b"! bad line"),
+            ]:
+                index.cursor("fox")
+                connection.sendall(line + b"\n")
+                self.assertEqual(file.readline(), reply + b"\n", line)
+
+
+def main():
+    faulthandler.dump_traceback_later(10 * PATIENCE, exit=True)
+    words = sys.argv[1:]
+    if words[:1] == ["--program"]:
+        TogetherReal.program = os.path.abspath(words[1])
+        words = words[2:]
+    else:
+        print("server: without the real program", file=sys.stderr)
+    unittest.main(argv=[sys.argv[0], *words])
+
+
+if __name__ == "__main__":
+    main()
