@@ -90,7 +90,10 @@ fn put_cursor<D: Disk>(
         Ok(planned) => planned,
         Err(fault) => return Err(fault),
     };
-    match cursors.open(Cursor::new(plan, snapshot)) {
+    let Ok(cursor) = Cursor::new(alloc, plan, query, snapshot) else {
+        return Err(StoreFault::Memory);
+    };
+    match cursors.open(cursor) {
         Ok(number) => Ok(number),
         Err(_) => Err(StoreFault::Memory),
     }

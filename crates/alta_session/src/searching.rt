@@ -114,19 +114,25 @@ fn listed<D: Disk>(
     ensures queries { Queries D.tells D.state disk.old disk.new (search_loads store.now (plan_of (shape query.now))) ⊥ result }
 {
     match planned(alloc, disk, store, query) {
-        Ok((plan, snapshot)) => written(all_listed(alloc, &plan, &snapshot)),
+        Ok((plan, snapshot)) => written(all_listed(alloc, &plan, query, &snapshot)),
         Err(fault) => Err(fault),
     }
 }
 
 // The answers of a plan over a snapshot, a line for each, and how many they are.
-fn all_listed(alloc: Global, plan: &Plan, snapshot: &Snapshot) -> Result<String, AllocError>
-    requires { snapshot.now.tests ≡ tests_of (tree plan.now) }
+fn all_listed(
+    alloc: Global,
+    plan: &Plan,
+    query: &Query,
+    snapshot: &Snapshot,
+) -> Result<String, AllocError>
+    requires tests { snapshot.now.tests ≡ tests_of (tree plan.now) }
+    requires query { tree plan.now ≡ plan_of (shape query.now) }
     ensures lines { IfOk result (λ reply. (documents : List Document) → AreToCome (tree plan.now) snapshot.now 0 documents
         → string_bytes reply ≡ answer_lines documents ++ found_line (length documents)) }
     ensures other { IfOk result (λ reply. ¬ (IsRefusal (string_bytes reply))) }
 {
-    let page = all_found(alloc, plan, snapshot)?;
+    let page = all_found(alloc, plan, query, snapshot)?;
     let mut reply = String::new(alloc);
     put_answers(&mut reply, &page.answers)?;
     put_count(&mut reply, page.answers.len() as u64)?;
@@ -145,18 +151,24 @@ fn counted<D: Disk>(
     ensures queries { Queries D.tells D.state disk.old disk.new (search_loads store.now (plan_of (shape query.now))) ⊥ result }
 {
     match planned(alloc, disk, store, query) {
-        Ok((plan, snapshot)) => written(all_counted(alloc, &plan, &snapshot)),
+        Ok((plan, snapshot)) => written(all_counted(alloc, &plan, query, &snapshot)),
         Err(fault) => Err(fault),
     }
 }
 
 // How many answers a plan has over a snapshot.
-fn all_counted(alloc: Global, plan: &Plan, snapshot: &Snapshot) -> Result<String, AllocError>
-    requires { snapshot.now.tests ≡ tests_of (tree plan.now) }
+fn all_counted(
+    alloc: Global,
+    plan: &Plan,
+    query: &Query,
+    snapshot: &Snapshot,
+) -> Result<String, AllocError>
+    requires tests { snapshot.now.tests ≡ tests_of (tree plan.now) }
+    requires query { tree plan.now ≡ plan_of (shape query.now) }
     ensures lines { IfOk result (λ reply. (documents : List Document) → AreToCome (tree plan.now) snapshot.now 0 documents → string_bytes reply ≡ found_line (length documents)) }
     ensures other { IfOk result (λ reply. ¬ (IsRefusal (string_bytes reply))) }
 {
-    let count = all_tallied(alloc, plan, snapshot)?;
+    let count = all_tallied(alloc, plan, query, snapshot)?;
     let mut reply = String::new(alloc);
     put_count(&mut reply, count)?;
     Ok(reply)
@@ -233,51 +245,67 @@ fn load_fault(fault: LoadFault) -> StoreFault
 }
 
 // All answers of a plan. Nobody reads how many steps they took.
-fn all_found(alloc: Global, plan: &Plan, snapshot: &Snapshot) -> Result<Page, AllocError>
-    requires { snapshot.now.tests ≡ tests_of (tree plan.now) }
+fn all_found(
+    alloc: Global,
+    plan: &Plan,
+    query: &Query,
+    snapshot: &Snapshot,
+) -> Result<Page, AllocError>
+    requires tests { snapshot.now.tests ≡ tests_of (tree plan.now) }
+    requires query { tree plan.now ≡ plan_of (shape query.now) }
     ensures { IfOk result (λ page. (space : List Placed) → Shows space snapshot.now → page.answers ≡ map answer_of (coming space (tree plan.now) snapshot.now 0)) }
 {
-    found::<Brand>(alloc, plan, snapshot, Blank::new(1))
+    found::<Brand>(alloc, plan, query, snapshot, Blank::new(1))
 }
 
 fn found<L: Ledger>(
     alloc: Global,
     plan: &Plan,
+    query: &Query,
     snapshot: &Snapshot,
     blank: Blank,
 ) -> Result<Page, AllocError>
     requires tests { snapshot.now.tests ≡ tests_of (tree plan.now) }
+    requires query { tree plan.now ≡ plan_of (shape query.now) }
     requires name { blank.name ≡ L.name }
     requires parts { blank.parts ≡ L.parts }
     requires shared { 0 < L.parts }
     ensures { IfOk result (λ page. (space : List Placed) → Shows space snapshot.now → page.answers ≡ map answer_of (coming space (tree plan.now) snapshot.now 0)) }
 {
     let mut steps = Steps::<L>::new(blank);
-    let page = alta_search::search(alloc, plan, snapshot, &mut steps)?;
+    let page = alta_search::search(alloc, plan, query, snapshot, &mut steps)?;
     Ok(page)
 }
 
 // How many answers a plan has.
-fn all_tallied(alloc: Global, plan: &Plan, snapshot: &Snapshot) -> Result<u64, AllocError>
-    requires { snapshot.now.tests ≡ tests_of (tree plan.now) }
+fn all_tallied(
+    alloc: Global,
+    plan: &Plan,
+    query: &Query,
+    snapshot: &Snapshot,
+) -> Result<u64, AllocError>
+    requires tests { snapshot.now.tests ≡ tests_of (tree plan.now) }
+    requires query { tree plan.now ≡ plan_of (shape query.now) }
     ensures { IfOk result (λ n. (space : List Placed) → Shows space snapshot.now → n ≡ length (coming space (tree plan.now) snapshot.now 0)) }
 {
-    tallied::<Brand>(alloc, plan, snapshot, Blank::new(1))
+    tallied::<Brand>(alloc, plan, query, snapshot, Blank::new(1))
 }
 
 fn tallied<L: Ledger>(
     alloc: Global,
     plan: &Plan,
+    query: &Query,
     snapshot: &Snapshot,
     blank: Blank,
 ) -> Result<u64, AllocError>
     requires tests { snapshot.now.tests ≡ tests_of (tree plan.now) }
+    requires query { tree plan.now ≡ plan_of (shape query.now) }
     requires name { blank.name ≡ L.name }
     requires parts { blank.parts ≡ L.parts }
     requires shared { 0 < L.parts }
     ensures { IfOk result (λ n. (space : List Placed) → Shows space snapshot.now → n ≡ length (coming space (tree plan.now) snapshot.now 0)) }
 {
     let mut steps = Steps::<L>::new(blank);
-    let count = alta_search::count(alloc, plan, snapshot, &mut steps)?;
+    let count = alta_search::count(alloc, plan, query, snapshot, &mut steps)?;
     Ok(count)
 }
