@@ -208,29 +208,36 @@ class Interrupts:
             os.write(2, self.notes.get(self.count, b""))
         except OSError:
             pass
-        if self.waits:
-            # A read of the source would go on waiting.
-            self.waits = False
-            raise Interrupted
+        # One may come while this still runs for the one before.
         if self.count == 2:
             self.index.break_off()
         elif self.count > 2:
             raise KeyboardInterrupt
+        if self.waits:
+            # A read of the source would go on waiting.
+            self.waits = False
+            raise Interrupted
 
     def each(self, documents):
         """The documents of a source, up to an interrupt."""
         documents = iter(documents)
         while True:
-            try:
-                self.waits = True
-                document = None if self.count else next(documents, None)
-            except Interrupted:
-                document = None
-            finally:
-                self.waits = False
+            document = self.next_of(documents)
             if document is None:
                 break
             yield document
+
+    def next_of(self, documents):
+        """The next document, None at the end of the source and at an interrupt."""
+        try:
+            self.waits = True
+            document = None if self.count else next(documents, None)
+            self.waits = False
+            return document
+        except Interrupted:
+            return None
+        finally:
+            self.waits = False
 
 
 def several(number, word="document"):

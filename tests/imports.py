@@ -1097,7 +1097,7 @@ class RealProgram(Case):
 
 def main():
     global PROGRAM
-    faulthandler.dump_traceback_later(10 * PATIENCE, exit=True)
+    faulthandler.dump_traceback_later(30 * PATIENCE, exit=True)
     words = sys.argv[1:]
     if words[:1] == ["--program"]:
         PROGRAM = os.path.abspath(words[1])
