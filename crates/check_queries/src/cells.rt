@@ -4,7 +4,7 @@ use alta_meta::*;
 use std::alloc::{AllocError, Global};
 use std::test::Fail;
 
-/// The terms with a blank between two of a cell, and a bar between two cells.
+/// The terms with a blank between two of a cell, and a bar between two cells; a cross for each range term.
 fn spelled(alloc: Global, cells: &[Cell]) -> Result<Vec<u8>, AllocError> {
     let mut out = Vec::new(alloc);
     for cell in cells.iter() {
@@ -18,14 +18,21 @@ fn spelled(alloc: Global, cells: &[Cell]) -> Result<Vec<u8>, AllocError> {
 
 fn put_terms(out: &mut Vec<u8>, cell: &Cell) -> Result<(), AllocError> {
     for i in 0..cell.len() {
-        if i > 0 {
-            out.push(b' ')?;
-        }
         if let Some(term) = cell.get(i) {
-            out.extend_from_slice(term.as_slice())?;
+            put_term(out, i, term.as_slice())?;
         }
     }
     Ok(())
+}
+
+fn put_term(out: &mut Vec<u8>, i: usize, term: &[u8]) -> Result<(), AllocError> {
+    if term.starts_with(b"X\xff") {
+        return Ok(out.push(b'#')?);
+    }
+    if i > 0 {
+        out.push(b' ')?;
+    }
+    out.extend_from_slice(term)
 }
 
 fn bytes_of(alloc: Global, text: &str) -> Result<Bytes, AllocError> {
@@ -53,7 +60,13 @@ fn cells_of_documents(rt: HostRuntime) -> Result<(), Fail> {
             "home",
             "AltaVista: Main Page",
             "Don't miss version 2.0, released in 1996!",
-            "Nhome S|Waltavista XAltaVista|Wmain XMain|Wpage XPage|T|Wdon't XDon't|Wmiss|Wversion|W2.0|Wreleased|Win|W1996|D",
+            "Nhome S|Waltavista XAltaVista|Wmain XMain|Wpage XPage|T|Wdon't XDon't|Wmiss|Wversion|W2.0|Wreleased|Win|W1996#################################|D",
+        ),
+        (
+            "z",
+            "007",
+            "2.0 0 4294967296 +",
+            "Nz S|W007|T|W2.0|W0#################################|W4294967296|D",
         ),
         (
             "g",

@@ -53,6 +53,18 @@ fn plans_in_words(rt: HostRuntime) -> Result<(), Fail> {
             "all 2\n  found D Wa Wd We\n    x1 <= x0\n    p0 <= x1-1\n    x2 <= x0\n    p0 <= x2-1\n    x3 <= x0\n    p0 <= x3-1\n    x2 <= x3-1\n    x3 <= x2+1\n  any 2\n    found D Wb\n      x1 <= x0\n      p0 <= x1-1\n    not\n      found D Wc\n        x1 <= x0\n        p0 <= x1-1\n",
         ),
         (
+            "value:1990..1999",
+            "any 2\n  found D #1:995\n    x1 <= x0\n    p0 <= x1-1\n  found D #3:249\n    x1 <= x0\n    p0 <= x1-1\n",
+        ),
+        (
+            "value:0..4294967295",
+            "found D #32:0\n  x1 <= x0\n  p0 <= x1-1\n",
+        ),
+        (
+            "a value:7..7 b",
+            "all 2\n  found D Wa Wb\n    x1 <= x0\n    p0 <= x1-1\n    x2 <= x0\n    p0 <= x2-1\n  found D #0:7\n    x1 <= x0\n    p0 <= x1-1\n",
+        ),
+        (
             "NOT a NOT b",
             "all 2\n  not\n    found D Wa\n      x1 <= x0\n      p0 <= x1-1\n  not\n    found D Wb\n      x1 <= x0\n      p0 <= x1-1\n",
         ),
@@ -141,6 +153,9 @@ fn conjunctions_of_words(rt: HostRuntime) -> Result<(), Fail> {
         ("a OR b", "none"),
         ("a (b OR c)", "none"),
         ("a NOT (b c)", "none"),
+        ("value:1..2", "none"),
+        ("a value:1..2 NOT b", "none"),
+        ("a NOT value:1..2", "none"),
     ];
     for (text, want) in rows {
         assert_eq!(rt; conjoined(rt.alloc(), text)?.as_str(), want, "in {text}");

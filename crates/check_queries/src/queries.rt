@@ -23,6 +23,7 @@ fn cause_name(cause: Cause) -> &'static str {
         Cause::Prefix => "Prefix",
         Cause::Near => "Near",
         Cause::Name => "Name",
+        Cause::Value => "Value",
         Cause::Quote => "Quote",
         Cause::Paren => "Paren",
         Cause::Operand => "Operand",
@@ -66,6 +67,15 @@ fn short_texts(rt: HostRuntime) -> Result<(), Fail> {
         ("é name:ü", "! 3 Name"),
         ("(é OR name: x)", "! 7 Name"),
         ("ü name:\u{7f}", "! 3 Name"),
+        ("value:5..4", "! 0 Value"),
+        ("é value:", "! 3 Value"),
+        ("é value:1..4294967296", "! 3 Value"),
+        ("é value:01..2", "! 3 Value"),
+        ("é value:1...2", "! 3 Value"),
+        ("é value:1..2*", "! 3 Value"),
+        ("(value:1..2é", "! 1 Value"),
+        ("a NEAR/2 value:1..2", "! 9 Near"),
+        ("value:1..2 NEAR/2 a", "! 11 Near"),
         ("red \"fox", "! 4 Quote"),
         ("é title:\"fox", "! 3 Quote"),
         ("é \"ü\" \"", "! 8 Quote"),
@@ -89,6 +99,14 @@ fn short_texts(rt: HostRuntime) -> Result<(), Fail> {
         ("title:\"Red fox\"title:gr*", "title:\"Red fox\" title:gr*"),
         ("title:AND title:NEAR/2", "title:\"AND\" title:\"NEAR/2\""),
         ("name:a(b\"c) d", "name:a(b\"c) \"d\""),
+        (
+            "(value:0..4294967295)value:7..7",
+            "value:0..4294967295 value:7..7",
+        ),
+        (
+            "title:value:1 \"value:5..4\"",
+            "title:\"value:1\" \"value:5..4\"",
+        ),
         ("((a) AND b) OR c d", "\"a\" \"b\" OR \"c\" \"d\""),
         ("(a OR b) c", "( \"a\" OR \"b\" ) \"c\""),
         ("(a b) c", "( \"a\" \"b\" ) \"c\""),
@@ -123,6 +141,7 @@ fn limits(rt: HostRuntime) -> Result<(), Fail> {
         ("é ", "\u{390}", 22, "", "! 3 Word"),
         ("ß ", "NOT ", 33, "a", "! 131 Deep"),
         ("é ", "re* ", 64, "", "! 255 Many"),
+        ("", "value:1..2 ", 64, "a", "! 704 Many"),
     ];
     for (front, repeated, times, end, want) in rows {
         let middle = repeated.repeat(alloc, times)?;

@@ -261,8 +261,8 @@ fn scripts_are_answered(rt: HostRuntime) -> Result<(), Fail> {
         (
             "add home\tAltaVista: Main Page\tDon't miss version 2.0, released in 1996!\nsearch value:1990..1999\ncount value:1997..2000\ncount value:5..4\ncount \"value 5\"\nadd z\t\t007 2.0\ncount value:0..9\n",
             "added 1\n1 home\nfound 1\nfound 0\n! query 0 Value\nfound 0\nadded 2\nfound 0\n",
-            "flush\nadd n\t\t4294967295 4294967296 0\ncount value:1996..1996\nsearch value:0..4294967295\ncount value:4294967295..4294967295\ncount value:0..0\ncount fox value:1..9",
-            "ok\nadded 3\nfound 1\n1 home\n3 n\nfound 2\nfound 1\nfound 1\nfound 0\n",
+            "flush\nadd n\t\t4294967295 4294967296 0\ncount value:1996..1996\nsearch value:0..4294967295\ncount value:4294967295..4294967295\ncount value:0..0\ncount fox value:1..9\nexplain value:1990..1999",
+            "ok\nadded 3\nfound 1\n1 home\n3 n\nfound 2\nfound 1\nfound 1\nfound 0\nvalue:1990..1999\nany 2\n  found D #1:995\n    x1 <= x0\n    p0 <= x1-1\n  found D #3:249\n    x1 <= x0\n    p0 <= x1-1\n",
         ),
     ];
     for (first, wanted, second, wanted_then) in rows {
