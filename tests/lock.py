@@ -50,6 +50,13 @@ def by_hand(path, *words, given=""):
     return run.returncode, run.stdout, run.stderr
 
 
+def kill(process):
+    try:
+        os.kill(process, signal.SIGKILL)
+    except ProcessLookupError:
+        pass
+
+
 def content(path):
     with open(path, "rb") as file:
         return file.read()
@@ -131,6 +138,8 @@ class Lock(unittest.TestCase):
             [sys.executable, "-c", WAITING, CLIENT, self.path, PROGRAM], stdout=subprocess.PIPE, text=True
         )
         program = int(client.stdout.readline())
+        # It is ended for good where this test fails before it goes on.
+        self.addCleanup(kill, program)
         # While the program stands still it can't see that its client has gone.
         os.kill(program, signal.SIGSTOP)
         client.kill()
