@@ -23,13 +23,13 @@ PROGRAM = None
 PATIENCE = 60  # seconds after which what should have come counts as missing
 IN_USE = (2, "", "alta: disk fault\n")
 
-# A client that adds so many documents, opening the index anew for each.
+# A client that adds so many documents, opening the index anew for each. It waits as long as the others need.
 ADDING = """
 import sys
 sys.path.insert(0, sys.argv[1])
 from buncocedar import Index
 for n in range(int(sys.argv[5])):
-    with Index(sys.argv[2], program=sys.argv[3], patience=60) as index:
+    with Index(sys.argv[2], program=sys.argv[3], patience=3600) as index:
         index.add(f"{sys.argv[4]}{n}", "", "x")
 """
 
@@ -129,9 +129,9 @@ class Lock(unittest.TestCase):
 
     def test_many_clients(self):
         words = [sys.executable, "-c", ADDING, CLIENT, self.path, PROGRAM]
-        clients = [subprocess.Popen(words + [name, "5"]) for name in "abcdef"]
-        self.assertEqual([client.wait() for client in clients], [0] * 6)
-        self.free(30)
+        clients = [subprocess.Popen(words + [name, "3"]) for name in "abcd"]
+        self.assertEqual([client.wait() for client in clients], [0] * 4)
+        self.free(12)
 
     def test_program_of_a_killed_client(self):
         client = subprocess.Popen(
