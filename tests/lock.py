@@ -23,13 +23,13 @@ PROGRAM = None
 PATIENCE = 60  # seconds after which what should have come counts as missing
 IN_USE = (2, "", "alta: disk fault\n")
 
-# A client that adds so many documents, opening the index anew for each.
+# A client that adds so many documents, opening the index anew for each. It waits as long as the others need.
 ADDING = """
 import sys
 sys.path.insert(0, sys.argv[1])
 from buncocedar import Index
 for n in range(int(sys.argv[5])):
-    with Index(sys.argv[2], program=sys.argv[3], patience=60) as index:
+    with Index(sys.argv[2], program=sys.argv[3], patience=3600) as index:
         index.add(f"{sys.argv[4]}{n}", "", "x")
 """
 
@@ -48,6 +48,13 @@ def by_hand(path, *words, given=""):
     """What a program that is started by hand ends with: status, output, standard error."""
     run = subprocess.run([PROGRAM, path, *words], input=given, capture_output=True, text=True, timeout=PATIENCE)
     return run.returncode, run.stdout, run.stderr
+
+
+def kill(process):
+    try:
+        os.kill(process, signal.SIGKILL)
+    except ProcessLookupError:
+        pass
 
 
 def content(path):
@@ -122,15 +129,17 @@ class Lock(unittest.TestCase):
 
     def test_many_clients(self):
         words = [sys.executable, "-c", ADDING, CLIENT, self.path, PROGRAM]
-        clients = [subprocess.Popen(words + [name, "5"]) for name in "abcdef"]
-        self.assertEqual([client.wait() for client in clients], [0] * 6)
-        self.free(30)
+        clients = [subprocess.Popen(words + [name, "3"]) for name in "abcd"]
+        self.assertEqual([client.wait() for client in clients], [0] * 4)
+        self.free(12)
 
     def test_program_of_a_killed_client(self):
         client = subprocess.Popen(
             [sys.executable, "-c", WAITING, CLIENT, self.path, PROGRAM], stdout=subprocess.PIPE, text=True
         )
         program = int(client.stdout.readline())
+        # It is ended for good where this test fails before it goes on.
+        self.addCleanup(kill, program)
         # While the program stands still it can't see that its client has gone.
         os.kill(program, signal.SIGSTOP)
         client.kill()
