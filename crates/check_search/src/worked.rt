@@ -1,7 +1,7 @@
 // The two documents `Red Fox` with the body `quiet quick red fox`, at the locations 1 to 9, and `Fox` with the body `quick
 // brown dog`, at 10 to 16, as snapshots for a plan. The first stands in a level, with its lists coded, and the second in
 // memory, with its lists plain.
-ghost use Rattle.std.specs.Prelude.{◌≡◌, ◌++◌, ◌<◌, [], ◌∷◌, map, length, All, IsTrue, IfOk, OnOk};
+ghost use Rattle.std.specs.Prelude.{◌≡◌, ◌++◌, ◌<◌, ◌≤◌, [], ◌∷◌, map, length, All, IsTrue, IfOk, OnOk};
 ghost use Rattle.std.specs.List.Sorted.{IsStrictlyIncreasing};
 ghost use Rattle.alta_codec.specs.Order.{Precedes};
 ghost use Rattle.alta_codec.specs.Rising.{IsRising};
