@@ -1,7 +1,7 @@
 // The two documents `Red Fox` with the body `quiet quick red fox`, at the locations 1 to 9, and `Fox` with the body `quick
 // brown dog`, at 10 to 16, as snapshots for a plan. The first stands in a level, with its lists coded, and the second in
 // memory, with its lists plain.
-ghost use Rattle.std.specs.Prelude.{◌≡◌, ◌++◌, ◌<◌, [], ◌∷◌, map, length, All, IsTrue, IfOk, OnOk};
+ghost use Rattle.std.specs.Prelude.{◌≡◌, ◌++◌, ◌<◌, ◌≤◌, [], ◌∷◌, map, length, All, IsTrue, IfOk, OnOk};
 ghost use Rattle.std.specs.List.Sorted.{IsStrictlyIncreasing};
 ghost use Rattle.alta_codec.specs.Order.{Precedes};
 ghost use Rattle.alta_codec.specs.Rising.{IsRising};
@@ -169,19 +169,19 @@ fn many_row(k: u8) -> (&'static [u8], u64, u64)
     }
 }
 
-/// The list of a term that stands in the last of the thousand and one documents, so many of them, this far behind the one
+/// The locations of a term that stands in the last of the thousand and one documents, so many of them, this far behind the one
 /// before.
-fn many_list(alloc: Global, offset: u64, count: u64) -> Result<Stored, AllocError>
+fn many_locs(alloc: Global, offset: u64, count: u64) -> Result<Vec<Loc>, AllocError>
     requires offset { (0 < offset) × (offset < 6) }
     requires some { (0 < count) × (count ≤ 1001) }
-    ensures rising { IfOk result (λ l. IsRising (stored_list l)) }
-    ensures some { IfOk result (λ l. 0 < length (stored_list l)) }
+    ensures rising { IfOk result (λ l. IsRising l.items) }
+    ensures some { IfOk result (λ l. 0 < length l.items) }
 {
     let mut locs = Vec::new(alloc);
     for k in 0..count {
         locs.push(5 * (1001 - count + k) + offset)?;
     }
-    Ok(Stored::Plain(locs))
+    Ok(locs)
 }
 
 /// Of the thousand and one documents the lists of the terms that meet a test.
@@ -208,8 +208,8 @@ fn put_many(alloc: Global, terms: &mut Vec<TermLists>, test: &Test, k: u8) -> Re
 {
     let (name, offset, count) = many_row(k);
     if meets(test, name) && follows(terms, name) {
-        let stored = many_list(alloc, offset, count)?;
-        terms.push(one(alloc, name, 0, stored)?)?;
+        let locs = many_locs(alloc, offset, count)?;
+        terms.push(lists_of(alloc, name, &[], &locs)?)?;
     }
     Ok(())
 }

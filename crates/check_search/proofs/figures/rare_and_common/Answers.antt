@@ -1,7 +1,7 @@
 use Rattle.std.proofs.Common.{arith, length}
 use Rattle.alta_compile.specs.Space.{list_of}
 use Rattle.alta_search.specs.Plans.{lists}
-use Rattle.check_search.proofs.Figures.{in_figures}
+use Rattle.check_search.proofs.Bounds.{in_figures}
 use Rattle.check_search.proofs.figures.rare_and_common.Goals as goal
 
 pub returns-clause-rare_first : goal.returns-clause-rare_first
