@@ -780,6 +780,7 @@ class RealProgram(Case):
                 ("q*", 0, "Prefix", 0),
                 ("red NEAR/0 fox", 4, "Near", 4),
                 ("name:", 0, "Name", 0),
+                ("fox value:5..4", 4, "Value", 4),
                 ('red "fox', 4, "Quote", 4),
                 ("(fox", 4, "Paren", 4),
                 ("fox OR", 6, "Operand", 6),

@@ -190,6 +190,7 @@ _CAUSES = {
     "Prefix": "before a * stands one whole word of two characters or more",
     "Near": "NEAR/k stands between two words or prefixes, with k from 1 to 1,000",
     "Name": "what stands behind name: is no name",
+    "Value": "behind value: stand two numbers below 2^32 with two dots between them, the second no lower",
     "Quote": "a quote is not closed",
     "Paren": "a ) closes nothing, or a ( is not closed",
     "Operand": "something to look for is missing",
