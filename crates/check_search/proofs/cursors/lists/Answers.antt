@@ -38,7 +38,7 @@ met_term test terms none t pushed empty is named =
 
 pub returns-clause-met : goal.returns-clause-met
 returns-clause-met c =
-    let first : c.from_vec-test.result ≡ DOCUMENT_END ∷ [] = search rules in
+    let first : c.from_vec.result ≡ DOCUMENT_END ∷ [] = search rules in
     let second : c.from_vec-term.result ≡ DOCUMENT_END ∷ [] = search rules in
-    met_term (Is c.from_vec-test.result) c.push-2.new.self.items c.new-terms.result.items (record { term = c.from_vec-term.result; levels = c.push.new.self })
+    met_term (Is c.from_vec.result) c.push-2.new.self.items c.new-terms.result.items (record { term = c.from_vec-term.result; levels = c.push.new.self })
     c.in_ok-push-2.ensures.items c.new-terms.ensures.items (ap Is first) second
