@@ -2,7 +2,7 @@
 """Measures adding many documents with a merge behind them, beside SQLite's full-text index, and how the cost grows.
 
 usage: bench/bulk.py [--program PATH] [--lines FILE | --texts FOLDER] [--count N] [--parts N,N,..] [--folder FOLDER] [--fast]
-                     [--merge-each BYTES]
+                     [--merge-each BYTES] [--merge-share SHARE]
 
 FILE has `add` lines, as `examples/packages.py` writes them. Without one, the text files below FOLDER (/usr/share/doc), packed ones
 too, are cut at empty lines into documents of 400 bytes or more, in the order of their paths. The first N of the documents
@@ -10,7 +10,8 @@ too, are cut at empty lines into documents of 400 bytes or more, in the order of
 the current folder by default), by:
 
 - the program, an add and its commit a line, then by a run that only opens the index, and then by another that merges; with
-  --merge-each it also merges whenever so many bytes of lines have gone in, as the importing scripts do with 12,000,000;
+  --merge-each it also merges whenever so many bytes of lines have gone in, as the importing scripts do with 12,000,000, with
+  --merge-share only where they are this share of all that went in before, as 0.33 for a third;
 - FTS5, which keeps no texts, with a commit for each document, in WAL mode, synced each time; and then optimized (left out with --fast);
 - FTS5 in one transaction, and then optimized.
 
@@ -150,14 +151,15 @@ def documents_of(options):
     return found
 
 
-def with_merges(lines, each):
-    """The lines, with a merge behind each so many bytes of them; none for no bytes."""
-    since = 0
+def with_merges(lines, each, share):
+    """The lines, with a merge behind each so many bytes of them that are this share of those before; none for no bytes."""
+    since = before = 0
     for line in lines:
         yield line
         since += len(line)
-        if each and since >= each:
+        if each and since >= max(each, share * before):
             yield b"merge\n"
+            before += since
             since = 0
 
 
@@ -234,7 +236,7 @@ def measure(program, options, lines):
             file.writelines(lines)
         given = os.path.join(folder, "given")
         with open(given, "wb") as file:
-            file.writelines(with_merges(lines, options.merge_each))
+            file.writelines(with_merges(lines, options.merge_each, options.merge_share))
         found = {"program": by_program(program, folder, given, len(lines), text)}
         for how in ("commits", "bulk")[options.fast :]:
             found[f"FTS5, {how}"] = by_table(folder, source, len(lines), text, how)
@@ -252,6 +254,7 @@ def main():
     parser.add_argument("--folder", default=".")
     parser.add_argument("--fast", action="store_true")
     parser.add_argument("--merge-each", metavar="BYTES", type=int, default=0)
+    parser.add_argument("--merge-share", metavar="SHARE", type=float, default=0)
     options = parser.parse_args()
     program = os.path.abspath(options.program)
     if not os.access(program, os.X_OK):

@@ -12,11 +12,12 @@ counts; both take turns in one run.
 
 import argparse
 import os
-import resource
-import sqlite3
 import subprocess
 import sys
 import tempfile
+
+from peer import table_of, texts_of
+from rounds import spent
 
 LEVELS_START = 2_105_344
 
@@ -29,27 +30,10 @@ print(time.process_time() - begun, found)
 """
 
 
-def seconds(words, data):
-    """The processor seconds of a process with this input, and what it printed."""
-    before = resource.getrusage(resource.RUSAGE_CHILDREN)
-    given = subprocess.run(words, input=data, stdout=subprocess.PIPE, stderr=subprocess.DEVNULL).stdout
-    after = resource.getrusage(resource.RUSAGE_CHILDREN)
-    return after.ru_utime + after.ru_stime - before.ru_utime - before.ru_stime, given.decode().strip()
-
-
 def first_query(table, word):
-    spent, found = subprocess.run([sys.executable, "-c", FIRST_QUERY, table, word], stdout=subprocess.PIPE, check=True).stdout.split()
-    return float(spent), f"found {int(found)}"
-
-
-def fill_table(path, documents):
-    base = sqlite3.connect(path)
-    base.execute("create virtual table mail using fts5(title, body, content='', tokenize = 'unicode61 remove_diacritics 0')")
-    base.executemany("insert into mail(title, body) values (?, ?)", documents)
-    base.execute("insert into mail(mail) values ('optimize')")
-    base.commit()
-    base.execute("vacuum")
-    base.close()
+    words = [sys.executable, "-c", FIRST_QUERY, table, word]
+    seconds, found = subprocess.run(words, stdout=subprocess.PIPE, check=True).stdout.split()
+    return float(seconds), f"found {int(found)}"
 
 
 def main():
@@ -64,23 +48,25 @@ def main():
     options = parser.parse_args()
     with open(options.lines, "rb") as file:
         lines = file.readlines()[: options.count]
-    documents = [line[4:].rstrip(b"\n").decode().split("\t", 2)[1:] for line in lines]
+    documents = texts_of(lines)
     text = sum(len(part.encode()) for document in documents for part in document)
     print(f"{len(documents)} documents, {text} bytes of text")
     with tempfile.TemporaryDirectory() as folder:
         path, table = os.path.join(folder, "x.alta"), os.path.join(folder, "x.db")
         subprocess.run([options.program, path, "init"], check=True)
         subprocess.run([options.program, path, "run"], input=b"".join(lines) + options.last, stdout=subprocess.DEVNULL, check=True)
-        fill_table(table, documents)
+        base = table_of(documents, table)
+        base.execute("vacuum")
+        base.close()
         for name, size in ("index", os.path.getsize(path) - LEVELS_START), ("FTS5", os.path.getsize(table)):
             print(f"{name}: {size} bytes, {size / text:.3f} of the text")
         opened, asked, started = [], [], []
         for _ in range(options.turns):
-            opened.append(seconds([options.program, path, "run"], f"count {options.word}\n".encode()))
-            started.append(seconds([options.program], b""))
+            opened.append(spent([options.program, path, "run"], f"count {options.word}\n".encode()))
+            started.append(spent([options.program], b"", check=False, stderr=subprocess.DEVNULL))
             asked.append(first_query(table, options.word))
         least = min(opened)[0] - min(started)[0]
-        print(f"index: opened, and one count: {least * 1e3:.1f} ms ({opened[0][1]})")
+        print(f"index: opened, and one count: {least * 1e3:.1f} ms ({opened[0][1].decode().strip()})")
         print(f"FTS5: opened, and one count: {min(asked)[0] * 1e3:.1f} ms ({asked[0][1]})")
     return 0
 

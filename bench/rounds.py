@@ -5,12 +5,18 @@ import subprocess
 import sys
 
 
+def spent(command, data=None, **options):
+    """The processor seconds of a command with this input, and what it printed; it has to end with status 0, save where told else."""
+    before = resource.getrusage(resource.RUSAGE_CHILDREN)
+    printed = subprocess.run(command, input=data, stdout=subprocess.PIPE, **{"check": True, **options}).stdout
+    after = resource.getrusage(resource.RUSAGE_CHILDREN)
+    return after.ru_utime + after.ru_stime - before.ru_utime - before.ru_stime, printed
+
+
 def seconds(command):
     """The processor time of a command, and the numbers that it prints."""
-    before = resource.getrusage(resource.RUSAGE_CHILDREN)
-    answer = subprocess.run(command, check=True, stdout=subprocess.PIPE).stdout.decode().split()
-    after = resource.getrusage(resource.RUSAGE_CHILDREN)
-    return after.ru_utime + after.ru_stime - before.ru_utime - before.ru_stime, [int(word) for word in answer]
+    time, printed = spent(command)
+    return time, [int(word) for word in printed.split()]
 
 
 def speed(command, count, rounds, turns, want):

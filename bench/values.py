@@ -15,8 +15,6 @@ the milliseconds a count of both, and what both count; the counts differ where l
 
 import argparse
 import os
-import resource
-import sqlite3
 import subprocess
 import sys
 import tempfile
@@ -27,25 +25,19 @@ sys.path.insert(0, os.path.join(TOP, "tests"))
 
 import segments
 from answers import NUMBER, NUMBERS, RUN
+from peer import table_of, texts_of
 from reading import read_roots
+from rounds import spent
 
 VALUES = [(1990, 1999), (0, NUMBERS - 1), (7, 7), (1, NUMBERS - 2)]
 TURNS = 3
 
 
-def run(program, path, data):
-    """The processor seconds of a run that has to end with status 0, and what it printed."""
-    before = resource.getrusage(resource.RUSAGE_CHILDREN)
-    done = subprocess.run([program, path, "run"], input=data, stdout=subprocess.PIPE, check=True)
-    after = resource.getrusage(resource.RUSAGE_CHILDREN)
-    return after.ru_utime + after.ru_stime - before.ru_utime - before.ru_stime, done.stdout
-
-
 def made(program, path, lines):
     """An index of these lines: the processor seconds of the adds alone, and its one level."""
     subprocess.run([program, path, "init"], check=True)
-    seconds, _ = run(program, path, b"".join(lines))
-    run(program, path, b"merge\n")
+    seconds, _ = spent([program, path, "run"], b"".join(lines))
+    spent([program, path, "run"], b"merge\n")
     with open(path, "rb") as file:
         content = file.read()
     (extent,) = read_roots(content)[1].levels
@@ -78,13 +70,10 @@ def numbers_of(text):
     return [int(word) for word in RUN.findall(text) if NUMBER.fullmatch(word) and int(word) < NUMBERS]
 
 
-def table_of(lines, path):
+def with_numbers(lines, path):
     """An FTS5 table of the documents, and beside it a table of their numbers with an index; the bytes that the second adds, and how many."""
-    base = sqlite3.connect(path)
-    base.execute("create virtual table mail using fts5(title, body, content='', tokenize = 'unicode61 remove_diacritics 0')")
-    texts = [line[4:].rstrip(b"\n").decode().split("\t", 2)[1:] for line in lines]
-    base.executemany("insert into mail(title, body) values (?, ?)", texts)
-    base.commit()
+    texts = texts_of(lines)
+    base = table_of(texts, path)
     pages = base.execute("pragma page_count").fetchone()[0]
     rows = [(row, number) for row, text in enumerate(texts, 1) for part in text for number in numbers_of(part)]
     base.execute("create table numbers(document integer, number integer)")
@@ -97,10 +86,11 @@ def table_of(lines, path):
 
 def compared(program, path, base, repeat):
     """Counts of values by the program and by SQLite."""
-    opening = min(run(program, path, b"")[0] for _ in range(5))
+    words = [program, path, "run"]
+    opening = min(spent(words, b"")[0] for _ in range(5))
     print(f"opening {opening * 1e3:.1f} ms")
     for low, high in VALUES:
-        seconds, out = run(program, path, f"count value:{low}..{high}\n".encode() * repeat)
+        seconds, out = spent(words, f"count value:{low}..{high}\n".encode() * repeat)
         begun = time.process_time()
         for _ in range(repeat):
             (found,) = base.execute("select count(distinct document) from numbers where number between ? and ?", (low, high)).fetchone()
@@ -122,7 +112,7 @@ def main():
         lines = file.readlines()[: options.count]
     programs = [("with values", options.program)] + ([("without", options.before)] if options.before else [])
     with tempfile.TemporaryDirectory() as folder:
-        base, size, numbers = table_of(lines, os.path.join(folder, "x.db"))
+        base, size, numbers = with_numbers(lines, os.path.join(folder, "x.db"))
         print(f"{len(lines)} documents, {sum(map(len, lines))} bytes of input, {numbers} numbers")
         adds = {called: [] for called, _ in programs}
         levels = {}

@@ -21,12 +21,13 @@ import time
 from collections import deque
 from typing import Callable, NamedTuple
 
-sys.path.insert(0, os.path.join(os.path.dirname(os.path.dirname(os.path.abspath(__file__))), "client"))
+import checkout  # noqa: F401
+from indexfile import Unusable, put_packed, read_root, sync_folder
+from stamps import Source, Stamp, Stamps, digest, name_of, numbered, part_name, part_of, stamps_path, stem_of
 
-import buncocedar  # noqa: E402
-from buncocedar import Error, Full, Index, Refused  # noqa: E402
-from indexfile import Unusable, put_packed, read_root, sync_folder  # noqa: E402
-from stamps import Source, Stamp, Stamps, digest, name_of, numbered, part_name, part_of, stamps_path, stem_of  # noqa: E402
+import buncocedar
+from buncocedar import Error, Full, Index, Refused
+from buncocedar.beside import PREFIX, making, remove_left
 
 EVERY_DOCUMENT = "NOT name:! OR name:!"
 TEXT_LIMIT = 33_554_432  # bytes of a text that are looked at
@@ -36,6 +37,7 @@ OVERLAP = 100  # words of a part that the next one has too
 MERGE_BYTES = 12_000_000
 LEVEL_BYTES = 1_000_000
 MEMORY = "/dev/shm"
+BESIDE = "buncocedar-"  # how the name of a folder in memory begins, in which an index is made
 
 # What goes into a stamp besides the document: another one, and all documents are made anew once.
 FORM = b"parts and fields\n"
@@ -627,6 +629,8 @@ def bring(tool, path, source, documents, options=Options(), fast=False):
 
 
 def bring_into(log, path, source, documents, options):
+    with contextlib.suppress(OSError):
+        tell_left(log, os.path.dirname(os.path.abspath(path)), PREFIX)
     with Index(path, create=True, patience=options.wait, on_wait=log.say) as index, Interrupts(index) as interrupts:
         stamps = Stamps(stamps_path(path))
         work = Import(index, stamps, source, options, log)
@@ -642,9 +646,9 @@ def bring_into(log, path, source, documents, options):
 
 def bring_beside(log, path, source, documents, options):
     """Makes the index in memory, where there are no syncs to wait for, and moves what came of it into place, without holes."""
-    folder = MEMORY if os.path.isdir(MEMORY) and os.access(MEMORY, os.W_OK) else None
-    with tempfile.TemporaryDirectory(prefix="buncocedar-", dir=folder) as place:
-        beside = os.path.join(place, "index.alta")
+    folder = memory_folder()
+    tell_left(log, folder, BESIDE)
+    with making(folder, BESIDE) as beside:
         status = bring_into(log, beside, source, documents, options)
         with open(beside, "rb") as built:
             with contextlib.suppress(FileNotFoundError):
@@ -654,6 +658,17 @@ def bring_beside(log, path, source, documents, options):
         with open(stamps_path(beside), "rb") as file:
             put_stamps(file.read(), stamps_path(path))
     return status
+
+
+def memory_folder():
+    """A folder in memory, or where there is none that of what lasts no longer than it is needed."""
+    return MEMORY if os.path.isdir(MEMORY) and os.access(MEMORY, os.W_OK) else tempfile.gettempdir()
+
+
+def tell_left(log, folder, prefix):
+    """Takes away what imports left here that were killed, and says so: nothing of it is in an index."""
+    for path in remove_left(folder, prefix):
+        log.say(f"{path} is taken away: an import that was killed has left it")
 
 
 def put_stamps(content, path):

@@ -3,9 +3,12 @@
 import contextlib
 import fcntl
 import os
-import tempfile
 import time
 from typing import NamedTuple
+
+import checkout  # noqa: F401
+
+from buncocedar.beside import making
 
 SLOT = 4_096
 HALF = 1_048_576
@@ -170,8 +173,7 @@ def put_packed(source, new):
     """Makes a file of an open one, without its holes: whole, or not at all, and over no file that is there."""
     root = read_root(source)
     folder = os.path.dirname(os.path.abspath(new))
-    with tempfile.TemporaryDirectory(prefix=".making-", dir=folder) as place:
-        fresh = os.path.join(place, "index.alta")
+    with making(folder) as fresh:
         with open(fresh, "wb") as target:
             write_packed(source, root, target)
             os.fchmod(target.fileno(), os.fstat(source.fileno()).st_mode & 0o777)

@@ -8,18 +8,13 @@ asked.
 """
 
 import argparse
-import os
 import sys
 
 from importing import Index
+from prompt import Prompt
 from terminal import printable, quiet_end
 
 from buncocedar import Error, Refused
-
-try:
-    import readline
-except ImportError:
-    readline = None
 
 HELP = """add NAME            stores a document: title and body are asked for
 delete NAME         takes a document out of all answers
@@ -38,68 +33,6 @@ A query: words, "a phrase", qui*, title:fox, name:x, red NEAR/5 fox, AND, OR, NO
 WORDS = [line.split()[0] for line in HELP.split("\n")[:12]] + ["help", "quit", "title:", "name:", "NEAR/", "AND", "OR", "NOT"]
 SOME_REFUSED = 1
 STOPPED = 3
-
-
-def history_path():
-    """The file of the prompt's history, or none where BUNCOCEDAR_HISTORY is set and empty."""
-    state = os.environ.get("XDG_STATE_HOME") or os.path.join(os.path.expanduser("~"), ".local", "state")
-    return os.environ.get("BUNCOCEDAR_HISTORY", os.path.join(state, "buncocedar", "shell_history"))
-
-
-def completed(text, state):
-    fitting = [word for word in WORDS if text and word.startswith(text)]
-    return fitting[state] if state < len(fitting) else None
-
-
-class Prompt:
-    """The lines of a terminal, with a history over sessions, or those of a file or pipe."""
-
-    def __init__(self):
-        self.typed = sys.stdin.isatty()
-        self.path = history_path() if readline and self.typed else ""
-
-    def __enter__(self):
-        if self.path:
-            readline.set_completer(completed)
-            readline.set_completer_delims(" ()")
-            readline.parse_and_bind("tab: complete")
-            readline.set_history_length(1000)
-            try:
-                readline.read_history_file(self.path)
-            except OSError:
-                pass
-        return self
-
-    def __exit__(self, *what):
-        if not self.path:
-            return
-        try:
-            os.makedirs(os.path.dirname(os.path.abspath(self.path)), mode=0o700, exist_ok=True)
-            readline.write_history_file(self.path)
-        except OSError as error:
-            print(f"shell: the history could not be kept: {error}", file=sys.stderr)
-
-    def ask(self, text):
-        """A line, or none at the end."""
-        try:
-            return input(text if self.typed else "")
-        except EOFError:
-            return None
-
-    def lines(self):
-        """The lines up to the end or a `quit`, without empty ones and without those that are interrupted."""
-        while True:
-            try:
-                line = self.ask("alta> ")
-            except KeyboardInterrupt:
-                print()
-                continue
-            if line is None and self.typed:
-                print()
-            if line is None or self.typed and line.strip() in ("quit", "exit"):
-                return
-            if line.strip():
-                yield line
 
 
 def shown(text):
@@ -173,7 +106,7 @@ def run(options, prompt):
     status = 0
     index = opened(options)
     try:
-        for line in prompt.lines():
+        for line in prompt.lines("alta> "):
             try:
                 if not Shell(index, prompt).answer(line) and not prompt.typed:
                     status = SOME_REFUSED
@@ -198,7 +131,7 @@ def main():
     parser.add_argument("--wait", metavar="SECONDS", type=float, default=10.0, help="how long to wait for who has it open")
     options = parser.parse_args()
     try:
-        with Prompt() as prompt, quiet_end():
+        with Prompt("shell", "shell_history", WORDS) as prompt, quiet_end():
             return run(options, prompt)
     except KeyboardInterrupt:
         return 130

@@ -1,4 +1,4 @@
-"""What the scripts write: text that a terminal can show, in colours, and through a pager."""
+"""What the scripts write: text that a terminal can show, in colours, and through a pager; and the user's editor."""
 
 import contextlib
 import os
@@ -81,6 +81,28 @@ def paged(wanted):
     finally:
         os.dup2(terminal, sys.stdout.fileno())
         os.close(terminal)
-        while pager.poll() is None:
-            with contextlib.suppress(KeyboardInterrupt):
-                pager.wait()
+        waited(pager)
+
+
+def waited(process):
+    """Waits for a program that has the terminal meanwhile, and answers its status: an interrupt there is one for it."""
+    while process.poll() is None:
+        with contextlib.suppress(KeyboardInterrupt):
+            process.wait()
+    return process.returncode
+
+
+# Editors that begin at the line which a word `+N` before the file says.
+AT_A_LINE = ("emacs", "emacsclient", "gvim", "joe", "kak", "mg", "micro", "nano", "nvim", "pico", "vi", "view", "vim")
+
+
+def editor_words(path, line):
+    """The command that opens a file in the user's editor, at a line where the editor is one that takes such."""
+    words = shlex.split(os.environ.get("VISUAL") or os.environ.get("EDITOR") or "vi")
+    name = os.path.basename(words[0]).partition(".")[0] if words else ""
+    return [*words, *([f"+{line}"] if name in AT_A_LINE else []), path]
+
+
+def edited(path, line=1):
+    """Opens a file in the user's editor until that ends, and answers its status. Raises `OSError` where it can't be started."""
+    return waited(subprocess.Popen(editor_words(path, line)))

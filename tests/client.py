@@ -33,11 +33,11 @@ sys.path.insert(0, os.path.join(TOP, "client"))
 
 import buncocedar  # noqa: E402
 import fake  # noqa: E402
-from buncocedar import Index  # noqa: E402
+from buncocedar import Index, beside  # noqa: E402
 
 FAKE = fake.installed()
 PROGRAM = None
-PATIENCE = 60  # seconds after which what should have come counts as missing
+PATIENCE = 300  # seconds after which what should have come counts as missing
 
 
 def until(done):
@@ -308,6 +308,50 @@ class Calls(Case):
         self.assertEqual(os.listdir(self.folder.name), ["x.alta"])
         with self.assertRaises(OSError):
             Index(self.path, program=os.path.join(self.folder.name, "nothing"))
+
+    def test_what_a_killed_one_has_left(self):
+        def put(folder, *names):
+            os.makedirs(os.path.join(self.folder.name, folder))
+            for name in names:
+                open(os.path.join(self.folder.name, folder, name), "w").close()
+
+        # One that is at it, what was left, and what only looks like it.
+        with beside.making(self.folder.name) as fresh:
+            open(fresh, "w").close()
+            put(".making-abcdefgh", "lock", "index.alta", "index.alta.stamps")
+            put(".making-abcdefgi", "lock")
+            put(".making-abcdefgi/.making-abcdefgh", "lock", "index.alta")
+            put(".making-abcdefgl")
+            put(".making-abcdefgj", "lock", "index.alta", "notes")
+            put(".making-of", "lock", "index.alta")
+            os.symlink(self.folder.name, os.path.join(self.folder.name, ".making-abcdefgk"))
+            with self.fake() as index:
+                self.assertEqual(index.stats().documents, 0)
+            kept = {".making-abcdefgj", ".making-abcdefgk", ".making-of", "x.alta"}
+            self.assertEqual(set(os.listdir(self.folder.name)), kept | {os.path.basename(os.path.dirname(fresh))})
+            self.assertTrue(os.path.exists(fresh))
+        self.assertEqual(set(os.listdir(self.folder.name)), kept)
+        self.assertEqual(sorted(os.listdir(os.path.join(self.folder.name, ".making-abcdefgj"))), ["index.alta", "lock", "notes"])
+
+    def test_making_where_others_look(self):
+        # Each has a folder of its own, though all the time others take away what was left.
+        failed = []
+
+        def make():
+            for number in range(50):
+                with beside.making(self.folder.name) as fresh:
+                    with open(fresh, "w") as file:
+                        file.write(str(number))
+                    with open(fresh) as file:
+                        if file.read() != str(number):
+                            failed.append(number)
+
+        threads = [threading.Thread(target=make) for _ in range(4)]
+        for thread in threads:
+            thread.start()
+        for thread in threads:
+            thread.join()
+        self.assertEqual((failed, os.listdir(self.folder.name)), ([], []))
 
     def test_other_kinds_of_paths(self):
         for path in (os.fsencode(self.path), pathlib.Path(self.path)):

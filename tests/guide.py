@@ -20,7 +20,7 @@ from typing import NamedTuple
 
 TOP = os.path.dirname(os.path.dirname(os.path.abspath(__file__)))
 SHARED = ("client", "docs", "examples", "tests")  # what of the repository the commands name
-PATIENCE = 120
+PATIENCE = 300
 
 MAILBOX = """From ann@example.org Mon Jan  1 09:00:00 2024
 Message-ID: <first@example.org>

@@ -33,7 +33,7 @@ import fake
 TOP = os.path.dirname(os.path.dirname(os.path.abspath(__file__)))
 FAKE = fake.installed()
 PROGRAM = None
-PATIENCE = 60
+PATIENCE = 300
 
 sys.path.insert(0, os.path.join(TOP, "examples"))
 
@@ -41,6 +41,8 @@ import find  # noqa: E402
 import folder  # noqa: E402
 import importing  # noqa: E402
 import mail  # noqa: E402
+import matching  # noqa: E402
+import prompt  # noqa: E402
 import stamps  # noqa: E402
 import terminal  # noqa: E402
 from buncocedar import LINE_LIMIT  # noqa: E402
@@ -708,13 +710,13 @@ class Find(Case):
             '"red fox" NOT ( "brown" OR "dog" )\nall 2\n  found D Wred XFox Wqui* T\n    x1 <= x0\n    x1 <= x2-1\n'
             "    x2 <= x1+1\n    x2 <= x3-1\n  not\n    any 2\n      found D Wbrown\n      found D Wdog\n  found D Ncat Wlast\n"
         )
-        red, fox, qui, last = map(find.term_of, ("Wred", "XFox", "Wqui*", "Wlast"))
-        self.assertEqual(find.wanted_phrases(plan), [[red, fox], [qui], [last]])
+        red, fox, qui, last = map(matching.term_of, ("Wred", "XFox", "Wqui*", "Wlast"))
+        self.assertEqual(matching.wanted_phrases(plan), [[red, fox], [qui], [last]])
         self.assertEqual((red.folded, fox.folded, qui.open_end, last.open_end), (True, False, True, False))
 
     def test_best_lines(self):
         plan = '"file descriptor"\nfound D Wfile Wdescriptor\n  x1 <= x2-1\n  x2 <= x1+1\n'
-        wanted = find.Wanted(plan)
+        wanted = matching.Wanted(plan)
         for lines, best in [
             (["a file", "descriptor file", "a File-Descriptor", "file descriptor"], 2),
             (["file", "of a file", "descriptor file"], 1),
@@ -725,7 +727,7 @@ class Find(Case):
             self.assertEqual(wanted.best_line(lines), best, lines)
         self.assertEqual(wanted.spans("a File  Descriptor; file"), [(2, 18)])
         self.assertEqual(wanted.spans("a file; a descriptor"), [(2, 6), (10, 20)])
-        folds = find.Wanted('"strasse"\nfound D Wstrasse\n')
+        folds = matching.Wanted('"strasse"\nfound D Wstrasse\n')
         self.assertEqual(folds.spans("\u0130 die Stra\u00dfe, STRASSE"), [(6, 12), (14, 21)])
 
     def test_answers(self):
@@ -909,10 +911,59 @@ class Find(Case):
         self.assertEqual(self.status, 0)
         self.assertIn("show N    prints document N", shown)
         self.assertEqual(shown.count("so quick \ufffd]0;title\ufffd\r\n"), 2)
-        if find.readline is not None:
+        if prompt.readline is not None:
             self.assertEqual(self.read(self.at("history")).decode().split("\n")[-5:-1], ["help", "show 3", "show 24", "quit"])
             self.assertNotIn("\x1b]0;", self.typed(b"\x1b[A\n", words=("--context",)))
             self.assertFalse(self.typed(b"quick\n", b"\x04", words=("--context",)).count("\x07"))
+
+    def editor(self, name):
+        """An editor that writes its words, and whether the file may be written, into a file; beside it is what it was given."""
+        script = self.write(name, f"#!/bin/sh\nprintf '%s\\n' \"$@\" > {self.at('words')}\nfor file; do :; done\n"
+                            f"cp -p \"$file\" {self.at('given')}\necho read\nexit ${{STATUS:-0}}\n")
+        os.chmod(script, 0o755)
+        return script
+
+    def test_editor(self):
+        self.write("notes/a b.txt", "one\ntwo\nso quick\n")
+        self.write("notes/packed.gz", gzip.compress(b"a quick one"))
+        self.run_script("folder.py", self.path, self.at("notes"))
+        archive = b"From a Mon Jan  1 00:00:00 2024\nMessage-ID: <one@x>\nFrom: ann@x\nSubject: Red\n\nof a fox\n"
+        self.run_script("mail.py", self.path, self.write("mail.mbox", archive))
+        path = os.path.realpath(self.at("notes/a b.txt"))
+        # An editor that takes a line, with words of its own, and one of which that is not known.
+        for variables, words in [
+            ({"VISUAL": self.editor("vi") + " -u none", "EDITOR": "no"}, ["-u", "none", "+3", path]),
+            ({"VISUAL": "", "EDITOR": self.editor("other")}, [path]),
+        ]:
+            with mock.patch.dict(os.environ, variables):
+                self.run_script("find.py", self.path, "so quick", "--edit")
+            self.assertEqual((self.out, self.read(self.at("words")).decode().split("\n")), ("read\n", [*words, ""]))
+        # What is no file of its own is a copy that can't be written, and goes with the editor.
+        with mock.patch.dict(os.environ, {"VISUAL": self.editor("vi")}):
+            for query, name, content in [
+                ("fox", "one@x.txt", "Subject: Red\nFrom: ann@x\n\nof a fox\n"),
+                ("packed.gz", "packed.gz.txt", "a quick one\n"),
+            ]:
+                self.run_script("find.py", self.path, query, "--edit")
+                line, opened, _ = self.read(self.at("words")).decode().split("\n")
+                self.assertEqual((line, os.path.basename(opened)), ("+4" if query == "fox" else "+1", name))
+                self.assertEqual(self.read(self.at("given")).decode(), content)
+                self.assertFalse(os.stat(self.at("given")).st_mode & 0o222)
+                self.assertFalse(os.path.exists(os.path.dirname(opened)))
+            # At the prompt, by number and by name; what was asked for before says the line.
+            self.typed(b"so quick\n", b"edit 1\n", b"quit\n")
+            self.assertEqual(self.read(self.at("words")).decode().split("\n")[0], "+3")
+            self.typed(b"edit one@x\n", b"edit 99\n", b"quit\n")
+            self.assertEqual(self.read(self.at("words")).decode().split("\n")[0], "+1")
+            self.assertIn("find: 99: where it was found is not known", self.said)
+            self.assertEqual(self.status, 1)
+            with mock.patch.dict(os.environ, {"STATUS": "3"}):
+                said = self.run_script("find.py", self.path, "fox", "--edit", expect=1)
+            self.assertIn("the editor ended with status 3", said)
+        with mock.patch.dict(os.environ, {"VISUAL": "/no/such"}):
+            self.assertIn("the editor cannot be started", self.run_script("find.py", self.path, "fox", "--edit", expect=1))
+        self.assertIn("--edit goes with a query", self.run_script("find.py", self.path, "--edit", expect=2))
+        self.run_script("find.py", self.path, "zebra", "--edit", expect=1)
 
     def test_colours(self):
         self.write("notes/c.txt", "so Quick, quick\n")
@@ -1047,6 +1098,30 @@ class RealProgram(Case):
         self.assertEqual(process.returncode, 130)
         self.assertEqual(len(self.found("letter")), 5)
 
+    def test_what_an_import_left_that_was_killed(self):
+        beside = os.path.join(importing.memory_folder(), importing.BESIDE + "*")
+        others = set(glob.glob(beside))
+        process = self.start("packages.py", "--fast", self.path, stdin=subprocess.PIPE)
+        process.stdin.write("Package: p\nDescription: letter\n\n")
+        process.stdin.flush()
+        until(lambda: any(b"letter" in self.read(index) for index in glob.glob(beside + "/index.alta")))
+        (left,) = set(glob.glob(beside)) - others
+        process.kill()
+        process.communicate()
+        self.assertTrue(os.path.exists(left))
+        self.write(".making-abcdefgh/index.alta", "half")
+        self.write(".making-abcdefgh/lock", "")
+        status = self.write("status", "Package: q\nDescription: letter\n")
+        said = self.run_script("packages.py", "--fast", self.path, status)
+        self.assertIn(f"packages: {left} is taken away: an import that was killed has left it\n", said)
+        self.assertFalse(os.path.exists(left))
+        self.assertEqual(self.found("letter"), ["1 q"])
+        self.assertEqual(sorted(os.listdir(self.place.name)), ["status", "x.alta", "x.alta.stamps"])
+        self.write(".making-abcdefgh/index.alta", "half")
+        self.write(".making-abcdefgh/lock", "")
+        self.assertIn("an import that was killed", self.run_script("packages.py", self.path, status))
+        self.assertFalse(os.path.exists(self.at(".making-abcdefgh")))
+
     def test_back_to_a_message(self):
         path = self.write(
             "mail.mbox",
@@ -1097,7 +1172,7 @@ class RealProgram(Case):
 
 def main():
     global PROGRAM
-    faulthandler.dump_traceback_later(30 * PATIENCE, exit=True)
+    faulthandler.dump_traceback_later(10 * PATIENCE, exit=True)
     words = sys.argv[1:]
     if words[:1] == ["--program"]:
         PROGRAM = os.path.abspath(words[1])

@@ -1,5 +1,5 @@
 #!/usr/bin/env python3
-"""Tests that a checkout installs: the client by pip without a network, and the program by `./alta --install`.
+"""Tests of the launcher, and that a checkout installs: the client by pip without a network, and the program by `./alta --install`.
 
 usage: tests/install.py --program PATH
 
@@ -8,9 +8,11 @@ Where this Python has no pip its part is left out, and that is said.
 
 import os
 import shutil
+import signal
 import subprocess
 import sys
 import tempfile
+import time
 import unittest
 
 TOP = os.path.dirname(os.path.dirname(os.path.abspath(__file__)))
@@ -79,6 +81,158 @@ class Launcher(unittest.TestCase):
         words = [man, "-l"] if man.endswith("man") else [man, "-man", "-Tascii", "-ww"]
         page = done(*words, os.path.join(TOP, "docs", "alta.1"), env={**os.environ, "MANPAGER": "cat", "PAGER": "cat"})
         self.assertIn("EXIT STATUS", page)
+
+
+RT = """#!/bin/sh
+# Stands for the kit's command: it proves when it is let, and builds or refuses.
+echo "rt $*" >>calls
+case $1 in
+    all)
+        echo "== alta_codec"
+        until [ -e go ] || [ ! -e calls ]; do sleep 0.05; done
+        [ ! -e refused ]
+        ;;
+    run)
+        printf '#!/bin/sh\\necho new "$@"\\n' >out/alta_cli
+        chmod 755 out/alta_cli
+        ;;
+esac
+"""
+
+
+class Building(unittest.TestCase):
+    """`./alta` where its program is not built, or was before a source has changed; the command `rt` is one of the test's own."""
+
+    def setUp(self):
+        folder = tempfile.TemporaryDirectory()
+        self.addCleanup(folder.cleanup)
+        self.top = folder.name
+        self.crate = os.path.join(self.top, "crates", "alta_cli")
+        os.makedirs(os.path.join(self.crate, "src"))
+        shutil.copy(os.path.join(TOP, "alta"), self.top)
+        self.put("crates.txt", "alta_codec:\nalta_cli: alta_codec\n")
+        self.put("crates/alta_cli/src/main.rt", "fn main() {}\n")
+        self.put("bin/rt", RT, 0o755)
+        self.put("index", "")
+        self.environment = {**os.environ, "PATH": os.path.join(self.top, "bin") + os.pathsep + os.environ["PATH"]}
+        self.words = [os.path.join(self.top, "alta"), os.path.join(self.top, "index"), "run"]
+
+    def put(self, name, content, mode=0o644):
+        path = os.path.join(self.top, name)
+        os.makedirs(os.path.dirname(path), exist_ok=True)
+        with open(path, "w") as file:
+            file.write(content)
+        os.chmod(path, mode)
+
+    def put_older(self):
+        """A program that is older than its source."""
+        self.put("crates/alta_cli/out/alta_cli", '#!/bin/sh\necho old "$@"\n', 0o755)
+        os.utime(os.path.join(self.crate, "out", "alta_cli"), (1, 1))
+
+    def start(self, *words):
+        process = subprocess.Popen(
+            [*self.words[:1], *words, *self.words[1:]], env=self.environment, stdout=subprocess.PIPE, stderr=subprocess.PIPE, text=True
+        )
+        self.addCleanup(process.wait)
+        self.addCleanup(self.let_go)
+        return process
+
+    def building(self):
+        """One that builds: it has asked for the proofs."""
+        process = self.start()
+        self.until(lambda: os.path.exists(os.path.join(self.crate, "calls")))
+        return process
+
+    def until(self, done):
+        end = time.monotonic() + PATIENCE
+        while not done():
+            self.assertLess(time.monotonic(), end)
+            time.sleep(0.01)
+
+    def let_go(self):
+        self.put("crates/alta_cli/go", "")
+
+    def ended(self, process, status, out):
+        """What it said on standard error; it has to end so."""
+        given, said = process.communicate(timeout=PATIENCE)
+        self.assertEqual((process.returncode, given.split(" ")[0].strip()), (status, out), said)
+        return said
+
+    def calls(self):
+        with open(os.path.join(self.crate, "calls")) as file:
+            return [line.split()[1] for line in file]
+
+    def test_the_first_time(self):
+        # Of two at once one builds, and the other waits for it.
+        first = self.building()
+        second = self.start()
+        self.assertIn("was not built yet", self.ended(self.start("--no-build"), 2, ""))
+        self.let_go()
+        self.assertIn("half an hour to an hour", self.ended(first, 0, "new"))
+        self.ended(second, 0, "new")
+        self.ended(self.start(), 0, "new")
+        self.assertEqual(self.calls(), ["all", "run"])
+        left = sorted(os.listdir(os.path.join(self.crate, "out")))
+        self.assertEqual(left, ["alta_cli", "begun", "build.log"])
+
+    def test_an_older_program_serves(self):
+        self.put_older()
+        first = self.building()
+        for _ in range(2):
+            self.assertIn("the one of before serves until then", self.ended(self.start(), 0, "old"))
+        self.assertEqual(self.ended(self.start("--no-build"), 0, "old"), "")
+        # A source that changes while it is built asks for another build.
+        self.put("crates/alta_cli/src/main.rt", "fn main() {  }\n")
+        os.utime(os.path.join(self.crate, "src", "main.rt"), (time.time() + 1, time.time() + 1))
+        self.let_go()
+        self.ended(first, 0, "new")
+        self.assertEqual(self.ended(self.start("--no-build"), 0, "new"), "")
+        self.assertIn("building the program", self.ended(self.start(), 0, "new"))
+        self.assertEqual(self.calls(), ["all", "run", "all", "run"])
+
+    def test_no_older_program_stands_for_one_that_is_refused(self):
+        self.put_older()
+        self.put("crates/alta_cli/refused", "")
+        self.let_go()
+        for _ in range(2):
+            self.assertIn("the program could not be built", self.ended(self.start(), 2, ""))
+        self.assertEqual(self.ended(self.start("--no-build"), 0, "old"), "")
+        os.remove(os.path.join(self.crate, "refused"))
+        self.ended(self.start(), 0, "new")
+        self.assertEqual(self.ended(self.start("--no-build"), 0, "new"), "")
+
+    def test_a_build_that_was_killed(self):
+        self.put_older()
+        first = self.building()
+        first.kill()
+        first.wait()
+        first.stdout.close()
+        first.stderr.close()
+        self.assertEqual(self.ended(self.start("--no-build"), 0, "old"), "")
+        # What it had begun goes on, and is all that is to be done.
+        self.let_go()
+        self.until(lambda: self.calls() == ["all", "run"])
+        self.ended(self.start(), 0, "new")
+
+    def test_a_build_that_was_interrupted(self):
+        self.put_older()
+        first = self.building()
+        first.send_signal(signal.SIGTERM)
+        self.let_go()
+        self.ended(first, 143, "")
+        # The shell has waited for what it had begun.
+        self.assertNotIn("building", os.listdir(os.path.join(self.crate, "out")))
+        self.assertEqual(self.ended(self.start("--no-build"), 0, "new"), "")
+        self.assertEqual(self.calls(), ["all", "run"])
+
+    def test_words(self):
+        launcher = self.words[0]
+        usage = f"usage: {launcher} PATH init | run | demo N\n"
+        for words in ([], ["x"], ["x", "ran"], ["x", "run", "y"], ["x", "demo"], ["--no-build"], ["", "help"]):
+            self.assertEqual(done(launcher, *words, status=1), usage, words)
+        for words in (["--help"], ["-h"], ["help"], ["--no-build", "--help"]):
+            self.assertTrue(done(launcher, *words).startswith(usage), words)
+        self.assertEqual(done(launcher, os.path.join(self.top, "none"), "run", status=7), "alta: no index\n")
 
 
 class Client(unittest.TestCase):

@@ -20,6 +20,7 @@ import tempfile
 import threading
 import time
 import unittest
+import unittest.mock
 
 TOP = os.path.dirname(os.path.dirname(os.path.abspath(__file__)))
 sys.path.insert(0, os.path.join(TOP, "client"))
@@ -27,7 +28,7 @@ sys.path.insert(0, os.path.join(TOP, "client"))
 import buncocedar  # noqa: E402
 import fake  # noqa: E402
 from buncocedar import Index  # noqa: E402
-from buncocedar.server import LEVELS_KEPT, level_count  # noqa: E402
+from buncocedar.server import LEVELS_KEPT, LINES_AHEAD, batches, level_count  # noqa: E402
 
 FAKE = fake.installed()
 PROGRAM = None
@@ -184,6 +185,28 @@ class Lines(Case):
         with self.index() as index:
             self.assertEqual(index.stats().documents, 1)
 
+    def test_lines_in_pieces(self):
+        # However they are cut, the same lines come; of one that is too long no more is told than that.
+        lines = [b"add a\t\tx", b"", b"count x", b"y" * 70_000, b"z" * 65_536, b"stats"]
+        data = b"".join(line + b"\n" for line in lines) + b"broken off"
+        for size in (997, 10_000, 65_536, len(data)):
+            pieces = iter([data[at : at + size] for at in range(0, len(data), size)] + [b""])
+            connection = unittest.mock.Mock(recv=lambda room: next(pieces))
+            found = [line for lines in batches(connection) for line in lines]
+            self.assertEqual([line[:65_536] for line in found], [line[:65_536] for line in lines])
+
+    def test_many_lines_of_one_client(self):
+        self.serve()
+        connection = self.raw()
+        changes = [b"add n%d\t\tx" % i if i % 3 else b"delete n%d" % (i - 1) for i in range(1, 300)]
+        lines = changes[:100] + [b"count x", b"add n1\t\tx", b"open x"] + changes[100:] + [b"fetch 1 2", b"stats"]
+        connection.sendall(b"\n".join(lines) + b"\n")
+        connection.shutdown(socket.SHUT_WR)
+        replies = connection.makefile("rb").read().split(b"\n")
+        self.assertEqual(replies[100:103], [b"found 34", b"! name taken", b"cursor 1"])
+        self.assertEqual(replies[302:], [b"1 n1", b"3 n4", b"more", b"documents 101 words 101 next 201", b""])
+        self.assertTrue(all(reply.startswith((b"added", b"deleted")) for reply in replies[:100] + replies[103:302]))
+
     def test_refusals_of_the_program(self):
         self.serve(say=[2, "! no numbers left"])
         with self.index() as index:
@@ -222,8 +245,9 @@ class Ends(Case):
         for index in (one, idle):
             with self.assertRaises(buncocedar.Full):
                 index.stats()
-        status, said = self.end(server)
-        self.assertEqual(status, 3)
+        # It ends by itself: a signal would meet it as it has put down its own handlers.
+        said = server.communicate(timeout=PATIENCE)[1]
+        self.assertEqual(server.returncode, 3)
         self.assertIn("alta: full, need 321, greatest gap 123 (status 8)", said)
         for index in (one, other, idle):
             index.close()
@@ -251,8 +275,8 @@ class Ends(Case):
         with self.assertRaises(buncocedar.Ended):
             index.stats()
         with self.index() as other:
-            # What is under way of it is the line that the server is at.
-            self.assertIn(other.stats().documents, (answered, answered + 1))
+            # What is under way of it are the lines that the server is at.
+            self.assertIn(other.stats().documents, range(answered, answered + LINES_AHEAD + 1))
 
     def test_interrupted_at_a_line_that_takes_long(self):
         mark = os.path.join(self.folder, "mark")
@@ -379,8 +403,8 @@ class Together:
                 names = {name for _, name in index.search("NOT name:! OR name:!")}
                 stored = {f"r{number}-{self.round}-{client}-{i}" for i in range(len(replies))} & names
                 self.assertLessEqual({f"r{number}-{self.round}-{client}-{i}" for i in answered}, stored)
-                # What was not answered is not done, save the line that the server was at.
-                self.assertLessEqual(len(stored), len(answered) + 1)
+                # What was not answered is not done, save the lines that the server was at.
+                self.assertLessEqual(len(stored), len(answered) + LINES_AHEAD)
 
     def test_stopped_at_any_moment(self):
         chance = random.Random(62)

@@ -20,7 +20,7 @@ import fake
 TOP = os.path.dirname(os.path.dirname(os.path.abspath(__file__)))
 SHELL = os.path.join(TOP, "examples", "shell.py")
 PROGRAM = None
-PATIENCE = 60  # seconds after which what should have come counts as missing
+PATIENCE = 300  # seconds after which what should have come counts as missing
 
 
 class Terminal:

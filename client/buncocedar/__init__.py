@@ -28,7 +28,6 @@ import socket
 import stat
 import subprocess
 import sys
-import tempfile
 import threading
 import time
 import unicodedata
@@ -36,6 +35,8 @@ import warnings
 import weakref
 from collections import deque
 from typing import Any, Callable, Iterable, Iterator, List, NamedTuple, Optional, Tuple, Union
+
+from .beside import making
 
 __version__ = "0.1.0"
 __all__ = [
@@ -229,8 +230,8 @@ def _refusal(reply, command, query):
 class Ended(Error):
     """The program ended, by `status`: its exit status, or a signal's number below 0. `line` is what it said, `path` the index.
 
-    Of the lines without a reply the first one may be done, and no other. Only where this client was interrupted while it read,
-    as by a KeyboardInterrupt, may it have lost replies, so that any of them may be done.
+    Of the lines without a reply the first one may be done, and no other; behind a server, the first eight. Only where this client
+    was interrupted while it read, as by a KeyboardInterrupt, may it have lost replies, so that any of them may be done.
     """
 
     advice = ""
@@ -249,6 +250,11 @@ class Ended(Error):
     def hint(self, path):
         """What there is to be said of the cause, or to be done."""
         return self.advice
+
+    def number(self, at: int) -> Optional[int]:
+        """One of the numbers in the program's line, counted from 0, or None."""
+        digits = re.findall("[0-9]+", self.line)
+        return int(digits[at]) if at < len(digits) else None
 
 
 def _signal_name(number):
@@ -298,9 +304,9 @@ class Damaged(Ended):
     advice = "the file was changed by something else; use a copy of it, or make the index again"
     stored = ""
 
-    def __init__(self, status, line="", path=None, opened=True):
-        super().__init__(status, line, path, opened)
-        self.place = next(iter(_numbers(line)), None)
+    @property
+    def place(self) -> Optional[int]:
+        return self.number(0)
 
 
 class NoIndex(Ended):
@@ -324,9 +330,13 @@ class Full(Ended):
 
     advice = "the index is full, and the rest needs another one"
 
-    def __init__(self, status, line="", path=None, opened=True):
-        super().__init__(status, line, path, opened)
-        self.need, self.gap = (_numbers(line) + [None, None])[:2]
+    @property
+    def need(self) -> Optional[int]:
+        return self.number(0)
+
+    @property
+    def gap(self) -> Optional[int]:
+        return self.number(1)
 
 
 class InputTooLong(Ended):
@@ -392,10 +402,6 @@ def disk_cause(path: str) -> Optional[str]:
         f"the disk of {path} is full: {free:,} bytes free; make room, then run this again": free < SCANT_ROOM,
     }
     return next((cause for cause, applies in causes.items() if applies), None)
-
-
-def _numbers(line):
-    return [int(digits) for digits in re.findall("[0-9]+", line)]
 
 
 class ProtocolFault(Error):
@@ -583,6 +589,14 @@ class Reply:
         if self.error is not None:
             raise copy.copy(self.error)
         return self._value
+
+    def lines(self) -> List[str]:
+        """Waits for the reply and gives its lines, of a line that was sent by `send_line`; a refusal is one of them."""
+        try:
+            end = self.result()
+        except Refused as refusal:
+            return [refusal.reply]
+        return [*self.rows] if self._after_refusal else [*self.rows, end]
 
     def begin(self) -> None:
         """Waits for the first line of the reply, and raises as `result` where there is no more to come."""
@@ -849,19 +863,24 @@ class Index:
 
         For who has lines from elsewhere, as a server. A line that this client cannot tell the end of a reply to is refused.
         """
-        word = line.partition(b" ")[0]
-        if len(line) > LINE_LIMIT:
-            return ["! line too long"]
-        if word not in _FORMS:
-            return ["! unknown command" if _is_utf8(line) else "! not UTF-8"]
-        last, row = _FORMS[word]
-        explains = word == b"explain"
-        reply = self._send(line, word.decode(), last, _whole_line, row, "", b"stats\n" if explains else b"", explains)
         try:
-            end = reply.result()
+            return self.send_line(line).lines()
         except Refused as refusal:
             return [refusal.reply]
-        return [*reply.rows] if explains else [*reply.rows, end]
+
+    def send_line(self, line: bytes) -> Reply:
+        """Sends what `answer` sends, and answers its `Reply` at once, or when one of those under way has come.
+
+        Raises the `Refused` of a line that is not sent.
+        """
+        word = line.partition(b" ")[0]
+        if len(line) > LINE_LIMIT:
+            raise _too_long(len(line), "a line")
+        if word not in _FORMS:
+            raise UnknownCommand("! unknown command") if _is_utf8(line) else NotUtf8("! not UTF-8")
+        last, row = _FORMS[word]
+        explains = word == b"explain"
+        return self._send(line, word.decode(), last, _whole_line, row, "", b"stats\n" if explains else b"", explains)
 
     # -- The end.
 
@@ -1339,32 +1358,19 @@ def _holds_bytes(path):
 
 
 def _make(program, path):
-    """Makes an index at the path: whole, or not at all. Where it is stopped, a folder of an odd name may stay.
+    """Makes an index at the path: whole, or not at all. Where this is killed a folder may stay, which the next one takes away.
 
     Where another client has made one meanwhile, that one stays.
     """
     folder = os.path.dirname(os.path.abspath(path))
-    try:
-        making = tempfile.TemporaryDirectory(prefix=".making-", dir=folder)
-    except OSError as error:
-        raise OSError(error.errno, f"no index can be made: {error.strerror}", path) from None
-    with making as place:
-        fresh = os.path.join(place, "index.alta")
-        process = _started(program, fresh, "init")
-        said = _Said(process.stderr.fileno())
+    with contextlib.ExitStack() as stack:
         try:
-            process.stdin.close()
-            said.take_all()
-            status = process.wait()
-        except BaseException:
-            _kill(process)
-            process.wait()
-            raise
-        finally:
-            process.stdout.close()
-            process.stderr.close()
+            fresh = stack.enter_context(making(folder))
+        except OSError as error:
+            raise OSError(error.errno, f"no index can be made: {error.strerror}", path) from None
+        status, line = _initialised(program, fresh)
         if status != 0:
-            raise _ended(status, said.line, path, opened=False)
+            raise _ended(status, line, path, opened=False)
         if os.path.exists(path):
             _replace_empty(fresh, path)
         else:
@@ -1374,6 +1380,23 @@ def _make(program, path):
         os.fsync(handle)
     finally:
         os.close(handle)
+
+
+def _initialised(program, path):
+    """Has the program make an index at a path, and answers its status and the line of it."""
+    process = _started(program, path, "init")
+    said = _Said(process.stderr.fileno())
+    try:
+        process.stdin.close()
+        said.take_all()
+        return process.wait(), said.line
+    except BaseException:
+        _kill(process)
+        process.wait()
+        raise
+    finally:
+        process.stdout.close()
+        process.stderr.close()
 
 
 def _put(fresh, path):

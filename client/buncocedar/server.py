@@ -1,10 +1,10 @@
 """One index for many clients: a server behind a socket beside the index's file.
 
 Each client speaks the lines of the program; `buncocedar.Index`, and what stands on it, finds the server by itself. One thread
-owns the index, and answers one line, or one page of a search, after another, of each client one at a time: so neither a large
-search nor a client that reads slowly keeps the others waiting. A thread for each client reads its lines and writes its
-replies. A client has cursors of its own, which end with it. While nobody asks, levels are joined by steps, so that no add has
-to wait for a join.
+owns the index, and has lines of all clients answered in the order in which they come: of each client one, or one page of a search,
+or eight documents to be added or deleted. So neither a large search nor a client that reads slowly or sends much keeps the others
+waiting. A thread for each client reads its lines and writes its replies. A client has cursors of its own, which end with it. While
+nobody asks, levels are joined by steps, so that no add has to wait for a join.
 
 An interrupt (SIGINT, SIGTERM) ends the server when the line that it is at is answered, a second one ends the program at once.
 However it ends, what a client was answered is stored. The status is 0 where it was asked to end, and 3 where the index could
@@ -14,6 +14,7 @@ not be opened or the program has ended.
 import argparse
 import contextlib
 import errno
+import itertools
 import os
 import queue
 import re
@@ -23,13 +24,16 @@ import stat
 import sys
 import threading
 import time
+from collections import deque
 from concurrent.futures import Future
 
-from . import LINE_LIMIT, Ended, Error, Index, server_path
+from . import LINE_LIMIT, Ended, Error, Index, Refused, server_path
 
 PAGE = 1_000  # rows of a search, at a time
 IDLE_SECONDS = 0.5  # without a line, before levels are joined
 STEP_TERMS = 5_000  # of a join, between two looks for a line
+LINES_AHEAD = 8  # of changes of one client, and of all lines that are given to the program before the first has its reply
+BYTES_READ = 1 << 16  # of a client, at a time
 LEVELS_KEPT = 12  # of the sixteen that an index may have
 SECONDS_TO_LEAVE = 2  # that clients have to take their last replies when the server ends
 STOPPED = 3
@@ -65,10 +69,10 @@ class Session:
     def run(self):
         self.server.sessions.add(self)
         try:
-            with self.connection, self.connection.makefile("rb") as file:
+            with self.connection:
                 with contextlib.suppress(Ended, Stopped):
-                    for line in whole_lines(file):
-                        for piece in self.reply(line):
+                    for lines in batches(self.connection):
+                        for piece in self.replies(lines):
                             self.say(piece)
                 end = self.server.end
                 if end is not None:
@@ -87,6 +91,23 @@ class Session:
 
     def ask(self, line):
         return self.server.ask(line)
+
+    def replies(self, lines):
+        """The replies to lines that have come together, in pieces, each of some lines."""
+        for are_changes, group in itertools.groupby(lines, is_change):
+            while are_changes and (changes := list(itertools.islice(group, LINES_AHEAD))):
+                yield from self.changes(changes)
+            for line in group:
+                yield from self.reply(line)
+
+    def changes(self, lines):
+        """The replies to some documents that are added or deleted, in one piece, or up to the end of the program."""
+        given = []
+        try:
+            for future in [self.server.send(line) for line in lines]:
+                given += future.result()
+        finally:
+            yield given
 
     def reply(self, line):
         """The reply to a line in pieces, each of some lines."""
@@ -135,16 +156,24 @@ class Session:
         yield [f"found {found}"]
 
 
-def whole_lines(file):
-    """The lines of a file, without their ends. What stands behind the last end is none, and a line too long is cut."""
-    room = LINE_LIMIT + 2
-    while True:
-        front = part = file.readline(room)
-        while part and not part.endswith(b"\n"):
-            part = file.readline(room)
-        if not part:
-            return
-        yield front.rstrip(b"\n")
+def is_change(line):
+    """Whether a line adds or deletes a document: its reply hangs on nothing that the server knows."""
+    return line.startswith((b"add ", b"delete "))
+
+
+def batches(connection):
+    """The lines that a client sends, those together that have come together, without their ends.
+
+    What stands behind the last end is none, and of a line too long only the front is kept, which is too long.
+    """
+    rest = b""
+    while data := connection.recv(BYTES_READ):
+        *lines, last = data.split(b"\n")
+        if lines:
+            lines[0] = rest + lines[0]
+            rest = b""
+            yield lines
+        rest = (rest + last)[: LINE_LIMIT + 1]
 
 
 class Server:
@@ -156,15 +185,20 @@ class Server:
         self.sessions = set()
         self.end = None  # how the program has ended
         self._jobs = queue.SimpleQueue()  # lines, each with the future of its reply; None asks the server to end
+        self._sent = deque()  # replies that are under way, each with its future
         self._stopped = False
 
     def ask(self, line):
         """The lines of the reply, when the owner has come to it: for the threads of clients."""
+        return self.send(line).result()
+
+    def send(self, line):
+        """The future of a reply: for the threads of clients."""
         if self._stopped:
             raise Stopped
         future = Future()
         self._jobs.put((line, future))
-        return future.result()
+        return future
 
     def stop(self):
         """Asks the server to end. A handler of a signal may do so too."""
@@ -176,14 +210,19 @@ class Server:
         seconds = IDLE_SECONDS
         while self.end is None:
             try:
-                job = self._jobs.get(timeout=seconds)
+                job = self._jobs.get(timeout=0 if self._sent else seconds)
             except queue.Empty:
-                seconds = 0 if self._tidy() else None
+                if self._sent:
+                    self._settle()
+                else:
+                    seconds = 0 if self._tidy() else None
                 continue
             if job is None:
-                return
+                break
             self._do(*job)
             seconds = IDLE_SECONDS
+        while self._sent:
+            self._settle()
 
     def close(self):
         """Takes no further client or line, waits a moment for those that have a reply to take, and ends the program."""
@@ -221,8 +260,22 @@ class Server:
                 time.sleep(0.1)
 
     def _do(self, line, future):
+        """Gives a line to the program, where few are under way, or the first of them has come."""
+        while len(self._sent) >= LINES_AHEAD:
+            self._settle()
         try:
-            future.set_result(self.index.answer(line))
+            self._sent.append((self.index.send_line(line), future))
+        except Refused as refusal:
+            future.set_result([refusal.reply])
+        except Error as error:
+            self._fail(error)
+            future.set_exception(self.end)
+
+    def _settle(self):
+        """Waits for the first reply that is under way, and hands it on."""
+        reply, future = self._sent.popleft()
+        try:
+            future.set_result(reply.lines())
         except Error as error:
             self._fail(error)
             future.set_exception(self.end)

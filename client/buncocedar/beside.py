@@ -1,0 +1,95 @@
+"""Folders for what is being made: a file that is to be whole or not there is made in one, and moved into place at the end.
+
+Who makes something holds the lock of a file in its folder (`flock`). So a folder whose file is not locked was left by one that was
+killed. The folder itself is not locked, since a client locks the folder of the index that it opens.
+"""
+
+from __future__ import annotations
+
+import contextlib
+import fcntl
+import os
+import re
+import shutil
+import tempfile
+from typing import Iterator, List
+
+PREFIX = ".making-"
+MADE = "index.alta"  # the file that is made; what stands beside it has its name and an ending
+LOCK = "lock"  # the file that the maker locks
+
+_ODD = "[a-z0-9_]{8}"  # what tempfile puts behind a prefix
+
+
+@contextlib.contextmanager
+def making(parent: str, prefix: str = PREFIX) -> Iterator[str]:
+    """The path for a file to be made at, in a folder of its own in this one, which is taken away at the end.
+
+    What was left in this one is taken away first.
+    """
+    with contextlib.suppress(OSError):
+        remove_left(parent, prefix)
+    folder, lock = _locked_folder(parent, prefix)
+    try:
+        yield os.path.join(folder, MADE)
+    finally:
+        shutil.rmtree(folder, ignore_errors=True)
+        os.close(lock)
+
+
+def remove_left(parent: str, prefix: str = PREFIX) -> List[str]:
+    """Takes away the folders that this user's programs have left as they were killed, and answers their paths.
+
+    Only what is made in such a folder is taken away: one that has anything else stays.
+    """
+    with os.scandir(parent) as entries:
+        found = [entry for entry in entries if re.fullmatch(re.escape(prefix) + _ODD, entry.name)]
+    return [entry.path for entry in found if entry.is_dir(follow_symlinks=False) and _is_removed(entry.path)]
+
+
+def _is_removed(folder):
+    try:
+        handle = os.open(os.path.join(folder, LOCK), os.O_RDWR | os.O_NOFOLLOW)
+    except OSError:
+        # Its maker was killed before it could make the file, or has just made the folder and will make another one.
+        return _is_done(os.rmdir, folder)
+    try:
+        fcntl.flock(handle, fcntl.LOCK_EX | fcntl.LOCK_NB)
+        return os.fstat(handle).st_uid == os.geteuid() and _is_emptied(folder) and _is_done(os.rmdir, folder)
+    except OSError:
+        # Somebody makes something there, or the file system has no locks, so that nobody knows.
+        return False
+    finally:
+        os.close(handle)
+
+
+def _is_emptied(folder):
+    """Takes away what was made in a folder, where nothing else is there, and tells whether that is so."""
+    remove_left(folder)
+    names = os.listdir(folder)
+    is_ours = all(name == LOCK or name.startswith(MADE) for name in names)
+    return is_ours and all([_is_done(os.unlink, os.path.join(folder, name)) for name in names])
+
+
+def _is_done(call, path):
+    try:
+        call(path)
+        return True
+    except OSError:
+        return False
+
+
+def _locked_folder(parent, prefix):
+    """A new folder and the handle that locks it."""
+    while True:
+        folder = tempfile.mkdtemp(prefix=prefix, dir=parent)
+        try:
+            handle = os.open(os.path.join(folder, LOCK), os.O_RDWR | os.O_CREAT, 0o600)
+        except FileNotFoundError:
+            # It was taken for one that was left, before it was locked.
+            continue
+        with contextlib.suppress(OSError):
+            fcntl.flock(handle, fcntl.LOCK_EX)
+        if os.path.isdir(folder):
+            return folder, handle
+        os.close(handle)

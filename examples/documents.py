@@ -1,0 +1,116 @@
+"""The documents behind the answers: where they were found, their texts as they stand there, and the way into an editor."""
+
+import contextlib
+import os
+import re
+import tempfile
+
+import folder
+import mail
+import packages
+from importing import Text, Unfit
+from stamps import STEM_LIMIT, Records, part_of, stamps_path, stem_of
+from terminal import edited
+
+READERS = {"folder": folder.read, "mail": mail.read, "packages": packages.read}
+
+
+class Places:
+    """Where the documents of an index were found, by its file of stamps, which is read when it is first asked for."""
+
+    def __init__(self, index, moved=None):
+        self.path = stamps_path(index)
+        self.moved = moved
+        self.read = None
+        self.long_stems = {}
+
+    def records(self):
+        if self.read is None:
+            self.read = Records(self.path)
+            many = (name for name, stamp in self.read.of.items() if len(stamp.numbers) > 1 and len(name) > STEM_LIMIT)
+            self.long_stems = {stem_of(name): name for name in many}
+        return self.read
+
+    def document(self, name):
+        """The name of the document that has this one as a part; any other name is a document's own."""
+        part = part_of(name)
+        if part is None:
+            return name
+        known = self.records().of
+        whole = self.long_stems.get(part[0], part[0])
+        return whole if whole in known and len(known[whole].numbers) >= part[1] else name
+
+    def named(self, word):
+        """The name of the document that has this name or number."""
+        name = self.document(word)
+        if name in self.records().of or not word.isdecimal():
+            return name
+        numbers = {number: name for name, stamp in self.records().of.items() for number in stamp.numbers}
+        return numbers.get(int(word), word)
+
+    def has_parts(self):
+        return any(len(stamp.numbers) > 1 for stamp in self.records().of.values())
+
+    def found(self, name):
+        return self.records().found(name, self.moved)
+
+
+def text_at(found):
+    """The text of a document, or in its place why there is none."""
+    try:
+        return READERS[found.kind](found)
+    except FileNotFoundError:
+        return "gone"
+    except (OSError, Unfit) as fault:
+        return getattr(fault, "strerror", None) or str(fault)
+
+
+def shown_path(path):
+    """A path as it is named from here, where it stands below."""
+    below = os.path.relpath(path)
+    return path if below.startswith(os.pardir) else below
+
+
+# --- Whole documents.
+
+
+def whole_lines(found, text):
+    """The lines of a document as it is shown: of a message and a package behind what is known of it."""
+    body = text.body.rstrip("\n").split("\n")
+    if found.kind == "folder":
+        return body
+    title = f"Subject: {text.title}" if found.kind == "mail" else text.title
+    return [title, *(text.head.split("\n") if text.head else []), "", *body]
+
+
+def about(text):
+    """A line that says what a message or a package is."""
+    fields = dict(line.partition(": ")[::2] for line in reversed(text.head.split("\n")) if ": " in line)
+    day, writer = fields.get("Date", "").partition(" ")[0], fields.get("From", "")
+    front = " ".join(filter(None, (day, writer)))
+    return ": ".join(filter(None, (front, text.title)))
+
+
+# --- In an editor.
+
+
+def edit(name, found, text, line):
+    """Opens a document in the user's editor, at a line of those that are shown, and answers the editor's status.
+
+    A file of a folder is opened where it stands; anything else as a copy to be read, of which no change goes anywhere.
+    """
+    if found.kind == "folder" and not found.path.endswith(".gz"):
+        return edited(found.path, line)
+    with reading_copy(name, "\n".join(whole_lines(found, text)) + "\n") as path:
+        return edited(path, line)
+
+
+@contextlib.contextmanager
+def reading_copy(name, content):
+    """The path of a file with this content that is named after the document, as long as it is needed."""
+    with tempfile.TemporaryDirectory(prefix="bunco-") as place:
+        path = os.path.join(place, re.sub("[^A-Za-z0-9@._+-]", "-", name).lstrip("-.") + ".txt")
+        with open(path, "w", encoding="utf-8", errors="surrogateescape") as file:
+            file.write(content)
+        os.chmod(path, 0o400)
+        yield path
