@@ -2,8 +2,8 @@
 
 What is done is kept beside the index, in a file of stamps (`stamps.py`). A stamp is written behind the replies to its
 document, so a stop may leave a document without its stamp, and never a stamp without its document; and a stamp counts only
-where the index has documents of those names and numbers. What has no stamp that counts is added, after what stands under its
-name is deleted.
+where the index has documents of those names and numbers. What has no stamp that counts is added, in the place of what stands
+under its name: a stop leaves the one or the other.
 
 A document that is too long for a line goes in as several, its parts: `NAME`, `NAME~p2`, `NAME~p3`, .., each with its title and
 with the last hundred words of the part before, so that a phrase over the border is found.
@@ -250,23 +250,36 @@ def several(number, word="document"):
 
 
 class Sent(NamedTuple):
-    """A document under way: how many parts it has, and the replies to the deletions before it and to the adds of its parts."""
+    """A document under way: the replies to the adds of its parts, and to the deletions of those that it has no more.
+
+    `parts` and `older` are how many it has, and has no more.
+    """
 
     name: str
     kind: str
     stamp: str
     place: str
-    count: int
-    gone: list
+    parts: int
+    older: int
     added: list
+    gone: list
 
     def is_answered(self):
         """Replies come in the order of their lines, so the last one is there when all are."""
-        return len(self.added) == self.count and self.added[-1][1].answered
+        replies = self.added + self.gone
+        return len(replies) == self.parts + self.older and replies[-1][1].answered
+
+    def is_stored_in_part(self):
+        """Whether a part of it is stored, and another one is not."""
+        return 0 < sum(was_done(reply) for _, reply in self.added) < self.parts
 
     def was_deleted(self):
         """Whether something that stood under its name is deleted."""
-        return any(reply.answered and reply.error is None for _, reply in self.gone)
+        return any(was_done(reply) for _, reply in self.gone)
+
+
+def was_done(reply):
+    return reply.answered and reply.error is None
 
 
 class Options(NamedTuple):
@@ -298,7 +311,7 @@ class Import:
         self.counts = dict.fromkeys(kinds, 0)
         self.in_parts = 0
         self.unread = 0
-        self.without_text = []
+        self.stored_in_part = []
         self.bytes = 0
         self.since_merge = LEVEL_BYTES * levels_behind_the_first(index.path)
         self.gone = []
@@ -366,7 +379,7 @@ class Import:
             self.leave(name)
         else:
             try:
-                self.send(Sent(name, kind, stamp, document.place, 0, [], []), document.load())
+                self.send(Sent(name, kind, stamp, document.place, 0, 0, [], []), document.load())
             except NoText as why:
                 self.pass_over(document.wanted, why)
             except Unseen as fault:
@@ -381,14 +394,15 @@ class Import:
                 self.refuse(name, document.wanted, f"it could not be read: {error!r}")
 
     def send(self, sent, text):
-        """Sends a document. What is refused here is refused before its older text is deleted."""
+        """Sends a document. What is refused here is refused before anything of its older text is replaced."""
         if self.options.whole and text.beyond:
             raise Unfit(f"its text has more than {TEXT_LIMIT:,} bytes")
         parts = parts_of(sent.name, text, self.options.whole)
-        sent = sent._replace(count=len(parts))
+        gone = self.standing(sent.name, but=[name for name, _, _ in parts])
+        sent = sent._replace(parts=len(parts), older=len(gone))
         self.sent.append(sent)
         try:
-            self.replace(sent, parts)
+            self.replace(sent, parts, gone)
         except Refused:
             self.sent.pop()
             raise
@@ -402,25 +416,25 @@ class Import:
         if self.options.merge and self.since_merge >= MERGE_BYTES:
             self.merge()
 
-    def replace(self, sent, parts):
-        """Sends the lines that put these parts in the place of all that stands under the document's name.
+    def replace(self, sent, parts, gone):
+        """Sends the lines that put these parts in the place of those of their names, and delete the others.
 
-        This is the one place that sends adds, and with `prune` the one that sends deletions.
+        This is the one place that sends adds and deletions.
         """
-        for name in self.standing(sent.name):
-            sent.gone.append((name, self.index.send_delete(name)))
         for name, title, body in parts:
             sent.added.append((name, self.index.send_add(name, title, body)))
             length = size(title) + size(body)
             self.bytes += length
             self.since_merge += length
             self.collect()
+        for name in gone:
+            sent.gone.append((name, self.index.send_delete(name)))
 
-    def standing(self, name):
-        """The names under which the index has a document and its parts."""
+    def standing(self, name, but=()):
+        """The names under which the index has a document and its parts, but for some of them."""
         count = max(1, self.parts.get(stem_of(name), 1))
         names = (part_name(name, number) for number in range(1, count + 1))
-        return [name for name in names if name in self.live]
+        return [name for name in names if name in self.live and name not in but]
 
     def merge(self):
         """Joins all levels, so that no level is written again for each full journal."""
@@ -450,20 +464,23 @@ class Import:
 
     def numbers_of(self, sent):
         """The numbers of a document's parts, all answered; none where one of them was refused."""
-        for name, reply in sent.gone:
-            if reply.error is None:
-                self.live.pop(name, None)
         refusals = [reply.error for _, reply in sent.added if reply.error is not None]
         for name, reply in sent.added:
             if reply.error is None:
                 self.live[name] = int(reply.result())
                 self.note_part(name)
+        for name, reply in sent.gone:
+            if reply.error is None:
+                self.live.pop(name, None)
         if refusals:
             self.refuse(sent.name, sent.name, refusals[0])
-            if sent.was_deleted():
-                self.without_text.append(sent.name)
+            self.note_what_is_stored(sent)
             return ()
         return tuple(self.live[name] for name, _ in sent.added)
+
+    def note_what_is_stored(self, sent):
+        if sent.is_stored_in_part():
+            self.stored_in_part.append(sent.name)
 
     def refuse(self, name, wanted, why):
         self.counts["refused"] += 1
@@ -516,9 +533,9 @@ class Import:
 
     def prune(self):
         for name in self.gone:
-            sent = Sent(name, "", "", "", 0, [], [])
+            sent = Sent(name, "", "", "", 0, 0, [], [])
             try:
-                self.replace(sent, [])
+                self.replace(sent, [], self.standing(name))
                 self.index.settle()
             except Error as end:
                 self.end = end
@@ -531,7 +548,7 @@ class Import:
             self.pruned += 1
 
     def finish(self):
-        """Waits for the replies under way. What gets none is left; where its older text is deleted, that is noted."""
+        """Waits for the replies under way. What gets none is left; where it is stored in part, that is noted."""
         self.index.settle()
         self.collect()
         try:
@@ -542,8 +559,7 @@ class Import:
             self.first_left = self.sent[0].name
         for sent in self.sent:
             self.leave(sent.name)
-            if sent.was_deleted():
-                self.without_text.append(sent.name)
+            self.note_what_is_stored(sent)
 
     # -- What is said of it.
 
@@ -572,8 +588,8 @@ class Import:
             self.log.say(f"the program ended: {self.end}")
         if counts["left"]:
             self.log.say(f"{several(counts['left'])} not stored, the first of them {self.first_left}{self.doubt()}")
-        for name in self.without_text:
-            self.log.say(f"{name}: its older text is deleted, and the new one is not stored")
+        for name in self.stored_in_part:
+            self.log.say(f"{name}: some of its parts are stored, and the others are as they were")
         if self.fault:
             self.log.say(f"stopped: {self.fault}")
         if isinstance(self.end, Full):

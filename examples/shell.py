@@ -73,7 +73,8 @@ class Shell:
         title = self.prompt.ask("title> ")
         body = None if title is None else self.prompt.ask("body> ")
         if body is not None:
-            print(f"added {self.index.add(name, title, body)}")
+            number = self.index.add(name, title, body)
+            print(f"added {number}" if number.replaced is None else f"replaced {number.replaced} by {number}")
 
     def search(self, query):
         found = 0

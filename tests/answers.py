@@ -212,15 +212,15 @@ class Machine:
 
     def answer_add(self, rest):
         name, title, body = rest.split("\t", 2)
-        if name in self.names:
-            return "! name taken\n"
-        number = self.next_number
+        number, before = self.next_number, self.names.get(name)
         if number == NUMBERS:
             return "! no numbers left\n"
+        if before is not None:
+            self.leave_out(before)
         self.put(Document(number, name, title, body))
         self.next_number += 1
-        self.entry = ("add", name, title, body)
-        return f"added {number}\n"
+        self.entry = ("add", name, title, body) if before is None else ("replace", before, name, title, body)
+        return f"added {number}\n" if before is None else f"replaced {before} by {number}\n"
 
     def answer_delete(self, name):
         number = self.names.get(name)

@@ -86,11 +86,11 @@ class Texts(unittest.TestCase):
     def test_too_long(self):
         room = buncocedar.LINE_LIMIT - len("add a\t\t")
         line, dropped = buncocedar.add_line("a", "", "x" * room)
-        self.assertEqual((len(line) - 1, dropped), (65_535, 0))
+        self.assertEqual((len(line) - 1, dropped), (262_143, 0))
         with self.assertRaises(buncocedar.LineTooLong) as raised:
             buncocedar.add_line("a", "", "x" * (room + 1))
-        self.assertEqual(raised.exception.length, 65_536)
-        self.assertIn("65,536 bytes", str(raised.exception))
+        self.assertEqual(raised.exception.length, 262_144)
+        self.assertIn("262,144 bytes", str(raised.exception))
 
     def test_other_types(self):
         for call, message in [
@@ -105,17 +105,17 @@ class Texts(unittest.TestCase):
             self.assertEqual(str(raised.exception), message)
 
     def test_cut(self):
-        words = "word " * 20_000
+        words = "word " * 80_000
         line, dropped = buncocedar.add_line("a", "title", words, cut=True)
-        self.assertLessEqual(len(line) - 1, 65_535)
+        self.assertLessEqual(len(line) - 1, 262_143)
         self.assertTrue(line.endswith(b" word\n"))
         self.assertEqual(len("add a\ttitle\t") + len(words) - dropped, len(line) - 1)
         # A title gives way only where its line is too long, and a text without blanks is cut between characters.
         line, dropped = buncocedar.add_line("a", words, "body", cut=True)
         self.assertEqual(len(line.split(b"\t")[1]), 4_094)
         self.assertTrue(line.endswith(b"word\tbody\n"))
-        line, dropped = buncocedar.add_line("a", "", "\u65e5" * 40_000, cut=True)
-        self.assertEqual(line.decode().count("\u65e5"), (65_535 - 7) // 3)
+        line, dropped = buncocedar.add_line("a", "", "\u65e5" * 160_000, cut=True)
+        self.assertEqual(line.decode().count("\u65e5"), (262_143 - 7) // 3)
         self.assertEqual(buncocedar.fitted("red fox", 5), "red")
         self.assertEqual(buncocedar.fitted("red fox", 3), "red")
         self.assertEqual(buncocedar.fitted("red  fox", 4), "red")
@@ -162,12 +162,12 @@ class Calls(Case):
         with self.fake() as index:
             number = index.add("a", "Red Fox", "the quick\tred\nfox")
             self.assertEqual((number, number.dropped), (1, 0))
-            self.assertEqual(index.add("b", "", "word " * 20_000, cut=True).dropped, 100_000 - 13_105 * 5 + 1)
+            self.assertEqual(index.add("b", "", "word " * 80_000, cut=True).dropped, 400_000 - 52_427 * 5 + 1)
             self.assertEqual(list(index.search("red fox")), [(1, "a")])
             self.assertEqual(list(index.search("no such words")), [])
             self.assertEqual(index.count("word"), 1)
             self.assertEqual(index.explain("fox"), '"fox"\nfound D Wfox\n  x1 <= x0')
-            self.assertEqual(index.stats(), (2, 6 + 13_105, 3))
+            self.assertEqual(index.stats(), (2, 6 + 52_427, 3))
             self.assertEqual(index.delete("b"), 2)
             self.assertEqual(index.stats(), buncocedar.Stats(documents=1, words=6, next=3))
             for upkeep in (index.flush, index.merge, lambda: index.step(1000)):
@@ -178,6 +178,15 @@ class Calls(Case):
         # What was answered stands in the file.
         with self.fake() as index:
             self.assertEqual(index.stats().documents, 1)
+
+    def test_replacing(self):
+        with self.fake() as index:
+            first, second = index.add("a", "", "red"), index.add("a", "", "blue")
+            self.assertEqual((first, first.replaced), (1, None))
+            self.assertEqual((second, second.replaced), (2, 1))
+            self.assertEqual(list(index.search("blue")), [(2, "a")])
+            self.assertEqual(index.count("red"), 0)
+            self.assertEqual(index.stats(), (1, 1, 3))
 
     def test_cursors(self):
         with self.fake() as index:
@@ -248,7 +257,7 @@ class Calls(Case):
                 self.assertEqual((fault.place, fault.cause, fault.query), (8, "Paren", "fault 8 Paren \u65e5)"))
                 self.assertEqual(str(fault).split("\n")[1:], ["  fault 8 Paren \u65e5)", "          ^"])
             with self.assertRaises(buncocedar.LineTooLong):
-                index.count("x " * 40_000)
+                index.count("x " * 140_000)
             self.assertEqual(index.stats().documents, 0)
 
     def test_ends(self):
@@ -431,43 +440,42 @@ class Traps(Case):
                 with self.fake(silent=1):
                     raise kind
         # The error goes on, and what else was refused is told beside it.
-        with self.assertWarnsRegex(RuntimeWarning, "name taken"), self.assertRaises(ValueError):
+        with self.assertWarnsRegex(RuntimeWarning, "no such document"), self.assertRaises(ValueError):
             with self.fake() as index:
-                index.send_add("n0", "", "")
+                index.send_delete("none")
                 raise ValueError
 
     def test_a_refusal_that_nobody_took(self):
-        with self.assertRaisesRegex(buncocedar.NameTaken, "add a .*2 refused lines"):
+        with self.assertRaisesRegex(buncocedar.NoSuchDocument, "delete a .*2 refused lines"):
             with self.fake() as index:
-                for _ in range(3):
-                    index.send_add("a", "", "")
+                for _ in range(2):
+                    index.send_delete("a")
         with self.fake() as index:
-            replies = [index.send_add("a", "", ""), index.send_delete("b"), index.send_add("a", "", "")]
-            with self.assertRaises(buncocedar.NameTaken):
+            replies = [index.send_delete("a"), index.send_add("a", "", ""), index.send_delete("b")]
+            with self.assertRaises(buncocedar.NoSuchDocument):
                 replies[0].result()
             index.settle()
-            self.assertIsInstance(replies[1].error, buncocedar.NoSuchDocument)
-            self.assertIsInstance(replies[2].error, buncocedar.NameTaken)
+            self.assertIsNone(replies[1].error)
+            self.assertIsInstance(replies[2].error, buncocedar.NoSuchDocument)
         # It is raised once, and after an end the end is what counts.
         index = self.fake()
-        index.send_add("a", "", "")
-        with self.assertRaises(buncocedar.NameTaken):
+        index.send_delete("b")
+        with self.assertRaises(buncocedar.NoSuchDocument):
             index.close()
         index.close()
         # Of very many the first are told on the way.
-        with self.assertWarns(RuntimeWarning), self.assertRaisesRegex(buncocedar.NameTaken, "1,000 refused"):
+        with self.assertWarns(RuntimeWarning), self.assertRaisesRegex(buncocedar.NoSuchDocument, "1,000 refused"):
             with self.fake() as index:
                 for _ in range(1001):
-                    index.send_add("a", "", "")
+                    index.send_delete("b")
 
     def test_adding_many(self):
-        documents = [("a", "", "x"), ("a", "", ""), ("b c", "", ""), ("d", "", "x" * 70_000), ("e", "", "x")]
+        documents = [("a", "", "x"), ("a", "", ""), ("b c", "", ""), ("d", "", "x" * 270_000), ("e", "", "x")]
         with self.fake() as index:
             added, refusals = index.add_many(iter(documents))
-            self.assertEqual(added, 2)
+            self.assertEqual(added, 3)
             kinds = [(name, type(refusal)) for name, refusal in refusals]
-            long = ("d", buncocedar.LineTooLong)
-            self.assertEqual(kinds, [("a", buncocedar.NameTaken), ("b c", buncocedar.BadName), long])
+            self.assertEqual(kinds, [("b c", buncocedar.BadName), ("d", buncocedar.LineTooLong)])
             self.assertEqual(index.add_many([]), (0, []))
             self.assertEqual(index.add_many([documents[3]], cut=True), (1, []))
         with self.assertRaises(buncocedar.Full):
@@ -511,7 +519,7 @@ class Traps(Case):
 
     def test_errors_are_copied_and_pickled(self):
         long = buncocedar.LineTooLong("! line too long", "add a")
-        long.length = 70_000
+        long.length = 270_000
         for error in [
             buncocedar.QueryFault("(fox", 4, "Paren"),
             buncocedar._ended(8, "alta: full, need 321, greatest gap 123"),
@@ -621,13 +629,13 @@ class UnderWay(Case):
                 self.assertEqual(len(list(rows)), 3000)
 
     def test_refusals_stand_in_their_order(self):
-        documents = [("a", "", ""), ("a", "", ""), ("b c", "", ""), ("d", "", "x" * 70_000), ("e", "", "")]
+        documents = [("a", "", ""), ("a", "", ""), ("b c", "", ""), ("d", "", "x" * 270_000), ("e", "", "")]
         with self.fake() as index:
-            outcomes = list(index.add_all(documents))
-        kinds = [type(outcome) for _, outcome in outcomes]
-        added, taken, bad, long = buncocedar.Added, buncocedar.NameTaken, buncocedar.BadName, buncocedar.LineTooLong
-        self.assertEqual(kinds, [added, taken, bad, long, added])
-        self.assertEqual((outcomes[0][1], outcomes[4][1]), (1, 2))
+            outcomes = [outcome for _, outcome in index.add_all(documents)]
+        added, bad, long = buncocedar.Added, buncocedar.BadName, buncocedar.LineTooLong
+        self.assertEqual([type(outcome) for outcome in outcomes], [added, added, bad, long, added])
+        self.assertEqual((outcomes[0], outcomes[1], outcomes[4]), (1, 2, 3))
+        self.assertEqual((outcomes[1].replaced, outcomes[4].replaced), (1, None))
 
     def test_an_end_in_the_middle(self):
         # The line that was not answered is done or not; what was answered is told, and nothing else.
@@ -808,13 +816,15 @@ class RealProgram(Case):
                 self.assertEqual(index.count(query), len(rows))
             self.assertEqual(index.explain("red AND\nfox").split("\n")[:2], ['"red" "fox"', "found D Wred Wfox"])
             self.assertEqual(index.delete("a"), 1)
-            with self.assertRaises(buncocedar.NameTaken):
-                index.add("b", "", "")
             with self.assertRaises(buncocedar.NoSuchDocument):
                 index.delete("a")
             self.assertEqual(index.stats(), (2, 5, 4))
+            again = index.add("b", "", "blue")
+            self.assertEqual((again, again.replaced), (4, 2))
+            self.assertEqual((index.count("dog"), list(index.search("blue"))), (0, [(4, "b")]))
+            self.assertEqual(index.stats(), (2, 2, 5))
         with self.index() as index:
-            self.assertEqual(index.stats(), (2, 5, 4))
+            self.assertEqual(index.stats(), (2, 2, 5))
 
     def test_faults_of_queries(self):
         with self.index() as index:
@@ -841,10 +851,10 @@ class RealProgram(Case):
 
     def test_limits(self):
         with self.index() as index:
-            body = "x " * 40_000
+            body = "x " * 140_000
             with self.assertRaises(buncocedar.LineTooLong):
                 index.add("a", "", body)
-            self.assertEqual(index.add("a", "", body, cut=True).dropped, 80_000 - 65_527)
+            self.assertEqual(index.add("a", "", body, cut=True).dropped, 280_000 - 262_135)
             self.assertEqual(index.count("x"), 1)
 
     def test_pipelined(self):

@@ -27,8 +27,8 @@ from typing import NamedTuple
 
 from answers import NUMBERS, Document, Machine, loads, meets, spelled
 from held import Held, empty_file, slot_bytes
-from levels import entry_of_add, entry_of_delete, journal, level
-from reading import HALF, HALVES, HEAD, LEVELS, NOTHING, PAYLOAD, SLOT, SLOTS, Add, Extent, NoIndex, Root, opened
+from levels import entry_of_add, entry_of_delete, entry_of_replace, journal, level
+from reading import HALF, HALVES, HEAD, LEVELS, NOTHING, OLD_PAYLOAD, SLOT, SLOTS, TEXTS, Add, Delete, Extent, NoIndex, Root, opened
 from segments import SMALL, Broken, damaged, segment, stream
 
 LIMIT = 10  # seconds that a run may take
@@ -186,6 +186,7 @@ class OpenedMachine(Machine):
         """Applies an entry of the journal."""
         if not isinstance(entry, Add):
             self.leave_out(entry.number)
+        if isinstance(entry, Delete):
             return
         self.put(Document(self.next_number, entry.name.decode(), entry.title, entry.body))
         self.next_number += 1
@@ -340,6 +341,7 @@ NEWEST = [
     entry_of_delete(5),
     entry_of_add("d", "red\x7ffox", "again\tfox"),
 ]
+REPLACED = [*NEWEST, entry_of_replace(10, "h", "fox", "quick dog")]
 OLDER = [entry_of_add("old", "", "fox"), entry_of_delete(1)]
 
 
@@ -349,13 +351,13 @@ def both_slots():
     body, extents = place_parts([stream(ends), level(OLD), level(NEW)], [3, 7, 40])
     root = Root(0, 9, 600, extents[0], extents[1:])
     before = Root(255, 4, 100, Extent(extents[2].place - 30, 20), extents[1:2])
-    return index_of("both slots", [(root, True), (before, True)], [NEWEST, OLDER], body, root)
+    return index_of("both slots", [(root, True), (before, True)], [REPLACED, OLDER], body, root)
 
 
 def one_slot():
-    """Slot B counts alone; behind the closed gate of slot A stands a root that would count if it were open."""
+    """Slot B counts alone, with version 1; behind the closed gate of slot A stands a root that would count if it were open."""
     body, extents = place_parts([b"", level(OLD), level(NEW)], [0, 0, 0])
-    root = Root(7, 9, 600, NOTHING, extents[1:])
+    root = Root(7, 9, 600, NOTHING, extents[1:], version=1)
     to_come = Root(8, 4, 100, Extent(HEAD + 5, 1), extents[1:2])
     return index_of("one slot", [(to_come, False), (root, True)], [OLDER[:1], NEWEST], body, root)
 
@@ -483,9 +485,9 @@ def try_table(trial):
 # ---- journals and roots at their bounds
 
 
-def journal_index(slot, entries, next_number=1):
+def journal_index(slot, entries, next_number=1, version=2):
     """An index without levels whose journal has these payloads."""
-    root = Root(3, next_number, 1, NOTHING, [])
+    root = Root(3, next_number, 1, NOTHING, [], version)
     slots = [(root, True), (Root(2, 1, 1, NOTHING, []), True)]
     halves = [entries, OLDER[:1]]
     if slot == 1:
@@ -500,16 +502,31 @@ def add_of(length, name="a"):
 
 def filled(slot, left):
     """An index whose records leave so many bytes of the half."""
-    payloads = [add_of(PAYLOAD, f"{i}") for i in range(15)]
+    payloads = [add_of(OLD_PAYLOAD, f"{i}") for i in range(15)]
     rest = HALF - sum(5 + len(payload) for payload in payloads) - left
     return journal_index(slot, payloads + [add_of(rest - 5)])[: HEAD + (left == 0)]
+
+
+def edges_of_versions(slot):
+    """Whole files and damages at the bounds of what a record may be under a root of each version."""
+    for version in (1, 2):
+        for length in (OLD_PAYLOAD - 1, OLD_PAYLOAD, OLD_PAYLOAD + 1, TEXTS + 9, TEXTS + 10, TEXTS + 11):
+            entries = [add_of(length), *OLDER[:1]]
+            yield f"a payload of {length} bytes under version {version}", journal_index(slot, entries, version=version)
+        for number, name in ((1, "old"), (2, "old"), (1, "other"), (0, "other")):
+            entries = [OLDER[0], entry_of_replace(number, name, "", "red")]
+            yield f"a replace of {name} {number} under version {version}", journal_index(slot, entries, version=version)
+    for length in (TEXTS - 4, TEXTS - 3, TEXTS - 2):
+        yield f"a replace with a body of {length} bytes", journal_index(slot, [OLDER[0], entry_of_replace(1, "old", "", "y" * length)])
+    replace = entry_of_replace(1, "old", "", "red")
+    for payload in (replace[:1], replace[:9], replace[:-1], replace + b"y", b"\4" + replace[1:]):
+        yield f"a payload of {payload.hex()} behind an add", journal_index(slot, [OLDER[0], payload])
 
 
 def edges():
     """Damages and whole files at the bounds of records, halves and roots."""
     for slot in (0, 1):
-        for length in (PAYLOAD - 1, PAYLOAD, PAYLOAD + 1):
-            yield f"a payload of {length} bytes", journal_index(slot, [add_of(length), *OLDER[:1]])
+        yield from edges_of_versions(slot)
         for length in (1, 64, 65):
             yield f"a name of {length} bytes", journal_index(slot, [entry_of_add("n" * length, "", "fox")])
         for payload in (b"", b"\1", b"\2", b"\0", OLDER[0][:-1], OLDER[0] + b"y", OLDER[1][:-1], OLDER[1] + b"\0"):
@@ -522,6 +539,7 @@ def edges():
         for number in (2**32 - 2, 2**32 - 1, 2**32, 2**32 + 1):
             yield f"the next number {number}", journal_index(slot, [], number)
             yield f"an add at the next number {number}", journal_index(slot, OLDER[:1], number)
+            yield f"a replace behind it at the next number {number}", journal_index(slot, [OLDER[0], entry_of_replace(number, "old", "", "")], number)
         for left in range(8):
             content = filled(slot, left)
             yield f"{left} bytes left of a half", content
@@ -620,7 +638,8 @@ def invented_entries(chance, count, next_number):
     names = "abcdefghijklmnopqrstuvwxyz"
     adds = [entry_of_add(chance.choice(names), "", "red fox") for _ in range(count)]
     deletes = [entry_of_delete(chance.randrange(1, next_number + 2)) for _ in range(count)]
-    return chance.sample(adds + deletes, count)
+    replaces = [entry_of_replace(chance.randrange(1, next_number + 2), chance.choice(names), "", "dog") for _ in range(count)]
+    return chance.sample(adds + deletes + replaces, count)
 
 
 def invented_index(chance):
@@ -641,7 +660,8 @@ def invented_index(chance):
     body, extents = place_parts(parts, [chance.randrange(9) for _ in parts])
     next_number = number + chance.choice([1] * 12 + [0, 2, 300])
     root = Root(chance.randrange(256), next_number, location + chance.choice([1] * 12 + [0, 2, 300]), extents[-1], extents[:-1])
-    other = Root((root.sequence + chance.choice([-1] * 12 + [0, 1, 2])) % 256, 1, 1, NOTHING, [])
+    root = root._replace(version=chance.choice([1, 2, 2]))
+    other = Root((root.sequence + chance.choice([-1] * 12 + [0, 1, 2])) % 256, 1, 1, NOTHING, [], chance.choice([1, 2]))
     entries = [invented_entries(chance, chance.choice([0, 0, 1, 2]), next_number) for _ in range(2)]
     slots = [(root, True), (other, chance.random() < 0.7)]
     if chance.random() < 0.5:

@@ -105,19 +105,17 @@ class Store:
 
     def reply(self, line):
         """The reply lines; the line is done first."""
-        if len(line) > 65_535:
+        if len(line) > 262_143:
             return ["! line too long"]
         word, blank, rest = line.decode().partition(" ")
         if word in ("flush", "merge", "step", "open", "fetch", "close") and DO.get("old"):
             return ["! unknown command"]
         if word == "add":
-            name = rest.split("\t")[0]
-            if name in self.documents:
-                return ["! name taken"]
+            before = self.documents.get(rest.split("\t")[0])
             if self.stored >= DO.get("room", 1 << 32):
                 end(8)
             self.commit(line)
-            return [f"added {self.stored}"]
+            return [f"replaced {before[0]} by {self.stored}" if before else f"added {self.stored}"]
         if word == "delete":
             if rest not in self.documents:
                 return ["! no such document"]

@@ -11,8 +11,8 @@ from bisect import bisect_right
 from typing import NamedTuple
 
 from answers import cells_of
-from levels import entry_of_add, entry_of_delete
-from reading import HALF, HALVES, HEAD, LEVELS, NOTHING, OPEN, SLOT, SLOTS, Add, Delete, Extent, Root, opened
+from levels import entry_of_add, entry_of_delete, entry_of_replace
+from reading import HALF, HALVES, HEAD, LEVELS, NOTHING, OLD_PAYLOAD, OPEN, SLOT, SLOTS, Add, Delete, Extent, Replace, Root, opened
 from segments import Row, segment, stream
 
 GATE = bytes([OPEN])
@@ -93,15 +93,15 @@ class Job(NamedTuple):
 def slot_bytes(root, is_open=True):
     """A slot with this root."""
     extents = [root.deletions, *root.levels]
-    fields = bytes([1, root.sequence, len(root.levels), 0, 0, 0, 0])
+    fields = bytes([root.version, root.sequence, len(root.levels), 0, 0, 0, 0])
     fields += b"".join(number.to_bytes(8, "big") for number in (root.next_number, root.next_location))
     fields += b"".join(number.to_bytes(8, "big") for extent in extents for number in extent)
     return ((GATE if is_open else CLOSED) + fields).ljust(SLOT, b"\0")
 
 
-def empty_file():
-    """The file that `init` makes."""
-    return slot_bytes(Root(0, 1, 1, NOTHING, [])).ljust(HEAD, b"\0")
+def empty_file(version=2):
+    """The file that `init` makes, or that it made with this version."""
+    return slot_bytes(Root(0, 1, 1, NOTHING, [], version)).ljust(HEAD, b"\0")
 
 
 def first_gap(taken, length):
@@ -118,14 +118,21 @@ def entry_of(made):
     """An entry that `answers.Machine` says a line made."""
     if made[0] == "delete":
         return Delete(made[1])
-    _, name, title, body = made
-    return Add(name.encode(), title, body)
+    *kind, name, title, body = made
+    texts = name.encode(), title, body
+    return Add(*texts) if kind == ["add"] else Replace(kind[1], *texts)
 
 
 def payload_of(entry):
     if isinstance(entry, Delete):
         return entry_of_delete(entry.number)
-    return entry_of_add(entry.name.decode(), entry.title, entry.body)
+    texts = entry.name.decode(), entry.title, entry.body
+    return entry_of_replace(entry.number, *texts) if isinstance(entry, Replace) else entry_of_add(*texts)
+
+
+def is_old(entry):
+    """Whether a root of version 1 may have the entry in its journal."""
+    return not isinstance(entry, Replace) and len(payload_of(entry)) <= OLD_PAYLOAD
 
 
 class Held:
@@ -139,6 +146,7 @@ class Held:
         self.job = None
         self.is_ascii = True  # else the words of the newest documents are not known
         self.unasked, self.most = 0, len(self.levels)  # flushes by a full journal, and the greatest number of levels
+        self.raised = 0  # switches to the last version, before an entry that the version before can't have
         self.empty_journal()
         for entry in found.entries:
             self.enter(entry)
@@ -163,8 +171,9 @@ class Held:
         """Takes an entry that stands at the tail of the journal."""
         self.entries.append(entry)
         self.tail += 5 + len(payload_of(entry))
-        if isinstance(entry, Delete):
+        if not isinstance(entry, Add):
             self.deleted.add(entry.number)
+        if isinstance(entry, Delete):
             return
         self.is_ascii = self.is_ascii and (entry.title + entry.body).isascii()
         cells = cells_of(entry.name.decode(), entry.title, entry.body)
@@ -172,9 +181,13 @@ class Held:
         self.newest.append((Row(number, first, first + len(cells) - 1, entry.name, 0), cells))
 
     def append(self, entry):
-        """Writes a record, behind a flush where it does not fit."""
+        """Writes a record: behind a root of the last version, where the one that counts can't have it, or behind a flush, where it
+        does not fit."""
         payload = payload_of(entry)
-        if self.tail - HALVES[self.slot] + len(payload) + 6 > HALF:
+        if self.root.version == 1 and not is_old(entry):
+            self.write()
+            self.raised += 1
+        elif self.tail - HALVES[self.slot] + len(payload) + 6 > HALF:
             self.flush()
             self.unasked += 1
         self.put(self.tail, GATE + len(payload).to_bytes(4, "big") + payload + CLOSED)
@@ -245,8 +258,11 @@ class Held:
     # -- the lines that work on levels
 
     def flush(self):
-        if not self.entries:
-            return
+        if self.entries:
+            self.write()
+
+    def write(self):
+        """What a flush writes, and a raise of the root also where the journal is empty."""
         if len(self.levels) < LEVELS or not self.live_newest():
             self.switch(self.with_newest(self.levels))
             return

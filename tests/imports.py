@@ -14,6 +14,7 @@ import faulthandler
 import glob
 import gzip
 import io
+import itertools
 import json
 import mailbox
 import os
@@ -120,7 +121,7 @@ class Case(unittest.TestCase):
                 if word == "add":
                     number += 1
                     name, title, body = rest.split("\t", 2)
-                    self.assertNotIn(name, documents)
+                    documents.pop(name, None)
                     documents[name] = (number, title, body)
                 else:
                     del documents[rest]
@@ -221,7 +222,7 @@ class Folders(Case):
         self.assertEqual(self.stored()["007.txt"], (22 - 1, "007.txt", "another text"))
         # What the index has lost is said, and brought in again.
         content = self.read(self.path)
-        self.write("x.alta", b"".join(content.splitlines(True)[:-3]))
+        self.write("x.alta", b"".join(content.splitlines(True)[:-2]))
         said = self.run_script("folder.py", self.path, notes)
         self.assertIn("the index has lost the documents 21 to 22 since the last run", said)
         self.assertIn("1 added, 1 added again, 19 unchanged", said)
@@ -311,8 +312,8 @@ class Folders(Case):
         self.write("notes/001.txt", "a new text")
         said = self.run_script("folder.py", self.path, notes, do={"room": 3}, expect=3)
         self.assertIn("1 document not stored, the first of them 001.txt\n", said)
-        self.assertIn("001.txt: its older text is deleted, and the new one is not stored", said)
-        self.assertIn("1 added, 2 unchanged", self.run_script("folder.py", self.path, notes))
+        self.assertEqual(self.bodies()["001.txt"], "text 1")
+        self.assertIn("0 added, 1 changed, 2 unchanged", self.run_script("folder.py", self.path, notes))
         self.assertEqual(self.bodies()["001.txt"], "a new text")
 
     def test_a_program_that_is_killed(self):
@@ -330,19 +331,41 @@ class Folders(Case):
             self.assertIn("199 added, 1 added again, 100 unchanged" if done else "200 added, 100 unchanged", said)
             self.assertEqual(self.bodies(), {f"{i:03}.txt": f"text {i}" for i in range(300)})
 
-    def test_a_stop_between_delete_and_add(self):
+    def test_a_stop_at_a_changed_document(self):
         notes = self.notes(3)
         self.run_script("folder.py", self.path, notes)
         self.write("notes/001.txt", "a new text")
-        for end, done, left in [(3, False, 3), (3, True, 2), (4, False, 2), (4, True, 3)]:
-            with self.subTest(end=end, done=done):
+        for done in (False, True):
+            with self.subTest(done=done):
                 before = {path: self.read(path) for path in (self.path, self.path + ".stamps")}
-                said = self.run_script("folder.py", self.path, notes, do={"end": [end, -9], "done": done}, expect=3)
-                self.assertIn("1 document not stored", said)
-                self.assertEqual("its older text is deleted" in said, end == 4)
-                self.assertEqual(len(self.stored()), left)
+                said = self.run_script("folder.py", self.path, notes, do={"end": [3, -9], "done": done}, expect=3)
+                self.assertIn("1 document not stored, the first of them 001.txt (which may be stored", said)
+                self.assertEqual(self.bodies()["001.txt"], "a new text" if done else "text 1")
+                self.assertEqual(len(self.stored()), 3)
                 self.run_script("folder.py", self.path, notes)
                 self.assertEqual(self.bodies(), {"000.txt": "text 0", "001.txt": "a new text", "002.txt": "text 2"})
+                for path, content in before.items():
+                    self.write(path, content)
+
+    def test_a_stop_at_a_document_in_parts(self):
+        # Two parts in place of three: the first two are replaced, and then the third is deleted.
+        self.write("notes/long", "old " * (LINE_LIMIT * 5 // 8))
+        self.run_script("folder.py", self.path, self.at("notes"))
+        self.assertEqual(sorted(self.stored()), ["long", "long~p2", "long~p3"])
+        self.write("notes/long", "new " * (LINE_LIMIT * 3 // 8))
+        for end, done in itertools.product((3, 4, 5), (False, True)):
+            with self.subTest(end=end, done=done):
+                before = {path: self.read(path) for path in (self.path, self.path + ".stamps")}
+                said = self.run_script("folder.py", self.path, self.at("notes"), do={"end": [end, -9], "done": done}, expect=3)
+                self.assertIn("1 document not stored, the first of them long (which may be stored", said)
+                self.assertEqual("long: some of its parts are stored, and the others are as they were" in said, end == 4)
+                bodies = self.bodies()
+                words = [bodies[name][:3] for name in sorted(bodies)]
+                self.assertEqual(words, {3: ["old"] * 3, 4: ["new", "old", "old"], 5: ["new", "new", "old"], 6: ["new"] * 2}[end + done])
+                self.run_script("folder.py", self.path, self.at("notes"))
+                bodies = self.bodies()
+                self.assertEqual(sorted(bodies), ["long", "long~p2"])
+                self.assertEqual({body[:3] for body in bodies.values()}, {"new"})
                 for path, content in before.items():
                     self.write(path, content)
 

@@ -121,6 +121,8 @@ def script(chance, style, live):
             lines.append(f"delete {live.pop(chance.randrange(len(live)))}")
         else:
             name = f"{chance.randrange(1 << 40):x}.{number}"
+            if live and chance.random() < 0.3:
+                name = live.pop(chance.randrange(len(live)))
             live.append(name)
             lines.append(f"add {name}\t{text(chance, 4)}\t{text(chance, 25)}")
     return lines

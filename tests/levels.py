@@ -79,12 +79,16 @@ def entry_of_delete(number):
     return b"\x02" + number.to_bytes(8, "big")
 
 
+def entry_of_replace(number, name, title, body):
+    return b"\x03" + number.to_bytes(8, "big") + entry_of_add(name, title, body)[1:]
+
+
 def journal(entries):
     """The bytes of a half: records behind open gates, up to a closed one."""
     return b"".join(GATE + len(entry).to_bytes(4, "big") + entry for entry in entries) + b"\0"
 
 
-def index(slot, sequence, next_number, next_location, deleted, levels, entries, gaps):
+def index(version, slot, sequence, next_number, next_location, deleted, levels, entries, gaps):
     """The file with these levels and this list of deleted ends, with some unused bytes before each, and the places of the levels."""
     body, extents = b"", []
     for part, gap in zip([stream(deleted)] + levels, gaps):
@@ -94,7 +98,7 @@ def index(slot, sequence, next_number, next_location, deleted, levels, entries, 
         body += b"\xee" * gap
         extents.append((HEAD + len(body), len(part)))
         body += part
-    fields = bytes([1, sequence, len(levels), 0, 0, 0, 0]) + next_number.to_bytes(8, "big") + next_location.to_bytes(8, "big")
+    fields = bytes([version, sequence, len(levels), 0, 0, 0, 0]) + next_number.to_bytes(8, "big") + next_location.to_bytes(8, "big")
     fields += b"".join(number.to_bytes(8, "big") for extent in extents for number in extent)
     root = (GATE + fields).ljust(SLOT, b"\0")
     # the other slot has the root before, without levels, and the other half what no longer counts
@@ -130,10 +134,12 @@ def asking(pages):
 
 
 def made(chance, count):
-    """Changes, as (name, title, body) of an add and the name of a delete; a name is used again once it is free."""
+    """Changes, as (name, title, body) of an add and the name of a delete; a name is used again once it is free, and now and then before."""
     changes, live, free = [], [], []
     for i in range(count):
         name = free.pop() if free and chance.random() < 0.5 else f"d{i}"
+        if live and chance.random() < 0.2:
+            name = live.pop(chance.randrange(len(live)))
         texts = [" ".join(chance.choice(WORDS) for _ in range(chance.randrange(n))) for n in (4, 60)]
         changes.append((name, *texts))
         live.append(name)
@@ -145,17 +151,20 @@ def made(chance, count):
 
 
 def split(chance, changes, count):
-    """The index after these changes, the first `count` of them in levels or in the deletion list, the others in the journal."""
+    """The index after these changes, the first `count` of them in levels or in the deletion list, the others in the journal. Under a
+    root of version 1 a delete and an add stand for a replace."""
+    version = chance.choice([1, 2])
     documents, numbers, deleted, entries = [], {}, [], []
     location = 1
     for i, change in enumerate(changes):
+        before = numbers.pop(change if isinstance(change, str) else change[0], None)
+        replaces = before is not None and i >= count and version == 2 and not isinstance(change, str)
+        if before is not None and i < count:
+            first, *texts = next(d[1:] for d in documents if d[0] == before)
+            deleted.append(first + len(cells_of(*texts)) - 1)
+        elif before is not None and not replaces:
+            entries.append(entry_of_delete(before))
         if isinstance(change, str):
-            number = numbers.pop(change)
-            if i < count:
-                first, name, title, body = next(d[1:] for d in documents if d[0] == number)
-                deleted.append(first + len(cells_of(name, title, body)) - 1)
-            else:
-                entries.append(entry_of_delete(number))
             continue
         number = sum(not isinstance(c, str) for c in changes[: i + 1])
         numbers[change[0]] = number
@@ -163,7 +172,7 @@ def split(chance, changes, count):
             documents.append((number, location, *change))
             location += len(cells_of(*change))
         else:
-            entries.append(entry_of_add(*change))
+            entries.append(entry_of_replace(before, *change) if replaces else entry_of_add(*change))
     cuts = sorted(chance.sample(range(1, len(documents)), min(chance.choice([0, 1, 2, 4, 15]), len(documents) - 1)))
     groups = [documents[a:b] for a, b in zip([0] + cuts, cuts + [len(documents)])]
     # a deleted document may have been left out when its level was written
@@ -173,7 +182,7 @@ def split(chance, changes, count):
     ends = sorted(set(deleted) - left_out)
     slot, sequence = chance.randrange(2), chance.randrange(256)
     gaps = [chance.randrange(3) * 7 for _ in range(len(levels) + 1)]
-    return index(slot, sequence, len(documents) + 1, location, ends, levels, entries, gaps) + (levels,)
+    return index(version, slot, sequence, len(documents) + 1, location, ends, levels, entries, gaps) + (levels,)
 
 
 def compare(program, folder, chance):

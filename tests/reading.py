@@ -18,7 +18,9 @@ OPEN = 0xA5
 LEVELS = 16
 NUMBERS = 2**32
 CELLS = 262146
-PAYLOAD = 65600
+VERSIONS = (1, 2)
+OLD_PAYLOAD = 65600  # bytes of a payload under a root of version 1
+TEXTS = 262137  # bytes of a name, a title and a body together
 
 
 class NoIndex(Exception):
@@ -41,6 +43,7 @@ class Root(NamedTuple):
     next_location: int
     deletions: Extent
     levels: list[Extent]
+    version: int = 2
 
 
 class Add(NamedTuple):
@@ -51,6 +54,13 @@ class Add(NamedTuple):
 
 class Delete(NamedTuple):
     number: int
+
+
+class Replace(NamedTuple):
+    number: int
+    name: bytes
+    title: str
+    body: str
 
 
 class Opened(NamedTuple):
@@ -91,7 +101,7 @@ def read_extent(content, at, least, before):
 
 def read_slot(content, start):
     """The root behind the open gate of a slot."""
-    rule(content[start + 1] == 1, start + 1)
+    rule(content[start + 1] in VERSIONS, start + 1)
     levels = content[start + 3]
     rule(levels <= LEVELS, start + 3)
     rule(content[start + 4 : start + 8] == bytes(4), start + 4)
@@ -104,7 +114,7 @@ def read_slot(content, start):
     extents = [deletions]
     for index in range(levels):
         extents.append(read_extent(content, start + 40 + 16 * index, 32, extents))
-    return Root(content[start + 2], next_number, next_location, deletions, extents[1:])
+    return Root(content[start + 2], next_number, next_location, deletions, extents[1:], content[start + 1])
 
 
 def read_roots(content):
@@ -186,30 +196,39 @@ def text_of(payload, at, breaks):
     return text, end
 
 
-def read_entry(payload):
-    """The entry of a payload; where it breaks a rule is not told."""
-    rule(payload[:1] in (b"\1", b"\2"), 0)
-    if payload[0] == 2:
-        rule(len(payload) == 9, 0)
-        return Delete(fixed(payload, 1, 8))
-    rule(2 <= len(payload) <= PAYLOAD, 0)
-    length = payload[1]
-    name = payload[2 : 2 + length]
+def read_texts(fields):
+    """The name, the title and the body of an entry."""
+    rule(len(fields) >= 1, 0)
+    length = fields[0]
+    name = fields[1 : 1 + length]
     rule(1 <= length <= 64 and len(name) == length and all(0x21 <= byte <= 0x7E for byte in name), 0)
-    title, at = text_of(payload, 2 + length, "\n\t")
-    body, at = text_of(payload, at, "\n")
-    rule(at == len(payload), 0)
-    return Add(name, title, body)
+    title, at = text_of(fields, 1 + length, "\n\t")
+    body, at = text_of(fields, at, "\n")
+    rule(at == len(fields) and at - 9 <= TEXTS, 0)
+    return name, title, body
 
 
-def read_records(content, half):
+def read_entry(payload, version):
+    """The entry of a payload under a root of this version; where it breaks a rule is not told."""
+    rule(version != 1 or payload[:1] in (b"\1", b"\2") and len(payload) <= OLD_PAYLOAD, 0)
+    if payload[:1] == b"\1":
+        return Add(*read_texts(payload[1:]))
+    rule(payload[:1] in (b"\2", b"\3") and len(payload) >= 9, 0)
+    number = fixed(payload, 1, 8)
+    if payload[0] == 3:
+        return Replace(number, *read_texts(payload[9:]))
+    rule(len(payload) == 9, 0)
+    return Delete(number)
+
+
+def read_records(content, half, version):
     """The entries of a half with the places of their gates, and the place of the closed gate behind them."""
     entries, gate = [], half
     while content[gate] == OPEN:
         length = fixed(content, gate + 1, 4)
         rule(gate + 5 + length < half + HALF, gate + 1)
         try:
-            entries.append((gate, read_entry(content[gate + 5 : gate + 5 + length])))
+            entries.append((gate, read_entry(content[gate + 5 : gate + 5 + length], version)))
         except Broken:
             raise Broken(gate + 5) from None
         gate += 5 + length
@@ -220,8 +239,9 @@ def apply_entries(entries, names, next_number):
     """Tests each entry against the documents before it."""
     names = dict(names)
     for gate, entry in entries:
-        if isinstance(entry, Add):
-            rule(entry.name not in names and next_number < NUMBERS, gate + 5)
+        if not isinstance(entry, Delete):
+            before = entry.number if isinstance(entry, Replace) else None
+            rule(names.get(entry.name) == before and next_number < NUMBERS, gate + 5)
             names[entry.name] = next_number
             next_number += 1
             continue
@@ -237,6 +257,6 @@ def opened(content):
     levels, names = read_levels(content, root, set(ends))
     ends_of_levels = {row.last for level in levels for row in level.rows}
     rule(all(end in ends_of_levels for end in ends), root.deletions.place)
-    entries, tail = read_records(content, HALVES[slot])
+    entries, tail = read_records(content, HALVES[slot], root.version)
     apply_entries(entries, names, root.next_number)
     return Opened(slot, root, levels, ends, [entry for _, entry in entries], tail)

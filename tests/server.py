@@ -103,8 +103,8 @@ class Lines(Case):
                 self.assertIsNone(index.flush())
                 self.assertIsNone(index.step(10))
                 self.assertIsNone(index.merge())
-            with self.assertRaises(buncocedar.NameTaken):
-                other.add("a", "", "")
+            with self.assertRaises(buncocedar.NoSuchDocument):
+                other.delete("zz")
             with self.assertRaises(buncocedar.QueryFault) as raised:
                 one.search("fault 8 Paren )")
             self.assertEqual((raised.exception.place, raised.exception.cause), (8, "Paren"))
@@ -171,8 +171,8 @@ class Lines(Case):
             (b"what", b"! unknown command"),
             (b"\xff", b"! not UTF-8"),
             (b"", b"! unknown command"),
-            (b"search " + b"x" * 65_528, b"found 0"),
-            (b"search " + b"x" * 65_529, b"! line too long"),
+            (b"search " + b"x" * 262_136, b"found 0"),
+            (b"search " + b"x" * 262_137, b"! line too long"),
             (b"add b\t\t" + b"x" * 1_000_000, b"! line too long"),
             (b"count x", b"found 1"),
         ]:
@@ -203,8 +203,8 @@ class Lines(Case):
         connection.sendall(b"\n".join(lines) + b"\n")
         connection.shutdown(socket.SHUT_WR)
         replies = connection.makefile("rb").read().split(b"\n")
-        self.assertEqual(replies[100:103], [b"found 34", b"! name taken", b"cursor 1"])
-        self.assertEqual(replies[302:], [b"1 n1", b"3 n4", b"more", b"documents 101 words 101 next 201", b""])
+        self.assertEqual(replies[100:103], [b"found 34", b"replaced 1 by 68", b"cursor 1"])
+        self.assertEqual(replies[302:], [b"3 n4", b"5 n7", b"more", b"documents 101 words 101 next 202", b""])
         self.assertTrue(all(reply.startswith((b"added", b"deleted")) for reply in replies[:100] + replies[103:302]))
 
     def test_refusals_of_the_program(self):

@@ -168,7 +168,7 @@ def refusals(scripts, chance):
             continue
         except Broken as fault:
             put(old, bytes(broken))
-            refused(f"damaged at {fault.place}" if at != 1 else "its version is 65")
+            refused(f"damaged at {fault.place}" if at != 1 else "its version is 66")
     put(old, bytes(content))
     os.remove(old)
     refused("No such file")

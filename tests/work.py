@@ -3,12 +3,14 @@
 
 usage: tests/work.py [--program PATH] [--seconds S] [--seed N]
 
-Each round makes an index, and runs scripts of adds, deletes, flushes, merges, steps, searches, cursors and stats over it. Each
+Each round makes an index, now and then one of version 1, as programs made it before, and runs scripts of adds, replaces, deletes,
+flushes, merges, steps, searches, cursors and stats over it. Each
 reply has to be that of `answers.py`, which tries each document, also between the slices of a join. Behind each run the file has
 to be the one of `held.py`, which works on levels as docs/FORMAT.md says: what is written anew stands at the first gap that holds
 it, the levels in their order and then the deletion list, all else stays where it was, and a join in progress ends with its run.
 Some rounds fill the journal, one of them three times in two runs, so that an add or a delete flushes first; some have as many levels as a root may, so that a flush
-joins the oldest two, by the join in progress or by a new one. Ends with status 0 where all of that holds.
+joins the oldest two, by the join in progress or by a new one. A root of version 1 is raised before the first replace or long text.
+Ends with status 0 where all of that holds.
 """
 
 import argparse
@@ -44,6 +46,7 @@ def where(held, file):
         return f"is damaged at {broken.place}"
     pairs = {
         "slot": (found.slot, held.slot),
+        "version": (found.root.version, held.root.version),
         "sequence": (found.root.sequence, held.root.sequence),
         "next number": (found.root.next_number, held.root.next_number),
         "next location": (found.root.next_location, held.root.next_location),
@@ -61,12 +64,16 @@ def where(held, file):
 class Round:
     """One index, and the runs over it."""
 
-    def __init__(self, program, path):
+    def __init__(self, program, path, version=2):
         self.program, self.path = program, path
         self.machine = Machine(QUERIES)
         self.lines, self.runs, self.done = [], 0, dict.fromkeys(COUNTED, 0)
-        subprocess.run([program, path, "init"], check=True)
-        self.held = Held(empty_file())
+        if version == 2:
+            subprocess.run([program, path, "init"], check=True)
+        else:
+            with open(path, "wb") as file:
+                file.write(empty_file(version))
+        self.held = Held(empty_file(version))
         self.compare()
 
     def fail(self, message):
@@ -127,6 +134,7 @@ STYLES = [
     # the journal is full before it is flushed
     Style(works=0.01, joins=0.3, merges=0.3, deletes=0.1, large=60000, lines=40),
     Style(works=0.03, joins=0.5, merges=0.1, deletes=0.5, large=65400, lines=90),
+    Style(works=0.03, joins=0.5, merges=0.1, deletes=0.2, large=262000, lines=20),
     # a root with as many levels as it may have
     Style(works=0.45, joins=0, merges=0, deletes=0.2, large=0, lines=90),
     Style(works=0.45, joins=0.1, merges=0.05, deletes=0.2, large=0, lines=90),
@@ -136,7 +144,7 @@ STYLES = [
 
 
 def change(chance, style):
-    """An add or a delete. A large text is one word that is too long to be found, so that it fills the journal alone."""
+    """An add, of a name that is live or not, or a delete. A large text is one word that is too long to be found, so that it fills the journal alone."""
     name = chance.choice(NAMES)
     if chance.random() < style.deletes:
         return f"delete {name}"
@@ -196,13 +204,29 @@ STEADY = [
 ]
 
 
-def steady(path, program, runs, levels):
-    """These runs over a new index, and how many levels stand behind them."""
-    tried = Round(program, path)
+LONG = f"add l\tred\t{'y' * 65600}"
+# the same over an index of version 1, with the number of levels and how often its root was raised
+RAISED = [
+    # short adds and deletes stay under version 1, and a flush leaves version 2
+    ([[FIRST, SECOND], ["delete a", "add c\t\tred", "count red"]], 0, 0),
+    ([[FIRST, "flush", FIRST, "count red"]], 1, 0),
+    # a replace, and a long text, with entries in the journal, with none, and with none that is live
+    ([[FIRST, "add a\t\tblue", "count fox", "search red", "stats"]], 1, 1),
+    ([[LONG, "count red", "delete l"]], 0, 1),
+    ([[FIRST, LONG, "count red"], [LONG, "count red"]], 1, 1),
+    ([[FIRST, "delete a", LONG, FIRST, FIRST]], 0, 1),
+]
+
+
+def steady(path, program, runs, levels, version=2, raised=0):
+    """These runs over a new index, how many levels stand behind them, and how often its root was raised."""
+    tried = Round(program, path, version)
     for lines in runs:
         tried.run(lines)
     if len(tried.held.levels) != levels:
         tried.fail(f"{len(tried.held.levels)} levels stand in place of {levels}")
+    if tried.held.raised != raised:
+        tried.fail(f"the root was raised {tried.held.raised} times in place of {raised}")
     return tried
 
 
@@ -223,24 +247,25 @@ def three_halves():
 
 def try_round(path, program, chance, style):
     """Some runs over a new index."""
-    tried = Round(program, path)
+    tried = Round(program, path, chance.choice([1, 2, 2]))
     for _ in range(chance.randrange(2, 6)):
         tried.run(script(chance, style))
     return tried
 
 
 class Sums:
-    """What was tried: indexes, runs, lines that changed levels or moved a join on, flushes by a full journal, and the greatest
-    number of levels."""
+    """What was tried: indexes, runs, lines that changed levels or moved a join on, flushes by a full journal, raised roots, and the
+    greatest number of levels."""
 
     def __init__(self):
-        self.indexes = self.runs = self.unasked = self.levels = 0
+        self.indexes = self.runs = self.unasked = self.raised = self.levels = 0
         self.done = dict.fromkeys(COUNTED, 0)
 
     def add(self, tried):
         self.indexes += 1
         self.runs += tried.runs
         self.unasked += tried.held.unasked
+        self.raised += tried.held.raised
         self.levels = max(self.levels, tried.held.most)
         for word in COUNTED:
             self.done[word] += tried.done[word]
@@ -263,6 +288,9 @@ def main():
         for runs, levels in (*STEADY, *seventeen(), *three_halves()):
             sums.add(steady(path, program, runs, levels))
             os.remove(path)
+        for runs, levels, raised in RAISED:
+            sums.add(steady(path, program, runs, levels, 1, raised))
+            os.remove(path)
         stop = time.monotonic() + options.seconds
         while time.monotonic() < stop:
             sums.add(try_round(path, program, chance, STYLES[sums.indexes % len(STYLES)]))
@@ -270,7 +298,7 @@ def main():
     done = ", ".join(f"{count} by a {word}" for word, count in sums.done.items())
     print(
         f"work: {sums.indexes} indexes hold what the lines of {sums.runs} runs say, with work {done}, {sums.unasked} by a full "
-        f"journal, {sums.levels} levels at most (seed {seed})"
+        f"journal, {sums.raised} by a raise of the root, {sums.levels} levels at most (seed {seed})"
     )
 
 

@@ -56,7 +56,6 @@ __all__ = [
     "InputFault",
     "InputTooLong",
     "LineTooLong",
-    "NameTaken",
     "NoFile",
     "NoIndex",
     "NoNumbersLeft",
@@ -81,7 +80,7 @@ __all__ = [
 Document = Tuple[str, str, str]  # name, title and body
 Row = Tuple[int, str]  # number and name
 
-LINE_LIMIT = 65_535  # bytes of a command line
+LINE_LIMIT = 262_143  # bytes of a command line
 TITLE_ROOM = 4_096  # bytes that a title keeps where its line is cut
 MOST_VALUE = 4_294_967_295  # that a range of values may name
 LINES_UNDER_WAY = 64  # lines without a reply, at most
@@ -93,7 +92,7 @@ SECONDS_TO_END = 5  # that a program has to end, once it can read no more lines
 
 _NAME = re.compile(r"[!-~]{1,64}")
 _NUMBER = r"(0|[1-9][0-9]*)"
-_ADDED = re.compile(f"added {_NUMBER}")
+_ADDED = re.compile(f"added {_NUMBER}|replaced {_NUMBER} by {_NUMBER}")
 _DELETED = re.compile(f"deleted {_NUMBER}")
 _ROW = re.compile(f"{_NUMBER} ([!-~]{{1,64}})")
 _FOUND = re.compile(f"found {_NUMBER}")
@@ -131,7 +130,7 @@ class Refused(Error):
 
 
 class LineTooLong(Refused):
-    """The line has more than 65,535 bytes; `length` is how many, where this client refused it."""
+    """The line has more than 262,143 bytes; `length` is how many, where this client refused it."""
 
     length = None
 
@@ -150,10 +149,6 @@ class BadLine(Refused):
 
 class BadName(Refused):
     """The name is not 1 to 64 graphic ASCII bytes."""
-
-
-class NameTaken(Refused):
-    """A document has the name."""
 
 
 class NoNumbersLeft(Refused):
@@ -178,7 +173,6 @@ _REFUSALS = {
     "! unknown command": UnknownCommand,
     "! bad line": BadLine,
     "! bad name": BadName,
-    "! name taken": NameTaken,
     "! no numbers left": NoNumbersLeft,
     "! no such document": NoSuchDocument,
     "! too many cursors": TooManyCursors,
@@ -405,7 +399,7 @@ def disk_cause(path: str) -> Optional[str]:
 
 
 class ProtocolFault(Error):
-    """A reply that is none to its line: the program is another one, or a newer one. The index is closed then."""
+    """A reply that is none to its line: the program is another one, or an older or a newer one. The index is closed then."""
 
     def __init__(self, command, reply):
         super().__init__(f"{reply[:200]!r} is no reply to {command}")
@@ -464,7 +458,7 @@ def fitted(text: str, room: int) -> str:
 def add_line(name: str, title: str, body: str, cut: bool = False) -> Tuple[bytes, int]:
     """The line that adds a document, as bytes with its newline, and how many bytes of title and body were cut off.
 
-    Raises `BadName`, and `LineTooLong` where the line has more than 65,535 bytes. With `cut` such a line is cut at the end
+    Raises `BadName`, and `LineTooLong` where the line has more than 262,143 bytes. With `cut` such a line is cut at the end
     of a word instead: the title to 4,096 bytes, and the body to what is left.
     """
     if not name_ok(name):
@@ -535,8 +529,13 @@ def _printable(text):
 
 
 class Added(int):
-    """A document's number; `dropped` is how many bytes of its title and body were cut off."""
+    """A document's number.
 
+    `replaced` is the number of the document of its name before, or None. `dropped` is how many bytes of its title and body
+    were cut off.
+    """
+
+    replaced: Optional[int] = None
     dropped = 0
 
 
@@ -746,8 +745,10 @@ class Index:
     def add(self, name: str, title: str, body: str, cut: bool = False) -> Added:
         """Stores a document and answers its number, an `Added`: it is stored when this returns.
 
-        Tabs, newlines and carriage returns in title and body become spaces. Raises `BadName`, `NameTaken`, `NoNumbersLeft`,
-        and `LineTooLong` where the line is too long; with `cut` it is cut at a word's end, and `dropped` says how much.
+        It takes the place of the document of its name, where there is one, in one step: a stop leaves the one or the other.
+        `replaced` is that one's number, or None. Tabs, newlines and carriage returns in title and body become spaces. Raises
+        `BadName`, `NoNumbersLeft`, and `LineTooLong` where the line is too long; with `cut` it is cut at a word's end, and
+        `dropped` says how much.
         """
         return self.send_add(name, title, body, cut).result()
 
@@ -761,7 +762,8 @@ class Index:
         line = line[:-1]
 
         def made(last):
-            number = Added(last[1])
+            number = Added(last[1] or last[3])
+            number.replaced = last[2] and int(last[2])
             number.dropped = dropped
             return number
 

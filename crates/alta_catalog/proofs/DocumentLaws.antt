@@ -1,5 +1,5 @@
 -- Lists of documents whose numbers rise, and of which each is found by its name.
-use Rattle.std.proofs.Common.{◌≡◌, ℕ, ◌+◌, Bool, true, false, cond, not, Global, List, [], ◌∷◌, ◌++◌, refl, sym, ◌∙◌, ap, subst, arith, map}
+use Rattle.std.proofs.Common.{◌≡◌, ℕ, Bool, true, false, cond, not, Global, List, [], ◌∷◌, ◌++◌, refl, sym, ◌∙◌, ap, subst, arith, map}
 use Rattle.std.specs.Prelude.{◌||◌, ◌==◌, Option, Some, None, String, is_some, option_map}
 use Rattle.std.specs.List.{list_any, find, filter, All}
 use Rattle.std.specs.Map.{update}

@@ -6,7 +6,7 @@ use Rattle.std.proofs.lemmas.List.Sums.{sum_by-cons, sum_by_push}
 use Rattle.alta_content.specs.declared.document.DocRow.{DocRow}
 use Rattle.alta_images.specs.Work.{added_at, added_from}
 use Rattle.alta_journal.specs.declared.entry.Entry.{Entry}
-use Rattle.alta_journal.specs.declared.entry.Entry.TheVariants.{Add, Delete}
+use Rattle.alta_journal.specs.declared.entry.Entry.TheVariants.{Add, Delete, Replace}
 use Rattle.alta_memlevel.specs.Added.{Added, HasContent, LevelView}
 use Rattle.alta_memlevel.specs.Documents.{AreMade, IsMade}
 use Rattle.alta_meta.specs.Cells.{cells_of}
@@ -32,11 +32,40 @@ added_more n l (Add q t b ∷ entries) name title body =
     ∙ ap (λ m. one m ((l + length (cells_of q t b)) + cells_added more)) (omega arith)
     ∙ ap (λ k. one (n + length (a ∷ more)) k) (omega (arith, sum_by-cons (λ (x : Added). x.row.cells) a more))
 added_more n l (Delete m ∷ entries) name title body = added_more n l entries name title body
+added_more n l (Replace m q t b ∷ entries) name title body =
+    let a : Added = added_at n l q (cells_of q t b) in
+    let more = added_from (n + 1) (l + length (cells_of q t b)) entries in
+    let one : ℕ → ℕ → List Added = λ m k. (a ∷ more) ++ added_at m k name (cells_of name title body) ∷ [] in
+    ap (λ (xs : List Added). a ∷ xs) (added_more (n + 1) (l + length (cells_of q t b)) entries name title body)
+    ∙ ap (λ m. one m ((l + length (cells_of q t b)) + cells_added more)) (omega arith)
+    ∙ ap (λ k. one (n + length (a ∷ more)) k) (omega (arith, sum_by-cons (λ (x : Added). x.row.cells) a more))
 
 added_same : (n l : ℕ) (entries : List Entry) (number : ℕ) → added_from n l (entries ++ Delete number ∷ []) ≡ added_from n l entries
 added_same n l [] number = refl
 added_same n l (Add q t b ∷ entries) number = ap (λ (xs : List Added). added_at n l q (cells_of q t b) ∷ xs) (added_same (n + 1) (l + length (cells_of q t b)) entries number)
 added_same n l (Delete m ∷ entries) number = added_same n l entries number
+added_same n l (Replace m q t b ∷ entries) number = ap (λ (xs : List Added). added_at n l q (cells_of q t b) ∷ xs) (added_same (n + 1) (l + length (cells_of q t b)) entries number)
+
+-- a replace adds what a delete and an add do
+added_replaced : (n l : ℕ) (entries : List Entry) (number : ℕ) (name title body : List ℕ)
+    → added_from n l (entries ++ Replace number name title body ∷ []) ≡ added_from n l ((entries ++ Delete number ∷ []) ++ Add name title body ∷ [])
+added_replaced n l [] number name title body = refl
+added_replaced n l (Add q t b ∷ entries) number name title body = ap (λ (xs : List Added). added_at n l q (cells_of q t b) ∷ xs) (added_replaced (n + 1) (l + length (cells_of q t b)) entries number name title body)
+added_replaced n l (Delete m ∷ entries) number name title body = added_replaced n l entries number name title body
+added_replaced n l (Replace m q t b ∷ entries) number name title body = ap (λ (xs : List Added). added_at n l q (cells_of q t b) ∷ xs) (added_replaced (n + 1) (l + length (cells_of q t b)) entries number name title body)
+
+-- and so a catalog follows by a replace where it does by these two
+pub follows_replaced : (c : Catalog) (root : Root) (entries : List Entry) (number : ℕ) (name title body : List ℕ) → Follows c root ((entries ++ Delete number ∷ []) ++ Add name title body ∷ [])
+    → Follows c root (entries ++ Replace number name title body ∷ [])
+follows_replaced c root entries number name title body f =
+    let same : newest_of root ((entries ++ Delete number ∷ []) ++ Add name title body ∷ []) ≡ newest_of root (entries ++ Replace number name title body ∷ []) = sym (added_replaced root.next_number root.next_location entries number name title body) in
+    record {
+      first = f.first;
+      content = subst (λ (xs : List Added). HasContent xs c.memory.content) same f.content;
+      made = subst AreMade same f.made;
+      next = f.next ∙ ap (λ (xs : List Added). root.next_number + length xs) same;
+      location = f.location ∙ ap (λ (xs : List Added). root.next_location + cells_added xs) same;
+    }
 
 -- ---- a catalog
 

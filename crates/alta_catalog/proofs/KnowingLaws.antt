@@ -41,6 +41,7 @@ use Rattle.alta_content.proofs.Elements.{all_right}
 use Rattle.alta_images.specs.Known.{known_of}
 use Rattle.alta_images.proofs.KnownLaws.{ordered_allowed}
 use Rattle.alta_journal.specs.declared.entry.Entry.TheVariants.{Add}
+use Rattle.alta_journal.specs.declared.places.TheConstants.{TEXTS_BYTES}
 use Rattle.alta_memlevel.proofs.Cells.{cells_few, cells_long}
 
 -- the rows of the levels and of the level in memory are those of the documents
@@ -83,7 +84,7 @@ found_by known (e ∷ ds) d found has =
 
 -- ---- a document more
 -- how many cells a document has that an entry holds
-pub few_cells : (name title body : List ℕ) → IsUtf8 title → IsUtf8 body → length title + length body ≤ 65590 → (3 ≤ length (cells_of name title body)) × (length (cells_of name title body) ≤ 65593)
+pub few_cells : (name title body : List ℕ) → IsUtf8 title → IsUtf8 body → length title + length body ≤ TEXTS_BYTES → (3 ≤ length (cells_of name title body)) × (length (cells_of name title body) ≤ 262140)
 few_cells name title body text_title text_body short = (
   omega (arith, cells_long name title body),
   omega (arith, cells_few name title body text_title text_body, short),
@@ -143,11 +144,11 @@ module _ (c : Catalog) (s : State) (f : Knows c s) where
     ),
   )
 
-  module _ (new : Catalog) (name title body : List ℕ) (named : IsName name) (text_title : IsUtf8 title) (text_body : IsUtf8 body) (short : length title + length body ≤ 65590)
+  module _ (new : Catalog) (name title body : List ℕ) (named : IsName name) (text_title : IsUtf8 title) (text_body : IsUtf8 body) (short : length title + length body ≤ TEXTS_BYTES)
       (free : has_name name s ≡ false) (left : s.next < 4294967296)
       (cells : List (List (List ℕ))) (cells_are : cells ≡ cells_of name title body)
       (row : DocRow) (row_is : row ≡ record { number = c.next; first = c.location; cells = length cells; name = name }) where
-    long : (3 ≤ length cells) × (length cells ≤ 65593)
+    long : (3 ≤ length cells) × (length cells ≤ 262140)
     long = let few = few_cells name title body text_title text_body short in (omega (arith, few.0, ap (λ (l : List (List (List ℕ))). length l) cells_are), omega (arith, few.1, ap (λ (l : List (List (List ℕ))). length l) cells_are))
 
     abbrev a : Added

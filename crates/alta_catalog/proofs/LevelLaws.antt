@@ -1,11 +1,10 @@
 -- What a catalog knows once other levels stand in place of its own.
 use Rattle.std.proofs.Common.{◌≡◌, ⊎_elim, ℕ, ◌≤◌, Bool, true, false, not, IsTrue, Global, List, [], ◌∷◌, ◌++◌, drop, length, get_or, map, refl, sym, ◌∙◌, ap, ap₂, subst, arith}
-use Rattle.std.specs.Prelude.{Contains, Option, Some, None, String, Vec}
+use Rattle.std.specs.Prelude.{Contains, Option, String, Vec}
 use Rattle.std.specs.List.{All, filter, sum_by}
 use Rattle.std.specs.BTreeMap.{BTreeMap}
 use Rattle.std.proofs.lemmas.Bool.{false≢true}
 use Rattle.std.proofs.lemmas.Grind.{flat_map-append}
-use Rattle.std.proofs.lemmas.List.{append-nil, drop-map, map-append}
 use Rattle.std.proofs.lemmas.List.Elements.{All-filter, All-head, All-tail, Contains-get_or}
 use Rattle.alta_codec.specs.Rising.{IsRising}
 use Rattle.alta_content.specs.Rows.{IsPlaced, RowsRise, end_of, ends_among, live_rows}
@@ -23,10 +22,9 @@ use Rattle.alta_memlevel.specs.Added.{Added, HasContent, IsInSpace, IsSpace, Lev
 use Rattle.alta_memlevel.specs.Documents.{IsBefore, document_in}
 use Rattle.alta_meta.specs.declared.document.Document.{Document}
 use Rattle.alta_meta.specs.declared.document.State.{State}
-use Rattle.std.specs.declared.rc.Rc.{Rc}
 use Rattle.alta_table.specs.Tables.{Tables}
 use Rattle.alta_catalog.specs.Counting.{row_words}
-use Rattle.alta_catalog.specs.Knowing.{IsEndIn, Knows, KnowsBy, Notes, documents_of}
+use Rattle.alta_catalog.specs.Knowing.{IsEndIn, Knows, KnowsBy, Notes}
 use Rattle.alta_catalog.specs.Replacing.{IsEmptied, IsPrepared, MayReplace, ends_in, level_in, rows_between, tables_between}
 use Rattle.alta_catalog.specs.Rows.{AreRowsOf, documents_left}
 use Rattle.alta_catalog.specs.declared.catalog.Catalog.{Catalog}

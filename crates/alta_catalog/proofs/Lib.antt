@@ -12,6 +12,7 @@ pub mod MayLaws
 pub mod Naming
 pub mod NotingLaws
 pub mod PartLaws
+pub mod ReplaceLaws
 pub mod RisingLaws
 pub mod SettledLaws
 pub mod SharingLaws

@@ -1,5 +1,5 @@
 -- The rows of a store's names are those of the state.
-use Rattle.std.proofs.Common.{◌≡◌, ◌⊎◌, ⊎_elim, ℕ, zero, Bool, true, false, cond, Global, List, [], ◌∷◌, map, Option, refl, sym, ◌∙◌, ap, subst, arith}
+use Rattle.std.proofs.Common.{◌≡◌, ⊎_elim, ℕ, zero, Bool, true, false, cond, Global, List, [], ◌∷◌, map, Option, refl, sym, ◌∙◌, ap, subst, arith}
 use Rattle.std.specs.Prelude.{Some, None, Contains, String, string_bytes, is_some}
 use Rattle.std.specs.BTreeMap.{BTreeMap, IsOrdered, get_by_text}
 use Rattle.std.specs.Cmp.Lexicographic.{slice_cmp}

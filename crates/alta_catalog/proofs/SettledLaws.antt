@@ -15,7 +15,7 @@ use Rattle.alta_images.proofs.KnownLaws.{all_weaker}
 use Rattle.alta_memlevel.specs.Added.{Added, HasContent, IsInSpace, IsSpace}
 use Rattle.alta_memlevel.specs.Documents.{IsBefore, IsMade}
 use Rattle.alta_meta.specs.declared.document.State.{State}
-use Rattle.alta_catalog.specs.Knowing.{IsEndIn, KnowsBy, Notes, documents_of}
+use Rattle.alta_catalog.specs.Knowing.{IsEndIn, KnowsBy, Notes}
 use Rattle.alta_catalog.specs.Rows.{AreRowsOf, documents_left}
 use Rattle.alta_catalog.specs.declared.catalog.Catalog.{Catalog}
 use Rattle.alta_catalog.proofs.EndLaws.{space_all}

@@ -14,7 +14,7 @@ use Rattle.alta_meta.specs.declared.document.State.{State}
 use Rattle.alta_root.specs.Root.{IsSound}
 use Rattle.alta_root.specs.declared.root.Root.{Root}
 use Rattle.alta_catalog.specs.Counting.{cells_in, row_words}
-use Rattle.alta_catalog.specs.Knowing.{KnowsBy, documents_of}
+use Rattle.alta_catalog.specs.Knowing.{KnowsBy}
 use Rattle.alta_catalog.specs.Names.{AreNames}
 use Rattle.alta_catalog.specs.Rows.{MayStart, documents_left}
 use Rattle.alta_catalog.specs.declared.catalog.Catalog.{Catalog}

@@ -1,6 +1,6 @@
 -- What a catalog knows of a state.
 use Rattle.std.proofs.Common.{Global}
-use Rattle.std.specs.Prelude.{◌≡◌, ℕ, ◌+◌, ◌-◌, ◌*◌, ◌≤◌, IsTrue, Contains, List, [], ◌∷◌, ◌++◌, String, is_some, Some, length, map}
+use Rattle.std.specs.Prelude.{◌≡◌, ℕ, ◌+◌, ◌-◌, ◌*◌, ◌≤◌, IsTrue, Contains, List, [], ◌∷◌, ◌++◌, String, is_some, Some, length}
 use Rattle.std.specs.List.{All, sum_by}
 use Rattle.std.specs.BTreeMap.{BTreeMap, get_by_text}
 use Rattle.alta_codec.specs.Rising.{IsRising}

@@ -11,6 +11,7 @@ ghost use Rattle.alta_images.specs.Ordered.{AreBelow, AreOrdered, RowsPrecede};
 ghost use Rattle.alta_images.specs.States.{has_name, has_number, number_of, with_added, with_deleted, without, words_in};
 ghost use Rattle.alta_journal.specs.declared.entry.Entry.{Entry};
 ghost use Rattle.alta_journal.specs.declared.entry.Entry.TheVariants.{Add as AddEntry, Delete as DeleteEntry};
+ghost use Rattle.alta_journal.specs.declared.places.TheConstants.{TEXTS_BYTES};
 ghost use Rattle.alta_memlevel.specs.Added.{Added, HasContent};
 ghost use Rattle.alta_meta.specs.declared.document.State.{State};
 ghost use Rattle.alta_root.specs.Root.{IsSound};
@@ -186,7 +187,7 @@ impl Catalog {
     ) -> Result<(), MetaFault>
         requires knows { (s : State) × Knows self.old s }
         requires named { IsName name.now }
-        requires short { length title.now + length body.now ≤ 65590 }
+        requires short { length title.now + length body.now ≤ TEXTS_BYTES }
         requires free { (s : State) → Knows self.old s → has_name name.now s ≡ false }
         requires left { (s : State) → Knows self.old s → s.next < 4294967296 }
         ensures added { OnOk result ((s : State) → (knows : Knows self.old s) → KnowsBy self.new knows.olds (with_added name.now title.now body.now s)) }

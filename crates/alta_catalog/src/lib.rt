@@ -21,4 +21,4 @@ pub use laws::{
 };
 pub use lists::{NameRow, Names};
 pub use replacing::PreparedLevels;
-pub use replaying::apply_entries;
+pub use replaying::{apply_entries, apply_entry};

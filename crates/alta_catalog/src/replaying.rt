@@ -1,13 +1,15 @@
 // The documents that the entries of a journal leave.
 ghost use Rattle.std.specs.Prelude.{◌≡◌, ◌⊎◌, ◌+◌, ◌++◌, ◌∷◌, [], ◌<◌, ℕ, List, true, false, Err, IfOk, IfErr, OnOk, All};
-ghost use Rattle.alta_journal.specs.Entry.{MayBeRecorded};
+ghost use Rattle.alta_journal.specs.Entry.{KeepTexts, MayBeRecorded};
 ghost use Rattle.alta_journal.specs.declared.entry.Entry.{Entry};
-ghost use Rattle.alta_journal.specs.declared.entry.Entry.TheVariants.{Add};
+ghost use Rattle.alta_journal.specs.declared.entry.Entry.TheVariants.{Add, Replace};
+ghost use Rattle.alta_content.specs.declared.document.DocRow.{DocRow};
+ghost use Rattle.alta_content.specs.Rows.{ends_among};
 ghost use Rattle.alta_meta.specs.declared.document.State.{State};
 ghost use Rattle.alta_images.specs.Entries.{Allows, AllowsAll, after_entry, after_entries, entries_in, IsRefusedAt};
-ghost use Rattle.alta_images.specs.States.{with_added};
+ghost use Rattle.alta_images.specs.States.{has_named, with_added, without};
 ghost use Rattle.alta_root.specs.declared.root.Root.{Root};
-ghost use Rattle.alta_catalog.specs.Knowing.{Follows, Knows, KnowsBy, levels_of};
+ghost use Rattle.alta_catalog.specs.Knowing.{Follows, Knows, KnowsBy, gone_of, levels_of};
 ghost use Rattle.alta_catalog.specs.declared.fault.CatalogFault.TheVariants.{Memory, Damaged};
 
 use crate::CatalogFault;
@@ -24,7 +26,8 @@ const PAYLOAD: u64 = 5;
 /// # Errors
 ///
 /// `Damaged` at the first entry that is not allowed where it stands: one that adds a document whose name a live one has, or for which no
-/// number is left, or one that deletes a number that no live document has. The place is that of its record's payload. `Memory` where
+/// number is left, one that deletes a number that no live document has, or one that replaces a number that no live document of its name
+/// has, or for which no number is left. The place is that of its record's payload. `Memory` where
 /// memory is wanting. After both the catalog may no longer be used.
 pub fn apply_entries(
     alloc: Global,
@@ -32,7 +35,7 @@ pub fn apply_entries(
     found: &[Placed],
 ) -> Result<(), CatalogFault>
     requires knows { (s : State) × Knows catalog.old s }
-    requires sound { All (λ p. MayBeRecorded p.entry) found.now }
+    requires sound { (version : ℕ) × All (λ p. MayBeRecorded version p.entry) found.now }
     ensures applied { (s : State) → (knows : Knows catalog.old s) → OnOk result (AllowsAll s (entries_in found.now) × KnowsBy catalog.new knows.olds (after_entries s (entries_in found.now))) }
     ensures damaged { (s : State) → Knows catalog.old s → All (λ p. p.place < 4294967296) found.now → (place : ℕ) → result ≡ Err (Damaged place) → IsRefusedAt s found.now place }
     ensures levels { levels_of catalog.new ≡ levels_of catalog.old }
@@ -56,12 +59,19 @@ fn payload_place(placed: &Placed) -> u64
     placed.place.saturating_add(PAYLOAD)
 }
 
-// Applies an entry, if it is allowed here.
-fn apply_entry(alloc: Global, catalog: &mut Catalog, entry: &Entry) -> Result<bool, MetaFault>
+/// Applies an entry, if it is allowed here, and answers whether it is. Where it is not, nothing has changed. Documents that are gone stay
+/// gone.
+///
+/// # Errors
+///
+/// `Memory` where memory is wanting: the catalog may no longer be used.
+pub fn apply_entry(alloc: Global, catalog: &mut Catalog, entry: &Entry) -> Result<bool, MetaFault>
     requires knows { (s : State) × Knows catalog.old s }
-    requires sound { MayBeRecorded entry.now }
+    requires sound { (version : ℕ) × MayBeRecorded version entry.now }
     ensures allowed { (s : State) → (knows : Knows catalog.old s) → IfOk result (λ allowed. allowed ≡ true → Allows s entry.now × KnowsBy catalog.new knows.olds (after_entry s entry.now)) }
     ensures refused { (s : State) → Knows catalog.old s → IfOk result (λ allowed. allowed ≡ false → Allows s entry.now → ⊥) }
+    ensures unchanged { IfOk result (λ allowed. allowed ≡ false → catalog.new ≡ catalog.old) }
+    ensures still { IfOk result (λ allowed. (row : DocRow) → ends_among (gone_of catalog.old) row ≡ true → ends_among (gone_of catalog.new) row ≡ true) }
     ensures levels { levels_of catalog.new ≡ levels_of catalog.old }
     ensures follows { (root : Root) → (entries : List Entry) → Follows catalog.old root entries → IfOk result (λ allowed. allowed ≡ true → Follows catalog.new root (entries ++ entry.now ∷ [])) }
 {
@@ -70,6 +80,59 @@ fn apply_entry(alloc: Global, catalog: &mut Catalog, entry: &Entry) -> Result<bo
             add(alloc, catalog, name.as_str(), title.as_str(), body.as_str())
         }
         Entry::Delete { number } => Ok(catalog.delete(*number)?),
+        Entry::Replace {
+            number,
+            name,
+            title,
+            body,
+        } => replace(
+            alloc,
+            catalog,
+            *number,
+            name.as_str(),
+            title.as_str(),
+            body.as_str(),
+        ),
+    }
+}
+
+// Deletes the document with this number, if it has this name and a number is left, and adds another of that name.
+fn replace(
+    alloc: Global,
+    catalog: &mut Catalog,
+    number: u64,
+    name: &str,
+    title: &str,
+    body: &str,
+) -> Result<bool, MetaFault>
+    requires knows { (s : State) × Knows catalog.old s }
+    requires sound { KeepTexts name.now title.now body.now }
+    ensures allowed { (s : State) → (knows : Knows catalog.old s) → IfOk result (λ allowed. allowed ≡ true → Allows s (Replace number name.now title.now body.now)
+        × KnowsBy catalog.new knows.olds (with_added name.now title.now body.now (without number s))) }
+    ensures refused { (s : State) → Knows catalog.old s → IfOk result (λ allowed. allowed ≡ false → Allows s (Replace number name.now title.now body.now) → ⊥) }
+    ensures unchanged { IfOk result (λ allowed. allowed ≡ false → catalog.new ≡ catalog.old) }
+    ensures still { IfOk result (λ allowed. (row : DocRow) → ends_among (gone_of catalog.old) row ≡ true → ends_among (gone_of catalog.new) row ≡ true) }
+    ensures levels { levels_of catalog.new ≡ levels_of catalog.old }
+    ensures follows { (root : Root) → (entries : List Entry) → Follows catalog.old root entries → IfOk result (λ allowed. allowed ≡ true → Follows catalog.new root (entries ++ Replace number name.now title.now body.now ∷ [])) }
+{
+    if !catalog.has_room() {
+        return Ok(false);
+    }
+    if !has_name_with(catalog, name, number) {
+        return Ok(false);
+    }
+    catalog.remove(number)?;
+    catalog.add(alloc, name, title, body)?;
+    Ok(true)
+}
+
+// Whether a live document has this name and this number.
+fn has_name_with(catalog: &Catalog, name: &str, number: u64) -> bool
+    ensures { (s : State) → Knows catalog.now s → result ≡ has_named name.now number s }
+{
+    match catalog.number_of(name) {
+        Some(known) => known == number,
+        None => false,
     }
 }
 
@@ -82,9 +145,11 @@ fn add(
     body: &str,
 ) -> Result<bool, MetaFault>
     requires knows { (s : State) × Knows catalog.old s }
-    requires sound { MayBeRecorded (Add name.now title.now body.now) }
+    requires sound { KeepTexts name.now title.now body.now }
     ensures allowed { (s : State) → (knows : Knows catalog.old s) → IfOk result (λ allowed. allowed ≡ true → Allows s (Add name.now title.now body.now) × KnowsBy catalog.new knows.olds (with_added name.now title.now body.now s)) }
     ensures refused { (s : State) → Knows catalog.old s → IfOk result (λ allowed. allowed ≡ false → Allows s (Add name.now title.now body.now) → ⊥) }
+    ensures unchanged { IfOk result (λ allowed. allowed ≡ false → catalog.new ≡ catalog.old) }
+    ensures gone { IfOk result (λ allowed. gone_of catalog.new ≡ gone_of catalog.old) }
     ensures levels { levels_of catalog.new ≡ levels_of catalog.old }
     ensures follows { (root : Root) → (entries : List Entry) → Follows catalog.old root entries → IfOk result (λ allowed. allowed ≡ true → Follows catalog.new root (entries ++ Add name.now title.now body.now ∷ [])) }
 {

@@ -36,7 +36,7 @@ module _ (image : List ℕ) (slot : Slot) (root : Root) (counts : Counts slot ro
       has : HasLevels slot root deleted levels image
       has = record { counts = counts; list = list; tables = tables }
 
-      by_entries : have_ends levels deleted ≡ true → (entries : List Entry) (tail : ℕ) → EndsAt (journal_of slot) tail entries image → (r : Result Known ℕ)
+      by_entries : have_ends levels deleted ≡ true → (entries : List Entry) (tail : ℕ) → EndsAt root.version (journal_of slot) tail entries image → (r : Result Known ℕ)
           → replayed (known_at root deleted levels) (placed (journal_of slot) entries) ≡ r → IsShown image
       by_entries ends entries tail journal (Ok known) e =
           inr (inr (
@@ -48,7 +48,7 @@ module _ (image : List ℕ) (slot : Slot) (root : Root) (counts : Counts slot ro
       by_ends : (b : Bool) → have_ends levels deleted ≡ b → IsShown image
       by_ends true ends =
           ⊎_elim (λ (tail, entries, journal). by_entries ends entries tail journal (replayed (known_at root deleted levels) (placed (journal_of slot) entries)) refl)
-          (λ (place, bad). broken place (in_records slot root deleted levels place has ends bad)) (read_or_broken (half_of slot) image counts.whole)
+          (λ (place, bad). broken place (in_records slot root deleted levels place has ends bad)) (read_or_broken root.version (half_of slot) image counts.whole)
       by_ends false ends = broken root.deletions.place (without_end slot root deleted levels has ends)
 
     module _ (before : List Extent) (levels : List Tables) (extent : Extent) (rest : List Extent) (split : root.levels.items ≡ before ++ extent ∷ rest)

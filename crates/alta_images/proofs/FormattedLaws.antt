@@ -7,6 +7,7 @@ use Rattle.alta_postings.specs.Deltas.{fault_from, first_fault, list_from, decod
 use Rattle.alta_root.specs.Places.{fields_at}
 use Rattle.alta_root.specs.Root.{body_of, IsSound, IsWord, no_extent}
 use Rattle.alta_root.specs.Slots.{Counts}
+use Rattle.alta_root.specs.declared.places.TheConstants.{VERSION}
 use Rattle.alta_root.specs.declared.slot.Slot.TheVariants.{A}
 use Rattle.alta_root.proofs.SpellLaws.{body_says}
 use Rattle.alta_images.specs.Levels.{Level}
@@ -17,7 +18,7 @@ use Rattle.alta_images.specs.Standing.{AreLevels, StandsFor}
 use Rattle.alta_images.specs.Switching.{empty_held, empty_opened, empty_root, IsFormatted}
 
 empty_sound : (size : ℕ) → IsSound size empty_root
-empty_sound size = record { few = omega arith; number = (omega arith, omega arith); location = (omega arith, omega arith); deletions = inl refl; levels = tt }
+empty_sound size = record { version = (omega arith, omega arith); few = omega arith; number = (omega arith, omega arith); location = (omega arith, omega arith); deletions = inl refl; levels = tt }
 
 pub formatted_counts : (image : List ℕ) → IsFormatted image → Counts A empty_root image
 formatted_counts image is = record {
@@ -37,7 +38,7 @@ formatted_named image is = record {
   ends = refl;
   journal = record {
     starts = omega arith;
-    begins = record { records = refl; sound = All-nil MayBeRecorded; gate = is.closed.0 };
+    begins = record { records = refl; sound = All-nil (MayBeRecorded VERSION); gate = is.closed.0 };
     closed = is.closed;
     whole = is.whole;
   };

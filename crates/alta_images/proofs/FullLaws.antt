@@ -15,17 +15,17 @@ use Rattle.alta_postings.specs.Deltas.{stream_bytes}
 use Rattle.alta_root.specs.Root.{no_extent}
 use Rattle.alta_root.specs.Gaps.{IsFirstGap, IsLongestGap}
 use Rattle.alta_images.specs.Levels.{Level}
-use Rattle.alta_images.specs.Work.{Job, Coming, stays, anew, coming, newest_content, gone_among, is_merged, job_of, oldest_joined, with_oldest, whole_of, level_rows, Task, enters, flushes, merges, steps, fits}
+use Rattle.alta_images.specs.Work.{Job, Coming, stays, anew, coming, newest_content, gone_among, is_merged, job_of, oldest_joined, with_oldest, whole_of, level_rows, Task, enters, flushes, merges, steps, fits, needs_raise}
 use Rattle.alta_images.proofs.Tests.{by_test}
 use Rattle.alta_table.specs.Tables.{tables_bytes}
 use Rattle.alta_table.proofs.TableLaws.{length-tables_bytes}
 use Rattle.alta_images.specs.Chain.{◌>>=◌}
 use Rattle.alta_root.specs.Gaps.{first_gap, greatest_gap}
 use Rattle.alta_images.specs.Holding.{Holding, taken_by_held}
-use Rattle.alta_images.specs.Working.{AreFirstGaps, Full, IsWanting, Placed, in_front, placed, placed_at, placed_levels, placed_list, held_then, switched, flushed, moved, entered, worked}
+use Rattle.alta_images.specs.Working.{AreFirstGaps, Full, IsWanting, Placed, in_front, placed, placed_at, placed_levels, placed_list, held_then, switched, written, flushed, moved, entered, worked}
 use Rattle.alta_root.proofs.GapFunctions.{first_some, first_none, greatest_is}
 use Rattle.alta_images.proofs.KeptStates.{by_levels, by_entries, ok_is, err_ok}
-use Rattle.alta_images.proofs.WellLaws.{all_of, by_merged, by_none, by_room, by_same, by_terms}
+use Rattle.alta_images.proofs.WellLaws.{all_of, by_merged, by_none, by_room, by_raise, by_same, by_terms}
 use Rattle.alta_content.specs.Joining.{terms_in}
 
 pub full_is : {A : Type 0} (x y : Full) → ◌≡◌ {A = Result A Full} (Err x) (Err y) → x ≡ y
@@ -196,12 +196,16 @@ switched_full limit held levels job full e = by_placed (placed_levels limit (tak
     by_placed (Ok now) is e = by_list now (levels_taken limit (taken_by_held held) levels now is) (placed_list limit held now.taken (gone_among held.view (level_rows now.levels))) refl e
     by_placed (Err other) is e = levels_full limit (taken_by_held held) levels full (is ∙ ap (λ (f : Full). Err f) (full_is {A = Holding} other full e))
 
+written_full : (limit : ℕ) (held : Holding) (full : Full) → written limit held ≡ Err full → IsWanting (taken_by_held held) limit full
+written_full limit held full e =
+    by_test (length held.view.levels == 16 && nat_le 1 (length (newest_content held.view).documents))
+    (λ many. switched_full limit held (with_oldest (oldest_joined held.job held.view) held.view) None full (sym (ap (by_levels limit held) many) ∙ e))
+    (λ few. switched_full limit held (map stays held.view.levels ++ coming (newest_content held.view)) held.job full (sym (ap (by_levels limit held) few) ∙ e))
+
 flush_full : (limit : ℕ) (held : Holding) (full : Full) → flushed limit held ≡ Err full → IsWanting (taken_by_held held) limit full
 flush_full limit held full e =
     by_test (length held.view.entries == 0) (λ none. absurd (ok_err held full (sym (ap (by_entries limit held) none) ∙ e)))
-    (λ some. by_test (length held.view.levels == 16 && nat_le 1 (length (newest_content held.view).documents))
-    (λ many. switched_full limit held (with_oldest (oldest_joined held.job held.view) held.view) None full (sym (ap (by_entries limit held) some ∙ ap (by_levels limit held) many) ∙ e))
-    (λ few. switched_full limit held (map stays held.view.levels ++ coming (newest_content held.view)) held.job full (sym (ap (by_entries limit held) some ∙ ap (by_levels limit held) few) ∙ e)))
+    (λ some. written_full limit held full (sym (ap (by_entries limit held) some) ∙ e))
 
 move_full : (limit : ℕ) (held : Holding) (n : ℕ) (job : Option Job) (full : Full) → moved limit held n job ≡ Err full → IsWanting (taken_by_held held) limit full
 move_full limit held n None full e = absurd (ok_err held full e)
@@ -212,12 +216,15 @@ move_full limit held n (Some job) full e =
 
 pub work_full : (limit : ℕ) (held : Holding) (task : Task) (full : Full) → worked limit held task ≡ Err full → IsWanting (taken_by_held held) limit full
 work_full limit held (enters entry) full e =
-    by_test (fits held.view.entries entry) (λ room. absurd (ok_err (entered held entry) full (sym (ap (by_room limit held entry) room) ∙ e)))
-    (λ none. by_flush (flushed limit held) refl (sym (ap (by_room limit held entry) none) ∙ e))
+    by_test (needs_raise held.view.version entry)
+    (λ raise. by_switch (written limit held) refl (λ is. written_full limit held full is) (sym (ap (by_raise limit held entry) raise) ∙ e))
+    (λ still. by_test (fits held.view.entries entry)
+    (λ room. absurd (ok_err (entered held entry) full (sym (ap (by_raise limit held entry) still ∙ ap (by_room limit held entry) room) ∙ e)))
+    (λ none. by_switch (flushed limit held) refl (λ is. flush_full limit held full is) (sym (ap (by_raise limit held entry) still ∙ ap (by_room limit held entry) none) ∙ e)))
   where
-    by_flush : (r : Result Holding Full) → flushed limit held ≡ r → (r >>= λ then. Ok (entered then entry)) ≡ Err full → IsWanting (taken_by_held held) limit full
-    by_flush (Ok middle) is e = absurd (ok_err (entered middle entry) full e)
-    by_flush (Err other) is e = flush_full limit held full (is ∙ e)
+    by_switch : {r : Result Holding Full} (s : Result Holding Full) → r ≡ s → (r ≡ Err full → IsWanting (taken_by_held held) limit full) → (s >>= λ then. Ok (entered then entry)) ≡ Err full → IsWanting (taken_by_held held) limit full
+    by_switch (Ok middle) is wanting e = absurd (ok_err (entered middle entry) full e)
+    by_switch (Err other) is wanting e = wanting (is ∙ ap (λ (f : Full). Err f) (full_is {A = Holding} other full e))
 work_full limit held flushes full e = flush_full limit held full e
 work_full limit held merges full e =
     by_test (is_merged held.view) (λ none. absurd (ok_err held full (sym (ap (by_merged limit held) none) ∙ e)))

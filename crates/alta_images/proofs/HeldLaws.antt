@@ -20,24 +20,24 @@ use Rattle.alta_images.specs.Opened.{Opened, journal_of}
 use Rattle.alta_images.specs.Ordered.{IsOrdered}
 use Rattle.alta_images.specs.Standing.{AreLevels, tables_by, view_of}
 use Rattle.alta_images.specs.Switching.{InPlace, IsPut, IsWritten, MayAppend, MayStand, with_entry}
-use Rattle.alta_images.specs.Working.{entered, flushed}
+use Rattle.alta_images.specs.Working.{entered, written}
 use Rattle.alta_images.proofs.AppendLaws.{are_more, opened_appended}
 use Rattle.alta_images.proofs.OrderLaws.{stands_ordered}
-use Rattle.alta_images.proofs.PlaceLaws.{flush_in_place}
+use Rattle.alta_images.proofs.PlaceLaws.{written_in_place}
 use Rattle.alta_images.proofs.SpacedLaws.{held_spaced, written_stands}
-use Rattle.alta_images.proofs.KeptStates.{flush_keeps}
+use Rattle.alta_images.proofs.KeptStates.{written_keeps}
 use Rattle.alta_images.proofs.SwitchLaws.{opened_switched, slot_spares}
 use Rattle.alta_images.proofs.Untouched.{IsSame, extents_same, segments_on}
 use Rattle.alta_images.proofs.WrittenLaws.{held_stands}
 
-pub held_appended : (held : Holding) (entry : Entry) (old new : List ℕ) (is : IsHeld held old) → MayAppend entry is.opened is.is.named.known → Appends (journal_of is.opened.slot) is.opened.tail entry old new
-    → Appended (journal_of is.opened.slot) is.opened.tail entry old new → IsHeld (entered held entry) new
+pub held_appended : (held : Holding) (entry : Entry) (old new : List ℕ) (is : IsHeld held old) → MayAppend entry is.opened is.is.named.known → Appends is.opened.root.version (journal_of is.opened.slot) is.opened.tail entry old new
+    → Appended is.opened.root.version (journal_of is.opened.slot) is.opened.tail entry old new → IsHeld (entered held entry) new
 held_appended held entry old new is may appends appended =
     let o = is.opened in
     record {
       opened = with_entry o entry;
       is = opened_appended o entry old new is.is may appends appended;
-      are = are_more o entry old new (counts_sound o.slot o.root old is.is.counts) is.is.named may (appends_touch (journal_of o.slot) o.tail entry old new appends) held.view.levels is.are;
+      are = are_more o entry old new (counts_sound o.slot o.root old is.is.counts) is.is.named may (appends_touch o.root.version (journal_of o.slot) o.tail entry old new appends) held.view.levels is.are;
       view_is = ap (λ (v : View). view_with v entry) is.view_is;
       list_is = is.list_is;
     }
@@ -66,18 +66,18 @@ held_switched then coming old new is ordered switched view_is list_is =
       list_is = list_is;
     }
 
-pub flush_may_stand : (limit : ℕ) (held then : Holding) (coming : Opened) (old image : List ℕ) → IsHeld held old → IsSpace (newest held.view) → (length held.view.entries == 0) ≡ false
-    → (length held.view.levels == 16 && nat_le 1 (length (newest_content held.view).documents)) ≡ false → flushed limit held ≡ Ok then → then.view ≡ view_of coming then.view.levels
+pub written_may_stand : (limit : ℕ) (held then : Holding) (coming : Opened) (old image : List ℕ) → IsHeld held old → IsSpace (newest held.view)
+    → (length held.view.levels == 16 && nat_le 1 (length (newest_content held.view).documents)) ≡ false → written limit held ≡ Ok then → then.view ≡ view_of coming then.view.levels
     → IsPut coming then.view.levels image → IsWritten coming then.view.levels image × MayStand (state_of held.view) coming image
-flush_may_stand limit held then coming old image is space some few e view_is put =
+written_may_stand limit held then coming old image is space few e view_is put =
     let spaced = held_spaced held old is space in
     let location : is.opened.root.next_location ≡ held.view.location = ap (λ (v : View). v.location) (sym is.view_is) in
     let positive : 1 ≤ held.view.location = subst (λ n. 1 ≤ n) location (counts_sound is.opened.slot is.opened.root old is.is.counts).location.0 in
     let here : InPlace coming.root then.view.deleted (map tables_by then.view.levels) =
-    flush_in_place limit held then coming.root spaced positive some few e (ap (λ (v : View). v.next) (sym view_is)) (ap (λ (v : View). v.location) (sym view_is)) in
+    written_in_place limit held then coming.root spaced positive few e (ap (λ (v : View). v.next) (sym view_is)) (ap (λ (v : View). v.location) (sym view_is)) in
     let place : InPlace coming.root coming.deleted coming.levels =
     subst (InPlace coming.root coming.deleted) (sym put.are.tables) (subst (λ (ds : List ℕ). InPlace coming.root ds (map tables_by then.view.levels)) (ap (λ (v : View). v.deleted) view_is) here) in
     let written : IsWritten coming then.view.levels image = record { put = put; place = place } in (
       written,
-      written_stands (state_of held.view) coming then.view.levels image written (ap state_of (sym view_is) ∙ flush_keeps limit held then spaced few e) (stands_ordered (state_of held.view) old (held_stands held old is)),
+      written_stands (state_of held.view) coming then.view.levels image written (ap state_of (sym view_is) ∙ written_keeps limit held then spaced few e) (stands_ordered (state_of held.view) old (held_stands held old is)),
     )

@@ -17,11 +17,11 @@ use Rattle.alta_images.specs.Opened.{Opened, table_rows}
 use Rattle.alta_images.specs.Ordered.{AreBelow, RowsPrecede}
 use Rattle.alta_images.specs.Standing.{tables_by, view_of}
 use Rattle.alta_images.specs.Switching.{InPlace, IsInPlace, IsPut, IsWritten, MayStand}
-use Rattle.alta_images.specs.Working.{switched, flushed, merged, moved, worked, content_to_come, rows_of, AreJoins, IsJoin, oldest_contents, all_contents}
+use Rattle.alta_images.specs.Working.{switched, written, flushed, merged, moved, worked, content_to_come, rows_of, AreJoins, IsJoin, oldest_contents, all_contents}
 use Rattle.alta_images.proofs.JoinLaws.{coming_rows, rise_now, all_now}
 use Rattle.alta_images.proofs.KnownLaws.{all_weaker}
 use Rattle.alta_images.proofs.OrderLaws.{stands_ordered}
-use Rattle.alta_images.proofs.PlaceLaws.{LiesBelow, cells_in, added_low, gone_ends, flush_in_place}
+use Rattle.alta_images.proofs.PlaceLaws.{LiesBelow, cells_in, added_low, gone_ends, written_in_place}
 use Rattle.alta_images.proofs.SpacedLaws.{written_stands}
 use Rattle.alta_images.proofs.KeptStates.{by_levels, by_entries, contents_of, ok_is, placed_contents, rise_left, rows_append, rows_by_levels, switched_is}
 use Rattle.alta_images.proofs.WellLaws.{by_merged, by_terms}
@@ -83,12 +83,16 @@ IsPlaced held then = (then.view ≡ held.view) ⊎ IsInPlace then.view
 same_view : (held then : Holding) → held ≡ then → IsPlaced held then
 same_view held then e = inl (ap (λ (h : Holding). h.view) (sym e))
 
+written_placed : (limit : ℕ) (held then : Holding) → IsSpaced held.view → AreJoins held → 1 ≤ held.view.location → written limit held ≡ Ok then → IsInPlace then.view
+written_placed limit held then spaced joins positive e =
+    by_test (length held.view.levels == 16 && nat_le 1 (length (newest_content held.view).documents))
+    (λ many. join_in_place limit held then (oldest_joined held.job held.view) spaced positive joins.oldest (sym (ap (by_levels limit held) many) ∙ e))
+    (λ few root number location. written_in_place limit held then root spaced positive few e number location)
+
 flush_placed : (limit : ℕ) (held then : Holding) → IsSpaced held.view → AreJoins held → 1 ≤ held.view.location → flushed limit held ≡ Ok then → IsPlaced held then
 flush_placed limit held then spaced joins positive e =
     by_test (length held.view.entries == 0) (λ none. same_view held then (ok_is held then (sym (ap (by_entries limit held) none) ∙ e)))
-    (λ some. by_test (length held.view.levels == 16 && nat_le 1 (length (newest_content held.view).documents))
-    (λ many. inr (join_in_place limit held then (oldest_joined held.job held.view) spaced positive joins.oldest (sym (ap (by_entries limit held) some ∙ ap (by_levels limit held) many) ∙ e)))
-    (λ few. inr (λ root number location. flush_in_place limit held then root spaced positive some few e number location)))
+    (λ some. inr (written_placed limit held then spaced joins positive (sym (ap (by_entries limit held) some) ∙ e)))
 
 merge_placed : (limit : ℕ) (held then : Holding) → IsSpaced held.view → AreJoins held → 1 ≤ held.view.location → merged limit held ≡ Ok then → IsPlaced held then
 merge_placed limit held then spaced joins positive e =
@@ -105,8 +109,9 @@ move_placed limit held n (Some job) then spaced positive joins e =
     (sym (ok_is (record { view = held.view; list = held.list; job = Some (record { older = job.older; newer = job.newer; dead = job.dead; merged = job.merged + n }) }) then (sym (ap (by_terms limit held n job) goes_on) ∙ e)))))
 
 pub work_placed : (limit : ℕ) (held then : Holding) → IsSpaced held.view → AreJoins held → 1 ≤ held.view.location
-    → (flushed limit held ≡ Ok then → IsPlaced held then) × (merged limit held ≡ Ok then → IsPlaced held then) × ((n : ℕ) → worked limit held (steps n) ≡ Ok then → IsPlaced held then)
+    → (written limit held ≡ Ok then → IsInPlace then.view) × (flushed limit held ≡ Ok then → IsPlaced held then) × (merged limit held ≡ Ok then → IsPlaced held then) × ((n : ℕ) → worked limit held (steps n) ≡ Ok then → IsPlaced held then)
 work_placed limit held then spaced joins positive = (
+  written_placed limit held then spaced joins positive,
   flush_placed limit held then spaced joins positive,
   merge_placed limit held then spaced joins positive,
   λ n e. move_placed limit held n (job_of held.job held.view) then spaced positive joins.whole e,

@@ -1,6 +1,7 @@
 -- A switch of the root whose levels have the documents that are left changes no state; and so a flush changes none.
 use Rattle.std.proofs.Common.{◌≡◌, ◌≢◌, ℕ, ◌+◌, ◌<◌, ◌≤◌, Bool, true, false, cond, List, [], ◌∷◌, ◌++◌, length, map, refl, sym, ap, subst, ◌∙◌, arith, Result, Ok, Err, append_assoc}
 use Rattle.std.specs.Prelude.{not, ◌&&◌, ◌||◌, ◌==◌, nat_eq, nat_le, Option, None}
+use Rattle.std.specs.Str.{bytes_eq}
 use Rattle.std.specs.List.{All, filter, flat_map, list_any}
 use Rattle.std.proofs.lemmas.Bool.{false≢true, ne_eqb, eq-eqb}
 use Rattle.std.proofs.lemmas.Grind.{flat_map-append}
@@ -9,7 +10,7 @@ use Rattle.std.proofs.lemmas.List.Elements.{All-nil, All-cons, All-head, All-tai
 use Rattle.std.proofs.lemmas.List.Folds.{list_any-append, flat_map-map}
 use Rattle.alta_codec.specs.declared.extent.Extent.{Extent}
 use Rattle.alta_journal.specs.declared.entry.Entry.{Entry}
-use Rattle.alta_journal.specs.declared.entry.Entry.TheVariants.{Add, Delete}
+use Rattle.alta_journal.specs.declared.entry.Entry.TheVariants.{Add, Delete, Replace}
 use Rattle.alta_level.specs.Segments.{segment_bytes}
 use Rattle.alta_content.specs.declared.content.Content.{Content}
 use Rattle.alta_memlevel.specs.Added.{Added, IsSpace, live_of}
@@ -22,12 +23,12 @@ use Rattle.alta_images.specs.Entries.{AllowsAll, after_entry, after_entries}
 use Rattle.alta_images.specs.Levels.{Level, document_of, documents_of, live_rows}
 use Rattle.alta_images.specs.Views.{View, rooted, state_of}
 use Rattle.alta_images.specs.Work.{Job, Coming, stays, anew, coming, added_at, added_from, newest, leaves_out, is_gone, gone, gone_among, newest_content, level_rows, with_oldest, oldest_joined}
-use Rattle.alta_images.proofs.Tests.{by_test, filter_keep, filter_drop, equal_test, equal_from, apart_test, or_last, or_neither}
+use Rattle.alta_images.proofs.Tests.{by_test, filter_keep, filter_drop, equal_test, equal_from, apart_test, and_right, or_first, or_right, or_last, or_neither}
 use Rattle.alta_content.specs.declared.document.DocRow.{DocRow}
 use Rattle.alta_images.specs.Chain.{◌>>=◌}
 use Rattle.alta_images.specs.Holding.{Holding, taken_by_held, all_rows, IsSpaced}
 use Rattle.alta_images.specs.Ordered.{Precedes, RowsPrecede}
-use Rattle.alta_images.specs.Working.{Full, Placed, in_front, placed, placed_levels, placed_list, held_then, switched, flushed, content_to_come, rows_of, documents_in}
+use Rattle.alta_images.specs.Working.{Full, Placed, in_front, placed, placed_levels, placed_list, held_then, switched, written, content_to_come, rows_of, documents_in}
 use Rattle.alta_images.proofs.CellLaws.{AreSorted, doc_of, content_documents, cells_sorted}
 use Rattle.alta_images.proofs.KnownLaws.{all_weaker, all_both}
 use Rattle.alta_content.proofs.Elements.{all_left, all_right}
@@ -96,6 +97,10 @@ added_high number location (Add name title body ∷ entries) =
     All-cons (λ (a : Added). number ≤ a.row.number) (added_at number location name (cells_of name title body)) more (omega arith)
     (all_weaker (λ (a : Added). number + 1 ≤ a.row.number) (λ (a : Added). number ≤ a.row.number) more (λ a le. omega (arith, le)) (added_high (number + 1) (location + length (cells_of name title body)) entries))
 added_high number location (Delete n ∷ entries) = added_high number location entries
+added_high number location (Replace n name title body ∷ entries) =
+    let more = added_from (number + 1) (location + length (cells_of name title body)) entries in
+    All-cons (λ (a : Added). number ≤ a.row.number) (added_at number location name (cells_of name title body)) more (omega arith)
+    (all_weaker (λ (a : Added). number + 1 ≤ a.row.number) (λ (a : Added). number ≤ a.row.number) more (λ a le. omega (arith, le)) (added_high (number + 1) (location + length (cells_of name title body)) entries))
 
 number_below : (n next : ℕ) (ds : List Document) → list_any (λ (d : Document). d.number == n) ds ≡ true → All (λ (d : Document). d.number < next) ds → n < next
 number_below n next [] has all = absurd (false≢true has)
@@ -103,43 +108,79 @@ number_below n next (d ∷ ds) has all =
     by_test (d.number == n) (λ same. let is : d.number ≡ n = equal_from d.number n same in omega (arith, is, All-head (λ (d : Document). d.number < next) d ds all))
     (λ other. number_below n next ds (sym (or_last (d.number == n) (list_any (λ (d : Document). d.number == n) ds) other) ∙ has) (All-tail (λ (d : Document). d.number < next) d ds all))
 
+-- a document with the name and the number is one with the number
+pub by_number : (name : List ℕ) (n : ℕ) (ds : List Document) → list_any (λ (d : Document). bytes_eq name d.name && d.number == n) ds ≡ true → list_any (λ (d : Document). d.number == n) ds ≡ true
+by_number name n [] has = has
+by_number name n (d ∷ ds) has =
+    by_test (bytes_eq name d.name && d.number == n) (λ here. or_first (d.number == n) (list_any (λ (d : Document). d.number == n) ds) (and_right (bytes_eq name d.name) (d.number == n) here))
+    (λ there. or_right (d.number == n) (list_any (λ (d : Document). d.number == n) ds)
+    (by_number name n ds (sym (or_last (bytes_eq name d.name && d.number == n) (list_any (λ (d : Document). bytes_eq name d.name && d.number == n) ds) there) ∙ has)))
+
+-- the document of an entry
+abbrev new_document : ℕ → List ℕ → List ℕ → List ℕ → Document
+new_document number name title body = record { number = number; name = name; cells = cells_of name title body }
+
+-- all are below the next number, and one more is then
+below_more : (next : ℕ) (ds : List Document) (name title body : List ℕ) → All (λ (d : Document). d.number < next) ds → All (λ (d : Document). d.number < next + 1) (ds ++ new_document next name title body ∷ [])
+below_more next ds name title body below =
+    All-append (λ (d : Document). d.number < next + 1) ds (new_document next name title body ∷ []) (all_weaker (λ (d : Document). d.number < next) (λ (d : Document). d.number < next + 1) ds (λ d less. omega (arith, less)) below)
+    (All-cons (λ (d : Document). d.number < next + 1) (new_document next name title body) [] (omega arith) (All-nil (λ (d : Document). d.number < next + 1)))
+
+-- an entry that leaves out a small number leaves out no new document
+leaves_old : (n next : ℕ) (entries : List Entry) (documents new : List Document) (p : Document → Bool) → n < next → All (λ (d : Document). next ≤ d.number) new
+    → ((d : Document) → p d ≡ (not (n == d.number) && stay entries d))
+    → filter (stay entries) (filter (λ (d : Document). not (d.number == n)) documents ++ new) ≡ filter p (documents ++ new)
+leaves_old n next entries documents new p small high is =
+    let other : Document → Bool = λ d. not (d.number == n) in
+    filter-append (stay entries) (filter other documents) new
+    ∙ ap (λ (ds : List Document). ds ++ filter (stay entries) new)
+    (filter_two other (stay entries) p documents (all_of documents (λ d. is d ∙ ap (λ (b : Bool). not b && stay entries d) (eq_swap n d.number))))
+    ∙ ap (λ (ds : List Document). filter p documents ++ ds)
+    (filter_alike (stay entries) p new
+    (all_weaker (λ (d : Document). next ≤ d.number) (λ (d : Document). stay entries d ≡ p d) new
+    (λ d le. sym (is d ∙ ap (λ (b : Bool). not b && stay entries d) (apart_test n d.number (λ e. omega (arith, e, le, small))))) high))
+    ∙ sym (filter-append p documents new)
+  where
+    all_of : {P : Document → Type 0} (ds : List Document) → ((d : Document) → P d) → All P ds
+    all_of {P} [] each = All-nil P
+    all_of {P} (d ∷ ds) each = All-cons P d ds (each d) (all_of ds each)
+
+documents_high : (number location : ℕ) (entries : List Entry) → All (λ (d : Document). number ≤ d.number) (map doc_of (added_from number location entries))
+documents_high number location entries = All-map (λ (d : Document). number ≤ d.number) doc_of (added_from number location entries) (added_high number location entries)
+
 -- the documents behind entries are those of before and the added ones, without those that an entry leaves out
 pub after_documents : (s : State) (entries : List Entry) (location : ℕ) → All (λ (d : Document). d.number < s.next) s.documents → AllowsAll s entries
     → (after_entries s entries).documents ≡ filter (stay entries) (s.documents ++ map doc_of (added_from s.next location entries))
 after_documents s [] location below all = sym (filter_all (s.documents ++ []) ∙ append-nil s.documents)
 after_documents s (Add name title body ∷ entries) location below all =
     let cells = cells_of name title body in
-    let d : Document = record { number = s.next; name = name; cells = cells } in
-    after_documents (after_entry s (Add name title body)) entries (location + length cells)
-    (All-append (λ (d : Document). d.number < s.next + 1) s.documents (d ∷ []) (all_weaker (λ (d : Document). d.number < s.next) (λ (d : Document). d.number < s.next + 1) s.documents (λ d less. omega (arith, less)) below)
-    (All-cons (λ (d : Document). d.number < s.next + 1) d [] (omega arith) (All-nil (λ (d : Document). d.number < s.next + 1)))) all.1
-    ∙ ap (filter (stay entries)) (append_assoc s.documents (d ∷ []) (map doc_of (added_from (s.next + 1) (location + length cells) entries)))
+    after_documents (after_entry s (Add name title body)) entries (location + length cells) (below_more s.next s.documents name title body below) all.1
+    ∙ ap (filter (stay entries)) (append_assoc s.documents (new_document s.next name title body ∷ []) (map doc_of (added_from (s.next + 1) (location + length cells) entries)))
 after_documents s (Delete n ∷ entries) location below all =
-    let new = map doc_of (added_from s.next location entries) in
     let other : Document → Bool = λ d. not (d.number == n) in
-    let small : n < s.next = number_below n s.next s.documents all.0 below in
     after_documents (after_entry s (Delete n)) entries location (All-filter other (λ (d : Document). d.number < s.next) s.documents below) all.1
-    ∙ filter-append (stay entries) (filter other s.documents) new
-    ∙ ap (λ (ds : List Document). ds ++ filter (stay entries) new)
-    (filter_two other (stay entries) (stay (Delete n ∷ entries)) s.documents
-    (all_of s.documents (λ d. not_or (n == d.number) (left_out entries d.number) (d.number == n) (eq_swap n d.number))))
-    ∙ ap (λ (ds : List Document). filter (stay (Delete n ∷ entries)) s.documents ++ ds)
-    (filter_alike (stay entries) (stay (Delete n ∷ entries)) new
-    (All-map (λ (d : Document). stay entries d ≡ stay (Delete n ∷ entries) d) doc_of (added_from s.next location entries)
-    (all_weaker (λ (a : Added). s.next ≤ a.row.number) (λ (a : Added). stay entries (doc_of a) ≡ stay (Delete n ∷ entries) (doc_of a)) (added_from s.next location entries)
-    (λ a high. ap not (sym (or_last (n == a.row.number) (left_out entries a.row.number) (apart_test n a.row.number (λ e. omega (arith, e, high, small))))))
-    (added_high s.next location entries))))
-    ∙ sym (filter-append (stay (Delete n ∷ entries)) s.documents new)
-  where
-    all_of : {P : Document → Type 0} (ds : List Document) → ((d : Document) → P d) → All P ds
-    all_of {P} [] each = All-nil P
-    all_of {P} (d ∷ ds) each = All-cons P d ds (each d) (all_of ds each)
+    ∙ leaves_old n s.next entries s.documents (map doc_of (added_from s.next location entries)) (stay (Delete n ∷ entries)) (number_below n s.next s.documents all.0 below)
+    (documents_high s.next location entries) (λ d. not_or (n == d.number) (left_out entries d.number) (n == d.number) refl)
+after_documents s (Replace n name title body ∷ entries) location below all =
+    let other : Document → Bool = λ d. not (d.number == n) in
+    let cells = cells_of name title body in
+    let first = new_document s.next name title body in
+    let more = map doc_of (added_from (s.next + 1) (location + length cells) entries) in
+    after_documents (after_entry s (Replace n name title body)) entries (location + length cells)
+    (below_more s.next (filter other s.documents) name title body (All-filter other (λ (d : Document). d.number < s.next) s.documents below)) all.1
+    ∙ ap (filter (stay entries)) (append_assoc (filter other s.documents) (first ∷ []) more)
+    ∙ leaves_old n s.next entries s.documents (first ∷ more) (stay (Replace n name title body ∷ entries)) (number_below n s.next s.documents (by_number name n s.documents all.0.0) below)
+    (All-cons (λ (d : Document). s.next ≤ d.number) first more (omega arith)
+    (all_weaker (λ (d : Document). s.next + 1 ≤ d.number) (λ (d : Document). s.next ≤ d.number) more (λ d le. omega (arith, le)) (documents_high (s.next + 1) (location + length cells) entries)))
+    (λ d. not_or (n == d.number) (left_out entries d.number) (n == d.number) refl)
 
 after_next : (s : State) (entries : List Entry) (location : ℕ) → (after_entries s entries).next ≡ s.next + length (added_from s.next location entries)
 after_next s [] location = omega arith
 after_next s (Add name title body ∷ entries) location =
     let more = after_next (after_entry s (Add name title body)) entries (location + length (cells_of name title body)) in omega (arith, more)
 after_next s (Delete n ∷ entries) location = after_next (after_entry s (Delete n)) entries location
+after_next s (Replace n name title body ∷ entries) location =
+    let more = after_next (after_entry s (Replace n name title body)) entries (location + length (cells_of name title body)) in omega (arith, more)
 
 -- ---- gone ends
 
@@ -293,6 +334,9 @@ added_sorted number location (Add name title body ∷ entries) =
     All-cons AreSorted (added_at number location name (cells_of name title body)) (added_from (number + 1) (location + length (cells_of name title body)) entries) (cells_sorted name title body)
     (added_sorted (number + 1) (location + length (cells_of name title body)) entries)
 added_sorted number location (Delete n ∷ entries) = added_sorted number location entries
+added_sorted number location (Replace n name title body ∷ entries) =
+    All-cons AreSorted (added_at number location name (cells_of name title body)) (added_from (number + 1) (location + length (cells_of name title body)) entries) (cells_sorted name title body)
+    (added_sorted (number + 1) (location + length (cells_of name title body)) entries)
 
 pub added_behind : (number location : ℕ) (entries : List Entry) → All (λ (a : Added). location ≤ a.row.first) (added_from number location entries)
 added_behind number location [] = All-nil (λ (a : Added). location ≤ a.row.first)
@@ -302,6 +346,11 @@ added_behind number location (Add name title body ∷ entries) =
     All-cons (λ (a : Added). location ≤ a.row.first) (added_at number location name cells) more (omega arith)
     (all_weaker (λ (a : Added). location + length cells ≤ a.row.first) (λ (a : Added). location ≤ a.row.first) more (λ a le. omega (arith, le)) (added_behind (number + 1) (location + length cells) entries))
 added_behind number location (Delete n ∷ entries) = added_behind number location entries
+added_behind number location (Replace n name title body ∷ entries) =
+    let cells = cells_of name title body in
+    let more = added_from (number + 1) (location + length cells) entries in
+    All-cons (λ (a : Added). location ≤ a.row.first) (added_at number location name cells) more (omega arith)
+    (all_weaker (λ (a : Added). location + length cells ≤ a.row.first) (λ (a : Added). location ≤ a.row.first) more (λ a le. omega (arith, le)) (added_behind (number + 1) (location + length cells) entries))
 
 pub space_left : (p : Added → Bool) (added : List Added) → IsSpace added → IsSpace (filter p added)
 space_left p [] space = tt
@@ -480,15 +529,13 @@ by_levels limit held b =
     (switched limit held (map stays held.view.levels ++ coming (newest_content held.view)) held.job)
 
 abbrev pub by_entries : ℕ → Holding → Bool → Result Holding Full
-by_entries limit held b = cond b (Ok held) (by_levels limit held (length held.view.levels == 16 && nat_le 1 (length (newest_content held.view).documents)))
+by_entries limit held b = cond b (Ok held) (written limit held)
 
--- A flush that joins no levels changes no state.
-pub flush_keeps : (limit : ℕ) (held then : Holding) → IsSpaced held.view → (length held.view.levels == 16 && nat_le 1 (length (newest_content held.view).documents)) ≡ false
-    → flushed limit held ≡ Ok then → state_of then.view ≡ state_of held.view
-flush_keeps limit held then spaced few e =
-    by_test (length held.view.entries == 0)
-    (λ none. ap (λ (h : Holding). state_of h.view) (sym (ok_is held then (sym (ap (by_entries limit held) none) ∙ e))))
-    (λ some. switch_keeps limit held (map stays held.view.levels ++ coming (newest_content held.view)) held.job then (sym (ap (by_entries limit held) some ∙ ap (by_levels limit held) few) ∙ e) (flush_documents held.view spaced))
+-- What is written where no levels are joined is the same state.
+pub written_keeps : (limit : ℕ) (held then : Holding) → IsSpaced held.view → (length held.view.levels == 16 && nat_le 1 (length (newest_content held.view).documents)) ≡ false
+    → written limit held ≡ Ok then → state_of then.view ≡ state_of held.view
+written_keeps limit held then spaced few e =
+    switch_keeps limit held (map stays held.view.levels ++ coming (newest_content held.view)) held.job then (sym (ap (by_levels limit held) few) ∙ e) (flush_documents held.view spaced)
 
 -- ---- rows of contents
 

@@ -1,6 +1,6 @@
 -- What is known before and behind entries, beside the state that they make.
 use Rattle.std.proofs.Common.{◌≡◌, ◌≢◌, ℕ, ◌+◌, ◌<◌, ◌≤◌, Bool, true, false, cond, List, [], ◌∷◌, ◌++◌, length, map, refl, sym, ap, subst, ◌∙◌, arith, Result, Ok, Err}
-use Rattle.std.specs.Prelude.{not, ◌||◌, ◌==◌, nat_lt}
+use Rattle.std.specs.Prelude.{not, ◌||◌, ◌&&◌, ◌==◌, nat_lt}
 use Rattle.std.specs.List.{All, filter, list_any}
 use Rattle.std.specs.Str.{bytes_eq}
 use Rattle.std.proofs.lemmas.Bool.{lt-ltb, false≢true}
@@ -9,14 +9,14 @@ use Rattle.std.proofs.lemmas.List.Elements.{All-nil, All-cons, All-head, All-tai
 use Rattle.alta_journal.specs.Placed.{placed}
 use Rattle.alta_journal.specs.Record.{record_of}
 use Rattle.alta_journal.specs.declared.entry.Entry.{Entry}
-use Rattle.alta_journal.specs.declared.entry.Entry.TheVariants.{Add, Delete}
+use Rattle.alta_journal.specs.declared.entry.Entry.TheVariants.{Add, Delete, Replace}
 use Rattle.alta_journal.specs.declared.placed.Placed.{Placed}
 use Rattle.alta_meta.specs.declared.document.Document.{Document}
 use Rattle.alta_meta.specs.declared.document.State.{State}
 use Rattle.alta_images.specs.Entries.{Allows, AllowsAll, after_entry, after_entries}
-use Rattle.alta_images.specs.States.{with_deleted}
-use Rattle.alta_images.proofs.Tests.{by_test, filter_keep, filter_drop, bytes_same, not_true, and_left, and_right, and_both, below_from, or_both}
-use Rattle.alta_images.specs.Known.{Named, Known, named, is_taken, is_live, admits, known_behind, replayed, named_of, known_of}
+use Rattle.alta_images.specs.States.{with_added, with_deleted, without}
+use Rattle.alta_images.proofs.Tests.{by_test, filter_keep, filter_drop, bytes_from, bytes_same, not_true, and_left, and_right, and_both, below_from, or_both, or_last, or_neither}
+use Rattle.alta_images.specs.Known.{Named, Known, named, is_taken, is_taken_by, is_live, admits, known_added, known_without, known_behind, replayed, named_of, known_of}
 use Rattle.alta_images.specs.Ordered.{IsBefore, AreOrdered, IsOrdered}
 use Rattle.alta_images.proofs.Steps.{one_value, not_failed}
 
@@ -30,6 +30,10 @@ live_of : (number : ℕ) (ds : List Document) → is_live number (map named_of d
 live_of number [] = refl
 live_of number (d ∷ ds) = ap (λ (b : Bool). (d.number == number) || b) (live_of number ds)
 
+taken_by_of : (name : List ℕ) (number : ℕ) (ds : List Document) → is_taken_by name number (map named_of ds) ≡ list_any (λ (d : Document). bytes_eq name d.name && d.number == number) ds
+taken_by_of name number [] = refl
+taken_by_of name number (d ∷ ds) = ap (λ (b : Bool). (bytes_eq name d.name && d.number == number) || b) (taken_by_of name number ds)
+
 left_of : (p : Named → Bool) (ds : List Document) → map named_of (filter (λ (d : Document). p (named_of d)) ds) ≡ filter p (map named_of ds)
 left_of p [] = refl
 left_of p (d ∷ ds) =
@@ -41,11 +45,19 @@ left_of p (d ∷ ds) =
 known_with : ℕ → List Named → Known
 known_with next live = record { next = next; live = live }
 
+known_more : (name title body : List ℕ) (s : State) → known_of (with_added name title body s) ≡ known_added name (known_of s)
+unfolding known_with
+known_more name title body s = ap (known_with (s.next + 1)) (map-append named_of s.documents _)
+
+known_less : (number : ℕ) (s : State) → known_of (without number s) ≡ known_without number (known_of s)
+unfolding known_with
+known_less number s = ap (known_with s.next) (left_of (λ (row : Named). not (row.number == number)) s.documents)
+
 -- what is known of the state behind an entry is what is known behind it
 pub known_entry : (s : State) (entry : Entry) → known_of (after_entry s entry) ≡ known_behind (known_of s) entry
-unfolding known_with
-known_entry s (Add name title body) = ap (known_with (s.next + 1)) (map-append named_of s.documents _)
-known_entry s (Delete number) = ap (known_with s.next) (left_of (λ (row : Named). not (row.number == number)) s.documents)
+known_entry s (Add name title body) = known_more name title body s
+known_entry s (Delete number) = known_less number s
+known_entry s (Replace number name title body) = known_more name title body (without number s) ∙ ap (known_added name) (known_less number s)
 
 -- ---- an entry is admitted where the state allows it
 
@@ -55,11 +67,17 @@ allowed_from s (Add name title body) e = (
   below_from s.next 4294967296 (and_right (not (is_taken name (map named_of s.documents))) (nat_lt s.next 4294967296) e),
 )
 allowed_from s (Delete number) e = sym (live_of number s.documents) ∙ e
+allowed_from s (Replace number name title body) e = (
+  sym (taken_by_of name number s.documents) ∙ and_left (is_taken_by name number (map named_of s.documents)) (nat_lt s.next 4294967296) e,
+  below_from s.next 4294967296 (and_right (is_taken_by name number (map named_of s.documents)) (nat_lt s.next 4294967296) e),
+)
 
 pub admitted_from : (s : State) (entry : Entry) → Allows s entry → admits (known_of s) entry ≡ true
 admitted_from s (Add name title body) allows =
     and_both (not (is_taken name (map named_of s.documents))) (nat_lt s.next 4294967296) (ap not (taken_of name s.documents ∙ allows.0)) (lt-ltb s.next 4294967296 allows.1)
 admitted_from s (Delete number) allows = live_of number s.documents ∙ allows
+admitted_from s (Replace number name title body) allows =
+    and_both (is_taken_by name number (map named_of s.documents)) (nat_lt s.next 4294967296) (taken_by_of name number s.documents ∙ allows.0) (lt-ltb s.next 4294967296 allows.1)
 
 -- ---- entries one after the other
 
@@ -120,21 +138,64 @@ pub all_both : {X : Type 0} (P Q : X → Type 0) (xs : List X) → All P xs → 
 all_both P Q [] p q = All-nil (λ x. P x × Q x)
 all_both P Q (x ∷ xs) p q = All-cons (λ x. P x × Q x) x xs (All-head P x xs p, All-head Q x xs q) (all_both P Q xs (All-tail P x xs p) (All-tail Q x xs q))
 
--- order is kept by an entry that is admitted
-pub ordered_entry : (known : Known) (entry : Entry) → IsOrdered known → admits known entry ≡ true → 1 ≤ known.next → IsOrdered (known_behind known entry)
-ordered_entry known (Add name title body) ordered admitted some = record {
+-- where one of them has the name and the number, those that are left without the number have another name: of two in order the
+-- names differ
+left_free : (name : List ℕ) (number : ℕ) (rows : List Named) → AreOrdered rows → is_taken_by name number rows ≡ true → is_taken name (filter (λ (row : Named). not (row.number == number)) rows) ≡ false
+left_free name number [] ordered taken = absurd (false≢true taken)
+left_free name number (row ∷ rows) ordered taken =
+    by_test (bytes_eq name row.name && row.number == number)
+    (λ here. let name_is : name ≡ row.name = bytes_from name row.name (and_left (bytes_eq name row.name) (row.number == number) here) in
+    ap (is_taken name) (filter_drop (λ (r : Named). not (r.number == number)) row rows (ap not (and_right (bytes_eq name row.name) (row.number == number) here)))
+    ∙ none_taken name (filter (λ (r : Named). not (r.number == number)) rows)
+    (All-filter (λ (r : Named). not (r.number == number)) (λ (r : Named). r.name ≢ name) rows (all_weaker (IsBefore row) (λ (r : Named). r.name ≢ name) rows (λ r before same. before.1 (sym (same ∙ name_is))) ordered.0)))
+    (λ there. let behind : is_taken_by name number rows ≡ true = sym (or_last (bytes_eq name row.name && row.number == number) (is_taken_by name number rows) there) ∙ taken in
+    let rest = left_free name number rows ordered.1 behind in
+    by_test (row.number == number)
+    (λ same. ap (is_taken name) (filter_drop (λ (r : Named). not (r.number == number)) row rows (ap not same)) ∙ rest)
+    (λ other. ap (is_taken name) (filter_keep (λ (r : Named). not (r.number == number)) row rows (ap not other))
+    ∙ or_neither (bytes_eq name row.name) (is_taken name (filter (λ (r : Named). not (r.number == number)) rows)) (earlier_differs name number row rows ordered.0 behind) rest))
+  where
+    none_taken : (name : List ℕ) (rows : List Named) → All (λ (r : Named). r.name ≢ name) rows → is_taken name rows ≡ false
+    none_taken name [] all = refl
+    none_taken name (r ∷ rows) all =
+        or_neither (bytes_eq name r.name) (is_taken name rows)
+        (by_test (bytes_eq name r.name) (λ same. absurd (All-head (λ (x : Named). x.name ≢ name) r rows all (sym (bytes_from name r.name same)))) (λ other. other))
+        (none_taken name rows (All-tail (λ (x : Named). x.name ≢ name) r rows all))
+
+    earlier_differs : (name : List ℕ) (number : ℕ) (first : Named) (rows : List Named) → All (IsBefore first) rows → is_taken_by name number rows ≡ true → bytes_eq name first.name ≡ false
+    earlier_differs name number first [] before taken = absurd (false≢true taken)
+    earlier_differs name number first (r ∷ rows) before taken =
+        by_test (bytes_eq name r.name && r.number == number)
+        (λ here. by_test (bytes_eq name first.name)
+        (λ same. absurd ((All-head (IsBefore first) r rows before).1 (sym (bytes_from name first.name same) ∙ bytes_from name r.name (and_left (bytes_eq name r.name) (r.number == number) here))))
+        (λ other. other))
+        (λ there. earlier_differs name number first rows (All-tail (IsBefore first) r rows before) (sym (or_last (bytes_eq name r.name && r.number == number) (is_taken_by name number rows) there) ∙ taken))
+
+ordered_more : (name : List ℕ) (known : Known) → IsOrdered known → is_taken name known.live ≡ false → 1 ≤ known.next → IsOrdered (known_added name known)
+ordered_more name known ordered free some = record {
   ordered =
       ordered_snoc known.live (named name known.next) ordered.ordered
       (all_both (λ (row : Named). row.number < known.next) (λ (row : Named). row.name ≢ name) known.live (all_weaker (IsWithin known.next) (λ (row : Named). row.number < known.next) known.live (λ row w. w.1) ordered.within)
-      (all_others name known.live (not_true (is_taken name known.live) (and_left (not (is_taken name known.live)) (nat_lt known.next 4294967296) admitted))));
+      (all_others name known.live free));
   within =
       All-append (IsWithin (known.next + 1)) known.live (named name known.next ∷ []) (all_weaker (IsWithin known.next) (IsWithin (known.next + 1)) known.live (λ row w. (w.0, omega (arith, w.1))) ordered.within)
       (All-cons (IsWithin (known.next + 1)) (named name known.next) [] (some, omega arith) (All-nil (IsWithin (known.next + 1))));
 }
-ordered_entry known (Delete number) ordered admitted some = record {
+
+ordered_less : (number : ℕ) (known : Known) → IsOrdered known → IsOrdered (known_without number known)
+ordered_less number known ordered = record {
   ordered = ordered_left (λ (row : Named). not (row.number == number)) known.live ordered.ordered;
   within = All-filter (λ (row : Named). not (row.number == number)) (IsWithin known.next) known.live ordered.within;
 }
+
+-- order is kept by an entry that is admitted
+pub ordered_entry : (known : Known) (entry : Entry) → IsOrdered known → admits known entry ≡ true → 1 ≤ known.next → IsOrdered (known_behind known entry)
+ordered_entry known (Add name title body) ordered admitted some =
+    ordered_more name known ordered (not_true (is_taken name known.live) (and_left (not (is_taken name known.live)) (nat_lt known.next 4294967296) admitted)) some
+ordered_entry known (Delete number) ordered admitted some = ordered_less number known ordered
+ordered_entry known (Replace number name title body) ordered admitted some =
+    ordered_more name (known_without number known) (ordered_less number known ordered)
+    (left_free name number known.live ordered.ordered (and_left (is_taken_by name number known.live) (nat_lt known.next 4294967296) admitted)) some
 
 -- the state of a command keeps order
 pub ordered_allowed : (s : State) (entry : Entry) → IsOrdered (known_of s) → 1 ≤ s.next → Allows s entry → IsOrdered (known_of (after_entry s entry))
@@ -143,6 +204,7 @@ ordered_allowed s entry ordered some allows = subst IsOrdered (sym (known_entry 
 next_grows : (s : State) (entry : Entry) → 1 ≤ s.next → 1 ≤ (after_entry s entry).next
 next_grows s (Add name title body) some = omega (arith, some)
 next_grows s (Delete number) some = some
+next_grows s (Replace number name title body) some = omega (arith, some)
 
 pub ordered_all : (s : State) (entries : List Entry) → IsOrdered (known_of s) → 1 ≤ s.next → AllowsAll s entries → IsOrdered (known_of (after_entries s entries))
 ordered_all s [] ordered some all = ordered

@@ -72,8 +72,8 @@ no_names root deleted levels extent image level place found ordered named = rw f
 -- behind what was found, the journal breaks a rule at this place
 abbrev BreaksIn : Roots → Found → List ℕ → ℕ → Type 0
 BreaksIn r found image place =
-    HasBrokenHalf (journal_of r.slot) place image
-    ⊎ ((entries : List Entry) × (tail : ℕ) × EndsAt (journal_of r.slot) tail entries image × (replayed (known_at r.root found.deleted found.levels) (placed (journal_of r.slot) entries) ≡ Err place))
+    HasBrokenHalf r.root.version (journal_of r.slot) place image
+    ⊎ ((entries : List Entry) × (tail : ℕ) × EndsAt r.root.version (journal_of r.slot) tail entries image × (replayed (known_at r.root found.deleted found.levels) (placed (journal_of r.slot) entries) ≡ Err place))
 
 -- behind the slots, a rule is broken at this place
 abbrev BreaksBehind : Roots → List ℕ → ℕ → Type 0
@@ -104,7 +104,7 @@ breaks image place (in_entries slot root deleted levels entries tail p has ends 
 record Has (r : Roots) (found : Found) (entries : List Entry) (tail : ℕ) (image : List ℕ) : Type 0 where
   counts : CountsAs r image
   is : found_in r.root image ≡ Ok found
-  journal : EndsAt (journal_of r.slot) tail entries image
+  journal : EndsAt r.root.version (journal_of r.slot) tail entries image
   known : Known
   admitted : replayed (known_at r.root found.deleted found.levels) (placed (journal_of r.slot) entries) ≡ Ok known
 
@@ -125,11 +125,11 @@ one_root image r q a b = one_counts image r.slot q.slot r.root q.root a b
 -- ---- one place
 
 one_in : (image : List ℕ) (r : Roots) (found : Found) (p q : ℕ) → BreaksIn r found image p → BreaksIn r found image q → p ≡ q
-one_in image r found p q (inl a) (inl b) = one_fault (journal_of r.slot) p q image a b
-one_in image r found p q (inl a) (inr (entries, tail, journal, refused)) = absurd (not_both (journal_of r.slot) tail p entries image journal a)
-one_in image r found p q (inr (entries, tail, journal, refused)) (inl b) = absurd (not_both (journal_of r.slot) tail q entries image journal b)
+one_in image r found p q (inl a) (inl b) = one_fault r.root.version (journal_of r.slot) p q image a b
+one_in image r found p q (inl a) (inr (entries, tail, journal, refused)) = absurd (not_both r.root.version (journal_of r.slot) tail p entries image journal a)
+one_in image r found p q (inr (entries, tail, journal, refused)) (inl b) = absurd (not_both r.root.version (journal_of r.slot) tail q entries image journal b)
 one_in image r found p q (inr (entries, tail, journal, refused)) (inr (others, end, too, also)) =
-    let same = (one_reading (journal_of r.slot) tail end entries others image journal too).1 in
+    let same = (one_reading r.root.version (journal_of r.slot) tail end entries others image journal too).1 in
     one_failure (replayed (known_at r.root found.deleted found.levels) (placed (journal_of r.slot) others)) p q
     (subst (λ (es : List Entry). replayed (known_at r.root found.deleted found.levels) (placed (journal_of r.slot) es) ≡ Err p) same refused) also
 
@@ -160,7 +160,7 @@ opened_as r found entries tail = record { slot = r.slot; root = r.root; deleted 
 
 one_has : (image : List ℕ) (r : Roots) (f g : Found) (xs ys : List Entry) (p q : ℕ) → Has r f xs p image → Has r g ys q image → opened_as r f xs p ≡ opened_as r g ys q
 one_has image r f g xs ys p q a b =
-    let read = one_reading (journal_of r.slot) p q xs ys image a.journal b.journal in
+    let read = one_reading r.root.version (journal_of r.slot) p q xs ys image a.journal b.journal in
     ap (λ (h : Found). opened_as r h xs p) (one_value (found_in r.root image) f g a.is b.is) ∙ ap (λ (es : List Entry). opened_as r g es p) read.1 ∙ ap (λ (n : ℕ). opened_as r g ys n) read.0
 
 same_has : (image : List ℕ) (r s : Roots) (f g : Found) (xs ys : List Entry) (p q : ℕ) → Has r f xs p image → Has s g ys q image → opened_as r f xs p ≡ opened_as s g ys q
@@ -177,10 +177,10 @@ one_opened image o p a b =
 -- ---- not both
 
 in_has : (image : List ℕ) (r : Roots) (f : Found) (es : List Entry) (p place : ℕ) → Has r f es p image → BreaksIn r f image place → ⊥
-in_has image r f es p place a (inl bad) = not_both (journal_of r.slot) p place es image a.journal bad
+in_has image r f es p place a (inl bad) = not_both r.root.version (journal_of r.slot) p place es image a.journal bad
 in_has image r f es p place a (inr (entries, tail, journal, refused)) =
     not_failed (replayed (known_at r.root f.deleted f.levels) (placed (journal_of r.slot) es)) a.known place a.admitted
-    (subst (λ (es : List Entry). replayed (known_at r.root f.deleted f.levels) (placed (journal_of r.slot) es) ≡ Err place) (one_reading (journal_of r.slot) tail p entries es image journal a.journal).1 refused)
+    (subst (λ (es : List Entry). replayed (known_at r.root f.deleted f.levels) (placed (journal_of r.slot) es) ≡ Err place) (one_reading r.root.version (journal_of r.slot) tail p entries es image journal a.journal).1 refused)
 
 behind_has : (image : List ℕ) (r : Roots) (f : Found) (es : List Entry) (p place : ℕ) → Has r f es p image → BreaksBehind r image place → ⊥
 behind_has image r f es p place a (inl fails) = not_failed (found_in r.root image) f place a.is fails

@@ -10,7 +10,7 @@ use Rattle.alta_journal.specs.Placed.{placed}
 use Rattle.alta_level.specs.Segments.{IsSegment}
 use Rattle.alta_content.specs.Rows.{AreDocuments, AreDocumentsBehind, Before, behind_row, end_of, ends_among, start}
 use Rattle.alta_journal.specs.declared.entry.Entry.{Entry}
-use Rattle.alta_journal.specs.declared.entry.Entry.TheVariants.{Add, Delete}
+use Rattle.alta_journal.specs.declared.entry.Entry.TheVariants.{Add, Delete, Replace}
 use Rattle.alta_meta.specs.States.{IsState, AllDiffer, name_of, number_of, Rise as StateRise}
 use Rattle.alta_meta.specs.declared.document.Document.{Document}
 use Rattle.alta_meta.specs.declared.document.State.{State}
@@ -324,6 +324,7 @@ next_stays : (s : State) (entries : List Entry) → 1 ≤ s.next → 1 ≤ (afte
 next_stays s [] some = some
 next_stays s (Add name title body ∷ entries) some = next_stays (after_entry s (Add name title body)) entries (omega (arith, some))
 next_stays s (Delete number ∷ entries) some = next_stays (after_entry s (Delete number)) entries some
+next_stays s (Replace number name title body ∷ entries) some = next_stays (after_entry s (Replace number name title body)) entries (omega (arith, some))
 
 pub stands_well : (s : State) (image : List ℕ) → StandsFor s image → IsState s
 stands_well s image stands =

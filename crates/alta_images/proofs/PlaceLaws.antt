@@ -1,4 +1,4 @@
--- What a flush leaves is in place.
+-- What a flush writes is in place.
 use Rattle.std.proofs.Common.{◌≡◌, ℕ, ◌+◌, ◌<◌, ◌≤◌, Bool, true, false, List, [], ◌∷◌, ◌++◌, length, map, refl, sym, ap, subst, ◌∙◌, arith, Ok, append_assoc}
 use Rattle.std.specs.Prelude.{not, ◌&&◌, ◌==◌, nat_eq, nat_le}
 use Rattle.std.specs.List.{All, filter, list_any, sum_by}
@@ -8,7 +8,7 @@ use Rattle.std.proofs.lemmas.List.Elements.{All-nil, All-cons, All-append, All-m
 use Rattle.std.proofs.lemmas.List.Folds.{list_any-append, flat_map-map}
 use Rattle.std.proofs.lemmas.List.Sums.{sum_by-cons}
 use Rattle.alta_journal.specs.declared.entry.Entry.{Entry}
-use Rattle.alta_journal.specs.declared.entry.Entry.TheVariants.{Add, Delete}
+use Rattle.alta_journal.specs.declared.entry.Entry.TheVariants.{Add, Delete, Replace}
 use Rattle.alta_memlevel.specs.Added.{Added}
 use Rattle.alta_content.specs.Rows.{end_of, ends_among}
 use Rattle.alta_meta.specs.Cells.{cells_of}
@@ -23,9 +23,9 @@ use Rattle.alta_images.specs.Opened.{have_ends, table_rows}
 use Rattle.alta_images.specs.Ordered.{AreBelow, RowsPrecede}
 use Rattle.alta_images.specs.Standing.{tables_by}
 use Rattle.alta_images.specs.Switching.{InPlace}
-use Rattle.alta_images.specs.Working.{flushed, rows_of}
+use Rattle.alta_images.specs.Working.{written, rows_of}
 use Rattle.alta_images.proofs.KnownLaws.{all_weaker}
-use Rattle.alta_images.proofs.KeptStates.{switched_is, placed_contents, flush_contents, flush_contents_are, flush_contents_none, no_rows, contents_of, live_rows_are, rise_some, by_levels, by_entries, rows_append, rows_by_levels}
+use Rattle.alta_images.proofs.KeptStates.{switched_is, placed_contents, flush_contents, flush_contents_are, flush_contents_none, no_rows, contents_of, live_rows_are, rise_some, by_levels, rows_append, rows_by_levels}
 use Rattle.alta_images.proofs.ReadLaws.{all_to}
 
 -- ---- the newest documents lie below what comes behind them
@@ -36,17 +36,26 @@ LiesBelow number location row = (row.number < number) × (end_of row < location)
 abbrev pub cells_in : List Added → ℕ
 cells_in added = sum_by (λ (a : Added). a.row.cells) added
 
+-- a new document in front of those behind it
+first_low : (number location : ℕ) (first : Added) (cells : ℕ) (more : List Added) → first.row.number ≡ number → first.row.first ≡ location → first.row.cells ≡ cells
+    → All (λ (a : Added). LiesBelow (number + 1 + length more) (location + cells + cells_in more) a.row) more → 1 ≤ location
+    → All (λ (a : Added). LiesBelow (number + length (first ∷ more)) (location + cells_in (first ∷ more)) a.row) (first ∷ more)
+first_low number location first cells more number_is first_is cells_is low some =
+    let sum = sum_by-cons (λ (a : Added). a.row.cells) first more in
+    All-cons (λ (a : Added). LiesBelow (number + length (first ∷ more)) (location + cells_in (first ∷ more)) a.row) first more (omega (arith, number_is), omega (arith, some, first_is, cells_is, sum))
+    (all_weaker (λ (a : Added). LiesBelow (number + 1 + length more) (location + cells + cells_in more) a.row) (λ (a : Added). LiesBelow (number + length (first ∷ more)) (location + cells_in (first ∷ more)) a.row) more
+    (λ a below. (omega (arith, below.0), omega (arith, below.1, cells_is, sum))) low)
+
 pub added_low : (number location : ℕ) (entries : List Entry) → 1 ≤ location
     → All (λ (a : Added). LiesBelow (number + length (added_from number location entries)) (location + cells_in (added_from number location entries)) a.row) (added_from number location entries)
 added_low number location [] some = All-nil (λ (a : Added). LiesBelow (number + 0) (location + 0) a.row)
 added_low number location (Add name title body ∷ entries) some =
-    let cells = cells_of name title body in
-    let first = added_at number location name cells in
-    let more = added_from (number + 1) (location + length cells) entries in
-    All-cons (λ (a : Added). LiesBelow (number + length (first ∷ more)) (location + cells_in (first ∷ more)) a.row) first more (omega arith, omega (arith, some, sum_by-cons (λ (a : Added). a.row.cells) first more))
-    (all_weaker (λ (a : Added). LiesBelow (number + 1 + length more) (location + length cells + cells_in more) a.row) (λ (a : Added). LiesBelow (number + length (first ∷ more)) (location + cells_in (first ∷ more)) a.row) more
-    (λ a low. (omega (arith, low.0), omega (arith, low.1, sum_by-cons (λ (a : Added). a.row.cells) first more))) (added_low (number + 1) (location + length cells) entries (omega (arith, some))))
+    first_low number location (added_at number location name (cells_of name title body)) (length (cells_of name title body)) (added_from (number + 1) (location + length (cells_of name title body)) entries) refl refl refl
+    (added_low (number + 1) (location + length (cells_of name title body)) entries (omega (arith, some))) some
 added_low number location (Delete n ∷ entries) some = added_low number location entries some
+added_low number location (Replace n name title body ∷ entries) some =
+    first_low number location (added_at number location name (cells_of name title body)) (length (cells_of name title body)) (added_from (number + 1) (location + length (cells_of name title body)) entries) refl refl refl
+    (added_low (number + 1) (location + length (cells_of name title body)) entries (omega (arith, some))) some
 
 -- ---- the ends of rows are theirs
 
@@ -76,14 +85,14 @@ flush_rows view =
     (λ none. ap rows_of (flush_contents_none view none) ∙ rows_by_levels view.levels ∙ sym (append-nil (level_rows view.levels)) ∙ ap (λ (rs : List DocRow). level_rows view.levels ++ rs) (sym (no_rows (newest_content view) none)))
     (λ some. ap rows_of (flush_contents_are view some) ∙ rows_append (contents_of view.levels) (newest_content view) ∙ ap (λ (rs : List DocRow). rs ++ (newest_content view).documents) (rows_by_levels view.levels))
 
-pub flush_in_place : (limit : ℕ) (held then : Holding) (root : Root) → IsSpaced held.view → 1 ≤ held.view.location → (length held.view.entries == 0) ≡ false
-    → (length held.view.levels == 16 && nat_le 1 (length (newest_content held.view).documents)) ≡ false → flushed limit held ≡ Ok then
+pub written_in_place : (limit : ℕ) (held then : Holding) (root : Root) → IsSpaced held.view → 1 ≤ held.view.location
+    → (length held.view.levels == 16 && nat_le 1 (length (newest_content held.view).documents)) ≡ false → written limit held ≡ Ok then
     → root.next_number ≡ then.view.next → root.next_location ≡ then.view.location → InPlace root then.view.deleted (map tables_by then.view.levels)
-flush_in_place limit held then root spaced positive some few e number location =
+written_in_place limit held then root spaced positive few e number location =
     let view = held.view in
     let news = map (λ (a : Added). a.row) (newest view) in
     let live = filter (λ (r : DocRow). not (ends_among (gone view) r)) news in
-    let is = switched_is limit held (map stays view.levels ++ coming (newest_content view)) held.job then (sym (ap (by_entries limit held) some ∙ ap (by_levels limit held) few) ∙ e) in
+    let is = switched_is limit held (map stays view.levels ++ coming (newest_content view)) held.job then (sym (ap (by_levels limit held) few) ∙ e) in
     let levels = is.now.levels in
     let rows : table_rows (map tables_by levels) ≡ level_rows levels = flat_map-map (λ (t : Tables). t.documents) tables_by levels in
     let all : table_rows (map tables_by levels) ≡ level_rows view.levels ++ live =

@@ -208,7 +208,7 @@ written_stands s coming levels image is state_is ordered =
               (subst (λ (ts : List Tables). AreOrdered (live_in coming.deleted (table_rows ts))) is.put.are.tables here.ordered)
               ∙ ap (λ (ts : List Tables). Ok ts) (sym is.put.are.tables);
           ends = is.place.ends;
-          journal = subst (λ (es : List Entry). EndsAt (journal_of coming.slot) coming.tail es image) (sym is.put.empty) is.put.journal;
+          journal = subst (λ (es : List Entry). EndsAt coming.root.version (journal_of coming.slot) coming.tail es image) (sym is.put.empty) is.put.journal;
           known = known_at coming.root coming.deleted coming.levels;
           admitted = ap (λ (es : List Entry). replayed (known_at coming.root coming.deleted coming.levels) (placed (journal_of coming.slot) es)) is.put.empty;
         };

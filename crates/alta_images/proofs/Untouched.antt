@@ -82,7 +82,7 @@ named_on ranges o old new named touches spares =
       list = deleted_same o.root old new (All-head (IsSame old new) o.root.deletions o.root.levels.items same) ∙ named.list;
       tables = levels_same o.root o.deleted [] o.root.levels.items old new (All-tail (IsSame old new) o.root.deletions o.root.levels.items same) ∙ named.tables;
       ends = named.ends;
-      journal = ends_untouched (journal_of o.slot) o.tail o.entries ranges old new named.journal touches spares.half;
+      journal = ends_untouched o.root.version (journal_of o.slot) o.tail o.entries ranges old new named.journal touches spares.half;
       known = named.known;
       admitted = named.admitted;
     }

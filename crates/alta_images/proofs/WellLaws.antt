@@ -15,14 +15,14 @@ use Rattle.alta_postings.specs.Deltas.{stream_bytes}
 use Rattle.alta_root.specs.Root.{no_extent}
 use Rattle.alta_images.specs.Levels.{Level}
 use Rattle.alta_images.specs.Views.{View}
-use Rattle.alta_images.specs.Work.{Job, Coming, stays, coming, newest, newest_content, gone, gone_among, is_gone, is_merged, leaves_out, job_of, begun, oldest_joined, with_oldest, whole_of, level_rows, Task, enters, flushes, merges, steps, fits}
+use Rattle.alta_images.specs.Work.{Job, Coming, stays, coming, newest, newest_content, gone, gone_among, is_gone, is_merged, leaves_out, job_of, begun, oldest_joined, with_oldest, whole_of, level_rows, Task, enters, flushes, merges, steps, fits, needs_raise}
 use Rattle.alta_images.proofs.Tests.{by_test, bytes_from, equal_from}
 use Rattle.alta_content.specs.declared.document.DocRow.{DocRow}
 use Rattle.alta_images.specs.Chain.{◌>>=◌}
 use Rattle.alta_root.specs.Gaps.{first_gap, greatest_gap}
 use Rattle.alta_images.specs.Holding.{Holding, IsJob, IsJobOf, IsSpaced, IsWell, taken_by_held}
 use Rattle.alta_images.specs.Ordered.{RowsPrecede}
-use Rattle.alta_images.specs.Working.{Full, Placed, in_front, placed, placed_at, placed_levels, placed_list, switched, flushed, merged, stepped, moved, entered, worked, rows_of}
+use Rattle.alta_images.specs.Working.{Full, Placed, in_front, placed, placed_at, placed_levels, placed_list, switched, written, flushed, merged, stepped, moved, entered, worked, rows_of}
 use Rattle.alta_root.proofs.GapFunctions.{first_some}
 use Rattle.alta_images.proofs.KnownLaws.{all_weaker, all_both}
 use Rattle.alta_images.proofs.PlaceLaws.{flush_rows}
@@ -157,15 +157,14 @@ no_job job e = absurd cc
 pub one_job : (a b : Job) → ◌≡◌ {A = Option Job} (Some a) (Some b) → a ≡ b
 one_job a b e = cc
 
-flush_well : (limit : ℕ) (held then : Holding) → IsSpaced held.view → IsWell held → flushed limit held ≡ Ok then → IsWell then
-flush_well limit held then spaced well e =
+pub written_well : (limit : ℕ) (held then : Holding) → IsSpaced held.view → IsWell held → written limit held ≡ Ok then → IsWell then
+written_well limit held then spaced well e =
     let view = held.view in
-    by_test (length view.entries == 0) (λ none. subst IsWell (ok_is held then (sym (ap (by_entries limit held) none) ∙ e)) well)
-    (λ some. by_test (length view.levels == 16 && nat_le 1 (length (newest_content view).documents))
-    (λ many. switched_well limit held (with_oldest (oldest_joined held.job view) view) then well (sym (ap (by_entries limit held) some ∙ ap (by_levels limit held) many) ∙ e))
+    by_test (length view.levels == 16 && nat_le 1 (length (newest_content view).documents))
+    (λ many. switched_well limit held (with_oldest (oldest_joined held.job view) view) then well (sym (ap (by_levels limit held) many) ∙ e))
     (λ few.
-    let is = switched_is limit held (map stays view.levels ++ coming (newest_content view)) held.job then (sym (ap (by_entries limit held) some ∙ ap (by_levels limit held) few) ∙ e) in
-    record { listed = switched_listed limit held (map stays view.levels ++ coming (newest_content view)) held.job then well is; job = by_job limit held then spaced held.job refl well.job is }))
+    let is = switched_is limit held (map stays view.levels ++ coming (newest_content view)) held.job then (sym (ap (by_levels limit held) few) ∙ e) in
+    record { listed = switched_listed limit held (map stays view.levels ++ coming (newest_content view)) held.job then well is; job = by_job limit held then spaced held.job refl well.job is })
   where
     by_job : (limit : ℕ) (held then : Holding) → IsSpaced held.view → (job : Option Job) → held.job ≡ job → IsJobOf held.job held.view
         → IsSwitched limit held (map stays held.view.levels ++ coming (newest_content held.view)) held.job then → IsJobOf then.job then.view
@@ -173,6 +172,11 @@ flush_well limit held then spaced well e =
     by_job limit held then spaced (Some job) some is_job is =
         subst (λ (o : Option Job). IsJobOf o then.view) (sym (ap (λ (h : Holding). h.job) is.then_is ∙ some))
         (flush_job limit held job then spaced (subst (λ (o : Option Job). IsJobOf o held.view) some is_job) (subst (λ (o : Option Job). IsSwitched limit held (map stays held.view.levels ++ coming (newest_content held.view)) o then) some is))
+
+flush_well : (limit : ℕ) (held then : Holding) → IsSpaced held.view → IsWell held → flushed limit held ≡ Ok then → IsWell then
+flush_well limit held then spaced well e =
+    by_test (length held.view.entries == 0) (λ none. subst IsWell (ok_is held then (sym (ap (by_entries limit held) none) ∙ e)) well)
+    (λ some. written_well limit held then spaced well (sym (ap (by_entries limit held) some) ∙ e))
 
 merge_well : (limit : ℕ) (held then : Holding) → IsWell held → merged limit held ≡ Ok then → IsWell then
 merge_well limit held then well e =
@@ -275,15 +279,21 @@ enter_well held entry well = record { listed = well.listed; job = by_job held en
 abbrev pub by_room : ℕ → Holding → Entry → Bool → Result Holding Full
 by_room limit held entry b = cond b (Ok (entered held entry)) (flushed limit held >>= λ then. Ok (entered then entry))
 
+abbrev pub by_raise : ℕ → Holding → Entry → Bool → Result Holding Full
+by_raise limit held entry b = cond b (written limit held >>= λ then. Ok (entered then entry)) (by_room limit held entry (fits held.view.entries entry))
+
 -- what a task makes of what is held is well formed
 pub work_well : (limit : ℕ) (held then : Holding) (task : Task) → IsSpaced held.view → IsWell held → worked limit held task ≡ Ok then → IsWell then
 work_well limit held then (enters entry) spaced well e =
-    by_test (fits held.view.entries entry) (λ room. subst IsWell (ok_is (entered held entry) then (sym (ap (by_room limit held entry) room) ∙ e)) (enter_well held entry well))
-    (λ none. by_flush (flushed limit held) refl (sym (ap (by_room limit held entry) none) ∙ e))
+    by_test (needs_raise held.view.version entry)
+    (λ raise. by_switch (written limit held) (λ middle is. written_well limit held middle spaced well is) (sym (ap (by_raise limit held entry) raise) ∙ e))
+    (λ still. by_test (fits held.view.entries entry)
+    (λ room. subst IsWell (ok_is (entered held entry) then (sym (ap (by_raise limit held entry) still ∙ ap (by_room limit held entry) room) ∙ e)) (enter_well held entry well))
+    (λ none. by_switch (flushed limit held) (λ middle is. flush_well limit held middle spaced well is) (sym (ap (by_raise limit held entry) still ∙ ap (by_room limit held entry) none) ∙ e)))
   where
-    by_flush : (r : Result Holding Full) → flushed limit held ≡ r → (r >>= λ then. Ok (entered then entry)) ≡ Ok then → IsWell then
-    by_flush (Ok middle) is e = subst IsWell (ok_is (entered middle entry) then e) (enter_well middle entry (flush_well limit held middle spaced well is))
-    by_flush (Err full) is e = absurd (err_ok then full e)
+    by_switch : (r : Result Holding Full) → ((middle : Holding) → r ≡ Ok middle → IsWell middle) → (r >>= λ then. Ok (entered then entry)) ≡ Ok then → IsWell then
+    by_switch (Ok middle) is e = subst IsWell (ok_is (entered middle entry) then e) (enter_well middle entry (is middle refl))
+    by_switch (Err full) is e = absurd (err_ok then full e)
 work_well limit held then flushes spaced well e = flush_well limit held then spaced well e
 work_well limit held then merges spaced well e = merge_well limit held then well e
 work_well limit held then (steps n) spaced well e = step_well limit held n then spaced well e

@@ -1,6 +1,6 @@
 -- What the work on levels does, worked out on small contents.
-use Rattle.std.proofs.Common.{◌≡◌, ℕ, ◌+◌, ◌-◌, ◌*◌, true, false, List, [], ◌∷◌, ◌++◌, length, map, refl, ap, Ok, Err, Result}
-use Rattle.std.specs.Prelude.{Some, None, Option, nat_le}
+use Rattle.std.proofs.Common.{◌≡◌, ℕ, ◌+◌, ◌-◌, ◌*◌, Bool, true, false, List, [], ◌∷◌, ◌++◌, length, map, refl, ap, Ok, Err, Result}
+use Rattle.std.specs.Prelude.{◌==◌, ◌&&◌, Some, None, Option, nat_le}
 use Rattle.std.specs.List.{flat_map}
 use Rattle.std.specs.Str.{chars}
 use Rattle.alta_codec.specs.Numbers.{spelling, number_bytes}
@@ -9,7 +9,7 @@ use Rattle.alta_format.specs.Format.{entries_bytes}
 use Rattle.alta_journal.specs.Entry.{four_bytes, eight_bytes}
 use Rattle.alta_journal.specs.Record.{record_of}
 use Rattle.alta_journal.specs.declared.entry.Entry.{Entry}
-use Rattle.alta_journal.specs.declared.entry.Entry.TheVariants.{Add, Delete}
+use Rattle.alta_journal.specs.declared.entry.Entry.TheVariants.{Add, Delete, Replace}
 use Rattle.alta_level.specs.Coded.{summary_bytes, table_fields}
 use Rattle.alta_level.specs.Segments.{segment_bytes}
 use Rattle.alta_content.specs.declared.content.Content.{Content}
@@ -19,7 +19,8 @@ use Rattle.alta_postings.specs.Deltas.{stream_bytes}
 use Rattle.alta_root.specs.Root.{no_extent}
 use Rattle.alta_images.specs.Levels.{Level, locations_from}
 use Rattle.alta_images.specs.Views.{state_of}
-use Rattle.alta_images.specs.Work.{Job, enters, flushes, merges, steps, fits}
+use Rattle.alta_root.specs.declared.places.TheConstants.{VERSION}
+use Rattle.alta_images.specs.Work.{Job, enters, flushes, merges, steps, fits, needs_raise}
 use Rattle.alta_table.specs.Terms.{terms_bytes_behind}
 use Rattle.alta_content.specs.declared.document.DocRow.{DocRow}
 use Rattle.unicode_segmentation.specs.Segments.{segments, cut}
@@ -92,7 +93,7 @@ new_level offset bytes content = record { extent = at offset bytes; content = co
 
 abbrev held_with : List Level → List ℕ → Extent → List Entry → Option Job → Holding
 held_with levels deleted list entries job = record {
-  view = record { next = 5; location = 9; levels = levels; deleted = deleted; entries = entries };
+  view = record { version = VERSION; next = 5; location = 9; levels = levels; deleted = deleted; entries = entries };
   list = list;
   job = job;
 }
@@ -142,7 +143,7 @@ step_ends_later = refl
 -- one that ends while documents are in the journal flushes them too: the last level stands behind the first that is written
 step_ends_with_newest : worked wide (three_levels (add_a ∷ []) None) (steps 3)
     ≡ Ok (record {
-      view = record { next = 6; location = 12; levels = new_level 50 52 one ∷ level_at 300 third ∷ new_level 200 66 (named_at 5 9) ∷ []; deleted = []; entries = [] };
+      view = record { version = VERSION; next = 6; location = 12; levels = new_level 50 52 one ∷ level_at 300 third ∷ new_level 200 66 (named_at 5 9) ∷ []; deleted = []; entries = [] };
       list = no_extent;
       job = None;
     })
@@ -175,7 +176,7 @@ merge_gives_up_the_job = refl
 
 -- the newest documents are in the one level, and it is written anew where it is the only one that is left
 merge_of_newest : worked wide (held_with (level_at 0 one ∷ []) [] no_extent (Delete 1 ∷ add_a ∷ []) None) merges
-    ≡ Ok (record { view = record { next = 6; location = 12; levels = new_level 50 66 (named_at 5 9) ∷ []; deleted = []; entries = [] }; list = no_extent; job = None })
+    ≡ Ok (record { view = record { version = VERSION; next = 6; location = 12; levels = new_level 50 66 (named_at 5 9) ∷ []; deleted = []; entries = [] }; list = no_extent; job = None })
 unfolding segments cut chars segment_bytes entries_bytes terms_bytes_behind number_bytes spelling stream_bytes summary_bytes table_fields
 merge_of_newest = refl
 
@@ -194,7 +195,7 @@ flush_of_deletes = refl
 -- a list that stays the same keeps its extent, and below 16 levels the job goes on
 flush_keeps_list_and_job : worked wide (three_levels (add_a ∷ []) (Some (job_at (4 ∷ []) 2))) flushes
     ≡ Ok (record {
-      view = record { next = 6; location = 12; levels = level_at 0 one ∷ level_at 150 two ∷ level_at 300 third ∷ new_level 50 66 (named_at 5 9) ∷ []; deleted = 4 ∷ []; entries = [] };
+      view = record { version = VERSION; next = 6; location = 12; levels = level_at 0 one ∷ level_at 150 two ∷ level_at 300 third ∷ new_level 50 66 (named_at 5 9) ∷ []; deleted = 4 ∷ []; entries = [] };
       list = at 400 50;
       job = Some (job_at (4 ∷ []) 2);
     })
@@ -203,7 +204,7 @@ flush_keeps_list_and_job = refl
 
 -- the newest documents that are left become the last level, behind all numbers and locations of the journal
 flush_of_documents : worked wide (held_with (level_at 0 one ∷ []) [] no_extent (add_a ∷ Add (98 ∷ []) [] [] ∷ Delete 6 ∷ []) None) flushes
-    ≡ Ok (record { view = record { next = 7; location = 15; levels = level_at 0 one ∷ new_level 50 66 (named_at 5 9) ∷ []; deleted = []; entries = [] }; list = no_extent; job = None })
+    ≡ Ok (record { view = record { version = VERSION; next = 7; location = 15; levels = level_at 0 one ∷ new_level 50 66 (named_at 5 9) ∷ []; deleted = []; entries = [] }; list = no_extent; job = None })
 unfolding segments cut chars segment_bytes entries_bytes terms_bytes_behind number_bytes spelling stream_bytes summary_bytes table_fields
 flush_of_documents = refl
 
@@ -222,7 +223,7 @@ small_level n = level_at (50 * n) (small n)
 
 abbrev sixteen : List ℕ → Extent → List Entry → Option Job → Holding
 sixteen deleted list entries job = record {
-  view = record { next = 17; location = 33; levels = map small_level (locations_from 1 16); deleted = deleted; entries = entries };
+  view = record { version = VERSION; next = 17; location = 33; levels = map small_level (locations_from 1 16); deleted = deleted; entries = entries };
   list = list;
   job = job;
 }
@@ -235,19 +236,19 @@ behind_two = map small_level (locations_from 3 14)
 
 -- a live newest document makes the two oldest one, with what is gone left out
 flush_of_sixteen : worked wide (sixteen [] no_extent (add_a ∷ []) None) flushes
-    ≡ Ok (record { view = record { next = 18; location = 36; levels = new_level 850 59 (joined (small 1) (small 2) []) ∷ behind_two ++ new_level 909 66 (named_at 17 33) ∷ []; deleted = []; entries = [] }; list = no_extent; job = None })
+    ≡ Ok (record { view = record { version = VERSION; next = 18; location = 36; levels = new_level 850 59 (joined (small 1) (small 2) []) ∷ behind_two ++ new_level 909 66 (named_at 17 33) ∷ []; deleted = []; entries = [] }; list = no_extent; job = None })
 unfolding segments cut chars locations_from segment_bytes entries_bytes terms_bytes_behind number_bytes spelling stream_bytes summary_bytes table_fields
 flush_of_sixteen = refl
 
 -- with a job they become the job's content: what is gone since it began stays deleted, beside what was dead
 flush_of_sixteen_with_a_job : worked wide (sixteen (2 ∷ []) (at 5000 1) (Delete 2 ∷ add_a ∷ []) (Some (job_of_small (2 ∷ [])))) flushes
-    ≡ Ok (record { view = record { next = 18; location = 36; levels = new_level 850 52 (small 2) ∷ behind_two ++ new_level 902 66 (named_at 17 33) ∷ []; deleted = 4 ∷ []; entries = [] }; list = at 0 1; job = None })
+    ≡ Ok (record { view = record { version = VERSION; next = 18; location = 36; levels = new_level 850 52 (small 2) ∷ behind_two ++ new_level 902 66 (named_at 17 33) ∷ []; deleted = 4 ∷ []; entries = [] }; list = at 0 1; job = None })
 unfolding segments cut chars locations_from segment_bytes entries_bytes terms_bytes_behind number_bytes spelling stream_bytes summary_bytes table_fields
 flush_of_sixteen_with_a_job = refl
 
 -- and without a live newest document all stay
 flush_of_sixteen_as_they_are : worked wide (sixteen [] no_extent (Delete 1 ∷ []) None) flushes
-    ≡ Ok (record { view = record { next = 17; location = 33; levels = map small_level (locations_from 1 16); deleted = 2 ∷ []; entries = [] }; list = at 0 1; job = None })
+    ≡ Ok (record { view = record { version = VERSION; next = 17; location = 33; levels = map small_level (locations_from 1 16); deleted = 2 ∷ []; entries = [] }; list = at 0 1; job = None })
 unfolding locations_from number_bytes spelling stream_bytes
 flush_of_sixteen_as_they_are = refl
 
@@ -319,12 +320,36 @@ delete_does_not : (entries : List Entry) (n : ℕ) → length (flat_map record_o
 unfolding four_bytes eight_bytes
 delete_does_not entries n used = ap (λ u. nat_le (u + 14 + 1) 1048576) used
 
+-- a root of any version may have a delete
+delete_raises_none : (version n : ℕ) → needs_raise version (Delete n) ≡ false
+delete_raises_none version n = and_false (version == 1)
+  where
+    and_false : (b : Bool) → (b && false) ≡ false
+    and_false true = refl
+    and_false false = refl
+
 -- one that fits is the last of the journal, and one that does not finds it flushed
 entry_that_fits : (held : Holding) (n : ℕ) → length (flat_map record_of held.view.entries) ≡ 1048561 → worked wide held (enters (Delete n)) ≡ Ok (entered held (Delete n))
-entry_that_fits held n used = rw (delete_fits held.view.entries n used) refl
+entry_that_fits held n used = rw (delete_raises_none held.view.version n, delete_fits held.view.entries n used) refl
 
 entry_that_does_not : (held then : Holding) (n : ℕ) → length (flat_map record_of held.view.entries) ≡ 1048562 → flushed wide held ≡ Ok then → worked wide held (enters (Delete n)) ≡ Ok (entered then (Delete n))
-entry_that_does_not held then n used flush = rw (delete_does_not held.view.entries n used) rw flush refl
+entry_that_does_not held then n used flush = rw (delete_raises_none held.view.version n, delete_does_not held.view.entries n used) rw flush refl
 
 entry_without_a_place : (held : Holding) (full : Full) (n : ℕ) → length (flat_map record_of held.view.entries) ≡ 1048562 → flushed wide held ≡ Err full → worked wide held (enters (Delete n)) ≡ Err full
-entry_without_a_place held full n used flush = rw (delete_does_not held.view.entries n used) rw flush refl
+entry_without_a_place held full n used flush = rw (delete_raises_none held.view.version n, delete_does_not held.view.entries n used) rw flush refl
+
+-- ---- a root of version 1
+
+abbrev old_with : List Level → List ℕ → Extent → Holding
+old_with levels deleted list = record { view = record { version = 1; next = 5; location = 9; levels = levels; deleted = deleted; entries = [] }; list = list; job = None }
+
+-- a replace finds it raised to the last version, where the journal is empty too: the levels and the list stay
+raise_of_none : worked wide (old_with (level_at 0 one ∷ level_at 150 two ∷ []) (4 ∷ []) (at 400 1)) (enters (Replace 1 (97 ∷ []) [] []))
+    ≡ Ok (held_with (level_at 0 one ∷ level_at 150 two ∷ []) (4 ∷ []) (at 400 1) (Replace 1 (97 ∷ []) [] [] ∷ []) None)
+raise_of_none = refl
+
+-- an add that is short stays behind the others
+short_stays : worked wide (old_with (level_at 0 one ∷ []) [] no_extent) (enters add_a)
+    ≡ Ok (record { view = record { version = 1; next = 5; location = 9; levels = level_at 0 one ∷ []; deleted = []; entries = add_a ∷ [] }; list = no_extent; job = None })
+unfolding four_bytes
+short_stays = refl

@@ -52,10 +52,10 @@ pub data IsBrokenAt (image : List ℕ) : ℕ → Type 0 where
       → have_ends levels deleted ≡ false → IsBrokenAt image root.deletions.place
   -- the records of the journal, each by itself
   in_records : (slot : Slot) (root : Root) (deleted : List ℕ) (levels : List Tables) (place : ℕ) → HasLevels slot root deleted levels image
-      → have_ends levels deleted ≡ true → HasBrokenHalf (journal_of slot) place image → IsBrokenAt image place
+      → have_ends levels deleted ≡ true → HasBrokenHalf root.version (journal_of slot) place image → IsBrokenAt image place
   -- the entries, each against the documents before it
   in_entries : (slot : Slot) (root : Root) (deleted : List ℕ) (levels : List Tables) (entries : List Entry) (tail place : ℕ) → HasLevels slot root deleted levels image
-      → have_ends levels deleted ≡ true → EndsAt (journal_of slot) tail entries image
+      → have_ends levels deleted ≡ true → EndsAt root.version (journal_of slot) tail entries image
       → replayed (known_at root deleted levels) (placed (journal_of slot) entries) ≡ Err place → IsBrokenAt image place
 
 -- ---- streams and summaries, which opening does not test

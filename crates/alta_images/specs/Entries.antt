@@ -1,21 +1,24 @@
 -- What the entries of the journal do to a state, one after the other.
 use Rattle.std.specs.Prelude.{◌≡◌, ℕ, ◌+◌, ◌<◌, true, false, List, [], ◌∷◌, ◌++◌, map}
 use Rattle.alta_journal.specs.declared.entry.Entry.{Entry}
-use Rattle.alta_journal.specs.declared.entry.Entry.TheVariants.{Add, Delete}
+use Rattle.alta_journal.specs.declared.entry.Entry.TheVariants.{Add, Delete, Replace}
 use Rattle.alta_journal.specs.declared.placed.Placed.{Placed}
 use Rattle.alta_meta.specs.declared.document.State.{State}
-use Rattle.alta_images.specs.States.{has_name, has_number, with_added, without}
+use Rattle.alta_images.specs.States.{has_name, has_named, has_number, with_added, without}
 
 -- The state allows the entry: one that adds has a name that no live document has, and a number left for it; one that
--- deletes has the number of a live document.
+-- deletes has the number of a live document; one that replaces has the name and the number of a live document, and a number is
+-- left for the new one.
 abbrev pub Allows : State → Entry → Type 0
 Allows s (Add name title body) = (has_name name s ≡ false) × (s.next < 4294967296)
 Allows s (Delete number) = has_number number s ≡ true
+Allows s (Replace number name title body) = (has_named name number s ≡ true) × (s.next < 4294967296)
 
--- the state after an entry
+-- the state after an entry: a replace leaves out its number, and then does as an add
 abbrev pub after_entry : State → Entry → State
 after_entry s (Add name title body) = with_added name title body s
 after_entry s (Delete number) = without number s
+after_entry s (Replace number name title body) = with_added name title body (without number s)
 
 -- the state after entries
 abbrev pub after_entries : State → List Entry → State

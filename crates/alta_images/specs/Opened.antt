@@ -137,7 +137,7 @@ pub record IsNamed (opened : Opened) (image : List ℕ) : Type 0 where
   pub list : deleted_in opened.root image ≡ Ok opened.deleted
   pub tables : levels_in opened.root opened.deleted image ≡ Ok opened.levels
   pub ends : have_ends opened.levels opened.deleted ≡ true
-  pub journal : EndsAt (journal_of opened.slot) opened.tail opened.entries image
+  pub journal : EndsAt opened.root.version (journal_of opened.slot) opened.tail opened.entries image
   pub known : Known
   pub admitted : replayed (known_at opened.root opened.deleted opened.levels) (placed (journal_of opened.slot) opened.entries) ≡ Ok known
 

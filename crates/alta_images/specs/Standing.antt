@@ -23,6 +23,7 @@ pub record AreLevels (opened : Opened) (levels : List Level) (image : List ℕ) 
 -- what is opened, with its levels' contents
 abbrev pub view_of : Opened → List Level → View
 view_of opened levels = record {
+  version = opened.root.version;
   next = opened.root.next_number;
   location = opened.root.next_location;
   levels = levels;

@@ -1,9 +1,10 @@
 -- What commands do to a state.
-use Rattle.std.specs.Prelude.{◌≡◌, ℕ, ◌+◌, ◌-◌, ◌≤◌, ◌==◌, Bool, false, not, List, [], ◌∷◌, ◌++◌, length, Option, option_map}
+use Rattle.std.specs.Prelude.{◌≡◌, ℕ, ◌+◌, ◌-◌, ◌≤◌, ◌==◌, Bool, false, not, ◌&&◌, List, [], ◌∷◌, ◌++◌, length, Option, option_map}
 use Rattle.std.specs.List.{list_any, find, filter, sum_by}
 use Rattle.std.specs.Str.{bytes_eq}
 use Rattle.alta_codec.specs.Bytes.{has_byte}
 use Rattle.alta_codec.specs.Name.{IsName}
+use Rattle.alta_journal.specs.declared.places.TheConstants.{TEXTS_BYTES}
 use Rattle.alta_meta.specs.Cells.{cells_of}
 use Rattle.alta_meta.specs.declared.document.Document.{Document}
 use Rattle.alta_meta.specs.declared.document.State.{State}
@@ -23,6 +24,10 @@ has_number_in number documents = list_any (λ (d : Document). d.number == number
 -- a live document has this number
 abbrev pub has_number : ℕ → State → Bool
 has_number number s = has_number_in number s.documents
+
+-- a live document has this name and this number
+abbrev pub has_named : List ℕ → ℕ → State → Bool
+has_named name number s = list_any (λ (d : Document). bytes_eq name d.name && d.number == number) s.documents
 
 -- the number of the live document with this name
 abbrev pub number_of : List ℕ → State → Option ℕ
@@ -50,6 +55,10 @@ with_deleted name s = record {
   documents = filter (λ (d : Document). not (bytes_eq name d.name)) s.documents;
 }
 
+-- the document with this name is left out, and then one more is added under the name
+abbrev pub with_replaced : List ℕ → List ℕ → List ℕ → State → State
+with_replaced name title body s = with_added name title body (with_deleted name s)
+
 -- the document with this number is left out
 abbrev pub without : ℕ → State → State
 without number s = record {
@@ -64,4 +73,4 @@ pub record IsDocument (name title body : List ℕ) : Type 0 where
   pub title_is_a_line : has_byte 10 title ≡ false
   pub title_is_a_field : has_byte 9 title ≡ false
   pub body_is_a_line : has_byte 10 body ≡ false
-  pub short : length name + length title + length body ≤ 65590
+  pub short : length name + length title + length body ≤ TEXTS_BYTES

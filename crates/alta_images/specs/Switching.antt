@@ -4,6 +4,7 @@ use Rattle.std.specs.List.{All}
 use Rattle.alta_codec.specs.declared.extent.Extent.{Extent}
 use Rattle.alta_disk.specs.Parts.{Clear}
 use Rattle.alta_codec.specs.Bytes.{AreBytes}
+use Rattle.alta_journal.specs.Entry.{MayBeRecorded}
 use Rattle.alta_journal.specs.Journal.{EndsAt}
 use Rattle.alta_journal.specs.Places.{HasClosedGate, half_at}
 use Rattle.alta_journal.specs.Record.{record_of, body_of}
@@ -14,7 +15,7 @@ use Rattle.alta_postings.specs.Deltas.{Spells}
 use Rattle.alta_root.specs.Places.{IsOpen, fields_at}
 use Rattle.alta_root.specs.Root.{body_of as slot_body, extents_of, no_extent}
 use Rattle.alta_root.specs.Switches.{MayFollow}
-use Rattle.alta_root.specs.declared.places.TheConstants.{HEAD_BYTES, SLOTS_BYTES}
+use Rattle.alta_root.specs.declared.places.TheConstants.{HEAD_BYTES, SLOTS_BYTES, VERSION}
 use Rattle.alta_root.specs.declared.root.Root.{Root}
 use Rattle.alta_root.specs.declared.slot.Slot.{Slot}
 use Rattle.alta_root.specs.declared.slot.Slot.TheVariants.{A, B}
@@ -52,15 +53,17 @@ pub record MayStand (s : State) (coming : Opened) (image : List ℕ) : Type 0 wh
 abbrev pub with_entry : Opened → Entry → Opened
 with_entry o entry = record o { entries = o.entries ++ entry ∷ []; tail = o.tail + length (record_of entry) }
 
--- An entry may be appended: it is admitted behind those that are there, and its record fits in the half, with the next gate.
+-- An entry may be appended: it is admitted behind those that are there, the root's version allows its record, and this fits in
+-- the half, with the next gate.
 pub record MayAppend (entry : Entry) (o : Opened) (known : Known) : Type 0 where
   pub admitted : admits known entry ≡ true
+  pub recorded : MayBeRecorded o.root.version entry
   pub fits : o.tail + (1 + length (body_of entry)) ≤ journal_of o.slot + HALF_BYTES
 
 -- ---- a disk without documents
 
 abbrev pub empty_root : Root
-empty_root = record { sequence = 0; next_number = 1; next_location = 1; levels = record { items = [] }; deletions = no_extent }
+empty_root = record { version = VERSION; sequence = 0; next_number = 1; next_location = 1; levels = record { items = [] }; deletions = no_extent }
 
 -- what a disk without documents is opened as
 abbrev pub empty_opened : Opened
@@ -68,7 +71,7 @@ empty_opened = record { slot = A; root = empty_root; deleted = []; levels = []; 
 
 -- what is held of it: no level, no deleted end, no entry and no job, and the first number and location come next
 abbrev pub empty_held : Holding
-empty_held = record { view = record { next = 1; location = 1; levels = []; deleted = []; entries = [] }; list = no_extent; job = None }
+empty_held = record { view = record { version = VERSION; next = 1; location = 1; levels = []; deleted = []; entries = [] }; list = no_extent; job = None }
 
 -- The first slot is open, and says the root without documents; the second is closed, and so is the first gate of the journal.
 pub record IsFormatted (image : List ℕ) : Type 0 where
@@ -99,7 +102,7 @@ pub record IsPut (coming : Opened) (levels : List Level) (image : List ℕ) : Ty
   pub bytes : All (λ (l : Level). AreBytes (bytes_at l.extent image) × (length (bytes_at l.extent image) ≡ l.extent.bytes) × (l.extent.bytes < 2 ^ 64)) levels
   pub list : Spells (bytes_at coming.root.deletions image) coming.deleted
   pub empty : coming.entries ≡ []
-  pub journal : EndsAt (journal_of coming.slot) coming.tail [] image
+  pub journal : EndsAt coming.root.version (journal_of coming.slot) coming.tail [] image
 
 -- It was put there, and is in place.
 pub record IsWritten (coming : Opened) (levels : List Level) (image : List ℕ) : Type 0 where

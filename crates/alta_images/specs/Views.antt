@@ -6,9 +6,10 @@ use Rattle.alta_meta.specs.declared.document.State.{State}
 use Rattle.alta_images.specs.Entries.{after_entries}
 use Rattle.alta_images.specs.Levels.{Level, documents_of}
 
--- What an image says: the root's next number and next location, its levels, the oldest first, the ends of their documents that
+-- What an image says: the root's version, its next number and next location, its levels, the oldest first, the ends of their documents that
 -- are deleted, and the entries of its journal half.
 pub record View : Type 0 where
+  pub version : ℕ
   pub next : ℕ
   pub location : ℕ
   pub levels : List Level
@@ -18,6 +19,7 @@ pub record View : Type 0 where
 -- the view with one entry more
 abbrev pub with_entry : View → Entry → View
 with_entry view entry = record {
+  version = view.version;
   next = view.next;
   location = view.location;
   levels = view.levels;

@@ -1,10 +1,11 @@
 -- What the work on levels does to what a store holds.
-use Rattle.std.specs.Prelude.{ℕ, ◌+◌, ◌==◌, nat_le, Bool, false, ◌&&◌, ◌||◌, cond, List, [], ◌∷◌, ◌++◌, length, take, drop, map, Option, Some, None}
+use Rattle.std.specs.Prelude.{ℕ, ◌+◌, ◌==◌, nat_le, Bool, false, not, ◌&&◌, ◌||◌, cond, List, [], ◌∷◌, ◌++◌, length, take, drop, map, Option, Some, None}
 use Rattle.std.specs.List.{filter, flat_map, list_any}
 use Rattle.alta_codec.specs.declared.extent.Extent.{Extent}
+use Rattle.alta_journal.specs.Entry.{is_old}
 use Rattle.alta_journal.specs.Record.{record_of}
 use Rattle.alta_journal.specs.declared.entry.Entry.{Entry}
-use Rattle.alta_journal.specs.declared.entry.Entry.TheVariants.{Add, Delete}
+use Rattle.alta_journal.specs.declared.entry.Entry.TheVariants.{Add, Delete, Replace}
 use Rattle.alta_journal.specs.declared.places.TheConstants.{HALF_BYTES}
 use Rattle.alta_content.specs.Rows.{end_of, ends_among}
 use Rattle.alta_content.specs.declared.content.Content.{Content}
@@ -41,6 +42,8 @@ added_from number location [] = []
 added_from number location (Add name title body ∷ entries) =
     added_at number location name (cells_of name title body) ∷ added_from (number + 1) (location + length (cells_of name title body)) entries
 added_from number location (Delete n ∷ entries) = added_from number location entries
+added_from number location (Replace n name title body ∷ entries) =
+    added_at number location name (cells_of name title body) ∷ added_from (number + 1) (location + length (cells_of name title body)) entries
 
 -- the newest documents: those that the journal's entries add
 abbrev pub newest : View → List Added
@@ -50,6 +53,7 @@ newest view = added_from view.next view.location view.entries
 abbrev pub leaves_out : ℕ → Entry → Bool
 leaves_out number (Add name title body) = false
 leaves_out number (Delete n) = n == number
+leaves_out number (Replace n name title body) = n == number
 
 -- the document of a row is gone: its end is deleted, or an entry leaves it out
 abbrev pub is_gone : View → DocRow → Bool
@@ -120,9 +124,13 @@ job_of None view = begun view view.levels
 abbrev pub fits : List Entry → Entry → Bool
 fits entries entry = nat_le (length (flat_map record_of entries) + length (record_of entry) + 1) HALF_BYTES
 
+-- A root of this version can't have the record of the entry: it is of version 1, and the record is a replace's, or too long for it.
+abbrev pub needs_raise : ℕ → Entry → Bool
+needs_raise version entry = version == 1 && not (is_old entry)
+
 -- what a line asks of the store, where it is not refused
 pub data Task : Type 0 where
-  -- the entry of an add or of a delete
+  -- the entry of an add, a delete or a replace
   enters : Entry → Task
   flushes : Task
   merges : Task

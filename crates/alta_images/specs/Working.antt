@@ -13,11 +13,11 @@ use Rattle.alta_meta.specs.declared.document.State.{State}
 use Rattle.alta_postings.specs.Deltas.{stream_bytes}
 use Rattle.alta_root.specs.Gaps.{IsFirstGap, IsLongestGap}
 use Rattle.alta_root.specs.Root.{AreApart, no_extent}
-use Rattle.alta_root.specs.declared.places.TheConstants.{HEAD_BYTES}
+use Rattle.alta_root.specs.declared.places.TheConstants.{HEAD_BYTES, VERSION}
 use Rattle.alta_images.specs.Entries.{after_entry}
 use Rattle.alta_images.specs.Levels.{Level, document_of, live_rows}
 use Rattle.alta_images.specs.Views.{View, with_entry}
-use Rattle.alta_images.specs.Work.{Job, Coming, stays, anew, coming, newest, newest_content, gone, gone_among, level_rows, whole_of, oldest_joined, with_oldest, is_merged, job_of, fits, Task, enters, flushes, merges, steps}
+use Rattle.alta_images.specs.Work.{Job, Coming, stays, anew, coming, newest, newest_content, gone, gone_among, level_rows, whole_of, oldest_joined, with_oldest, is_merged, job_of, fits, needs_raise, Task, enters, flushes, merges, steps}
 use Rattle.alta_content.specs.declared.document.DocRow.{DocRow}
 use Rattle.alta_images.specs.Chain.{◌>>=◌}
 use Rattle.alta_root.specs.Gaps.{first_gap, greatest_gap}
@@ -65,10 +65,11 @@ placed_list limit held taken deleted =
 
 -- ---- a switch of the root
 
--- what is held behind a switch: the journal is empty, and the next number and location are those behind all newest documents
+-- what is held behind a switch: the root has the last version, the journal is empty, and the next number and location are those behind all newest documents
 abbrev pub held_then : Holding → List Level → List ℕ → Extent → Option Job → Holding
 held_then held levels deleted list job = record {
   view = record {
+    version = VERSION;
     next = held.view.next + length (newest held.view);
     location = held.view.location + sum_by (λ (a : Added). a.row.cells) (newest held.view);
     levels = levels;
@@ -90,14 +91,17 @@ switched limit held levels job =
 -- ---- flush, merge and step
 
 -- The live newest documents become the last level, and the journal is empty. Where there are 16 levels already, the two
--- oldest are joined first, which ends the job. With an empty journal nothing is done.
-abbrev pub flushed : ℕ → Holding → Result Holding Full
-flushed limit held =
+-- oldest are joined first, which ends the job.
+abbrev pub written : ℕ → Holding → Result Holding Full
+written limit held =
     let view = held.view in
-    cond (length view.entries == 0) (Ok held)
-    (cond (length view.levels == 16 && nat_le 1 (length (newest_content view).documents))
+    cond (length view.levels == 16 && nat_le 1 (length (newest_content view).documents))
     (switched limit held (with_oldest (oldest_joined held.job view) view) None)
-    (switched limit held (map stays view.levels ++ coming (newest_content view)) held.job))
+    (switched limit held (map stays view.levels ++ coming (newest_content view)) held.job)
+
+-- A flush writes so. With an empty journal nothing is done.
+abbrev pub flushed : ℕ → Holding → Result Holding Full
+flushed limit held = cond (length held.view.entries == 0) (Ok held) (written limit held)
 
 -- All levels and the newest documents become one level without what is gone, or none where nothing is left. There is no job.
 -- At most one level, no deleted end and no entry stay as they are.
@@ -126,9 +130,12 @@ stepped limit held n = moved limit held n (job_of held.job held.view)
 abbrev pub entered : Holding → Entry → Holding
 entered held entry = record { view = with_entry held.view entry; list = held.list; job = held.job }
 
--- What a task makes of what the store holds. An entry that does not fit in the journal finds it flushed.
+-- What a task makes of what the store holds. An entry that the root's version can't have finds a root of the last version, also
+-- where the journal is empty; one that does not fit in the journal finds it flushed.
 abbrev pub worked : ℕ → Holding → Task → Result Holding Full
-worked limit held (enters entry) = cond (fits held.view.entries entry) (Ok (entered held entry)) (flushed limit held >>= λ then. Ok (entered then entry))
+worked limit held (enters entry) =
+    cond (needs_raise held.view.version entry) (written limit held >>= λ then. Ok (entered then entry))
+    (cond (fits held.view.entries entry) (Ok (entered held entry)) (flushed limit held >>= λ then. Ok (entered then entry)))
 worked limit held flushes = flushed limit held
 worked limit held merges = merged limit held
 worked limit held (steps n) = stepped limit held n

@@ -20,7 +20,7 @@ ghost use Rattle.alta_images.specs.Opened.{Opened, IsNamed, IsOpened, bytes_at, 
 ghost use Rattle.alta_images.specs.Ordered.{AreBelow, AreOrdered, IsOrdered, RowsPrecede};
 ghost use Rattle.alta_images.specs.Standing.{AreLevels, Means, StandsFor, tables_by, view_of};
 ghost use Rattle.alta_images.specs.Switching.{empty_held, empty_opened, InPlace, IsFormatted, IsInPlace, IsPut, IsWritten, MayAppend, MayOpen, MayStand, Spares, SparesSlots, with_entry};
-ghost use Rattle.alta_images.specs.Working.{AllApart, AreJoins, Full, IsJoin, IsWanting, JoinsKeep, LiesWithin, Placed, all_contents, content_to_come, documents_left, entered, flushed, merged, oldest_contents, placed as placed_extent, placed_levels, state_behind, staying, switched, worked};
+ghost use Rattle.alta_images.specs.Working.{AllApart, AreJoins, Full, IsJoin, IsWanting, JoinsKeep, LiesWithin, Placed, all_contents, content_to_come, documents_left, entered, flushed, merged, oldest_contents, placed as placed_extent, placed_levels, state_behind, staying, switched, worked, written};
 ghost use Rattle.alta_meta.specs.States.{IsState};
 ghost use Rattle.alta_meta.specs.declared.document.State.{State};
 ghost use Rattle.alta_root.specs.Gaps.{IsFirstGap, IsGap, IsLongestGap, taken_by};
@@ -130,14 +130,14 @@ pub fn gaps_are_computed()
 /// While an entry that is admitted is appended, an image is opened as before or with the entry, and stands for the state of before
 /// or for the one behind the entry; once it is appended, only the latter.
 pub fn an_append_keeps_or_adds()
-    ensures opened { (o : Opened) → (entry : Entry) → (old new : List ℕ) → (opened : IsOpened o old) → MayAppend entry o opened.named.known → Appends (journal_of o.slot) o.tail entry old new
+    ensures opened { (o : Opened) → (entry : Entry) → (old new : List ℕ) → (opened : IsOpened o old) → MayAppend entry o opened.named.known → Appends o.root.version (journal_of o.slot) o.tail entry old new
         → IsOpened o new ⊎ IsOpened (with_entry o entry) new }
-    ensures opened_then { (o : Opened) → (entry : Entry) → (old new : List ℕ) → (opened : IsOpened o old) → MayAppend entry o opened.named.known → Appends (journal_of o.slot) o.tail entry old new
-        → Appended (journal_of o.slot) o.tail entry old new → IsOpened (with_entry o entry) new }
+    ensures opened_then { (o : Opened) → (entry : Entry) → (old new : List ℕ) → (opened : IsOpened o old) → MayAppend entry o opened.named.known → Appends o.root.version (journal_of o.slot) o.tail entry old new
+        → Appended o.root.version (journal_of o.slot) o.tail entry old new → IsOpened (with_entry o entry) new }
     ensures stands { (s : State) → (entry : Entry) → (old new : List ℕ) → (stands : StandsFor s old) → MayAppend entry stands.opened stands.means.named.known
-        → Appends (journal_of stands.opened.slot) stands.opened.tail entry old new → StandsFor s new ⊎ StandsFor (after_entry s entry) new }
+        → Appends stands.opened.root.version (journal_of stands.opened.slot) stands.opened.tail entry old new → StandsFor s new ⊎ StandsFor (after_entry s entry) new }
     ensures stands_then { (s : State) → (entry : Entry) → (old new : List ℕ) → (stands : StandsFor s old) → MayAppend entry stands.opened stands.means.named.known
-        → Appends (journal_of stands.opened.slot) stands.opened.tail entry old new → Appended (journal_of stands.opened.slot) stands.opened.tail entry old new → StandsFor (after_entry s entry) new }
+        → Appends stands.opened.root.version (journal_of stands.opened.slot) stands.opened.tail entry old new → Appended stands.opened.root.version (journal_of stands.opened.slot) stands.opened.tail entry old new → StandsFor (after_entry s entry) new }
 {}
 
 /// What was written is read: a list in its stream, a level in its segment, and levels whose rows rise, lie below the next ones of
@@ -157,10 +157,11 @@ pub fn what_is_held_stands()
     ensures none { (held : Holding) → (image : List ℕ) → IsHeld held image → held.list ≡ no_extent → held.view.deleted ≡ [] }
 {}
 
-/// A flush that joins no levels changes no state.
+/// What a flush writes, where it joins no levels, is the same state; also with an empty journal, where a root is raised to the last
+/// version.
 pub fn a_flush_keeps_the_state()
     ensures { (limit : ℕ) → (held then : Holding) → IsSpaced held.view → (length held.view.levels == 16 && nat_le 1 (length (newest_content held.view).documents)) ≡ false
-        → flushed limit held ≡ Ok then → state_of then.view ≡ state_of held.view }
+        → written limit held ≡ Ok then → state_of then.view ≡ state_of held.view }
 {}
 
 /// A switch of the root whose contents have the documents of the state, without the ends that are gone then, changes no state.
@@ -187,10 +188,10 @@ pub fn a_formatted_disk_is_empty()
     ensures held { (image : List ℕ) → IsFormatted image → IsHeld empty_held image }
 {}
 
-/// What a flush leaves is in place under a root with its next number and location.
+/// What a flush writes is in place under a root with its next number and location.
 pub fn a_flush_is_in_place()
-    ensures { (limit : ℕ) → (held then : Holding) → (root : Root) → IsSpaced held.view → 1 ≤ held.view.location → (length held.view.entries == 0) ≡ false
-        → (length held.view.levels == 16 && nat_le 1 (length (newest_content held.view).documents)) ≡ false → flushed limit held ≡ Ok then
+    ensures { (limit : ℕ) → (held then : Holding) → (root : Root) → IsSpaced held.view → 1 ≤ held.view.location
+        → (length held.view.levels == 16 && nat_le 1 (length (newest_content held.view).documents)) ≡ false → written limit held ≡ Ok then
         → root.next_number ≡ then.view.next → root.next_location ≡ then.view.location → InPlace root then.view.deleted (map tables_by then.view.levels) }
 {}
 
@@ -201,16 +202,16 @@ pub fn work_stays_well()
 
 /// What is held goes on where the image does: by an entry that was appended, and by a root that was written and switched to.
 pub fn what_is_held_goes_on()
-    ensures appended { (held : Holding) → (entry : Entry) → (old new : List ℕ) → (is : IsHeld held old) → MayAppend entry is.opened is.is.named.known → Appends (journal_of is.opened.slot) is.opened.tail entry old new
-        → Appended (journal_of is.opened.slot) is.opened.tail entry old new → IsHeld (entered held entry) new }
+    ensures appended { (held : Holding) → (entry : Entry) → (old new : List ℕ) → (is : IsHeld held old) → MayAppend entry is.opened is.is.named.known → Appends is.opened.root.version (journal_of is.opened.slot) is.opened.tail entry old new
+        → Appended is.opened.root.version (journal_of is.opened.slot) is.opened.tail entry old new → IsHeld (entered held entry) new }
     ensures switched { (then : Holding) → (coming : Opened) → (old new : List ℕ) → IsWritten coming then.view.levels old → IsOrdered (known_of (state_of then.view)) → Switched coming.slot coming.root old new
         → then.view ≡ view_of coming then.view.levels → then.list ≡ coming.root.deletions → IsHeld then new }
 {}
 
-/// A flush that joins no levels, once what it makes was put on the disk, may stand for the state of before.
+/// What a flush writes, where it joins no levels, once it was put on the disk, may stand for the state of before.
 pub fn a_flush_may_stand()
-    ensures { (limit : ℕ) → (held then : Holding) → (coming : Opened) → (old image : List ℕ) → IsHeld held old → IsSpace (newest held.view) → (length held.view.entries == 0) ≡ false
-        → (length held.view.levels == 16 && nat_le 1 (length (newest_content held.view).documents)) ≡ false → flushed limit held ≡ Ok then → then.view ≡ view_of coming then.view.levels
+    ensures { (limit : ℕ) → (held then : Holding) → (coming : Opened) → (old image : List ℕ) → IsHeld held old → IsSpace (newest held.view)
+        → (length held.view.levels == 16 && nat_le 1 (length (newest_content held.view).documents)) ≡ false → written limit held ≡ Ok then → then.view ≡ view_of coming then.view.levels
         → IsPut coming then.view.levels image → IsWritten coming then.view.levels image × MayStand (state_of held.view) coming image }
 {}
 
@@ -238,7 +239,7 @@ pub fn work_finds_gaps()
 /// stand for it.
 pub fn work_is_in_place()
     ensures placed { (limit : ℕ) → (held then : Holding) → IsSpaced held.view → AreJoins held → 1 ≤ held.view.location
-        → (flushed limit held ≡ Ok then → (then.view ≡ held.view) ⊎ IsInPlace then.view) × (merged limit held ≡ Ok then → (then.view ≡ held.view) ⊎ IsInPlace then.view)
+        → (written limit held ≡ Ok then → IsInPlace then.view) × (flushed limit held ≡ Ok then → (then.view ≡ held.view) ⊎ IsInPlace then.view) × (merged limit held ≡ Ok then → (then.view ≡ held.view) ⊎ IsInPlace then.view)
         × ((n : ℕ) → worked limit held (steps n) ≡ Ok then → (then.view ≡ held.view) ⊎ IsInPlace then.view) }
     ensures stands { (held then : Holding) → (coming : Opened) → (old image : List ℕ) → IsHeld held old → state_of then.view ≡ state_of held.view → IsInPlace then.view → then.view ≡ view_of coming then.view.levels
         → IsPut coming then.view.levels image → IsWritten coming then.view.levels image × MayStand (state_of held.view) coming image }

@@ -1,5 +1,6 @@
 -- Joins of the contents of levels and of the newest documents keep documents.
-use Rattle.std.proofs.Common.{◌≡◌, inl, ℕ, ◌+◌, ◌-◌, ◌*◌, ◌<◌, ◌≤◌, List, [], ◌∷◌, ◌++◌, length, map, take, drop, refl, sym, subst, ap, ◌∙◌, arith, take-append-drop, Ok}
+use Rattle.std.specs.Prelude.{IsUtf8}
+use Rattle.std.proofs.Common.{◌≡◌, inl, ℕ, suc, ◌+◌, ◌-◌, ◌*◌, ◌<◌, ◌≤◌, List, [], ◌∷◌, ◌++◌, length, map, take, drop, refl, sym, subst, ap, ◌∙◌, arith, take-append-drop, Ok}
 use Rattle.std.specs.List.{All, flat_map}
 use Rattle.std.proofs.lemmas.Grind.{flat_map-append}
 use Rattle.std.proofs.lemmas.List.{map-append}
@@ -30,11 +31,10 @@ use Rattle.alta_images.proofs.MergeLaws.{joins_are}
 use Rattle.alta_images.proofs.OrderLaws.{rooted_known}
 use Rattle.alta_images.proofs.SpacedLaws.{held_spaced}
 use Rattle.alta_joins.proofs.SpaceLaws.{rise_front, rising_join}
-use Rattle.alta_journal.specs.Entry.{MayBeRecorded}
+use Rattle.alta_journal.specs.Entry.{KeepTexts, MayBeRecorded}
 use Rattle.alta_journal.specs.Placed.{placed}
 use Rattle.alta_journal.specs.declared.entry.Entry.{Entry}
-use Rattle.alta_journal.specs.declared.entry.Entry.TheVariants.{Add, Delete}
-use Rattle.alta_journal.proofs.Spelling.{add_long}
+use Rattle.alta_journal.specs.declared.entry.Entry.TheVariants.{Add, Delete, Replace}
 use Rattle.alta_level.specs.Segments.{IsSegment}
 use Rattle.alta_memlevel.specs.Added.{Added, HasContent, IsSpace, live_of}
 use Rattle.alta_memlevel.specs.Documents.{AreAdded, AreMade, IsBefore, IsFrom, IsMade, content_of}
@@ -84,8 +84,8 @@ module _ (contents : List Content) (added : List Added) (gone : List ℕ) (space
 
 -- ---- the documents that entries add
 
-few_cells : (name title body : List ℕ) → MayBeRecorded (Add name title body) → length (cells_of name title body) ≤ 262146
-few_cells name title body s = omega (arith, cells_few name title body s.1.0 s.1.1, add_long name title body, s.0.4)
+few_cells : (name title body : List ℕ) → KeepTexts name title body → IsUtf8 title → IsUtf8 body → length (cells_of name title body) ≤ 262146
+few_cells name title body keep text_title text_body = omega (arith, cells_few name title body text_title text_body, keep.4)
 
 -- no more are added than numbers are left
 added_room : (s : State) (location : ℕ) (entries : List Entry) → s.next ≤ 4294967296 → AllowsAll s entries → s.next + length (added_from s.next location entries) ≤ 4294967296
@@ -93,44 +93,70 @@ added_room s location [] le allowed = omega (arith, le)
 added_room s location (Add name title body ∷ entries) le (allows, allowed) =
     omega (arith, added_room (after_entry s (Add name title body)) (location + length (cells_of name title body)) entries (omega (arith, allows.1)) allowed)
 added_room s location (Delete n ∷ entries) le (allows, allowed) = added_room (after_entry s (Delete n)) location entries le allowed
+added_room s location (Replace n name title body ∷ entries) le (allows, allowed) =
+    omega (arith, added_room (after_entry s (Replace n name title body)) (location + length (cells_of name title body)) entries (omega (arith, allows.1)) allowed)
 
 added_from_here : (number location : ℕ) (entries : List Entry) → All (IsFrom number location) (added_from number location entries)
 added_from_here number location entries =
     all_both (λ (a : Added). number ≤ a.row.number) (λ (a : Added). location ≤ a.row.first) (added_from number location entries) (added_high number location entries) (added_behind number location entries)
 
-added_space : (number location : ℕ) (entries : List Entry) → All MayBeRecorded entries → 1 ≤ location → location ≤ 1 + (number - 1) * 262146 → 1 ≤ number
-    → number + length (added_from number location entries) ≤ 4294967296 → IsSpace (added_from number location entries)
-added_space number location [] s l r p fits = tt
-added_space number location (Add name title body ∷ entries) s l r p fits =
+-- a document in front of those behind it
+space_more : (number location : ℕ) (entries : List Entry) (name title body : List ℕ) → KeepTexts name title body → IsUtf8 title → IsUtf8 body → 1 ≤ location → location ≤ 1 + (number - 1) * 262146
+    → number + suc (length (added_from (number + 1) (location + length (cells_of name title body)) entries)) ≤ 4294967296 → IsSpace (added_from (number + 1) (location + length (cells_of name title body)) entries)
+    → IsSpace (added_at number location name (cells_of name title body) ∷ added_from (number + 1) (location + length (cells_of name title body)) entries)
+space_more number location entries name title body keep text_title text_body l r fits space =
     let cells = cells_of name title body in
-    let few = few_cells name title body (All-head MayBeRecorded (Add name title body) entries s) in
+    let few = few_cells name title body keep text_title text_body in
     let long = cells_long name title body in
     let later = added_from (number + 1) (location + length cells) entries in
     let behind = added_from_here (number + 1) (location + length cells) entries in (
       record { positive = l; some = omega (arith, long); counted = refl; below = omega (arith, few, long, r, fits) },
       All-weaker (IsFrom (number + 1) (location + length cells)) (λ (b : Added). number < b.row.number) (λ b h. omega (arith, h.0)) later behind,
       All-weaker (IsFrom (number + 1) (location + length cells)) (λ (b : Added). end_of (added_at number location name cells).row < b.row.first) (λ b h. omega (arith, h.1, long)) later behind,
-      added_space (number + 1) (location + length cells) entries (All-tail MayBeRecorded (Add name title body) entries s) (omega (arith, l)) (omega (arith, r, few, p)) (omega arith) (omega (arith, fits)),
+      space,
     )
-added_space number location (Delete n ∷ entries) s l r p fits = added_space number location entries (All-tail MayBeRecorded (Delete n) entries s) l r p fits
 
-added_made : (number location : ℕ) (entries : List Entry) → All MayBeRecorded entries → 1 ≤ number → number + length (added_from number location entries) ≤ 4294967296 → AreMade (added_from number location entries)
-added_made number location [] s p fits = All-nil IsMade
-added_made number location (Add name title body ∷ entries) s p fits =
+added_space : (version number location : ℕ) (entries : List Entry) → All (MayBeRecorded version) entries → 1 ≤ location → location ≤ 1 + (number - 1) * 262146 → 1 ≤ number
+    → number + length (added_from number location entries) ≤ 4294967296 → IsSpace (added_from number location entries)
+added_space version number location [] s l r p fits = tt
+added_space version number location (Add name title body ∷ entries) s l r p fits =
+    let own = All-head (MayBeRecorded version) (Add name title body) entries s in
+    let few = few_cells name title body own.0 own.1.0 own.1.1 in
+    space_more number location entries name title body own.0 own.1.0 own.1.1 l r fits
+    (added_space version (number + 1) (location + length (cells_of name title body)) entries (All-tail (MayBeRecorded version) (Add name title body) entries s) (omega (arith, l)) (omega (arith, r, few, p)) (omega arith) (omega (arith, fits)))
+added_space version number location (Delete n ∷ entries) s l r p fits = added_space version number location entries (All-tail (MayBeRecorded version) (Delete n) entries s) l r p fits
+added_space version number location (Replace n name title body ∷ entries) s l r p fits =
+    let own = All-head (MayBeRecorded version) (Replace n name title body) entries s in
+    let few = few_cells name title body own.0 own.1.1 own.1.2 in
+    space_more number location entries name title body own.0 own.1.1 own.1.2 l r fits
+    (added_space version (number + 1) (location + length (cells_of name title body)) entries (All-tail (MayBeRecorded version) (Replace n name title body) entries s) (omega (arith, l)) (omega (arith, r, few, p)) (omega arith) (omega (arith, fits)))
+
+made_more : (number location : ℕ) (name title body : List ℕ) → KeepTexts name title body → IsUtf8 title → IsUtf8 body → 1 ≤ number → number < 4294967296 → IsMade (added_at number location name (cells_of name title body))
+made_more number location name title body keep text_title text_body p below = record {
+  title = title;
+  body = body;
+  named = keep.0;
+  made = refl;
+  few = few_cells name title body keep text_title text_body;
+  numbered = p;
+  number_below = omega (arith, below);
+}
+
+added_made : (version number location : ℕ) (entries : List Entry) → All (MayBeRecorded version) entries → 1 ≤ number → number + length (added_from number location entries) ≤ 4294967296 → AreMade (added_from number location entries)
+added_made version number location [] s p fits = All-nil IsMade
+added_made version number location (Add name title body ∷ entries) s p fits =
     let cells = cells_of name title body in
-    let own = All-head MayBeRecorded (Add name title body) entries s in
+    let own = All-head (MayBeRecorded version) (Add name title body) entries s in
     All-cons IsMade (added_at number location name cells) (added_from (number + 1) (location + length cells) entries)
-    (record {
-      title = title;
-      body = body;
-      named = own.0.0;
-      made = refl;
-      few = few_cells name title body own;
-      numbered = p;
-      number_below = omega (arith, fits);
-    })
-    (added_made (number + 1) (location + length cells) entries (All-tail MayBeRecorded (Add name title body) entries s) (omega arith) (omega (arith, fits)))
-added_made number location (Delete n ∷ entries) s p fits = added_made number location entries (All-tail MayBeRecorded (Delete n) entries s) p fits
+    (made_more number location name title body own.0 own.1.0 own.1.1 p (omega (arith, fits)))
+    (added_made version (number + 1) (location + length cells) entries (All-tail (MayBeRecorded version) (Add name title body) entries s) (omega arith) (omega (arith, fits)))
+added_made version number location (Delete n ∷ entries) s p fits = added_made version number location entries (All-tail (MayBeRecorded version) (Delete n) entries s) p fits
+added_made version number location (Replace n name title body ∷ entries) s p fits =
+    let cells = cells_of name title body in
+    let own = All-head (MayBeRecorded version) (Replace n name title body) entries s in
+    All-cons IsMade (added_at number location name cells) (added_from (number + 1) (location + length cells) entries)
+    (made_more number location name title body own.0 own.1.1 own.1.2 p (omega (arith, fits)))
+    (added_made version (number + 1) (location + length cells) entries (All-tail (MayBeRecorded version) (Replace n name title body) entries s) (omega arith) (omega (arith, fits)))
 
 -- the documents that the entries of an image add stand behind its levels
 module _ (o : Opened) (levels : List Level) (image : List ℕ) (sound : IsSound (length image) o.root) (named : IsNamed o image) (are : AreLevels o levels image) where
@@ -142,8 +168,8 @@ module _ (o : Opened) (levels : List Level) (image : List ℕ) (sound : IsSound 
 
   pub opened_added : AreAdded o.root.next_number o.root.next_location (newest (view_of o levels))
   opened_added = record {
-    space = added_space o.root.next_number o.root.next_location o.entries named.journal.begins.sound sound.location.0 sound.location.1 sound.number.0 opened_room;
-    made = added_made o.root.next_number o.root.next_location o.entries named.journal.begins.sound sound.number.0 opened_room;
+    space = added_space o.root.version o.root.next_number o.root.next_location o.entries named.journal.begins.sound sound.location.0 sound.location.1 sound.number.0 opened_room;
+    made = added_made o.root.version o.root.next_number o.root.next_location o.entries named.journal.begins.sound sound.number.0 opened_room;
     behind = added_from_here o.root.next_number o.root.next_location o.entries;
   }
 

@@ -1,34 +1,76 @@
 -- What a reader of entries finds.
-use Rattle.std.proofs.Common.{◌≡◌, ℕ, ◌<◌, ◌≤◌, List, ◌∷◌, length, get_or, Some, sym, ap, subst, arith}
+use Rattle.std.proofs.Common.{◌≡◌, ℕ, ◌<◌, ◌^◌, true, false, List, Option, Some, None, refl, sym, ◌∙◌, ap, subst, arith}
 use Rattle.std.specs.Prelude.{IsUtf8}
 use Rattle.std.proofs.lemmas.Str.{IsUtf8-from_ascii}
 use Rattle.std.proofs.lemmas.Str.Ascii.{IsAscii-from_all}
 use Rattle.std.proofs.lemmas.List.Elements.{All-weaker}
 use Rattle.alta_codec.specs.Name.{IsGraphic, IsName}
-use Rattle.alta_journal.specs.Entry.{payload_of, Lacks, MayBeRecorded}
-use Rattle.alta_journal.specs.Found.{IsFound}
-use Rattle.alta_journal.specs.Reading.{add_in}
+use Rattle.alta_journal.specs.Entry.{is_old, MayBeRecorded}
+use Rattle.alta_journal.specs.Found.{IsFound, AreFound}
+use Rattle.alta_journal.specs.Reading.{of_eight, cut, texts_in, add_in, replace_in}
 use Rattle.alta_journal.specs.declared.entry.Entry.{Entry}
-use Rattle.alta_journal.specs.declared.entry.Entry.TheVariants.{Add, Delete}
-use Rattle.alta_journal.specs.declared.places.TheConstants.{PAYLOAD_BYTES}
-use Rattle.alta_journal.proofs.ReadingLaws.{Small, add_is}
+use Rattle.alta_journal.specs.declared.entry.Entry.TheVariants.{Add, Replace}
+use Rattle.alta_journal.proofs.ReadingLaws.{bind_is}
 
 -- a name is UTF-8
 pub name_utf8 : (name : List ℕ) → IsName name → IsUtf8 name
 name_utf8 name is_name = IsUtf8-from_ascii name (IsAscii-from_all name (All-weaker IsGraphic (λ b. b < 128) (λ b graphic. omega (arith, graphic.1)) name is_name.2))
 
--- an add that is too long
-pub too_long : (bytes : List ℕ) → Small bytes → PAYLOAD_BYTES ≤ length bytes → (entry : Entry) → MayBeRecorded entry → add_in bytes ≡ Some entry → ⊥
-too_long bytes small long (Add name title body) sound is = omega (arith, ap length (add_is bytes (Add name title body) is small), sound.0.4)
-too_long bytes small long (Delete number) sound is =
-    let kinds : 2 ≡ get_or (1 ∷ bytes) 0 0 = ap (λ (l : List ℕ). get_or l 0 0) (add_is bytes (Delete number) is small) in omega (arith, kinds)
+-- what a record may hold under a root of any version, it may hold under one of version 2
+pub newest_rules : (version : ℕ) (entry : Entry) → MayBeRecorded version entry → MayBeRecorded 2 entry
+newest_rules version entry sound = (sound.0, sound.1, λ one. absurd (omega (arith, one)))
 
--- an add whose fields keep their rules
-pub found_add : (bytes name title body n t b : List ℕ) → Small bytes → length bytes < PAYLOAD_BYTES → add_in bytes ≡ Some (Add name title body)
-    → n ≡ name → t ≡ title → b ≡ body → IsName name → Lacks 9 title → IsUtf8 title → Lacks 10 title → IsUtf8 body → Lacks 10 body
-    → IsFound (add_in bytes) (Some (Add n t b))
-found_add bytes name title body n t b small short is name_is title_is body_is is_name no_tab utf8_title line_title utf8_body line_body =
-    let whole : length (payload_of (Add name title body)) ≡ length (1 ∷ bytes) = ap length (add_is bytes (Add name title body) is small) in
-    let sound : MayBeRecorded (Add name title body) = ((is_name, no_tab, line_title, line_body, omega (arith, whole)), (utf8_title, utf8_body)) in
-    let same : Add name title body ≡ Add n t b = cc (sym name_is, sym title_is, sym body_is) in
-    subst (λ (e : Entry). IsFound (add_in bytes) (Some e)) same (sound, is)
+-- no entry of version 2 is none of any version
+pub found_none : (version : ℕ) (found : Option Entry) → IsFound 2 found None → IsFound version found None
+found_none version found none = λ entry sound is. none entry (newest_rules version entry sound) is
+
+-- an entry of version 2 is none of version 1 where it is not old
+pub found_new : (version : ℕ) (found : Option Entry) (entry : Entry) → IsFound 2 found (Some entry) → version ≡ 1 → is_old entry ≡ false → IsFound version found None
+found_new version found entry is_found one new = λ other sound is.
+    let same : Some entry ≡ Some other = sym is_found.1 ∙ is in
+    let entry_is : entry ≡ other = cc (same) in
+    let clash : false ≡ true = sym new ∙ ap is_old entry_is ∙ sound.2 one in
+    absurd (cc (clash))
+
+-- and else it is one of that version
+pub found_old : (version : ℕ) (found : Option Entry) (entry : Entry) → IsFound 2 found (Some entry) → (version ≡ 1 → is_old entry ≡ true) → IsFound version found (Some entry)
+found_old version found entry is_found old = ((is_found.0.0, is_found.0.1, old), is_found.1)
+
+-- no add, where no texts are found
+pub no_add : (bytes : List ℕ) → AreFound (texts_in bytes) None → IsFound 2 (add_in bytes) None
+unfolding add_in
+no_add bytes none = λ entry sound is.
+    let t = bind_is (texts_in bytes) _ entry is in
+    let made : Some (Add t.0.0 t.0.1 t.0.2) ≡ Some entry = t.2 in
+    let entry_is : entry ≡ Add t.0.0 t.0.1 t.0.2 = cc (made) in
+    let good : MayBeRecorded 2 (Add t.0.0 t.0.1 t.0.2) = subst (MayBeRecorded 2) entry_is sound in
+    none t.0.0 t.0.1 t.0.2 (good.0, good.1.0, good.1.1) t.1
+
+-- the add of the texts that are found
+pub add_found : (bytes : List ℕ) (t : List ℕ × List ℕ × List ℕ) → AreFound (texts_in bytes) (Some t) → IsFound 2 (add_in bytes) (Some (Add t.0 t.1 t.2))
+unfolding add_in
+add_found bytes t found = ((found.0.0, (found.0.1, found.0.2), λ one. absurd (omega (arith, one))), rw found.1 refl)
+
+-- no replace, where no number or no texts are found
+pub no_number : (bytes : List ℕ) → cut 8 bytes ≡ None → IsFound 2 (replace_in bytes) None
+unfolding replace_in
+no_number bytes none = λ entry sound is. let n = bind_is (cut 8 bytes) _ entry is in let clash : None ≡ Some n.0 = sym none ∙ n.1 in absurd (cc (clash))
+
+pub no_replace : (bytes number rest : List ℕ) → cut 8 bytes ≡ Some (number, rest) → AreFound (texts_in rest) None → IsFound 2 (replace_in bytes) None
+unfolding replace_in
+no_replace bytes number rest cut_is none = λ entry sound is.
+    let n = bind_is (cut 8 bytes) _ entry is in
+    let same : Some n.0 ≡ Some (number, rest) = sym n.1 ∙ cut_is in
+    let rest_is : n.0.1 ≡ rest = cc (same) in
+    let t = bind_is (texts_in n.0.1) _ entry n.2 in
+    let made : Some (Replace (of_eight n.0.0) t.0.0 t.0.1 t.0.2) ≡ Some entry = t.2 in
+    let entry_is : entry ≡ Replace (of_eight n.0.0) t.0.0 t.0.1 t.0.2 = cc (made) in
+    let good : MayBeRecorded 2 (Replace (of_eight n.0.0) t.0.0 t.0.1 t.0.2) = subst (MayBeRecorded 2) entry_is sound in
+    none t.0.0 t.0.1 t.0.2 (good.0, good.1.1, good.1.2) (ap texts_in (sym rest_is) ∙ t.1)
+
+-- the replace of the number and the texts that are found
+pub replace_found : (bytes number rest : List ℕ) (n : ℕ) (t : List ℕ × List ℕ × List ℕ) → cut 8 bytes ≡ Some (number, rest) → n ≡ of_eight number → n < 2 ^ 64 → AreFound (texts_in rest) (Some t)
+    → IsFound 2 (replace_in bytes) (Some (Replace n t.0 t.1 t.2))
+unfolding replace_in
+replace_found bytes number rest n t cut_is n_is small found =
+    ((found.0.0, (small, found.0.1, found.0.2), λ one. absurd (omega (arith, one))), rw (cut_is, found.1) (ap (λ (k : ℕ). Some (Replace k t.0 t.1 t.2)) (sym n_is)))

@@ -3,12 +3,12 @@ use Rattle.std.proofs.Common.{◌≡◌, ⊎_elim, ℕ, suc, ◌+◌, ◌-◌, �
 use Rattle.std.specs.Prelude.{nat_le}
 use Rattle.std.proofs.lemmas.Bool.{cases_lt, cases_eq, le-leb, lt-leb, eq-eqb, ne_eqb}
 use Rattle.std.proofs.lemmas.List.{take_at, drop_at, append-nil, length-take, length-take-le, get_or-take, get_or-drop, get_or_past, nil_from_length}
-use Rattle.alta_journal.specs.Entry.{four_bytes, eight_bytes, measured, payload_of, MayBeRecorded}
-use Rattle.alta_journal.specs.Reading.{of_four, of_eight, cut, name_in, text_in, ◌>>=◌, add_in, delete_in, entry_in, entry_of_body}
+use Rattle.alta_journal.specs.Entry.{four_bytes, eight_bytes, measured, texts_of, payload_of, KeepsRules, IsTyped}
+use Rattle.alta_journal.specs.Reading.{of_four, of_eight, cut, name_in, text_in, texts_in, ◌>>=◌, add_in, delete_in, replace_in, entry_in, entry_of_body}
 use Rattle.alta_journal.specs.Record.{body_of}
 use Rattle.alta_journal.specs.declared.entry.Entry.{Entry}
-use Rattle.alta_journal.specs.declared.entry.Entry.TheVariants.{Add, Delete}
-use Rattle.alta_journal.proofs.Spelling.{four_long, eight_long, add_long, body_long, of_four-four, of_eight-eight, four-of_four, eight-of_eight}
+use Rattle.alta_journal.specs.declared.entry.Entry.TheVariants.{Add, Delete, Replace}
+use Rattle.alta_journal.proofs.Spelling.{four_long, eight_long, body_long, of_four-four, of_eight-eight, four-of_four, eight-of_eight}
 
 -- ---- what is written is read back
 
@@ -31,35 +31,42 @@ text_back text rest small =
     let back : drop 4 (four_bytes (length text) ++ (text ++ rest)) ≡ text ++ rest = drop_at (four_bytes (length text)) (text ++ rest) 4 (four_long (length text)) in
     rw (whole, le-leb 4 (length (four_bytes (length text) ++ (text ++ rest))) room, front, back, of_four-four (length text) small) (cut_append (length text) text rest refl)
 
-pub add_back : (name title body : List ℕ) → length title < 2 ^ 32 → length body < 2 ^ 32
-    → add_in (length name ∷ name ++ measured title ++ measured body) ≡ Some (Add name title body)
-unfolding add_in
-add_back name title body small_title small_body =
-    let whole : length name ∷ name ++ measured title ++ measured body ≡ length name ∷ (name ++ (measured title ++ measured body)) =
+pub texts_back : (name title body : List ℕ) → length title < 2 ^ 32 → length body < 2 ^ 32 → texts_in (texts_of name title body) ≡ Some (name, title, body)
+unfolding texts_in
+texts_back name title body small_title small_body =
+    let whole : texts_of name title body ≡ length name ∷ (name ++ (measured title ++ measured body)) =
     ap (λ (l : List ℕ). length name ∷ l) (append_assoc name (measured title) (measured body)) in
     let last : text_in (measured body) ≡ Some (body, []) = ap text_in (sym (append-nil (measured body))) ∙ text_back body [] small_body in
     rw (whole, name_back name (measured title ++ measured body), text_back title (measured body) small_title, last) refl
+
+pub add_back : (name title body : List ℕ) → length title < 2 ^ 32 → length body < 2 ^ 32 → add_in (texts_of name title body) ≡ Some (Add name title body)
+unfolding add_in
+add_back name title body small_title small_body = rw (texts_back name title body small_title small_body) refl
+
+pub replace_back : (number : ℕ) (name title body : List ℕ) → number < 2 ^ 64 → length title < 2 ^ 32 → length body < 2 ^ 32
+    → replace_in (eight_bytes number ++ texts_of name title body) ≡ Some (Replace number name title body)
+unfolding replace_in
+replace_back number name title body small small_title small_body =
+    rw (cut_append 8 (eight_bytes number) (texts_of name title body) (eight_long number), texts_back name title body small_title small_body, of_eight-eight number small) refl
 
 pub delete_back : (number : ℕ) → number < 2 ^ 64 → delete_in (eight_bytes number) ≡ Some (Delete number)
 unfolding delete_in
 delete_back number small = rw (eight_long number, of_eight-eight number small) refl
 
-pub entry_back : (entry : Entry) → MayBeRecorded entry → entry_in (payload_of entry) ≡ Some entry
+pub entry_back : (entry : Entry) → KeepsRules entry → IsTyped entry → entry_in (payload_of entry) ≡ Some entry
 unfolding entry_in
-entry_back (Add name title body) sound =
-    let long = add_long name title body in
-    let short = sound.0.4 in
-    add_back name title body (omega (arith, long, short)) (omega (arith, long, short))
-entry_back (Delete number) sound = delete_back number sound.1
+entry_back (Add name title body) keeps typed = add_back name title body (omega (arith, keeps.4)) (omega (arith, keeps.4))
+entry_back (Delete number) keeps typed = delete_back number typed
+entry_back (Replace number name title body) keeps typed = replace_back number name title body typed.0 (omega (arith, keeps.4)) (omega (arith, keeps.4))
 
-pub body_back : (entry : Entry) → MayBeRecorded entry → entry_of_body (body_of entry) ≡ entry
+pub body_back : (entry : Entry) → KeepsRules entry → IsTyped entry → entry_of_body (body_of entry) ≡ entry
 unfolding entry_of_body
-body_back entry sound =
+body_back entry keeps typed =
     let payload = payload_of entry in
     let n : length (body_of entry) - 5 ≡ length payload = omega (arith, body_long entry) in
     let back : drop 4 (body_of entry) ≡ payload ++ 0 ∷ [] =
     ap (λ (l : List ℕ). drop 4 l) (append_assoc (four_bytes (length payload)) payload (0 ∷ [])) ∙ drop_at (four_bytes (length payload)) (payload ++ 0 ∷ []) 4 (four_long (length payload)) in
-    rw (n, back, take_at payload (0 ∷ []) (length payload) refl, entry_back entry sound) refl
+    rw (n, back, take_at payload (0 ∷ []) (length payload) refl, entry_back entry keeps typed) refl
 
 -- ---- what is read was written
 
@@ -75,7 +82,7 @@ small_take n bytes small i =
     ⊎_elim (λ below. rw (get_or-take n bytes i 0 below) (small i))
     (λ past. let none : get_or (take n bytes) i 0 ≡ 0 = get_or_past (take n bytes) i 0 (omega (arith, length-take n bytes)) in omega (arith, none)) (cases_lt i n)
 
-bind_is : {A B : Type 0} (m : Option A) (f : A → Option B) (b : B) → m >>= f ≡ Some b → (x : A) × (m ≡ Some x) × (f x ≡ Some b)
+pub bind_is : {A B : Type 0} (m : Option A) (f : A → Option B) (b : B) → m >>= f ≡ Some b → (x : A) × (m ≡ Some x) × (f x ≡ Some b)
 bind_is None f b is = absurd (cc is)
 bind_is (Some x) f b is = (x, refl, is)
 
@@ -110,25 +117,50 @@ text_is bytes x is small =
     ))
     (cases_lt (length bytes) 4)
 
-pub add_is : (bytes : List ℕ) (entry : Entry) → add_in bytes ≡ Some entry → Small bytes → payload_of entry ≡ 1 ∷ bytes
-unfolding add_in
-add_is bytes entry is small =
-    let a = bind_is (name_in bytes) _ entry is in
-    let b = bind_is (text_in a.0.1) _ entry a.2 in
-    let c = bind_is (text_in b.0.1) _ entry b.2 in
+pub texts_is : (bytes : List ℕ) (t : List ℕ × List ℕ × List ℕ) → texts_in bytes ≡ Some t → Small bytes → bytes ≡ texts_of t.0 t.1 t.2
+unfolding texts_in
+texts_is bytes t is small =
+    let a = bind_is (name_in bytes) _ t is in
+    let b = bind_is (text_in a.0.1) _ t a.2 in
+    let c = bind_is (text_in b.0.1) _ t b.2 in
     let name = name_is bytes a.0 a.1 small in
     let title = text_is a.0.1 b.0 b.1 name.1 in
     let body = text_is b.0.1 c.0 c.1 title.1 in
     ⊎_elim
     (λ none. let yes : (length c.0.1 == 0) ≡ true = eq-eqb (length c.0.1) 0 none in
-    let made : Some (Add a.0.0 b.0.0 c.0.0) ≡ Some entry = rw yes at c.2 in
-    let entry_is : Add a.0.0 b.0.0 c.0.0 ≡ entry = cc (made) in
+    let made : Some (a.0.0, b.0.0, c.0.0) ≡ Some t = rw yes at c.2 in
+    let texts_are : (a.0.0, b.0.0, c.0.0) ≡ t = cc (made) in
     let ends : b.0.1 ≡ measured c.0.0 = body.0 ∙ ap (λ (l : List ℕ). measured c.0.0 ++ l) (nil_from_length c.0.1 none) ∙ append-nil (measured c.0.0) in
-    let whole : bytes ≡ length a.0.0 ∷ a.0.0 ++ measured b.0.0 ++ measured c.0.0 =
+    let whole : bytes ≡ texts_of a.0.0 b.0.0 c.0.0 =
     name.0 ∙ ap (λ (l : List ℕ). length a.0.0 ∷ (a.0.0 ++ l)) (title.0 ∙ ap (λ (l : List ℕ). measured b.0.0 ++ l) ends) ∙ ap (λ (l : List ℕ). length a.0.0 ∷ l) (sym (append_assoc a.0.0 (measured b.0.0) (measured c.0.0))) in
-    ap payload_of (sym entry_is) ∙ ap (λ (l : List ℕ). 1 ∷ l) (sym whole))
+    whole ∙ ap (λ (x : List ℕ × List ℕ × List ℕ). texts_of x.0 x.1 x.2) texts_are)
     (λ more. let no : (length c.0.1 == 0) ≡ false = ne_eqb (length c.0.1) 0 more in absurd (cc (rw no at c.2)))
     (cases_eq (length c.0.1) 0)
+
+pub add_is : (bytes : List ℕ) (entry : Entry) → add_in bytes ≡ Some entry → Small bytes → payload_of entry ≡ 1 ∷ bytes
+unfolding add_in
+add_is bytes entry is small =
+    let t = bind_is (texts_in bytes) _ entry is in
+    let made : Some (Add t.0.0 t.0.1 t.0.2) ≡ Some entry = t.2 in
+    let entry_is : Add t.0.0 t.0.1 t.0.2 ≡ entry = cc (made) in
+    ap payload_of (sym entry_is) ∙ ap (λ (l : List ℕ). 1 ∷ l) (sym (texts_is bytes t.0 t.1 small))
+
+pub replace_is : (bytes : List ℕ) (entry : Entry) → replace_in bytes ≡ Some entry → Small bytes → payload_of entry ≡ 3 ∷ bytes
+unfolding replace_in
+replace_is bytes entry is small =
+    let n = bind_is (cut 8 bytes) _ entry is in
+    let t = bind_is (texts_in n.0.1) _ entry n.2 in
+    let parts = cut_is 8 bytes n.0 n.1 in
+    let made : Some (Replace (of_eight n.0.0) t.0.0 t.0.1 t.0.2) ≡ Some entry = t.2 in
+    let entry_is : Replace (of_eight n.0.0) t.0.0 t.0.1 t.0.2 ≡ entry = cc (made) in
+    let small_first : Small n.0.0 = subst Small (parts_first bytes n.0 n.1) (small_take 8 bytes small) in
+    let small_rest : Small n.0.1 = subst Small (sym parts.2) (small_drop 8 bytes small) in
+    let number : eight_bytes (of_eight n.0.0) ≡ n.0.0 = eight-of_eight n.0.0 parts.1 small_first in
+    ap payload_of (sym entry_is)
+    ∙ ap (λ (l : List ℕ). 3 ∷ l) (ap (λ (l : List ℕ). l ++ texts_of t.0.0 t.0.1 t.0.2) number ∙ ap (λ (l : List ℕ). n.0.0 ++ l) (sym (texts_is n.0.1 t.0 t.1 small_rest)) ∙ sym parts.0)
+  where
+    parts_first : (all : List ℕ) (x : List ℕ × List ℕ) → cut 8 all ≡ Some x → take 8 all ≡ x.0
+    parts_first all x cut_all = let parts = cut_is 8 all x cut_all in ap (λ (l : List ℕ). take 8 l) parts.0 ∙ take_at x.0 x.1 8 parts.1
 
 pub delete_is : (bytes : List ℕ) (entry : Entry) → delete_in bytes ≡ Some entry → Small bytes → payload_of entry ≡ 2 ∷ bytes
 unfolding delete_in
@@ -151,5 +183,8 @@ entry_is (kind ∷ bytes) entry is small =
     (λ other. let no : (kind == 1) ≡ false = ne_eqb kind 1 other in
     ⊎_elim (λ two. let yes : (kind == 2) ≡ true = eq-eqb kind 2 two in
     delete_is bytes entry (rw (no, yes) at is) (λ i. small (suc i)) ∙ ap (λ (k : ℕ). k ∷ bytes) (sym two))
-    (λ neither. let no_two : (kind == 2) ≡ false = ne_eqb kind 2 neither in absurd (cc (rw (no, no_two) at is))) (cases_eq kind 2))
+    (λ neither. let no_two : (kind == 2) ≡ false = ne_eqb kind 2 neither in
+    ⊎_elim (λ three. let yes : (kind == 3) ≡ true = eq-eqb kind 3 three in
+    replace_is bytes entry (rw (no, no_two, yes) at is) (λ i. small (suc i)) ∙ ap (λ (k : ℕ). k ∷ bytes) (sym three))
+    (λ none. let no_three : (kind == 3) ≡ false = ne_eqb kind 3 none in absurd (cc (rw (no, no_two, no_three) at is))) (cases_eq kind 3)) (cases_eq kind 2))
     (cases_eq kind 1)

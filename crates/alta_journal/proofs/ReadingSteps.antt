@@ -51,21 +51,21 @@ stands at bytes payload is long room =
     }
 
 -- a sound record that stands here is what its payload reads as
-pub reads_here : (at : ℕ) (bytes payload : List ℕ) → Stands at bytes payload → (entry : Entry) → MayBeRecorded entry → part at (length (record_of entry)) bytes ≡ record_of entry → entry_in payload ≡ Some entry
-reads_here at bytes payload here entry sound stands_here =
+pub reads_here : (version at : ℕ) (bytes payload : List ℕ) → Stands at bytes payload → (entry : Entry) → MayBeRecorded version entry → part at (length (record_of entry)) bytes ≡ record_of entry → entry_in payload ≡ Some entry
+reads_here version at bytes payload here entry sound stands_here =
     let after = drop (length (record_of entry)) (drop at bytes) in
     let whole : drop at bytes ≡ record_of entry ++ after = sym (take-append-drop (length (record_of entry)) (drop at bytes)) ∙ ap (λ (l : List ℕ). l ++ after) stands_here in
-    let n : of_four (part (at + 1) 4 bytes) ≡ length (payload_of entry) = length_here at bytes entry after sound whole in
+    let n : of_four (part (at + 1) 4 bytes) ≡ length (payload_of entry) = length_here version at bytes entry after sound whole in
     let behind : drop (at + 5) bytes ≡ payload_of entry ++ after =
     sym (drop-drop 5 at bytes) ∙ ap (λ (l : List ℕ). drop 5 l) whole ∙ ap (λ (l : List ℕ). drop 4 l) (append_assoc (four_bytes (length (payload_of entry))) (payload_of entry) after)
     ∙ drop_at (four_bytes (length (payload_of entry))) (payload_of entry ++ after) 4 (four_long (length (payload_of entry))) in
     let says : payload ≡ payload_of entry =
     here.is ∙ ap (λ (k : ℕ). part (at + 5) k bytes) n ∙ ap (λ (l : List ℕ). take (length (payload_of entry)) l) behind ∙ take_at (payload_of entry) after (length (payload_of entry)) refl in
-    ap entry_in says ∙ entry_back entry sound
+    ap entry_in says ∙ entry_back entry sound.0 sound.1
 
-module _ (start at : ℕ) (bytes payload : List ℕ) (found : List Placed) (reading : IsReading start found at bytes) (is_open : get_or bytes at 0 ≡ GATE_OPEN) (small : Small bytes) (here : Stands at bytes payload) where
+module _ (version start at : ℕ) (bytes payload : List ℕ) (found : List Placed) (reading : IsReading version start found at bytes) (is_open : get_or bytes at 0 ≡ GATE_OPEN) (small : Small bytes) (here : Stands at bytes payload) where
   -- a sound record
-  pub read_more : (entry : Entry) → IsFound (entry_in payload) (Some entry) → IsReading start (found ++ (record { place = start + at; entry = entry }) ∷ []) (at + 5 + length payload) bytes
+  pub read_more : (entry : Entry) → IsFound version (entry_in payload) (Some entry) → IsReading version start (found ++ (record { place = start + at; entry = entry }) ∷ []) (at + 5 + length payload) bytes
   read_more entry is_found =
       let (entries, found_is, begins) = reading in
       let n = of_four (part (at + 1) 4 bytes) in
@@ -86,11 +86,11 @@ module _ (start at : ℕ) (bytes payload : List ℕ) (found : List Placed) (read
         ap (λ (l : List Placed). l ++ (record { place = start + at; entry = entry }) ∷ []) found_is
             ∙ ap (λ (k : ℕ). placed start entries ++ (record { place = start + k; entry = entry }) ∷ []) (sym at_is)
             ∙ sym (placed-push start entries entry),
-        begins_more entries entry at (at + 5 + length payload) bytes begins is_found.0 stands_here (omega (arith, long, here.long)) here.room,
+        begins_more version entries entry at (at + 5 + length payload) bytes begins is_found.0 stands_here (omega (arith, long, here.long)) here.room,
       )
 
   -- a record that is none
-  pub damaged_here : IsFound (entry_in payload) None → HasBrokenRecord (at + 5) bytes
+  pub damaged_here : IsFound version (entry_in payload) None → HasBrokenRecord version (at + 5) bytes
   damaged_here none =
       let (entries, found_is, begins) = reading in
       record {
@@ -98,22 +98,22 @@ module _ (start at : ℕ) (bytes payload : List ℕ) (found : List Placed) (read
         entries = entries;
         begins = begins;
         is_open = is_open;
-        breaks = inr (λ no_room. omega (arith, no_room, here.long, here.room), λ entry sound stands_here. none entry sound (reads_here at bytes payload here entry sound stands_here), refl);
+        breaks = inr (λ no_room. omega (arith, no_room, here.long, here.room), λ entry sound stands_here. none entry sound (reads_here version at bytes payload here entry sound stands_here), refl);
       }
 
 -- the place that a fault names
-pub damage_at : (start from at place : ℕ) (bytes : List ℕ) → from ≡ start → HasBrokenRecord (at + 5) bytes → faults.Damaged (from + at + 5) ≡ faults.Damaged place
-    → (start ≤ place) × HasBrokenRecord (place - start) bytes
-damage_at start from at place bytes from_is damaged is =
+pub damage_at : (version start from at place : ℕ) (bytes : List ℕ) → from ≡ start → HasBrokenRecord version (at + 5) bytes → faults.Damaged (from + at + 5) ≡ faults.Damaged place
+    → (start ≤ place) × HasBrokenRecord version (place - start) bytes
+damage_at version start from at place bytes from_is damaged is =
     let place_is : from + at + 5 ≡ place = cc (is) in
     let offset : at + 5 ≡ place - start = omega (arith, place_is, from_is) in
-    (omega (arith, place_is, from_is), subst (λ (k : ℕ). HasBrokenRecord k bytes) offset damaged)
+    (omega (arith, place_is, from_is), subst (λ (k : ℕ). HasBrokenRecord version k bytes) offset damaged)
 
 -- the half whose bytes were read
-pub broken_half : (start place : ℕ) (bytes image : List ℕ) → bytes ≡ half_at start image → HEAD_BYTES ≤ length image → (start ≤ place) × HasBrokenRecord (place - start) bytes → HasBrokenHalf start place image
-broken_half start place bytes image is whole damaged = record {
+pub broken_half : (version start place : ℕ) (bytes image : List ℕ) → bytes ≡ half_at start image → HEAD_BYTES ≤ length image → (start ≤ place) × HasBrokenRecord version (place - start) bytes → HasBrokenHalf version start place image
+broken_half version start place bytes image is whole damaged = record {
   starts = damaged.0;
-  damaged = subst (λ (h : List ℕ). HasBrokenRecord (place - start) h) is damaged.1;
+  damaged = subst (λ (h : List ℕ). HasBrokenRecord version (place - start) h) is damaged.1;
   whole = whole;
 }
 
@@ -124,30 +124,30 @@ match_both (Err e) P P' Q Q' ok err from_ok from_err = from_err e err
 
 -- ---- what the answer is, by what the half says
 
-module _ (start : ℕ) (bytes image : List ℕ) (is : bytes ≡ half_at start image) (whole : HEAD_BYTES ≤ length image) where
+module _ (version start : ℕ) (bytes image : List ℕ) (is : bytes ≡ half_at start image) (whole : HEAD_BYTES ≤ length image) where
   -- a reading that ends at a closed gate is that of the half
-  pub replay_is : (found : List Placed) (tail : ℕ) → (start ≤ tail) × IsReading start found (tail - start) bytes × HasClosedGate (tail - start) bytes → IsReplay start found tail image
+  pub replay_is : (found : List Placed) (tail : ℕ) → (start ≤ tail) × IsReading version start found (tail - start) bytes × HasClosedGate (tail - start) bytes → IsReplay version start found tail image
   replay_is found tail (starts, reading, closed) = (
     reading.0,
     reading.1,
     record {
       starts = starts;
-      begins = subst (λ (h : List ℕ). Begins reading.0 (tail - start) h) is reading.2;
+      begins = subst (λ (h : List ℕ). Begins version reading.0 (tail - start) h) is reading.2;
       closed = subst (λ (h : List ℕ). HasClosedGate (tail - start) h) is closed;
       whole = whole;
     },
   )
 
 -- the entries and the tail are those that the half has
-pub same_replay : (start tail q : ℕ) (found : List Placed) (entries : List Entry) (image : List ℕ) → IsReplay start found tail image → EndsAt start q entries image
+pub same_replay : (version start tail q : ℕ) (found : List Placed) (entries : List Entry) (image : List ℕ) → IsReplay version start found tail image → EndsAt version start q entries image
     → (found ≡ placed start entries) × (tail ≡ q)
-same_replay start tail q found entries image (ys, found_is, ends) other =
-    let same = one_reading start tail q ys entries image ends other in
+same_replay version start tail q found entries image (ys, found_is, ends) other =
+    let same = one_reading version start tail q ys entries image ends other in
     (found_is ∙ ap (λ (l : List Entry). placed start l) same.1, same.0)
 
 -- no damage where the half is sound
-pub no_damage : (start q : ℕ) (entries : List Entry) (image : List ℕ) → EndsAt start q entries image → (fault : OpenFault) → ((place : ℕ) → fault ≡ faults.Damaged place → HasBrokenHalf start place image)
+pub no_damage : (version start q : ℕ) (entries : List Entry) (image : List ℕ) → EndsAt version start q entries image → (fault : OpenFault) → ((place : ℕ) → fault ≡ faults.Damaged place → HasBrokenHalf version start place image)
     → IsNoDamage fault
-no_damage start q entries image ends (faults.Damaged place) damaged = not_both start q place entries image ends (damaged place refl)
-no_damage start q entries image ends faults.Disk damaged = tt
-no_damage start q entries image ends faults.Memory damaged = tt
+no_damage version start q entries image ends (faults.Damaged place) damaged = not_both version start q place entries image ends (damaged place refl)
+no_damage version start q entries image ends faults.Disk damaged = tt
+no_damage version start q entries image ends faults.Memory damaged = tt

@@ -22,15 +22,15 @@ take_sum m n xs =
     sym (take-append-drop m (take (m + n) xs)) ∙ ap (λ (l : List ℕ). l ++ drop m (take (m + n) xs)) (take-take m (m + n) xs (omega arith)) ∙ ap (λ (l : List ℕ). take m xs ++ l) (drop-take m n xs)
 
 -- one record more
-pub begins_more : (entries : List Entry) (entry : Entry) (at next : ℕ) (half : List ℕ) → Begins entries at half → MayBeRecorded entry
+pub begins_more : (version : ℕ) (entries : List Entry) (entry : Entry) (at next : ℕ) (half : List ℕ) → Begins version entries at half → MayBeRecorded version entry
     → take (length (record_of entry)) (drop at half) ≡ record_of entry → next ≡ at + length (record_of entry) → next < length half
-    → Begins (entries ++ entry ∷ []) next half
-begins_more entries entry at next half begins sound here next_is inside = record {
+    → Begins version (entries ++ entry ∷ []) next half
+begins_more version entries entry at next half begins sound here next_is inside = record {
   records = ap (λ (n : ℕ). take n half) next_is ∙ take_sum at (length (record_of entry)) half
       ∙ ap (λ (l : List ℕ). l ++ take (length (record_of entry)) (drop at half)) begins.records
       ∙ ap (λ (l : List ℕ). flat_map record_of entries ++ l) here
       ∙ flat_map_more record_of [] entries entry;
-  sound = All-push MayBeRecorded entries entry begins.sound sound;
+  sound = All-push (MayBeRecorded version) entries entry begins.sound sound;
   gate = inside;
 }
 
@@ -55,14 +55,14 @@ torn_then at n a b c one two = record {
 byte_before : (at i : ℕ) (old new : List ℕ) → i < at → take at new ≡ take at old → get_or new i 0 ≡ get_or old i 0
 byte_before at i old new inside same = sym (get_or-take at new i 0 inside) ∙ ap (λ (l : List ℕ). get_or l i 0) same ∙ get_or-take at old i 0 inside
 
-module _ (start place : ℕ) (entry : Entry) (sound : MayBeRecorded entry) (from : start ≤ place) (to : place + 1 + length (body_of entry) ≤ start + HALF_BYTES) (disk : start + HALF_BYTES ≤ HEAD_BYTES) where
+module _ (version start place : ℕ) (entry : Entry) (sound : MayBeRecorded version entry) (from : start ≤ place) (to : place + 1 + length (body_of entry) ≤ start + HALF_BYTES) (disk : start + HALF_BYTES ≤ HEAD_BYTES) where
   -- the record from here up to the next gate, and the half's bytes before it
   sizes : (length (body_of entry) ≡ length (record_of entry)) × (start + (place - start) ≡ place) × (place - start + length (record_of entry) < HALF_BYTES)
   sizes = let same : length (body_of entry) ≡ length (record_of entry) = omega (arith, record_long entry, body_long entry) in (same, omega arith, omega arith)
 
   -- what stands before the gate has stayed
-  front : (entries : List Entry) (d z : List ℕ) → EndsAt start place entries d → part start (place - start) z ≡ part start (place - start) d → length d ≤ length z
-      → Begins entries (place - start) (half_at start z)
+  front : (entries : List Entry) (d z : List ℕ) → EndsAt version start place entries d → part start (place - start) z ≡ part start (place - start) d → length d ≤ length z
+      → Begins version entries (place - start) (half_at start z)
   front entries d z e same longer = record {
     records = half_take start (place - start) z (omega (arith, sizes.2)) ∙ same ∙ sym (half_take start (place - start) d (omega (arith, sizes.2))) ∙ e.begins.records;
     sound = e.begins.sound;
@@ -73,8 +73,8 @@ module _ (start place : ℕ) (entry : Entry) (sound : MayBeRecorded entry) (from
   gate_byte z = half_byte start (place - start) z (omega (arith, sizes.2)) ∙ ap (λ (k : ℕ). get_or z k 0) sizes.1
 
   -- behind a closed gate stands no record
-  keeps : (entries : List Entry) (d z : List ℕ) → EndsAt start place entries d → part start (place - start) z ≡ part start (place - start) d → length d ≤ length z
-      → get_or z place 0 ≢ GATE_OPEN → EndsAt start place entries z
+  keeps : (entries : List Entry) (d z : List ℕ) → EndsAt version start place entries d → part start (place - start) z ≡ part start (place - start) d → length d ≤ length z
+      → get_or z place 0 ≢ GATE_OPEN → EndsAt version start place entries z
   keeps entries d z e same longer shut =
       let begins = front entries d z e same longer in
       record {
@@ -116,8 +116,8 @@ module _ (start place : ℕ) (entry : Entry) (sound : MayBeRecorded entry) (from
       ∙ ap (λ (l : List ℕ). GATE_OPEN ∷ l) (sym (take-take n (length (body_of entry)) X less) ∙ ap (λ (l : List ℕ). take n l) has_body ∙ take_at (measured (payload_of entry)) (0 ∷ []) n refl)
 
   -- behind an open gate stands the new record
-  grows : (entries : List Entry) (d z : List ℕ) → EndsAt start place entries d → part start (place - start) z ≡ part start (place - start) d → length d ≤ length z
-      → get_or z place 0 ≡ GATE_OPEN → HasBody z → EndsAt start (place + length (record_of entry)) (entries ++ entry ∷ []) z
+  grows : (entries : List Entry) (d z : List ℕ) → EndsAt version start place entries d → part start (place - start) z ≡ part start (place - start) d → length d ≤ length z
+      → get_or z place 0 ≡ GATE_OPEN → HasBody z → EndsAt version start (place + length (record_of entry)) (entries ++ entry ∷ []) z
   grows entries d z e same longer is_open has_body =
       let at = place - start in
       let R = length (record_of entry) in
@@ -131,13 +131,13 @@ module _ (start place : ℕ) (entry : Entry) (sound : MayBeRecorded entry) (from
       half_byte start (place + R - start) z (omega arith) ∙ ap (λ (k : ℕ). get_or z k 0) there ∙ next_gate z has_body in
       record {
         starts = omega arith;
-        begins = begins_more entries entry at (place + R - start) (half_at start z) (front entries d z e same longer) sound record_here next (omega arith);
+        begins = begins_more version entries entry at (place + R - start) (half_at start z) (front entries d z e same longer) sound record_here next (omega arith);
         closed = (omega arith, λ is_open. absurd (omega (arith, byte, is_open)));
         whole = omega (arith, e.whole);
       }
 
   -- at each moment of the first write
-  pub body_step : (d z : List ℕ) → HasClosedGate place d → Torn (place + 1) (length (body_of entry)) d z → Appends start place entry d z
+  pub body_step : (d z : List ℕ) → HasClosedGate place d → Torn (place + 1) (length (body_of entry)) d z → Appends version start place entry d z
   body_step d z closed torn = record {
     outside = torn_wide (place + 1) (length (body_of entry)) place (1 + length (body_of entry)) d z (omega arith) (omega arith) torn;
     entries = λ entries e. inl (keeps entries d z e (part_torn (place + 1) (length (body_of entry)) start (place - start) d z torn (inl (omega (arith, sizes.1)))) torn.no_shorter
@@ -161,7 +161,7 @@ module _ (start place : ℕ) (entry : Entry) (sound : MayBeRecorded entry) (from
     longer = omega (arith, done.no_shorter, torn.no_shorter)
 
     -- at each moment of the second write
-    pub gate_step : Appends start place entry d z
+    pub gate_step : Appends version start place entry d z
     gate_step = record {
       outside = torn_then place (1 + length (body_of entry)) d b z
           (torn_wide (place + 1) (length (body_of entry)) place (1 + length (body_of entry)) d b (omega arith) (omega arith) done)
@@ -170,7 +170,7 @@ module _ (start place : ℕ) (entry : Entry) (sound : MayBeRecorded entry) (from
     }
 
     -- and after it, when the gate is open
-    pub opened : get_or z place 0 ≡ GATE_OPEN → Appended start place entry d z
+    pub opened : get_or z place 0 ≡ GATE_OPEN → Appended version start place entry d z
     opened is_open = λ entries e. grows entries d z e same_front longer is_open has_body
 
 -- the one byte that was written
@@ -192,8 +192,8 @@ byte_and_more at byte more old middle new inside one two =
     ∙ append_assoc (take at old) (byte ∷ []) (more ++ rest) ∙ sym (append_assoc (take at old) (byte ∷ more) rest) ∙ ap (λ (n : ℕ). (take at old ++ byte ∷ more) ++ drop n old) end
 
 -- the half behind a first gate that was closed
-pub formatted : (start : ℕ) (d c : List ℕ) → start + HALF_BYTES ≤ HEAD_BYTES → HEAD_BYTES ≤ length d → Holds d start (0 ∷ []) c → EndsAt start start [] c
-formatted start d c inside whole holds =
+pub formatted : (version start : ℕ) (d c : List ℕ) → start + HALF_BYTES ≤ HEAD_BYTES → HEAD_BYTES ≤ length d → Holds d start (0 ∷ []) c → EndsAt version start start [] c
+formatted version start d c inside whole holds =
     let torn = holds_torn d start (0 ∷ []) c (omega arith) holds in
     let none : start - start ≡ 0 = omega arith in
     let long : length (half_at start c) ≡ HALF_BYTES = half_long start c (omega (arith, torn.no_shorter)) in
@@ -204,7 +204,7 @@ formatted start d c inside whole holds =
       starts = omega arith;
       begins = record {
         records = ap (λ (n : ℕ). take n (half_at start c)) none;
-        sound = All-nil MayBeRecorded;
+        sound = All-nil (MayBeRecorded version);
         gate = omega arith;
       };
       closed = (omega arith, λ is_open. absurd (omega (arith, byte, is_open)));

@@ -10,55 +10,55 @@ use Rattle.alta_journal.specs.Record.{record_of, body_of}
 use Rattle.alta_journal.specs.declared.entry.Entry.{Entry}
 use Rattle.alta_journal.specs.declared.places.TheConstants.{GATE_OPEN, HEAD_BYTES}
 
--- The half begins with the records of these entries, one behind the other, and behind them, at `at`, there is a gate.
-pub record Begins (entries : List Entry) (at : ℕ) (half : List ℕ) : Type 0 where
+-- Under a root of this version the half begins with the records of these entries, one behind the other, and behind them, at `at`, there is a gate.
+pub record Begins (version : ℕ) (entries : List Entry) (at : ℕ) (half : List ℕ) : Type 0 where
   pub records : take at half ≡ flat_map record_of entries
-  pub sound : All MayBeRecorded entries
+  pub sound : All (MayBeRecorded version) entries
   pub gate : at < length half
 
 -- The half that starts at `start` has these entries, and at `place` its first closed gate.
-pub record EndsAt (start place : ℕ) (entries : List Entry) (image : List ℕ) : Type 0 where
+pub record EndsAt (version start place : ℕ) (entries : List Entry) (image : List ℕ) : Type 0 where
   pub starts : start ≤ place
-  pub begins : Begins entries (place - start) (half_at start image)
+  pub begins : Begins version entries (place - start) (half_at start image)
   pub closed : HasClosedGate (place - start) (half_at start image)
   pub whole : HEAD_BYTES ≤ length image
 
 -- The half that starts at `start` has the entries that it had, and behind them the new one.
-abbrev pub Appended : ℕ → ℕ → Entry → List ℕ → List ℕ → Type 0
-Appended start place entry old new =
-    (entries : List Entry) → EndsAt start place entries old → EndsAt start (place + length (record_of entry)) (entries ++ entry ∷ []) new
+abbrev pub Appended : ℕ → ℕ → ℕ → Entry → List ℕ → List ℕ → Type 0
+Appended version start place entry old new =
+    (entries : List Entry) → EndsAt version start place entries old → EndsAt version start (place + length (record_of entry)) (entries ++ entry ∷ []) new
 
 -- What an append may leave at any moment: the entries of before, with the new one or without, and each byte outside
 -- the record and the next gate.
-pub record Appends (start place : ℕ) (entry : Entry) (old new : List ℕ) : Type 0 where
+pub record Appends (version start place : ℕ) (entry : Entry) (old new : List ℕ) : Type 0 where
   pub outside : Torn place (1 + length (body_of entry)) old new
-  pub entries : (entries : List Entry) → EndsAt start place entries old
-      → EndsAt start place entries new ⊎ EndsAt start (place + length (record_of entry)) (entries ++ entry ∷ []) new
+  pub entries : (entries : List Entry) → EndsAt version start place entries old
+      → EndsAt version start place entries new ⊎ EndsAt version start (place + length (record_of entry)) (entries ++ entry ∷ []) new
 
 -- The length of the record whose gate stands at `at` leaves no room in the half for the next gate.
 abbrev pub LeavesNoRoom : ℕ → List ℕ → Type 0
 LeavesNoRoom at half = length half ≤ at + 5 + of_four (part (at + 1) 4 half)
 
 -- No record of a sound entry stands at `at`.
-abbrev pub HasNoRecord : ℕ → List ℕ → Type 0
-HasNoRecord at half = (entry : Entry) → MayBeRecorded entry → part at (length (record_of entry)) half ≢ record_of entry
+abbrev pub HasNoRecord : ℕ → ℕ → List ℕ → Type 0
+HasNoRecord version at half = (entry : Entry) → MayBeRecorded version entry → part at (length (record_of entry)) half ≢ record_of entry
 
 -- The record whose gate stands at `at` breaks a rule at this place: at its length, where that leaves no room, and else
 -- at its payload.
-abbrev pub BreaksAt : ℕ → ℕ → List ℕ → Type 0
-BreaksAt at place half =
-    (LeavesNoRoom at half × (place ≡ at + 1)) ⊎ ((LeavesNoRoom at half → ⊥) × HasNoRecord at half × (place ≡ at + 5))
+abbrev pub BreaksAt : ℕ → ℕ → ℕ → List ℕ → Type 0
+BreaksAt version at place half =
+    (LeavesNoRoom at half × (place ≡ at + 1)) ⊎ ((LeavesNoRoom at half → ⊥) × HasNoRecord version at half × (place ≡ at + 5))
 
 -- Behind sound records stands an open gate, and the record there breaks a rule at this place of the half.
-pub record HasBrokenRecord (place : ℕ) (half : List ℕ) : Type 0 where
+pub record HasBrokenRecord (version place : ℕ) (half : List ℕ) : Type 0 where
   pub at : ℕ
   pub entries : List Entry
-  pub begins : Begins entries at half
+  pub begins : Begins version entries at half
   pub is_open : get_or half at 0 ≡ GATE_OPEN
-  pub breaks : BreaksAt at place half
+  pub breaks : BreaksAt version at place half
 
 -- The half that starts at `start` has a first record that breaks a rule, at `place`.
-pub record HasBrokenHalf (start place : ℕ) (image : List ℕ) : Type 0 where
+pub record HasBrokenHalf (version start place : ℕ) (image : List ℕ) : Type 0 where
   pub starts : start ≤ place
-  pub damaged : HasBrokenRecord (place - start) (half_at start image)
+  pub damaged : HasBrokenRecord version (place - start) (half_at start image)
   pub whole : HEAD_BYTES ≤ length image

@@ -11,9 +11,9 @@ placed place [] = []
 placed place (entry ∷ entries) = record { place = place; entry = entry } ∷ placed (place + length (record_of entry)) entries
 
 -- These are entries with their places, and the half that starts at `start` has them, and at `tail` its first closed gate.
-abbrev pub IsReplay : ℕ → List Placed → ℕ → List ℕ → Type 0
-IsReplay start found tail image = (entries : List Entry) × (found ≡ placed start entries) × EndsAt start tail entries image
+abbrev pub IsReplay : ℕ → ℕ → List Placed → ℕ → List ℕ → Type 0
+IsReplay version start found tail image = (entries : List Entry) × (found ≡ placed start entries) × EndsAt version start tail entries image
 
 -- These are the entries, with their places, whose records take the first bytes of a half, up to `at`.
-abbrev pub IsReading : ℕ → List Placed → ℕ → List ℕ → Type 0
-IsReading start found at half = (entries : List Entry) × (found ≡ placed start entries) × Begins entries at half
+abbrev pub IsReading : ℕ → ℕ → List Placed → ℕ → List ℕ → Type 0
+IsReading version start found at half = (entries : List Entry) × (found ≡ placed start entries) × Begins version entries at half

@@ -2,7 +2,7 @@
 use Rattle.std.specs.Prelude.{ℕ, ◌-◌, ◌==◌, List, [], ◌∷◌, length, take, drop, Option, Some, None, nat_le, if◌then◌else◌}
 use Rattle.std.specs.Int.{w32, w64, from_be_bytes}
 use Rattle.alta_journal.specs.declared.entry.Entry.{Entry}
-use Rattle.alta_journal.specs.declared.entry.Entry.TheVariants.{Add, Delete}
+use Rattle.alta_journal.specs.declared.entry.Entry.TheVariants.{Add, Delete, Replace}
 
 -- the numbers that four bytes and eight bytes spell
 unfoldable pub of_four : List ℕ → ℕ
@@ -29,19 +29,28 @@ abbrev pub ◌>>=◌ : {A B : Type 0} → Option A → (A → Option B) → Opti
 None >>= f = None
 (Some x) >>= f = f x
 
+-- a name, a title and a body, and nothing behind them
+unfoldable pub texts_in : List ℕ → Option (List ℕ × List ℕ × List ℕ)
+texts_in bytes =
+    name_in bytes >>= λ name. text_in name.1 >>= λ title. text_in title.1 >>= λ body.
+    if length body.1 == 0 then Some (name.0, title.0, body.0) else None
+
 -- the fields of an add
 unfoldable pub add_in : List ℕ → Option Entry
-add_in bytes =
-    name_in bytes >>= λ name. text_in name.1 >>= λ title. text_in title.1 >>= λ body.
-    if length body.1 == 0 then Some (Add name.0 title.0 body.0) else None
+add_in bytes = texts_in bytes >>= λ t. Some (Add t.0 t.1 t.2)
 
 unfoldable pub delete_in : List ℕ → Option Entry
 delete_in bytes = if length bytes == 8 then Some (Delete (of_eight bytes)) else None
 
+-- a number, and the fields of an add
+unfoldable pub replace_in : List ℕ → Option Entry
+replace_in bytes = cut 8 bytes >>= λ number. texts_in number.1 >>= λ t. Some (Replace (of_eight number.0) t.0 t.1 t.2)
+
 -- the entry with this payload, its rules aside
 unfoldable pub entry_in : List ℕ → Option Entry
 entry_in [] = None
-entry_in (kind ∷ bytes) = if kind == 1 then add_in bytes else (if kind == 2 then delete_in bytes else None)
+entry_in (kind ∷ bytes) =
+    if kind == 1 then add_in bytes else (if kind == 2 then delete_in bytes else (if kind == 3 then replace_in bytes else None))
 
 abbrev pub or_none : Option Entry → Entry
 or_none None = Delete 0

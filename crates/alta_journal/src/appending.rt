@@ -1,9 +1,10 @@
 // A record is written and synced behind its closed gate, and then the gate is opened and synced.
-ghost use Rattle.std.specs.Prelude.{◌≡◌, ◌+◌, ◌<◌, ◌≤◌, [], ◌∷◌, ◌++◌, length, IfOk, IfErr, OnOk, OnErr};
+ghost use Rattle.std.specs.Prelude.{◌≡◌, ℕ, ◌+◌, ◌<◌, ◌≤◌, [], ◌∷◌, ◌++◌, length, IfOk, IfErr, OnOk, OnErr};
 ghost use Rattle.alta_codec.specs.Faults.{HasCause, Rose};
 ghost use Rattle.alta_disk.specs.Disk.{DiskState, Holds, Stands, Torn, Only, Passes};
 ghost use Rattle.alta_journal.specs.declared.appending.JournalFault.TheVariants.{Disk as DiskFault};
 ghost use Rattle.alta_journal.specs.Places.{start_of, left_behind, HasClosedGate};
+ghost use Rattle.alta_journal.specs.Entry.{MayBeRecorded};
 ghost use Rattle.alta_journal.specs.Record.{Record, record_of, body_of};
 ghost use Rattle.alta_journal.specs.Journal.{EndsAt, Appended, Appends};
 
@@ -31,7 +32,7 @@ impl From<Failed> for JournalFault {
 }
 
 /// Appends a record at the tail of its half, by two writes, each with its sync. After `Ok` every image that a stop may
-/// leave has the record and behind it a closed gate, and all else as it was, and the tail stands there. At each moment before, an image has the records that it had,
+/// leave has the record, under a root of a version that may have it, and behind it a closed gate, and all else as it was, and the tail stands there. At each moment before, an image has the records that it had,
 /// with the new one or without, and each byte outside the record and the next gate.
 ///
 /// In every image that a stop may leave, a closed gate stands at the tail's place.
@@ -44,7 +45,7 @@ pub fn append<D: Disk>(disk: &mut D, tail: &mut Tail, ready: &Ready) -> Result<(
     requires closed { Stands D.tells (D.state disk.old) (HasClosedGate tail.old.place) }
     requires limit { HEAD_BYTES ≤ (D.state disk.old).limit }
 
-    ensures appended { D.tells → OnOk result (Appended (start_of tail.old.half) tail.old.place ready.now.entry (D.state disk.old).content (D.state disk.new).content) }
+    ensures appended { (version : ℕ) → MayBeRecorded version ready.now.entry → D.tells → OnOk result (Appended version (start_of tail.old.half) tail.old.place ready.now.entry (D.state disk.old).content (D.state disk.new).content) }
     ensures written { D.tells → OnOk result (Holds (D.state disk.old).content tail.old.place (record_of ready.now.entry ++ GATE_CLOSED ∷ []) (D.state disk.new).content) }
     ensures closed { OnOk result (Stands D.tells (D.state disk.new) (HasClosedGate tail.new.place)) }
     ensures durable { OnOk result (Only (D.state disk.new).content (D.state disk.new).images) }
@@ -53,7 +54,7 @@ pub fn append<D: Disk>(disk: &mut D, tail: &mut Tail, ready: &Ready) -> Result<(
     ensures half { tail.new.half ≡ tail.old.half }
 
     // At each moment of the call.
-    ensures images { Passes (Appends (start_of tail.old.half) tail.old.place ready.now.entry) (D.state disk.old) (D.state disk.new) }
+    ensures images { (version : ℕ) → MayBeRecorded version ready.now.entry → Passes (Appends version (start_of tail.old.half) tail.old.place ready.now.entry) (D.state disk.old) (D.state disk.new) }
 
     ensures full { left_behind (start_of tail.old.half) tail.old.place < length (body_of ready.now.entry)
         → (result ≡ Err (JournalFault.Full (length (body_of ready.now.entry)) (left_behind (start_of tail.old.half) tail.old.place))) × (disk.new ≡ disk.old) }
@@ -85,7 +86,7 @@ pub fn format<D: Disk>(disk: &mut D, half: Half) -> Result<Tail, Failed>
     requires size { D.tells → HEAD_BYTES ≤ length (D.state disk.old).content }
     requires limit { HEAD_BYTES ≤ (D.state disk.old).limit }
     ensures written { D.tells → OnOk result (Holds (D.state disk.old).content (start_of half) (GATE_CLOSED ∷ []) (D.state disk.new).content) }
-    ensures empty { D.tells → OnOk result (EndsAt (start_of half) (start_of half) [] (D.state disk.new).content) }
+    ensures empty { (version : ℕ) → D.tells → OnOk result (EndsAt version (start_of half) (start_of half) [] (D.state disk.new).content) }
     ensures closed { OnOk result (Stands D.tells (D.state disk.new) (HasClosedGate (start_of half))) }
     ensures durable { OnOk result (Only (D.state disk.new).content (D.state disk.new).images) }
     ensures tail { IfOk result (λ tail. (tail.half ≡ half) × (tail.place ≡ start_of half)) }

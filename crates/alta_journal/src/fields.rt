@@ -1,20 +1,37 @@
 // The entry that a payload spells, if its rules are kept.
-ghost use Rattle.std.specs.Prelude.{◌≡◌, ◌↔◌, ◌<◌, ◌≤◌, ℕ, List, Option, IsTrue, IsUtf8, IfOk, MatchOption, length};
+ghost use Rattle.std.specs.Prelude.{◌≡◌, ◌↔◌, ◌+◌, ◌<◌, ◌≤◌, ◌^◌, IsTrue, IsUtf8, IfOk, MatchOption, length, take};
 ghost use Rattle.alta_codec.specs.Name.{IsName};
 ghost use Rattle.alta_journal.specs.Entry.{Lacks};
-ghost use Rattle.alta_journal.specs.Found.{IsFound};
-ghost use Rattle.alta_journal.specs.Reading.{cut, name_in, text_in, add_in, delete_in, entry_in};
-ghost use Rattle.alta_journal.specs.declared.entry.Entry.TheVariants.{Add};
+ghost use Rattle.alta_journal.specs.Found.{IsFound, AreFound};
+ghost use Rattle.alta_journal.specs.Reading.{of_eight, cut, name_in, text_in, texts_in, add_in, delete_in, replace_in, entry_in};
 
-use crate::Entry;
-use crate::places::{ADD, DELETE, PAYLOAD_BYTES};
+use crate::places::{ADD, DELETE, REPLACE, TEXTS_BYTES};
+use crate::{Entry, is_old};
 use alta_codec::{Text, name_ok};
 use std::alloc::{AllocError, Global};
 
-/// The entry that this payload spells. `None` where there is none that keeps the rules of a record.
+/// The entry that this payload spells. `None` where there is none that keeps the rules of a record under a root of this
+/// version.
+pub(crate) fn entry_from(
+    alloc: Global,
+    version: u8,
+    payload: &[u8],
+) -> Result<Option<Entry>, AllocError>
+    ensures { IfOk result (λ o. IsFound version (entry_in payload.now) o) }
+{
+    let Some(entry) = newest_from(alloc, payload)? else {
+        return Ok(None);
+    };
+    if version == 1 && !is_old(&entry) {
+        return Ok(None);
+    }
+    Ok(Some(entry))
+}
+
+// The entry that this payload spells, by the newest rules.
 #[tactic(auto, unfolding(crate::specs::Reading::entry_in))]
-pub(crate) fn entry_from(alloc: Global, payload: &[u8]) -> Result<Option<Entry>, AllocError>
-    ensures { IfOk result (λ o. IsFound (entry_in payload.now) o) }
+fn newest_from(alloc: Global, payload: &[u8]) -> Result<Option<Entry>, AllocError>
+    ensures { IfOk result (λ o. IsFound 2 (entry_in payload.now) o) }
 {
     let [kind, fields @ ..] = payload else {
         return Ok(None);
@@ -22,13 +39,14 @@ pub(crate) fn entry_from(alloc: Global, payload: &[u8]) -> Result<Option<Entry>,
     match *kind {
         ADD => add_from(alloc, fields),
         DELETE => Ok(delete_from(fields)),
+        REPLACE => replace_from(alloc, fields),
         _ => Ok(None),
     }
 }
 
 #[tactic(auto, unfolding(crate::specs::Reading::delete_in, crate::specs::Reading::of_eight))]
 fn delete_from(fields: &[u8]) -> Option<Entry>
-    ensures { IsFound (delete_in fields.now) result }
+    ensures { IsFound 2 (delete_in fields.now) result }
 {
     let [a, b, c, d, e, f, g, h] = fields else {
         return None;
@@ -39,14 +57,52 @@ fn delete_from(fields: &[u8]) -> Option<Entry>
 }
 
 fn add_from(alloc: Global, fields: &[u8]) -> Result<Option<Entry>, AllocError>
-    ensures { IfOk result (λ o. IsFound (add_in fields.now) o) }
+    ensures { IfOk result (λ o. IsFound 2 (add_in fields.now) o) }
 {
-    if fields.len() as u64 >= PAYLOAD_BYTES {
+    let Some((name, title, body)) = texts_from(alloc, fields)? else {
         return Ok(None);
-    }
+    };
+    Ok(Some(Entry::Add { name, title, body }))
+}
+
+fn replace_from(alloc: Global, fields: &[u8]) -> Result<Option<Entry>, AllocError>
+    ensures { IfOk result (λ o. IsFound 2 (replace_in fields.now) o) }
+{
+    let Some((number, fields)) = split_number(fields) else {
+        return Ok(None);
+    };
+    let Some((name, title, body)) = texts_from(alloc, fields)? else {
+        return Ok(None);
+    };
+    Ok(Some(Entry::Replace {
+        number,
+        name,
+        title,
+        body,
+    }))
+}
+
+// A number of eight bytes, and what follows.
+#[tactic(auto, unfolding(crate::specs::Reading::cut, crate::specs::Reading::of_eight))]
+fn split_number(bytes: &[u8]) -> Option<(u64, &[u8])>
+    ensures { MatchOption result (cut 8 bytes.now ≡ None) (λ x. (cut 8 bytes.now ≡ Some (take 8 bytes.now, x.1.now)) × (x.0 ≡ of_eight (take 8 bytes.now)) × (x.0 < 2 ^ 64)) }
+{
+    let [a, b, c, d, e, f, g, h, rest @ ..] = bytes else {
+        return None;
+    };
+    Some((u64::from_be_bytes([*a, *b, *c, *d, *e, *f, *g, *h]), rest))
+}
+
+// The name, the title and the body that these fields spell, if they keep their rules.
+fn texts_from(alloc: Global, fields: &[u8]) -> Result<Option<(Text, Text, Text)>, AllocError>
+    ensures { IfOk result (λ o. AreFound (texts_in fields.now) o) }
+{
     let Some((name, title, body)) = fields_of(fields) else {
         return Ok(None);
     };
+    if !are_short(name, title, body) {
+        return Ok(None);
+    }
     if !lacks(title, b'\t') {
         return Ok(None);
     }
@@ -59,11 +115,17 @@ fn add_from(alloc: Global, fields: &[u8]) -> Result<Option<Entry>, AllocError>
     let Some(body) = line(body) else {
         return Ok(None);
     };
-    Ok(Some(Entry::Add {
-        name: text(alloc, name)?,
-        title: text(alloc, title)?,
-        body: text(alloc, body)?,
-    }))
+    Ok(Some((text(alloc, name)?, text(alloc, title)?, text(alloc, body)?)))
+}
+
+// Whether three texts are not too long together.
+fn are_short(name: &[u8], title: &[u8], body: &[u8]) -> bool
+    ensures { IsTrue result ↔ (length name.now + length title.now + length body.now ≤ TEXTS_BYTES) }
+{
+    let limit = TEXTS_BYTES as usize;
+    name.len() <= limit
+        && title.len() <= limit - name.len()
+        && body.len() <= limit - name.len() - title.len()
 }
 
 // An owned copy of a text.
@@ -102,10 +164,10 @@ pub(crate) fn lacks(bytes: &[u8], value: u8) -> bool
     bytes.iter().all(|byte| *byte != value)
 }
 
-// Name, title and body of an add.
-#[tactic(auto, unfolding(crate::specs::Reading::add_in))]
+// A name, a title and a body, and nothing behind them.
+#[tactic(auto, unfolding(crate::specs::Reading::texts_in))]
 fn fields_of(bytes: &[u8]) -> Option<(&[u8], &[u8], &[u8])>
-    ensures { MatchOption result (add_in bytes.now ≡ None) (λ x. add_in bytes.now ≡ Some (Add x.0.now x.1.now x.2.now)) }
+    ensures { MatchOption result (texts_in bytes.now ≡ None) (λ x. texts_in bytes.now ≡ Some (x.0.now, x.1.now, x.2.now)) }
 {
     let (name, rest) = split_name(bytes)?;
     let (title, rest) = split_text(rest)?;

@@ -18,10 +18,15 @@ pub const HALF_BYTES: u64 = 1_048_576;
 /// The bytes of a disk's head: of both root slots and both halves.
 pub const HEAD_BYTES: u64 = 2_105_344;
 
-/// The most bytes that the payload of an add has.
+/// The most bytes that a payload has under a root of version 1.
 pub const PAYLOAD_BYTES: u64 = 65_600;
+
+/// The most bytes that a name, a title and a body have together. A payload has 18 more at most.
+pub const TEXTS_BYTES: u64 = 262_137;
 
 // The kinds of a payload.
 pub(crate) const ADD: u8 = 1;
 
 pub(crate) const DELETE: u8 = 2;
+
+pub(crate) const REPLACE: u8 = 3;

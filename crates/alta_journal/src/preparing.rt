@@ -1,16 +1,17 @@
 // Makes records.
 ghost use Rattle.std.specs.Prelude.{◌≡◌, ◌<◌, ◌^◌, ◌++◌, length, IfOk, OnOk};
-ghost use Rattle.alta_journal.specs.Entry.{KeepsRules, IsTyped, payload_of, measured};
+ghost use Rattle.alta_journal.specs.Entry.{KeepTexts, KeepsRules, IsTyped, is_old as is_old_entry, payload_of, texts_of, measured};
 ghost use Rattle.alta_journal.specs.Record.{Record, body_of};
 
-use crate::places::{ADD, DELETE, GATE_CLOSED};
+use crate::places::{ADD, DELETE, GATE_CLOSED, PAYLOAD_BYTES, REPLACE};
 use crate::{Entry, Ready};
 use alta_codec::Text;
 use std::alloc::{AllocError, Global};
 
 /// Makes the record of an entry: all that an append writes, so that the append itself takes no memory. The entry
 /// keeps the rules of a record: its name is 1 to 64 graphic ASCII bytes, its title has no tab, title and body have no
-/// newline, and the payload of an add is at most [`PAYLOAD_BYTES`](crate::PAYLOAD_BYTES).
+/// newline, and together they have at most [`TEXTS_BYTES`](crate::TEXTS_BYTES). A root of version 1 may have it only where
+/// [`is_old`](crate::is_old) says so.
 pub fn ready(alloc: Global, entry: &Entry) -> Result<Ready, AllocError>
     requires { KeepsRules entry.now }
     ensures { IfOk result (λ r. r ≡ record { entry = entry.now; bytes = body_of entry.now }) }
@@ -23,12 +24,25 @@ pub fn ready(alloc: Global, entry: &Entry) -> Result<Ready, AllocError>
     Ok(Ready::of_bytes(bytes))
 }
 
+/// Whether a root of version 1 may have this entry in its journal: it is an add or a delete, and its payload has at most
+/// [`PAYLOAD_BYTES`](crate::PAYLOAD_BYTES).
+pub fn is_old(entry: &Entry) -> bool
+    requires { KeepsRules entry.now }
+    ensures { result ≡ is_old_entry entry.now }
+{
+    match entry {
+        Entry::Add { .. } => payload_len(entry) as u64 <= PAYLOAD_BYTES,
+        Entry::Delete { .. } => true,
+        Entry::Replace { .. } => false,
+    }
+}
+
 // How many bytes the payload of an entry has.
 #[tactic(auto, using(crate::proofs::Spelling::lengths))]
 fn payload_len(entry: &Entry) -> usize
     requires { KeepsRules entry.now }
     ensures len { result ≡ length (payload_of entry.now) }
-    ensures short { result < 2 ^ 17 }
+    ensures short { result < 2 ^ 19 }
     ensures typed { IsTyped entry.now }
 {
     match entry {
@@ -38,6 +52,15 @@ fn payload_len(entry: &Entry) -> usize
         Entry::Delete { number } => {
             let _number = *number;
             9
+        }
+        Entry::Replace {
+            number,
+            name,
+            title,
+            body,
+        } => {
+            let _number = *number;
+            18 + name.as_str().len() + title.as_str().len() + body.as_str().len()
         }
     }
 }
@@ -51,16 +74,34 @@ fn put_payload(bytes: &mut Vec<u8>, entry: &Entry) -> Result<(), AllocError>
     match entry {
         Entry::Add { name, title, body } => {
             bytes.push(ADD)?;
-            bytes.push(name.as_str().len() as u8)?;
-            bytes.extend_from_slice(name.as_str().as_bytes())?;
-            put_text(bytes, title)?;
-            put_text(bytes, body)
+            put_texts(bytes, name, title, body)
         }
         Entry::Delete { number } => {
             bytes.push(DELETE)?;
             bytes.extend_from_slice(&number.to_be_bytes())
         }
+        Entry::Replace {
+            number,
+            name,
+            title,
+            body,
+        } => {
+            bytes.push(REPLACE)?;
+            bytes.extend_from_slice(&number.to_be_bytes())?;
+            put_texts(bytes, name, title, body)
+        }
     }
+}
+
+// Appends a name behind its length, and a title and a body behind theirs.
+fn put_texts(bytes: &mut Vec<u8>, name: &Text, title: &Text, body: &Text) -> Result<(), AllocError>
+    requires { KeepTexts name.now title.now body.now }
+    ensures { OnOk result (bytes.new.items ≡ bytes.old.items ++ texts_of name.now title.now body.now) }
+{
+    bytes.push(name.as_str().len() as u8)?;
+    bytes.extend_from_slice(name.as_str().as_bytes())?;
+    put_text(bytes, title)?;
+    put_text(bytes, body)
 }
 
 // Appends a text behind its length.

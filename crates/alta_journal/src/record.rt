@@ -22,23 +22,24 @@ impl Model for Ready {
 
     ghost view = { λ r. record { entry = entry_of_body r.bytes.items; bytes = r.bytes.items } };
 
-    ghost invariant = { λ r. MayBeRecorded (entry_of_body r.bytes.items) × (r.bytes.items ≡ body_of (entry_of_body r.bytes.items)) };
+    ghost invariant = { λ r. MayBeRecorded 2 (entry_of_body r.bytes.items) × (r.bytes.items ≡ body_of (entry_of_body r.bytes.items)) };
 }
 
 impl Ready {
     ghost use Rattle.alta_journal.specs.Reading.{entry_of_body};
 
     pub(crate) fn of_bytes(bytes: Vec<u8>) -> Ready
-        requires sound { MayBeRecorded (entry_of_body bytes.items) }
+        requires sound { MayBeRecorded 2 (entry_of_body bytes.items) }
         requires spells { bytes.items ≡ body_of (entry_of_body bytes.items) }
         ensures { result ≡ record { entry = entry_of_body bytes.items; bytes = bytes.items } }
     {
         Ready { bytes }
     }
 
-    pub(crate) fn bytes(&self) -> &[u8]
+    /// What is written behind the gate: the payload behind its length, and the next gate, closed.
+    pub fn bytes(&self) -> &[u8]
         ensures bytes { result.now ≡ body_of self.now.entry }
-        ensures sound { MayBeRecorded self.now.entry }
+        ensures sound { MayBeRecorded 2 self.now.entry }
     {
         &self.bytes
     }

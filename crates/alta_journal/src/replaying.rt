@@ -57,7 +57,7 @@ impl<T: Drop> From<AllocFailed<T>> for OpenFault {
 }
 
 /// Reads the entries of a half, each with the place of its record's gate, and the half's tail, the first closed gate. Each entry
-/// keeps the rules of a record.
+/// keeps the rules of a record under a root of this version, which is 1 or 2.
 /// The half is read whole, by one read of the disk. The disk has at least [`HEAD_BYTES`](crate::HEAD_BYTES).
 ///
 /// # Errors
@@ -68,18 +68,20 @@ pub fn replay<D: Disk>(
     alloc: Global,
     disk: &mut D,
     half: Half,
+    version: u8,
 ) -> Result<(Vec<Placed>, Tail), OpenFault>
-    requires { D.tells → HEAD_BYTES ≤ length (D.state disk.old).content }
+    requires size { D.tells → HEAD_BYTES ≤ length (D.state disk.old).content }
+    requires version { (1 ≤ version) × (version ≤ 2) }
 
-    ensures read { D.tells → IfOk result (λ r. IsReplay (start_of half) r.0.items r.1.place (D.state disk.old).content) }
+    ensures read { D.tells → IfOk result (λ r. IsReplay version (start_of half) r.0.items r.1.place (D.state disk.old).content) }
     ensures half { IfOk result (λ r. r.1.half ≡ half) }
-    ensures rules { IfOk result (λ r. All (λ p. MayBeRecorded p.entry) r.0.items) }
-    ensures damaged { D.tells → IfErr result (λ e. (place : ℕ) → e ≡ OpenFault.Damaged place → HasBrokenHalf (start_of half) place (D.state disk.old).content) }
+    ensures rules { IfOk result (λ r. All (λ p. MayBeRecorded version p.entry) r.0.items) }
+    ensures damaged { D.tells → IfErr result (λ e. (place : ℕ) → e ≡ OpenFault.Damaged place → HasBrokenHalf version (start_of half) place (D.state disk.old).content) }
 
     // What the half says decides the answer, but for a fault of the disk and want of memory.
-    ensures sound { D.tells → (tail : ℕ) → (entries : List Entry) → EndsAt (start_of half) tail entries (D.state disk.old).content
+    ensures sound { D.tells → (tail : ℕ) → (entries : List Entry) → EndsAt version (start_of half) tail entries (D.state disk.old).content
         → MatchResult result (λ r. (r.0.items ≡ placed (start_of half) entries) × (r.1.place ≡ tail)) IsNoDamage }
-    ensures broken { D.tells → (place : ℕ) → HasBrokenHalf (start_of half) place (D.state disk.old).content
+    ensures broken { D.tells → (place : ℕ) → HasBrokenHalf version (start_of half) place (D.state disk.old).content
         → MatchResult result (λ _. ⊥) (λ e. (other : ℕ) → e ≡ OpenFault.Damaged other → other ≡ place) }
 
     ensures content { D.tells → (D.state disk.new).content ≡ (D.state disk.old).content }
@@ -90,7 +92,7 @@ pub fn replay<D: Disk>(
     ensures limit { (D.state disk.new).limit ≡ (D.state disk.old).limit }
 {
     let bytes = read_half(alloc, disk, half)?;
-    read_records(alloc, half, &bytes)
+    read_records(alloc, half, version, &bytes)
 }
 
 // The bytes of a half.
@@ -119,12 +121,17 @@ fn zeros(alloc: Global, n: usize) -> Result<Vec<u8>, AllocError>
 }
 
 // The entries in the bytes of a half.
-fn read_records(alloc: Global, half: Half, bytes: &[u8]) -> Result<(Vec<Placed>, Tail), OpenFault>
+fn read_records(
+    alloc: Global,
+    half: Half,
+    version: u8,
+    bytes: &[u8],
+) -> Result<(Vec<Placed>, Tail), OpenFault>
     requires { length bytes.now ≡ HALF_BYTES }
-    ensures read { IfOk result (λ r. (start_of half ≤ r.1.place) × IsReading (start_of half) r.0.items (r.1.place - start_of half) bytes.now × HasClosedGate (r.1.place - start_of half) bytes.now) }
+    ensures read { IfOk result (λ r. (start_of half ≤ r.1.place) × IsReading version (start_of half) r.0.items (r.1.place - start_of half) bytes.now × HasClosedGate (r.1.place - start_of half) bytes.now) }
     ensures half { IfOk result (λ r. r.1.half ≡ half) }
-    ensures rules { IfOk result (λ r. All (λ p. MayBeRecorded p.entry) r.0.items) }
-    ensures damaged { IfErr result (λ e. (place : ℕ) → e ≡ OpenFault.Damaged place → (start_of half ≤ place) × HasBrokenRecord (place - start_of half) bytes.now) }
+    ensures rules { IfOk result (λ r. All (λ p. MayBeRecorded version p.entry) r.0.items) }
+    ensures damaged { IfErr result (λ e. (place : ℕ) → e ≡ OpenFault.Damaged place → (start_of half ≤ place) × HasBrokenRecord version (place - start_of half) bytes.now) }
     ensures disk { IfErr result (λ e. e ≢ DiskFault) }
 {
     let start = half.start();
@@ -134,7 +141,7 @@ fn read_records(alloc: Global, half: Half, bytes: &[u8]) -> Result<(Vec<Placed>,
         let Some(payload) = payload_of(&bytes[at..]) else {
             return Err(OpenFault::Damaged(start + at as u64 + 1));
         };
-        let Some(entry) = entry_from(alloc, payload)? else {
+        let Some(entry) = entry_from(alloc, version, payload)? else {
             return Err(OpenFault::Damaged(start + at as u64 + 5));
         };
         entries.push(Placed {

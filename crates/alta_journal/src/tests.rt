@@ -1,7 +1,6 @@
 // The bytes of records, damage with its places, the end of a half, and what each stop leaves.
-ghost use Rattle.std.specs.Prelude.{◌≡◌, ◌≤◌, length, IfOk, IsTrue};
-ghost use Rattle.alta_journal.specs.Entry.{KeepsRules, Lacks, payload_of};
-ghost use Rattle.alta_journal.specs.declared.entry.Entry.TheVariants.{Add};
+ghost use Rattle.std.specs.Prelude.{◌≡◌, ◌+◌, ◌≤◌, length, IfOk, IsTrue};
+ghost use Rattle.alta_journal.specs.Entry.{KeepTexts, KeepsRules, Lacks};
 
 use crate::fields::lacks;
 use crate::*;
@@ -11,19 +10,32 @@ use std::alloc::{AllocError, Global};
 use std::process::Abort;
 use std::test::Fail;
 
-// Whether an add keeps the rules of a record, if it is short.
+// Whether an entry keeps the rules of a record, if it is short.
 fn keeps_rules(entry: &Entry) -> bool
     ensures { IsTrue result → KeepsRules entry.now }
 {
     match entry {
-        Entry::Add { name, title, body } => {
-            let (name, title, body) = (name.as_str(), title.as_str(), body.as_str());
-            name_ok(name.as_bytes())
-                && are_lines(title.as_bytes(), body.as_bytes())
-                && are_short(name.as_bytes(), title.as_bytes(), body.as_bytes())
-        }
+        Entry::Add { name, title, body } => keep_texts(
+            name.as_str(),
+            title.as_str(),
+            body.as_str(),
+        ),
         Entry::Delete { .. } => true,
+        Entry::Replace {
+            name,
+            title,
+            body,
+            ..
+        } => keep_texts(name.as_str(), title.as_str(), body.as_str()),
     }
+}
+
+fn keep_texts(name: &str, title: &str, body: &str) -> bool
+    ensures { IsTrue result → KeepTexts name.now title.now body.now }
+{
+    name_ok(name.as_bytes())
+        && are_lines(title.as_bytes(), body.as_bytes())
+        && are_short(name.as_bytes(), title.as_bytes(), body.as_bytes())
 }
 
 fn are_lines(title: &[u8], body: &[u8]) -> bool
@@ -32,9 +44,8 @@ fn are_lines(title: &[u8], body: &[u8]) -> bool
     lacks(title, b'\t') && lacks(title, b'\n') && lacks(body, b'\n')
 }
 
-#[tactic(auto, using(crate::proofs::Spelling::lengths))]
 fn are_short(name: &[u8], title: &[u8], body: &[u8]) -> bool
-    ensures { IsTrue result → length (payload_of (Add name.now title.now body.now)) ≤ PAYLOAD_BYTES }
+    ensures { IsTrue result → length name.now + length title.now + length body.now ≤ TEXTS_BYTES }
 {
     name.len() <= 64 && title.len() < 1_000 && body.len() < 1_000
 }
@@ -99,14 +110,26 @@ fn zeros(alloc: Global, n: usize) -> Result<Vec<u8>, AllocError>
     Ok(vec![in alloc; 0u8; n]?)
 }
 
-// What a replay of these bytes answers: how many entries, and the tail's place.
+// What a replay of these bytes answers under a root of version 1: how many entries, and the tail's place.
 fn replayed(alloc: Global, image: Vec<u8>, half: Half) -> Result<(usize, u64), OpenFault> {
+    replayed_by(alloc, image, half, 1)
+}
+
+// The same under a root of this version.
+fn replayed_by(
+    alloc: Global,
+    image: Vec<u8>,
+    half: Half,
+    version: u8,
+) -> Result<(usize, u64), OpenFault>
+    requires { (1 ≤ version) × (version ≤ 2) }
+{
     let limit = image.len() as u64;
     if limit < HEAD_BYTES {
         return Err(OpenFault::Memory);
     }
     let mut disk = MemoryDisk::new(alloc, image, limit, Vec::new(alloc));
-    match replay(alloc, &mut disk, half) {
+    match replay(alloc, &mut disk, half, version) {
         Ok((entries, tail)) => Ok((entries.len(), tail.place)),
         Err(fault) => Err(fault),
     }
@@ -143,7 +166,7 @@ fn records_are_written_and_read_back(rt: HostRuntime) -> Result<(), Fail> {
         3_000_000,
         Vec::new(alloc),
     );
-    let (entries, tail) = replay(alloc, &mut again, Half::A).expect(&rt, "a replay");
+    let (entries, tail) = replay(alloc, &mut again, Half::A, 1).expect(&rt, "a replay");
     assert_eq!(rt; tail.place, 8_232);
     assert_eq!(rt; entries.len(), 1);
     let [placed] = entries.as_slice() else {
@@ -369,6 +392,70 @@ fn damage_is_at_the_first_broken_rule(rt: HostRuntime) -> Result<(), Fail> {
     for (last_body, end, want) in rows {
         let head = full_head(alloc, last_body, end)?;
         assert_eq!(rt; replayed(alloc, head, Half::A), want, "{last_body}");
+    }
+    Ok(())
+}
+
+// The record that puts a document `a` about blue in place of document 1, its gate open, and the next gate.
+const BLUE: &[u8] = b"\xa5\0\0\0\x17\x03\0\0\0\0\0\0\0\x01\x01a\0\0\0\0\0\0\0\x04blue\0";
+
+#[test]
+fn a_root_of_version_2_has_more_records(rt: HostRuntime) -> Result<(), Fail> {
+    let alloc = rt.alloc();
+    let content = zeros(alloc, HEAD_BYTES as usize)?;
+    let mut disk = MemoryDisk::new(alloc, content, HEAD_BYTES, Vec::new(alloc));
+    let mut tail = format(&mut disk, Half::B).expect(&rt, "a format");
+    let blue = Entry::Replace {
+        number: 1,
+        name: Text::from_string(String::from_str(alloc, "a")?),
+        title: Text::from_string(String::from_str(alloc, "")?),
+        body: Text::from_string(String::from_str(alloc, "blue")?),
+    };
+    assert!(rt; keeps_rules(&blue));
+    assert!(rt; !is_old(&blue));
+    let record = ready(alloc, &blue)?;
+    append(&mut disk, &mut tail, &record).expect(&rt, "an append");
+    assert_eq!(rt; tail.place, 1_056_796);
+    let image = disk.image(alloc, 1)?;
+    assert_eq!(rt; image.get(1_056_768..1_056_797), Some(BLUE));
+    let mut again = MemoryDisk::new(
+        alloc,
+        head_with(alloc, 1_056_768, BLUE)?,
+        3_000_000,
+        Vec::new(alloc),
+    );
+    let (entries, tail) = replay(alloc, &mut again, Half::B, 2).expect(&rt, "a replay");
+    assert_eq!(rt; tail.place, 1_056_796);
+    let [placed] = entries.as_slice() else {
+        panic!(rt; "one entry");
+    };
+    let Entry::Replace {
+        number,
+        name,
+        title,
+        body,
+    } = &placed.entry
+    else {
+        panic!(rt; "a replace");
+    };
+    assert_eq!(rt; *number, 1);
+    assert_eq!(rt;
+        (name.as_str(), title.as_str(), body.as_str()),
+        ("a", "", "blue")
+    );
+    let head = head_with(alloc, 1_056_768, BLUE)?;
+    assert_eq!(rt;
+        replayed(alloc, head, Half::B),
+        Err(OpenFault::Damaged(1_056_773))
+    );
+    for (body, want) in [
+        (65_590, Ok((1, 73_798))),
+        (262_136, Ok((1, 270_344))),
+        (262_137, Err(OpenFault::Damaged(8_197))),
+    ] {
+        let mut head = zeros(alloc, HEAD_BYTES as usize)?;
+        put_add(&mut head, 8_192, body);
+        assert_eq!(rt; replayed_by(alloc, head, Half::A, 2), want, "{body}");
     }
     Ok(())
 }

@@ -11,7 +11,7 @@ use alta_codec::read_count;
 use simdutf8::compat::from_utf8;
 
 /// How many bytes a line may have, without its newline.
-pub const LINE_LIMIT: usize = 65_535;
+pub const LINE_LIMIT: usize = 262_143;
 
 /// What a line asks for, with its parts as they stand in the line.
 #[derive(Clone, Copy, Debug, Drop)]

@@ -153,8 +153,8 @@ module _ (slot at : Slot) (root earlier : Root) (pieces : List Piece) (limit : �
       list = subst (λ (r : Root). Spells (bytes_at r.deletions new) coming.deleted) (sym comes.root_is) (list_there root.deletions coming.deleted comes.list);
       empty = comes.entries;
       journal =
-          subst (λ (s : Slot). EndsAt (journal_of s) coming.tail [] new) (sym comes.slot_is)
-          (subst (λ (n : ℕ). EndsAt (journal_of slot) n [] new) (sym comes.tail) puts.journal);
+          subst (λ (s : Slot). EndsAt coming.root.version (journal_of s) coming.tail [] new) (sym comes.slot_is)
+          (subst (λ (n : ℕ). EndsAt coming.root.version (journal_of slot) n [] new) (sym comes.tail) (puts.journal coming.root.version));
     }
 
     pub is_written : (coming : Opened) (levels : List Level) → Comes slot root pieces coming levels earlier old → InPlace root coming.deleted coming.levels → IsWritten coming levels new

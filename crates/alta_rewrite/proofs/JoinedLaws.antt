@@ -11,7 +11,7 @@ use Rattle.alta_content.specs.declared.content.Content.{Content}
 use Rattle.alta_content.specs.declared.document.DocRow.{DocRow}
 use Rattle.alta_images.proofs.InPlaceLaws.{all_low}
 use Rattle.alta_images.proofs.JoinLaws.{all_now, coming_rows, joined_left, merged_left, rise_now}
-use Rattle.alta_images.proofs.KeptStates.{AreGone, by_entries, by_levels, gone_are, live_rows_are, rise_left, rows_append, rows_by_levels, stay_contents}
+use Rattle.alta_images.proofs.KeptStates.{AreGone, by_levels, gone_are, live_rows_are, rise_left, rows_append, rows_by_levels, stay_contents}
 use Rattle.alta_images.proofs.KnownLaws.{all_both, all_weaker}
 use Rattle.alta_images.proofs.PlaceLaws.{LiesBelow, cells_in}
 use Rattle.alta_images.proofs.Tests.{filter_drop, not_true}
@@ -21,7 +21,7 @@ use Rattle.alta_images.specs.Levels.{Level, live_rows}
 use Rattle.alta_images.specs.Ordered.{RowsPrecede}
 use Rattle.alta_images.specs.Views.{View, state_of}
 use Rattle.alta_images.specs.Work.{Coming, Job, coming, gone, gone_among, is_gone, is_merged, job_of, newest, newest_content, oldest_joined, level_rows, stays, whole_of}
-use Rattle.alta_images.specs.Working.{IsJoin, all_contents, content_to_come, documents_left, flushed, merged, moved, rows_of, stepped, switched}
+use Rattle.alta_images.specs.Working.{IsJoin, all_contents, content_to_come, documents_left, written, merged, moved, rows_of, stepped, switched}
 use Rattle.alta_memlevel.specs.Added.{Added}
 use Rattle.alta_rewrite.specs.Rewrites.{AgreesWith, IsGiven, Replaces, contents_to_come, levels_to_come, no_content, rows_to_come}
 use Rattle.alta_rewrite.specs.declared.ends.Ends.{Ends}
@@ -53,15 +53,15 @@ all_is levels c view is =
 
 -- ---- work
 
-pub flush_is : (limit : ℕ) (held : Holding) (levels : NextLevels) → (length held.view.entries == 0) ≡ false → (length held.view.levels == 16 && nat_le 1 (length (newest_content held.view).documents)) ≡ false
-    → Replaces levels 0 no_content (newest_content held.view) → flushed limit held ≡ switched limit held (levels_to_come levels held.view) held.job
-flush_is limit held levels some few is =
-    ap (by_entries limit held) some ∙ ap (by_levels limit held) few ∙ ap (λ (cs : List Coming). switched limit held cs held.job) (sym (stay_is levels held.view is))
+pub flush_is : (limit : ℕ) (held : Holding) (levels : NextLevels) → (length held.view.levels == 16 && nat_le 1 (length (newest_content held.view).documents)) ≡ false
+    → Replaces levels 0 no_content (newest_content held.view) → written limit held ≡ switched limit held (levels_to_come levels held.view) held.job
+flush_is limit held levels few is =
+    ap (by_levels limit held) few ∙ ap (λ (cs : List Coming). switched limit held cs held.job) (sym (stay_is levels held.view is))
 
-pub room_is : (limit : ℕ) (held : Holding) (levels : NextLevels) → (length held.view.entries == 0) ≡ false → (length held.view.levels == 16 && nat_le 1 (length (newest_content held.view).documents)) ≡ true
-    → Replaces levels 2 (oldest_joined held.job held.view) (newest_content held.view) → flushed limit held ≡ switched limit held (levels_to_come levels held.view) None
-room_is limit held levels some many is =
-    ap (by_entries limit held) some ∙ ap (by_levels limit held) many ∙ ap (λ (cs : List Coming). switched limit held cs None) (sym (oldest_is levels 2 (oldest_joined held.job held.view) held.view is))
+pub room_is : (limit : ℕ) (held : Holding) (levels : NextLevels) → (length held.view.levels == 16 && nat_le 1 (length (newest_content held.view).documents)) ≡ true
+    → Replaces levels 2 (oldest_joined held.job held.view) (newest_content held.view) → written limit held ≡ switched limit held (levels_to_come levels held.view) None
+room_is limit held levels many is =
+    ap (by_levels limit held) many ∙ ap (λ (cs : List Coming). switched limit held cs None) (sym (oldest_is levels 2 (oldest_joined held.job held.view) held.view is))
 
 pub merge_is : (limit : ℕ) (held : Holding) (levels : NextLevels) → is_merged held.view ≡ false → Replaces levels (length held.view.levels) (joined_in (all_contents held.view) (gone held.view)) no_content
     → merged limit held ≡ switched limit held (levels_to_come levels held.view) None

@@ -90,8 +90,10 @@ module _ (slot : Slot) (root earlier : Root) (pieces : List Piece) (limit : ℕ)
   may_be_put = record {
     earlier = earlier;
     counts = counts;
+    version = made.version;
     next = made.next;
     sound = record {
+      version = (omega (arith, made.version), omega (arith, made.version));
       few = made.few;
       number = made.number;
       location = made.location;

@@ -33,7 +33,7 @@ use Rattle.alta_postings.specs.declared.fault.StreamFault.{StreamFault}
 use Rattle.alta_root.specs.Gaps.{taken_by}
 use Rattle.alta_root.specs.Places.{other}
 use Rattle.alta_root.specs.Root.{extents_of, no_extent}
-use Rattle.alta_root.specs.declared.places.TheConstants.{DOCUMENT_CELLS, LAST_NEXT}
+use Rattle.alta_root.specs.declared.places.TheConstants.{DOCUMENT_CELLS, LAST_NEXT, VERSION}
 use Rattle.alta_root.specs.declared.root.Root.{Root}
 use Rattle.alta_root.specs.declared.slot.Slot.{Slot}
 use Rattle.alta_rewrite.proofs.ComeLaws.{comes_brings, will_stand, bytes_fit}
@@ -243,7 +243,7 @@ module _ (o : Opened) (there : List Level) (levels : NextLevels) (ends : Ends) (
           list = list_read come ends.deleted.now middle list_there;
           tables = read_again come ends.deleted.now [] come.levels.items coming_is.levels middle all_read here.rise here.below (come_ordered o there levels ends next location old may fits None None limit draft.places is.places);
           ends = here.ends;
-          journal = puts.journal;
+          journal = puts.journal VERSION;
           known = known_at come ends.deleted.now coming_is.levels;
           admitted = refl;
         }
@@ -265,7 +265,7 @@ module _ (o : Opened) (there : List Level) (levels : NextLevels) (ends : Ends) (
         ∙ ap (viewed next) (sym may.given.agrees.location_is)
       where
         viewed : ℕ → ℕ → View
-        viewed n l = record { next = n; location = l; levels = later.view.levels; deleted = ends.deleted.now; entries = [] }
+        viewed n l = record { version = VERSION; next = n; location = l; levels = later.view.levels; deleted = ends.deleted.now; entries = [] }
 
     extents_come : come.levels.items ≡ map (λ (l : Level). l.extent) later.view.levels
     extents_come =

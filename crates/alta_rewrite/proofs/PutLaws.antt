@@ -66,7 +66,7 @@ module _ (slot : Slot) (taken : List Extent) (limit : ℕ) (pieces : List Piece)
         let half = journal_within slot in
         gate_only.parts p.extent.place p.extent.bytes (inr (omega (arith, half.1, behind)), tt) ∙ had
 
-    pub puts_closed : EndsAt (journal_of slot) (journal_of slot) [] then → AreBytes then → Puts slot pieces old then
+    pub puts_closed : ((version : ℕ) → EndsAt version (journal_of slot) (journal_of slot) [] then) → AreBytes then → Puts slot pieces old then
     puts_closed empty bytes = record {
       touches =
           touches_then (ranges_before slot pieces) old now then (touches_before slot pieces old now wrote.touches)
@@ -120,4 +120,5 @@ module _ (slot : Slot) (root : Root) (pieces : List Piece) (limit : ℕ) (old : 
     counts = counts_on (other slot) may.earlier (ranges_before slot pieces) old middle may.counts puts.touches slots_spared;
     next = may.next;
     sound = subst (λ (n : ℕ). IsSound n root) (sym puts.size) may.sound;
+    version_is = may.version;
   }

@@ -235,6 +235,7 @@ module _ (root : Root) (levels : NextLevels) (ends : Ends) (limit size : ℕ) (s
     pub is_made : (next location : ℕ) → (1 ≤ next) × (next ≤ LAST_NEXT) → (1 ≤ location) × (location ≤ 1 + (next - 1) * DOCUMENT_CELLS)
         → length (coming levels.oldest) + (length root.levels.items - levels.stay_from) + length (coming levels.newest) ≤ 16 → IsMade root (root_to_come root ends levels.stay_from next location places) pieces
     is_made next location number place few = record {
+      version = refl;
       next = refl;
       few = few_come few;
       number = number;

@@ -9,7 +9,7 @@ use Rattle.alta_images.specs.Working.{AllApart}
 use Rattle.alta_level.specs.Segments.{IsSegment}
 use Rattle.alta_postings.specs.Deltas.{Spells}
 use Rattle.alta_root.specs.Root.{extents_of, next_sequence, no_extent}
-use Rattle.alta_root.specs.declared.places.TheConstants.{DOCUMENT_CELLS, LAST_NEXT, LEVEL_BYTES}
+use Rattle.alta_root.specs.declared.places.TheConstants.{DOCUMENT_CELLS, LAST_NEXT, LEVEL_BYTES, VERSION}
 use Rattle.alta_root.specs.declared.root.Root.{Root}
 use Rattle.alta_root.specs.declared.slot.Slot.{Slot}
 use Rattle.alta_rewrite.specs.Puts.{extents_in}
@@ -45,8 +45,9 @@ pub record Comes (slot : Slot) (root : Root) (pieces : List Piece) (coming : Ope
 abbrev pub IsPlaced : ℕ → Root → List Piece → Extent → Type 0
 IsPlaced least earlier pieces extent = (least ≤ extent.bytes) × (Contains (extents_in pieces) extent ⊎ Contains (extents_of earlier) extent)
 
--- A root comes just behind the one that counts, its numbers keep the rules on slots, and its extents are placed and do not meet.
+-- A root comes just behind the one that counts, with the last version, its numbers keep the rules on slots, and its extents are placed and do not meet.
 pub record IsMade (earlier root : Root) (pieces : List Piece) : Type 0 where
+  pub version : root.version ≡ VERSION
   pub next : root.sequence ≡ next_sequence earlier.sequence
   pub few : length root.levels.items ≤ 16
   pub number : (1 ≤ root.next_number) × (root.next_number ≤ LAST_NEXT)

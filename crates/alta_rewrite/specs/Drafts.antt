@@ -8,6 +8,7 @@ use Rattle.alta_images.specs.Working.{Full}
 use Rattle.alta_level.specs.Segments.{rows_of, segment_bytes}
 use Rattle.alta_postings.specs.Deltas.{stream_bytes}
 use Rattle.alta_root.specs.Root.{next_sequence, no_extent}
+use Rattle.alta_root.specs.declared.places.TheConstants.{VERSION}
 use Rattle.alta_root.specs.declared.root.Root.{Root}
 use Rattle.alta_rewrite.specs.declared.piece.Piece.{Piece}
 use Rattle.alta_table.specs.Tables.{Tables}
@@ -40,9 +41,10 @@ list_to_come root ends None = cond (bytes_eq ends.deleted.now ends.listed.now) r
 abbrev pub extents_to_come : Root → ℕ → Places → List Extent
 extents_to_come root stay_from places = as_list places.oldest ++ (drop stay_from root.levels.items ++ as_list places.newest)
 
--- the next sequence, number and location, and the levels to come
+-- the last version, the next sequence, number and location, and the levels to come
 abbrev pub root_to_come : Root → Ends → ℕ → ℕ → ℕ → Places → Root
 root_to_come root ends stay_from next location places = record {
+  version = VERSION;
   sequence = next_sequence root.sequence;
   next_number = next;
   next_location = location;

@@ -12,6 +12,7 @@ use Rattle.alta_root.specs.Places.{other}
 use Rattle.alta_root.specs.Root.{IsSound, extents_of, next_sequence}
 use Rattle.alta_root.specs.Slots.{Counts}
 use Rattle.alta_root.specs.Switches.{Switches}
+use Rattle.alta_root.specs.declared.places.TheConstants.{VERSION}
 use Rattle.alta_root.specs.declared.root.Root.{Root}
 use Rattle.alta_root.specs.declared.slot.Slot.{Slot}
 use Rattle.alta_rewrite.specs.declared.piece.Piece.{Piece}
@@ -42,11 +43,12 @@ abbrev pub AreLaid : List Extent → ℕ → ℕ → List Piece → List Piece �
 AreLaid taken limit size before [] = Unit {0}
 AreLaid taken limit size before (piece ∷ pieces) = IsLaid taken limit size before piece × AreLaid taken limit size (before ++ piece ∷ []) pieces
 
--- The other slot counts, the root comes just behind its root and keeps the rules once the pieces are there, and these have gaps
+-- The other slot counts, the root comes just behind its root, with the last version, and keeps the rules once the pieces are there, and these have gaps
 -- beside what its root names.
 pub record MayPut (slot : Slot) (root : Root) (pieces : List Piece) (limit : ℕ) (image : List ℕ) : Type 0 where
   pub earlier : Root
   pub counts : Counts (other slot) earlier image
+  pub version : root.version ≡ VERSION
   pub next : root.sequence ≡ next_sequence earlier.sequence
   pub sound : IsSound (end_of (length image) (ranges_in pieces)) root
   pub laid : AreLaid (extents_of earlier) limit (length image) [] pieces
@@ -69,7 +71,7 @@ pub record Puts (slot : Slot) (pieces : List Piece) (old new : List ℕ) : Type 
   pub touches : Touches (ranges_before slot pieces) old new
   pub size : length new ≡ end_of (length old) (ranges_in pieces)
   pub there : All (HasPiece new) pieces
-  pub journal : EndsAt (journal_of slot) (journal_of slot) [] new
+  pub journal : (version : ℕ) → EndsAt version (journal_of slot) (journal_of slot) [] new
   pub bytes : AreBytes new
 
 -- What a stop may leave while a root is put: pieces and gate in part, and else all of both, and a switch of the root in part.

@@ -16,7 +16,7 @@ use alta_codec::{Bytes, DocNumber, Extent, Loc};
 use alta_content::Content;
 use alta_level::{LevelFault, Table, build, head};
 use alta_postings::encode;
-use alta_root::Root;
+use alta_root::{Root, VERSION};
 use arrayvec::ArrayVec;
 use std::alloc::{AllocError, Global};
 
@@ -118,6 +118,7 @@ fn next_root(
     ensures { result ≡ root_to_come root.now ends.entry stay_from next location places }
 {
     Root {
+        version: VERSION,
         sequence: root.sequence.wrapping_add(1),
         next_number: next,
         next_location: location,

@@ -9,7 +9,7 @@ ghost use Rattle.alta_images.specs.Opened.{Opened, IsOpened};
 ghost use Rattle.alta_images.specs.Standing.{view_of};
 ghost use Rattle.alta_images.specs.Views.{View};
 ghost use Rattle.alta_images.specs.Work.{Job, coming, gone, gone_among, is_merged, job_of, newest, newest_content, oldest_joined, level_rows, whole_of};
-ghost use Rattle.alta_images.specs.Working.{AreJoins, IsJoin, all_contents, flushed, merged, stepped, switched};
+ghost use Rattle.alta_images.specs.Working.{AreJoins, IsJoin, all_contents, merged, stepped, switched, written};
 ghost use Rattle.alta_memlevel.specs.Added.{Added, IsSpace, live_of};
 ghost use Rattle.alta_memlevel.specs.Documents.{content_of};
 ghost use Rattle.alta_rewrite.specs.Rewrites.{AgreesWith, HaveRows, IsGiven, MayRewrite, MayRewriteOpened, Replaces, levels_to_come, no_content, rows_to_come};
@@ -17,13 +17,14 @@ ghost use Rattle.alta_rewrite.specs.declared.ends.Ends.{Ends};
 ghost use Rattle.alta_rewrite.specs.declared.levels.NextLevels.{NextLevels};
 ghost use Rattle.alta_content.specs.Joining.{joined_in, terms_in};
 
-/// Flush, merge and a step that ends a join are rewrites, where they switch the root: a flush lets all levels stay, or at 16 levels
+/// Flush, merge and a step that ends a join are rewrites, where they switch the root, and so is a root that is raised to the last
+/// version: a flush lets all levels stay, or at 16 levels
 /// joins the two oldest; a merge makes one content of all; and a step puts the content of its job in place of the two oldest.
 pub fn work_is_a_rewrite()
-    ensures flush { (limit : ℕ) → (held : Holding) → (levels : NextLevels) → (length held.view.entries == 0) ≡ false → (length held.view.levels == 16 && nat_le 1 (length (newest_content held.view).documents)) ≡ false
-        → Replaces levels 0 no_content (newest_content held.view) → flushed limit held ≡ switched limit held (levels_to_come levels held.view) held.job }
-    ensures room { (limit : ℕ) → (held : Holding) → (levels : NextLevels) → (length held.view.entries == 0) ≡ false → (length held.view.levels == 16 && nat_le 1 (length (newest_content held.view).documents)) ≡ true
-        → Replaces levels 2 (oldest_joined held.job held.view) (newest_content held.view) → flushed limit held ≡ switched limit held (levels_to_come levels held.view) None }
+    ensures flush { (limit : ℕ) → (held : Holding) → (levels : NextLevels) → (length held.view.levels == 16 && nat_le 1 (length (newest_content held.view).documents)) ≡ false
+        → Replaces levels 0 no_content (newest_content held.view) → written limit held ≡ switched limit held (levels_to_come levels held.view) held.job }
+    ensures room { (limit : ℕ) → (held : Holding) → (levels : NextLevels) → (length held.view.levels == 16 && nat_le 1 (length (newest_content held.view).documents)) ≡ true
+        → Replaces levels 2 (oldest_joined held.job held.view) (newest_content held.view) → written limit held ≡ switched limit held (levels_to_come levels held.view) None }
     ensures merge { (limit : ℕ) → (held : Holding) → (levels : NextLevels) → is_merged held.view ≡ false → Replaces levels (length held.view.levels) (joined_in (all_contents held.view) (gone held.view)) no_content
         → merged limit held ≡ switched limit held (levels_to_come levels held.view) None }
     ensures step { (limit : ℕ) → (held : Holding) → (n : ℕ) → (job : Job) → (levels : NextLevels) → job_of held.job held.view ≡ Some job → nat_le (length (terms_in (job.older ∷ job.newer ∷ []))) (job.merged + n) ≡ true

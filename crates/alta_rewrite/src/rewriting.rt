@@ -15,7 +15,7 @@ ghost use Rattle.alta_images.specs.Work.{Job, coming};
 ghost use Rattle.alta_images.specs.Working.{switched};
 ghost use Rattle.alta_root.specs.Places.{other};
 ghost use Rattle.alta_root.specs.Slots.{Counts};
-ghost use Rattle.alta_root.specs.declared.places.TheConstants.{DOCUMENT_CELLS, HEAD_BYTES, LAST_NEXT};
+ghost use Rattle.alta_root.specs.declared.places.TheConstants.{DOCUMENT_CELLS, HEAD_BYTES, LAST_NEXT, VERSION};
 ghost use Rattle.alta_rewrite.specs.Drafts.{rewrite_places};
 ghost use Rattle.alta_rewrite.specs.Rewrites.{IsRewritten, IsRewrittenOpened, MayBecome, MayRewrite, MayRewriteOpened, levels_to_come, tables_in};
 ghost use Rattle.alta_rewrite.specs.declared.fault.RewriteFault.TheVariants.{Disk as DiskFault, Full, Memory};
@@ -95,6 +95,7 @@ pub fn rewrite<D: Disk>(
 
     // What counts then; and where nothing was written.
     ensures counts { IfOk result (λ done. (done.slot ≡ other slot) × (done.root.next_number ≡ next) × (done.root.next_location ≡ location)) }
+    ensures version { IfOk result (λ done. done.root.version ≡ VERSION) }
     // The answered tables have the rows of the levels that came anew, and the extents of the root are theirs and those that stay.
     ensures rows { IfOk result (λ done. (table_rows (tables_in done.oldest) ≡ levels.oldest.documents) × (table_rows (tables_in done.newest) ≡ levels.newest.documents)) }
     ensures extents { IfOk result (λ done. done.root.levels.items ≡ map extent_of (tables_in done.oldest)

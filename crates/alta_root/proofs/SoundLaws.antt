@@ -8,7 +8,7 @@ use Rattle.std.proofs.lemmas.List.Elements.{All-nil, All-cons}
 use Rattle.alta_codec.specs.declared.extent.Extent.{Extent}
 use Rattle.alta_format.specs.Format.{Format, ends, number_field, text_field, byte, wide, read, placed}
 use Rattle.alta_format.specs.FormatLaws.{ok_is, number_kept, text_kept, number_passes, text_passes}
-use Rattle.alta_root.specs.Root.{extents_of, no_extent, AreApart, IsExtent, AreExtents, IsSound, extent_in, are_apart, is_extent, is_list, is_next_number, is_next_location, with_level, levels_format, root_format}
+use Rattle.alta_root.specs.Root.{extents_of, no_extent, AreApart, IsExtent, AreExtents, IsSound, extent_in, are_apart, is_extent, is_list, is_version, is_next_number, is_next_location, with_level, levels_format, root_format}
 use Rattle.alta_root.specs.Slots.{root_in}
 use Rattle.alta_root.specs.declared.places.TheConstants.{HEAD_BYTES, VERSION, LEVELS, LEVEL_BYTES, LAST_NEXT, DOCUMENT_CELLS}
 use Rattle.alta_root.specs.declared.root.Root.{Root}
@@ -153,31 +153,32 @@ levels_longer size longer le (suc n) before bytes y e =
 
 -- ---- the fields of a root, from each on
 
-abbrev start_of : ℕ → ℕ → ℕ → Extent → Root
-start_of sequence number location list = record { sequence = sequence; next_number = number; next_location = location; levels = record { items = [] }; deletions = list }
+abbrev start_of : ℕ → ℕ → ℕ → ℕ → Extent → Root
+start_of version sequence number location list = record { version = version; sequence = sequence; next_number = number; next_location = location; levels = record { items = [] }; deletions = list }
 
-abbrev from_list : ℕ → ℕ → ℕ → ℕ → ℕ → Format Root
-from_list size sequence count number location = text_field 16 (λ bytes. is_list size (extent_in bytes)) (λ bytes. levels_format size (start_of sequence number location (extent_in bytes)) count)
+abbrev from_list : ℕ → ℕ → ℕ → ℕ → ℕ → ℕ → Format Root
+from_list size version sequence count number location = text_field 16 (λ bytes. is_list size (extent_in bytes)) (λ bytes. levels_format size (start_of version sequence number location (extent_in bytes)) count)
 
-abbrev from_location : ℕ → ℕ → ℕ → ℕ → Format Root
-from_location size sequence count number = number_field wide (is_next_location number) (λ location. from_list size sequence count number location)
+abbrev from_location : ℕ → ℕ → ℕ → ℕ → ℕ → Format Root
+from_location size version sequence count number = number_field wide (is_next_location number) (λ location. from_list size version sequence count number location)
 
-abbrev from_number : ℕ → ℕ → ℕ → Format Root
-from_number size sequence count = number_field wide is_next_number (λ number. from_location size sequence count number)
+abbrev from_number : ℕ → ℕ → ℕ → ℕ → Format Root
+from_number size version sequence count = number_field wide is_next_number (λ number. from_location size version sequence count number)
 
-abbrev from_zeros : ℕ → ℕ → ℕ → Format Root
-from_zeros size sequence count = text_field 4 (λ zeros. list_all (λ b. b == 0) zeros) (λ zeros. from_number size sequence count)
+abbrev from_zeros : ℕ → ℕ → ℕ → ℕ → Format Root
+from_zeros size version sequence count = text_field 4 (λ zeros. list_all (λ b. b == 0) zeros) (λ zeros. from_number size version sequence count)
 
-abbrev from_count : ℕ → ℕ → Format Root
-from_count size sequence = number_field byte (λ levels. nat_le levels LEVELS) (λ levels. from_zeros size sequence levels)
+abbrev from_count : ℕ → ℕ → ℕ → Format Root
+from_count size version sequence = number_field byte (λ levels. nat_le levels LEVELS) (λ levels. from_zeros size version sequence levels)
 
-abbrev from_sequence : ℕ → Format Root
-from_sequence size = number_field byte (λ sequence. true) (λ sequence. from_count size sequence)
+abbrev from_sequence : ℕ → ℕ → Format Root
+from_sequence size version = number_field byte (λ sequence. true) (λ sequence. from_count size version sequence)
 
-made_sound : (size count sequence number location : ℕ) (list : Extent) (after : Root) → LevelsRead size count (start_of sequence number location list) after → IsTrue (nat_le count LEVELS) → IsTrue (is_next_number number)
+made_sound : (size count version sequence number location : ℕ) (list : Extent) (after : Root) → LevelsRead size count (start_of version sequence number location list) after → IsTrue (is_version version) → IsTrue (nat_le count LEVELS) → IsTrue (is_next_number number)
     → IsTrue (is_next_location number location) → IsTrue (is_list size list) → IsSound size after
-made_sound size count sequence number location list after levels few number_holds location_holds list_is =
+made_sound size count version sequence number location list after levels version_holds few number_holds location_holds list_is =
     subst (IsSound size) (sym levels.is) (record {
+      version = (le_holds 1 version (and_left (nat_le 1 version) (nat_le version VERSION) version_holds), le_holds version VERSION (and_right (nat_le 1 version) (nat_le version VERSION) version_holds));
       few = omega (arith, levels.count, le_holds count LEVELS few);
       number = (le_holds 1 number (and_left (nat_le 1 number) (nat_le number LAST_NEXT) number_holds), le_holds number LAST_NEXT (and_right (nat_le 1 number) (nat_le number LAST_NEXT) number_holds));
       location = (
@@ -191,34 +192,34 @@ made_sound size count sequence number location list after levels few number_hold
 root_sound : (size : ℕ) (bytes : List ℕ) (y : Root × List ℕ) → read (root_format size) bytes ≡ Ok y → IsSound size y.0
 unfolding root_format
 root_sound size bytes y e =
-    let v = number_kept byte (λ version. version == VERSION) (λ version. from_sequence size) bytes y e in
-    let s = number_kept byte (λ sequence. true) (λ sequence. from_count size sequence) v.rest y v.more in
-    let c = number_kept byte (λ levels. nat_le levels LEVELS) (λ levels. from_zeros size s.value levels) s.rest y s.more in
-    let z = text_kept 4 (λ zeros. list_all (λ b. b == 0) zeros) (λ zeros. from_number size s.value c.value) c.rest y c.more in
-    let n = number_kept wide is_next_number (λ number. from_location size s.value c.value number) z.rest y z.more in
-    let l = number_kept wide (is_next_location n.value) (λ location. from_list size s.value c.value n.value location) n.rest y n.more in
-    let d = text_kept 16 (λ bytes. is_list size (extent_in bytes)) (λ bytes. levels_format size (start_of s.value n.value l.value (extent_in bytes)) c.value) l.rest y l.more in
-    made_sound size c.value s.value n.value l.value (extent_in d.value) y.0 (levels_read size c.value (start_of s.value n.value l.value (extent_in d.value)) d.rest y d.more) c.holds n.holds l.holds d.holds
+    let v = number_kept byte is_version (λ version. from_sequence size version) bytes y e in
+    let s = number_kept byte (λ sequence. true) (λ sequence. from_count size v.value sequence) v.rest y v.more in
+    let c = number_kept byte (λ levels. nat_le levels LEVELS) (λ levels. from_zeros size v.value s.value levels) s.rest y s.more in
+    let z = text_kept 4 (λ zeros. list_all (λ b. b == 0) zeros) (λ zeros. from_number size v.value s.value c.value) c.rest y c.more in
+    let n = number_kept wide is_next_number (λ number. from_location size v.value s.value c.value number) z.rest y z.more in
+    let l = number_kept wide (is_next_location n.value) (λ location. from_list size v.value s.value c.value n.value location) n.rest y n.more in
+    let d = text_kept 16 (λ bytes. is_list size (extent_in bytes)) (λ bytes. levels_format size (start_of v.value s.value n.value l.value (extent_in bytes)) c.value) l.rest y l.more in
+    made_sound size c.value v.value s.value n.value l.value (extent_in d.value) y.0 (levels_read size c.value (start_of v.value s.value n.value l.value (extent_in d.value)) d.rest y d.more) v.holds c.holds n.holds l.holds d.holds
 
 root_longer : (size longer : ℕ) → size ≤ longer → (bytes : List ℕ) (y : Root × List ℕ) → read (root_format size) bytes ≡ Ok y → read (root_format longer) bytes ≡ Ok y
 unfolding root_format
 root_longer size longer le bytes y e =
-    let v = number_kept byte (λ version. version == VERSION) (λ version. from_sequence size) bytes y e in
-    let s = number_kept byte (λ sequence. true) (λ sequence. from_count size sequence) v.rest y v.more in
-    let c = number_kept byte (λ levels. nat_le levels LEVELS) (λ levels. from_zeros size s.value levels) s.rest y s.more in
-    let z = text_kept 4 (λ zeros. list_all (λ b. b == 0) zeros) (λ zeros. from_number size s.value c.value) c.rest y c.more in
-    let n = number_kept wide is_next_number (λ number. from_location size s.value c.value number) z.rest y z.more in
-    let l = number_kept wide (is_next_location n.value) (λ location. from_list size s.value c.value n.value location) n.rest y n.more in
-    let d = text_kept 16 (λ bytes. is_list size (extent_in bytes)) (λ bytes. levels_format size (start_of s.value n.value l.value (extent_in bytes)) c.value) l.rest y l.more in
-    number_passes byte (λ version. version == VERSION) (λ version. from_sequence longer) bytes v.value v.rest y v.was v.holds
-    (number_passes byte (λ sequence. true) (λ sequence. from_count longer sequence) v.rest s.value s.rest y s.was s.holds
-    (number_passes byte (λ levels. nat_le levels LEVELS) (λ levels. from_zeros longer s.value levels) s.rest c.value c.rest y c.was c.holds
-    (text_passes 4 (λ zeros. list_all (λ b. b == 0) zeros) (λ zeros. from_number longer s.value c.value) c.rest z.value z.rest y z.was z.holds
-    (number_passes wide is_next_number (λ number. from_location longer s.value c.value number) z.rest n.value n.rest y n.was n.holds
-    (number_passes wide (is_next_location n.value) (λ location. from_list longer s.value c.value n.value location) n.rest l.value l.rest y l.was l.holds
-    (text_passes 16 (λ bytes. is_list longer (extent_in bytes)) (λ bytes. levels_format longer (start_of s.value n.value l.value (extent_in bytes)) c.value) l.rest d.value d.rest y d.was
+    let v = number_kept byte is_version (λ version. from_sequence size version) bytes y e in
+    let s = number_kept byte (λ sequence. true) (λ sequence. from_count size v.value sequence) v.rest y v.more in
+    let c = number_kept byte (λ levels. nat_le levels LEVELS) (λ levels. from_zeros size v.value s.value levels) s.rest y s.more in
+    let z = text_kept 4 (λ zeros. list_all (λ b. b == 0) zeros) (λ zeros. from_number size v.value s.value c.value) c.rest y c.more in
+    let n = number_kept wide is_next_number (λ number. from_location size v.value s.value c.value number) z.rest y z.more in
+    let l = number_kept wide (is_next_location n.value) (λ location. from_list size v.value s.value c.value n.value location) n.rest y n.more in
+    let d = text_kept 16 (λ bytes. is_list size (extent_in bytes)) (λ bytes. levels_format size (start_of v.value s.value n.value l.value (extent_in bytes)) c.value) l.rest y l.more in
+    number_passes byte is_version (λ version. from_sequence longer version) bytes v.value v.rest y v.was v.holds
+    (number_passes byte (λ sequence. true) (λ sequence. from_count longer v.value sequence) v.rest s.value s.rest y s.was s.holds
+    (number_passes byte (λ levels. nat_le levels LEVELS) (λ levels. from_zeros longer v.value s.value levels) s.rest c.value c.rest y c.was c.holds
+    (text_passes 4 (λ zeros. list_all (λ b. b == 0) zeros) (λ zeros. from_number longer v.value s.value c.value) c.rest z.value z.rest y z.was z.holds
+    (number_passes wide is_next_number (λ number. from_location longer v.value s.value c.value number) z.rest n.value n.rest y n.was n.holds
+    (number_passes wide (is_next_location n.value) (λ location. from_list longer v.value s.value c.value n.value location) n.rest l.value l.rest y l.was l.holds
+    (text_passes 16 (λ bytes. is_list longer (extent_in bytes)) (λ bytes. levels_format longer (start_of v.value s.value n.value l.value (extent_in bytes)) c.value) l.rest d.value d.rest y d.was
     (list_longer size longer le (extent_in d.value) d.holds)
-    (levels_longer size longer le c.value (start_of s.value n.value l.value (extent_in d.value)) d.rest y d.more)))))))
+    (levels_longer size longer le c.value (start_of v.value s.value n.value l.value (extent_in d.value)) d.rest y d.more)))))))
 
 -- ---- what fields say
 

@@ -114,10 +114,10 @@ levels_spell size (l ∷ ls) root rest are words =
 
 -- the fields one behind the other
 fields_behind : (root : Root) (rest : List ℕ) → fields_of root ++ rest
-    ≡ VERSION ∷ root.sequence ∷ length root.levels.items ∷ 0 ∷ 0 ∷ 0 ∷ 0 ∷ (wide_bytes root.next_number ++ (wide_bytes root.next_location ++ (extent_bytes root.deletions ++ (flat_map extent_bytes root.levels.items ++ rest))))
+    ≡ root.version ∷ root.sequence ∷ length root.levels.items ∷ 0 ∷ 0 ∷ 0 ∷ 0 ∷ (wide_bytes root.next_number ++ (wide_bytes root.next_location ++ (extent_bytes root.deletions ++ (flat_map extent_bytes root.levels.items ++ rest))))
 unfolding fields_of
 fields_behind root rest =
-    let head : List ℕ = VERSION ∷ root.sequence ∷ length root.levels.items ∷ 0 ∷ 0 ∷ 0 ∷ 0 ∷ [] in
+    let head : List ℕ = root.version ∷ root.sequence ∷ length root.levels.items ∷ 0 ∷ 0 ∷ 0 ∷ 0 ∷ [] in
     let number = wide_bytes root.next_number in
     let location = wide_bytes root.next_location in
     let list = extent_bytes root.deletions in
@@ -140,14 +140,14 @@ root_spells size root bytes rest sound low words is =
     let at_location = wide_bytes root.next_location ++ at_list in
     let at_number = wide_bytes root.next_number ++ at_location in
     let deletions : extent_in (extent_bytes root.deletions) ≡ root.deletions = extent_read root.deletions (All-head IsWord root.deletions root.levels.items words) in
-    let start : Extent → Root = λ e. record { sequence = root.sequence; next_number = root.next_number; next_location = root.next_location; levels = record { items = [] }; deletions = e } in
+    let start : Extent → Root = λ e. record { version = root.version; sequence = root.sequence; next_number = root.next_number; next_location = root.next_location; levels = record { items = [] }; deletions = e } in
     let from_start = levels_spell size root.levels.items (start root.deletions) rest sound.levels (All-tail IsWord root.deletions root.levels.items words) in
     let from_read : Spells (levels_format size (start (extent_in (extent_bytes root.deletions))) (length root.levels.items)) at_levels root rest =
     subst (λ (e : Extent). Spells (levels_format size (start e) (length root.levels.items)) at_levels root rest) (sym deletions) from_start in (
-      VERSION,
+      root.version,
       root.sequence ∷ length root.levels.items ∷ 0 ∷ 0 ∷ 0 ∷ 0 ∷ at_number,
-      record { below = omega arith; parts = is ∙ fields_behind root rest },
-      refl,
+      record { below = omega (arith, sound.version.1); parts = is ∙ fields_behind root rest },
+      and_is (nat_le 1 root.version) (nat_le root.version VERSION) (le_is 1 root.version sound.version.0) (le_is root.version VERSION sound.version.1),
       (
         root.sequence,
         length root.levels.items ∷ 0 ∷ 0 ∷ 0 ∷ 0 ∷ at_number,
@@ -190,7 +190,7 @@ levels_long (l ∷ ls) = omega (arith, length-append (extent_bytes l) (flat_map 
 pub fields_long : (root : Root) → length (fields_of root) ≡ 39 + 16 * length root.levels.items
 unfolding fields_of
 fields_long root =
-    let head : List ℕ = VERSION ∷ root.sequence ∷ length root.levels.items ∷ 0 ∷ 0 ∷ 0 ∷ 0 ∷ [] in
+    let head : List ℕ = root.version ∷ root.sequence ∷ length root.levels.items ∷ 0 ∷ 0 ∷ 0 ∷ 0 ∷ [] in
     let number = wide_bytes root.next_number in
     let location = wide_bytes root.next_location in
     let list = extent_bytes root.deletions in
@@ -305,16 +305,16 @@ four_zeros (a ∷ b ∷ c ∷ d ∷ []) long holds =
     ap (λ (n : ℕ). n ∷ b ∷ c ∷ d ∷ []) (zero_is a a_rest.0) ∙ ap (λ (n : ℕ). 0 ∷ n ∷ c ∷ d ∷ []) (zero_is b b_rest.0) ∙ ap (λ (n : ℕ). 0 ∷ 0 ∷ n ∷ d ∷ []) (zero_is c c_rest.0) ∙ ap (λ (n : ℕ). 0 ∷ 0 ∷ 0 ∷ n ∷ []) (zero_is d d_rest.0)
 four_zeros (a ∷ b ∷ c ∷ d ∷ e ∷ more) long holds = absurd (omega (arith, long))
 
-abbrev start_of : ℕ → ℕ → ℕ → Extent → Root
-start_of sequence number location list = record { sequence = sequence; next_number = number; next_location = location; levels = record { items = [] }; deletions = list }
+abbrev start_of : ℕ → ℕ → ℕ → ℕ → Extent → Root
+start_of version sequence number location list = record { version = version; sequence = sequence; next_number = number; next_location = location; levels = record { items = [] }; deletions = list }
 
 -- the parts of bytes that spell a root, one behind the other
-parts_spelled : (s c n l : ℕ) (list : Extent) (levels : List Extent) (root : Root) (bytes rest b1 b2 b3 b4 b5 b6 b7 : List ℕ) → root ≡ with_levels (start_of s n l list) levels → length levels ≡ c
-    → bytes ≡ VERSION ∷ b1 → b1 ≡ s ∷ b2 → b2 ≡ c ∷ b3 → b3 ≡ 0 ∷ 0 ∷ 0 ∷ 0 ∷ b4 → b4 ≡ wide_bytes n ++ b5 → b5 ≡ wide_bytes l ++ b6 → b6 ≡ extent_bytes list ++ b7 → b7 ≡ flat_map extent_bytes levels ++ rest
+parts_spelled : (v s c n l : ℕ) (list : Extent) (levels : List Extent) (root : Root) (bytes rest b1 b2 b3 b4 b5 b6 b7 : List ℕ) → root ≡ with_levels (start_of v s n l list) levels → length levels ≡ c
+    → bytes ≡ v ∷ b1 → b1 ≡ s ∷ b2 → b2 ≡ c ∷ b3 → b3 ≡ 0 ∷ 0 ∷ 0 ∷ 0 ∷ b4 → b4 ≡ wide_bytes n ++ b5 → b5 ≡ wide_bytes l ++ b6 → b6 ≡ extent_bytes list ++ b7 → b7 ≡ flat_map extent_bytes levels ++ rest
     → bytes ≡ fields_of root ++ rest
-parts_spelled s c n l list levels root bytes rest b1 b2 b3 b4 b5 b6 b7 root_is count p0 p1 p2 p3 p4 p5 p6 p7 =
-    let made = with_levels (start_of s n l list) levels in
-    p0 ∙ ap (λ (t : List ℕ). VERSION ∷ t) (p1 ∙ ap (λ (t : List ℕ). s ∷ t) (p2 ∙ ap (λ (k : ℕ). k ∷ b3) (sym count) ∙ ap (λ (t : List ℕ). length levels ∷ t) (p3 ∙ ap (λ (t : List ℕ). 0 ∷ 0 ∷ 0 ∷ 0 ∷ t)
+parts_spelled v s c n l list levels root bytes rest b1 b2 b3 b4 b5 b6 b7 root_is count p0 p1 p2 p3 p4 p5 p6 p7 =
+    let made = with_levels (start_of v s n l list) levels in
+    p0 ∙ ap (λ (t : List ℕ). v ∷ t) (p1 ∙ ap (λ (t : List ℕ). s ∷ t) (p2 ∙ ap (λ (k : ℕ). k ∷ b3) (sym count) ∙ ap (λ (t : List ℕ). length levels ∷ t) (p3 ∙ ap (λ (t : List ℕ). 0 ∷ 0 ∷ 0 ∷ 0 ∷ t)
     (p4 ∙ ap (λ (t : List ℕ). wide_bytes n ++ t) (p5 ∙ ap (λ (t : List ℕ). wide_bytes l ++ t) (p6 ∙ ap (λ (t : List ℕ). extent_bytes list ++ t) p7))))))
     ∙ sym (fields_behind made rest) ∙ ap (λ (r : Root). fields_of r ++ rest) (sym root_is)
 
@@ -329,12 +329,12 @@ spells_bytes size root bytes rest fits (v, b1, hv, kv, (s, b2, hs, ks, (c, b3, h
     let f6 = AreBytes-rest b5 (to_be_bytes w64 l) b6 f5 hl.parts in
     let f7 = AreBytes-rest b6 d b7 f6 hd.parts in
     let list = extent_in d in
-    let start : Root = start_of s n l list in
+    let start : Root = start_of v s n l list in
     let levels = levels_spelled size c start root b7 rest f7 more in
     let zeros = four_zeros z hz.len_is kz in
     let list_text : extent_bytes list ≡ d = extent_spelled d hd.len_is (front_bytes 16 b6 d b7 f6 hd) in
-    parts_spelled s c n l list levels.levels root bytes rest b1 b2 b3 b4 b5 b6 b7 levels.is levels.count
-    (hv.parts ∙ ap (λ (k : ℕ). k ∷ b1) (eqb-true v VERSION kv)) hs.parts hc.parts (hz.parts ∙ ap (λ (t : List ℕ). t ++ b4) zeros) hn.parts hl.parts (hd.parts ∙ ap (λ (t : List ℕ). t ++ b7) (sym list_text)) levels.parts
+    parts_spelled v s c n l list levels.levels root bytes rest b1 b2 b3 b4 b5 b6 b7 levels.is levels.count
+    hv.parts hs.parts hc.parts (hz.parts ∙ ap (λ (t : List ℕ). t ++ b4) zeros) hn.parts hl.parts (hd.parts ∙ ap (λ (t : List ℕ). t ++ b7) (sym list_text)) levels.parts
 
 pub spelled_so : (size start : ℕ) (root : Root) (bytes : List ℕ) → AreBytes bytes → root_in size start bytes ≡ Ok root → (rest : List ℕ) × (bytes ≡ fields_of root ++ rest)
 unfolding root_in

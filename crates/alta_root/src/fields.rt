@@ -3,7 +3,7 @@ ghost use Rattle.std.specs.Prelude.{◌≡◌, ℕ, ◌+◌, ◌<◌, ◌≤◌,
 ghost use Rattle.std.specs.List.{All, list_all};
 ghost use Rattle.alta_format.specs.Gives.{Gives, NeverMemory};
 ghost use Rattle.alta_format.specs.Format.{read};
-ghost use Rattle.alta_root.specs.Root.{root_format, levels_format, number_in, extent_in, extents_of, are_apart, is_extent, is_list, is_next_number, is_next_location};
+ghost use Rattle.alta_root.specs.Root.{root_format, levels_format, number_in, extent_in, extents_of, are_apart, is_extent, is_list, is_version as is_version_number, is_next_number, is_next_location};
 ghost use Rattle.alta_root.specs.Slots.{root_in};
 ghost use Rattle.alta_root.specs.Answers.{Says};
 
@@ -34,7 +34,7 @@ fn fields_at(bytes: &[u8], size: u64) -> Result<(Root, &[u8]), ReadFault>
     ensures lean { NeverMemory result }
 {
     let (version, behind_version) = byte_at(bytes)?;
-    if version != VERSION {
+    if !is_version(version) {
         return Err(ReadFault::Broken(bytes.len()));
     }
     let (sequence, behind_sequence) = byte_at(behind_version)?;
@@ -60,6 +60,7 @@ fn fields_at(bytes: &[u8], size: u64) -> Result<(Root, &[u8]), ReadFault>
         return Err(ReadFault::Broken(behind_location.len()));
     }
     let root = Root {
+        version,
         sequence,
         next_number,
         next_location,
@@ -119,6 +120,12 @@ fn are_zero(bytes: &[u8]) -> bool
     ensures { result ≡ list_all (λ b. b == 0) bytes.now }
 {
     bytes.iter().all(|byte| *byte == 0)
+}
+
+fn is_version(version: u8) -> bool
+    ensures { result ≡ is_version_number version }
+{
+    1 <= version && version <= VERSION
 }
 
 fn is_number(number: u64) -> bool

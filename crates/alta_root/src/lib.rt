@@ -22,7 +22,7 @@ pub use laws::{
 };
 pub use places::{
     DOCUMENT_CELLS, FIELDS_BYTES, GATE_CLOSED, GATE_OPEN, HEAD_BYTES, LAST_NEXT, LEVEL_BYTES,
-    SLOT_BYTES, SLOTS_BYTES,
+    SLOT_BYTES, SLOTS_BYTES, VERSION,
 };
 pub use reading::read_roots;
 pub use root::{Root, Roots};

@@ -27,7 +27,8 @@ pub(crate) const READ_BYTES: usize = 296;
 // The place of the second slot's sequence.
 pub(crate) const SECOND_SEQUENCE: u64 = 4_098;
 
-pub(crate) const VERSION: u8 = 1;
+/// The version with which roots are written, the last that is read.
+pub const VERSION: u8 = 2;
 
 // The most levels of a root.
 pub(crate) const LEVELS: usize = 16;

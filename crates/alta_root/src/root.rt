@@ -7,6 +7,8 @@ use arrayvec::ArrayVec;
 /// A root: where its levels and its deletion list stand on the disk, and what the next document is.
 #[derive(Drop)]
 pub struct Root {
+    /// The version of its rules and of its journal's, 1 or 2. Roots are written with version 2.
+    pub version: u8,
     /// One past that of the root before it, modulo 256.
     pub sequence: u8,
     /// The number of the next document, from 1.

@@ -18,7 +18,7 @@ use std::test::Fail;
 const SIZE: u64 = 2_105_544;
 
 // What `init` writes into slot A.
-const INIT: &[u8] = b"\xa5\x01\0\0\0\0\0\0\0\0\0\0\0\0\0\x01\0\0\0\0\0\0\0\x01";
+const INIT: &[u8] = b"\xa5\x02\0\0\0\0\0\0\0\0\0\0\0\0\0\x01\0\0\0\0\0\0\0\x01";
 
 // Ranges behind the head, each a place and its bytes, at offset 0, 40 and 80.
 const FIRST_40: &[u8] = b"\0\0\0\0\0\x20\x20\0\0\0\0\0\0\0\0\x28";
@@ -170,7 +170,7 @@ fn the_later_of_two_slots_counts(rt: HostRuntime) -> Result<(), Fail> {
         ),
         row(
             "A and B damaged",
-            &[(0, INIT), (3, b"\x11"), (4_096, INIT), (4_097, b"\x02")],
+            &[(0, INIT), (3, b"\x11"), (4_096, INIT), (4_097, b"\x03")],
             Err(RootFault::Damaged(3)),
         ),
         row(
@@ -192,7 +192,8 @@ fn the_first_broken_field_is_named(rt: HostRuntime) -> Result<(), Fail> {
     let alloc = rt.alloc();
     let rows = [
         row("version 0", &[(1, b"\0")], Err(RootFault::Damaged(1))),
-        row("version 2", &[(1, b"\x02")], Err(RootFault::Damaged(1))),
+        row("version 1", &[(1, b"\x01")], Ok((Slot::A, 0, 0))),
+        row("version 3", &[(1, b"\x03")], Err(RootFault::Damaged(1))),
         row("17 levels", &[(3, b"\x11")], Err(RootFault::Damaged(3))),
         row("first zero", &[(4, b"\x01")], Err(RootFault::Damaged(4))),
         row("last zero", &[(7, b"\x01")], Err(RootFault::Damaged(4))),
@@ -333,6 +334,7 @@ fn the_first_broken_field_is_named(rt: HostRuntime) -> Result<(), Fail> {
 // A root with this list and these levels, at most 16 of them.
 fn root_with(list: Extent, levels: &[Extent]) -> Root {
     let mut root = Root {
+        version: VERSION,
         sequence: 0,
         next_number: 1,
         next_location: 1,
@@ -415,7 +417,7 @@ fn a_root_has_one_spelling(rt: HostRuntime) {
     root.next_location = 772;
     let body = spell(&root);
     let body = body.as_slice();
-    let fields = b"\x01\x07\x02\0\0\0\0\0\0\0\0\0\0\x01\x02\0\0\0\0\0\0\x03\x04";
+    let fields = b"\x02\x07\x02\0\0\0\0\0\0\0\0\0\0\x01\x02\0\0\0\0\0\0\x03\x04";
     assert!(rt; has(body, 0, fields));
     assert!(rt; has(body, 23, THIRD_40));
     assert!(rt; has(body, 39, FIRST_40));
@@ -458,12 +460,13 @@ fn switched(
     Ok((answer, left))
 }
 
-// The slot and the root that may follow those that count: the same root with the next sequence.
+// The slot and the root that may follow those that count: the same root with the next sequence and the last version.
 fn next_root(disk: &mut MemoryDisk) -> Result<(Slot, Root), RootFault>
     ensures follows { IfOk result (λ next. MayFollow next.0 next.1 (memory_state disk.old).content) }
     ensures reads { Reads (Unit {0}) (2 * READ_BYTES) (memory_state disk.old) (memory_state disk.new) }
 {
     let Roots { slot, mut root } = read_roots(disk)?;
+    root.version = VERSION;
     root.sequence = root.sequence.wrapping_add(1);
     Ok((slot.other(), root))
 }

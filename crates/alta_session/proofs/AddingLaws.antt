@@ -1,5 +1,5 @@
 -- Laws of lines that add.
-use Rattle.std.proofs.Common.{◌≡◌, ◌≢◌, ℕ, ◌<◌, ◌≤◌, ◌⊎◌, inl, inr, Bool, true, false, ◌||◌, ◌==◌, nat_le, List, [], ◌∷◌, ◌++◌, length, refl, ap, sym, subst, ◌∙◌, arith, codes, decimal, if◌then◌else◌, length-append}
+use Rattle.std.proofs.Common.{◌≡◌, ◌≢◌, ℕ, ◌<◌, ◌≤◌, inl, inr, Bool, true, false, ◌||◌, ◌==◌, nat_le, Option, Some, None, List, [], ◌∷◌, ◌++◌, length, refl, ap, sym, subst, ◌∙◌, arith, codes, decimal, if◌then◌else◌, length-append}
 use Rattle.std.proofs.lemmas.Bool.{cases_lt}
 use Rattle.std.proofs.lemmas.Grind.{common_steps}
 use Rattle.std.specs.List.{list_any}
@@ -11,34 +11,23 @@ use Rattle.alta_meta.specs.declared.document.State.{State}
 use Rattle.alta_model.specs.Command.{Reads, adds}
 use Rattle.alta_model.specs.Faults.{IsText}
 use Rattle.alta_codec.proofs.NameLaws.{name_is, name_is_not}
-use Rattle.alta_session.specs.Machine.{adding, IsRefusal}
+use Rattle.alta_session.specs.Machine.{adding, put_as, IsRefusal}
+use Rattle.alta_session.proofs.DeletingLaws.{not_numbered, numbered}
 use Rattle.alta_images.specs.Standing.{StandsForEither}
-use Rattle.alta_images.specs.States.{has_name, with_added, IsDocument}
+use Rattle.alta_images.specs.States.{has_name, number_of, with_added, with_replaced, IsDocument}
 
 -- what adding answers
 pub adding_bad : (name title body : List ℕ) (s : State) → (IsName name → ⊥) → adding name title body s ≡ (s, codes "! bad name\n")
 unfolding adding
 adding_bad name title body s other =
-    ap (λ (b : Bool). if b then (if has_name name s then (s, codes "! name taken\n") else (if nat_le 4294967296 s.next then (s, codes "! no numbers left\n") else (with_added name title body s, codes "added " ++ decimal s.next ++ codes "\n"))) else (s, codes "! bad name\n"))
+    ap (λ (b : Bool). if b then (if nat_le 4294967296 s.next then (s, codes "! no numbers left\n") else put_as (number_of name s) name title body s) else (s, codes "! bad name\n"))
     (name_is_not name other)
 
-adding_named : (name title body : List ℕ) (s : State) → IsName name
-    → adding name title body s ≡ (if has_name name s then (s, codes "! name taken\n") else (if nat_le 4294967296 s.next then (s, codes "! no numbers left\n") else (with_added name title body s, codes "added " ++ decimal s.next ++ codes "\n")))
+adding_named : (name title body : List ℕ) (s : State) → IsName name → adding name title body s ≡ (if nat_le 4294967296 s.next then (s, codes "! no numbers left\n") else put_as (number_of name s) name title body s)
 unfolding adding
 adding_named name title body s named =
-    ap (λ (b : Bool). if b then (if has_name name s then (s, codes "! name taken\n") else (if nat_le 4294967296 s.next then (s, codes "! no numbers left\n") else (with_added name title body s, codes "added " ++ decimal s.next ++ codes "\n"))) else (s, codes "! bad name\n"))
+    ap (λ (b : Bool). if b then (if nat_le 4294967296 s.next then (s, codes "! no numbers left\n") else put_as (number_of name s) name title body s) else (s, codes "! bad name\n"))
     (name_is name named)
-
-pub adding_taken : (name title body : List ℕ) (s : State) → IsName name → has_name name s ≡ true → adding name title body s ≡ (s, codes "! name taken\n")
-adding_taken name title body s named taken =
-    adding_named name title body s named
-    ∙ ap (λ (b : Bool). if b then (s, codes "! name taken\n") else (if nat_le 4294967296 s.next then (s, codes "! no numbers left\n") else (with_added name title body s, codes "added " ++ decimal s.next ++ codes "\n"))) taken
-
-adding_free : (name title body : List ℕ) (s : State) → IsName name → has_name name s ≡ false
-    → adding name title body s ≡ (if nat_le 4294967296 s.next then (s, codes "! no numbers left\n") else (with_added name title body s, codes "added " ++ decimal s.next ++ codes "\n"))
-adding_free name title body s named free =
-    adding_named name title body s named
-    ∙ ap (λ (b : Bool). if b then (s, codes "! name taken\n") else (if nat_le 4294967296 s.next then (s, codes "! no numbers left\n") else (with_added name title body s, codes "added " ++ decimal s.next ++ codes "\n"))) free
 
 le_true : (a b : ℕ) → a ≤ b → nat_le a b ≡ true
 le_true a b l = grind (arith, common_steps)
@@ -46,44 +35,37 @@ le_true a b l = grind (arith, common_steps)
 le_false : (a b : ℕ) → b < a → nat_le a b ≡ false
 le_false a b l = grind (arith, common_steps)
 
-pub adding_full : (name title body : List ℕ) (s : State) → IsName name → has_name name s ≡ false → 4294967296 ≤ s.next → adding name title body s ≡ (s, codes "! no numbers left\n")
-adding_full name title body s named free full =
-    adding_free name title body s named free
-    ∙ ap (λ (b : Bool). if b then (s, codes "! no numbers left\n") else (with_added name title body s, codes "added " ++ decimal s.next ++ codes "\n")) (le_true 4294967296 s.next full)
+pub adding_full : (name title body : List ℕ) (s : State) → IsName name → 4294967296 ≤ s.next → adding name title body s ≡ (s, codes "! no numbers left\n")
+adding_full name title body s named full =
+    adding_named name title body s named
+    ∙ ap (λ (b : Bool). if b then (s, codes "! no numbers left\n") else put_as (number_of name s) name title body s) (le_true 4294967296 s.next full)
+
+adding_puts : (name title body : List ℕ) (s : State) (o : Option ℕ) → IsName name → number_of name s ≡ o → s.next < 4294967296 → adding name title body s ≡ put_as o name title body s
+adding_puts name title body s o named is room =
+    adding_named name title body s named
+    ∙ ap (λ (b : Bool). if b then (s, codes "! no numbers left\n") else put_as (number_of name s) name title body s) (le_false 4294967296 s.next room)
+    ∙ ap (λ (p : Option ℕ). put_as p name title body s) is
 
 pub adding_added : (name title body : List ℕ) (s : State) → IsName name → has_name name s ≡ false → s.next < 4294967296 → adding name title body s ≡ (with_added name title body s, codes "added " ++ decimal s.next ++ codes "\n")
-adding_added name title body s named free room =
-    adding_free name title body s named free
-    ∙ ap (λ (b : Bool). if b then (s, codes "! no numbers left\n") else (with_added name title body s, codes "added " ++ decimal s.next ++ codes "\n")) (le_false 4294967296 s.next room)
+adding_added name title body s named free room = adding_puts name title body s None named (not_numbered name s free) room
 
--- At no moment was there another image than those of the states before and after, where the disk stays as it is for a
--- name that is taken and where no number is left.
-pub leaves_adding : (d d_now : DiskState) (name title body : List ℕ) (s : State) → IsName name → LeavesOnly (StandsForEither s (with_added name title body s)) d d_now
-    → ((has_name name s ≡ true) ⊎ ((has_name name s ≡ false) × (4294967296 ≤ s.next)) → LeavesOnly (StandsForEither s s) d d_now) → LeavesOnly (StandsForEither s (adding name title body s).0) d d_now
-leaves_adding d d_now name title body s named leaves same =
-    let P : State → Type 0 = λ t. LeavesOnly (StandsForEither s t) d d_now in
-    let by : (t : State) (reply : List ℕ) → adding name title body s ≡ (t, reply) → P t → P (adding name title body s).0 = λ t reply is here. subst P (sym (ap (λ (p : State × List ℕ). p.0) is)) here in
-    elim (has_name name s) as (λ b. has_name name s ≡ b → P (adding name title body s).0) [
-      | true ↦ λ taken. by s _ (adding_taken name title body s named taken) (same (inl taken))
-      | false ↦ λ free. elim (cases_lt s.next 4294967296) [
-        | inl room ↦ by (with_added name title body s) _ (adding_added name title body s named free room) leaves
-        | inr full ↦ by s _ (adding_full name title body s named free full) (same (inr (free, full)))
-      ]
-    ] refl
+pub adding_replaced : (name title body : List ℕ) (s : State) (n : ℕ) → IsName name → number_of name s ≡ Some n → s.next < 4294967296
+    → adding name title body s ≡ (with_replaced name title body s, codes "replaced " ++ decimal n ++ codes " by " ++ decimal s.next ++ codes "\n")
+adding_replaced name title body s n named is room = adding_puts name title body s (Some n) named is room
 
--- a refusal comes from a name that is taken, or for want of numbers
+-- at no moment was there another image than those of the states before and after
+pub leaves_adding : (d d_now : DiskState) (s t : State) (change : State × List ℕ) (reply : List ℕ) → change ≡ (t, reply) → LeavesOnly (StandsForEither s t) d d_now → LeavesOnly (StandsForEither s change.0) d d_now
+leaves_adding d d_now s t change reply is leaves = subst (λ (u : State). LeavesOnly (StandsForEither s u) d d_now) (sym (ap (λ (p : State × List ℕ). p.0) is)) leaves
+
+-- what was added is no refusal
 pub added_is_none : (n : ℕ) → IsRefusal (codes "added " ++ decimal n ++ codes "\n") → ⊥
 added_is_none n refusal = cc
 
-pub refused_for : (P : Type 0) (name title body : List ℕ) (s : State) → IsName name → (has_name name s ≡ true → P) → ((has_name name s ≡ false) × (4294967296 ≤ s.next) → P) → IsRefusal (adding name title body s).1 → P
-refused_for P name title body s named taken full refusal =
-    elim (has_name name s) as (λ b. has_name name s ≡ b → P) [
-      | true ↦ taken
-      | false ↦ λ free. elim (cases_lt s.next 4294967296) [
-        | inl room ↦ absurd (added_is_none s.next (subst (λ (p : State × List ℕ). IsRefusal p.1) (adding_added name title body s named free room) refusal))
-        | inr none ↦ full (free, none)
-      ]
-    ] refl
+pub replaced_is_none : (m n : ℕ) → IsRefusal (codes "replaced " ++ decimal m ++ codes " by " ++ decimal n ++ codes "\n") → ⊥
+replaced_is_none m n refusal = cc
+
+pub not_refused : (change : State × List ℕ) (t : State) (reply : List ℕ) → change ≡ (t, reply) → (IsRefusal reply → ⊥) → IsRefusal change.1 → ⊥
+not_refused change t reply is none refusal = none (subst (λ (p : State × List ℕ). IsRefusal p.1) is refusal)
 
 -- where nothing refuses it
 pub room_left : (name : List ℕ) (s : State) → (has_name name s ≡ true → ⊥) → ((has_name name s ≡ false) × (4294967296 ≤ s.next) → ⊥) → (has_name name s ≡ false) × (s.next < 4294967296)
@@ -92,6 +74,12 @@ room_left name s not_taken not_full =
       | true ↦ λ taken. absurd (not_taken taken)
       | false ↦ λ free. elim (cases_lt s.next 4294967296) [ inl room ↦ (free, room) | inr none ↦ absurd (not_full (free, none)) ]
     ] refl
+
+-- and where a live document has the name
+pub number_left : (name : List ℕ) (s : State) → has_name name s ≡ true → ((has_name name s ≡ true) × (4294967296 ≤ s.next) → ⊥) → (n : ℕ) × (number_of name s ≡ Some n) × (s.next < 4294967296)
+number_left name s taken not_full =
+    let n = numbered name s taken in
+    elim (cases_lt s.next 4294967296) [ inl room ↦ (n.0, n.1, room) | inr none ↦ absurd (not_full (taken, none)) ]
 
 -- the parts of a line that adds
 abbrev IsOther : ℕ → Type 0

@@ -39,6 +39,12 @@ numbered name s some =
     let found = some_found (λ (d : Document). bytes_eq name d.name) s.documents some in
     (found.0.number, ap (option_map (λ (d : Document). d.number)) found.1)
 
+pub unnamed : (name : List ℕ) (s : State) → number_of name s ≡ None → has_name name s ≡ false
+unnamed name s none = elim (has_name name s) as (λ b. has_name name s ≡ b → has_name name s ≡ false) [
+  | true ↦ λ some. let n = numbered name s some in let clash : None ≡ Some n.0 = sym none ∙ n.1 in absurd cc
+  | false ↦ λ free. free
+] refl
+
 -- what deleting answers
 pub deleting_bad : (name : List ℕ) (s : State) → (IsName name → ⊥) → deleting name s ≡ (s, codes "! bad name\n")
 unfolding deleting
@@ -91,7 +97,7 @@ deleted_some : (o : Option ℕ) (name : List ℕ) (s : State) → 0 < length (de
 deleted_some None name s = lit< tt
 deleted_some (Some n) name s = some_behind (codes "deleted " ++ decimal n) (codes "\n") (lit< tt)
 
-if_some : (b : Bool) (p q : State × List ℕ) → 0 < length p.1 → 0 < length q.1 → 0 < length (if b then p else q).1
+pub if_some : (b : Bool) (p q : State × List ℕ) → 0 < length p.1 → 0 < length q.1 → 0 < length (if b then p else q).1
 if_some true p q h k = h
 if_some false p q h k = k
 

@@ -1,8 +1,10 @@
 -- Laws of the machine.
-use Rattle.std.proofs.Common.{◌≡◌, ℕ, ◌+◌, ◌<◌, inl, inr, List, [], ◌∷◌, ◌++◌, length, take, suc, lit<, refl, ap, sym, ◌∙◌, arith, map}
+use Rattle.std.proofs.Common.{◌≡◌, ℕ, ◌+◌, ◌<◌, inl, inr, Option, Some, None, List, [], ◌∷◌, ◌++◌, length, take, suc, lit<, refl, ap, sym, ◌∙◌, arith, map, nat_le, codes, decimal, if◌then◌else◌}
 use Rattle.std.proofs.lemmas.Grind.{common_steps}
 use Rattle.std.proofs.lemmas.List.{length-take, take_all, take-map}
 use Rattle.std.proofs.lemmas.Bool.{cases_lt}
+use Rattle.alta_codec.specs.Name.{is_name}
+use Rattle.alta_images.specs.States.{number_of}
 use Rattle.alta_meta.specs.declared.document.State.{State}
 use Rattle.alta_model.specs.Command.{Command, adds, deletes, searches, counts, explains, opens, fetches, closes, flushes, merges, steps, asks_stats}
 use Rattle.alta_model.specs.Lines.{Reading, asks, refuses, reading_of}
@@ -11,10 +13,10 @@ use Rattle.alta_model.specs.declared.line.LineFault.{LineFault}
 use Rattle.alta_model.specs.declared.line.LineFault.TheVariants.{TooLong, NotUtf8, Unknown, Bad}
 use Rattle.alta_model.proofs.Readings.{reading_long}
 use Rattle.alta_session.specs.Keeping.{clip}
-use Rattle.alta_session.specs.Machine.{Machine, refusal, adding, obeyed, answered, step, machine_after, replies}
+use Rattle.alta_session.specs.Machine.{Machine, refusal, adding, put_as, obeyed, answered, step, machine_after, replies}
 use Rattle.alta_session.proofs.CursorLaws.{opening_some, fetching_some, closing_some}
-use Rattle.alta_session.proofs.DeletingLaws.{deleting_some, stats_some}
-use Rattle.alta_session.proofs.SearchLaws.{searching_some, counting_some, explaining_some}
+use Rattle.alta_session.proofs.DeletingLaws.{deleting_some, if_some, stats_some}
+use Rattle.alta_session.proofs.SearchLaws.{searching_some, counting_some, explaining_some, some_behind}
 
 pub after_append : (m : Machine) (xs ys : List (List ℕ)) → machine_after m (xs ++ ys) ≡ machine_after (machine_after m xs) ys
 after_append m [] ys = refl
@@ -40,9 +42,15 @@ refusal_some NotUtf8 = lit< tt
 refusal_some Unknown = lit< tt
 refusal_some Bad = lit< tt
 
+put_as_some : (o : Option ℕ) (name title body : List ℕ) (s : State) → 0 < length (put_as o name title body s).1
+put_as_some None name title body s = some_behind (codes "added " ++ decimal s.next) (codes "\n") (lit< tt)
+put_as_some (Some n) name title body s = some_behind (codes "replaced " ++ decimal n ++ codes " by " ++ decimal s.next) (codes "\n") (lit< tt)
+
 adding_some : (name title body : List ℕ) (s : State) → 0 < length (adding name title body s).1
 unfolding adding
-adding_some name title body s = grind (arith, common_steps)
+adding_some name title body s =
+    if_some (is_name name) (if nat_le 4294967296 s.next then (s, codes "! no numbers left\n") else put_as (number_of name s) name title body s) (s, codes "! bad name\n")
+    (if_some (nat_le 4294967296 s.next) (s, codes "! no numbers left\n") (put_as (number_of name s) name title body s) (lit< tt) (put_as_some (number_of name s) name title body s)) (lit< tt)
 
 obeyed_some : (m : Machine) (command : Command) → 0 < length (obeyed m command).1
 obeyed_some m (adds name title body) = adding_some name title body m.state

@@ -5,19 +5,24 @@ use Rattle.alta_meta.specs.declared.document.State.{State}
 use Rattle.alta_model.specs.Command.{Command, adds, deletes, searches, counts, explains, opens, fetches, closes, flushes, merges, steps, asks_stats}
 use Rattle.alta_model.specs.Lines.{Reading, asks, refuses, reading_of}
 use Rattle.alta_codec.specs.Name.{is_name}
-use Rattle.alta_images.proofs.StateLaws.{added_state, deleted_state}
-use Rattle.alta_session.specs.Machine.{Machine, adding, deleted_as, deleting, obeyed, answered, step}
-use Rattle.alta_images.specs.States.{has_name, number_of as number_named}
+use Rattle.alta_images.proofs.StateLaws.{added_state, deleted_state, replaced_state}
+use Rattle.alta_session.specs.Machine.{Machine, adding, put_as, deleted_as, deleting, obeyed, answered, step}
+use Rattle.alta_session.proofs.DeletingLaws.{unnamed}
+use Rattle.alta_images.specs.States.{number_of as number_named}
 
 -- what a line makes of it
 if_state : (b : Bool) (x y : State × List ℕ) → (b ≡ true → IsState x.0) → (b ≡ false → IsState y.0) → IsState (if b then x else y).0
 if_state true x y holds fails = holds refl
 if_state false x y holds fails = fails refl
 
+put_as_state : (number : Option ℕ) (name title body : List ℕ) (s : State) → number_named name s ≡ number → IsState s → IsState (put_as number name title body s).0
+put_as_state None name title body s none is = added_state name title body s (unnamed name s none) is
+put_as_state (Some n) name title body s some is = replaced_state name title body s is
+
 adding_state : (name title body : List ℕ) (s : State) → IsState s → IsState (adding name title body s).0
 unfolding adding
 adding_state name title body s is =
-    if_state (is_name name) _ _ (λ named. if_state (has_name name s) _ _ (λ taken. is) (λ free. if_state (nat_le 4294967296 s.next) _ _ (λ full. is) (λ room. added_state name title body s free is))) (λ bad. is)
+    if_state (is_name name) _ _ (λ named. if_state (nat_le 4294967296 s.next) _ _ (λ full. is) (λ room. put_as_state (number_named name s) name title body s refl is)) (λ bad. is)
 
 deleted_as_state : (number : Option ℕ) (name : List ℕ) (s : State) → IsState s → IsState (deleted_as number name s).0
 deleted_as_state None name s is = is

@@ -1,5 +1,5 @@
 -- Laws of what lines ask of the store, and of what their work makes of what is held.
-use Rattle.std.proofs.Common.{◌≡◌, ℕ, ◌<◌, ◌≤◌, Bool, true, false, ◌&&◌, not, if◌then◌else◌, nat_lt, List, [], ◌∷◌, ◌++◌, take, map, refl, ap, sym, subst, ◌∙◌, arith, Option, Some, None, Result, Ok, Err}
+use Rattle.std.proofs.Common.{◌≡◌, ℕ, ◌<◌, ◌≤◌, Bool, true, false, ◌&&◌, if◌then◌else◌, nat_lt, List, [], ◌∷◌, ◌++◌, take, map, refl, ap, sym, subst, ◌∙◌, arith, Option, Some, None, Result, Ok, Err}
 use Rattle.std.specs.Prelude.{option_map}
 use Rattle.std.proofs.lemmas.Grind.{common_steps}
 use Rattle.std.proofs.lemmas.List.{take-map}
@@ -10,12 +10,12 @@ use Rattle.alta_images.specs.Holding.{Holding}
 use Rattle.alta_images.specs.States.{has_name, number_of}
 use Rattle.alta_images.specs.Work.{Task, enters}
 use Rattle.alta_images.specs.Working.{Full}
-use Rattle.alta_journal.specs.declared.entry.Entry.TheVariants.{Add, Delete}
+use Rattle.alta_journal.specs.declared.entry.Entry.TheVariants.{Add, Delete, Replace}
 use Rattle.alta_meta.specs.declared.document.State.{State}
 use Rattle.alta_model.specs.Lines.{Reading, reading_of}
 use Rattle.alta_session.specs.Keeping.{clip}
 use Rattle.alta_session.specs.Machine.{Machine, step, machine_after}
-use Rattle.alta_session.specs.Tasks.{task_of_add, task_of_delete, task_in, task_of, worked_where, worked_line, worked_lines, IsBy, IsOn, IsWorked}
+use Rattle.alta_session.specs.Tasks.{entry_for, task_of_add, task_of_delete, task_in, task_of, worked_where, worked_line, worked_lines, IsBy, IsOn, IsWorked}
 use Rattle.alta_session.specs.declared.session.Session.{Session}
 use Rattle.alta_session.proofs.DeletingLaws.{not_numbered}
 use Rattle.alta_session.proofs.MachineLaws.{reading_clip, step_clip}
@@ -29,24 +29,17 @@ where_false : (task : Task) (b : Bool) → b ≡ false → (if b then Some task 
 where_false task true is = absurd cc
 where_false task false is = refl
 
-none_first : (a b c : Bool) → a ≡ false → (a && b && c) ≡ false
-none_first false b c is = refl
-none_first true b c is = absurd cc
+none_first : (a b : Bool) → a ≡ false → (a && b) ≡ false
+none_first false b is = refl
+none_first true b is = absurd cc
 
-none_second : (a b c : Bool) → b ≡ true → (a && not b && c) ≡ false
-none_second false b c is = refl
-none_second true true c is = refl
-none_second true false c is = absurd cc
+none_second : (a b : Bool) → b ≡ false → (a && b) ≡ false
+none_second false b is = refl
+none_second true b is = is
 
-none_third : (a b c : Bool) → c ≡ false → (a && not b && c) ≡ false
-none_third false b c is = refl
-none_third true true c is = refl
-none_third true false c is = is
-
-all_three : (a b c : Bool) → a ≡ true → b ≡ false → c ≡ true → (a && not b && c) ≡ true
-all_three true false c one two three = three
-all_three true true c one two three = absurd cc
-all_three false b c one two three = absurd cc
+both : (a b : Bool) → a ≡ true → b ≡ true → (a && b) ≡ true
+both true b one two = two
+both false b one two = absurd cc
 
 not_less : (a b : ℕ) → b ≤ a → nat_lt a b ≡ false
 not_less a b l = grind (arith, common_steps)
@@ -56,20 +49,23 @@ is_less a b l = grind (arith, common_steps)
 
 pub add_bad : (name title body : List ℕ) (s : State) → (IsName name → ⊥) → task_of_add name title body s ≡ None
 unfolding task_of_add
-add_bad name title body s other = where_false (enters (Add name title body)) _ (none_first (is_name name) (not (has_name name s)) (nat_lt s.next 4294967296) (name_is_not name other))
-
-pub add_taken : (name title body : List ℕ) (s : State) → has_name name s ≡ true → task_of_add name title body s ≡ None
-unfolding task_of_add
-add_taken name title body s taken = where_false (enters (Add name title body)) _ (none_second (is_name name) (has_name name s) (nat_lt s.next 4294967296) taken)
+add_bad name title body s other = where_false (enters (entry_for (number_of name s) name title body)) _ (none_first (is_name name) (nat_lt s.next 4294967296) (name_is_not name other))
 
 pub add_full : (name title body : List ℕ) (s : State) → 4294967296 ≤ s.next → task_of_add name title body s ≡ None
 unfolding task_of_add
-add_full name title body s full = where_false (enters (Add name title body)) _ (none_third (is_name name) (has_name name s) (nat_lt s.next 4294967296) (not_less s.next 4294967296 full))
+add_full name title body s full = where_false (enters (entry_for (number_of name s) name title body)) _ (none_second (is_name name) (nat_lt s.next 4294967296) (not_less s.next 4294967296 full))
+
+add_puts : (name title body : List ℕ) (s : State) (o : Option ℕ) → IsName name → number_of name s ≡ o → s.next < 4294967296 → task_of_add name title body s ≡ Some (enters (entry_for o name title body))
+unfolding task_of_add
+add_puts name title body s o named is room =
+    where_true (enters (entry_for (number_of name s) name title body)) _ (both (is_name name) (nat_lt s.next 4294967296) (name_is name named) (is_less s.next 4294967296 room))
+    ∙ ap (λ (p : Option ℕ). Some (enters (entry_for p name title body))) is
 
 pub add_enters : (name title body : List ℕ) (s : State) → IsName name → has_name name s ≡ false → s.next < 4294967296 → task_of_add name title body s ≡ Some (enters (Add name title body))
-unfolding task_of_add
-add_enters name title body s named free room =
-    where_true (enters (Add name title body)) _ (all_three (is_name name) (has_name name s) (nat_lt s.next 4294967296) (name_is name named) free (is_less s.next 4294967296 room))
+add_enters name title body s named free room = add_puts name title body s None named (not_numbered name s free) room
+
+pub add_replaces : (name title body : List ℕ) (s : State) (number : ℕ) → IsName name → number_of name s ≡ Some number → s.next < 4294967296 → task_of_add name title body s ≡ Some (enters (Replace number name title body))
+add_replaces name title body s number named is room = add_puts name title body s (Some number) named is room
 
 -- ---- the task of a line that deletes
 abbrev of_number : Option ℕ → Option Task

@@ -10,7 +10,7 @@ use Rattle.alta_model.specs.declared.line.LineFault.TheVariants.{TooLong, NotUtf
 use Rattle.alta_search.specs.Open.{OpenAnswers}
 use Rattle.alta_session.specs.Cursors.{Turn, opening, fetching, closing}
 use Rattle.alta_session.specs.Searching.{IsNoQuery, searching, counting, explaining}
-use Rattle.alta_images.specs.States.{has_name, number_of, words_in, with_added, with_deleted}
+use Rattle.alta_images.specs.States.{number_of, words_in, with_added, with_deleted, with_replaced}
 
 -- The machine between two lines: a state, and the cursors that are open, each with the answers that are still to come.
 pub record Machine : Type 0 where
@@ -28,13 +28,17 @@ refusal NotUtf8 = codes "! not UTF-8\n"
 refusal Unknown = codes "! unknown command\n"
 refusal Bad = codes "! bad line\n"
 
--- a document is added, where its name can be one and is not taken, and a number is left
+-- a document takes the place of the live one with this number, or is added where there is none
+abbrev pub put_as : Option ℕ → List ℕ → List ℕ → List ℕ → State → State × List ℕ
+put_as None name title body s = (with_added name title body s, codes "added " ++ decimal s.next ++ codes "\n")
+put_as (Some n) name title body s = (with_replaced name title body s, codes "replaced " ++ decimal n ++ codes " by " ++ decimal s.next ++ codes "\n")
+
+-- a document is added, in place of a live one with its name, where the name can be one and a number is left
 unfoldable pub adding : List ℕ → List ℕ → List ℕ → State → State × List ℕ
 adding name title body s =
     if is_name name then
-    (if has_name name s then (s, codes "! name taken\n")
-    else (if nat_le 4294967296 s.next then (s, codes "! no numbers left\n")
-    else (with_added name title body s, codes "added " ++ decimal s.next ++ codes "\n")))
+    (if nat_le 4294967296 s.next then (s, codes "! no numbers left\n")
+    else put_as (number_of name s) name title body s)
     else (s, codes "! bad name\n")
 
 -- the document with this name is deleted, where it has a number

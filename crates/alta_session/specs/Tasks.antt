@@ -1,13 +1,14 @@
 -- What a line asks of the store, and what its work on levels makes of what a store holds.
-use Rattle.std.specs.Prelude.{◌≡◌, ◌&&◌, ℕ, List, [], ◌∷◌, not, if◌then◌else◌, nat_lt, Option, Some, None, option_map, Result, Ok}
+use Rattle.std.specs.Prelude.{◌≡◌, ◌&&◌, ℕ, List, [], ◌∷◌, if◌then◌else◌, nat_lt, Option, Some, None, option_map, Result, Ok}
 use Rattle.alta_codec.specs.Name.{is_name}
 use Rattle.alta_disk.specs.Disk.{DiskState, Only}
 use Rattle.alta_images.specs.Chain.{◌>>=◌}
 use Rattle.alta_images.specs.Holding.{Holding, IsHeld}
-use Rattle.alta_images.specs.States.{has_name, number_of}
+use Rattle.alta_images.specs.States.{number_of}
 use Rattle.alta_images.specs.Work.{Task, enters, flushes, merges, steps}
 use Rattle.alta_images.specs.Working.{Full, worked}
-use Rattle.alta_journal.specs.declared.entry.Entry.TheVariants.{Add, Delete}
+use Rattle.alta_journal.specs.declared.entry.Entry.{Entry}
+use Rattle.alta_journal.specs.declared.entry.Entry.TheVariants.{Add, Delete, Replace}
 use Rattle.alta_meta.specs.declared.document.State.{State}
 use Rattle.alta_model.specs.Command.{Command, adds, deletes, searches, counts, explains, opens, fetches, closes, flushes as asks_flush, merges as asks_merge, steps as asks_step, asks_stats}
 use Rattle.alta_model.specs.Lines.{Reading, asks, refuses, reading_of}
@@ -15,10 +16,15 @@ use Rattle.alta_session.specs.Machine.{Machine, step}
 use Rattle.alta_session.specs.declared.session.Session.{Session}
 use Rattle.alta_store.specs.Agreement.{Has}
 
--- the entry of a document, where its name can be one and is not taken, and a number is left
+-- the entry that puts a document in the place of the live one with this number, or adds it where there is none
+abbrev pub entry_for : Option ℕ → List ℕ → List ℕ → List ℕ → Entry
+entry_for None name title body = Add name title body
+entry_for (Some n) name title body = Replace n name title body
+
+-- the entry of a document, where its name can be one and a number is left
 unfoldable pub task_of_add : List ℕ → List ℕ → List ℕ → State → Option Task
 task_of_add name title body s =
-    if is_name name && not (has_name name s) && nat_lt s.next 4294967296 then Some (enters (Add name title body)) else None
+    if is_name name && nat_lt s.next 4294967296 then Some (enters (entry_for (number_of name s) name title body)) else None
 
 -- the entry that deletes the number of a name, where the name can be one and has a number
 unfoldable pub task_of_delete : List ℕ → State → Option Task

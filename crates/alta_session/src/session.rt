@@ -1,5 +1,5 @@
 // A session: a line changes the state, and has a reply.
-ghost use Rattle.std.specs.Prelude.{◌≡◌, ◌⊎◌, ◌+◌, ◌++◌, codes, decimal, Result, Err, None, Some, IfOk, IfErr, OnErr, IsTrue, ◌↔◌};
+ghost use Rattle.std.specs.Prelude.{◌≡◌, ◌⊎◌, ◌+◌, ◌++◌, true, codes, decimal, Result, Err, None, Some, IfOk, IfErr, OnErr, IsTrue, ◌↔◌};
 ghost use Rattle.alta_codec.specs.Name.{IsName};
 ghost use Rattle.alta_codec.specs.Bytes.{Lacks};
 ghost use Rattle.alta_disk.specs.Disk.{DiskState, Only};
@@ -14,11 +14,11 @@ ghost use Rattle.alta_session.specs.Loading.{Loads, session_loads};
 ghost use Rattle.alta_session.specs.Machine.{Machine, started_at, step, changed_by, adding, deleting, Looks, Searches};
 ghost use Rattle.alta_session.specs.Spending.{OnlyReads};
 ghost use Rattle.alta_session.specs.Tasks.{task_of, task_of_add, task_of_delete};
-ghost use Rattle.alta_store.specs.Agreement.{Keeps};
+ghost use Rattle.alta_store.specs.Agreement.{Keeps, Knows};
 ghost use Rattle.alta_store.specs.Opening.{Opens};
 ghost use Rattle.alta_images.specs.Opened.{Opened, IsOpened};
 ghost use Rattle.alta_images.specs.Standing.{StandsFor};
-ghost use Rattle.alta_images.specs.States.{IsDocument};
+ghost use Rattle.alta_images.specs.States.{IsDocument, has_name};
 ghost use Rattle.alta_images.specs.Work.{flushes, merges, steps};
 
 use crate::paging::{close, fetch, open};
@@ -78,7 +78,7 @@ impl Session {
     /// `Disk` where a call of the disk failed. `Memory` where there is no memory. `Full` where a level or the deletion list that the
     /// line writes has no place: with the bytes that it needs and the greatest gap below the limit of the disk. `flush` writes where the
     /// journal has an entry, `merge` where there is something to merge, `step` where its join ends, and a line that adds or deletes
-    /// flushes where its record does not fit in the journal. `Damaged` where a list has a fault that the line loads, or that it reads to
+    /// flushes where its record does not fit in the journal or the root is of a version that may not have it. `Damaged` where a list has a fault that the line loads, or that it reads to
     /// join levels, with the first in the order of reading; never where the disk stands for a state. Then the index is as before the
     /// line or as after it, and the session is not sound. `search`, `count` and `open` load the lists of their query, write nothing, and
     /// read no more than these lists have; an open loads none where as many cursors are open as may be. `explain`, `fetch`, `close` and
@@ -139,7 +139,7 @@ impl Session {
         }
     }
 
-    // Adds a document.
+    // Adds a document, in place of a live one with its name.
     fn add<D: Disk>(
         &mut self,
         alloc: Global,
@@ -159,7 +159,31 @@ impl Session {
         match self.store.add(disk, name, title, body) {
             Ok(number) => added(alloc, number),
             Err(fault) => match fault {
-                StoreFault::Taken => text(alloc, "! name taken\n"),
+                StoreFault::Taken => self.replace(alloc, disk, name, title, body),
+                StoreFault::Numbers => text(alloc, "! no numbers left\n"),
+                fault => Err(fault),
+            },
+        }
+    }
+
+    // Puts a document in the place of the live one with its name.
+    fn replace<D: Disk>(
+        &mut self,
+        alloc: Global,
+        disk: &mut D,
+        name: &str,
+        title: &str,
+        body: &str,
+    ) -> Result<Text, StoreFault>
+        requires document { IsDocument name.now title.now body.now }
+        requires taken { (s : State) → Knows self.old.store s → has_name name.now s ≡ true }
+        requires can { CanAnswer D.tells (D.state disk.old) self.old }
+        ensures answers { Answers D.tells D.state disk.old disk.new self.old self.new result (λ m. changed_by m (adding name.now title.now body.now m.state)) (λ m. task_of_add name.now title.now body.now m.state) }
+        ensures works { Works D.tells D.state disk.old disk.new self.old.store (asks (adds name.now title.now body.now)) result }
+    {
+        match self.store.replace(disk, name, title, body) {
+            Ok(numbers) => replaced(alloc, numbers),
+            Err(fault) => match fault {
                 StoreFault::Numbers => text(alloc, "! no numbers left\n"),
                 fault => Err(fault),
             },
@@ -283,6 +307,17 @@ fn added(alloc: Global, number: u64) -> Result<Text, StoreFault>
     ensures { IsReply (codes "added " ++ decimal number ++ codes "\n") result }
 {
     match format!(in alloc; "added {number}\n") {
+        Ok(reply) => Ok(Text::from_string(reply)),
+        Err(_) => Err(StoreFault::Memory),
+    }
+}
+
+// The reply to a line that adds in place of another document: the numbers of the one before and of the new one.
+fn replaced(alloc: Global, numbers: (u64, u64)) -> Result<Text, StoreFault>
+    ensures { IsReply (codes "replaced " ++ decimal numbers.0 ++ codes " by " ++ decimal numbers.1 ++ codes "\n") result }
+{
+    let (old, new) = numbers;
+    match format!(in alloc; "replaced {old} by {new}\n") {
         Ok(reply) => Ok(Text::from_string(reply)),
         Err(_) => Err(StoreFault::Memory),
     }

@@ -1,6 +1,6 @@
 -- Calls that change a store, one behind the other.
 use Rattle.std.proofs.Common.{◌≡◌, ◌⊎◌, inl, inr, ⊎_elim, ℕ, ◌+◌, ◌≤◌, Bool, true, false, cond, List, [], refl, sym, ◌∙◌, ap, subst, arith, Result, Ok, Err}
-use Rattle.std.specs.Prelude.{Some}
+use Rattle.std.specs.Prelude.{◌||◌, not, Some}
 use Rattle.std.specs.List.{sum_by}
 use Rattle.alta_codec.specs.Faults.{Rose}
 use Rattle.alta_disk.specs.Calls.{Costs}
@@ -11,20 +11,22 @@ use Rattle.alta_images.specs.Holding.{Holding}
 use Rattle.alta_images.specs.Opened.{Opened, IsOpened}
 use Rattle.alta_images.specs.Standing.{StandsFor, StandsForEither}
 use Rattle.alta_images.specs.Switching.{with_entry}
-use Rattle.alta_images.specs.Work.{enters, fits}
-use Rattle.alta_images.specs.Working.{Full, entered, flushed}
+use Rattle.alta_images.specs.Work.{enters, fits, needs_raise}
+use Rattle.alta_images.specs.Working.{Full, entered, flushed, worked, written}
+use Rattle.alta_images.proofs.KeptStates.{by_entries}
 use Rattle.alta_joins.specs.Contents.{data_size}
 use Rattle.alta_joins.specs.Damages.{IsFirstDamage}
+use Rattle.alta_journal.specs.Entry.{KeepsRules}
 use Rattle.alta_journal.specs.declared.entry.Entry.{Entry}
-use Rattle.alta_journal.specs.declared.entry.Entry.TheVariants.{Delete}
 use Rattle.alta_meta.specs.declared.document.State.{State}
 use Rattle.alta_store.specs.Agreement.{Agrees, Has, Keeps}
 use Rattle.alta_store.specs.Answers.{IsOutside}
-use Rattle.alta_store.specs.Calls.{BecomesEntered, Changes, FindsFirstDamage, GetsRoom, IsCause, NoRefusal, Obeys, joined_by}
+use Rattle.alta_store.specs.Calls.{BecomesEntered, Changes, FindsFirstDamage, GetsRoom, IsCause, NoRefusal, Obeys, joined_by, lacks_room}
 use Rattle.alta_store.specs.declared.fault.StoreFault.{StoreFault}
 use Rattle.alta_store.specs.declared.fault.StoreFault.TheVariants as faults
 use Rattle.alta_store.specs.declared.store.Store.{Store}
 use Rattle.alta_store.proofs.Agreements.{images_stand}
+use Rattle.alta_store.proofs.Room.{some_before}
 use Rattle.alta_table.specs.Tables.{Tables}
 
 abbrev pub Work : Type 0
@@ -150,10 +152,10 @@ changes_as {T} tells work work' turns turns' step refuses refuses' bytes joins a
   costs = c.costs;
 }
 
--- what a call that was done answers makes no difference
-pub changes_ok : {T X : Type 0} (tells : Type 0) (work : Work) (turns : Turns) (step : State → State) (refuses : StoreFault → Type 0) (bytes : ℕ) (joins : List Tables) (a b : DiskState) (store later : Store) (x : T) (y : X)
-    → Changes tells work turns step refuses bytes joins a b store later (Ok x) → Changes tells work turns step refuses bytes joins a b store later (Ok y)
-changes_ok {T} {X} tells work turns step refuses bytes joins a b store later x y c = record {
+-- what a call that was done answers makes no difference, nor by what it may be refused
+pub changes_ok : {T X : Type 0} (tells : Type 0) (work : Work) (turns : Turns) (step : State → State) (refuses refuses' : StoreFault → Type 0) (bytes : ℕ) (joins : List Tables) (a b : DiskState) (store later : Store) (x : T) (y : X)
+    → Changes tells work turns step refuses bytes joins a b store later (Ok x) → Changes tells work turns step refuses' bytes joins a b store later (Ok y)
+changes_ok {T} {X} tells work turns step refuses refuses' bytes joins a b store later x y c = record {
   agrees = c.agrees;
   knows = c.knows;
   works = c.works;
@@ -360,15 +362,19 @@ module _ (tells : Type 0) (work then : Work) (turns next : Turns) (step : State 
     costs = costs_both (Err fault) two;
   }
 
--- ---- an entry, behind a flush where it does not fit
+-- ---- an entry, behind a switch of the root where there is no room
 
-enter_work : (entry : Entry) (limit : ℕ) (held : Holding) → (cond (fits held.view.entries entry) (Ok held) (flushed limit held) >>= λ then. Ok (entered then entry))
-    ≡ cond (fits held.view.entries entry) (Ok (entered held entry)) (flushed limit held >>= λ then. Ok (entered then entry))
-enter_work entry limit held = by_case (fits held.view.entries entry)
+-- the work on an entry is a switch where there is no room for it, and then the entry
+enter_work : (entry : Entry) (limit : ℕ) (held : Holding) → KeepsRules entry
+    → (cond (lacks_room held.view.version held.view.entries entry) (written limit held) (Ok held) >>= λ then. Ok (entered then entry)) ≡ worked limit held (enters entry)
+enter_work entry limit held keeps = by_case (needs_raise held.view.version entry) (fits held.view.entries entry) refl
   where
-    by_case : (b : Bool) → (cond b (Ok held) (flushed limit held) >>= λ then. Ok (entered then entry)) ≡ cond b (Ok (entered held entry)) (flushed limit held >>= λ then. Ok (entered then entry))
-    by_case true = refl
-    by_case false = refl
+    by_case : (raise room : Bool) → fits held.view.entries entry ≡ room
+        → (cond (raise || not room) (written limit held) (Ok held) >>= λ then. Ok (entered then entry))
+        ≡ cond raise (written limit held >>= λ then. Ok (entered then entry)) (cond room (Ok (entered held entry)) (flushed limit held >>= λ then. Ok (entered then entry)))
+    by_case true room is = refl
+    by_case false true is = refl
+    by_case false false is = ap (λ (r : Result Holding Full). r >>= λ then. Ok (entered then entry)) (sym (ap (by_entries limit held) (some_before entry keeps held.view.entries is)))
 
 -- what is opened so has the entry then
 enter_turns : (entry : Entry) (limit : ℕ) (o : Opened) (roomy outcome : Result Opened Full) → GetsRoom limit entry o roomy → goes_on (λ limit o outcome. outcome ≡ Ok (with_entry o entry)) limit roomy outcome
@@ -380,16 +386,16 @@ enter_turns entry limit o (Err full) outcome room goes = (Err full, room, goes)
 pub enters_finds : (entry : Entry) (limit : ℕ) (o : Opened) (full : Full) → ◌≡◌ {A = Result Opened Full} (Err full) (Ok (with_entry o entry)) → ⊥
 enters_finds entry limit o full e = absurd cc
 
-pub obeys_entry : {T : Type 0} (tells : Type 0) (entry : Entry) (step : State → State) (a b : DiskState) (store later : Store) (result : Result T StoreFault)
-    → Changes tells (λ limit held. cond (fits held.view.entries entry) (Ok held) (flushed limit held) >>= λ then. Ok (entered then entry))
+pub obeys_entry : {T : Type 0} (tells : Type 0) (entry : Entry) → KeepsRules entry → (step : State → State) (a b : DiskState) (store later : Store) (result : Result T StoreFault)
+    → Changes tells (λ limit held. cond (lacks_room held.view.version held.view.entries entry) (written limit held) (Ok held) >>= λ then. Ok (entered then entry))
     (through (λ limit o outcome. GetsRoom limit entry o outcome) (λ limit o outcome. outcome ≡ Ok (with_entry o entry))) step NoRefusal (1 + 0) (joined_by store (enters entry)) a b store later result
     → Obeys tells (enters entry) step NoRefusal a b store later result
-obeys_entry tells entry step a b store later result c =
-    changes_as tells _ _ _ _ step NoRefusal NoRefusal 1 (joined_by store (enters entry)) a b store later result (λ held told has. enter_work entry a.limit held)
+obeys_entry tells entry keeps step a b store later result c =
+    changes_as tells _ _ _ _ step NoRefusal NoRefusal 1 (joined_by store (enters entry)) a b store later result (λ held told has. enter_work entry a.limit held keeps)
     (λ o outcome told opened turned. enter_turns entry a.limit o turned.0 outcome turned.1 turned.2)
     (λ e refused. refused) c
 
--- a delete by the same number
-pub deletes_as : {T : Type 0} (tells : Type 0) (m n : ℕ) (step : State → State) (a b : DiskState) (store later : Store) (result : Result T StoreFault) → m ≡ n
-    → Obeys tells (enters (Delete m)) step NoRefusal a b store later result → Obeys tells (enters (Delete n)) step NoRefusal a b store later result
-deletes_as tells m n step a b store later result is obeys = subst (λ (k : ℕ). Obeys tells (enters (Delete k)) step NoRefusal a b store later result) is obeys
+-- by an entry that is the same
+pub obeys_as : {T : Type 0} (tells : Type 0) (entry other : Entry) (step : State → State) (refuses : StoreFault → Type 0) (a b : DiskState) (store later : Store) (result : Result T StoreFault) → entry ≡ other
+    → Obeys tells (enters entry) step refuses a b store later result → Obeys tells (enters other) step refuses a b store later result
+obeys_as tells entry other step refuses a b store later result is obeys = subst (λ (e : Entry). Obeys tells (enters e) step refuses a b store later result) is obeys

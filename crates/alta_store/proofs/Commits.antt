@@ -1,11 +1,11 @@
 -- One entry more, on a store and its disk.
-use Rattle.std.proofs.Common.{◌≡◌, ℕ, ◌+◌, ◌<◌, ◌≤◌, Bool, true, false, cond, Vec, Global, List, [], ◌∷◌, ◌++◌, length, get_or, map, take, inl, inr, ⊎_elim, refl, sym, ◌∙◌, ap, subst, arith}
-use Rattle.std.specs.Prelude.{Option, Result, Ok, Err}
+use Rattle.std.proofs.Common.{◌≡◌, ℕ, ◌+◌, ◌<◌, ◌≤◌, true, false, Vec, Global, List, [], ◌∷◌, ◌++◌, length, get_or, map, take, inl, inr, ⊎_elim, refl, sym, ◌∙◌, ap, subst, arith}
+use Rattle.std.specs.Prelude.{Option, Some, Result, Ok, Err}
 use Rattle.std.specs.List.{All}
 use Rattle.std.proofs.lemmas.List.Elements.{All-tail}
 use Rattle.alta_catalog.specs.Knowing.{Follows, KnowsBy, gone_of}
-use Rattle.alta_catalog.specs.declared.catalog.Catalog.{Catalog}
 use Rattle.alta_catalog.proofs.MayLaws.{may_be}
+use Rattle.alta_catalog.proofs.ReplaceLaws.{is_number, named_is}
 use Rattle.alta_codec.specs.Faults.{Rose}
 use Rattle.alta_codec.proofs.ByteLaws.{lacks_byte}
 use Rattle.alta_content.specs.Rows.{AreDocuments, end_of, ends_among}
@@ -17,65 +17,56 @@ use Rattle.alta_images.specs.Entries.{Allows, after_entries, after_entry}
 use Rattle.alta_images.specs.Holding.{Holding, IsHeld}
 use Rattle.alta_images.specs.Opened.{Opened, IsOpened, journal_of, table_rows, extent_of}
 use Rattle.alta_images.specs.Standing.{StandsFor, StandsForEither}
-use Rattle.alta_images.specs.States.{IsDocument, has_name, has_number, with_added, with_deleted, without}
+use Rattle.alta_images.specs.States.{IsDocument, number_of, with_added, with_deleted, with_replaced, without}
 use Rattle.alta_images.specs.Switching.{MayAppend, with_entry}
-use Rattle.alta_images.specs.Chain.{◌>>=◌}
 use Rattle.alta_images.specs.Views.{View}
-use Rattle.alta_images.specs.Work.{enters, fits}
-use Rattle.alta_images.specs.Working.{entered, flushed}
+use Rattle.alta_images.specs.Work.{enters, fits, needs_raise}
+use Rattle.alta_images.specs.Working.{entered}
 use Rattle.alta_images.proofs.AppendLaws.{opened_appended, stands_appended, stands_appending}
 use Rattle.alta_images.proofs.Entering.{after_more}
 use Rattle.alta_images.proofs.HeldLaws.{held_appended}
 use Rattle.alta_images.proofs.SwitchLaws.{extents_clear}
 use Rattle.alta_images.proofs.Untouched.{IsSame, extents_same}
-use Rattle.alta_images.proofs.WellLaws.{work_well}
+use Rattle.alta_images.proofs.Tests.{equal_test}
+use Rattle.alta_images.proofs.WellLaws.{by_raise, by_room, work_well}
 use Rattle.alta_joins.proofs.KeptLaws.{held_is_spaced}
 use Rattle.alta_journal.specs.declared.appending.JournalFault.{JournalFault}
 use Rattle.alta_journal.specs.declared.appending.JournalFault.TheVariants.{Disk as JournalDisk, Full as JournalFull}
-use Rattle.alta_journal.specs.Entry.{KeepsRules}
+use Rattle.alta_journal.specs.Entry.{IsTyped, KeepTexts, KeepsRules, MayBeRecorded}
 use Rattle.alta_journal.specs.Journal.{Appended, Appends}
-use Rattle.alta_journal.specs.Places.{start_of, left_behind, HasClosedGate}
+use Rattle.alta_journal.specs.Places.{start_of, HasClosedGate}
 use Rattle.alta_journal.specs.Record.{body_of, record_of}
 use Rattle.alta_journal.specs.declared.entry.Entry.{Entry}
-use Rattle.alta_journal.specs.declared.entry.Entry.TheVariants.{Add, Delete}
+use Rattle.alta_journal.specs.declared.entry.Entry.TheVariants.{Add, Delete, Replace}
 use Rattle.alta_journal.specs.declared.half.Half.{Half}
 use Rattle.alta_journal.proofs.Frames.{appends_touch, ends_closed}
-use Rattle.alta_journal.proofs.Spelling.{add_long, body_long, delete_long}
 use Rattle.alta_merge.specs.Merging.{Merging}
 use Rattle.alta_meta.specs.declared.document.State.{State}
 use Rattle.alta_root.specs.Root.{extents_of}
 use Rattle.alta_root.specs.declared.root.Root.{Root}
 use Rattle.alta_root.proofs.Frames.{counts_sound}
 use Rattle.alta_store.specs.Agreement.{Agrees, GoesOnOver, Has, IsJobIn, Keeps, Knows, MayGoOn, levels_of, room_of}
-use Rattle.alta_store.specs.Calls.{Enters, NoRefusal}
+use Rattle.alta_store.specs.Calls.{Enters, IsStepFrom, IsStepOf, NoRefusal, needs_room}
 use Rattle.alta_store.specs.declared.store.Store.{Store}
 use Rattle.alta_store.specs.declared.fault.StoreFault.{StoreFault}
 use Rattle.alta_store.specs.declared.fault.StoreFault.TheVariants.{Damaged as StoreDamaged, Disk as StoreDisk, Full as StoreFull}
 use Rattle.alta_store.proofs.Agreements.{kept, knows_of, opened_of}
 use Rattle.alta_store.proofs.Changing.{finds_none, finds_outside, not_damaged}
 use Rattle.alta_store.proofs.GoingOn.{goes_on_over, goes_on_there}
-use Rattle.alta_store.proofs.Room.{fits_room, journal_fits, le_true}
+use Rattle.alta_store.proofs.Naming.{named_at, number_alike}
+use Rattle.alta_store.proofs.Room.{fits_room, journal_fits, le_true, may_record, raised_not, short_of}
 use Rattle.alta_store.proofs.Speaking.{may_append}
 use Rattle.alta_table.specs.Tables.{Tables}
 
 -- what the journal asks of a document
-pub keeps_rules : (name title body : List ℕ) → IsDocument name title body → KeepsRules (Add name title body)
-keeps_rules name title body d = (
+pub keeps_texts : (name title body : List ℕ) → IsDocument name title body → KeepTexts name title body
+keeps_texts name title body d = (
   d.named,
   lacks_byte 9 title d.title_is_a_field,
   lacks_byte 10 title d.title_is_a_line,
   lacks_byte 10 body d.body_is_a_line,
-  omega (arith, add_long name title body, d.short),
+  d.short,
 )
-
-pub keeps_rules_of : (a b c name title body : List ℕ) → a ≡ name → b ≡ title → c ≡ body → IsDocument name title body → KeepsRules (Add a b c)
-keeps_rules_of a b c name title body same_name same_title same_body d =
-    subst (λ (x : List ℕ). KeepsRules (Add x b c)) (sym same_name) (subst (λ (x : List ℕ). KeepsRules (Add name x c)) (sym same_title)
-    (subst (λ (x : List ℕ). KeepsRules (Add name title x)) (sym same_body) (keeps_rules name title body d)))
-
--- the record of a delete is as long as this
-pub delete_bytes : (number : ℕ) → length (body_of (Delete number)) ≡ 14
-delete_bytes number = omega (arith, body_long (Delete number), delete_long number)
 
 -- a record that fits is not found too long
 pub never_full : (fault : JournalFault) (need left : ℕ) → fault ≡ JournalFull need left → fault ≡ JournalDisk → ⊥
@@ -93,11 +84,22 @@ module _ (tells : Type 0) (a : DiskState) (lawful : IsLawful tells a) (store : S
   closed = stands_only tells a (HasClosedGate store.tail.place) lawful agrees.settled (λ told.
       let held = agrees.content told in
       subst (λ (place : ℕ). HasClosedGate place a.content) (sym held.keeps.place)
-      (ends_closed (journal_of held.opened.slot) held.opened.tail held.opened.entries a.content (journal_fits held.opened.slot) held.is.named.journal))
+      (ends_closed held.opened.root.version (journal_of held.opened.slot) held.opened.tail held.opened.entries a.content (journal_fits held.opened.slot) held.is.named.journal))
 
-  -- one entry more, which each state that the store knows allows
-  module _ (entry : Entry) (allowed : (s : State) → Knows store s → Allows s entry)
-      (short : length (body_of entry) ≤ left_behind (start_of store.tail.half) store.tail.place) where
+  -- one entry more, which each state that the store knows allows, and for which there is room
+  module _ (entry : Entry) (keeps_rules : KeepsRules entry) (typed : IsTyped entry) (allowed : (s : State) → Knows store s → Allows s entry) (room : needs_room store entry ≡ false) where
+    short : length (body_of entry) ≤ room_of store
+    short = short_of store entry room
+
+    -- the root's version may have its record
+    pub recorded : MayBeRecorded store.root.version entry
+    recorded = may_record store.root.version entry keeps_rules typed (raised_not store entry room)
+
+    still_held : (told : tells) (held : Holding) → IsHeld held a.content → needs_raise held.view.version entry ≡ false
+    still_held told held has =
+        ap (λ (view : View). needs_raise view.version entry) has.view_is
+        ∙ ap (λ (root : Root). needs_raise root.version entry) (sym (kept store a.content (agrees.content told) has.opened has.is).root) ∙ raised_not store entry room
+
     fits_held : (told : tells) (held : Holding) → IsHeld held a.content → fits held.view.entries entry ≡ true
     fits_held told held has =
         ap (λ (view : View). fits view.entries entry) has.view_is
@@ -107,19 +109,21 @@ module _ (tells : Type 0) (a : DiskState) (lawful : IsLawful tells a) (store : S
     may told o is =
         let keeps = kept store a.content (agrees.content told) o is in
         let s = may_be o in
-        may_append o a.content is s.0 s.1 entry (allowed s.0 (keeps.knows s.0 s.1).0) (omega (arith, short, ap start_of keeps.half, keeps.place, store.tail.starts, store.tail.ends))
+        may_append o a.content is s.0 s.1 entry (allowed s.0 (keeps.knows s.0 s.1).0) (subst (λ (root : Root). MayBeRecorded root.version entry) keeps.root recorded) (omega (arith, short, ap start_of keeps.half, keeps.place, store.tail.starts, store.tail.ends))
 
-    module _ (b : DiskState) (run : Passes (Appends (start_of store.tail.half) store.tail.place entry) a b) where
-      here : (told : tells) (o : Opened) → IsOpened o a.content → (z : List ℕ) → Appends (start_of store.tail.half) store.tail.place entry a.content z → Appends (journal_of o.slot) o.tail entry a.content z
+    module _ (b : DiskState) (run : Passes (Appends store.root.version (start_of store.tail.half) store.tail.place entry) a b) where
+      here : (told : tells) (o : Opened) → IsOpened o a.content → (z : List ℕ) → Appends store.root.version (start_of store.tail.half) store.tail.place entry a.content z → Appends o.root.version (journal_of o.slot) o.tail entry a.content z
       here told o is z step =
           let keeps = kept store a.content (agrees.content told) o is in
-          subst (λ (place : ℕ). Appends (journal_of o.slot) place entry a.content z) keeps.place (subst (λ (h : Half). Appends (start_of h) store.tail.place entry a.content z) keeps.half step)
+          subst (λ (root : Root). Appends root.version (journal_of o.slot) o.tail entry a.content z) keeps.root
+          (subst (λ (place : ℕ). Appends store.root.version (journal_of o.slot) place entry a.content z) keeps.place
+          (subst (λ (h : Half). Appends store.root.version (start_of h) store.tail.place entry a.content z) keeps.half step))
 
       -- at each moment the image stands for the state before or after
       pub either : (s t : State) → (tells → StandsFor s a.content) → (tells → after_entry s entry ≡ t) → LeavesOnly (StandsForEither s t) a b
       either s t stands after_is =
           leaves_from tells a lawful agrees.settled (StandsForEither s t)
-          (λ told. inl (stands told)) b (Appends (start_of store.tail.half) store.tail.place entry) run
+          (λ told. inl (stands told)) b (Appends store.root.version (start_of store.tail.half) store.tail.place entry) run
           (λ told z step.
           let was = stands told in
           let is = opened_of s a.content was in
@@ -127,9 +131,9 @@ module _ (tells : Type 0) (a : DiskState) (lawful : IsLawful tells a) (store : S
           (stands_appending s entry a.content z was (may told was.opened is) (here told was.opened is z step)))
 
       -- a call of the disk failed
-      pub enters_failed : {T : Type 0} (later : Store) (e : Entry) (turn : State → State) (turns : (s : State) → Knows store s → after_entry s entry ≡ turn s) (fault : StoreFault) → fault ≡ StoreDisk
-          → Rose a.faults b.faults → Costs 0 a b → Enters {T = T} tells e turn a b store later (Err fault)
-      enters_failed {T} later e turn turns fault is rose costs = record {
+      pub enters_failed : {T : Type 0} (later : Store) (turn : State → State) → IsStepOf entry turn store → (fault : StoreFault) → fault ≡ StoreDisk → Rose a.faults b.faults → Costs 0 a b
+          → Enters {T = T} tells entry turn a b store later (Err fault)
+      enters_failed {T} later turn turns fault is rose costs = record {
         agrees = tt;
         knows = λ s k. tt;
         works = λ held told has. tt;
@@ -153,16 +157,18 @@ module _ (tells : Type 0) (a : DiskState) (lawful : IsLawful tells a) (store : S
           not_full need gap failed = absurd cc
 
       module _ (lawful_b : IsLawful tells b) (durable : Only b.content b.images)
-          (appended : tells → Appended (start_of store.tail.half) store.tail.place entry a.content b.content) where
-        step : tells → Appends (start_of store.tail.half) store.tail.place entry a.content b.content
+          (appended : tells → Appended store.root.version (start_of store.tail.half) store.tail.place entry a.content b.content) where
+        step : tells → Appends store.root.version (start_of store.tail.half) store.tail.place entry a.content b.content
         step told =
             let after = run.now b.content (lawful_b.present told) in
-            subst (λ (d : List ℕ). Appends (start_of store.tail.half) store.tail.place entry d b.content) (agrees.settled after.0 after.1) after.2
+            subst (λ (d : List ℕ). Appends store.root.version (start_of store.tail.half) store.tail.place entry d b.content) (agrees.settled after.0 after.1) after.2
 
-        done : (told : tells) (o : Opened) → IsOpened o a.content → Appended (journal_of o.slot) o.tail entry a.content b.content
+        done : (told : tells) (o : Opened) → IsOpened o a.content → Appended o.root.version (journal_of o.slot) o.tail entry a.content b.content
         done told o is =
             let keeps = kept store a.content (agrees.content told) o is in
-            subst (λ (place : ℕ). Appended (journal_of o.slot) place entry a.content b.content) keeps.place (subst (λ (h : Half). Appended (start_of h) store.tail.place entry a.content b.content) keeps.half (appended told))
+            subst (λ (root : Root). Appended root.version (journal_of o.slot) o.tail entry a.content b.content) keeps.root
+            (subst (λ (place : ℕ). Appended store.root.version (journal_of o.slot) place entry a.content b.content) keeps.place
+            (subst (λ (h : Half). Appended store.root.version (start_of h) store.tail.place entry a.content b.content) keeps.half (appended told)))
 
         -- the content is opened with the entry as its last
         opened_more : (told : tells) (o : Opened) → IsOpened o a.content → IsOpened (with_entry o entry) b.content
@@ -210,7 +216,7 @@ module _ (tells : Type 0) (a : DiskState) (lawful : IsLawful tells a) (store : S
               let holds = agrees.content told in
               let o = holds.opened in
               let range : List (ℕ × ℕ) = (o.tail, 1 + length (body_of entry)) ∷ [] in
-              let touches = appends_touch (journal_of o.slot) o.tail entry a.content b.content (here told o holds.is b.content (step told)) in
+              let touches = appends_touch o.root.version (journal_of o.slot) o.tail entry a.content b.content (here told o holds.is b.content (step told)) in
               let clear = extents_clear o.tail (1 + length (body_of entry)) (length a.content) o.root (omega (arith, journal_fits o.slot, (may told o holds.is).fits)) (counts_sound o.slot o.root a.content holds.is.counts) in
               subst (λ (levels : List Tables). All (IsSame a.content b.content) (map extent_of levels)) (sym holds.keeps.levels)
               (subst (All (IsSame a.content b.content)) (sym holds.keeps.extents)
@@ -252,56 +258,54 @@ module _ (tells : Type 0) (a : DiskState) (lawful : IsLawful tells a) (store : S
             is = held_more told held has.is;
             job = subst (λ (job : Option Merging). IsJobIn job held.job) (sym job_is) has.job;
             well = work_well a.limit held (entered held entry) (enters entry) (held_is_spaced held a.content has.is) has.well
-                (ap (λ (x : Bool). cond x (Ok (entered held entry)) (flushed a.limit held >>= λ then. Ok (entered then entry))) (fits_held told held has.is));
+                (ap (by_raise a.limit held entry) (still_held told held has.is) ∙ ap (by_room a.limit held entry) (fits_held told held has.is));
           }
 
           -- the entry was entered
-          module _ {T : Type 0} (e : Entry) (same : entry ≡ e) (turn : State → State) (turns : (s : State) → Knows store s → after_entry s entry ≡ turn s) where
-            pub enters_ok : (x : T) → Costs 0 a b → Enters tells e turn a b store later (Ok x)
-            enters_ok x costs = record {
-              agrees = agrees_after;
-              knows = λ s k. subst (Knows later) (turns s k) (knows s k).0;
-              works = λ held told has. (entered held e, refl, subst (λ (n : Entry). Has later (entered held n) b.content) same (has_more told held has));
-              full = λ held need gap told has failed. absurd (ok_fails x (StoreFull need gap) failed);
-              images = λ s stands. either s (turn s) stands (λ told. turns s (knows_of tells a store agrees s told (stands told)));
-              stands = λ s told stands. stands_after s (turn s) told stands (turns s (knows_of tells a store agrees s told stands));
-              becomes = λ o told is. (
-                with_entry o e,
-                refl,
-                subst (λ (n : Entry). IsOpened (with_entry o n) b.content) same (opened_more told o is),
-                subst (λ (n : Entry). Keeps later (with_entry o n)) same (keeps_more told o is),
-              );
-              lacks = λ o need gap told is failed. absurd (ok_fails x (StoreFull need gap) failed);
-              narrow = λ need gap told failed. absurd (ok_fails x (StoreFull need gap) failed);
-              damage = λ told. finds_none NoRefusal a.content [] (Ok x) refl (λ place failed. ok_fails x (StoreDamaged place) failed);
-              undamaged = λ s told stands place failed. ok_fails x (StoreDamaged place) failed;
-              unread = λ told none place failed. ok_fails x (StoreDamaged place) failed;
-              still = λ told place failed. absurd (ok_fails x (StoreDamaged place) failed);
-              unwritten = λ told need gap failed. absurd (ok_fails x (StoreFull need gap) failed);
-              only = tt;
-              cause = λ failed. absurd (ok_fails x StoreDisk failed);
-              costs = costs;
-            }
+          pub enters_ok : {T : Type 0} (turn : State → State) → IsStepOf entry turn store → (x : T) → Costs 0 a b → Enters tells entry turn a b store later (Ok x)
+          enters_ok turn turns x costs = record {
+            agrees = agrees_after;
+            knows = λ s k. subst (Knows later) (turns s k) (knows s k).0;
+            works = λ held told has. (entered held entry, refl, has_more told held has);
+            full = λ held need gap told has failed. absurd (ok_fails x (StoreFull need gap) failed);
+            images = λ s stands. either s (turn s) stands (λ told. turns s (knows_of tells a store agrees s told (stands told)));
+            stands = λ s told stands. stands_after s (turn s) told stands (turns s (knows_of tells a store agrees s told stands));
+            becomes = λ o told is. (with_entry o entry, refl, opened_more told o is, keeps_more told o is);
+            lacks = λ o need gap told is failed. absurd (ok_fails x (StoreFull need gap) failed);
+            narrow = λ need gap told failed. absurd (ok_fails x (StoreFull need gap) failed);
+            damage = λ told. finds_none NoRefusal a.content [] (Ok x) refl (λ place failed. ok_fails x (StoreDamaged place) failed);
+            undamaged = λ s told stands place failed. ok_fails x (StoreDamaged place) failed;
+            unread = λ told none place failed. ok_fails x (StoreDamaged place) failed;
+            still = λ told place failed. absurd (ok_fails x (StoreDamaged place) failed);
+            unwritten = λ told need gap failed. absurd (ok_fails x (StoreFull need gap) failed);
+            only = tt;
+            cause = λ failed. absurd (ok_fails x StoreDisk failed);
+            costs = costs;
+          }
+
+-- ---- which entries the documents allow
 
 -- an add of a name that is free, while numbers are left
-module _ (store : Store) (name title body : List ℕ) (entry : Entry) (entry_is : entry ≡ Add name title body) where
-  pub added_is : (s : State) → after_entry s entry ≡ with_added name title body s
-  added_is s = ap (after_entry s) entry_is
+pub add_steps : (store : Store) (name title body : List ℕ) → IsStepFrom (Add name title body) (with_added name title body) store
+add_steps store name title body = λ later s knows now t known. refl
 
-  pub add_allowed : ((s : State) → Knows store s → has_name name s ≡ false) → ((s : State) → Knows store s → s.next < 4294967296) → (s : State) → Knows store s → Allows s entry
-  add_allowed free number s knows = subst (Allows s) (sym entry_is) (free s knows, number s knows)
+-- the document of a name
+module _ (store : Store) (name : List ℕ) (number : ℕ) (named : (s : State) → Knows store s → number_of name s ≡ Some number) where
+  pub delete_allowed : (s : State) → Knows store s → Allows s (Delete number)
+  delete_allowed s knows = (named_at store s knows name number (named s knows)).0
 
-  pub add_knows : (later : Catalog) → ((s : State) → (k : Knows store s) → KnowsBy later k.olds (with_added name title body s)) → (s : State) → (k : Knows store s) → KnowsBy later k.olds (after_entry s entry)
-  add_knows later after s knows = subst (KnowsBy later knows.olds) (sym (added_is s)) (after s knows)
+  without_is : (later : Store) (s : State) → Knows store s → Knows later s → (t : State) → Knows later t → without number t ≡ with_deleted name t
+  without_is later s knows now t known = (named_at later t known name number (number_alike later s now t known name ∙ named s knows)).1
 
--- a delete of the document with a name
-module _ (store : Store) (name : List ℕ) (number : ℕ) (entry : Entry) (entry_is : entry ≡ Delete number)
-    (named : (s : State) → Knows store s → (has_number number s ≡ true) × (without number s ≡ with_deleted name s)) where
-  pub delete_allowed : (s : State) → Knows store s → Allows s entry
-  delete_allowed s knows = subst (Allows s) (sym entry_is) (named s knows).0
+  pub delete_steps : IsStepFrom (Delete number) (with_deleted name) store
+  delete_steps = λ later s knows now t known. without_is later s knows now t known
 
-  pub deleted_after : (s : State) → Knows store s → after_entry s entry ≡ with_deleted name s
-  deleted_after s knows = ap (after_entry s) entry_is ∙ (named s knows).1
+  -- is replaced, while numbers are left
+  pub replace_allowed : (title body : List ℕ) → ((s : State) → Knows store s → s.next < 4294967296) → (s : State) → Knows store s → Allows s (Replace number name title body)
+  replace_allowed title body left s knows = (
+    sym (named_is name number s knows.notes.ordered) ∙ ap (λ (o : Option ℕ). is_number o number) (named s knows) ∙ equal_test number number refl,
+    left s knows,
+  )
 
-  pub delete_knows : (later : Catalog) → ((s : State) → (k : Knows store s) → KnowsBy later k.olds (without number s)) → (s : State) → (k : Knows store s) → KnowsBy later k.olds (after_entry s entry)
-  delete_knows later after s knows = subst (KnowsBy later knows.olds) (sym (ap (after_entry s) entry_is)) (after s knows)
+  pub replace_steps : (title body : List ℕ) → IsStepFrom (Replace number name title body) (with_replaced name title body) store
+  replace_steps title body = λ later s knows now t known. ap (with_added name title body) (without_is later s knows now t known)

@@ -13,9 +13,10 @@ use Rattle.alta_images.specs.Levels.{Level}
 use Rattle.alta_images.specs.Opened.{Opened, IsOpened}
 use Rattle.alta_images.specs.Standing.{view_of}
 use Rattle.alta_images.specs.Views.{View}
-use Rattle.alta_images.specs.Work.{Coming, Job, Task, flushes, newest_content, oldest_joined, steps, whole_of}
-use Rattle.alta_images.specs.Working.{IsJoin, oldest_contents, switched, worked}
+use Rattle.alta_images.specs.Work.{Coming, Job, Task, newest_content, oldest_joined, steps, whole_of}
+use Rattle.alta_images.specs.Working.{IsJoin, oldest_contents, switched, worked, written}
 use Rattle.alta_images.proofs.Tests.{apart_test, equal_test}
+use Rattle.alta_images.proofs.WellLaws.{work_well, written_well}
 use Rattle.alta_joins.specs.Contents.{data_size}
 use Rattle.alta_joins.specs.Damages.{IsFirstDamage}
 use Rattle.alta_joins.specs.Jobs.{AreJoinedOn, IsMerging}
@@ -23,13 +24,13 @@ use Rattle.alta_merge.specs.Merging.{Merging}
 use Rattle.alta_rewrite.specs.Rewrites.{HaveRows, Replaces, levels_to_come, no_content}
 use Rattle.alta_rewrite.specs.declared.levels.NextLevels.{NextLevels}
 use Rattle.alta_rewrite.proofs.JoinedLaws.{flush_is, room_is, step_is}
-use Rattle.alta_store.specs.Agreement.{Agrees, Has, HasNoEntry, IsJobIn, levels_of}
-use Rattle.alta_store.specs.Calls.{Becomes, Changes, Flushes, JoinsOldest, NoRefusal, Obeys, flush_joins, is_many, step_joins, unless_read}
+use Rattle.alta_store.specs.Agreement.{Agrees, Has, IsJobIn, levels_of}
+use Rattle.alta_store.specs.Calls.{Becomes, Changes, Flushes, IsRewrite, JoinsOldest, NoRefusal, Obeys, Writes, flush_joins, is_many, step_joins, unless_read}
 use Rattle.alta_store.specs.Putting.{IsDrained, IsGivenBy, MayPut, Puts}
 use Rattle.alta_store.specs.declared.fault.StoreFault.{StoreFault}
 use Rattle.alta_store.specs.declared.store.Store.{Store}
 use Rattle.alta_store.proofs.Agreements.{kept}
-use Rattle.alta_store.proofs.Idling.{and_false, no_some}
+use Rattle.alta_store.proofs.Idling.{and_false}
 use Rattle.alta_store.proofs.Joining.{IsJoinOf, job_held, join_held, oldest_held, switched_job}
 use Rattle.alta_store.proofs.Putting.{have_rows}
 use Rattle.alta_store.proofs.Room.{le_true}
@@ -42,6 +43,10 @@ use Rattle.alta_content.specs.Joining.{terms_in}
 -- a task that reads these levels
 abbrev pub ObeysOver : {T : Type 0} → Type 0 → Task → List Tables → DiskState → DiskState → Store → Store → Result T StoreFault → Type 0
 ObeysOver tells task joins a b store later result = Changes tells (λ limit held. worked limit held task) (λ limit o outcome. Becomes limit task o outcome) (λ s. s) NoRefusal 1 joins a b store later result
+
+-- a switch of the root that reads these levels
+abbrev pub WritesOver : {T : Type 0} → Type 0 → List Tables → DiskState → DiskState → Store → Store → Result T StoreFault → Type 0
+WritesOver tells joins a b store later result = Changes tells written (λ limit o outcome. IsRewrite limit Flushes o outcome) (λ s. s) NoRefusal 1 joins a b store later result
 
 -- the two oldest levels, unless they were read as a join began
 abbrev pub two_of : Store → List Tables
@@ -102,10 +107,10 @@ module _ (tells : Type 0) (a : DiskState) (lawful : IsLawful tells a) (store : S
     stay_kind told o is there have =
         inl (many_there told o is there have ∙ few_by store newest few, stay_replaces (view_of o there) (newest_there tells a lawful store agrees newest has_newest told o is there have))
 
-    stay_switches : (HasNoEntry store → ⊥) → (held : Holding) → tells → Has store held a.content → Switches a.limit flushes now levels held
-    stay_switches some held told has = record {
+    stay_switches : (held : Holding) → tells → Has store held a.content → Switches a.limit written now levels held
+    stay_switches held told has = record {
       job = held.job;
-      is = flush_is a.limit held levels (no_some tells a lawful store agrees some told held has.is) (many_held told held has.is ∙ few_by store newest few)
+      is = flush_is a.limit held levels (many_held told held has.is ∙ few_by store newest few)
           (stay_replaces held.view (newest_held tells a lawful store agrees newest has_newest told held has.is));
       given = held_given tells a lawful store agrees levels held has.is
           (given_stay tells a lawful store agrees now drained job_is newest has_newest part levels replaces no_part few most told has.is.opened has.is.is held.view.levels (have_rows held a.content has.is));
@@ -113,12 +118,11 @@ module _ (tells : Type 0) (a : DiskState) (lawful : IsLawful tells a) (store : S
           subst (λ (m : Option Merging). IsJobIn m then.job) (sym job_is) (subst (λ (j : Option Job). IsJobIn store.job j) (sym (switched_job a.limit held (levels_to_come levels held.view) held.job then e)) has.job);
     }
 
-    pub flush_stays : (b : DiskState) → IsLawful tells b → (HasNoEntry store → ⊥) → (later : Store) → (u : Result (Unit {0}) StoreFault) → OnOk u (later.job ≡ now.job) → Puts tells levels a b store later u
-        → Obeys tells flushes (λ s. s) NoRefusal a b store later u
-    flush_stays b lawful_b some later u job puts =
-        subst (λ (joins : List Tables). ObeysOver tells flushes joins a b store later u) (sym (flush_reads tells a store agrees newest has_newest false (few_by store newest few)))
-        (changes_put tells a b lawful lawful_b store now later levels stays flushes Flushes (λ o outcome rewrite. inr rewrite) (λ view levels kind. inl kind) (λ told o is. let given = stays.given o told is in stay_kind told o is given.0 given.1)
-        (stay_switches some) u job puts)
+    pub flush_stays : (b : DiskState) → IsLawful tells b → (later : Store) → (u : Result (Unit {0}) StoreFault) → OnOk u (later.job ≡ now.job) → Puts tells levels a b store later u → Writes tells a b store later u
+    flush_stays b lawful_b later u job puts =
+        subst (λ (joins : List Tables). WritesOver tells joins a b store later u) (sym (flush_reads tells a store agrees newest has_newest false (few_by store newest few)))
+        (changes_put tells a b lawful lawful_b store now later levels stays written (λ limit o outcome. IsRewrite limit Flushes o outcome) (λ held then spaced well e. written_well a.limit held then spaced well e) Flushes (λ o outcome rewrite. rewrite)
+        (λ view levels kind. inl kind) (λ told o is. let given = stays.given o told is in stay_kind told o is given.0 given.1) stay_switches u job puts)
 
 -- ---- a join in place of the two oldest
 
@@ -148,32 +152,32 @@ module _ (tells : Type 0) (a b c : DiskState) (lawful_a : IsLawful tells a) (law
   joined_goes held then cs e =
       subst (λ (m : Option Merging). IsJobIn m then.job) (sym no_job) (subst (λ (j : Option Job). IsJobIn None j) (sym (switched_job b.limit held cs None then e)) tt)
 
-  flush_switches : (HasNoEntry store → ⊥) → is_many_by store newest ≡ true → (held : Holding) → tells → Has store held b.content → Switches b.limit flushes now levels held
-  flush_switches some many held told has = record {
+  flush_switches : is_many_by store newest ≡ true → (held : Holding) → tells → Has store held b.content → Switches b.limit written now levels held
+  flush_switches many held told has = record {
     job = None;
-    is = room_is b.limit held levels (no_some tells b lawful_b store agrees_there some told held has.is) (many_held tells b lawful_b store agrees_there newest has_newest told held has.is ∙ many)
+    is = room_is b.limit held levels (many_held tells b lawful_b store agrees_there newest has_newest told held has.is ∙ many)
         (joined_replaces told held has.is (oldest_joined held.job held.view) (oldest_held tells b lawful_b store agrees_there merging join_there told held has));
     given = joined_given told held has.is;
     goes = λ then e. joined_goes held then (levels_to_come levels held.view) e;
   }
 
   -- a flush where there are 16 levels
-  pub flush_joined : (HasNoEntry store → ⊥) → is_many_by store newest ≡ true → (later : Store) → (u : Result (Unit {0}) StoreFault) → OnOk u (later.job ≡ now.job) → Puts tells levels b c store later u
-      → Obeys tells flushes (λ s. s) NoRefusal a c store later u
-  flush_joined some many later u job puts =
-      subst (λ (joins : List Tables). ObeysOver tells flushes joins a c store later u) (sym (flush_reads tells a store agrees newest has_newest true many))
-      (changes_read tells (λ limit held. worked limit held flushes) (λ limit o outcome. Becomes limit flushes o outcome) 1 (two_of store) a b c lawful_a lawful_b store later u agrees reads whole
-      (changes_put tells b c lawful_b lawful_c store now later levels joined flushes Flushes (λ o outcome rewrite. inr rewrite) (λ view levels kind. inl kind)
+  pub flush_joined : is_many_by store newest ≡ true → (later : Store) → (u : Result (Unit {0}) StoreFault) → OnOk u (later.job ≡ now.job) → Puts tells levels b c store later u → Writes tells a c store later u
+  flush_joined many later u job puts =
+      subst (λ (joins : List Tables). WritesOver tells joins a c store later u) (sym (flush_reads tells a store agrees newest has_newest true many))
+      (changes_read tells written (λ limit o outcome. IsRewrite limit Flushes o outcome) 1 (two_of store) a b c lawful_a lawful_b store later u agrees reads whole
+      (changes_put tells b c lawful_b lawful_c store now later levels joined written (λ limit o outcome. IsRewrite limit Flushes o outcome) (λ held then spaced well e. written_well b.limit held then spaced well e) Flushes (λ o outcome rewrite. rewrite)
+      (λ view levels kind. inl kind)
       (λ told o is.
       let given = joined.given o told is in
       inr (many_there tells b lawful_b store agrees_there newest has_newest told o is given.0 given.1 ∙ many, two_kind tells b lawful_b store agrees_there now drained no_job merging join.joining oldest newest oldest_is has_newest part levels replaces most told o is))
-      (flush_switches some many) u job puts))
+      (flush_switches many) u job puts))
 
   -- no term is left
   abbrev HasEnded : ℕ → Type 0
   HasEnded n = (j : Job) → IsMerging merging j → nat_le (length (terms_in (j.older ∷ j.newer ∷ []))) (j.merged + n) ≡ true
 
-  step_switches : (n : ℕ) → HasEnded n → (held : Holding) → tells → Has store held b.content → Switches b.limit (steps n) now levels held
+  step_switches : (n : ℕ) → HasEnded n → (held : Holding) → tells → Has store held b.content → Switches b.limit (λ limit held. worked limit held (steps n)) now levels held
   step_switches n ended held told has =
       let job = job_held tells b lawful_b store agrees_there merging join_there told held has in
       record {
@@ -189,6 +193,7 @@ module _ (tells : Type 0) (a b c : DiskState) (lawful_a : IsLawful tells a) (law
   step_joined n ended two later u job puts =
       subst (λ (joins : List Tables). ObeysOver tells (steps n) joins a c store later u) (sym (step_reads store two))
       (changes_read tells (λ limit held. worked limit held (steps n)) (λ limit o outcome. Becomes limit (steps n) o outcome) 1 (two_of store) a b c lawful_a lawful_b store later u agrees reads whole
-      (changes_put tells b c lawful_b lawful_c store now later levels joined (steps n) JoinsOldest (λ o outcome rewrite. inr rewrite) (λ view levels kind. inr (inl kind))
+      (changes_put tells b c lawful_b lawful_c store now later levels joined (λ limit held. worked limit held (steps n)) (λ limit o outcome. Becomes limit (steps n) o outcome)
+      (λ held then spaced well e. work_well b.limit held then (steps n) spaced well e) JoinsOldest (λ o outcome rewrite. inr rewrite) (λ view levels kind. inr (inl kind))
       (λ told o is. two_kind tells b lawful_b store agrees_there now drained no_job merging join.joining oldest newest oldest_is has_newest part levels replaces most told o is)
       (step_switches n ended) u job puts))

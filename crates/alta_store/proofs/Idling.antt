@@ -1,5 +1,5 @@
 -- Tasks with nothing to do, and room for an entry.
-use Rattle.std.proofs.Common.{◌≡◌, inl, inr, ℕ, ◌<◌, ◌≤◌, Bool, true, false, cond, List, [], ◌∷◌, length, map, take, refl, sym, ◌∙◌, ap, subst, arith, Result, Ok}
+use Rattle.std.proofs.Common.{◌≡◌, inl, inr, ℕ, ◌<◌, Bool, true, false, cond, List, [], ◌∷◌, length, map, take, refl, sym, ◌∙◌, ap, subst, arith, Result, Ok}
 use Rattle.std.specs.Prelude.{◌==◌, ◌&&◌, nat_le, Option, None, Some}
 use Rattle.std.proofs.lemmas.Bool.{false≢true}
 use Rattle.std.proofs.lemmas.List.{length-map}
@@ -12,24 +12,23 @@ use Rattle.alta_images.specs.Levels.{Level}
 use Rattle.alta_images.specs.Opened.{Opened, IsOpened}
 use Rattle.alta_images.specs.Standing.{tables_by}
 use Rattle.alta_images.specs.Views.{View}
-use Rattle.alta_images.specs.Work.{Job, begun, enters, fits, flushes, is_merged, job_of, merges, steps}
-use Rattle.alta_images.specs.Working.{flushed, moved}
+use Rattle.alta_images.specs.Work.{Job, begun, enters, flushes, is_merged, job_of, merges, steps}
+use Rattle.alta_images.specs.Working.{moved, written}
 use Rattle.alta_images.proofs.KeptStates.{by_entries}
 use Rattle.alta_images.proofs.Tests.{by_test, equal_from, equal_test}
 use Rattle.alta_images.proofs.WellLaws.{by_merged}
 use Rattle.alta_journal.specs.Places.{start_of}
-use Rattle.alta_journal.specs.Record.{body_of}
 use Rattle.alta_journal.specs.declared.entry.Entry.{Entry}
 use Rattle.alta_memlevel.specs.Added.{Added}
 use Rattle.alta_merge.specs.Merging.{Merging}
-use Rattle.alta_store.specs.Agreement.{Agrees, Has, HasNoEntry, IsJobIn, Keeps, MayGoOn, levels_of, room_of}
-use Rattle.alta_store.specs.Calls.{Changes, GetsRoom, MakesRoom, NoRefusal, Obeys, flush_joins, has_live, is_one, joined_by, merge_joins, step_joins, unless_read}
+use Rattle.alta_store.specs.Agreement.{Agrees, Has, HasNoEntry, IsJobIn, Keeps, MayGoOn, levels_of}
+use Rattle.alta_store.specs.Calls.{Changes, GetsRoom, MakesRoom, NoRefusal, Obeys, Writes, flush_joins, has_live, is_one, joined_by, lacks_room, merge_joins, needs_room, step_joins, unless_read}
 use Rattle.alta_store.specs.declared.fault.StoreFault.{StoreFault}
 use Rattle.alta_store.specs.declared.store.Store.{Store}
 use Rattle.alta_store.proofs.Agreements.{kept}
 use Rattle.alta_store.proofs.Changing.{changes_as, changes_idle}
 use Rattle.alta_store.proofs.Holdings.{levels_held}
-use Rattle.alta_store.proofs.Room.{fits_room, le_false, le_true, none_kept, some_kept}
+use Rattle.alta_store.proofs.Room.{le_false, none_kept, room_kept, some_kept}
 use Rattle.alta_table.specs.Tables.{Tables}
 
 pub and_false : (b : Bool) → (b && false) ≡ false
@@ -125,38 +124,40 @@ module _ (tells : Type 0) (a : DiskState) (lawful : IsLawful tells a) (store : S
       (λ held told has. ap (moved a.limit held n) (no_job few told held has))
       (λ o told is. (inl refl, kept store a.content (agrees.content told) o is))
 
+  -- ---- a switch of the root
+
+  -- one of a journal that has an entry is a flush
+  pub flush_written : {T : Type 0} (b : DiskState) (later : Store) → (HasNoEntry store → ⊥) → (result : Result T StoreFault) → Writes tells a b store later result
+      → Obeys tells flushes (λ s. s) NoRefusal a b store later result
+  flush_written b later some result writes =
+      changes_as tells _ _ _ _ (λ s. s) NoRefusal NoRefusal 1 (flush_joins store) a b store later result
+      (λ held told has. sym (ap (by_entries a.limit held) (no_some some told held has.is)))
+      (λ o outcome told is turned. inr turned) (λ e refused. refused) writes
+
   -- ---- room
 
+  -- what is held has room for an entry where the store has
+  room_held : (told : tells) (held : Holding) → IsHeld held a.content → (entry : Entry) → lacks_room held.view.version held.view.entries entry ≡ needs_room store entry
+  room_held told held has entry =
+      ap (λ (view : View). lacks_room view.version view.entries entry) has.view_is ∙ room_kept store has.opened a.content (kept store a.content (agrees.content told) has.opened has.is) has.is entry
+
   -- room that is there
-  pub room_idle : (entry : Entry) → length (body_of entry) ≤ room_of store → (u : Unit {0}) → MakesRoom tells entry a a store store (Ok u)
-  room_idle entry fits_in u =
-      changes_idle tells _ _ 1 (joined_by store (enters entry)) a store u lawful agrees (λ told. ap (λ (b : Bool). cond b [] (flush_joins store)) there)
-      (λ held told has. ap (λ (x : Bool). cond x (Ok held) (flushed a.limit held)) (ap (λ (view : View). fits view.entries entry) has.is.view_is ∙ fits_there told has.is.opened has.is.is))
-      (λ o told is. (inl (fits_there told o is, refl), kept store a.content (agrees.content told) o is))
-    where
-      there : nat_le (length (body_of entry)) (room_of store) ≡ true
-      there = le_true (length (body_of entry)) (room_of store) fits_in
+  pub room_idle : (entry : Entry) → needs_room store entry ≡ false → (u : Unit {0}) → MakesRoom tells entry a a store store (Ok u)
+  room_idle entry room u =
+      changes_idle tells _ _ 1 (joined_by store (enters entry)) a store u lawful agrees (λ told. ap (λ (b : Bool). cond b (flush_joins store) []) room)
+      (λ held told has. ap (λ (b : Bool). cond b (written a.limit held) (Ok held)) (room_held told held has.is entry ∙ room))
+      (λ o told is. let keeps = kept store a.content (agrees.content told) o is in (inl (room_kept store o a.content keeps is entry ∙ room, refl), keeps))
 
-      fits_there : (told : tells) (o : Opened) → IsOpened o a.content → fits o.entries entry ≡ true
-      fits_there told o is = fits_room store o a.content (kept store a.content (agrees.content told) o is) is entry ∙ there
-
-  -- room that a flush makes
-  pub room_made : {T : Type 0} (b : DiskState) (later : Store) (entry : Entry) → room_of store < length (body_of entry) → (result : Result T StoreFault)
-      → Obeys tells flushes (λ s. s) NoRefusal a b store later result → MakesRoom tells entry a b store later result
-  room_made b later entry short result obeys =
-      subst (λ (joins : List Tables). Makes joins) (sym (ap (λ (x : Bool). cond x [] (flush_joins store)) wanting))
+  -- room that a switch makes
+  pub room_made : {T : Type 0} (b : DiskState) (later : Store) (entry : Entry) → needs_room store entry ≡ true → (result : Result T StoreFault)
+      → Writes tells a b store later result → MakesRoom tells entry a b store later result
+  room_made b later entry wanting result writes =
+      subst (λ (joins : List Tables). Makes joins) (sym (ap (λ (x : Bool). cond x (flush_joins store) []) wanting))
       (changes_as tells _ _ _ _ (λ s. s) NoRefusal NoRefusal 1 (flush_joins store) a b store later result
-      (λ held told has.
-      sym (ap (λ (x : Bool). cond x (Ok held) (flushed a.limit held)) (ap (λ (view : View). fits view.entries entry) has.is.view_is ∙ fits_not told has.is.opened has.is.is)))
-      (λ o outcome told is turned. inr (fits_not told o is, turned)) (λ e refused. refused) obeys)
+      (λ held told has. sym (ap (λ (x : Bool). cond x (written a.limit held) (Ok held)) (room_held told held has.is entry ∙ wanting)))
+      (λ o outcome told is turned. inr (room_kept store o a.content (kept store a.content (agrees.content told) o is) is entry ∙ wanting, turned)) (λ e refused. refused) writes)
     where
-      wanting : nat_le (length (body_of entry)) (room_of store) ≡ false
-      wanting = le_false (length (body_of entry)) (room_of store) short
-
-      fits_not : (told : tells) (o : Opened) → IsOpened o a.content → fits o.entries entry ≡ false
-      fits_not told o is = fits_room store o a.content (kept store a.content (agrees.content told) o is) is entry ∙ wanting
-
       Makes : List Tables → Type 0
       Makes joins =
-          Changes tells (λ limit held. cond (fits held.view.entries entry) (Ok held) (flushed limit held))
+          Changes tells (λ limit held. cond (lacks_room held.view.version held.view.entries entry) (written limit held) (Ok held))
           (λ limit o outcome. GetsRoom limit entry o outcome) (λ s. s) NoRefusal 1 joins a b store later result

@@ -60,11 +60,11 @@ placed_below place limit (entry ∷ entries) fits zero d inside = omega (arith, 
 placed_below place limit (entry ∷ entries) fits (suc k) d inside =
     placed_below (place + length (record_of entry)) limit entries (omega (arith, fits, length-append (record_of entry) (flat_map record_of entries))) k d (omega (arith, inside))
 
-pub small_places : (slot : Slot) (found : List Placed) (tail : ℕ) (content : List ℕ) → IsReplay (journal_of slot) found tail content → All (λ p. p.place < 4294967296) found
-small_places slot found tail content (entries, is, ends) =
+pub small_places : (version : ℕ) (slot : Slot) (found : List Placed) (tail : ℕ) (content : List ℕ) → IsReplay version (journal_of slot) found tail content → All (λ p. p.place < 4294967296) found
+small_places version slot found tail content (entries, is, ends) =
     let start = journal_of slot in
     let far = journal_fits slot in
-    let inside = ends_inside start tail entries content far ends in
+    let inside = ends_inside version start tail entries content far ends in
     let bytes : length (flat_map record_of entries) ≤ HALF_BYTES =
     omega (arith, ap length ends.begins.records, length-take-le (tail - start) (half_at start content) (omega (arith, ends.begins.gate)), inside, ends.starts) in
     subst (λ (xs : List Placed). All (λ p. p.place < 4294967296) xs) (sym is)
@@ -85,7 +85,7 @@ module _ (content : List ℕ) (slot : Slot) (root : Root) (deleted : List ℕ) (
   replays : (s : State) → MayStart s root deleted levels → (found : List Placed) (r : Result Known ℕ) → replayed (known_of s) found ≡ r → replayed (known_at root deleted levels) found ≡ r
   replays s starts found r is = ap (λ (k : Known). replayed k found) (sym (start_known root deleted levels s starts)) ∙ is
 
-  pub loads : (store : Store) (found : List Placed) → store.slot ≡ slot → store.root ≡ root → store.listed.items ≡ deleted → Follows store.catalog root (entries_in found) → store.tail.half ≡ half_of slot → levels_of store ≡ levels → map extent_of levels ≡ root.levels.items → IsReplay (journal_of slot) found store.tail.place content
+  pub loads : (store : Store) (found : List Placed) → store.slot ≡ slot → store.root ≡ root → store.listed.items ≡ deleted → Follows store.catalog root (entries_in found) → store.tail.half ≡ half_of slot → levels_of store ≡ levels → map extent_of levels ≡ root.levels.items → IsReplay root.version (journal_of slot) found store.tail.place content
       → KnowsAll store.catalog root levels found deleted → KeepsOpened store content
   loads store found slot_is root_is listed follows half levels_are extents (entries, is, ends) applied =
       let same : entries_in found ≡ entries = ap entries_in is ∙ entries_in-placed (journal_of slot) entries in
@@ -117,10 +117,10 @@ module _ (content : List ℕ) (slot : Slot) (root : Root) (deleted : List ℕ) (
         };
       }
 
-  pub damaged_record : (place : ℕ) → HasBrokenHalf (journal_of slot) place content → IsBrokenAt content place
+  pub damaged_record : (place : ℕ) → HasBrokenHalf root.version (journal_of slot) place content → IsBrokenAt content place
   damaged_record place broken = in_records slot root deleted levels place has ends_there broken
 
-  pub refused_entry : (found : List Placed) (place tail : ℕ) → IsReplay (journal_of slot) found tail content → (s : State) → MayStart s root deleted levels → IsRefusedAt s found place → IsBrokenAt content place
+  pub refused_entry : (found : List Placed) (place tail : ℕ) → IsReplay root.version (journal_of slot) found tail content → (s : State) → MayStart s root deleted levels → IsRefusedAt s found place → IsBrokenAt content place
   refused_entry found place tail (entries, is, ends) s starts refused =
       in_entries slot root deleted levels entries tail place has ends_there ends
       (replays s starts (placed (journal_of slot) entries) (Err place) (subst (λ (ps : List Placed). replayed (known_of s) ps ≡ Err place) is (refused_is s found place refused)))

@@ -7,6 +7,7 @@ use Rattle.alta_images.specs.Known.{Known, Named, admits, known_of, replayed}
 use Rattle.alta_images.specs.Opened.{Opened, IsOpened, journal_of, known_at, live_in}
 use Rattle.alta_images.specs.Switching.{MayAppend}
 use Rattle.alta_images.proofs.KnownLaws.{admitted_from, allows_replayed}
+use Rattle.alta_journal.specs.Entry.{MayBeRecorded}
 use Rattle.alta_journal.specs.Placed.{placed}
 use Rattle.alta_journal.specs.Record.{body_of}
 use Rattle.alta_journal.specs.declared.entry.Entry.{Entry}
@@ -28,10 +29,11 @@ speaks o image is s may =
     (ap (λ (k : Known). replayed k (placed (journal_of o.slot) o.entries)) (start_known o.root o.deleted o.levels may.start may.starts) ∙ is.named.admitted) in
     (replays.0, replays.1 ∙ ap known_of (sym may.state_is))
 
--- an entry that the state allows may be appended where it fits
-pub may_append : (o : Opened) (image : List ℕ) (is : IsOpened o image) (s : State) → MayBe s o → (entry : Entry) → Allows s entry
+-- an entry that the state allows, and the root's version, may be appended where it fits
+pub may_append : (o : Opened) (image : List ℕ) (is : IsOpened o image) (s : State) → MayBe s o → (entry : Entry) → Allows s entry → MayBeRecorded o.root.version entry
     → o.tail + (1 + length (body_of entry)) ≤ journal_of o.slot + HALF_BYTES → MayAppend entry o is.named.known
-may_append o image is s may entry allowed fits = record {
+may_append o image is s may entry allowed recorded fits = record {
   admitted = subst (λ (k : Known). admits k entry ≡ true) (sym (speaks o image is s may).1) (admitted_from s entry allowed);
+  recorded = recorded;
   fits = fits;
 }

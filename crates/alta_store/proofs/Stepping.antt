@@ -256,7 +256,7 @@ module _ (tells : Type 0) (a b c : DiskState) (lawful_a : IsLawful tells a) (law
   abbrev pub all_put : MayPut tells b store now levels
   all_put = all_may tells b lawful_b store agrees_there now drained no_job oldest newest has_newest part no_part rows_are levels replaces merged_there
 
-  merge_switches : is_one store ≡ false → (held : Holding) → tells → Has store held b.content → Switches b.limit merges now levels held
+  merge_switches : is_one store ≡ false → (held : Holding) → tells → Has store held b.content → Switches b.limit (λ limit held. worked limit held merges) now levels held
   merge_switches some held told has =
       let all = all_held tells b lawful_b store agrees_there now drained no_job oldest newest has_newest part no_part rows_are levels replaces merged_there told held has.is in
       record {
@@ -270,5 +270,5 @@ module _ (tells : Type 0) (a b c : DiskState) (lawful_a : IsLawful tells a) (law
   merge_put some later u job puts =
       subst (λ (joins : List Tables). ObeysOver tells merges joins a c store later u) (sym (ap (λ (x : Bool). cond x [] (levels_of store)) some))
       (changes_read tells (λ limit held. worked limit held merges) (λ limit o outcome. Becomes limit merges o outcome) 1 (levels_of store) a b c lawful_a lawful_b store later u agrees reads whole
-      (changes_put tells b c lawful_b lawful_c store now later levels all_put merges JoinsAll (λ o outcome rewrite. inr rewrite) (λ view levels kind. inr (inr kind))
+      (changes_put tells b c lawful_b lawful_c store now later levels all_put (λ limit held. worked limit held merges) (λ limit o outcome. Becomes limit merges o outcome) (λ held then spaced well e. work_well b.limit held then merges spaced well e) JoinsAll (λ o outcome rewrite. inr rewrite) (λ view levels kind. inr (inr kind))
       (λ told o is. all_kind_put tells b lawful_b store agrees_there now drained no_job oldest newest has_newest part no_part rows_are levels replaces merged_there told o is) (merge_switches some) u job puts))

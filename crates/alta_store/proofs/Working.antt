@@ -6,13 +6,12 @@ use Rattle.alta_content.specs.declared.content.Content.{Content}
 use Rattle.alta_disk.specs.Calls.{Reads}
 use Rattle.alta_disk.specs.Disk.{DiskState, IsLawful, LeavesOnly, Passes, Same}
 use Rattle.alta_disk.proofs.Moments.{leaves_as, leaves_from, leaves_now, leaves_then, only_same}
-use Rattle.alta_images.specs.Holding.{Holding}
+use Rattle.alta_images.specs.Holding.{Holding, IsSpaced, IsWell}
 use Rattle.alta_images.specs.Opened.{Opened, IsOpened}
 use Rattle.alta_images.specs.Standing.{StandsFor, StandsForEither, view_of}
 use Rattle.alta_images.specs.Views.{View, state_of}
-use Rattle.alta_images.specs.Work.{Job, Task}
-use Rattle.alta_images.specs.Working.{Full, switched, worked}
-use Rattle.alta_images.proofs.WellLaws.{work_well}
+use Rattle.alta_images.specs.Work.{Job}
+use Rattle.alta_images.specs.Working.{Full, switched}
 use Rattle.alta_joins.specs.Contents.{AreSegmentsOn, data_size}
 use Rattle.alta_joins.specs.Damages.{IsFirstDamage}
 use Rattle.alta_joins.proofs.KeptLaws.{held_is_spaced}
@@ -22,7 +21,7 @@ use Rattle.alta_rewrite.specs.Rewrites.{levels_to_come}
 use Rattle.alta_rewrite.specs.declared.levels.NextLevels.{NextLevels}
 use Rattle.alta_store.specs.Agreement.{Agrees, GoesOnOver, Has, KeepsOpened, IsJobIn, Keeps, levels_of}
 use Rattle.alta_catalog.specs.Knowing.{gone_of}
-use Rattle.alta_store.specs.Calls.{Becomes, Changes, IsNarrow, IsRewrite, IsWork, NoRefusal}
+use Rattle.alta_store.specs.Calls.{Changes, IsNarrow, IsRewrite, IsWork, NoRefusal}
 use Rattle.alta_store.specs.Putting.{IsGivenBy, IsPut, MayPut, Puts, ReadsLevels}
 use Rattle.alta_store.specs.declared.fault.StoreFault.{StoreFault}
 use Rattle.alta_store.specs.declared.fault.StoreFault.TheVariants as faults
@@ -43,18 +42,19 @@ leaves_if tells a b P lawful passes leaves = record {
 
 -- ---- levels put in place of others
 
--- What a task asks of what is held: that it switches the root to these levels, and which join goes on then.
-pub record Switches (limit : ℕ) (task : Task) (now : Store) (levels : NextLevels) (held : Holding) : Type 0 where
+-- What work asks of what is held: that it switches the root to these levels, and which join goes on then.
+pub record Switches (limit : ℕ) (work : Work) (now : Store) (levels : NextLevels) (held : Holding) : Type 0 where
   pub job : Option Job
-  pub is : worked limit held task ≡ switched limit held (levels_to_come levels held.view) job
+  pub is : work limit held ≡ switched limit held (levels_to_come levels held.view) job
   pub given : IsGivenBy held.view levels
   pub goes : (then : Holding) → switched limit held (levels_to_come levels held.view) job ≡ Ok then → IsJobIn now.job then.job
 
-module _ (tells : Type 0) (a b : DiskState) (lawful_a : IsLawful tells a) (lawful_b : IsLawful tells b) (store now later : Store) (levels : NextLevels) (may : MayPut tells a store now levels) (task : Task)
-    (kind : View → NextLevels → Type 0) (becomes_by : (o : Opened) (outcome : Result Opened Full) → IsRewrite a.limit kind o outcome → Becomes a.limit task o outcome)
+module _ (tells : Type 0) (a b : DiskState) (lawful_a : IsLawful tells a) (lawful_b : IsLawful tells b) (store now later : Store) (levels : NextLevels) (may : MayPut tells a store now levels) (work : Work) (turns : Turns)
+    (well : (held then : Holding) → IsSpaced held.view → IsWell held → work a.limit held ≡ Ok then → IsWell then)
+    (kind : View → NextLevels → Type 0) (becomes_by : (o : Opened) (outcome : Result Opened Full) → IsRewrite a.limit kind o outcome → turns a.limit o outcome)
     (work_is : (view : View) (levels : NextLevels) → kind view levels → IsWork view levels)
     (kind_is : (told : tells) (o : Opened) (is : IsOpened o a.content) → kind (view_of o (may.given o told is).0) levels)
-    (switches : (held : Holding) → tells → Has store held a.content → Switches a.limit task now levels held) where
+    (switches : (held : Holding) → tells → Has store held a.content → Switches a.limit work now levels held) where
   images_put : {T : Type 0} (result : Result T StoreFault) → Puts tells levels a b store later result → (s : State) → (tells → StandsFor s a.content) → LeavesOnly (StandsForEither s s) a b
   images_put result puts s stands =
       leaves_if tells a b (StandsForEither s s) lawful_a puts.passes (λ told.
@@ -87,7 +87,7 @@ module _ (tells : Type 0) (a b : DiskState) (lawful_a : IsLawful tells a) (lawfu
       narrow_rewrite a.limit kind work_is holds.opened b.content (subst (IsOpened holds.opened) (sym (puts.unwritten need gap e)) holds.is) need gap (lacks_put result puts holds.opened need gap told holds.is e)
 
   pub changes_put : (u : Result (Unit {0}) StoreFault) → OnOk u (later.job ≡ now.job) → Puts tells levels a b store later u
-      → Changes tells (λ limit held. worked limit held task) (λ limit o outcome. Becomes limit task o outcome) (λ s. s) NoRefusal 1 [] a b store later u
+      → Changes tells work turns (λ s. s) NoRefusal 1 [] a b store later u
   changes_put (Ok x) job puts = record {
     agrees = puts.agrees;
     knows = puts.knows;
@@ -99,7 +99,7 @@ module _ (tells : Type 0) (a b : DiskState) (lawful_a : IsLawful tells a) (lawfu
           record {
             is = w.2;
             job = subst (λ (m : Option Merging). IsJobIn m w.0.job) (sym job) (to.goes w.0 w.1);
-            well = work_well a.limit held w.0 task (held_is_spaced held a.content has.is) has.well (to.is ∙ w.1);
+            well = well held w.0 (held_is_spaced held a.content has.is) has.well (to.is ∙ w.1);
           },
         );
     full = λ held need gap told has e. absurd (not_ok (faults.Full need gap) e);

@@ -1,5 +1,5 @@
 -- What a call that changes a store does, in one word.
-use Rattle.std.specs.Prelude.{◌≡◌, ◌⊎◌, ◌<◌, ◌+◌, ◌==◌, ◌&&◌, ◌++◌, nat_le, ℕ, Bool, cond, true, false, List, [], ◌∷◌, length, map, take, Option, Some, None, Result, Ok, Err, OnOk, IfOk, IfErr}
+use Rattle.std.specs.Prelude.{◌≡◌, ◌⊎◌, ◌<◌, ◌+◌, ◌==◌, ◌&&◌, ◌||◌, nat_le, not, ℕ, Bool, cond, true, false, List, [], length, map, take, Option, Some, None, Result, Ok, Err, OnOk, IfOk, IfErr}
 use Rattle.std.specs.List.{sum_by}
 use Rattle.alta_catalog.specs.Knowing.{gone_of, memory_of}
 use Rattle.alta_codec.specs.Faults.{Rose}
@@ -15,9 +15,10 @@ use Rattle.alta_images.specs.Levels.{Level}
 use Rattle.alta_images.specs.Opened.{Opened, IsOpened}
 use Rattle.alta_images.specs.Standing.{StandsFor, StandsForEither, view_of}
 use Rattle.alta_images.specs.Switching.{with_entry}
+use Rattle.alta_images.specs.Entries.{after_entry}
 use Rattle.alta_images.specs.Views.{View}
-use Rattle.alta_images.specs.Work.{Task, enters, fits, flushes, gone, merges, newest_content, steps}
-use Rattle.alta_images.specs.Working.{AreFirstGaps, Full, IsJoin, all_contents, entered, flushed, worked}
+use Rattle.alta_images.specs.Work.{Task, enters, fits, flushes, gone, merges, needs_raise, newest_content, steps}
+use Rattle.alta_images.specs.Working.{AreFirstGaps, Full, IsJoin, all_contents, entered, worked, written}
 use Rattle.alta_joins.specs.Contents.{data_size}
 use Rattle.alta_joins.specs.Damages.{IsFirstDamage}
 use Rattle.alta_journal.specs.Places.{start_of}
@@ -38,6 +39,16 @@ use Rattle.alta_store.specs.declared.fault.StoreFault.TheVariants as faults
 use Rattle.alta_store.specs.declared.store.Store.{Store}
 use Rattle.alta_table.specs.Tables.{Tables}
 use Rattle.alta_content.specs.Joining.{joined_in}
+
+-- ---- which entries find the root switched before them
+
+-- The journal has no room for an entry: the root's version can't have its record, or the record does not fit behind those that are there.
+abbrev pub needs_room : Store → Entry → Bool
+needs_room store entry = needs_raise store.root.version entry || not (nat_le (length (body_of entry)) (room_of store))
+
+-- the same of what is opened, and of a view
+abbrev pub lacks_room : ℕ → List Entry → Entry → Bool
+lacks_room version entries entry = needs_raise version entry || not (fits entries entry)
 
 -- ---- which levels a task reads and joins
 
@@ -66,8 +77,9 @@ merge_joins store = cond (is_one store) [] (levels_of store)
 abbrev pub step_joins : Store → List Tables
 step_joins store = cond (nat_le 2 (length (levels_of store))) (unless_read store.job (take 2 (levels_of store))) []
 
+-- those of a task: an entry that finds no room reads those of a flush
 abbrev pub joined_by : Store → Task → List Tables
-joined_by store (enters entry) = cond (nat_le (length (body_of entry)) (room_of store)) [] (flush_joins store)
+joined_by store (enters entry) = cond (needs_room store entry) (flush_joins store) []
 joined_by store flushes = flush_joins store
 joined_by store merges = merge_joins store
 joined_by store (steps n) = step_joins store
@@ -122,9 +134,11 @@ BecomesMerged limit o outcome = (((nat_le (length o.levels) 1 && length o.delete
 abbrev pub BecomesStepped : ℕ → Opened → Result Opened Full → Type 0
 BecomesStepped limit o outcome = (outcome ≡ Ok o) ⊎ IsRewrite limit JoinsOldest o outcome
 
--- with room for an entry: as before where it fits, else behind a flush
+-- With room for an entry: as before where there is room, or else with the newest documents in a level and an empty journal, under a root of
+-- the last version.
 abbrev pub GetsRoom : ℕ → Entry → Opened → Result Opened Full → Type 0
-GetsRoom limit entry o outcome = ((fits o.entries entry ≡ true) × (outcome ≡ Ok o)) ⊎ ((fits o.entries entry ≡ false) × BecomesFlushed limit o outcome)
+GetsRoom limit entry o outcome =
+    ((lacks_room o.root.version o.entries entry ≡ false) × (outcome ≡ Ok o)) ⊎ ((lacks_room o.root.version o.entries entry ≡ true) × IsRewrite limit Flushes o outcome)
 
 -- with an entry more
 abbrev pub BecomesEntered : ℕ → Entry → Opened → Result Opened Full → Type 0
@@ -202,11 +216,24 @@ abbrev pub Obeys : {T : Type 0} → Type 0 → Task → (State → State) → (S
 Obeys tells task step refuses before after store later result =
     Changes tells (λ limit held. worked limit held task) (λ limit o outcome. Becomes limit task o outcome) step refuses 1 (joined_by store task) before after store later result
 
--- a call that makes room for an entry, by a flush where its record does not fit
+-- a call that makes the live newest documents a level and switches the root, also with an empty journal
+abbrev pub Writes : {T : Type 0} → Type 0 → DiskState → DiskState → Store → Store → Result T StoreFault → Type 0
+Writes tells before after store later result =
+    Changes tells written (λ limit o outcome. IsRewrite limit Flushes o outcome) (λ s. s) NoRefusal 1 (flush_joins store) before after store later result
+
+-- a call that makes room for an entry, by a switch of the root where there is none
 abbrev pub MakesRoom : {T : Type 0} → Type 0 → Entry → DiskState → DiskState → Store → Store → Result T StoreFault → Type 0
 MakesRoom tells entry before after store later result =
-    Changes tells (λ limit held. cond (fits held.view.entries entry) (Ok held) (flushed limit held))
+    Changes tells (λ limit held. cond (lacks_room held.view.version held.view.entries entry) (written limit held) (Ok held))
     (λ limit o outcome. GetsRoom limit entry o outcome) (λ s. s) NoRefusal 1 (joined_by store (enters entry)) before after store later result
+
+-- the step that an entry makes of each state that a store knows
+abbrev pub IsStepOf : Entry → (State → State) → Store → Type 0
+IsStepOf entry step store = (s : State) → Knows store s → after_entry s entry ≡ step s
+
+-- and of each that a later store knows, which knows one of the states of this one
+abbrev pub IsStepFrom : Entry → (State → State) → Store → Type 0
+IsStepFrom entry step store = (later : Store) (s : State) → Knows store s → Knows later s → IsStepOf entry step later
 
 -- a call that appends an entry
 abbrev pub Enters : {T : Type 0} → Type 0 → Entry → (State → State) → DiskState → DiskState → Store → Store → Result T StoreFault → Type 0
@@ -216,3 +243,7 @@ Enters tells entry step before after store later result =
 -- the name is taken, or no number is left
 abbrev pub RefusesAdd : StoreFault → Type 0
 RefusesAdd fault = (fault ≡ faults.Taken) ⊎ (fault ≡ faults.Numbers)
+
+-- no live document has the name, or no number is left
+abbrev pub RefusesReplace : StoreFault → Type 0
+RefusesReplace fault = (fault ≡ faults.Missing) ⊎ (fault ≡ faults.Numbers)

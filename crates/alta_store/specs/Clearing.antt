@@ -2,6 +2,7 @@
 use Rattle.std.specs.Prelude.{◌≡◌, ℕ, ◌≤◌, ◌-◌, List, [], ◌∷◌, ◌++◌, length, take, replicate}
 use Rattle.std.specs.List.{All}
 use Rattle.alta_journal.specs.declared.places.TheConstants.{GATE_OPEN, HEAD_BYTES}
+use Rattle.alta_root.specs.declared.places.TheConstants.{VERSION}
 
 -- these bytes are zero
 abbrev pub AreZero : List ℕ → Type 0
@@ -14,7 +15,7 @@ pub record IsClear (n : ℕ) (image : List ℕ) : Type 0 where
 
 -- the fields behind the gate of a root without documents
 abbrev pub empty_fields : List ℕ
-empty_fields = 1 ∷ 0 ∷ 0 ∷ 0 ∷ 0 ∷ 0 ∷ 0 ∷ 0 ∷ 0 ∷ 0 ∷ 0 ∷ 0 ∷ 0 ∷ 0 ∷ 1 ∷ 0 ∷ 0 ∷ 0 ∷ 0 ∷ 0 ∷ 0 ∷ 0 ∷ 1 ∷ 0 ∷ 0 ∷ 0 ∷ 0 ∷ 0 ∷ 0 ∷ 0 ∷ 0 ∷ 0 ∷ 0 ∷ 0 ∷ 0 ∷ 0 ∷ 0 ∷ 0 ∷ 0 ∷ []
+empty_fields = VERSION ∷ 0 ∷ 0 ∷ 0 ∷ 0 ∷ 0 ∷ 0 ∷ 0 ∷ 0 ∷ 0 ∷ 0 ∷ 0 ∷ 0 ∷ 0 ∷ 1 ∷ 0 ∷ 0 ∷ 0 ∷ 0 ∷ 0 ∷ 0 ∷ 0 ∷ 1 ∷ 0 ∷ 0 ∷ 0 ∷ 0 ∷ 0 ∷ 0 ∷ 0 ∷ 0 ∷ 0 ∷ 0 ∷ 0 ∷ 0 ∷ 0 ∷ 0 ∷ 0 ∷ 0 ∷ []
 
 -- the head of a disk without documents: an open gate and these fields, and zeros to the end of the journal
 unfoldable pub empty_head : List ℕ

@@ -13,12 +13,13 @@ ghost use Rattle.alta_images.specs.States.{empty};
 use alta_codec::Failed;
 use alta_disk::{Disk, write_synced};
 use alta_journal::{GATE_OPEN, HEAD_BYTES};
+use alta_root::VERSION;
 
-/// The fields behind the gate of a root without documents: version 1, sequence 0, no levels, next number 1, next
+/// The fields behind the gate of a root without documents: the last version, sequence 0, no levels, next number 1, next
 /// location 1, no deletion list.
 const EMPTY_FIELDS: [u8; 39] = [
-    1, 0, 0, 0, 0, 0, 0, 0, 0, 0, 0, 0, 0, 0, 1, 0, 0, 0, 0, 0, 0, 0, 1, 0, 0, 0, 0, 0, 0, 0, 0, 0,
-    0, 0, 0, 0, 0, 0, 0,
+    VERSION, 0, 0, 0, 0, 0, 0, 0, 0, 0, 0, 0, 0, 0, 1, 0, 0, 0, 0, 0, 0, 0, 1, 0, 0, 0, 0, 0, 0, 0,
+    0, 0, 0, 0, 0, 0, 0, 0, 0,
 ];
 
 /// Writes an index without documents over what the disk holds: zeros over both slots and both halves of the journal, then

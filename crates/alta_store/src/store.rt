@@ -10,18 +10,18 @@ ghost use Rattle.alta_content.specs.Parts.{IsPart};
 ghost use Rattle.alta_content.specs.Rows.{AreDocuments};
 ghost use Rattle.alta_disk.specs.Disk.{DiskState, Same, Only, Passes};
 ghost use Rattle.alta_images.specs.Broken.{IsBrokenAt};
-ghost use Rattle.alta_images.specs.Entries.{AllowsAll, IsRefusedAt, after_entries, entries_in};
+ghost use Rattle.alta_images.specs.Entries.{Allows, AllowsAll, IsRefusedAt, after_entries, entries_in};
 ghost use Rattle.alta_images.specs.Opened.{Opened, IsOpened, half_of, have_ends, journal_of, known_at, live_in, table_rows};
 ghost use Rattle.alta_images.specs.Ordered.{AreBelow, IsOrdered};
-ghost use Rattle.alta_images.specs.States.{has_name, has_number, number_of, words_in, with_added, with_deleted, without, IsDocument};
+ghost use Rattle.alta_images.specs.States.{has_name, has_number, number_of, words_in, with_added, with_deleted, with_replaced, IsDocument};
 ghost use Rattle.alta_images.specs.Work.{enters, flushes, merges, steps};
 ghost use Rattle.alta_joins.specs.Contents.{StandsOn};
 ghost use Rattle.alta_joins.specs.Jobs.{AreJoinedOn, IsBegun, IsJoining};
-ghost use Rattle.alta_journal.specs.Entry.{MayBeRecorded};
+ghost use Rattle.alta_journal.specs.Entry.{IsTyped, KeepsRules, MayBeRecorded};
 ghost use Rattle.alta_journal.specs.Places.{left_behind, start_of};
 ghost use Rattle.alta_journal.specs.Record.{body_of};
 ghost use Rattle.alta_journal.specs.declared.entry.Entry.{Entry};
-ghost use Rattle.alta_journal.specs.declared.entry.Entry.TheVariants.{Add, Delete};
+ghost use Rattle.alta_journal.specs.declared.entry.Entry.TheVariants.{Add, Delete, Replace};
 ghost use Rattle.alta_journal.specs.declared.places.TheConstants.{HALF_BYTES, HEAD_BYTES};
 ghost use Rattle.alta_memlevel.specs.Added.{Added, HasContent, live_of};
 ghost use Rattle.alta_memlevel.specs.Documents.{AreMade, content_of};
@@ -31,11 +31,12 @@ ghost use Rattle.alta_opening.specs.Costs.{named_bytes};
 ghost use Rattle.alta_rewrite.specs.Rewrites.{no_content};
 ghost use Rattle.alta_root.specs.Root.{IsSound};
 ghost use Rattle.alta_root.specs.Slots.{Counts, HasNoRoot};
+ghost use Rattle.alta_root.specs.declared.places.TheConstants.{VERSION};
 ghost use Rattle.alta_root.specs.declared.root.Root.{Root};
 ghost use Rattle.alta_root.specs.declared.slot.Slot.{Slot};
 ghost use Rattle.alta_store.specs.Agreement.{Agrees, HasNoEntry, KeepsOpened, IsIntact, Keeps, is_sound, room_of};
 ghost use Rattle.alta_store.specs.Answers.{IsOutside, AnswersFault};
-ghost use Rattle.alta_store.specs.Calls.{Enters, MakesRoom, NoRefusal, Obeys, RefusesAdd, is_one, unless_read};
+ghost use Rattle.alta_store.specs.Calls.{Enters, IsStepFrom, IsStepOf, MakesRoom, NoRefusal, Obeys, RefusesAdd, RefusesReplace, Writes, is_one, needs_room, unless_read};
 ghost use Rattle.alta_store.specs.Opening.{Opens};
 ghost use Rattle.alta_store.specs.Putting.{IsDrained, MayPut, Puts, ReadsLevels};
 ghost use Rattle.alta_store.specs.Searched.{IsSearched};
@@ -45,13 +46,13 @@ use crate::StoreFault;
 use crate::fault::{
     catalog_fault, join_fault, levels_fault, opening_fault, rewrite_fault, root_fault,
 };
-use alta_catalog::{Catalog, CatalogFault, Names, apply_entries, what_is_gone};
+use alta_catalog::{Catalog, CatalogFault, Names, apply_entries, apply_entry, what_is_gone};
 use alta_codec::{Loc, Text};
 use alta_content::{Content, DocRows, TermLists};
 use alta_disk::Disk;
 use alta_joins::{Job, begin_oldest, finish_job, merge_levels, run_job, step_job};
 use alta_journal::{
-    Entry, HALF_BYTES, Half, JournalFault, Placed, Ready, Tail, append, ready, replay,
+    Entry, HALF_BYTES, Half, JournalFault, Placed, Ready, Tail, append, is_old, ready, replay,
 };
 use alta_memlevel::{MemLevel, drained_documents_are_kept};
 use alta_opening::{OpenLevels, open_levels};
@@ -61,11 +62,6 @@ use alta_rows::AllRows;
 use alta_table::Table;
 use std::alloc::{AllocError, Global};
 use std::collections::BTreeMap;
-
-// How many bytes the record of a document without name, title and body takes behind its gate, and that of a deletion.
-const ADD_BYTES: u64 = 15;
-
-const DELETE_BYTES: u64 = 14;
 
 // How many levels a root has at most.
 const LEVELS: usize = 16;
@@ -174,15 +170,16 @@ impl Store {
         load(alloc, disk)
     }
 
-    /// Adds a document, by one record in the journal, and answers its number. Where the record does not fit in the journal, a flush
-    /// comes first, as [`flush`](Store::flush). The title has no tab, title and body have no newline. While it runs, each image that a
-    /// stop may leave stands for the state before or after; once it has answered, each stands for the state after.
+    /// Adds a document, by one record in the journal, and answers its number. Where the root's version can't have the record, a root of the
+    /// last version comes first, with the newest documents in a level, and where the record does not fit in the journal, a
+    /// [`flush`](Store::flush). The title has no tab, title and body have no newline. While it runs, each image that a stop may leave
+    /// stands for the state before or after; once it has answered, each stands for the state after.
     ///
     /// # Errors
     ///
     /// `Taken` exactly where a live document has the name, else `Numbers` exactly where no number is left; then nothing was
-    /// called and nothing has changed. `Full` and `Damaged` where a flush comes first, as [`flush`](Store::flush) answers them, `Disk` where
-    /// a call of the disk failed, and `Memory`: then the store may no longer be used.
+    /// called and nothing has changed. `Full` and `Damaged` where the root is switched first, as [`flush`](Store::flush) answers them,
+    /// `Disk` where a call of the disk failed, and `Memory`: then the store may no longer be used.
     pub fn add<D: Disk>(
         &mut self,
         disk: &mut D,
@@ -209,20 +206,21 @@ impl Store {
         if !self.catalog.has_room() {
             return Err(StoreFault::Numbers);
         }
-        match self.enter(disk, name, title, body) {
-            Ok(number) => Ok(number),
+        let (_, _, number) = self.catalog.counts();
+        match self.enter_add(disk, name, title, body) {
+            Ok(()) => Ok(number),
             Err(fault) => Err(self.failed(fault)),
         }
     }
 
-    // Adds a document whose name is free and for which a number is left, behind a flush where its record does not fit.
-    fn enter<D: Disk>(
+    // Adds a document whose name is free and for which a number is left.
+    fn enter_add<D: Disk>(
         &mut self,
         disk: &mut D,
         name: &str,
         title: &str,
         body: &str,
-    ) -> Result<u64, StoreFault>
+    ) -> Result<(), StoreFault>
         requires document { IsDocument name.now title.now body.now }
         requires agrees { Agrees D.tells (D.state disk.old) self.old }
         requires free { (s : State) → Knows self.old s → has_name name.now s ≡ false }
@@ -230,46 +228,79 @@ impl Store {
         requires limit { HEAD_BYTES ≤ (D.state disk.old).limit }
 
         ensures obeys { Obeys D.tells (enters (Add name.now title.now body.now)) (with_added name.now title.now body.now) NoRefusal (D.state disk.old) (D.state disk.new) self.old self.new result }
-        ensures number { (s : State) → Knows self.old s → IfOk result (λ n. n ≡ s.next) }
         ensures sound { OnOk result (is_sound self.new ≡ is_sound self.old) }
     {
-        match self.make_room(disk, bytes_of_add(name, title, body)) {
-            Ok(()) => self.commit(disk, name, title, body),
-            Err(fault) => Err(fault),
+        match entry_of_add(self.alloc, name, title, body) {
+            Ok(entry) => self.enter(disk, &entry),
+            Err(_) => Err(StoreFault::Memory),
         }
     }
 
-    // Adds a document whose name is free and for which a number is left, and whose record fits. All memory is taken before the first
-    // write.
-    fn commit<D: Disk>(
+    /// Puts a document in place of the live one with its name, by one record in the journal, and answers the number of that one and its own.
+    /// A root of the last version, and a [`flush`](Store::flush), come first where they do at [`add`](Store::add). The title has no tab,
+    /// title and body have no newline. While it runs, each image that a stop may leave stands for the state before or after, never
+    /// for one with both documents or with neither; once it has answered, each stands for the state after.
+    ///
+    /// # Errors
+    ///
+    /// `Missing` exactly where no live document has the name, else `Numbers` exactly where no number is left; then nothing was
+    /// called and nothing has changed. `Full` and `Damaged` where the root is switched first, as [`flush`](Store::flush) answers them,
+    /// `Disk` where a call of the disk failed, and `Memory`: then the store may no longer be used.
+    pub fn replace<D: Disk>(
         &mut self,
         disk: &mut D,
         name: &str,
         title: &str,
         body: &str,
-    ) -> Result<u64, StoreFault>
+    ) -> Result<(u64, u64), StoreFault>
         requires document { IsDocument name.now title.now body.now }
+        requires sound { is_sound self.old ≡ true }
         requires agrees { Agrees D.tells (D.state disk.old) self.old }
-        requires free { (s : State) → Knows self.old s → has_name name.now s ≡ false }
-        requires number { (s : State) → Knows self.old s → s.next < 4294967296 }
-        requires fits { length (body_of (Add name.now title.now body.now)) ≤ room_of self.old }
         requires limit { HEAD_BYTES ≤ (D.state disk.old).limit }
 
-        ensures enters { Enters D.tells (Add name.now title.now body.now) (with_added name.now title.now body.now) (D.state disk.old) (D.state disk.new) self.old self.new result }
-        ensures number { (s : State) → Knows self.old s → IfOk result (λ n. n ≡ s.next) }
-        ensures sound { is_sound self.new ≡ is_sound self.old }
+        ensures obeys { (s : State) → (number : ℕ) → Knows self.old s → number_of name.now s ≡ Some number
+            → Obeys D.tells (enters (Replace number name.now title.now body.now)) (with_replaced name.now title.now body.now) RefusesReplace (D.state disk.old) (D.state disk.new) self.old self.new result }
+        ensures numbers_of { (s : State) → Knows self.old s → IfOk result (λ both. (number_of name.now s ≡ Some both.0) × (both.1 ≡ s.next) × (s.next < 4294967296)) }
+        ensures missing { (s : State) → Knows self.old s → (result ≡ Err Missing) ↔ (has_name name.now s ≡ false) }
+        ensures numbers { (s : State) → Knows self.old s → (result ≡ Err Numbers) ↔ ((has_name name.now s ≡ true) × (4294967296 ≤ s.next)) }
+        ensures refused { (result ≡ Err Missing) ⊎ (result ≡ Err Numbers) → (disk.new ≡ disk.old) × (self.new ≡ self.old) }
+        ensures sound { OnOk result (is_sound self.new ≡ true) }
+        ensures unsound { IfErr result (λ e. RefusesReplace e ⊎ (is_sound self.new ≡ false)) }
     {
-        let (_, _, number) = self.catalog.counts();
-        let Ok(ready) = record_of_add(self.alloc, name, title, body) else {
-            return Err(StoreFault::Memory);
+        let Some(old) = self.catalog.number_of(name) else {
+            return Err(StoreFault::Missing);
         };
-        let Ok(()) = self.catalog.add(self.alloc, name, title, body) else {
-            return Err(StoreFault::Memory);
-        };
-        match append(disk, &mut self.tail, &ready) {
-            Ok(()) => Ok(number),
-            Err(JournalFault::Full { .. }) => unreachable!(),
-            Err(JournalFault::Disk) => Err(StoreFault::Disk),
+        if !self.catalog.has_room() {
+            return Err(StoreFault::Numbers);
+        }
+        let (_, _, new) = self.catalog.counts();
+        match self.enter_replace(disk, old, name, title, body) {
+            Ok(()) => Ok((old, new)),
+            Err(fault) => Err(self.failed(fault)),
+        }
+    }
+
+    // Puts a document in place of one that was found, with a number that is left.
+    fn enter_replace<D: Disk>(
+        &mut self,
+        disk: &mut D,
+        number: u64,
+        name: &str,
+        title: &str,
+        body: &str,
+    ) -> Result<(), StoreFault>
+        requires document { IsDocument name.now title.now body.now }
+        requires agrees { Agrees D.tells (D.state disk.old) self.old }
+        requires named { (s : State) → Knows self.old s → number_of name.now s ≡ Some number }
+        requires left { (s : State) → Knows self.old s → s.next < 4294967296 }
+        requires limit { HEAD_BYTES ≤ (D.state disk.old).limit }
+
+        ensures obeys { Obeys D.tells (enters (Replace number name.now title.now body.now)) (with_replaced name.now title.now body.now) NoRefusal (D.state disk.old) (D.state disk.new) self.old self.new result }
+        ensures sound { OnOk result (is_sound self.new ≡ is_sound self.old) }
+    {
+        match entry_of_replace(self.alloc, number, name, title, body) {
+            Ok(entry) => self.enter(disk, &entry),
+            Err(_) => Err(StoreFault::Memory),
         }
     }
 
@@ -298,14 +329,14 @@ impl Store {
         let Some(number) = self.catalog.number_of(name) else {
             return Err(StoreFault::Missing);
         };
-        match self.leave_out(disk, name, number) {
+        match self.enter_delete(disk, name, number) {
             Ok(()) => Ok(number),
             Err(fault) => Err(self.failed(fault)),
         }
     }
 
-    // Deletes a document that was found, behind a flush where the record does not fit.
-    fn leave_out<D: Disk>(
+    // Deletes a document that was found.
+    fn enter_delete<D: Disk>(
         &mut self,
         disk: &mut D,
         name: &str,
@@ -318,29 +349,52 @@ impl Store {
         ensures obeys { Obeys D.tells (enters (Delete number)) (with_deleted name.now) NoRefusal (D.state disk.old) (D.state disk.new) self.old self.new result }
         ensures sound { OnOk result (is_sound self.new ≡ is_sound self.old) }
     {
-        match self.make_room(disk, DELETE_BYTES) {
-            Ok(()) => self.remove(disk, name, number),
+        self.enter(disk, &Entry::Delete { number })
+    }
+
+    // Enters an entry that the documents allow, behind a switch of the root where the journal has no room for it.
+    fn enter<D: Disk>(&mut self, disk: &mut D, entry: &Entry) -> Result<(), StoreFault>
+        requires rules { KeepsRules entry.now }
+        requires agrees { Agrees D.tells (D.state disk.old) self.old }
+        requires allowed { (s : State) → Knows self.old s → Allows s entry.now }
+        requires limit { HEAD_BYTES ≤ (D.state disk.old).limit }
+
+        ensures obeys { (step : State → State) → IsStepFrom entry.now step self.old → Obeys D.tells (enters entry.now) step NoRefusal (D.state disk.old) (D.state disk.new) self.old self.new result }
+        ensures sound { OnOk result (is_sound self.new ≡ is_sound self.old) }
+    {
+        let Ok(ready) = ready(self.alloc, entry) else {
+            return Err(StoreFault::Memory);
+        };
+        match self.make_room(disk, entry, &ready) {
+            Ok(()) => self.commit(disk, entry, &ready),
             Err(fault) => Err(fault),
         }
     }
 
-    // Deletes a document that was found, by a record that fits. All memory is taken before the first write.
-    fn remove<D: Disk>(&mut self, disk: &mut D, name: &str, number: u64) -> Result<(), StoreFault>
+    // Enters an entry that the documents allow, and for which there is room. All memory is taken before the first write.
+    fn commit<D: Disk>(
+        &mut self,
+        disk: &mut D,
+        entry: &Entry,
+        ready: &Ready,
+    ) -> Result<(), StoreFault>
+        requires rules { KeepsRules entry.now }
+        requires typed { IsTyped entry.now }
+        requires ready { ready.now.entry ≡ entry.now }
         requires agrees { Agrees D.tells (D.state disk.old) self.old }
-        requires named { (s : State) → Knows self.old s → number_of name.now s ≡ Some number }
-        requires fits { length (body_of (Delete number)) ≤ room_of self.old }
+        requires allowed { (s : State) → Knows self.old s → Allows s entry.now }
+        requires room { needs_room self.old entry.now ≡ false }
         requires limit { HEAD_BYTES ≤ (D.state disk.old).limit }
 
-        ensures enters { Enters D.tells (Delete number) (with_deleted name.now) (D.state disk.old) (D.state disk.new) self.old self.new result }
+        ensures enters { (step : State → State) → IsStepOf entry.now step self.old → Enters D.tells entry.now step (D.state disk.old) (D.state disk.new) self.old self.new result }
         ensures sound { is_sound self.new ≡ is_sound self.old }
     {
-        let Ok(ready) = ready(self.alloc, &Entry::Delete { number }) else {
-            return Err(StoreFault::Memory);
-        };
-        let Ok(()) = self.catalog.remove(number) else {
-            return Err(StoreFault::Memory);
-        };
-        match append(disk, &mut self.tail, &ready) {
+        match apply_entry(self.alloc, &mut self.catalog, entry) {
+            Ok(true) => {}
+            Ok(false) => unreachable!(),
+            Err(_) => return Err(StoreFault::Memory),
+        }
+        match append(disk, &mut self.tail, ready) {
             Ok(()) => Ok(()),
             Err(JournalFault::Full { .. }) => unreachable!(),
             Err(JournalFault::Disk) => Err(StoreFault::Disk),
@@ -447,32 +501,48 @@ impl Store {
         self.catalog.levels().len() <= 1 && self.listed.is_empty() && self.has_no_entry()
     }
 
-    // Makes room in the journal for a record of so many bytes behind its gate: by a flush, where it does not fit.
-    fn make_room<D: Disk>(&mut self, disk: &mut D, bytes: u64) -> Result<(), StoreFault>
+    // Makes room in the journal for an entry: by a switch of the root, where there is none.
+    fn make_room<D: Disk>(
+        &mut self,
+        disk: &mut D,
+        entry: &Entry,
+        ready: &Ready,
+    ) -> Result<(), StoreFault>
+        requires rules { KeepsRules entry.now }
+        requires ready { ready.now.entry ≡ entry.now }
         requires agrees { Agrees D.tells (D.state disk.old) self.old }
         requires limit { HEAD_BYTES ≤ (D.state disk.old).limit }
-        requires short { bytes < HALF_BYTES }
 
-        ensures makes { (entry : Entry) → length (body_of entry) ≡ bytes → MakesRoom D.tells entry (D.state disk.old) (D.state disk.new) self.old self.new result }
-        ensures room { OnOk result (bytes ≤ room_of self.new) }
+        ensures makes { MakesRoom D.tells entry.now (D.state disk.old) (D.state disk.new) self.old self.new result }
+        ensures room { OnOk result (needs_room self.new entry.now ≡ false) }
         ensures sound { OnOk result (is_sound self.new ≡ is_sound self.old) }
     {
-        if bytes <= room_behind(self.tail) {
+        if !self.needs_room(entry, ready) {
             return Ok(());
         }
         self.put_newest(disk)
     }
 
+    // Whether the journal has no room for an entry: the root's version can't have its record, or it does not fit.
+    fn needs_room(&self, entry: &Entry, ready: &Ready) -> bool
+        requires rules { KeepsRules entry.now }
+        requires ready { ready.now.entry ≡ entry.now }
+        ensures { result ≡ needs_room self.now entry.now }
+    {
+        let is_new = self.root.version == 1 && !is_old(entry);
+        is_new || ready.bytes().len() as u64 > room_behind(self.tail)
+    }
+
     // ---- the three tasks
 
-    // A flush of a journal that has an entry.
+    // Makes the live newest documents a level and switches the root, also where there is none: to the last version, with an empty journal.
     fn put_newest<D: Disk>(&mut self, disk: &mut D) -> Result<(), StoreFault>
         requires agrees { Agrees D.tells (D.state disk.old) self.old }
-        requires some { HasNoEntry self.old → ⊥ }
         requires limit { HEAD_BYTES ≤ (D.state disk.old).limit }
 
-        ensures obeys { Obeys D.tells flushes (λ s. s) NoRefusal (D.state disk.old) (D.state disk.new) self.old self.new result }
+        ensures writes { Writes D.tells (D.state disk.old) (D.state disk.new) self.old self.new result }
         ensures none { OnOk result (HasNoEntry self.new) }
+        ensures version { OnOk result (self.new.root.version ≡ VERSION) }
         ensures sound { OnOk result (is_sound self.new ≡ is_sound self.old) }
     {
         let newest = match self.drain() {
@@ -636,6 +706,7 @@ impl Store {
 
         ensures puts { (before : Store) → MayPut D.tells (D.state disk.old) before self.old levels → Puts D.tells levels (D.state disk.old) (D.state disk.new) before self.new result }
         ensures none { OnOk result (HasNoEntry self.new) }
+        ensures version { OnOk result (self.new.root.version ≡ VERSION) }
         ensures job { OnOk result (self.new.job ≡ self.old.job) }
         ensures sound { OnOk result (is_sound self.new ≡ is_sound self.old) }
     {
@@ -696,26 +767,33 @@ fn room_behind(tail: Tail) -> u64
     tail.half.start() + HALF_BYTES - (tail.place + 1)
 }
 
-// How many bytes the record of a document takes behind its gate.
-fn bytes_of_add(name: &str, title: &str, body: &str) -> u64
-    requires { IsDocument name.now title.now body.now }
-    ensures { result ≡ length (body_of (Add name.now title.now body.now)) }
+// The entry of a document that is added.
+fn entry_of_add(alloc: Global, name: &str, title: &str, body: &str) -> Result<Entry, AllocError>
+    ensures { IfOk result (λ entry. entry ≡ Add name.now title.now body.now) }
 {
-    let texts = name.len() + title.len() + body.len();
-    ADD_BYTES + texts as u64
-}
-
-// The record of a document that is added.
-fn record_of_add(alloc: Global, name: &str, title: &str, body: &str) -> Result<Ready, AllocError>
-    requires { IsDocument name.now title.now body.now }
-    ensures { IfOk result (λ r. r.entry ≡ Add name.now title.now body.now) }
-{
-    let entry = Entry::Add {
+    Ok(Entry::Add {
         name: text_of(alloc, name)?,
         title: text_of(alloc, title)?,
         body: text_of(alloc, body)?,
-    };
-    ready(alloc, &entry)
+    })
+}
+
+// The entry of a document that takes the place of the one with this number.
+fn entry_of_replace(
+    alloc: Global,
+    number: u64,
+    name: &str,
+    title: &str,
+    body: &str,
+) -> Result<Entry, AllocError>
+    ensures { IfOk result (λ entry. entry ≡ Replace number name.now title.now body.now) }
+{
+    Ok(Entry::Replace {
+        number,
+        name: text_of(alloc, name)?,
+        title: text_of(alloc, title)?,
+        body: text_of(alloc, body)?,
+    })
 }
 
 fn text_of(alloc: Global, text: &str) -> Result<Text, AllocError>
@@ -765,7 +843,8 @@ fn load<D: Disk>(alloc: Global, disk: &mut D) -> Result<Store, StoreFault>
         levels,
         names,
     } = opened;
-    let (found, tail) = match replay(alloc, disk, half_of(roots.slot)) {
+    let version = roots.root.version;
+    let (found, tail) = match replay(alloc, disk, half_of(roots.slot), version) {
         Ok(read) => read,
         Err(fault) => return Err(opening_fault(fault)),
     };
@@ -800,7 +879,7 @@ fn catalog_of(
     requires ends { have_ends levels.items deleted.now ≡ true }
     requires ordered { IsOrdered (known_at root.now deleted.now levels.items) }
     requires names { AreNames names (live_in deleted.now (table_rows levels.items)) }
-    requires entries { All (λ p. MayBeRecorded p.entry) found.now }
+    requires entries { All (λ p. MayBeRecorded root.now.version p.entry) found.now }
     ensures knows { (s : State) → (may : MayStart s root.now deleted.now levels.items)
         → IfOk result (λ catalog. AllowsAll s (entries_in found.now) × KnowsBy catalog may.olds (after_entries s (entries_in found.now))) }
     ensures levels { IfOk result (λ catalog. levels_in catalog ≡ levels.items) }

@@ -1,9 +1,10 @@
 // A level of one document, and documents that come and go behind it.
 ghost use Rattle.std.specs.BTreeMap.{get_by_text};
 ghost use Rattle.std.specs.Map.{update};
-ghost use Rattle.std.specs.Prelude.{◌≡◌, ◌<◌, ℕ, List, [], Some, length, IfOk, IfSome, OnOk};
+ghost use Rattle.std.specs.Prelude.{◌≡◌, ◌<◌, ℕ, List, [], Some, length, All, IfOk, IfSome, OnOk};
 ghost use Rattle.std.specs.Str.{bytes_eq};
 ghost use Rattle.alta_content.specs.Rows.{AreDocuments};
+ghost use Rattle.alta_journal.specs.Entry.{MayBeRecorded};
 ghost use Rattle.alta_journal.specs.declared.entry.Entry.TheVariants.{Delete};
 ghost use Rattle.alta_meta.specs.declared.document.State.{State};
 ghost use Rattle.alta_root.specs.Root.{IsSound};
@@ -11,10 +12,10 @@ ghost use Rattle.alta_catalog.specs.Knowing.{Knows, levels_of};
 ghost use Rattle.alta_catalog.specs.Replacing.{IsPrepared};
 
 use alta_catalog::*;
-use alta_codec::{Extent, name_ok};
+use alta_codec::{Extent, Text, name_ok};
 use alta_journal::{Entry, Placed};
 use alta_meta::MetaFault;
-use alta_root::Root;
+use alta_root::{Root, VERSION};
 use alta_table::{LevelFault, Table, head, tables_in_front};
 use arrayvec::ArrayVec;
 use std::alloc::{AllocError, Global};
@@ -30,6 +31,7 @@ fn root() -> Root
     ensures { (size : ℕ) × IsSound size result }
 {
     Root {
+        version: VERSION,
         sequence: 0,
         next_number: 3,
         next_location: 19,
@@ -297,6 +299,14 @@ fn delete_at(place: u64, number: u64) -> Placed
     }
 }
 
+// Applies entries that a root of version 2 may have.
+fn apply(alloc: Global, catalog: &mut Catalog, found: &[Placed]) -> Result<(), CatalogFault>
+    requires knows { (s : State) × Knows catalog.old s }
+    requires sound { All (λ p. MayBeRecorded 2 p.entry) found.now }
+{
+    apply_entries(alloc, catalog, found)
+}
+
 #[test]
 fn entries_are_refused_at_their_place(rt: HostRuntime) -> Result<(), Fail> {
     let alloc = rt.alloc();
@@ -305,10 +315,53 @@ fn entries_are_refused_at_their_place(rt: HostRuntime) -> Result<(), Fail> {
         return Err(Fail::from("the level has no single document"));
     };
     let found = [delete_at(8192, 1), delete_at(8206, 1)];
-    let answer = apply_entries(alloc, &mut catalog, &found);
+    let answer = apply(alloc, &mut catalog, &found);
     assert!(rt; answer == Err(CatalogFault::Damaged(8211)));
     assert_eq!(rt; catalog.counts(), (0, 0, 3));
     laws();
+    Ok(())
+}
+
+// The entry that puts a document without words in place of the one with this number, under this name.
+fn replace_at(
+    alloc: Global,
+    place: u64,
+    number: u64,
+    name: &str,
+) -> Result<Option<Placed>, AllocError>
+    ensures { IfOk result (λ found. IfSome found (λ p. MayBeRecorded 2 p.entry)) }
+{
+    if !name_ok(name.as_bytes()) {
+        return Ok(None);
+    }
+    let entry = Entry::Replace {
+        number,
+        name: Text::from_string(String::from_str(alloc, name)?),
+        title: Text::from_string(String::new(alloc)),
+        body: Text::from_string(String::new(alloc)),
+    };
+    Ok(Some(Placed { place, entry }))
+}
+
+#[test]
+fn a_document_takes_the_place_of_another(rt: HostRuntime) -> Result<(), Fail> {
+    let alloc = rt.alloc();
+    let table = level(alloc, LEVEL, 126).or(Err("the level is damaged"))?;
+    let Some(mut catalog) = catalog_of(alloc, &root(), table)? else {
+        return Err(Fail::from("the level has no single document"));
+    };
+    let Some(first) = replace_at(alloc, 8192, 1, "a")? else {
+        return Err(Fail::from("the name is none"));
+    };
+    let Some(second) = replace_at(alloc, 8225, 1, "a")? else {
+        return Err(Fail::from("the name is none"));
+    };
+    let found = [first, second];
+    let answer = apply(alloc, &mut catalog, &found);
+    assert!(rt; answer == Err(CatalogFault::Damaged(8230)));
+    assert_eq!(rt; catalog.counts(), (1, 0, 4));
+    assert_eq!(rt; catalog.number_of("a"), Some(3));
+    assert_eq!(rt; catalog.gone(), [9].as_slice());
     Ok(())
 }
 

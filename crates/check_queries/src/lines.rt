@@ -46,7 +46,7 @@ fn lines_are_read_or_refused(rt: HostRuntime) -> Result<(), Fail> {
         assert_eq!(rt; seen.as_str(), want);
     }
     let mut long = Vec::from_slice(alloc, b"add a\t\t")?;
-    for _ in 0..65_528 {
+    for _ in 0..262_136 {
         long.push(b'x')?;
     }
     assert!(rt; read_line(&long).is_ok());

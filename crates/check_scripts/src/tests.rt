@@ -200,9 +200,15 @@ fn scripts_are_answered(rt: HostRuntime) -> Result<(), Fail> {
     let rows = [
         (
             "delete zz\nadd a\tRed Fox\tthe quick red fox\nadd a\tRed Fox\tthe quick red fox\nstats\n",
-            "! no such document\nadded 1\n! name taken\ndocuments 1 words 6 next 2\n",
+            "! no such document\nadded 1\nreplaced 1 by 2\ndocuments 1 words 6 next 3\n",
             "count fox",
             "found 1\n",
+        ),
+        (
+            "add a\tRed Fox\tthe quick red fox\nopen fox\nadd a\t\tblue\ncount fox\nsearch blue\nfetch 1 5\nstats\n",
+            "added 1\ncursor 1\nreplaced 1 by 2\nfound 0\n2 a\nfound 1\n1 a\nend\ndocuments 1 words 1 next 3\n",
+            "search blue",
+            "2 a\nfound 1\n",
         ),
         (
             "add a\tRed Fox\tthe quick red fox\nadd b\tFox\tquick brown dog\ndelete a\nsearch quick NOT red\n",
@@ -335,11 +341,11 @@ fn the_longest_document_is_counted(rt: HostRuntime) -> Result<(), Fail> {
     let alloc = rt.alloc();
     let mut disk = made(alloc)?;
     let mut input = String::from_str(alloc, "add a\t\t")?;
-    for _ in 0..32_764 {
+    for _ in 0..131_068 {
         input.push_str("x ")?;
     }
     let longer = format!(in alloc; "{input}\n{input}x\nstats\ncount x NEAR/1 x")?;
-    let want = "added 1\n! line too long\ndocuments 1 words 32764 next 2\nfound 1\n";
+    let want = "added 1\n! line too long\ndocuments 1 words 131068 next 2\nfound 1\n";
     assert_eq!(rt;
         replies(alloc, &mut disk, longer.as_str())?.as_slice(),
         want.as_bytes()

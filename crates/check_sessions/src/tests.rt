@@ -70,10 +70,10 @@ fn lines_are_answered_in_order(rt: HostRuntime) -> Result<(), Fail> {
         (b"", b""),
         (BOTH, b"added 1\nadded 2\n"),
         (b"add a\tx\ty", b"added 1\n"),
-        (b"add a\tx\ty\nadd a\tx\ty\n", b"added 1\n! name taken\n"),
+        (b"add a\tx\ty\nadd a\tx\ty\n", b"added 1\nreplaced 1 by 2\n"),
         (
             b"add a\tx\ty\nadd b\t\t\nadd a\t\t\nadd c\t\t",
-            b"added 1\nadded 2\n! name taken\nadded 3\n",
+            b"added 1\nadded 2\nreplaced 1 by 3\nadded 4\n",
         ),
         (b"add a\t\ty\tz\r\n", b"added 1\n"),
         (b"add a b\tx\ty\n", b"! bad name\n"),
@@ -111,12 +111,12 @@ fn long_line(alloc: Global, name: u8, body: usize) -> Result<Vec<u8>, AllocError
 }
 
 #[test]
-fn a_line_has_at_most_65535_bytes(rt: HostRuntime) -> Result<(), Fail> {
+fn a_line_has_at_most_262143_bytes(rt: HostRuntime) -> Result<(), Fail> {
     let alloc = rt.alloc();
     let rows: [(usize, &[u8]); 3] = [
-        (65_528, b"added 1\nadded 2\n"),
-        (65_529, b"! line too long\nadded 1\n"),
-        (150_000, b"! line too long\nadded 1\n"),
+        (262_136, b"added 1\nadded 2\n"),
+        (262_137, b"! line too long\nadded 1\n"),
+        (400_000, b"! line too long\nadded 1\n"),
     ];
     for (body, want) in rows {
         let mut input = long_line(alloc, b'a', body)?;
@@ -126,6 +126,25 @@ fn a_line_has_at_most_65535_bytes(rt: HostRuntime) -> Result<(), Fail> {
         assert_eq!(rt; status, Status::Done);
         assert_eq!(rt; given.as_slice(), want);
     }
+    Ok(())
+}
+
+#[test]
+fn a_line_may_have_131068_words(rt: HostRuntime) -> Result<(), Fail> {
+    let alloc = rt.alloc();
+    let words = "x ".repeat(alloc, 131_068)?;
+    let mut input = b"add a\t\t".to_vec(alloc)?;
+    input.extend_from_slice(words.as_str().as_bytes())?;
+    input.extend_from_slice(b"\nadd a\t\t")?;
+    input.extend_from_slice(words.as_str().as_bytes())?;
+    input.extend_from_slice(b"x\nstats\n")?;
+    let mut disk = made(alloc)?;
+    let (status, given) = call(alloc, &mut disk, "run", &input, &[], &[])?;
+    assert_eq!(rt; status, Status::Done);
+    assert_eq!(rt;
+        given.as_slice(),
+        b"added 1\n! line too long\ndocuments 1 words 131068 next 2\n".as_slice()
+    );
     Ok(())
 }
 
@@ -147,7 +166,10 @@ fn sixteen_long_lines_are_added(rt: HostRuntime) -> Result<(), Fail> {
     assert_eq!(rt; given.as_slice(), want.as_str().as_bytes());
     let (status, given) = call(alloc, &mut disk, "run", b"add q\t\t\nadd o\t\t\n", &[], &[])?;
     assert_eq!(rt; status, Status::Done);
-    assert_eq!(rt; given.as_slice(), b"added 17\n! name taken\n".as_slice());
+    assert_eq!(rt;
+        given.as_slice(),
+        b"added 17\nreplaced 15 by 18\n".as_slice()
+    );
     Ok(())
 }
 
@@ -183,11 +205,11 @@ fn each_fault_has_its_status(rt: HostRuntime) -> Result<(), Fail> {
     Ok(())
 }
 
-// How many of the lines of a text are this one.
+// How many of the lines of a text begin so.
 fn count(text: &[u8], line: &[u8]) -> usize {
     let mut n: usize = 0;
     for part in text.split(|byte| *byte == b'\n') {
-        if part == line {
+        if part.starts_with(line) {
             n = n.saturating_add(1);
         }
     }
@@ -213,7 +235,7 @@ fn each_stop_keeps_what_was_answered(rt: HostRuntime) -> Result<(), Fail> {
             let mut again = disk_of(alloc, inner.image(alloc, pick)?)?;
             let (status, given) = call(alloc, &mut again, "run", input, &[], &[])?;
             assert_eq!(rt; status, Status::Done);
-            let kept = count(&given, b"! name taken");
+            let kept = count(&given, b"replaced ");
             assert!(rt; acked <= kept && kept <= acked.saturating_add(1));
         }
     }

@@ -53,8 +53,8 @@ fn put_line(lines: &mut Vec<u8>, name: u8, body: usize) -> Result<(), AllocError
     Ok(())
 }
 
-// Fifteen long records leave 65,415 bytes of the journal. A record takes 16 bytes beside its body here. Where one does not fit, a flush
-// comes first, for which a disk that ends behind the journal has no place.
+// Fifteen long records leave 65,415 bytes of the journal. A record takes 16 bytes beside its body here, and one that replaces 24. Where one
+// does not fit, a flush comes first, for which a disk that ends behind the journal has no place.
 #[test]
 fn a_record_that_does_not_fit_finds_the_journal_flushed(rt: HostRuntime) -> Result<(), Fail> {
     let alloc = rt.alloc();
@@ -68,13 +68,15 @@ fn a_record_that_does_not_fit_finds_the_journal_flushed(rt: HostRuntime) -> Resu
     let content = disk.image(alloc, 0)?;
 
     // What is given on a disk with places, and how many lines are answered where there is none.
-    let rows: [(u8, usize, &[u8], usize); 6] = [
-        (b'a', 65_528, b"! name taken\nadded 16\n", 2),
+    let rows: [(u8, usize, &[u8], usize); 8] = [
+        (b'a', 65_375, b"replaced 1 by 16\nadded 17\n", 2),
+        (b'a', 65_391, b"replaced 1 by 16\nadded 17\n", 1),
+        (b'a', 65_392, b"replaced 1 by 16\nadded 17\n", 0),
         (b'p', 65_383, b"added 16\nadded 17\n", 2),
         (b'p', 65_384, b"added 16\nadded 17\n", 1),
         (b'p', 65_399, b"added 16\nadded 17\n", 1),
         (b'p', 65_400, b"added 16\nadded 17\n", 0),
-        (b'p', 65_529, b"! line too long\nadded 16\n", 2),
+        (b'p', 262_137, b"! line too long\nadded 16\n", 2),
     ];
     for (name, body, want, answered) in rows {
         let mut lines = Vec::new(alloc);

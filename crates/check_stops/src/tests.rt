@@ -19,8 +19,8 @@ const EMPTY: &str = "documents 0 words 0 next 1\n";
 // A line, its reply, and the stats behind it.
 type Row = (&'static str, &'static str, &'static str);
 
-// Flushes, a join in slices with deletes between them, and a merge.
-const LEVELS: [Row; 11] = [
+// Flushes, a join in slices with deletes between them, a document in the place of another, and a merge.
+const LEVELS: [Row; 13] = [
     (
         "add a\tRed Fox\tthe quick red fox\n",
         "added 1\n",
@@ -42,8 +42,14 @@ const LEVELS: [Row; 11] = [
     ("step 1\n", "ok\n", "documents 2 words 6 next 4\n"),
     ("delete b\n", "deleted 2\n", "documents 1 words 2 next 4\n"),
     ("step 1000000\n", "ok\n", "documents 1 words 2 next 4\n"),
-    ("merge\n", "ok\n", "documents 1 words 2 next 4\n"),
-    ("count dog\n", "found 1\n", "documents 1 words 2 next 4\n"),
+    (
+        "add c\t\tblue dog\n",
+        "replaced 3 by 4\n",
+        "documents 1 words 2 next 5\n",
+    ),
+    ("add e\tx\ty\n", "added 5\n", "documents 2 words 4 next 6\n"),
+    ("merge\n", "ok\n", "documents 2 words 4 next 6\n"),
+    ("count dog\n", "found 1\n", "documents 2 words 4 next 6\n"),
 ];
 
 // Cursors over levels that are joined below them.

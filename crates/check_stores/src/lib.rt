@@ -2,4 +2,6 @@
 #![tactic(auto)]
 
 #[cfg(test)]
+mod older;
+#[cfg(test)]
 mod tests;

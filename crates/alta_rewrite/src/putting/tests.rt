@@ -11,7 +11,7 @@ use crate::putting::put_root;
 use alta_codec::{Extent, Failed};
 use alta_disk::{FuseDisk, MemoryDisk};
 use alta_journal::START_B;
-use alta_root::{HEAD_BYTES, Root, Roots, Slot, read_roots};
+use alta_root::{HEAD_BYTES, Root, Roots, Slot, VERSION, read_roots};
 use arrayvec::ArrayVec;
 use std::alloc::{AllocError, Global};
 use std::test::Fail;
@@ -60,6 +60,7 @@ fn with_list(disk: &mut MemoryDisk, list: Piece<'_>) -> Option<(Slot, Root)>
     Some((
         slot.other(),
         Root {
+            version: VERSION,
             sequence: root.sequence.wrapping_add(1),
             next_number: 1,
             next_location: 1,
@@ -88,6 +89,7 @@ fn with_level(disk: &mut MemoryDisk, level: Piece<'_>, list: Piece<'_>) -> Optio
     Some((
         slot.other(),
         Root {
+            version: VERSION,
             sequence: root.sequence.wrapping_add(1),
             next_number: 1,
             next_location: 1,

@@ -1,5 +1,5 @@
-use Rattle.alta_images.proofs.HeldLaws.{flush_may_stand}
+use Rattle.alta_images.proofs.HeldLaws.{written_may_stand}
 use Rattle.alta_images.proofs.laws.a_flush_may_stand.Goals as goal
 
 pub returns : goal.returns
-returns c = flush_may_stand
+returns c = written_may_stand

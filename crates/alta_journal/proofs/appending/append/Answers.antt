@@ -19,32 +19,32 @@ holds_body place bytes body old new same holds = subst (λ (l : List ℕ). Holds
 
 -- the first write leaves the records as they were
 pub returns-in_err-write_synced-clause-images : goal.returns-in_err-write_synced-clause-images
-returns-in_err-write_synced-clause-images g c =
+returns-in_err-write_synced-clause-images g c = λ version sound.
     let same = c.bytes-bytes.ensures.bytes in
     let fits : c.args.tail.now.place + 1 + length (body_of c.args.ready.now.entry) ≤ start_of c.args.tail.now.half + HALF_BYTES = omega (arith, ap length same) in
-    body_passes g.D.Disk.tells _ _ _ c.bytes-bytes.ensures.sound c.args.tail.now.starts fits (start_fits _) _ _ c.requires.closed.images (torn_body _ _ _ _ _ same c.write_synced.ensures.images)
+    body_passes g.D.Disk.tells version _ _ _ sound c.args.tail.now.starts fits (start_fits _) _ _ c.requires.closed.images (torn_body _ _ _ _ _ same c.write_synced.ensures.images)
 
 -- the second leaves them with the new one or without
 pub returns-in_err-write_synced-2-clause-images : goal.returns-in_err-write_synced-2-clause-images
-returns-in_err-write_synced-2-clause-images g c =
+returns-in_err-write_synced-2-clause-images g c = λ version sound.
     let same = c.bytes-bytes.ensures.bytes in
     let fits : c.args.tail.now.place + 1 + length (body_of c.args.ready.now.entry) ≤ start_of c.args.tail.now.half + HALF_BYTES = omega (arith, ap length same) in
-    gate_passes g.D.Disk.tells _ _ _ c.bytes-bytes.ensures.sound c.args.tail.now.starts fits (start_fits _) _ _ c.requires.closed.images _ (g.met.D.Disk.lawful c.args.disk.now)
+    gate_passes g.D.Disk.tells version _ _ _ sound c.args.tail.now.starts fits (start_fits _) _ _ c.requires.closed.images _ (g.met.D.Disk.lawful c.args.disk.now)
     (λ told. holds_body _ _ _ _ _ same (c.in_ok-write_synced.ensures.written told)) c.in_ok-write_synced.ensures.durable (torn_body _ _ _ _ _ same c.write_synced.ensures.images) c.write_synced-2.ensures.images
 
 pub returns-clause-images : goal.returns-clause-images
-returns-clause-images g c =
+returns-clause-images g c = λ version sound.
     let same = c.bytes-bytes.ensures.bytes in
     let fits : c.args.tail.now.place + 1 + length (body_of c.args.ready.now.entry) ≤ start_of c.args.tail.now.half + HALF_BYTES = omega (arith, ap length same) in
-    gate_passes g.D.Disk.tells _ _ _ c.bytes-bytes.ensures.sound c.args.tail.now.starts fits (start_fits _) _ _ c.requires.closed.images _ (g.met.D.Disk.lawful c.args.disk.now)
+    gate_passes g.D.Disk.tells version _ _ _ sound c.args.tail.now.starts fits (start_fits _) _ _ c.requires.closed.images _ (g.met.D.Disk.lawful c.args.disk.now)
     (λ told. holds_body _ _ _ _ _ same (c.in_ok-write_synced.ensures.written told)) c.in_ok-write_synced.ensures.durable (torn_body _ _ _ _ _ same c.write_synced.ensures.images) c.write_synced-2.ensures.images
 
 -- and then the gate is open
 pub returns-clause-appended : goal.returns-clause-appended
-returns-clause-appended g c = λ told.
+returns-clause-appended g c = λ version sound told.
     let same = c.bytes-bytes.ensures.bytes in
     let fits : c.args.tail.now.place + 1 + length (body_of c.args.ready.now.entry) ≤ start_of c.args.tail.now.half + HALF_BYTES = omega (arith, ap length same) in
-    record_done _ _ _ c.bytes-bytes.ensures.sound c.args.tail.now.starts fits (start_fits _) _ _ _ (c.requires.closed.content told)
+    record_done version _ _ _ sound c.args.tail.now.starts fits (start_fits _) _ _ _ (c.requires.closed.content told)
     (holds_body _ _ _ _ _ same (c.in_ok-write_synced.ensures.written told)) (c.in_ok-write_synced-2.ensures.written told)
 
 -- the record and the next gate stand there, and all else is as it was
@@ -63,5 +63,5 @@ returns-clause-closed g c =
     omega (arith, ap length same, record_long c.args.ready.now.entry, body_long c.args.ready.now.entry) in
     stands_only g.D.Disk.tells _ (HasClosedGate (c.args.tail.now.place + length c.bytes-bytes.result.now)) (g.met.D.Disk.lawful c.write_synced-2.new.disk) c.in_ok-write_synced-2.ensures.durable
     (λ told. subst (λ n. HasClosedGate n (g.D.Disk.state c.write_synced-2.new.disk).content) next
-    (record_closed _ _ _ c.bytes-bytes.ensures.sound c.args.tail.now.starts fits (start_fits _) _ _ _ (c.requires.closed.content told)
+    (record_closed 2 _ _ _ c.bytes-bytes.ensures.sound c.args.tail.now.starts fits (start_fits _) _ _ _ (c.requires.closed.content told)
     (holds_body _ _ _ _ _ same (c.in_ok-write_synced.ensures.written told)) (c.in_ok-write_synced-2.ensures.written told)))

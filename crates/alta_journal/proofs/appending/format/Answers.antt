@@ -11,7 +11,7 @@ pub returns-clause-written : goal.returns-clause-written
 returns-clause-written g c = λ told. subst (λ n. Holds (g.D.Disk.state c.args.disk.now).content n (0 ∷ []) (g.D.Disk.state c.write_synced.new.disk).content) c.start.ensures (c.in_ok-write_synced.ensures.written told)
 
 pub returns-clause-empty : goal.returns-clause-empty
-returns-clause-empty g c = λ told. formatted (start_of c.args.half) _ _ (start_fits c.args.half) (c.requires.size told) (returns-clause-written g c told)
+returns-clause-empty g c = λ version told. formatted version (start_of c.args.half) _ _ (start_fits c.args.half) (c.requires.size told) (returns-clause-written g c told)
 
 pub returns-clause-closed : goal.returns-clause-closed
 returns-clause-closed g c =

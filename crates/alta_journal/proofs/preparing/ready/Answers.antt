@@ -1,6 +1,6 @@
 use Rattle.std.proofs.Common.{◌≡◌, List, ℕ, refl, sym, ◌∙◌, ap, subst, arith}
 use Rattle.std.proofs.lemmas.Grind.{common_steps}
-use Rattle.alta_journal.specs.Entry.{four_bytes, MayBeRecorded}
+use Rattle.alta_journal.specs.Entry.{four_bytes, KeepsRules, IsTyped, MayBeRecorded}
 use Rattle.alta_journal.specs.Reading.{entry_of_body}
 use Rattle.alta_journal.specs.Record.{body_of}
 use Rattle.alta_journal.specs.declared.entry.Entry.{Entry}
@@ -8,14 +8,14 @@ use Rattle.alta_journal.proofs.ReadingLaws.{body_back}
 use Rattle.alta_journal.proofs.preparing.ready.Goals as goal
 
 -- the bytes of a sound entry's record are read back
-read_back : (bytes : List ℕ) (entry : Entry) → MayBeRecorded entry → bytes ≡ body_of entry → entry_of_body bytes ≡ entry
-read_back bytes entry sound made = ap entry_of_body made ∙ body_back entry sound
+read_back : (bytes : List ℕ) (entry : Entry) → KeepsRules entry → IsTyped entry → bytes ≡ body_of entry → entry_of_body bytes ≡ entry
+read_back bytes entry keeps typed made = ap entry_of_body made ∙ body_back entry keeps typed
 
-sound_back : (bytes : List ℕ) (entry : Entry) → MayBeRecorded entry → bytes ≡ body_of entry → MayBeRecorded (entry_of_body bytes)
-sound_back bytes entry sound made = subst MayBeRecorded (sym (read_back bytes entry sound made)) sound
+sound_back : (bytes : List ℕ) (entry : Entry) → KeepsRules entry → IsTyped entry → bytes ≡ body_of entry → MayBeRecorded 2 (entry_of_body bytes)
+sound_back bytes entry keeps typed made = subst (MayBeRecorded 2) (sym (read_back bytes entry keeps typed made)) (keeps, typed, λ one. absurd (omega (arith, one)))
 
-spells_back : (bytes : List ℕ) (entry : Entry) → MayBeRecorded entry → bytes ≡ body_of entry → bytes ≡ body_of (entry_of_body bytes)
-spells_back bytes entry sound made = made ∙ ap body_of (sym (read_back bytes entry sound made))
+spells_back : (bytes : List ℕ) (entry : Entry) → KeepsRules entry → IsTyped entry → bytes ≡ body_of entry → bytes ≡ body_of (entry_of_body bytes)
+spells_back bytes entry keeps typed made = made ∙ ap body_of (sym (read_back bytes entry keeps typed made))
 
 -- all was written
 made : (c : goal.In_ok-push) → c.push.new.self.items ≡ body_of c.args.entry.now
@@ -23,14 +23,14 @@ unfolding four_bytes
 made c = grind (arith, common_steps)
 
 pub of_bytes-requires-clause-sound : goal.of_bytes-requires-clause-sound
-of_bytes-requires-clause-sound c = sound_back _ c.args.entry.now (c.requires, c.payload_len-payload.ensures.typed) (made c)
+of_bytes-requires-clause-sound c = sound_back _ c.args.entry.now c.requires c.payload_len-payload.ensures.typed (made c)
 
 pub of_bytes-requires-clause-spells : goal.of_bytes-requires-clause-spells
-of_bytes-requires-clause-spells c = spells_back _ c.args.entry.now (c.requires, c.payload_len-payload.ensures.typed) (made c)
+of_bytes-requires-clause-spells c = spells_back _ c.args.entry.now c.requires c.payload_len-payload.ensures.typed (made c)
 
 pub returns : goal.returns
 unfolding four_bytes
 returns c =
     let made : c.push.new.self.items ≡ body_of c.args.entry.now = grind (arith, common_steps) in
-    let back : entry_of_body c.push.new.self.items ≡ c.args.entry.now = read_back _ c.args.entry.now (c.requires, c.payload_len-payload.ensures.typed) made in
+    let back : entry_of_body c.push.new.self.items ≡ c.args.entry.now = read_back _ c.args.entry.now c.requires c.payload_len-payload.ensures.typed made in
     c.of_bytes.ensures ∙ rw (back, made) refl

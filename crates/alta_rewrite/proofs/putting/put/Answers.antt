@@ -19,7 +19,7 @@ returns-clause-put g c = λ told.
     let lawful = g.met.D.Disk.lawful c.format.new.disk in
     puts_closed c.args.slot taken _ c.args.pieces.now _ (c.requires.whole told) laid _ (c.in_ok-write_pieces.ensures.written told) _
     (subst (λ (h : Half). Holds now.content (start_of h) (GATE_CLOSED ∷ []) then.content) c.half.ensures (c.in_ok-format.ensures.written told))
-    (subst (λ (h : Half). EndsAt (start_of h) (start_of h) [] then.content) c.half.ensures (c.in_ok-format.ensures.empty told))
+    (λ version. subst (λ (h : Half). EndsAt version (start_of h) (start_of h) [] then.content) c.half.ensures (c.in_ok-format.ensures.empty version told))
     (lawful.bytes then.clock then.content (lawful.counts_now then.clock then.content (omega arith) (lawful.present told)))
 
 pub returns-clause-images : goal.returns-clause-images

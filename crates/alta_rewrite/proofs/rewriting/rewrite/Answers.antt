@@ -8,6 +8,7 @@ use Rattle.alta_images.specs.Views.{state_of}
 use Rattle.alta_root.specs.Places.{other}
 use Rattle.alta_root.specs.Slots.{Counts}
 use Rattle.alta_root.specs.Switches.{slot_range}
+use Rattle.alta_root.specs.declared.root.Root.{Root}
 use Rattle.alta_root.specs.declared.slot.Slot.{Slot}
 use Rattle.alta_rewrite.specs.Brings.{IsOpenedEither}
 use Rattle.alta_rewrite.specs.Puts.{Fills, MayPut, Puts, Putting}
@@ -202,3 +203,10 @@ returns-in_err-pieces-clause-opened g c = λ o there may.
     let lawful = g.met.D.Disk.lawful c.args.disk.now in
     leaves_start g.D.Disk.tells now (MayBecome now.limit o c.args.levels c.args.ends c.args.next c.args.location) lawful
     (λ z here. inl (subst (IsOpened o) (sym (c.requires.settled z here)) (may (lawful.told z here)).is))
+
+-- the root that was drafted has the last version
+pub returns-clause-version : goal.returns-clause-version
+returns-clause-version g c =
+    let now = g.D.Disk.state c.args.disk.now in
+    let is = drafts_as c.args.levels c.args.ends c.args.next c.args.location now.limit c.limit-limit.result c.limit-limit.ensures c.args.root.now (Ok c.in-Ok.draft) c.in-Ok.ensures in
+    ap (λ (r : Root). r.version) is.root_is

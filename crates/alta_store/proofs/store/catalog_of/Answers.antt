@@ -9,6 +9,9 @@ apply_entries-requires-clause-knows c =
     let some = may_start c.args.root.now c.args.deleted.now c.args.levels.items in
     (some.0, (c.in-Ok.ensures.knows some.0 some.1).0)
 
+pub apply_entries-requires-clause-sound : goal.apply_entries-requires-clause-sound
+apply_entries-requires-clause-sound c = (c.args.root.now.version, c.requires.entries)
+
 pub returns-in-Ok-apply_entries-clause-knows : goal.returns-in-Ok-apply_entries-clause-knows
 returns-in-Ok-apply_entries-clause-knows c = λ s may.
     let was = c.in-Ok.ensures.knows s may in

@@ -40,8 +40,8 @@ returns-in-Err-replay-clause-damaged g c = λ told place e.
     let has = c.in-Ok-open_levels.ensures.levels told slot counts in
     subst (λ (image : List ℕ). IsBrokenAt image place) (c.read_roots.ensures.reads.content told)
     (damaged_record middle slot root _ _ has c.in-Ok-open_levels.ensures.ends place
-    (subst (λ (image : List ℕ). HasBrokenHalf (journal_of slot) place image) (c.open_levels.ensures.reads.content told)
-    (subst (λ (h : Half). HasBrokenHalf (start_of h) place (g.D.Disk.state c.open_levels.new.disk).content) c.half_of.ensures
+    (subst (λ (image : List ℕ). HasBrokenHalf root.version (journal_of slot) place image) (c.open_levels.ensures.reads.content told)
+    (subst (λ (h : Half). HasBrokenHalf root.version (start_of h) place (g.D.Disk.state c.open_levels.new.disk).content) c.half_of.ensures
     (c.in-Err-replay.ensures.damaged told place (of_damaged c.in-Err-replay.fault place (sym c.opening_fault.ensures ∙ same_error _ _ e))))))
 
 pub returns-in-Ok-catalog_of-clause-loaded : goal.returns-in-Ok-catalog_of-clause-loaded
@@ -55,9 +55,9 @@ returns-in-Ok-catalog_of-clause-loaded g c = λ told.
     subst (KeepsOpened _) (c.read_roots.ensures.reads.content told)
     (loads middle slot root _ _ has c.in-Ok-open_levels.ensures.ends _ found refl refl refl c.in-Ok-catalog_of.ensures.follows (c.in-Ok-replay.ensures.half ∙ c.half_of.ensures) c.in-Ok-catalog_of.ensures.levels
     c.in-Ok-open_levels.ensures.extents
-    (subst (λ (image : List ℕ). IsReplay (journal_of slot) found c.in-Ok-replay.read.1.place image) (c.open_levels.ensures.reads.content told)
-    (subst (λ (h : Half). IsReplay (start_of h) found c.in-Ok-replay.read.1.place (g.D.Disk.state c.open_levels.new.disk).content) c.half_of.ensures
-    (subst (λ (xs : List Placed). IsReplay (start_of c.half_of.result) xs c.in-Ok-replay.read.1.place (g.D.Disk.state c.open_levels.new.disk).content) (sym c.deref-2.ensures.value) (c.in-Ok-replay.ensures.read told))))
+    (subst (λ (image : List ℕ). IsReplay root.version (journal_of slot) found c.in-Ok-replay.read.1.place image) (c.open_levels.ensures.reads.content told)
+    (subst (λ (h : Half). IsReplay root.version (start_of h) found c.in-Ok-replay.read.1.place (g.D.Disk.state c.open_levels.new.disk).content) c.half_of.ensures
+    (subst (λ (xs : List Placed). IsReplay root.version (start_of c.half_of.result) xs c.in-Ok-replay.read.1.place (g.D.Disk.state c.open_levels.new.disk).content) (sym c.deref-2.ensures.value) (c.in-Ok-replay.ensures.read told))))
     (subst (KnowsAll _ root c.in-Ok-open_levels.opened.levels.items found) c.deref.ensures.value c.in-Ok-catalog_of.ensures.knows))
 
 pub returns-in-Ok-catalog_of-clause-intact : goal.returns-in-Ok-catalog_of-clause-intact
@@ -84,14 +84,14 @@ returns-in-Err-catalog_of-clause-damaged g c = λ told place e.
     let middle = (g.D.Disk.state c.read_roots.new.disk).content in
     let counts = subst (Counts slot root) (sym (c.read_roots.ensures.reads.content told)) (c.in-Ok.ensures.counts told) in
     let has = c.in-Ok-open_levels.ensures.levels told slot counts in
-    let replay : IsReplay (journal_of slot) found c.in-Ok-replay.read.1.place middle =
-    subst (λ (image : List ℕ). IsReplay (journal_of slot) found c.in-Ok-replay.read.1.place image) (c.open_levels.ensures.reads.content told)
-    (subst (λ (h : Half). IsReplay (start_of h) found c.in-Ok-replay.read.1.place (g.D.Disk.state c.open_levels.new.disk).content) c.half_of.ensures
-    (subst (λ (xs : List Placed). IsReplay (start_of c.half_of.result) xs c.in-Ok-replay.read.1.place (g.D.Disk.state c.open_levels.new.disk).content) (sym c.deref-2.ensures.value) (c.in-Ok-replay.ensures.read told))) in
+    let replay : IsReplay root.version (journal_of slot) found c.in-Ok-replay.read.1.place middle =
+    subst (λ (image : List ℕ). IsReplay root.version (journal_of slot) found c.in-Ok-replay.read.1.place image) (c.open_levels.ensures.reads.content told)
+    (subst (λ (h : Half). IsReplay root.version (start_of h) found c.in-Ok-replay.read.1.place (g.D.Disk.state c.open_levels.new.disk).content) c.half_of.ensures
+    (subst (λ (xs : List Placed). IsReplay root.version (start_of c.half_of.result) xs c.in-Ok-replay.read.1.place (g.D.Disk.state c.open_levels.new.disk).content) (sym c.deref-2.ensures.value) (c.in-Ok-replay.ensures.read told))) in
     let some = may_start root c.in-Ok-open_levels.opened.deleted.items c.in-Ok-open_levels.opened.levels.items in
     subst (λ (image : List ℕ). IsBrokenAt image place) (c.read_roots.ensures.reads.content told)
     (refused_entry middle slot root _ _ has c.in-Ok-open_levels.ensures.ends found place c.in-Ok-replay.read.1.place replay some.0 some.1
     (c.in-Err-catalog_of.ensures.damaged some.0
     (subst (λ (ends : List ℕ). MayStart some.0 root ends c.in-Ok-open_levels.opened.levels.items) (sym c.deref.ensures.value) some.1)
-    (small_places slot found c.in-Ok-replay.read.1.place middle replay) place
+    (small_places root.version slot found c.in-Ok-replay.read.1.place middle replay) place
     (ap Err (of_catalog_damaged c.in-Err-catalog_of.fault place (sym c.catalog_fault.ensures ∙ same_error _ _ e)))))

@@ -7,16 +7,17 @@ use Rattle.alta_journal.specs.declared.entry.Entry.TheVariants.{Add}
 use Rattle.alta_meta.specs.declared.document.State.{State}
 use Rattle.alta_session.specs.Machine.{adding}
 use Rattle.alta_session.specs.Tasks.{task_of_add}
-use Rattle.alta_store.specs.Agreement.{Has}
+use Rattle.alta_store.specs.Agreement.{Has, Knows}
+use Rattle.alta_store.specs.declared.store.Store.{Store}
 use Rattle.alta_store.specs.declared.fault.StoreFault.TheVariants.{Damaged, Disk, Taken, Numbers, Full}
 use Rattle.alta_model.specs.Command.{adds}
 use Rattle.alta_model.specs.Lines.{asks}
-use Rattle.alta_session.proofs.JoiningLaws.{joins_task, lacks_task, works_done, works_failed, works_still}
-use Rattle.alta_session.proofs.AddingLaws.{adding_bad, adding_taken, adding_full, adding_added, added_is_none, leaves_adding, refused_for, room_left}
+use Rattle.alta_session.proofs.JoiningLaws.{joins_task, lacks_task, works_done, works_failed, works_from, works_still}
+use Rattle.alta_session.proofs.AddingLaws.{adding_bad, adding_full, adding_added, added_is_none, leaves_adding, not_refused, room_left}
 use Rattle.alta_session.proofs.AgreementLaws.{knows_state}
-use Rattle.alta_session.proofs.AnsweringLaws.{same_fault, same_store, looked, answers_same, changed, changed_rests}
+use Rattle.alta_session.proofs.AnsweringLaws.{same_fault, same_store, looked, answers_from, answers_same, can_from, changed, changed_rests}
 use Rattle.alta_session.proofs.ObeyingLaws.{obeyed_works, obeyed_full, narrow_at, add_only}
-use Rattle.alta_session.proofs.TaskLaws.{add_bad, add_taken, add_full, add_enters}
+use Rattle.alta_session.proofs.TaskLaws.{add_bad, add_full, add_enters}
 use Rattle.alta_session.proofs.session.Session.add.Goals as goal
 
 pub add-requires-clause-agrees : goal.add-requires-clause-agrees
@@ -48,15 +49,23 @@ returns-in-Ok-clause-answers g c =
           (add_enters c.args.name.now c.args.title.now c.args.body.now m.state (search rules) number.1 number.2) (c.in-Ok.ensures.obeys.works held tell here);
     })
 
+-- a live document has the name
+pub replace-requires-clause-taken : goal.replace-requires-clause-taken
+replace-requires-clause-taken g c = λ s knows.
+    let is : c.add.result ≡ Err Taken = c.in-Err.is ∙ ap Err c.in-Taken.is in
+    (c.add.ensures.taken s (subst (λ (x : Store). Knows x s) (c.add.ensures.refused (inl is)).1 knows)).0 is
+
+pub replace-requires-clause-can : goal.replace-requires-clause-can
+replace-requires-clause-can g c =
+    let is : c.add.result ≡ Err Taken = c.in-Err.is ∙ ap Err c.in-Taken.is in
+    let same = c.add.ensures.refused (inl is) in
+    can_from g.D.Disk.tells g.D.Disk.state c.args.disk.now c.add.new.disk c.args.self.now _ same.0 (same_store c.args.self.now c.add.new.self same.1) c.requires.can
+
 pub returns-in-Taken-clause-answers : goal.returns-in-Taken-clause-answers
 returns-in-Taken-clause-answers g c =
     let is : c.add.result ≡ Err Taken = c.in-Err.is ∙ ap Err c.in-Taken.is in
     let same = c.add.ensures.refused (inl is) in
-    answers_same g.D.Disk.tells g.D.Disk.state c.args.disk.now c.add.new.disk c.args.self.now _ c.text-in-Taken.result _ _ same.0 (same_store c.args.self.now c.add.new.self same.1)
-    (looked g.D.Disk.tells g.D.Disk.state c.args.disk.now c.args.self.now c.text-in-Taken.result _ _ _ (g.met.D.Disk.lawful c.args.disk.now) c.requires.can c.text-in-Taken.ensures
-    (λ m tell agrees.
-    let taken = (c.add.ensures.taken m.state (knows_state g.D.Disk.tells (g.D.Disk.state c.args.disk.now) c.args.self.now m agrees tell)).0 is in
-    changed_rests m _ _ _ (adding_taken c.args.name.now c.args.title.now c.args.body.now m.state (search rules) taken) (add_taken c.args.name.now c.args.title.now c.args.body.now m.state taken)))
+    answers_from g.D.Disk.tells g.D.Disk.state c.args.disk.now c.add.new.disk c.replace.new.disk c.args.self.now _ _ c.replace.result _ _ same.0 (same_store c.args.self.now c.add.new.self same.1) c.replace.ensures.answers
 
 pub returns-in-Numbers-clause-answers : goal.returns-in-Numbers-clause-answers
 returns-in-Numbers-clause-answers g c =
@@ -66,7 +75,7 @@ returns-in-Numbers-clause-answers g c =
     (looked g.D.Disk.tells g.D.Disk.state c.args.disk.now c.args.self.now c.text-in-Numbers.result _ _ _ (g.met.D.Disk.lawful c.args.disk.now) c.requires.can c.text-in-Numbers.ensures
     (λ m tell agrees.
     let full = (c.add.ensures.numbers m.state (knows_state g.D.Disk.tells (g.D.Disk.state c.args.disk.now) c.args.self.now m agrees tell)).0 is in
-    changed_rests m _ _ _ (adding_full c.args.name.now c.args.title.now c.args.body.now m.state (search rules) full.0 full.1) (add_full c.args.name.now c.args.title.now c.args.body.now m.state full.1)))
+    changed_rests m _ _ _ (adding_full c.args.name.now c.args.title.now c.args.body.now m.state (search rules) full.1) (add_full c.args.name.now c.args.title.now c.args.body.now m.state full.1)))
 
 -- the addition failed
 pub returns-in_default-clause-answers : goal.returns-in_default-clause-answers
@@ -76,12 +85,12 @@ returns-in_default-clause-answers g c = record {
       let not_taken : has_name c.args.name.now m.state ≡ true → ⊥ = λ taken. c.in_default.not-Taken (same_fault _ _ _ c.in-Err.is ((c.add.ensures.taken m.state knows).1 taken)) in
       let not_full : (has_name c.args.name.now m.state ≡ false) × (4294967296 ≤ m.state.next) → ⊥ = λ full. c.in_default.not-Numbers (same_fault _ _ _ c.in-Err.is ((c.add.ensures.numbers m.state knows).1 full)) in
       let left = room_left c.args.name.now m.state not_taken not_full in
+      let is = adding_added c.args.name.now c.args.title.now c.args.body.now m.state (search rules) left.0 left.1 in
       record {
         reply = tt;
         agrees = tt;
-        images = leaves_adding (g.D.Disk.state c.args.disk.now) (g.D.Disk.state c.add.new.disk) c.args.name.now c.args.title.now c.args.body.now m.state (search rules) (c.add.ensures.obeys.images m.state agrees.stands)
-            (λ refused. absurd (⊎_elim not_taken not_full refused));
-        refused = λ refusal. refused_for _ c.args.name.now c.args.title.now c.args.body.now m.state (search rules) (λ taken. absurd (not_taken taken)) (λ full. absurd (not_full full)) refusal;
+        images = leaves_adding (g.D.Disk.state c.args.disk.now) (g.D.Disk.state c.add.new.disk) m.state _ _ _ is (c.add.ensures.obeys.images m.state agrees.stands);
+        refused = λ refusal. absurd (not_refused _ _ _ is (added_is_none m.state.next) refusal);
         works = λ held here. tt;
         full = λ held need gap here is.
             let same : c.in-Err.fault ≡ Full need gap = cc in
@@ -109,7 +118,10 @@ pub returns-in-Ok-clause-works : goal.returns-in-Ok-clause-works
 returns-in-Ok-clause-works g c = works_done g.D.Disk.tells g.D.Disk.state c.args.disk.now c.add.new.disk c.args.self.now.store (asks (adds c.args.name.now c.args.title.now c.args.body.now)) c.added.result c.added.ensures.memory (λ none. absurd none)
 
 pub returns-in-Taken-clause-works : goal.returns-in-Taken-clause-works
-returns-in-Taken-clause-works g c = works_done g.D.Disk.tells g.D.Disk.state c.args.disk.now c.add.new.disk c.args.self.now.store (asks (adds c.args.name.now c.args.title.now c.args.body.now)) c.text-in-Taken.result c.text-in-Taken.ensures.memory (λ none. absurd none)
+returns-in-Taken-clause-works g c =
+    let is : c.add.result ≡ Err Taken = c.in-Err.is ∙ ap Err c.in-Taken.is in
+    let same = c.add.ensures.refused (inl is) in
+    works_from g.D.Disk.tells g.D.Disk.state c.args.disk.now c.add.new.disk c.replace.new.disk c.args.self.now.store c.add.new.self (asks (adds c.args.name.now c.args.title.now c.args.body.now)) c.replace.result same.0 same.1 c.replace.ensures.works
 
 pub returns-in-Numbers-clause-works : goal.returns-in-Numbers-clause-works
 returns-in-Numbers-clause-works g c = works_done g.D.Disk.tells g.D.Disk.state c.args.disk.now c.add.new.disk c.args.self.now.store (asks (adds c.args.name.now c.args.title.now c.args.body.now)) c.text-in-Numbers.result c.text-in-Numbers.ensures.memory (λ none. absurd none)

@@ -1,47 +1,69 @@
-use Rattle.std.proofs.Common.{◌≡◌, ℕ, true, List, [], ◌∷◌, ◌++◌, ◌≤◌, length, refl, subst, sym}
-use Rattle.alta_catalog.specs.Knowing.{Follows}
-use Rattle.alta_content.specs.Rows.{ends_among}
-use Rattle.alta_images.specs.States.{with_added}
-use Rattle.alta_journal.specs.Record.{body_of}
+use Rattle.std.proofs.Common.{◌≡◌, ◌+◌, ◌≤◌, length, refl, sym, subst}
+use Rattle.alta_disk.specs.Disk.{Passes}
+use Rattle.alta_journal.specs.Entry.{MayBeRecorded}
+use Rattle.alta_journal.specs.Journal.{Appended, Appends}
+use Rattle.alta_journal.specs.Places.{start_of}
+use Rattle.alta_journal.specs.Record.{body_of, record_of}
 use Rattle.alta_journal.specs.declared.entry.Entry.{Entry}
-use Rattle.alta_journal.specs.declared.entry.Entry.TheVariants.{Add}
 use Rattle.alta_store.specs.Agreement.{room_of}
 use Rattle.alta_store.proofs.Changing.{costs_appended}
-use Rattle.alta_store.proofs.Commits.{add_allowed, add_knows, added_is, ap_err, closed, enters_failed, enters_ok, never_full}
+use Rattle.alta_store.proofs.Commits.{ap_err, closed, enters_failed, enters_ok, never_full}
+use Rattle.alta_store.proofs.Room.{may_record, raised_not, short_of}
 use Rattle.alta_store.proofs.store.Store.commit.Goals as goal
+
+pub apply_entry-requires-clause-knows : goal.apply_entry-requires-clause-knows
+apply_entry-requires-clause-knows g c = let intact = c.requires.agrees.intact in (intact.state, intact.knows)
+
+pub apply_entry-requires-clause-sound : goal.apply_entry-requires-clause-sound
+apply_entry-requires-clause-sound g c =
+    let store = c.args.self.now in
+    let entry = c.args.entry.now in
+    (store.root.version, may_record store.root.version entry c.requires.rules c.requires.typed (raised_not store entry c.requires.room))
+
+pub unreachable-requires : goal.unreachable-requires
+unreachable-requires g c =
+    let intact = c.requires.agrees.intact in
+    c.in-Ok-false.ensures.refused intact.state intact.knows c.in-Ok-false.field-0-test (c.requires.allowed intact.state intact.knows)
 
 pub append-requires-clause-closed : goal.append-requires-clause-closed
 append-requires-clause-closed g c =
     closed g.D.Disk.tells (g.D.Disk.state c.args.disk.now) (g.met.D.Disk.lawful c.args.disk.now) c.args.self.now c.requires.agrees
 
-pub returns-in-Ok-append-clause-enters : goal.returns-in-Ok-append-clause-enters
-returns-in-Ok-append-clause-enters g c =
+pub returns-in-Ok-clause-enters : goal.returns-in-Ok-clause-enters
+returns-in-Ok-clause-enters g c = λ step steps.
     let store = c.args.self.now in
-    let entry = c.in-Ok.ready.entry in
-    enters_ok g.D.Disk.tells (g.D.Disk.state c.args.disk.now) (g.met.D.Disk.lawful c.args.disk.now) store c.requires.agrees
-    entry (add_allowed store c.args.name.now c.args.title.now c.args.body.now entry c.in-Ok.ensures c.requires.free c.requires.number)
-    (subst (λ (e : Entry). length (body_of e) ≤ room_of store) (sym c.in-Ok.ensures) c.requires.fits)
-    (g.D.Disk.state c.append.new.disk) c.in-Ok-append.ensures.images (g.met.D.Disk.lawful c.append.new.disk) c.in-Ok-append.ensures.durable c.in-Ok-append.ensures.appended
-    _ refl refl refl c.in-Ok-append.ensures.tail c.in-Ok-append.ensures.half refl c.add.ensures.levels (λ row there. subst (λ (gone : List ℕ). ends_among gone row ≡ true) (sym c.add.ensures.gone) there)
-    (λ root entries follows. subst (λ (e : Entry). Follows c.add.new.self root (entries ++ e ∷ [])) (sym c.in-Ok.ensures) (c.in-Ok-add.ensures.follows root entries follows))
-    (add_knows store c.args.name.now c.args.title.now c.args.body.now entry c.in-Ok.ensures _ c.in-Ok-add.ensures.added)
-    (Add c.args.name.now c.args.title.now c.args.body.now) c.in-Ok.ensures (with_added c.args.name.now c.args.title.now c.args.body.now)
-    (λ s knows. added_is store c.args.name.now c.args.title.now c.args.body.now entry c.in-Ok.ensures s)
-    _ (costs_appended _ _ c.in-Ok-append.ensures.faults c.in-Ok-append.ensures.taken c.in-Ok-append.ensures.same_limit)
+    let entry = c.args.entry.now in
+    let a = g.D.Disk.state c.args.disk.now in
+    let b = g.D.Disk.state c.append.new.disk in
+    let version = store.root.version in
+    let may = may_record version entry c.requires.rules c.requires.typed (raised_not store entry c.requires.room) in
+    let start = start_of store.tail.half in
+    let place = store.tail.place in
+    let is = c.requires.ready in
+    enters_ok g.D.Disk.tells a (g.met.D.Disk.lawful c.args.disk.now) store c.requires.agrees entry c.requires.rules c.requires.typed c.requires.allowed c.requires.room
+    b (subst (λ (e : Entry). Passes (Appends version start place e) a b) is (c.in-Ok.ensures.images version (subst (MayBeRecorded version) (sym is) may))) (g.met.D.Disk.lawful c.append.new.disk) c.in-Ok.ensures.durable
+    (λ told. subst (λ (e : Entry). Appended version start place e a.content b.content) is (c.in-Ok.ensures.appended version (subst (MayBeRecorded version) (sym is) may) told))
+    _ refl refl refl (subst (λ (e : Entry). c.append.new.tail.place ≡ place + length (record_of e)) is c.in-Ok.ensures.tail) c.in-Ok.ensures.half refl c.apply_entry.ensures.levels c.in-Ok-true.ensures.still
+    (λ root entries follows. c.in-Ok-true.ensures.follows root entries follows c.in-Ok-true.field-0-test) (λ s knows. (c.in-Ok-true.ensures.allowed s knows c.in-Ok-true.field-0-test).1)
+    step steps _ (costs_appended _ _ c.in-Ok.ensures.faults c.in-Ok.ensures.taken c.in-Ok.ensures.same_limit)
 
-pub unreachable-requires : goal.unreachable-requires
-unreachable-requires g c =
-    never_full _ _ _ c.in-Err-Full.field-0-is (c.in-Err-Full.ensures.room (subst (λ (e : Entry). length (body_of e) ≤ room_of c.args.self.now) (sym c.in-Ok.ensures) c.requires.fits))
-
-pub returns-clause-enters : goal.returns-clause-enters
-returns-clause-enters g c =
+pub unreachable-requires-in-Err-Full : goal.unreachable-requires-in-Err-Full
+unreachable-requires-in-Err-Full g c =
     let store = c.args.self.now in
-    let entry = c.in-Ok.ready.entry in
-    enters_failed g.D.Disk.tells (g.D.Disk.state c.args.disk.now) (g.met.D.Disk.lawful c.args.disk.now) store c.requires.agrees
-    entry (add_allowed store c.args.name.now c.args.title.now c.args.body.now entry c.in-Ok.ensures c.requires.free c.requires.number)
-    (subst (λ (e : Entry). length (body_of e) ≤ room_of store) (sym c.in-Ok.ensures) c.requires.fits)
-    (g.D.Disk.state c.append.new.disk) c.in-Err-Disk.ensures.images
-    _ (Add c.args.name.now c.args.title.now c.args.body.now) (with_added c.args.name.now c.args.title.now c.args.body.now)
-    (λ s knows. added_is store c.args.name.now c.args.title.now c.args.body.now entry c.in-Ok.ensures s)
-    _ refl (c.in-Err-Disk.ensures.cause (ap_err c.in-Err-Disk.field-0-is))
+    never_full _ _ _ c.in-Err-Full.field-0-is (c.in-Err-Full.ensures.room (subst (λ (e : Entry). length (body_of e) ≤ room_of store) (sym c.requires.ready) (short_of store c.args.entry.now c.requires.room)))
+
+pub returns-in-Err-Disk-clause-enters : goal.returns-in-Err-Disk-clause-enters
+returns-in-Err-Disk-clause-enters g c = λ step steps.
+    let store = c.args.self.now in
+    let entry = c.args.entry.now in
+    let a = g.D.Disk.state c.args.disk.now in
+    let b = g.D.Disk.state c.append.new.disk in
+    let version = store.root.version in
+    let may = may_record version entry c.requires.rules c.requires.typed (raised_not store entry c.requires.room) in
+    let start = start_of store.tail.half in
+    let place = store.tail.place in
+    let is = c.requires.ready in
+    enters_failed g.D.Disk.tells a (g.met.D.Disk.lawful c.args.disk.now) store c.requires.agrees entry c.requires.rules c.requires.typed c.requires.allowed c.requires.room
+    b (subst (λ (e : Entry). Passes (Appends version start place e) a b) is (c.in-Err-Disk.ensures.images version (subst (MayBeRecorded version) (sym is) may)))
+    _ step steps _ refl (c.in-Err-Disk.ensures.cause (ap_err c.in-Err-Disk.field-0-is))
     (costs_appended _ _ c.in-Err-Disk.ensures.faults c.in-Err-Disk.ensures.taken c.in-Err-Disk.ensures.same_limit)

@@ -2,7 +2,6 @@ use Rattle.std.proofs.Common.{true, ◌≡◌, ◌⊎◌, inl, inr, ◌<◌, ◌
 use Rattle.std.specs.List.{All}
 use Rattle.alta_content.specs.Parts.{IsPart}
 use Rattle.alta_content.specs.declared.content.Content.{Content}
-use Rattle.alta_images.specs.Work.{flushes}
 use Rattle.alta_joins.specs.Contents.{StandsOn}
 use Rattle.alta_rewrite.specs.Rewrites.{no_content}
 use Rattle.alta_root.specs.declared.root.Root.{Root}
@@ -10,7 +9,7 @@ use Rattle.alta_store.specs.Agreement.{levels_of}
 use Rattle.alta_store.specs.Putting.{ReadsLevels}
 use Rattle.alta_store.specs.declared.fault.StoreFault.{StoreFault}
 use Rattle.alta_store.specs.declared.store.Store.{Store}
-use Rattle.alta_store.proofs.Flushing.{ObeysOver, flush_joined, flush_reads, flush_stays, joined, many_by, stays, two_now, two_of}
+use Rattle.alta_store.proofs.Flushing.{WritesOver, flush_joined, flush_reads, flush_stays, joined, many_by, stays, two_now, two_of}
 use Rattle.alta_store.proofs.Joining.{joinless, levels_long, levels_now, levels_stand, oldest_joined_now, segments_read, undamaged_read}
 use Rattle.alta_store.proofs.Working.{changes_unread}
 use Rattle.alta_table.specs.Tables.{Tables}
@@ -36,8 +35,8 @@ put-requires-clause-may g c =
           (omega (arith, c.len.ensures.value, c.len.ensures.fits, root_long, long)),
     )
 
-pub returns-then-len-lt-LEVELS-clause-obeys : goal.returns-then-len-lt-LEVELS-clause-obeys
-returns-then-len-lt-LEVELS-clause-obeys g c =
+pub returns-then-len-lt-LEVELS-clause-writes : goal.returns-then-len-lt-LEVELS-clause-writes
+returns-then-len-lt-LEVELS-clause-writes g c =
     let agrees = c.requires.agrees in
     let drained = c.in-Ok.ensures.drained in
     let long = levels_long g.D.Disk.tells (g.D.Disk.state c.args.disk.now) (g.met.D.Disk.lawful c.args.disk.now) c.args.self.now agrees in
@@ -49,7 +48,7 @@ returns-then-len-lt-LEVELS-clause-obeys g c =
     ] in
     let most : length (levels_of c.args.self.now) ≤ 16 = omega (arith, c.len.ensures.value, c.len.ensures.fits, root_long, long) in
     flush_stays g.D.Disk.tells (g.D.Disk.state c.args.disk.now) (g.met.D.Disk.lawful c.args.disk.now) c.args.self.now agrees c.in-Ok.newest c.in-Ok.ensures.content c.drain.new.self drained c.in-Ok.ensures.job
-    c.in-Ok.ensures.part _ (record { stay_from_is = refl; oldest_is = c.no_content-nothing.ensures; newest_is = refl }) no_part few most (g.D.Disk.state c.put.new.disk) (g.met.D.Disk.lawful c.put.new.disk) c.requires.some c.put.new.self c.put.result c.put.ensures.job
+    c.in-Ok.ensures.part _ (record { stay_from_is = refl; oldest_is = c.no_content-nothing.ensures; newest_is = refl }) no_part few most (g.D.Disk.state c.put.new.disk) (g.met.D.Disk.lawful c.put.new.disk) c.put.new.self c.put.result c.put.ensures.job
     (c.put.ensures.puts c.args.self.now
     (stays g.D.Disk.tells (g.D.Disk.state c.args.disk.now) (g.met.D.Disk.lawful c.args.disk.now) c.args.self.now agrees c.in-Ok.newest c.in-Ok.ensures.content c.drain.new.self drained c.in-Ok.ensures.job c.in-Ok.ensures.part _
     (record { stay_from_is = refl; oldest_is = c.no_content-nothing.ensures; newest_is = refl }) no_part few most))
@@ -60,8 +59,8 @@ join_oldest-requires-clause-stands g c = λ told.
     subst (All (StandsOn a.content)) (levels_now c.args.self.now c.drain.new.self c.in-Ok.ensures.drained)
     (levels_stand g.D.Disk.tells a (g.met.D.Disk.lawful c.args.disk.now) c.args.self.now c.requires.agrees told)
 
-pub returns-in-Err-join_oldest-clause-obeys : goal.returns-in-Err-join_oldest-clause-obeys
-returns-in-Err-join_oldest-clause-obeys g c =
+pub returns-in-Err-join_oldest-clause-writes : goal.returns-in-Err-join_oldest-clause-writes
+returns-in-Err-join_oldest-clause-writes g c =
     let tells = g.D.Disk.tells in
     let a = g.D.Disk.state c.args.disk.now in
     let b = g.D.Disk.state c.join_oldest.new.disk in
@@ -72,7 +71,7 @@ returns-in-Err-join_oldest-clause-obeys g c =
     let root_long = ap (λ (r : Root). length r.levels.items) drained.root in
     let many = many_by store newest (omega (arith, c.if-len-lt-LEVELS.false, c.len.ensures.value, c.len.ensures.fits, root_long, long)) (omega (arith, c.if-len-eq0.false, c.len-else-len-lt-LEVELS.ensures)) in
     let result : Result (Unit {0}) StoreFault = Err c.in-Err-join_oldest.fault in
-    subst (λ (joins : List Tables). ObeysOver tells flushes joins a b store c.join_oldest.new.self result) (sym (flush_reads tells a store c.requires.agrees newest c.in-Ok.ensures.content true many))
+    subst (λ (joins : List Tables). WritesOver tells joins a b store c.join_oldest.new.self result) (sym (flush_reads tells a store c.requires.agrees newest c.in-Ok.ensures.content true many))
     (changes_unread tells _ _ 1 (two_of store) a b (g.met.D.Disk.lawful c.args.disk.now) (g.met.D.Disk.lawful c.join_oldest.new.disk) store c.join_oldest.new.self c.in-Err-join_oldest.fault c.requires.agrees
     (segments_read tells a (g.met.D.Disk.lawful c.args.disk.now) store c.requires.agrees store.job)
     (subst (λ (joins : List Tables). ReadsLevels {T = Content} tells joins a b (Err c.in-Err-join_oldest.fault)) (two_now store c.drain.new.self drained c.in-Ok.ensures.job) c.in-Err-join_oldest.ensures.reads))
@@ -95,8 +94,8 @@ put-requires-2-clause-may g c =
           (record { stay_from_is = refl; oldest_is = refl; newest_is = refl }) (omega (arith, c.len.ensures.value, c.len.ensures.fits, root_long, long)),
     )
 
-pub returns-clause-obeys : goal.returns-clause-obeys
-returns-clause-obeys g c =
+pub returns-clause-writes : goal.returns-clause-writes
+returns-clause-writes g c =
     let tells = g.D.Disk.tells in
     let a = g.D.Disk.state c.args.disk.now in
     let b = g.D.Disk.state c.join_oldest.new.disk in
@@ -113,7 +112,7 @@ returns-clause-obeys g c =
     let taken = joinless store c.drain.new.self c.join_oldest.new.self drained c.join_oldest.ensures.taken in
     let no_job = ap (λ (s : Store). s.job) c.join_oldest.ensures.taken in
     flush_joined tells a b (g.D.Disk.state c.put-2.new.disk) (g.met.D.Disk.lawful c.args.disk.now) (g.met.D.Disk.lawful c.join_oldest.new.disk) (g.met.D.Disk.lawful c.put-2.new.disk) store c.requires.agrees read.reads
-    whole join.0 join.1 c.join_oldest.new.self taken no_job c.in-Ok-join_oldest.oldest newest join.2 c.in-Ok.ensures.content c.in-Ok.ensures.part _ (record { stay_from_is = refl; oldest_is = refl; newest_is = refl }) most c.requires.some many c.put-2.new.self c.put-2.result c.put-2.ensures.job
+    whole join.0 join.1 c.join_oldest.new.self taken no_job c.in-Ok-join_oldest.oldest newest join.2 c.in-Ok.ensures.content c.in-Ok.ensures.part _ (record { stay_from_is = refl; oldest_is = refl; newest_is = refl }) most many c.put-2.new.self c.put-2.result c.put-2.ensures.job
     (c.put-2.ensures.puts store
     (joined tells a b b (g.met.D.Disk.lawful c.args.disk.now) (g.met.D.Disk.lawful c.join_oldest.new.disk) (g.met.D.Disk.lawful c.join_oldest.new.disk) store c.requires.agrees read.reads whole join.0 join.1 c.join_oldest.new.self
     taken no_job c.in-Ok-join_oldest.oldest newest join.2 c.in-Ok.ensures.content c.in-Ok.ensures.part _ (record { stay_from_is = refl; oldest_is = refl; newest_is = refl }) most))
