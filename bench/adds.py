@@ -1,14 +1,15 @@
 #!/usr/bin/env python3
 """Measures durable adds beside a bare loop that writes records of the same sizes, in the same run.
 
-usage: bench/adds.py [--program PATH] [--lines FILE] [--count N] [--folder FOLDER]
+usage: bench/adds.py [--program PATH] [--before PATH] [--lines FILE] [--count N] [--folder FOLDER]
 
 FILE has `add` lines, as `examples/packages.py - /var/lib/dpkg/status` writes them; without one, lines of about 400 bytes are made. Both the
 program and the loop write to files in FOLDER (a new one in the current folder by default, so that both are on the same
 file system): a record behind its gate, a data sync, the gate, a data sync.
 
 Prints documents a second of both and their ratio, the program's processor time a byte of input and its peak memory, and,
-where strace is there, the system calls of each kind a document.
+where strace is there, the system calls of each kind a document. With --before the processor time and the memory of a program of before
+are printed too, the least of some turns of both.
 """
 
 import argparse
@@ -22,6 +23,7 @@ import tempfile
 import time
 
 JOURNAL_BYTES = 1_048_576
+TURNS = 5
 
 
 def made_lines(count):
@@ -68,8 +70,11 @@ def run(command, data):
     return seconds, out
 
 
-def usage_of(command, data, folder):
-    """Processor seconds and peak memory in KiB, by a child that waits for the command alone."""
+def usage_of(program, data, folder, turn):
+    """Processor seconds and peak memory in KiB of these lines in a new index, by a child that waits for the program alone."""
+    path = os.path.join(folder, f"{os.path.basename(program)} {turn}.alta")
+    subprocess.run([program, path, "init"], check=True)
+    command = [program, path, "run"]
     source = os.path.join(folder, "input")
     with open(source, "wb") as file:
         file.write(data)
@@ -89,6 +94,7 @@ def main():
     top = os.path.dirname(os.path.dirname(os.path.abspath(__file__)))
     parser = argparse.ArgumentParser(description=__doc__, formatter_class=argparse.RawDescriptionHelpFormatter)
     parser.add_argument("--program", default=os.path.join(top, "crates", "alta_cli", "out", "alta_cli"))
+    parser.add_argument("--before")
     parser.add_argument("--lines")
     parser.add_argument("--count", type=int, default=1000)
     parser.add_argument("--folder", default=".")
@@ -116,10 +122,11 @@ def main():
             bare = bare_loop(os.path.join(folder, f"{turn}.bare"), records)
             rates[turn] = (len(lines) / seconds, len(lines) / bare)
             print(f"program {rates[turn][0]:.0f} a second, bare loop {rates[turn][1]:.0f} a second, ratio {bare / seconds:.2f}")
-        path = os.path.join(folder, "usage.alta")
-        subprocess.run([options.program, path, "init"], check=True)
-        user, system, memory = usage_of([options.program, path, "run"], data, folder)
-        print(f"user {user * 1e9 / len(data):.0f} ns and system {system * 1e9 / len(data):.0f} ns a byte of input, peak memory {memory} KiB")
+        programs = [("program", options.program)] + ([("before", options.before)] if options.before else [])
+        usages = [[usage_of(program, data, folder, f"{called} {turn}") for called, program in programs] for turn in range(TURNS)]
+        for (called, _), of_one in zip(programs, zip(*usages)):
+            user, system, memory = map(min, zip(*of_one))
+            print(f"{called}: user {user * 1e9 / len(data):.0f} ns and system {system * 1e9 / len(data):.0f} ns a byte of input, peak memory {memory} KiB")
         if not shutil.which("strace"):
             print("strace is missing, so system calls are not counted")
             return 0
