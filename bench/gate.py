@@ -19,6 +19,7 @@ import argparse
 import os
 import re
 import select
+import signal
 import sys
 import time
 from typing import NamedTuple
@@ -259,6 +260,8 @@ def read_all(options):
     look = lambda: seen.look(roots)
     lines = lines_that_grow(options.log, look) if options.log else lines_of(0, look)
     to = open(options.to, "w", encoding="utf-8") if options.to else None
+    for number in (signal.SIGINT, signal.SIGTERM):
+        signal.signal(number, signal.default_int_handler)
     try:
         for line in lines:
             said.take(time.time(), line)
@@ -268,6 +271,7 @@ def read_all(options):
                 to.write(f"{time.time():.1f} {line}")
                 to.flush()
     except KeyboardInterrupt:
+        # What was seen until then is told.
         print("gate: interrupted", file=sys.stderr)
     finally:
         if to:
