@@ -9,10 +9,11 @@ use Rattle.std.proofs.lemmas.List.Folds.{list_any_at, list_any_more, list_any_no
 use Rattle.std.proofs.Math.Seq.{drop-cons}
 use Rattle.alta_compile.specs.Space.{document_end}
 use Rattle.alta_content.proofs.Order.{itself, same_term}
-use Rattle.alta_loading.specs.Met.{each_once, first_uses, same_test}
+use Rattle.alta_loading.specs.Met.{each_once, first_uses}
 use Rattle.alta_query.specs.declared.test.Test.{Test}
 use Rattle.alta_query.specs.declared.test.Test.TheVariants.{Is, Begins}
 use Rattle.alta_search.specs.Order.{ComeInOrder, IsOrder, Order, used}
+use Rattle.alta_search.specs.Tops.{same_test}
 
 same_true : (a b : Test) → same_test a b ≡ true → a ≡ b
 same_true (Is t) (Is u) e = ap Is (same_term t u e)

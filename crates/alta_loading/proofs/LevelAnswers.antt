@@ -1,6 +1,6 @@
 -- The answers over the snapshot of levels and of the newest documents.
-use Rattle.std.proofs.Common.{◌≡◌, ⊎_elim, ℕ, Bool, true, false, not, cond, ◌&&◌, ◌||◌, List, [], ◌∷◌, ◌++◌, map, length, get_or, refl, sym, subst, ap, ◌∙◌, arith}
-use Rattle.std.specs.Prelude.{◌↔◌, All, Contains, IsTrue, flat_map, nat_eq}
+use Rattle.std.proofs.Common.{◌≡◌, ◌≢◌, ⊎_elim, ℕ, Bool, true, false, not, cond, ◌&&◌, ◌||◌, List, [], ◌∷◌, ◌++◌, map, length, get_or, refl, sym, subst, ap, ◌∙◌, arith}
+use Rattle.std.specs.Prelude.{◌↔◌, All, AllPairs, Contains, IsTrue, flat_map, nat_eq}
 use Rattle.std.specs.List.{list_any}
 use Rattle.std.proofs.lemmas.Bool.{cases_Bool, true≢false}
 use Rattle.std.proofs.lemmas.List.{get_or-map, length-map, map-append}
@@ -17,6 +17,7 @@ use Rattle.alta_images.specs.Levels.{Level, document_of, documents_of, live_rows
 use Rattle.alta_images.specs.Ordered.{RowsPrecede}
 use Rattle.alta_images.specs.Standing.{tables_by}
 use Rattle.alta_loading.specs.Snapshots.{all_rows, loaded_view}
+use Rattle.alta_loading.proofs.LevelRanks.{all_short, answers_are, cells_found, is_left, numbers_differ}
 use Rattle.alta_loading.proofs.LevelEnds.{whole_space}
 use Rattle.alta_loading.proofs.LevelSpaces.{IsWritten, all_space, lists_are, of_levels, rows_added, rows_are, space_each}
 use Rattle.alta_loading.proofs.ReadOff.{added_in, among_contains, contains_among, read_off}
@@ -30,9 +31,9 @@ use Rattle.alta_query.specs.Shape.{Shape}
 use Rattle.alta_query.specs.declared.test.Test.{Test}
 use Rattle.alta_search.specs.Answers.{answers_in, is_answer}
 use Rattle.alta_search.specs.Documents.{AreToCome, told}
-use Rattle.alta_search.specs.Plans.{tests_of}
 use Rattle.alta_search.specs.Readers.{Each}
 use Rattle.alta_search.specs.Told.{answer_of}
+use Rattle.alta_search.specs.Tops.{AreToRank, number_of, document_of as document_of_row}
 use Rattle.alta_search.specs.View.{IsRowOf, Shows, View}
 use Rattle.alta_search.proofs.NewestAnswers.{AnswersMatch, MatchesAreDecided, answers-all}
 use Rattle.alta_search.proofs.NewestLists.{placed_of, space_of}
@@ -65,10 +66,6 @@ live_levels gone (l ∷ ls) =
 
 -- ---- which documents are answers
 
--- whether a document is left and matches
-abbrev is_left : List ℕ → Shape → Added → Bool
-is_left gone q a = not (ends_among gone a.row) && is_match a.cells q
-
 turned : (x y : ℕ) → nat_eq x y ≡ nat_eq y x
 turned x y = grind arith
 
@@ -98,13 +95,10 @@ rows_each (a ∷ more) (d, numbers, behind, rest) = ((refl, d.counted), rows_eac
 
 -- ---- the law
 
-module _ (answers_match : AnswersMatch) (decided : MatchesAreDecided) (levels : List Level) (image gone : List ℕ) (documents : List Document) (newest : mem.LevelView) (q : Shape)
+module _ (answers_match : AnswersMatch) (decided : MatchesAreDecided) (levels : List Level) (image gone : List ℕ) (documents : List Document) (newest : mem.LevelView) (tests : List Test) (q : Shape)
     (s : All (IsWritten image) levels) (h : HasDocuments gone documents newest) (rise : RowsPrecede (all_rows (map tables_by levels) newest.content)) where
   abbrev all : List Added
   all = of_levels levels ++ h.added
-
-  abbrev tests : List Test
-  tests = tests_of (plan_of q)
 
   abbrev view : View
   view = loaded_view (map tables_by levels) newest.content image tests gone
@@ -144,9 +138,22 @@ module _ (answers_match : AnswersMatch) (decided : MatchesAreDecided) (levels : 
       ∙ ap (λ ds. ds ++ map document_in (live_of gone h.added)) (live_levels gone levels)
       ∙ ap (λ ds. flat_map (documents_of gone) levels ++ ds) h.live
 
-  pub levels_answer : AreToCome (plan_of q) (loaded_view (map tables_by levels) newest.content image (tests_of (plan_of q)) gone) 0 (answers (flat_map (documents_of gone) levels ++ documents) q)
+  pub levels_answer : AreToCome (plan_of q) (loaded_view (map tables_by levels) newest.content image tests gone) 0 (answers (flat_map (documents_of gone) levels ++ documents) q)
   levels_answer = record {
     space = space_of all;
     shows = shows;
     answers = ap (λ (rs : List DocRow). map answer_of (answers_in list gone 0 rs)) (sym rows_same) ∙ answers-all (is_answer list gone 0) gone q all each_left ∙ ap (λ ds. map told (answers ds q)) live_all;
+  }
+
+  each_read : All (λ (a : Added). document_of_row (space_of all) a.row ≡ document_in a) all
+  each_read k d l = ap (λ cells. record { number = (get_or all k d).row.number; name = (get_or all k d).row.name; cells = cells }) (cells_found all spaced k d l)
+
+  pub levels_rank : AreToRank (plan_of q) (loaded_view (map tables_by levels) newest.content image tests gone) (answers (flat_map (documents_of gone) levels ++ documents) q)
+  levels_rank = record {
+    space = space_of all;
+    shows = shows;
+    short = all_short levels image h.added s h.made;
+    answers = ap (λ (rs : List DocRow). map (document_of_row (space_of all)) (answers_in list gone 0 rs)) (sym rows_same)
+        ∙ answers_are (is_answer list gone 0) gone q (document_of_row (space_of all)) all each_left each_read ∙ ap (λ ds. answers ds q) live_all;
+    numbered = subst (λ (ds : List Document). AllPairs ◌≢◌ (map number_of (answers ds q))) live_all (numbers_differ gone q all spaced);
   }

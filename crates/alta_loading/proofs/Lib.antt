@@ -4,6 +4,7 @@ pub mod Faults
 pub mod FirstUses
 pub mod LevelAnswers
 pub mod LevelEnds
+pub mod LevelRanks
 pub mod LevelSpaces
 pub mod Loaded
 pub mod Places

@@ -1,5 +1,5 @@
 -- The terms of levels and of the newest documents that meet a test, and what is loaded of tests.
-use Rattle.std.specs.Prelude.{Bool, false, if◌then◌else◌, ℕ, List, [], ◌∷◌, ◌++◌, map, flat_map}
+use Rattle.std.specs.Prelude.{Bool, if◌then◌else◌, ℕ, List, [], ◌∷◌, ◌++◌, map, flat_map}
 use Rattle.std.specs.List.{filter, list_any}
 use Rattle.std.specs.Str.{bytes_eq}
 use Rattle.alta_content.specs.Joining.{in_order}
@@ -8,9 +8,9 @@ use Rattle.alta_content.specs.declared.content.Content.{Content}
 use Rattle.alta_loading.specs.Loads.{Load}
 use Rattle.alta_loading.specs.Terms.{lists_of_term, loads_of, term_key}
 use Rattle.alta_query.specs.declared.test.Test.{Test}
-use Rattle.alta_query.specs.declared.test.Test.TheVariants.{Is, Begins}
 use Rattle.alta_search.specs.Lists.{TermKey}
 use Rattle.alta_search.specs.Newest.{term_meets}
+use Rattle.alta_search.specs.Tops.{same_test}
 use Rattle.alta_table.specs.Tables.{Tables}
 use Rattle.alta_table.specs.Terms.{terms_of}
 
@@ -55,12 +55,6 @@ abbrev pub loads_of_tests : List Tables → Content → List Test → List Load
 loads_of_tests levels newest tests = flat_map (loads_met levels newest) tests
 
 -- ---- tests, each once
-
-abbrev pub same_test : Test → Test → Bool
-same_test (Is term) (Is other) = bytes_eq term other
-same_test (Is term) (Begins start) = false
-same_test (Begins start) (Is term) = false
-same_test (Begins start) (Begins other) = bytes_eq start other
 
 -- the tests that are none of those before, each once, in the order in which they first come
 abbrev pub first_uses : List Test → List Test → List Test

@@ -16,8 +16,9 @@ ghost use Rattle.alta_memlevel.specs.Documents.{HasDocuments};
 ghost use Rattle.alta_meta.specs.declared.document.Document.{Document};
 ghost use Rattle.alta_model.specs.Deciding.{answers};
 ghost use Rattle.alta_query.specs.Shape.{Shape};
+ghost use Rattle.alta_query.specs.declared.test.Test.{Test};
 ghost use Rattle.alta_search.specs.Documents.{AreToCome};
-ghost use Rattle.alta_search.specs.Plans.{tests_of};
+ghost use Rattle.alta_search.specs.Tops.{AreToRank};
 
 use alta_model::a_match_is_decided;
 use alta_search::answers_match;
@@ -32,11 +33,22 @@ pub fn loaded_lists_are_those_of_the_content()
 {}
 
 /// Over levels whose bytes are the segments of contents, and the newest documents behind them, the answers to come of the plan of a
-/// query are the documents of both that match the query and are not deleted, in order. The function is a law, and has nothing to run.
+/// query are the documents of both that match the query and are not deleted, in order, whatever the tests whose lists were loaded.
+/// The function is a law, and has nothing to run.
 pub fn levels_and_newest_documents_answer()
-    ensures { (levels : List Level) (image gone : List ℕ) (documents : List Document) (newest : mem.LevelView) (q : Shape)
+    ensures { (levels : List Level) (image gone : List ℕ) (documents : List Document) (newest : mem.LevelView) (tests : List Test) (q : Shape)
         → All (λ level. IsSegment (bytes_at level.extent image) level.content) levels → HasDocuments gone documents newest → RowsPrecede (all_rows (map tables_by levels) newest.content)
-        → AreToCome (plan_of q) (loaded_view (map tables_by levels) newest.content image (tests_of (plan_of q)) gone) 0 (answers (flat_map (documents_of gone) levels ++ documents) q) }
+        → AreToCome (plan_of q) (loaded_view (map tables_by levels) newest.content image tests gone) 0 (answers (flat_map (documents_of gone) levels ++ documents) q) }
+{
+    answers_match();
+    a_match_is_decided();
+}
+
+/// The same answers with their cells, by which they are ranked. The function is a law, and has nothing to run.
+pub fn levels_and_newest_documents_are_ranked()
+    ensures { (levels : List Level) (image gone : List ℕ) (documents : List Document) (newest : mem.LevelView) (tests : List Test) (q : Shape)
+        → All (λ level. IsSegment (bytes_at level.extent image) level.content) levels → HasDocuments gone documents newest → RowsPrecede (all_rows (map tables_by levels) newest.content)
+        → AreToRank (plan_of q) (loaded_view (map tables_by levels) newest.content image tests gone) (answers (flat_map (documents_of gone) levels ++ documents) q) }
 {
     answers_match();
     a_match_is_decided();

@@ -11,10 +11,13 @@ mod term;
 mod terms;
 
 pub use fault::LoadFault;
-pub use laws::{levels_and_newest_documents_answer, loaded_lists_are_those_of_the_content};
+pub use laws::{
+    levels_and_newest_documents_answer, levels_and_newest_documents_are_ranked,
+    loaded_lists_are_those_of_the_content,
+};
 pub use list::load_list;
 pub use loading::{load_test, load_tests};
 pub use meeting::terms_met;
-pub use snapshot::load_snapshot;
+pub use snapshot::{load_ordered, load_snapshot};
 pub use term::{load_coded, load_term};
 pub use terms::load_terms;

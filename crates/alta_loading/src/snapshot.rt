@@ -23,17 +23,19 @@ ghost use Rattle.alta_model.specs.Deciding.{answers};
 ghost use Rattle.alta_query.specs.Shape.{Shape};
 ghost use Rattle.alta_search.specs.Documents.{AreToCome};
 ghost use Rattle.alta_search.specs.Newest.{HasAdded};
+ghost use Rattle.alta_search.specs.Order.{used};
 ghost use Rattle.alta_search.specs.Plans.{tests_of};
+ghost use Rattle.alta_search.specs.Tops.{AreToRank};
 
 use crate::fault::LoadFault;
-use crate::laws::levels_and_newest_documents_answer;
+use crate::laws::{levels_and_newest_documents_answer, levels_and_newest_documents_are_ranked};
 use crate::loading::load_tests;
 use alta_codec::Loc;
 use alta_compile::Plan;
 use alta_disk::Disk;
 use alta_memlevel::MemLevel;
 use alta_rows::AllRows;
-use alta_search::{Snapshot, loading_order};
+use alta_search::{Loading, Snapshot, loading_order};
 use alta_table::Table;
 use std::alloc::Global;
 
@@ -73,8 +75,51 @@ pub fn load_snapshot<D: Disk>(
     ensures cause { result ≡ Err DiskFault → Rose (D.state disk.old).faults (D.state disk.new).faults }
     ensures reads { Reads D.tells (load_sizes (loads_of_tests levels.now newest.now.content (each_once (tests_of (tree plan.now))))) (D.state disk.old) (D.state disk.new) }
 {
+    let order = loading_order(alloc, plan)?;
+    load_ordered(alloc, disk, order, levels, newest, rows, gone)
+}
+
+/// Loads the lists of the tests of an order, of each test those of the terms that meet it, from the levels, the oldest first, and
+/// from the newest documents; with the rows of all documents, and a copy of the deleted ends. Each test is loaded once, however many
+/// uses it has.
+///
+/// # Errors
+///
+/// Those of [`load_snapshot`].
+pub fn load_ordered<D: Disk>(
+    alloc: Global,
+    disk: &mut D,
+    order: Loading,
+    levels: &[Table],
+    newest: &MemLevel,
+    rows: AllRows,
+    gone: &[Loc],
+) -> Result<Snapshot, LoadFault>
+    requires within { D.tells → All (λ level. LiesWithin level (D.state disk.old).content) levels.now }
+    requires newest { HasAdded newest.now }
+    requires rise { RowsPrecede (all_rows levels.now newest.now.content) }
+    requires rows { rows ≡ all_rows levels.now newest.now.content }
+    requires gone { IsRising gone.now }
+    ensures tests { IfOk result (λ snapshot. snapshot.tests ≡ used order) }
+    ensures view { D.tells → IfOk result (λ snapshot. snapshot ≡ loaded_view levels.now newest.now.content (D.state disk.old).content (used order) gone.now) }
+    ensures tells { D.tells → Tells (D.state disk.old).content (loads_of_tests levels.now newest.now.content (each_once (used order))) result }
+    // Levels that are the segments of contents are never damaged.
+    ensures undamaged { D.tells → (contents : List Level) → levels.now ≡ map tables_by contents
+        → All (λ level. IsSegment (bytes_at level.extent (D.state disk.old).content) level.content) contents → IfDamaged result (λ place. ⊥) }
+    // Over them the answers of any query are the documents of the levels and the newest ones that match and are not deleted,
+    ensures answers { D.tells → IfOk result (λ snapshot. (contents : List Level) → (behind : List Document) → (q : Shape) → levels.now ≡ map tables_by contents
+        → All (λ level. IsSegment (bytes_at level.extent (D.state disk.old).content) level.content) contents → HasDocuments gone.now behind newest.now
+        → AreToCome (plan_of q) snapshot 0 (answers (flat_map (documents_of gone.now) contents ++ behind) q)) }
+    // also where they are ranked.
+    ensures ranked { D.tells → IfOk result (λ snapshot. (contents : List Level) → (behind : List Document) → (q : Shape) → levels.now ≡ map tables_by contents
+        → All (λ level. IsSegment (bytes_at level.extent (D.state disk.old).content) level.content) contents → HasDocuments gone.now behind newest.now
+        → AreToRank (plan_of q) snapshot (answers (flat_map (documents_of gone.now) contents ++ behind) q)) }
+    ensures cause { result ≡ Err DiskFault → Rose (D.state disk.old).faults (D.state disk.new).faults }
+    ensures reads { Reads D.tells (load_sizes (loads_of_tests levels.now newest.now.content (each_once (used order)))) (D.state disk.old) (D.state disk.new) }
+{
     levels_and_newest_documents_answer();
-    let (tests, uses) = loading_order(alloc, plan)?.into_parts();
+    levels_and_newest_documents_are_ranked();
+    let (tests, uses) = order.into_parts();
     match load_tests(alloc, disk, levels, newest, tests.into_vec()) {
         Ok(tests) => {
             let gone = Vec::from_slice(alloc, gone)?;

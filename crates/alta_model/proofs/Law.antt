@@ -1,5 +1,5 @@
 -- The steps of the reading give exactly the command that the text spells.
-use Rattle.std.proofs.Common.{rules, ◌≡◌, ℕ, ◌+◌, ◌<◌, suc, List, [], ◌∷◌, ◌++◌, length, take, drop, refl, ap, ap₂, sym, subst, ◌∙◌, arith, Bool, true, false, cond}
+use Rattle.std.proofs.Common.{rules, ◌≡◌, ℕ, ◌+◌, ◌<◌, ◌^◌, suc, List, [], ◌∷◌, ◌++◌, length, take, drop, refl, ap, ap₂, sym, subst, ◌∙◌, arith, Bool, true, false, cond}
 use Rattle.std.specs.Prelude.{◌||◌, nat_lt, if◌then◌else◌, codes, Option, Some, None, option_map}
 use Rattle.std.specs.List.{list_all, list_any, position_or_len, before_first, after_first}
 use Rattle.std.specs.Option.{option_or}
@@ -10,10 +10,10 @@ use Rattle.std.proofs.lemmas.Bool.{false≢true}
 use Rattle.std.proofs.lemmas.Bool.Decides.{nat_tests}
 use Rattle.std.proofs.lemmas.Slice.Eq.{bytes_eq-Decides}
 use Rattle.alta_codec.specs.Bytes.{has_byte}
-use Rattle.alta_model.specs.Command.{Command, Reads, IsFine, IsCount, spelled, is_tab, adds, deletes, searches, counts, explains, opens, fetches, closes, flushes, merges, steps, asks_stats}
+use Rattle.alta_model.specs.Command.{Command, Reads, IsCount, IsFine, spelled, is_tab, adds, deletes, searches, counts, explains, opens, fetches, closes, ranks, flushes, merges, steps, asks_stats}
 use Rattle.alta_model.specs.Faults.{is_space}
-use Rattle.alta_model.specs.Reading.{parted, command_in, in_parts, alone, with_rest, add_of, text_of, number_of, fetch_of, count_of, with_name, with_body, with_cursor, with_count}
-use Rattle.alta_model.proofs.Counts.{some_inj, none_is_not, count_reads, count_spelled, count_digits, both}
+use Rattle.alta_model.specs.Reading.{parted, command_in, in_parts, alone, with_rest, add_of, text_of, number_of, fetch_of, top_of, count_of, top_count_of, with_name, with_body, with_cursor, with_count, with_query}
+use Rattle.alta_model.proofs.Counts.{some_inj, none_is_not, count_reads, count_spelled, top_count_reads, top_count_spelled, counted_digits, both}
 
 lt_true : (m n : ℕ) → m < n → nat_lt m n ≡ true
 lt_true m n h = grind (arith, nat_tests)
@@ -159,13 +159,27 @@ fetch_parts rest None c e h = absurd (none_is_not c h)
 fetch_parts rest (Some (a, b)) c e h =
     subst (λ t. Reads (codes "fetch" ++ 32 ∷ t) c) (space_parts rest a b e) (fetch_counts a b (count_of a) (count_of b) c refl refl h)
 
+top_counted : (count query : List ℕ) (o : Option ℕ) (c : Command) → top_count_of count ≡ o → option_map (λ n. ranks n query) o ≡ Some c
+    → Reads (codes "top" ++ 32 ∷ (count ++ 32 ∷ query)) c
+top_counted count query None c e h = absurd (none_is_not c h)
+top_counted count query (Some n) c e h =
+    let k = top_count_spelled count n e in
+    subst (Reads (codes "top" ++ 32 ∷ (count ++ 32 ∷ query))) (some_inj (ranks n query) c h)
+    (record { spells = ap (λ t. codes "top " ++ (t ++ 32 ∷ query)) k.1; fine = k.0 })
+
+top_parts : (rest : List ℕ) (o : Option (List ℕ × List ℕ)) (c : Command) → parted is_space rest ≡ o → with_query o ≡ Some c → Reads (codes "top" ++ 32 ∷ rest) c
+top_parts rest None c e h = absurd (none_is_not c h)
+top_parts rest (Some (count, query)) c e h =
+    subst (λ t. Reads (codes "top" ++ 32 ∷ t) c) (space_parts rest count query e) (top_counted count query (top_count_of count) c refl h)
+
 number_read : (word rest : List ℕ) (c : Command) → number_of word rest ≡ Some c → Behind word rest c
-unfolding number_of fetch_of
+unfolding number_of fetch_of top_of
 number_read word rest c h =
     choice _ _ _ c _ h (λ e s. is_word word (codes "fetch") rest c e (fetch_parts rest (parted is_space rest) c refl s))
     (λ h. choice _ _ _ c _ h (λ e s. is_word word (codes "close") rest c e (count_read (codes "close") rest (λ n. closes n) (count_of rest) c refl s (λ n k. refl) (λ n k. k)))
     (λ h. choice _ _ _ c _ h (λ e s. is_word word (codes "step") rest c e (count_read (codes "step") rest (λ n. steps n) (count_of rest) c refl s (λ n k. refl) (λ n k. k)))
-    (λ h. absurd (none_is_not c h))))
+    (λ h. choice _ _ _ c _ h (λ e s. is_word word (codes "top") rest c e (top_parts rest (parted is_space rest) c refl s))
+    (λ h. absurd (none_is_not c h)))))
 
 body_parts : (name rest : List ℕ) (o : Option (List ℕ × List ℕ)) (c : Command) → has_byte 9 name ≡ false → parted is_tab rest ≡ o → with_body name o ≡ Some c
     → Reads (codes "add" ++ 32 ∷ (name ++ 9 ∷ rest)) c
@@ -208,8 +222,8 @@ none_spaced : (ds : List ℕ) → list_all is_ascii_digit ds ≡ true → list_a
 none_spaced [] h = refl
 none_spaced (d ∷ ds) h = let k = both (is_ascii_digit d) (list_all is_ascii_digit ds) h in rw (digit_no_space d k.0) (none_spaced ds k.1)
 
-no_space : (n : ℕ) → IsCount n → list_any is_space (decimal n) ≡ false
-no_space n fine = none_spaced (decimal n) (count_digits n fine)
+no_space : (n : ℕ) → n < 2 ^ 64 → list_any is_space (decimal n) ≡ false
+no_space n word = none_spaced (decimal n) (counted_digits n word)
 
 -- from the verb and the rest to the command
 behind : (verb rest : List ℕ) (c : Command) → list_any is_space verb ≡ false → with_rest verb rest ≡ Some c → command_in (verb ++ 32 ∷ rest) ≡ Some c
@@ -217,7 +231,7 @@ unfolding command_in
 behind verb rest c lacks h = ap (in_parts (verb ++ 32 ∷ rest)) (parted_seam is_space verb 32 rest lacks refl) ∙ h
 
 spelled_reads : (c : Command) → IsFine c → command_in (spelled c) ≡ Some c
-unfolding with_rest add_of text_of number_of fetch_of alone command_in parted
+unfolding with_rest add_of text_of number_of fetch_of top_of alone command_in parted
 spelled_reads (adds name title body) fine =
     behind (codes "add") (name ++ 9 ∷ (title ++ 9 ∷ body)) (adds name title body) refl
     (ap with_name (parted_seam is_tab name 9 (title ++ 9 ∷ body) fine.0 refl) ∙ ap (with_body name) (parted_seam is_tab title 9 body fine.1 refl))
@@ -228,9 +242,13 @@ spelled_reads (explains query) fine = behind (codes "explain") query (explains q
 spelled_reads (opens query) fine = behind (codes "open") query (opens query) refl refl
 spelled_reads (fetches cursor count) fine =
     behind (codes "fetch") (decimal cursor ++ 32 ∷ decimal count) (fetches cursor count) refl
-    (ap with_cursor (parted_seam is_space (decimal cursor) 32 (decimal count) (no_space cursor fine.0) refl)
+    (ap with_cursor (parted_seam is_space (decimal cursor) 32 (decimal count) (no_space cursor (omega (arith, fine.0))) refl)
     ∙ ap₂ with_count (count_reads cursor fine.0) (count_reads count fine.1))
 spelled_reads (closes cursor) fine = behind (codes "close") (decimal cursor) (closes cursor) refl (ap (option_map (λ n. closes n)) (count_reads cursor fine))
+spelled_reads (ranks count query) fine =
+    behind (codes "top") (decimal count ++ 32 ∷ query) (ranks count query) refl
+    (ap with_query (parted_seam is_space (decimal count) 32 query (no_space count (omega (arith, fine))) refl)
+    ∙ ap (option_map (λ n. ranks n query)) (top_count_reads count fine))
 spelled_reads flushes fine = refl
 spelled_reads merges fine = refl
 spelled_reads (steps count) fine = behind (codes "step") (decimal count) (steps count) refl (ap (option_map (λ n. steps n)) (count_reads count fine))

@@ -5,12 +5,16 @@ use Rattle.std.specs.List.{list_all, fold, before_first, after_first, position_o
 use Rattle.std.specs.Option.{option_or}
 use Rattle.std.specs.Str.{bytes_eq}
 use Rattle.alta_codec.specs.Decimal.{count_in}
-use Rattle.alta_model.specs.Command.{Command, adds, deletes, searches, counts, explains, opens, fetches, closes, flushes, merges, steps, asks_stats, is_tab}
+use Rattle.alta_model.specs.Command.{Command, adds, deletes, searches, counts, explains, opens, fetches, closes, ranks, flushes, merges, steps, asks_stats, is_tab}
 use Rattle.alta_model.specs.Faults.{is_space}
 
 -- a number from 1 to 1,000,000 without leading zeros
 unfoldable pub count_of : List ℕ → Option ℕ
 count_of text = count_in 7 1000000 text
+
+-- a number from 1 to 1,000 without leading zeros
+unfoldable pub top_count_of : List ℕ → Option ℕ
+top_count_of text = count_in 4 1000 text
 
 -- the parts around the first such byte
 unfoldable pub parted : (ℕ → Bool) → List ℕ → Option (List ℕ × List ℕ)
@@ -48,12 +52,21 @@ with_cursor (Some (cursor, count)) = with_count (count_of cursor) (count_of coun
 unfoldable pub fetch_of : List ℕ → Option Command
 fetch_of rest = with_cursor (parted is_space rest)
 
+-- the count of answers, and the query behind it
+abbrev pub with_query : Option (List ℕ × List ℕ) → Option Command
+with_query None = None
+with_query (Some (count, query)) = option_map (λ n. ranks n query) (top_count_of count)
+
+unfoldable pub top_of : List ℕ → Option Command
+top_of rest = with_query (parted is_space rest)
+
 unfoldable pub number_of : List ℕ → List ℕ → Option Command
 number_of word rest =
     if bytes_eq word (codes "fetch") then fetch_of rest
     else (if bytes_eq word (codes "close") then option_map (λ n. closes n) (count_of rest)
     else (if bytes_eq word (codes "step") then option_map (λ n. steps n) (count_of rest)
-    else None))
+    else (if bytes_eq word (codes "top") then top_of rest
+    else None)))
 
 unfoldable pub alone : List ℕ → Option Command
 alone word =

@@ -3,7 +3,7 @@ ghost use Rattle.std.specs.Prelude.{◌≡◌, ◌↔◌, option_map, IfOk, OnOk
 ghost use Rattle.std.specs.Str.{IsUtf8};
 ghost use Rattle.alta_model.specs.Command.{Command, Reads, is_tab};
 ghost use Rattle.alta_model.specs.Faults.{IsRefused, IsText, is_space, is_verb, word_of};
-ghost use Rattle.alta_model.specs.Reading.{command_in, parted, alone, with_rest, add_of, text_of, number_of, fetch_of, count_of};
+ghost use Rattle.alta_model.specs.Reading.{command_in, parted, alone, with_rest, add_of, text_of, number_of, fetch_of, top_of, count_of, top_count_of};
 ghost use Rattle.alta_model.specs.Lines.{reading_of, reading_in};
 ghost use Rattle.alta_model.specs.Seen.{command_of};
 
@@ -42,6 +42,10 @@ pub enum Line<'a> {
     },
     Close {
         cursor: u64,
+    },
+    Top {
+        count: u64,
+        text: &'a str,
     },
     Flush,
     Merge,
@@ -117,6 +121,7 @@ fn is_verb(word: &str) -> bool
         || word == "open"
         || word == "fetch"
         || word == "close"
+        || word == "top"
         || word == "flush"
         || word == "merge"
         || word == "step"
@@ -208,6 +213,9 @@ fn about_numbers<'a>(word: &str, rest: &'a str) -> Option<Line<'a>>
         let count = count(rest.as_bytes())?;
         return Some(Line::Step { count });
     }
+    if word == "top" {
+        return top(rest);
+    }
     None
 }
 
@@ -221,10 +229,27 @@ fn fetch(rest: &str) -> Option<Line<'_>>
     Some(Line::Fetch { cursor, count })
 }
 
+#[tactic(auto, unfolding(crate::specs::Reading::top_of, crate::specs::Reading::parted))]
+fn top(rest: &str) -> Option<Line<'_>>
+    ensures { option_map command_of result ≡ top_of rest.now }
+{
+    let (count, text) = rest.split_once(' ')?;
+    let count = top_count(count.as_bytes())?;
+    Some(Line::Top { count, text })
+}
+
 // The count from 1 to 1,000,000 that the text spells.
 #[tactic(auto, unfolding(crate::specs::Reading::count_of))]
 fn count(text: &[u8]) -> Option<u64>
     ensures { result ≡ count_of text.now }
 {
     read_count(text, 7, 1_000_000)
+}
+
+// The count from 1 to 1,000 that the text spells.
+#[tactic(auto, unfolding(crate::specs::Reading::top_count_of))]
+fn top_count(text: &[u8]) -> Option<u64>
+    ensures { result ≡ top_count_of text.now }
+{
+    read_count(text, 4, 1_000)
 }

@@ -1,6 +1,7 @@
-pub mod Best
 pub mod Counting
 pub mod Documents
+pub mod FewUses
+pub mod Keeping
 pub mod Passed
 mod Rows
 pub mod Scores

@@ -1,5 +1,5 @@
--- What is kept of the best answers and one more.
-use Rattle.std.specs.Prelude.{◌≡◌, ℕ, ◌<◌, ◌≤◌, List, ◌∷◌, length, All, true, false}
+-- What is kept of the best answers and one more, and which answers are the best.
+use Rattle.std.specs.Prelude.{◌≡◌, ℕ, ◌<◌, ◌≤◌, min, List, ◌∷◌, ◌++◌, length, All, Contains, true, false}
 use Rattle.std.specs.List.Sorted.{IsPermutation}
 use Rattle.std.specs.Ordering.{is_lt}
 use Rattle.alta_rank.specs.Ranked.{by_rank}
@@ -15,3 +15,15 @@ pub data Replaces (old : List Scored) (answer : Scored) (new : List Scored) : Ty
 pub data Keeps (count : ℕ) (old : List Scored) (answer : Scored) (new : List Scored) : Type 0 where
   joined : length old < count → IsPermutation (answer ∷ old) new → Keeps count old answer new
   replaced : count ≤ length old → Replaces old answer new → Keeps count old answer new
+
+-- how many answers are kept at most, and those that are
+pub record KeptOf : Type 0 where
+  pub count : ℕ
+  pub kept : List Scored
+
+-- These are the first `count` of all: there are no more, and none of those that were dropped comes before one of them.
+pub record IsBest (count : ℕ) (every kept : List Scored) : Type 0 where
+  pub dropped : List Scored
+  pub same : IsPermutation every (kept ++ dropped)
+  pub size : length kept ≡ min count (length every)
+  pub behind : (a b : Scored) → Contains kept a → Contains dropped b → is_lt (by_rank b a) ≡ false

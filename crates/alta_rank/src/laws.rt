@@ -1,10 +1,13 @@
 // What the definitions promise by themselves. Each function is a law, and has nothing to run.
-ghost use Rattle.std.specs.Prelude.{◌≡◌, ℕ, ◌+◌, ◌-◌, ◌<◌, List, length};
+ghost use Rattle.std.specs.Prelude.{◌≡◌, ℕ, ◌+◌, ◌-◌, ◌<◌, ◌≤◌, List, length};
 ghost use Rattle.std.specs.List.Sorted.{IsPermutation, IsSorted};
+ghost use Rattle.alta_query.specs.Matches.{IsWellFormed};
 ghost use Rattle.alta_query.specs.Patterns.{title_end};
+ghost use Rattle.alta_query.specs.Shape.{Shape};
 ghost use Rattle.alta_rank.specs.Cells.{score_of};
 ghost use Rattle.alta_rank.specs.Locations.{range_score, IsListIn, AreListsIn};
 ghost use Rattle.alta_rank.specs.Ranked.{by_rank, ranked};
+ghost use Rattle.alta_rank.specs.Uses.{uses_of};
 ghost use Rattle.alta_rank.specs.declared.scored.Scored.{Scored};
 ghost use Rattle.alta_rank.specs.declared.usage.Use.{Use};
 
@@ -20,4 +23,9 @@ pub fn a_score_is_of_the_cells()
 pub fn a_ranking_is_sorted()
     ensures same { (list : List Scored) → IsPermutation list (ranked list) }
     ensures sorted { (list : List Scored) → IsSorted by_rank (ranked list) }
+{}
+
+/// A query that was read has at most 64 uses.
+pub fn a_query_has_few_uses()
+    ensures { (q : Shape) → IsWellFormed q → length (uses_of q) ≤ 64 }
 {}

@@ -1,6 +1,7 @@
 //! Ranking by whole numbers: the uses of a query's tests, the score of a document, and the first answers by score.
 #![tactic(auto)]
 
+mod best;
 mod gathering;
 mod laws;
 mod ranking;
@@ -11,8 +12,9 @@ mod scoring;
 mod tests;
 mod usage;
 
+pub use best::Best;
 pub use gathering::uses;
-pub use laws::{a_ranking_is_sorted, a_score_is_of_the_cells};
+pub use laws::{a_query_has_few_uses, a_ranking_is_sorted, a_score_is_of_the_cells};
 pub use ranking::first;
 pub use scored::{Scored, ScoredList};
 pub use scorer::Scorer;

@@ -56,6 +56,20 @@ impl<R: BackReader> Scorer<R> {
         })
     }
 
+    /// How many uses it scores by.
+    pub fn len(&self) -> usize
+        ensures { result ≡ length self.now.uses }
+    {
+        self.uses.len()
+    }
+
+    /// The last end asked, 0 before the first.
+    pub fn asked(&self) -> Loc
+        ensures { result ≡ self.now.asked }
+    {
+        self.asked
+    }
+
     /// The score of the locations from `first` to `end`: over the uses and over the locations of the list of each, 4
     /// where a title ends behind the location, at `end` at most; any other counts 1, or 0 for a use in the title.
     ///

@@ -14,8 +14,8 @@ ghost use Rattle.alta_search.specs.Words.{IsSoundSingle, single_list, single_pla
 use crate::lists::{LevelList, Stored, TermLists, TestLists, terms_at};
 use crate::plan_reader::PlanReader;
 use crate::readers::{chain, lone};
+use crate::section::Section;
 use crate::single_reader::SingleReader;
-use crate::snapshot::Snapshot;
 use alta_codec::{Loc, Steps};
 use alta_compile::Conjunction;
 use alta_words::PlainReader;
@@ -250,7 +250,7 @@ fn every_third(alloc: Global, uses: &[usize]) -> Result<Vec<usize>, AllocError>
 pub(crate) fn by_rarest<'a, L: Ledger>(
     alloc: Global,
     found: &Conjunction,
-    snapshot: &'a Snapshot,
+    snapshot: &Section<'a>,
     from: Loc,
     steps: &mut Steps<L>,
 ) -> Result<PlanReader<'a>, AllocError>

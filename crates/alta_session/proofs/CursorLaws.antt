@@ -13,6 +13,7 @@ use Rattle.alta_query.specs.Reading.{query_of}
 use Rattle.alta_query.specs.Shape.{Shape}
 use Rattle.alta_query.specs.declared.fault.Cause.TheVariants.{Memory as WantsMemory}
 use Rattle.alta_query.specs.declared.fault.QueryFault.{QueryFault}
+use Rattle.alta_rank.specs.declared.scored.Scored.{Scored}
 use Rattle.alta_search.specs.Open.{AreOpen, IsFetched, OpenAnswers, least_free, left_of, with_fetched, with_opened, without_cursor}
 use Rattle.alta_search.specs.declared.cursors.OpenCursor.{OpenCursor}
 use Rattle.alta_search.specs.declared.cursors.TheConstants.{CURSORS}
@@ -21,7 +22,7 @@ use Rattle.alta_search.specs.Documents.{told}
 use Rattle.alta_search.specs.Told.{AnswerRow}
 use Rattle.alta_session.specs.Cursors.{Turns, opening, opened_by, opened_over, fetching, fetched_as, closing, closed_as, page_lines}
 use Rattle.alta_session.specs.Machine.{IsRefusal}
-use Rattle.alta_session.specs.Searching.{answer_lines, found_line, row_lines, query_refusal}
+use Rattle.alta_session.specs.Searching.{answer_lines, found_line, row_lines, score_line, score_lines, query_refusal}
 use Rattle.alta_session.proofs.SearchLaws.{refusal_some, some_behind}
 use Rattle.alta_store.specs.declared.fault.StoreFault.{StoreFault}
 use Rattle.alta_images.proofs.Tests.{apart_test}
@@ -127,6 +128,20 @@ rows_other (row ∷ rows) n = front_row row rows (found_line n)
 
 pub lines_other : (documents : List Document) (n : ℕ) → BeginsOther (answer_lines documents ++ found_line n)
 lines_other documents n = rows_other (map told documents) n
+
+front_score : (answer : Scored) (more : List Scored) (rest : List ℕ) → BeginsOther (score_lines (answer ∷ more) ++ rest)
+front_score answer more rest =
+    left_other (score_lines (answer ∷ more)) rest
+    (left_other (score_line answer) (score_lines more)
+    (left_other (decimal answer.number ++ codes " " ++ answer.name ++ codes " " ++ decimal answer.score) (codes "\n")
+    (left_other (decimal answer.number ++ codes " " ++ answer.name ++ codes " ") (decimal answer.score)
+    (left_other (decimal answer.number ++ codes " " ++ answer.name) (codes " ")
+    (left_other (decimal answer.number ++ codes " ") answer.name
+    (front_other (decimal answer.number) (codes " ") (decimal_leads answer.number) (λ e. absurd (omega (arith, e)))))))))
+
+pub scores_other : (best : List Scored) (n : ℕ) → BeginsOther (score_lines best ++ found_line n)
+scores_other [] n = found_other n
+scores_other (answer ∷ more) n = front_score answer more (found_line n)
 
 pub page_other : (rows : List AnswerRow) (more : Bool) → BeginsOther (row_lines rows ++ cond more (codes "more\n") (codes "end\n"))
 page_other [] true = λ e. absurd (omega (arith, e))

@@ -33,7 +33,7 @@ use Rattle.alta_query.specs.declared.test.Test.{Test}
 use Rattle.alta_search.specs.Plans.{tests_of}
 use Rattle.alta_search.specs.declared.cursors.OpenCursor.{OpenCursor}
 use Rattle.alta_search.specs.declared.cursors.TheConstants.{CURSORS}
-use Rattle.alta_session.specs.Loading.{Loads, Queries, loads_of_text, newest_in, of_load, open_loads, query_loads, search_loads, text_loads}
+use Rattle.alta_session.specs.Loading.{Loads, Queries, loads_of_text, newest_in, of_load, open_loads, query_loads, ranked_loads_of_text, ranked_query_loads, search_loads, text_loads, top_loads, top_text_loads}
 use Rattle.alta_session.specs.Machine.{IsRefusal}
 use Rattle.alta_session.specs.Searching.{IsNoQuery}
 use Rattle.alta_session.proofs.StatusLaws.{ok_answers, err_answers}
@@ -161,6 +161,14 @@ pub text_none : (store : Store) (text : List ℕ) (f : Fault) → query_of text 
 unfolding loads_of_text
 text_none store text f is = ap (query_loads (levels_of store) (newest_in store)) is
 
+pub top_found : (store : Store) (text : List ℕ) (q : Shape) → query_of text ≡ Ok q → top_text_loads store text ≡ top_loads store (plan_of q)
+unfolding ranked_loads_of_text
+top_found store text q is = ap (ranked_query_loads (levels_of store) (newest_in store)) is
+
+pub top_none : (store : Store) (text : List ℕ) (f : Fault) → query_of text ≡ Err f → top_text_loads store text ≡ []
+unfolding ranked_loads_of_text
+top_none store text f is = ap (ranked_query_loads (levels_of store) (newest_in store)) is
+
 -- ---- the disk is as it was
 pub agrees_read : (tells : Type 0) (bytes : ℕ) (d e : DiskState) (store : Store) → IsLawful tells d → Agrees tells d store → Reads tells bytes d e → Agrees tells e store
 agrees_read tells bytes d e store lawful agrees reads = record {
@@ -219,12 +227,19 @@ queries_idle tells state disk loads idle result memory none = record {
   idles = λ here. (refl, memory);
 }
 
-no_loads : (store : Store) (text : List ℕ) (e : QueryFault) → IsMemory e ⊎ (query_of text ≡ Err (fault_in e)) → (e.cause ≡ WantsMemory → ⊥) → text_loads store text ≡ []
-no_loads store text e (inl wanting) other = absurd (other (ap (λ (f : QueryFault). f.cause) wanting))
-no_loads store text e (inr is) other = text_none store text (fault_in e) is
+no_loads : (loads : List Load) (text : List ℕ) (e : QueryFault) → ((f : Fault) → query_of text ≡ Err f → loads ≡ []) → IsMemory e ⊎ (query_of text ≡ Err (fault_in e)) → (e.cause ≡ WantsMemory → ⊥) → loads ≡ []
+no_loads loads text e none (inl wanting) other = absurd (other (ap (λ (f : QueryFault). f.cause) wanting))
+no_loads loads text e none (inr is) other = none (fault_in e) is
+
+none_where : (loads : List Load) (text : List ℕ) (e : QueryFault) (result : Result (List ℕ) StoreFault) → ((f : Fault) → query_of text ≡ Err f → loads ≡ []) → IsMemory e ⊎ (query_of text ≡ Err (fault_in e))
+    → IfOk result (λ t. e.cause ≡ WantsMemory → ⊥) → IfOk result (λ x. loads ≡ [])
+none_where loads text e result none why other = IfOk-weaker result (λ t. e.cause ≡ WantsMemory → ⊥) (λ t. loads ≡ []) (λ t no. no_loads loads text e none why no) other
 
 pub none_loaded : (store : Store) (text : List ℕ) (e : QueryFault) (result : Result (List ℕ) StoreFault) → IsMemory e ⊎ (query_of text ≡ Err (fault_in e)) → IfOk result (λ t. e.cause ≡ WantsMemory → ⊥) → IfOk result (λ x. text_loads store text ≡ [])
-none_loaded store text e result why other = IfOk-weaker result (λ t. e.cause ≡ WantsMemory → ⊥) (λ t. text_loads store text ≡ []) (λ t no. no_loads store text e why no) other
+none_loaded store text e result why other = none_where (text_loads store text) text e result (text_none store text) why other
+
+pub none_ranked : (store : Store) (text : List ℕ) (e : QueryFault) (result : Result (List ℕ) StoreFault) → IsMemory e ⊎ (query_of text ≡ Err (fault_in e)) → IfOk result (λ t. e.cause ≡ WantsMemory → ⊥) → IfOk result (λ x. top_text_loads store text ≡ [])
+none_ranked store text e result why other = none_where (top_text_loads store text) text e result (top_none store text) why other
 
 -- ---- an open
 either_loads : (b : Bool) (a c : List Load) → a ≡ c → cond b [] a ≡ cond b [] c

@@ -1,5 +1,5 @@
 -- Laws of lines that ask for the answers of a query.
-use Rattle.std.proofs.Common.{◌≡◌, ◌⊎◌, ◌≤◌, ◌++◌, ℕ, inl, inr, ⊎_elim, Bool, true, false, cond, List, length, refl, ap, sym, subst, arith, Option, None, Result, Ok, Err, IfOk, IfErr, codes, decimal}
+use Rattle.std.proofs.Common.{◌≡◌, ◌⊎◌, ◌≤◌, ◌++◌, ℕ, inl, inr, ⊎_elim, Bool, true, false, cond, List, length, map, take, refl, ap, sym, subst, arith, Option, None, Result, Ok, Err, IfOk, IfErr, codes, decimal}
 use Rattle.std.specs.Prelude.{nat_le}
 use Rattle.std.proofs.lemmas.Bool.Decides.{nat_tests}
 use Rattle.alta_disk.specs.Disk.{DiskState, IsLawful, Same}
@@ -13,7 +13,10 @@ use Rattle.alta_model.specs.Deciding.{answers}
 use Rattle.alta_query.specs.Faults.{Fault}
 use Rattle.alta_query.specs.Reading.{query_of}
 use Rattle.alta_query.specs.Shape.{Shape}
+use Rattle.alta_rank.specs.Ranked.{ranked}
+use Rattle.alta_rank.specs.Uses.{uses_of}
 use Rattle.alta_search.specs.Open.{AreOpen, OpenAnswers, least_free, with_opened}
+use Rattle.alta_search.specs.Tops.{scored}
 use Rattle.alta_search.specs.declared.cursors.OpenCursor.{OpenCursor}
 use Rattle.alta_search.specs.declared.cursors.TheConstants.{CURSORS}
 use Rattle.alta_search.proofs.CursorAnswers.{same_length}
@@ -21,11 +24,11 @@ use Rattle.alta_session.specs.Answering.{Answers, CanAnswer}
 use Rattle.alta_session.specs.Cursors.{Turn, Turns, opening, opened_by}
 use Rattle.alta_session.specs.Loading.{Queries}
 use Rattle.alta_session.specs.Machine.{IsRefusal, Machine, turned_by}
-use Rattle.alta_session.specs.Searching.{IsNoQuery, answer_lines, counted_by, counting, found_by, found_line, searching}
+use Rattle.alta_session.specs.Searching.{IsNoQuery, answer_lines, counted_by, counting, found_by, found_line, ranked_by, ranking, score_lines, searching}
 use Rattle.alta_session.specs.Tasks.{IsBy}
 use Rattle.alta_session.specs.declared.session.Session.{Session}
 use Rattle.alta_session.proofs.AnsweringLaws.{answers_by, if_so, ok_weaker, with_cursors}
-use Rattle.alta_session.proofs.CursorLaws.{found_other, cursor_other, lines_other, no_refusal}
+use Rattle.alta_session.proofs.CursorLaws.{found_other, cursor_other, lines_other, no_refusal, scores_other}
 use Rattle.alta_session.proofs.LoadingLaws.{agrees_read}
 use Rattle.alta_session.proofs.TaskLaws.{worked_none}
 use Rattle.alta_store.specs.Agreement.{Agrees, levels_of}
@@ -112,6 +115,16 @@ count_idle documents (Err f) refusal = (f, refl)
 pub count_refuses : (text : List ℕ) (documents : List Document) → IsRefusal (counting text documents) → IsNoQuery text
 unfolding counting
 count_refuses text documents refusal = count_idle documents (query_of text) refusal
+
+rank_idle : (count : ℕ) (documents : List Document) (r : Result Shape Fault) → IsRefusal (ranked_by count documents r) → (f : Fault) × (r ≡ Err f)
+rank_idle count documents (Ok q) refusal =
+    let best = take count (ranked (map (scored (uses_of q)) (answers documents q))) in
+    absurd (no_refusal (score_lines best ++ found_line (length (answers documents q))) (scores_other best (length (answers documents q))) refusal)
+rank_idle count documents (Err f) refusal = (f, refl)
+
+pub rank_refuses : (count : ℕ) (text : List ℕ) (documents : List Document) → IsRefusal (ranking count text documents) → IsNoQuery text
+unfolding ranking
+rank_refuses count text documents refusal = rank_idle count documents (query_of text) refusal
 
 over_idle : (documents : List Document) (all : List OpenAnswers) (b : Bool) → nat_le CURSORS (length all) ≡ b
     → IsRefusal (cond {A = List OpenAnswers × List ℕ} b (all, codes "! too many cursors\n") (with_opened documents all, codes "cursor " ++ decimal (least_free all) ++ codes "\n")).1 → CURSORS ≤ length all

@@ -16,7 +16,7 @@ use Rattle.alta_make.specs.Script.{parity, add_with, add_line, delete_line, behi
 use Rattle.alta_make.proofs.Lines.{none-past, length-adds, length-deletes}
 use Rattle.alta_model.specs.Command.{IsCount}
 use Rattle.alta_model.specs.Reading.{count_of}
-use Rattle.alta_model.proofs.Counts.{both, chosen, none_is_not, count_reads, count_spelled, count_digits}
+use Rattle.alta_model.proofs.Counts.{both, chosen, none_is_not, count_reads, count_spelled, counted_digits}
 use Rattle.alta_session.specs.Demo.{AsksDemo}
 use Rattle.alta_session.specs.Fed.{Fed}
 use Rattle.alta_session.specs.Progress.{StopsWithin}
@@ -96,7 +96,7 @@ digits_free (x ∷ xs) all = let parts = both (is_ascii_digit x) (list_all is_as
 
 number_free : (n : ℕ) → n ≤ 1000000 → Lacks 10 (decimal n)
 number_free zero most = subst (Lacks 10) (sym (decimal_digit 0 (omega arith))) (All-cons IsOther _ [] (λ is. omega arith) (All-nil IsOther))
-number_free (suc n) most = digits_free (decimal (suc n)) (count_digits (suc n) (omega arith, most))
+number_free (suc n) most = digits_free (decimal (suc n)) (counted_digits (suc n) (omega (arith, most)))
 
 -- parts, one behind the other
 record IsFree (bytes : List ℕ) : Type 0 where

@@ -1,5 +1,5 @@
 -- Laws of the replies to queries.
-use Rattle.std.proofs.Common.{Global, ◌≡◌, ◌⊎◌, ℕ, ◌<◌, List, [], ◌∷◌, ◌++◌, length, map, take, zero, suc, ◌+◌, append-nil, append_assoc, lit<, inl, inr, ap, sym, subst, ◌∙◌, arith, Result, Ok, Err, IfOk, length-append, codes, decimal}
+use Rattle.std.proofs.Common.{Global, ◌≡◌, ◌⊎◌, ℕ, ◌<◌, List, [], ◌∷◌, ◌++◌, length, get_or, map, take, zero, suc, ◌+◌, append-nil, append_assoc, lit<, inl, inr, refl, ap, sym, subst, ◌∙◌, arith, Result, Ok, Err, IfOk, length-append, codes, decimal}
 use Rattle.std.specs.Prelude.{String, string_bytes, Some, slice_get}
 use Rattle.std.proofs.lemmas.List.{length-map}
 use Rattle.std.specs.Str.{IsUtf8}
@@ -17,11 +17,17 @@ use Rattle.alta_model.specs.Deciding.{answers}
 use Rattle.alta_compile.specs.Explained.{explained}
 use Rattle.alta_compile.specs.PlanOf.{plan_of}
 use Rattle.alta_compile.specs.Tree.{Tree}
+use Rattle.alta_rank.specs.Ranked.{ranked}
+use Rattle.alta_rank.specs.Uses.{uses_of}
+use Rattle.alta_rank.specs.declared.scored.Scored.{Scored}
+use Rattle.alta_rank.specs.declared.usage.Use.{Use}
 use Rattle.alta_search.specs.Documents.{told}
 use Rattle.alta_content.specs.declared.document.DocRow.{DocRow}
 use Rattle.alta_search.specs.Told.{AnswerRow, answer_of}
+use Rattle.alta_search.specs.Tops.{AreBest, scored}
+use Rattle.alta_search.specs.declared.page.Top.{Top}
 use Rattle.alta_session.specs.Machine.{IsRefusal}
-use Rattle.alta_session.specs.Searching.{answer_lines, row_lines, cause_name, found_line, found_by, counted_by, explained_by, searching, counting, explaining, query_refusal}
+use Rattle.alta_session.specs.Searching.{answer_lines, row_lines, score_line, score_lines, cause_name, found_line, found_by, counted_by, ranked_by, explained_by, searching, counting, explaining, ranking, query_refusal}
 
 -- what was written is the reply
 pub is_written : {E F : Type 0} (text : Result (List ℕ) E) (reply : Result (String Global) F) (l : List ℕ)
@@ -35,41 +41,52 @@ parsed r q text is gives = subst (λ x. Gives x (query_of text)) is gives
 pub not_parsed : (r : Result Query QueryFault) (e : QueryFault) (text : List ℕ) → r ≡ Err e → Gives r (query_of text) → IsMemory e ⊎ (query_of text ≡ Err (fault_in e))
 not_parsed r e text is gives = subst (λ x. Gives x (query_of text)) is gives
 
+-- the reply to the reading of a text, where it is a query and where it is none
+reply_found : {E : Type 0} (r : Result (List ℕ) E) (text : List ℕ) (reply : Result Shape Fault → List ℕ) (q : Shape) → query_of text ≡ Ok q → IfOk r (λ t. t ≡ reply (Ok q)) → IfOk r (λ t. t ≡ reply (query_of text))
+reply_found (Err e) text reply q is h = tt
+reply_found (Ok t) text reply q is h = h ∙ ap reply (sym is)
+
+reply_refused : {E : Type 0} (r : Result (List ℕ) E) (text : List ℕ) (reply : Result Shape Fault → List ℕ) (e : QueryFault) → reply (Err (fault_in e)) ≡ query_refusal (fault_in e) → IsMemory e ⊎ (query_of text ≡ Err (fault_in e))
+    → IfOk r (λ t. t ≡ query_refusal (fault_in e)) → IfOk r (λ t. e.cause ≡ Memory → ⊥) → IfOk r (λ t. t ≡ reply (query_of text))
+reply_refused (Err x) text reply e refuses why h other = tt
+reply_refused (Ok t) text reply e refuses (inl wanting) h other = absurd (other (ap (λ (f : QueryFault). f.cause) wanting))
+reply_refused (Ok t) text reply e refuses (inr is) h other = h ∙ sym refuses ∙ ap reply (sym is)
+
 pub search_found : {E : Type 0} (r : Result (List ℕ) E) (text : List ℕ) (documents : List Document) (q : Shape) → query_of text ≡ Ok q → IfOk r (λ t. t ≡ found_by documents (Ok q)) → IfOk r (λ t. t ≡ searching text documents)
 unfolding searching
-search_found (Err e) text documents q is h = tt
-search_found (Ok t) text documents q is h = h ∙ ap (found_by documents) (sym is)
+search_found r text documents q is h = reply_found r text (found_by documents) q is h
 
 pub count_found : {E : Type 0} (r : Result (List ℕ) E) (text : List ℕ) (documents : List Document) (q : Shape) → query_of text ≡ Ok q → IfOk r (λ t. t ≡ counted_by documents (Ok q)) → IfOk r (λ t. t ≡ counting text documents)
 unfolding counting
-count_found (Err e) text documents q is h = tt
-count_found (Ok t) text documents q is h = h ∙ ap (counted_by documents) (sym is)
+count_found r text documents q is h = reply_found r text (counted_by documents) q is h
+
+pub rank_found : {E : Type 0} (r : Result (List ℕ) E) (count : ℕ) (text : List ℕ) (documents : List Document) (q : Shape) → query_of text ≡ Ok q → IfOk r (λ t. t ≡ ranked_by count documents (Ok q)) → IfOk r (λ t. t ≡ ranking count text documents)
+unfolding ranking
+rank_found r count text documents q is h = reply_found r text (ranked_by count documents) q is h
 
 pub search_refused : {E : Type 0} (r : Result (List ℕ) E) (text : List ℕ) (documents : List Document) (e : QueryFault) → IsMemory e ⊎ (query_of text ≡ Err (fault_in e))
     → IfOk r (λ t. t ≡ query_refusal (fault_in e)) → IfOk r (λ t. e.cause ≡ Memory → ⊥) → IfOk r (λ t. t ≡ searching text documents)
 unfolding searching
-search_refused (Err x) text documents e why h other = tt
-search_refused (Ok t) text documents e (inl wanting) h other = absurd (other (ap (λ (f : QueryFault). f.cause) wanting))
-search_refused (Ok t) text documents e (inr is) h other = h ∙ ap (found_by documents) (sym is)
+search_refused r text documents e why h other = reply_refused r text (found_by documents) e refl why h other
 
 pub count_refused : {E : Type 0} (r : Result (List ℕ) E) (text : List ℕ) (documents : List Document) (e : QueryFault) → IsMemory e ⊎ (query_of text ≡ Err (fault_in e))
     → IfOk r (λ t. t ≡ query_refusal (fault_in e)) → IfOk r (λ t. e.cause ≡ Memory → ⊥) → IfOk r (λ t. t ≡ counting text documents)
 unfolding counting
-count_refused (Err x) text documents e why h other = tt
-count_refused (Ok t) text documents e (inl wanting) h other = absurd (other (ap (λ (f : QueryFault). f.cause) wanting))
-count_refused (Ok t) text documents e (inr is) h other = h ∙ ap (counted_by documents) (sym is)
+count_refused r text documents e why h other = reply_refused r text (counted_by documents) e refl why h other
+
+pub rank_refused : {E : Type 0} (r : Result (List ℕ) E) (count : ℕ) (text : List ℕ) (documents : List Document) (e : QueryFault) → IsMemory e ⊎ (query_of text ≡ Err (fault_in e))
+    → IfOk r (λ t. t ≡ query_refusal (fault_in e)) → IfOk r (λ t. e.cause ≡ Memory → ⊥) → IfOk r (λ t. t ≡ ranking count text documents)
+unfolding ranking
+rank_refused r count text documents e why h other = reply_refused r text (ranked_by count documents) e refl why h other
 
 pub explain_found : {E : Type 0} (r : Result (List ℕ) E) (text : List ℕ) (q : Shape) → query_of text ≡ Ok q → IfOk r (λ t. t ≡ explained_by (Ok q)) → IfOk r (λ t. t ≡ explaining text)
 unfolding explaining
-explain_found (Err e) text q is h = tt
-explain_found (Ok t) text q is h = h ∙ ap explained_by (sym is)
+explain_found r text q is h = reply_found r text explained_by q is h
 
 pub explain_refused : {E : Type 0} (r : Result (List ℕ) E) (text : List ℕ) (e : QueryFault) → IsMemory e ⊎ (query_of text ≡ Err (fault_in e))
     → IfOk r (λ t. t ≡ query_refusal (fault_in e)) → IfOk r (λ t. e.cause ≡ Memory → ⊥) → IfOk r (λ t. t ≡ explaining text)
 unfolding explaining
-explain_refused (Err x) text e why h other = tt
-explain_refused (Ok t) text e (inl wanting) h other = absurd (other (ap (λ (f : QueryFault). f.cause) wanting))
-explain_refused (Ok t) text e (inr is) h other = h ∙ ap explained_by (sym is)
+explain_refused r text e why h other = reply_refused r text explained_by e refl why h other
 
 -- the lines of the plan of a query whose terms are text
 pub plan_lines : (q : Shape) (t : Tree) (lines : List ℕ) → t ≡ plan_of q → IsUtf8 (explained [] (plan_of q)) → (IsUtf8 (explained [] t) → lines ≡ explained [] t) → lines ≡ explained [] (plan_of q)
@@ -93,6 +110,16 @@ found_by_some documents (Err f) = refusal_some f
 counted_by_some : (documents : List Document) (r : Result Shape Fault) → 0 < length (counted_by documents r)
 counted_by_some documents (Ok q) = found_some (length (answers documents q))
 counted_by_some documents (Err f) = refusal_some f
+
+ranked_by_some : (count : ℕ) (documents : List Document) (r : Result Shape Fault) → 0 < length (ranked_by count documents r)
+ranked_by_some count documents (Ok q) =
+    let best = score_lines (take count (ranked (map (scored (uses_of q)) (answers documents q)))) in
+    some_behind best (found_line (length (answers documents q))) (found_some (length (answers documents q)))
+ranked_by_some count documents (Err f) = refusal_some f
+
+pub ranking_some : (count : ℕ) (text : List ℕ) (documents : List Document) → 0 < length (ranking count text documents)
+unfolding ranking
+ranking_some count text documents = ranked_by_some count documents (query_of text)
 
 pub searching_some : (text : List ℕ) (documents : List Document) → 0 < length (searching text documents)
 unfolding searching
@@ -146,6 +173,33 @@ pub listed_are : (before now : List ℕ) (rows : List AnswerRow) (count : ℕ) (
 listed_are before now rows count documents are written counted is =
     is ∙ ap (λ (l : List ℕ). l ++ found_line count) (written ∙ ap row_lines are)
     ∙ ap (λ (n : ℕ). answer_lines documents ++ found_line n) (counted ∙ ap (λ (l : List AnswerRow). length l) are ∙ length-map documents told)
+
+-- one line more, with a score
+scores_more : (answers : List Scored) (i : ℕ) (answer : Scored) → i < length answers → answer ≡ get_or answers i answer → score_lines (take (suc i) answers) ≡ score_lines (take i answers) ++ score_line answer
+scores_more [] i answer l is = absurd (omega (arith, l))
+scores_more (a ∷ more) zero answer l is = append-nil (score_line a) ∙ ap score_line (sym is)
+scores_more (a ∷ more) (suc i) answer l is =
+    ap (λ (t : List ℕ). score_line a ++ t) (scores_more more i answer (omega (arith, l)) is) ∙ sym (append_assoc (score_line a) (score_lines (take i more)) (score_line answer))
+
+score_in_front : (before number name score : List ℕ)
+    → before ++ number ++ codes " " ++ name ++ codes " " ++ score ++ codes "\n" ≡ before ++ (number ++ codes " " ++ name ++ codes " " ++ score ++ codes "\n")
+score_in_front before number name score = simp append_assoc
+
+pub score_written : (start before now name : List ℕ) (answers : List Scored) (i : ℕ) (answer : Scored) → i < length answers → answer ≡ get_or answers i answer → before ≡ start ++ score_lines (take i answers) → name ≡ answer.name
+    → now ≡ before ++ decimal answer.number ++ codes " " ++ name ++ codes " " ++ decimal answer.score ++ codes "\n" → now ≡ start ++ score_lines (take (i + 1) answers)
+score_written start before now name answers i answer l at so_far named is =
+    is ∙ ap (λ (n : List ℕ). before ++ decimal answer.number ++ codes " " ++ n ++ codes " " ++ decimal answer.score ++ codes "\n") named
+    ∙ score_in_front before (decimal answer.number) answer.name (decimal answer.score)
+    ∙ ap (λ (t : List ℕ). t ++ score_line answer) so_far ∙ append_assoc start (score_lines (take i answers)) (score_line answer)
+    ∙ ap (λ (t : List ℕ). start ++ t) (sym (scores_more answers i answer l at))
+    ∙ ap (λ (n : ℕ). start ++ score_lines (take n answers)) (one_more i)
+
+-- the best answers, and how many there are
+pub best_are : (before now : List ℕ) (top : Top) (uses : List Use) (documents : List Document) (count : ℕ) → AreBest uses documents count top → before ≡ [] ++ score_lines top.answers → now ≡ before ++ found_line top.total
+    → now ≡ score_lines (take count (ranked (map (scored uses) documents))) ++ found_line (length documents)
+best_are before now top uses documents count best written is =
+    is ∙ ap (λ (l : List ℕ). l ++ found_line top.total) (written ∙ ap score_lines best.answers)
+    ∙ ap (λ (n : ℕ). score_lines (take count (ranked (map (scored uses) documents))) ++ found_line n) best.total
 
 -- how many they are
 pub counted_are : (now : List ℕ) (count : ℕ) (rows : List DocRow) (documents : List Document) → count ≡ length rows → map answer_of rows ≡ map told documents → now ≡ [] ++ found_line count

@@ -5,7 +5,7 @@ use Rattle.std.specs.List.{All}
 use Rattle.alta_content.specs.declared.content.Content.{Content}
 use Rattle.alta_disk.specs.Disk.{DiskState}
 use Rattle.alta_loading.specs.Loads.{load_sizes}
-use Rattle.alta_model.specs.Command.{Command, adds, deletes, searches, counts, explains, opens, fetches, closes, flushes, merges, steps, asks_stats}
+use Rattle.alta_model.specs.Command.{Command, adds, deletes, searches, counts, explains, opens, fetches, closes, ranks, flushes, merges, steps, asks_stats}
 use Rattle.alta_model.specs.Lines.{Reading, asks, refuses, reading_of}
 use Rattle.alta_search.specs.Open.{AreOpen, OpenAnswers}
 use Rattle.alta_search.specs.declared.cursors.OpenCursor.{OpenCursor}
@@ -105,6 +105,7 @@ reads_so line reads = so (reading_of line) reads
     which (opens text) reads = inr tt
     which (fetches cursor count) reads = inl tt
     which (closes cursor) reads = inl tt
+    which (ranks count text) reads = inr tt
     which flushes none = absurd none
     which merges none = absurd none
     which (steps count) none = absurd none

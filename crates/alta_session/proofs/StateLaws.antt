@@ -2,7 +2,7 @@
 use Rattle.std.proofs.Common.{◌≡◌, ℕ, Bool, true, false, Option, Some, None, List, refl, nat_le, if◌then◌else◌}
 use Rattle.alta_meta.specs.States.{IsState}
 use Rattle.alta_meta.specs.declared.document.State.{State}
-use Rattle.alta_model.specs.Command.{Command, adds, deletes, searches, counts, explains, opens, fetches, closes, flushes, merges, steps, asks_stats}
+use Rattle.alta_model.specs.Command.{Command, adds, deletes, searches, counts, explains, opens, fetches, closes, ranks, flushes, merges, steps, asks_stats}
 use Rattle.alta_model.specs.Lines.{Reading, asks, refuses, reading_of}
 use Rattle.alta_codec.specs.Name.{is_name}
 use Rattle.alta_images.proofs.StateLaws.{added_state, deleted_state, replaced_state}
@@ -41,6 +41,7 @@ obeyed_state m (explains text) is = is
 obeyed_state m (opens text) is = is
 obeyed_state m (fetches cursor count) is = is
 obeyed_state m (closes cursor) is = is
+obeyed_state m (ranks count text) is = is
 obeyed_state m flushes is = is
 obeyed_state m merges is = is
 obeyed_state m (steps count) is = is

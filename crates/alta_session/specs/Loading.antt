@@ -1,5 +1,5 @@
 -- What a line loads from the disk, and what a call that loads does.
-use Rattle.std.specs.Prelude.{◌≡◌, ◌⊎◌, ℕ, nat_le, if◌then◌else◌, List, [], length, All, Result, Ok, Err, IfOk, IfErr}
+use Rattle.std.specs.Prelude.{◌≡◌, ◌⊎◌, ℕ, nat_le, if◌then◌else◌, List, [], ◌∷◌, ◌++◌, length, All, Result, Ok, Err, IfOk, IfErr}
 use Rattle.alta_catalog.specs.Knowing.{memory_of}
 use Rattle.alta_codec.specs.Faults.{Rose}
 use Rattle.alta_compile.specs.PlanOf.{plan_of}
@@ -13,11 +13,13 @@ use Rattle.alta_loading.specs.Met.{each_once, loads_of_tests}
 use Rattle.alta_loading.specs.declared.fault.LoadFault.{LoadFault}
 use Rattle.alta_loading.specs.declared.fault.LoadFault.TheVariants.{Disk as LoadDisk, Memory as LoadMemory, Damaged as LoadDamaged}
 use Rattle.alta_meta.specs.declared.document.State.{State}
-use Rattle.alta_model.specs.Command.{Command, adds, deletes, searches, counts, explains, opens, fetches, closes, flushes, merges, steps, asks_stats}
+use Rattle.alta_model.specs.Command.{Command, adds, deletes, searches, counts, explains, opens, fetches, closes, ranks, flushes, merges, steps, asks_stats}
 use Rattle.alta_model.specs.Lines.{Reading, asks, refuses, reading_of}
 use Rattle.alta_query.specs.Faults.{Fault}
+use Rattle.alta_query.specs.Patterns.{title_end}
 use Rattle.alta_query.specs.Reading.{query_of}
 use Rattle.alta_query.specs.Shape.{Shape}
+use Rattle.alta_query.specs.declared.test.Test.{Test}
 use Rattle.alta_search.specs.Plans.{tests_of}
 use Rattle.alta_search.specs.declared.cursors.OpenCursor.{OpenCursor}
 use Rattle.alta_search.specs.declared.cursors.TheConstants.{CURSORS}
@@ -32,9 +34,13 @@ use Rattle.alta_table.specs.Tables.{Tables}
 
 -- ---- which lists
 
--- the lists that a search for a plan loads from levels, beside these newest documents, in the order of loading: those of its tests, each once
+-- the lists that are loaded from levels for tests, beside these newest documents, in the order of loading: those of each test once
+abbrev pub tests_loads : List Tables → Content → List Test → List Load
+tests_loads levels newest tests = loads_of_tests levels newest (each_once tests)
+
+-- those that a search for a plan loads
 abbrev pub plan_loads : List Tables → Content → Tree → List Load
-plan_loads levels newest plan = loads_of_tests levels newest (each_once (tests_of plan))
+plan_loads levels newest plan = tests_loads levels newest (tests_of plan)
 
 abbrev pub query_loads : List Tables → Content → Result Shape Fault → List Load
 query_loads levels newest (Ok q) = plan_loads levels newest (plan_of q)
@@ -44,11 +50,24 @@ query_loads levels newest (Err f) = []
 unfoldable pub loads_of_text : List Tables → Content → List ℕ → List Load
 loads_of_text levels newest text = query_loads levels newest (query_of text)
 
+-- those that a top of a plan loads: those of its tests, and behind them those of the places where titles end
+abbrev pub ranked_loads : List Tables → Content → Tree → List Load
+ranked_loads levels newest plan = tests_loads levels newest (tests_of plan ++ title_end ∷ [])
+
+abbrev pub ranked_query_loads : List Tables → Content → Result Shape Fault → List Load
+ranked_query_loads levels newest (Ok q) = ranked_loads levels newest (plan_of q)
+ranked_query_loads levels newest (Err f) = []
+
+-- those of the plan of a text, and none where it is no query
+unfoldable pub ranked_loads_of_text : List Tables → Content → List ℕ → List Load
+ranked_loads_of_text levels newest text = ranked_query_loads levels newest (query_of text)
+
 -- those of a command, where so many cursors are open: an open loads none where as many are open as may be
 abbrev pub command_loads : List Tables → Content → ℕ → Command → List Load
 command_loads levels newest many (searches text) = loads_of_text levels newest text
 command_loads levels newest many (counts text) = loads_of_text levels newest text
 command_loads levels newest many (opens text) = if nat_le CURSORS many then [] else loads_of_text levels newest text
+command_loads levels newest many (ranks count text) = ranked_loads_of_text levels newest text
 command_loads levels newest many (adds name title body) = []
 command_loads levels newest many (deletes name) = []
 command_loads levels newest many (explains text) = []
@@ -73,11 +92,20 @@ line_loads levels newest many line = loads_in levels newest many (reading_of lin
 abbrev pub newest_in : Store → Content
 newest_in store = (memory_of store.catalog).content
 
+abbrev pub order_loads : Store → List Test → List Load
+order_loads store tests = tests_loads (levels_of store) (newest_in store) tests
+
 abbrev pub search_loads : Store → Tree → List Load
 search_loads store plan = plan_loads (levels_of store) (newest_in store) plan
 
 abbrev pub text_loads : Store → List ℕ → List Load
 text_loads store text = loads_of_text (levels_of store) (newest_in store) text
+
+abbrev pub top_loads : Store → Tree → List Load
+top_loads store plan = ranked_loads (levels_of store) (newest_in store) plan
+
+abbrev pub top_text_loads : Store → List ℕ → List Load
+top_text_loads store text = ranked_loads_of_text (levels_of store) (newest_in store) text
 
 abbrev pub open_loads : Store → List OpenCursor → List ℕ → List Load
 open_loads store cursors text = command_loads (levels_of store) (newest_in store) (length cursors) (opens text)

@@ -3,13 +3,13 @@ use Rattle.std.specs.Prelude.{◌≡◌, ℕ, true, List, [], ◌∷◌, ◌++�
 use Rattle.std.specs.List.{starts_with}
 use Rattle.alta_codec.specs.Name.{is_name}
 use Rattle.alta_meta.specs.declared.document.State.{State}
-use Rattle.alta_model.specs.Command.{Command, adds, deletes, searches, counts, explains, opens, fetches, closes, flushes, merges, steps, asks_stats}
+use Rattle.alta_model.specs.Command.{Command, adds, deletes, searches, counts, explains, opens, fetches, closes, ranks, flushes, merges, steps, asks_stats}
 use Rattle.alta_model.specs.Lines.{Reading, asks, refuses, reading_of}
 use Rattle.alta_model.specs.declared.line.LineFault.{LineFault}
 use Rattle.alta_model.specs.declared.line.LineFault.TheVariants.{TooLong, NotUtf8, Unknown, Bad}
 use Rattle.alta_search.specs.Open.{OpenAnswers}
 use Rattle.alta_session.specs.Cursors.{Turn, opening, fetching, closing}
-use Rattle.alta_session.specs.Searching.{IsNoQuery, searching, counting, explaining}
+use Rattle.alta_session.specs.Searching.{IsNoQuery, searching, counting, explaining, ranking}
 use Rattle.alta_images.specs.States.{number_of, words_in, with_added, with_deleted, with_replaced}
 
 -- The machine between two lines: a state, and the cursors that are open, each with the answers that are still to come.
@@ -73,6 +73,7 @@ obeyed m (explains text) = (m, explaining text)
 obeyed m (opens text) = turned_by m (opening text m.state.documents m.cursors)
 obeyed m (fetches cursor count) = turned_by m (fetching cursor count m.cursors)
 obeyed m (closes cursor) = turned_by m (closing cursor m.cursors)
+obeyed m (ranks count text) = (m, ranking count text m.state.documents)
 obeyed m flushes = (m, codes "ok\n")
 obeyed m merges = (m, codes "ok\n")
 obeyed m (steps count) = (m, codes "ok\n")
@@ -108,6 +109,7 @@ IsLook (explains text) = Unit {0}
 IsLook (opens text) = IsNoQuery text
 IsLook (fetches cursor count) = Unit {0}
 IsLook (closes cursor) = Unit {0}
+IsLook (ranks count text) = IsNoQuery text
 IsLook asks_stats = Unit {0}
 IsLook (adds name title body) = ⊥
 IsLook (deletes name) = ⊥
@@ -123,11 +125,12 @@ LooksIn (refuses fault) = Unit {0}
 abbrev pub Looks : List ℕ → Type 0
 Looks line = LooksIn (reading_of line)
 
--- the command asks for the answers of a query, all at once or by a cursor, or for their count
+-- the command asks for the answers of a query, all at once or by a cursor, for the best of them or for their count
 abbrev pub IsSearch : Command → Type 0
 IsSearch (searches text) = Unit {0}
 IsSearch (counts text) = Unit {0}
 IsSearch (opens text) = Unit {0}
+IsSearch (ranks count text) = Unit {0}
 IsSearch (adds name title body) = ⊥
 IsSearch (deletes name) = ⊥
 IsSearch (explains text) = ⊥

@@ -1,5 +1,5 @@
 -- What queries are answered.
-use Rattle.std.specs.Prelude.{◌≡◌, ℕ, List, [], ◌∷◌, ◌++◌, length, map, Result, Ok, Err, codes, decimal}
+use Rattle.std.specs.Prelude.{◌≡◌, ℕ, List, [], ◌∷◌, ◌++◌, length, map, take, Result, Ok, Err, codes, decimal}
 use Rattle.alta_compile.specs.Explained.{explained}
 use Rattle.alta_compile.specs.PlanOf.{plan_of}
 use Rattle.alta_meta.specs.declared.document.Document.{Document}
@@ -10,8 +10,12 @@ use Rattle.alta_query.specs.Shape.{Shape}
 use Rattle.alta_query.specs.Spelling.{canonical}
 use Rattle.alta_query.specs.declared.fault.Cause.{Cause}
 use Rattle.alta_query.specs.declared.fault.Cause.TheVariants as cause
+use Rattle.alta_rank.specs.Ranked.{ranked}
+use Rattle.alta_rank.specs.Uses.{uses_of}
+use Rattle.alta_rank.specs.declared.scored.Scored.{Scored}
 use Rattle.alta_search.specs.Documents.{told}
 use Rattle.alta_search.specs.Told.{AnswerRow}
+use Rattle.alta_search.specs.Tops.{scored}
 
 -- the text is no query
 abbrev pub IsNoQuery : List ℕ → Type 0
@@ -25,6 +29,14 @@ row_lines (row ∷ rows) = decimal row.number ++ codes " " ++ row.name ++ codes 
 -- a line for each document
 abbrev pub answer_lines : List Document → List ℕ
 answer_lines documents = row_lines (map told documents)
+
+-- a line with an answer's number, its name and its score
+abbrev pub score_line : Scored → List ℕ
+score_line answer = decimal answer.number ++ codes " " ++ answer.name ++ codes " " ++ decimal answer.score ++ codes "\n"
+
+abbrev pub score_lines : List Scored → List ℕ
+score_lines [] = []
+score_lines (answer ∷ more) = score_line answer ++ score_lines more
 
 abbrev pub found_line : ℕ → List ℕ
 found_line count = codes "found " ++ decimal count ++ codes "\n"
@@ -57,6 +69,12 @@ abbrev pub counted_by : List Document → Result Shape Fault → List ℕ
 counted_by documents (Ok q) = found_line (length (answers documents q))
 counted_by documents (Err f) = query_refusal f
 
+-- the best answers of a query, so many at most, by falling score and at the same score by rising number; then how many answers there are
+abbrev pub ranked_by : ℕ → List Document → Result Shape Fault → List ℕ
+ranked_by count documents (Ok q) =
+    score_lines (take count (ranked (map (scored (uses_of q)) (answers documents q)))) ++ found_line (length (answers documents q))
+ranked_by count documents (Err f) = query_refusal f
+
 -- the canonical spelling of a query, and then its plan
 abbrev pub explained_by : Result Shape Fault → List ℕ
 explained_by (Ok q) = canonical q ++ codes "\n" ++ explained [] (plan_of q)
@@ -69,6 +87,10 @@ searching text documents = found_by documents (query_of text)
 -- the reply to a count of a text
 unfoldable pub counting : List ℕ → List Document → List ℕ
 counting text documents = counted_by documents (query_of text)
+
+-- the reply to a top of a text
+unfoldable pub ranking : ℕ → List ℕ → List Document → List ℕ
+ranking count text documents = ranked_by count documents (query_of text)
 
 -- the reply to an explain of a text
 unfoldable pub explaining : List ℕ → List ℕ

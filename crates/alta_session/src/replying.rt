@@ -3,10 +3,11 @@ ghost use Rattle.std.proofs.Common.{Global};
 ghost use Rattle.std.specs.Prelude.{◌≡◌, ◌++◌, ℕ, List, codes, decimal, String, string_bytes, Ok, IfOk, IfErr, OnOk};
 ghost use Rattle.alta_query.specs.Answer.{fault_in};
 ghost use Rattle.alta_session.specs.Answering.{IsReply};
-ghost use Rattle.alta_session.specs.Searching.{row_lines, cause_name, found_line, query_refusal};
+ghost use Rattle.alta_session.specs.Searching.{row_lines, score_lines, cause_name, found_line, query_refusal};
 
 use alta_codec::Text;
 use alta_query::{Cause, QueryFault};
+use alta_rank::Scored;
 use alta_search::Answers;
 use alta_store::StoreFault;
 use std::alloc::{AllocError, Global};
@@ -83,6 +84,22 @@ fn put_answer(reply: &mut String, number: u64, name: &str) -> Result<(), AllocEr
     ensures { OnOk result (string_bytes reply.new ≡ string_bytes reply.old ++ decimal number ++ codes " " ++ name.now ++ codes "\n") }
 {
     write!(reply, "{number} {name}\n")
+}
+
+/// Writes a line for each answer, with its number, its name and its score.
+pub(crate) fn put_scores(reply: &mut String, answers: &[Scored]) -> Result<(), AllocError>
+    ensures { OnOk result (string_bytes reply.new ≡ string_bytes reply.old ++ score_lines answers.now) }
+{
+    for answer in answers {
+        put_score(reply, answer.number, answer.name.as_str(), answer.score)?;
+    }
+    Ok(())
+}
+
+fn put_score(reply: &mut String, number: u64, name: &str, score: u64) -> Result<(), AllocError>
+    ensures { OnOk result (string_bytes reply.new ≡ string_bytes reply.old ++ decimal number ++ codes " " ++ name.now ++ codes " " ++ decimal score ++ codes "\n") }
+{
+    write!(reply, "{number} {name} {score}\n")
 }
 
 /// Writes how many answers there are.

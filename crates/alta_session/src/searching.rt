@@ -1,5 +1,5 @@
 // Queries over the documents of a store, answered by readers.
-ghost use Rattle.std.specs.Prelude.{◌≡◌, ◌++◌, ◌<◌, [], List, map, codes, length, string_bytes, Ok, IfOk, IfErr};
+ghost use Rattle.std.specs.Prelude.{◌≡◌, ◌∷◌, ◌++◌, ◌<◌, [], List, map, take, codes, length, string_bytes, Ok, IfOk, IfErr};
 ghost use Rattle.alta_compile.specs.Explained.{explained};
 ghost use Rattle.alta_compile.specs.PlanOf.{plan_of};
 ghost use Rattle.alta_compile.specs.Space.{Placed};
@@ -9,29 +9,35 @@ ghost use Rattle.alta_images.specs.Standing.{StandsFor};
 ghost use Rattle.alta_meta.specs.declared.document.Document.{Document};
 ghost use Rattle.alta_meta.specs.declared.document.State.{State};
 ghost use Rattle.alta_model.specs.Deciding.{answers};
+ghost use Rattle.alta_query.specs.Matches.{IsWellFormed};
 ghost use Rattle.alta_query.specs.Shape.{Shape};
 ghost use Rattle.alta_query.specs.Spelling.{canonical};
 ghost use Rattle.alta_query.specs.Texts.{HasTextTerms};
 ghost use Rattle.alta_query.specs.View.{shape};
+ghost use Rattle.alta_query.specs.Patterns.{title_end};
+ghost use Rattle.alta_rank.specs.Ranked.{ranked};
+ghost use Rattle.alta_rank.specs.Uses.{uses_of};
 ghost use Rattle.alta_search.specs.Answers.{coming};
 ghost use Rattle.alta_search.specs.Documents.{AreToCome};
+ghost use Rattle.alta_search.specs.Order.{used};
 ghost use Rattle.alta_search.specs.Plans.{tests_of};
 ghost use Rattle.alta_search.specs.Told.{answer_of};
+ghost use Rattle.alta_search.specs.Tops.{AreBest, AreToRank, scored};
 ghost use Rattle.alta_search.specs.View.{Shows};
 ghost use Rattle.alta_session.specs.Answering.{IsReply};
-ghost use Rattle.alta_session.specs.Loading.{Loads, Queries, search_loads, text_loads, of_load};
+ghost use Rattle.alta_session.specs.Loading.{Loads, Queries, order_loads, search_loads, text_loads, top_loads, top_text_loads, of_load};
 ghost use Rattle.alta_session.specs.Machine.{IsRefusal};
-ghost use Rattle.alta_session.specs.Searching.{IsNoQuery, answer_lines, found_line, found_by, counted_by, searching, counting, explaining};
+ghost use Rattle.alta_session.specs.Searching.{IsNoQuery, answer_lines, score_lines, found_line, found_by, counted_by, ranked_by, searching, counting, explaining, ranking};
 ghost use Rattle.alta_store.specs.Agreement.{Agrees};
 ghost use Rattle.alta_store.specs.Answers.{IsOutside};
 
-use crate::replying::{put_answers, put_count, refused, written};
+use crate::replying::{put_answers, put_count, put_scores, refused, written};
 use alta_codec::{Steps, Text};
 use alta_compile::{Plan, a_plan_is_text, compile};
 use alta_disk::Disk;
-use alta_loading::{LoadFault, load_snapshot};
+use alta_loading::{LoadFault, load_ordered};
 use alta_query::{Query, parse, print};
-use alta_search::{Page, Snapshot};
+use alta_search::{Loading, Page, Snapshot, Top, loading_order, ranking_order};
 use alta_store::{Sources, Store, StoreFault, a_search_sees_the_state};
 use std::alloc::{AllocError, Global};
 use std::marker::Brand;
@@ -69,6 +75,26 @@ pub(crate) fn count<D: Disk>(
 {
     match parse(alloc, text) {
         Ok(query) => counted(alloc, disk, store, &query),
+        Err(fault) => refused(alloc, fault),
+    }
+}
+
+/// The reply to a top: a line for each of the first `count` documents that match, by falling score and at the same score by rising
+/// number, with its number, name and score, and how many match; or that the text is no query. What it loads of the disk are the
+/// lists of the query, and behind them those of the places where titles end; its faults are those of loading them.
+pub(crate) fn rank<D: Disk>(
+    alloc: Global,
+    disk: &mut D,
+    store: &Store,
+    count: u64,
+    text: &str,
+) -> Result<Text, StoreFault>
+    requires { Agrees D.tells (D.state disk.old) store.now }
+    ensures reply { (s : State) → D.tells → StandsFor s (D.state disk.old).content → IfOk result (λ reply. reply ≡ ranking count text.now s.documents) }
+    ensures queries { Queries D.tells D.state disk.old disk.new (top_text_loads store.now text.now) (IsNoQuery text.now) result }
+{
+    match parse(alloc, text) {
+        Ok(query) => best_listed(alloc, disk, store, count, &query),
         Err(fault) => refused(alloc, fault),
     }
 }
@@ -174,6 +200,47 @@ fn all_counted(
     Ok(reply)
 }
 
+// The best answers of a query, a line for each, and how many answers there are.
+fn best_listed<D: Disk>(
+    alloc: Global,
+    disk: &mut D,
+    store: &Store,
+    count: u64,
+    query: &Query,
+) -> Result<Text, StoreFault>
+    requires agrees { Agrees D.tells (D.state disk.old) store.now }
+    requires read { IsWellFormed (shape query.now) }
+    ensures reply { (s : State) → D.tells → StandsFor s (D.state disk.old).content → IfOk result (λ reply. reply ≡ ranked_by count s.documents (Ok (shape query.now))) }
+    ensures queries { Queries D.tells D.state disk.old disk.new (top_loads store.now (plan_of (shape query.now))) ⊥ result }
+{
+    match planned_for_top(alloc, disk, store, query) {
+        Ok((plan, snapshot)) => written(all_ranked(alloc, &plan, query, &snapshot, count)),
+        Err(fault) => Err(fault),
+    }
+}
+
+// The best answers of a plan over a snapshot, a line for each, and how many answers there are.
+fn all_ranked(
+    alloc: Global,
+    plan: &Plan,
+    query: &Query,
+    snapshot: &Snapshot,
+    count: u64,
+) -> Result<String, AllocError>
+    requires tests { snapshot.now.tests ≡ tests_of (tree plan.now) ++ title_end ∷ [] }
+    requires query { tree plan.now ≡ plan_of (shape query.now) }
+    requires read { IsWellFormed (shape query.now) }
+    ensures lines { IfOk result (λ reply. (documents : List Document) → AreToRank (tree plan.now) snapshot.now documents
+        → string_bytes reply ≡ score_lines (take count (ranked (map (scored (uses_of (shape query.now))) documents))) ++ found_line (length documents)) }
+    ensures other { IfOk result (λ reply. ¬ (IsRefusal (string_bytes reply))) }
+{
+    let best = all_best(alloc, plan, query, snapshot, count)?;
+    let mut reply = String::new(alloc);
+    put_scores(&mut reply, best.answers.as_slice())?;
+    put_count(&mut reply, best.total)?;
+    Ok(reply)
+}
+
 /// The plan of a query, and the snapshot of a store's documents for it, whose lists are loaded from the disk. Over it the answers of the
 /// plan are the documents that the query matches.
 ///
@@ -197,25 +264,56 @@ pub(crate) fn planned<D: Disk>(
     let Ok(plan) = compile(alloc, query) else {
         return Err(StoreFault::Memory);
     };
-    match load(alloc, disk, store, &plan) {
+    let Ok(order) = loading_order(alloc, &plan) else {
+        return Err(StoreFault::Memory);
+    };
+    match load(alloc, disk, store, order) {
         Ok(snapshot) => Ok((plan, snapshot)),
         Err(fault) => Err(fault),
     }
 }
 
-// The snapshot of a store's documents for a plan, whose lists are loaded from the disk.
+// The plan of a query, and the snapshot of a store's documents for its best answers. Its faults are those of [`planned`].
+fn planned_for_top<D: Disk>(
+    alloc: Global,
+    disk: &mut D,
+    store: &Store,
+    query: &Query,
+) -> Result<(Plan, Snapshot), StoreFault>
+    requires { Agrees D.tells (D.state disk.old) store.now }
+    ensures plan { IfOk result (λ found. tree found.0 ≡ plan_of (shape query.now)) }
+    ensures tests { IfOk result (λ found. found.1.tests ≡ tests_of (tree found.0) ++ title_end ∷ []) }
+    ensures answers { (s : State) → D.tells → StandsFor s (D.state disk.old).content
+        → IfOk result (λ found. AreToRank (tree found.0) found.1 (answers s.documents (shape query.now))) }
+    ensures undamaged { (s : State) → D.tells → StandsFor s (D.state disk.old).content → IfErr result IsOutside }
+    ensures loads { Loads D.tells (top_loads store.now (plan_of (shape query.now))) (D.state disk.old) (D.state disk.new) result }
+{
+    let Ok(plan) = compile(alloc, query) else {
+        return Err(StoreFault::Memory);
+    };
+    let Ok(order) = ranking_order(alloc, &plan) else {
+        return Err(StoreFault::Memory);
+    };
+    match load(alloc, disk, store, order) {
+        Ok(snapshot) => Ok((plan, snapshot)),
+        Err(fault) => Err(fault),
+    }
+}
+
+// The snapshot of a store's documents for the tests of an order, whose lists are loaded from the disk.
 fn load<D: Disk>(
     alloc: Global,
     disk: &mut D,
     store: &Store,
-    plan: &Plan,
+    order: Loading,
 ) -> Result<Snapshot, StoreFault>
     requires { Agrees D.tells (D.state disk.old) store.now }
-    ensures tests { IfOk result (λ snapshot. snapshot.tests ≡ tests_of (tree plan.now)) }
-    ensures answers { (s : State) (q : Shape) → D.tells → StandsFor s (D.state disk.old).content → tree plan.now ≡ plan_of q
-        → IfOk result (λ snapshot. AreToCome (tree plan.now) snapshot 0 (answers s.documents q)) }
+    ensures tests { IfOk result (λ snapshot. snapshot.tests ≡ used order) }
+    ensures answers { (s : State) (q : Shape) → D.tells → StandsFor s (D.state disk.old).content → IfOk result (λ snapshot. AreToCome (plan_of q) snapshot 0 (answers s.documents q)) }
+    ensures ranked { (s : State) (q : Shape) → D.tells → StandsFor s (D.state disk.old).content
+        → IfOk result (λ snapshot. AreToRank (plan_of q) snapshot (answers s.documents q)) }
     ensures undamaged { (s : State) → D.tells → StandsFor s (D.state disk.old).content → IfErr result IsOutside }
-    ensures loads { Loads D.tells (search_loads store.now (tree plan.now)) (D.state disk.old) (D.state disk.new) result }
+    ensures loads { Loads D.tells (order_loads store.now (used order)) (D.state disk.old) (D.state disk.new) result }
 {
     a_search_sees_the_state::<D>();
     let Ok(sources) = store.sources() else {
@@ -227,7 +325,7 @@ fn load<D: Disk>(
         gone,
         rows,
     } = sources;
-    match load_snapshot(alloc, disk, plan, levels, newest, rows, gone) {
+    match load_ordered(alloc, disk, order, levels, newest, rows, gone) {
         Ok(snapshot) => Ok(snapshot),
         Err(fault) => Err(load_fault(fault)),
     }
@@ -308,4 +406,41 @@ fn tallied<L: Ledger>(
     let mut steps = Steps::<L>::new(blank);
     let count = alta_search::count(alloc, plan, query, snapshot, &mut steps)?;
     Ok(count)
+}
+
+// The best answers of a plan, so many at most.
+fn all_best(
+    alloc: Global,
+    plan: &Plan,
+    query: &Query,
+    snapshot: &Snapshot,
+    count: u64,
+) -> Result<Top, AllocError>
+    requires tests { snapshot.now.tests ≡ tests_of (tree plan.now) ++ title_end ∷ [] }
+    requires query { tree plan.now ≡ plan_of (shape query.now) }
+    requires read { IsWellFormed (shape query.now) }
+    ensures { IfOk result (λ top. (documents : List Document) → AreToRank (tree plan.now) snapshot.now documents → AreBest (uses_of (shape query.now)) documents count top) }
+{
+    best::<Brand>(alloc, plan, query, snapshot, count, Blank::new(1))
+}
+
+fn best<L: Ledger>(
+    alloc: Global,
+    plan: &Plan,
+    query: &Query,
+    snapshot: &Snapshot,
+    count: u64,
+    blank: Blank,
+) -> Result<Top, AllocError>
+    requires tests { snapshot.now.tests ≡ tests_of (tree plan.now) ++ title_end ∷ [] }
+    requires query { tree plan.now ≡ plan_of (shape query.now) }
+    requires name { blank.name ≡ L.name }
+    requires parts { blank.parts ≡ L.parts }
+    requires read { IsWellFormed (shape query.now) }
+    requires shared { 0 < L.parts }
+    ensures { IfOk result (λ top. (documents : List Document) → AreToRank (tree plan.now) snapshot.now documents → AreBest (uses_of (shape query.now)) documents count top) }
+{
+    let mut steps = Steps::<L>::new(blank);
+    let top = alta_search::top(alloc, plan, query, snapshot, count, &mut steps)?;
+    Ok(top)
 }

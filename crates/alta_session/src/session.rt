@@ -23,7 +23,7 @@ ghost use Rattle.alta_images.specs.Work.{flushes, merges, steps};
 
 use crate::paging::{close, fetch, open};
 use crate::replying::text;
-use crate::searching::{count, explain, search};
+use crate::searching::{count, explain, rank, search};
 use alta_codec::{Text, name_ok};
 use alta_disk::Disk;
 use alta_model::{Line, LineFault, read_line};
@@ -80,8 +80,9 @@ impl Session {
     /// journal has an entry, `merge` where there is something to merge, `step` where its join ends, and a line that adds or deletes
     /// flushes where its record does not fit in the journal or the root is of a version that may not have it. `Damaged` where a list has a fault that the line loads, or that it reads to
     /// join levels, with the first in the order of reading; never where the disk stands for a state. Then the index is as before the
-    /// line or as after it, and the session is not sound. `search`, `count` and `open` load the lists of their query, write nothing, and
-    /// read no more than these lists have; an open loads none where as many cursors are open as may be. `explain`, `fetch`, `close` and
+    /// line or as after it, and the session is not sound. `search`, `count`, `open` and `top` load the lists of their query, and `top`
+    /// those of the ends of titles behind them; they write nothing, and read no more than these lists have. An open loads none where as
+    /// many cursors are open as may be. `explain`, `fetch`, `close` and
     /// `stats` call no disk and fail for want of memory alone, and so does each line that is refused.
     pub fn line<D: Disk>(
         &mut self,
@@ -131,6 +132,7 @@ impl Session {
             Ask::Open(text) => open(alloc, disk, &self.store, &mut self.cursors, text),
             Ask::Fetch { cursor, count } => fetch(alloc, &mut self.cursors, cursor, count),
             Ask::Close(cursor) => close(alloc, &mut self.cursors, cursor),
+            Ask::Top { count, text } => rank(alloc, disk, &self.store, count, text),
             Ask::Flush => self.flush(alloc, disk),
             Ask::Merge => self.merge(alloc, disk),
             Ask::Step(count) => self.step(alloc, disk, count),
@@ -251,7 +253,7 @@ impl Session {
 }
 
 // What a line asks for: a document to be added or deleted, a query to be answered or explained, a cursor to be opened, read or
-// closed, a flush, a merge, a step of so many terms, the counts, or a reply that refuses it.
+// closed, a query whose best answers are given, a flush, a merge, a step of so many terms, the counts, or a reply that refuses it.
 enum Ask<'a> {
     Add {
         name: &'a str,
@@ -268,6 +270,10 @@ enum Ask<'a> {
         count: u64,
     },
     Close(u64),
+    Top {
+        count: u64,
+        text: &'a str,
+    },
     Flush,
     Merge,
     Step(u64),
@@ -290,6 +296,7 @@ fn asked(bytes: &[u8]) -> Ask<'_>
             Line::OpenCursor { text } => Ask::Open(text),
             Line::Fetch { cursor, count } => Ask::Fetch { cursor, count },
             Line::Close { cursor } => Ask::Close(cursor),
+            Line::Top { count, text } => Ask::Top { count, text },
             Line::Flush => Ask::Flush,
             Line::Merge => Ask::Merge,
             Line::Step { count } => Ask::Step(count),

@@ -9,7 +9,7 @@ use std::test::Fail;
 #[test]
 fn lines_are_read_or_refused(rt: HostRuntime) -> Result<(), Fail> {
     let alloc = rt.alloc();
-    let rows: [(&[u8], &str); 24] = [
+    let rows: [(&[u8], &str); 33] = [
         (
             b"add a\tRed Fox\tthe quick",
             "Ok(Add { name: \"a\", title: \"Red Fox\", body: \"the quick\" })",
@@ -36,6 +36,15 @@ fn lines_are_read_or_refused(rt: HostRuntime) -> Result<(), Fail> {
         (b"step 01", "Err(Bad)"),
         (b"step 0", "Err(Bad)"),
         (b"step 1", "Ok(Step { count: 1 })"),
+        (b"top 1 fox", "Ok(Top { count: 1, text: \"fox\" })"),
+        (b"top 1000 a b ", "Ok(Top { count: 1000, text: \"a b \" })"),
+        (b"top 1 ", "Ok(Top { count: 1, text: \"\" })"),
+        (b"top 0 fox", "Err(Bad)"),
+        (b"top 1001 fox", "Err(Bad)"),
+        (b"top 01 fox", "Err(Bad)"),
+        (b"top fox", "Err(Bad)"),
+        (b"top 1", "Err(Bad)"),
+        (b"tops 1 fox", "Err(Unknown)"),
         (b"flush", "Ok(Flush)"),
         (b"flush now", "Err(Bad)"),
         (b"find fox", "Err(Unknown)"),

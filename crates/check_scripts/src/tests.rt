@@ -100,6 +100,42 @@ fn queries_are_answered(rt: HostRuntime) -> Result<(), Fail> {
 }
 
 #[test]
+fn the_best_answers_come_first(rt: HostRuntime) -> Result<(), Fail> {
+    let alloc = rt.alloc();
+    let mut disk = made(alloc)?;
+    let _ = replies(alloc, &mut disk, BOTH)?;
+    // A word counts four where a title ends behind it, and else one.
+    let rows = [
+        ("top 1 fox", "1 a 5\nfound 2\n"),
+        ("top 2 quick OR fox", "1 a 6\n2 b 5\nfound 2\n"),
+        ("top 5 quick NOT red", "2 b 1\nfound 1\n"),
+        ("top 2 quick", "1 a 1\n2 b 1\nfound 2\n"),
+        ("top 1000 fox", "1 a 5\n2 b 4\nfound 2\n"),
+        ("top 1 title:fox", "1 a 4\nfound 2\n"),
+        ("top 9 name:b OR the", "2 b 4\n1 a 1\nfound 2\n"),
+        ("top 1 red NEAR/1 red", "1 a 10\nfound 1\n"),
+        ("top 2 NOT zebra", "1 a 0\n2 b 0\nfound 2\n"),
+        ("top 3 zebra", "found 0\n"),
+        ("top 0 fox", "! bad line\n"),
+        ("top 1001 fox", "! bad line\n"),
+        ("top 1", "! bad line\n"),
+        ("top 1 fox OR", "! query 6 Operand\n"),
+        ("top 1 ", "! query 0 Empty\n"),
+    ];
+    for (line, want) in rows {
+        let given = replies(alloc, &mut disk, line)?;
+        assert_eq!(rt; given.as_slice(), want.as_bytes(), "{line}");
+    }
+    // The same over levels, beside newest documents and without those that are deleted.
+    let more = "flush\nadd c\tFox fox\tfox\nflush\nadd d\t\tfox fox fox\ndelete a\ntop 2 fox\n";
+    assert_eq!(rt;
+        replies(alloc, &mut disk, more)?.as_slice(),
+        b"ok\nadded 3\nok\nadded 4\ndeleted 1\n3 c 9\n2 b 4\nfound 3\n".as_slice()
+    );
+    Ok(())
+}
+
+#[test]
 fn queries_are_explained(rt: HostRuntime) -> Result<(), Fail> {
     let alloc = rt.alloc();
     let mut disk = made(alloc)?;

@@ -6,6 +6,8 @@ mod cursors;
 #[cfg(test)]
 mod figures;
 #[cfg(test)]
+mod ranks;
+#[cfg(test)]
 mod tests;
 #[cfg(test)]
 mod worked;

@@ -7,6 +7,7 @@ ghost use Rattle.alta_codec.specs.Order.{Precedes};
 ghost use Rattle.alta_codec.specs.Rising.{IsRising};
 ghost use Rattle.alta_compile.specs.View.{tree};
 ghost use Rattle.alta_content.specs.Rows.{end_of, ends_of};
+ghost use Rattle.alta_query.specs.Patterns.{title_end};
 ghost use Rattle.alta_search.specs.Lists.{stored_list, term_lists, key_of, test_in, test_lists, test_keys, IsCut, AreKeys};
 ghost use Rattle.alta_search.specs.Met.{MeetTest, MeetsTest};
 ghost use Rattle.alta_search.specs.Newest.{term_meets};
@@ -18,7 +19,7 @@ use alta_content::{DocRow, LevelRows};
 use alta_postings::encode;
 use alta_query::Test;
 use alta_rows::AllRows;
-use alta_search::{LevelList, Snapshot, Stored, TermLists, TestLists, loading_order};
+use alta_search::{LevelList, Snapshot, Stored, TermLists, TestLists, loading_order, ranking_order};
 use alta_words::Posting;
 use std::alloc::{AllocError, Global};
 use std::cmp::Ordering;
@@ -270,6 +271,17 @@ pub(crate) fn snapshot(alloc: Global, plan: &Plan, gone: &[Loc]) -> Result<Snaps
     ensures { IfOk result (λ s. s.tests ≡ tests_of (tree plan.now)) }
 {
     let (tests, uses) = loading_order(alloc, plan)?.into_parts();
+    let tests = tested(alloc, tests.into_vec(), false)?;
+    let rows = documents(alloc)?;
+    Ok(Snapshot::new(tests, uses, rows, Vec::from_slice(alloc, gone)?))
+}
+
+/// The snapshot of the two documents to rank the answers of a plan.
+pub(crate) fn ranked(alloc: Global, plan: &Plan, gone: &[Loc]) -> Result<Snapshot, AllocError>
+    requires { IsRising gone.now }
+    ensures { IfOk result (λ s. s.tests ≡ tests_of (tree plan.now) ++ title_end ∷ []) }
+{
+    let (tests, uses) = ranking_order(alloc, plan)?.into_parts();
     let tests = tested(alloc, tests.into_vec(), false)?;
     let rows = documents(alloc)?;
     Ok(Snapshot::new(tests, uses, rows, Vec::from_slice(alloc, gone)?))

@@ -2,4 +2,4 @@ use Rattle.alta_loading.proofs.LevelAnswers.{levels_answer}
 use Rattle.alta_loading.proofs.laws.levels_and_newest_documents_answer.Goals as goal
 
 pub returns : goal.returns
-returns c = λ levels image gone documents newest q s h rise. levels_answer c.answers_match.ensures c.a_match_is_decided.ensures levels image gone documents newest q s h rise
+returns c = λ levels image gone documents newest tests q s h rise. levels_answer c.answers_match.ensures c.a_match_is_decided.ensures levels image gone documents newest tests q s h rise

@@ -1,5 +1,5 @@
 use Rattle.alta_rank.specs.Ranked.{ranked}
-use Rattle.alta_rank.proofs.Best.{ranked-permutation, ranked-falls, sorted-from_falls}
+use Rattle.alta_rank.proofs.Keeping.{ranked-permutation, ranked-falls, sorted-from_falls}
 use Rattle.alta_rank.proofs.laws.a_ranking_is_sorted.Goals as goal
 
 pub returns-clause-same : goal.returns-clause-same

@@ -1,18 +1,20 @@
-use Rattle.std.proofs.Common.{sym, subst, ◌∙◌}
-use Rattle.std.specs.BinaryHeap.{heap_items}
+use Rattle.std.proofs.Common.{sym, subst, ap, ◌++◌, ◌∷◌, [], take, ◌∙◌}
 use Rattle.std.proofs.lemmas.List.{map-id}
 use Rattle.std.proofs.lemmas.Iterator.Adapters.{YieldsList-from_vec}
 use Rattle.std.proofs.lemmas.Iterator.Consumers.{YieldsList-end}
-use Rattle.alta_rank.proofs.Best.{IsBest, best-more, best-sorted}
+use Rattle.alta_rank.specs.Kept.{IsBest}
+use Rattle.alta_rank.specs.Ranked.{ranked}
 use Rattle.alta_rank.proofs.ranking.first.Goals as goal
 
 pub answers-preserved : goal.answers-preserved
-answers-preserved c = record {
-  can_next = tt;
-  is_finite = tt;
-  heap = c.in_ok-keep.ensures.heap;
-  best = best-more c.args.count c.answers.yielded (heap_items c.answers.best) (heap_items c.keep.new.best) c.in-Some.answer c.answers.invariant.best c.in_ok-keep.ensures.kept;
-}
+answers-preserved c =
+    let inv = c.answers.invariant in record {
+      can_next = tt;
+      is_finite = tt;
+      count = c.put.ensures.count ∙ inv.count;
+      best = subst (λ n. IsBest n (c.answers.yielded ++ c.in-Some.answer ∷ []) c.put.new.self.kept) inv.count
+          (c.in_ok-put.ensures.best c.answers.yielded (subst (λ n. IsBest n c.answers.yielded c.answers.best.kept) (sym inv.count) inv.best));
+    }
 
 pub returns : goal.returns
 returns c =
@@ -20,6 +22,7 @@ returns c =
     let every = c.args.list.items in
     let all = YieldsList-end (YieldsList-from_vec {s = c.into_iter-answer-iterator.result} every gives.0 (gives.1 ∙ c.args.list.ok.0))
     c.answers.yielded c.answers.answer-iterator c.answers.yielded_by c.next.result c.next.new.self c.in-None.is c.next.ensures.steps in
-    best-sorted c.args.count every (heap_items c.answers.best) c.into_sorted_vec.result.items c.requires
-    (subst (λ l. IsBest c.args.count l (heap_items c.answers.best)) (sym (map-id c.answers.yielded) ∙ all.0) c.answers.invariant.best)
-    c.into_sorted_vec.ensures.permutation (c.into_sorted_vec.ensures.sorted c.answers.invariant.heap)
+    let inv = c.answers.invariant in
+    c.into_sorted.ensures every c.requires
+    (subst (λ n. IsBest n every c.answers.best.kept) (sym inv.count) (subst (λ l. IsBest c.args.count l c.answers.best.kept) (sym (map-id c.answers.yielded) ∙ all.0) inv.best))
+    ∙ ap (λ n. take n (ranked every)) inv.count

@@ -1,6 +1,5 @@
-use Rattle.std.specs.BinaryHeap.{IsHeap, heap_items}
-use Rattle.alta_rank.specs.Ranked.{by_rank}
-use Rattle.alta_rank.proofs.Best.{IsBest}
+use Rattle.std.proofs.Common.{◌≡◌}
+use Rattle.alta_rank.specs.Kept.{IsBest}
 use Rattle.alta_rank.proofs.ranking.first.Given as goal
 
 abbrev pub invariant-answers : goal.invariant-answers
@@ -8,6 +7,6 @@ invariant-answers l =
     record {
       can_next : (goal.iterator-answers).can_next l.answer-iterator;
       is_finite : (goal.iterator-answers).is_finite l.answer-iterator;
-      heap : IsHeap by_rank (heap_items l.best);
-      best : IsBest l.count l.yielded (heap_items l.best);
+      count : l.best.count ≡ l.count;
+      best : IsBest l.count l.yielded l.best.kept;
     }

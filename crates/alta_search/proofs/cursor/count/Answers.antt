@@ -1,9 +1,11 @@
-use Rattle.std.proofs.Common.{refl, subst, ap, ◌∙◌, arith}
+use Rattle.std.proofs.Common.{◌+◌, refl, subst, ap, ◌∙◌, arith}
 use Rattle.alta_compile.specs.View.{tree}
 use Rattle.alta_search.specs.Answers.{count_live}
 use Rattle.alta_compile.specs.Conjoined.{conjunction_of}
 use Rattle.alta_query.specs.View.{shape}
 use Rattle.alta_search.specs.Leads.{AreByRarest}
+use Rattle.alta_search.specs.View.{View}
+use Rattle.alta_search.specs.Walks.{IsBegun}
 use Rattle.alta_search.proofs.Paging.{count_is, rarest_onward, rarest_failed}
 use Rattle.alta_search.proofs.cursor.count.Goals as goal
 
@@ -14,17 +16,19 @@ returns-clause-count g c = λ space shows.
     c.tally.ensures.count
     ∙ ap (λ gone. count_live u.list gone u.place) c.gone.ensures.value
     ∙ count_is (tree c.args.plan.now) s u v 0
-    c.args.steps.now c.begin.new.steps c.tally.new.steps c.in_ok-reader.ensures.begun c.tally.ensures.onward (omega arith)
+    c.args.steps.now c.begin.new.steps c.tally.new.steps
+    (subst (λ (x : View). IsBegun (tree c.args.plan.now) x u 0 c.args.steps.now c.begin.new.steps) c.whole.ensures c.in_ok-reader.ensures.begun) c.tally.ensures.onward (omega arith)
     space shows refl
 
 pub returns-clause-rarest : goal.returns-clause-rarest
 returns-clause-rarest g c =
     subst (λ o. AreByRarest o c.args.snapshot.now c.args.steps.now c.tally.new.steps) c.in_ok-found.ensures.found
     (rarest_onward c.in_ok-found.found c.args.snapshot.now c.in_ok-reader.reader c.tally.new.reader c.args.steps.now c.begin.new.steps c.tally.new.steps
-    c.in_ok-reader.ensures.moves c.tally.ensures.onward)
+    (subst (λ (x : View). AreByRarest c.in_ok-found.found x c.args.steps.now (c.begin.new.steps + c.in_ok-reader.reader.moves)) c.whole.ensures c.in_ok-reader.ensures.moves) c.tally.ensures.onward)
 
 pub returns-in_err-reader-clause-rarest : goal.returns-in_err-reader-clause-rarest
-returns-in_err-reader-clause-rarest g c = subst (λ o. AreByRarest o c.args.snapshot.now c.args.steps.now c.begin.new.steps) c.in_ok-found.ensures.found c.begin.ensures.rarest
+returns-in_err-reader-clause-rarest g c = subst (λ o. AreByRarest o c.args.snapshot.now c.args.steps.now c.begin.new.steps) c.in_ok-found.ensures.found
+    (subst (λ (x : View). AreByRarest c.in_ok-found.found x c.args.steps.now c.begin.new.steps) c.whole.ensures c.begin.ensures.rarest)
 
 pub returns-in_err-found-clause-rarest : goal.returns-in_err-found-clause-rarest
 returns-in_err-found-clause-rarest g c = rarest_failed (conjunction_of (shape c.args.query.now)) c.args.snapshot.now c.args.steps.now c.args.steps.now (omega arith)

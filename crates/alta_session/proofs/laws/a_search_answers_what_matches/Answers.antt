@@ -16,7 +16,7 @@ returns g c = λ disk store s q found tell agrees stands are.
     let image : List ℕ = (g.D.Disk.state disk).content in
     let finds = c.a_search_sees_the_state.ensures.finds disk store agrees s tell stands are.levels are.newest are.gone are.rows are.searched in
     let rise : RowsPrecede (all_rows are.levels are.newest.content) = subst RowsPrecede are.searched.rows_are are.searched.rise in
-    let come = c.levels_and_newest_documents_answer.ensures finds.contents image are.gone finds.behind are.newest q finds.segments finds.has (subst (λ (levels : List Tables). RowsPrecede (all_rows levels are.newest.content)) finds.tables rise) in
+    let come = c.levels_and_newest_documents_answer.ensures finds.contents image are.gone finds.behind are.newest (tests_of (plan_of q)) q finds.segments finds.has (subst (λ (levels : List Tables). RowsPrecede (all_rows levels are.newest.content)) finds.tables rise) in
     let here : AreToCome (plan_of q) are.snapshot 0 (answers s.documents q) =
     subst (λ (v : View). AreToCome (plan_of q) v 0 (answers s.documents q)) (sym are.loaded)
     (subst (λ (levels : List Tables). AreToCome (plan_of q) (loaded_view levels are.newest.content image (tests_of (plan_of q)) are.gone) 0 (answers s.documents q)) (sym finds.tables)

@@ -1,19 +1,26 @@
 use Rattle.std.proofs.Common.{List, sym, subst}
-use Rattle.alta_compile.specs.View.{tree}
+use Rattle.alta_compile.specs.PlanOf.{plan_of}
 use Rattle.alta_meta.specs.declared.document.Document.{Document}
 use Rattle.alta_model.specs.Deciding.{answers}
 use Rattle.alta_search.specs.Documents.{AreToCome}
+use Rattle.alta_search.specs.Tops.{AreToRank}
 use Rattle.alta_session.proofs.LoadingLaws.{outside_of}
 use Rattle.alta_store.specs.Answers.{IsOutside}
 use Rattle.alta_session.proofs.searching.load.Goals as goal
 
-pub returns-in-Ok-load_snapshot-clause-answers : goal.returns-in-Ok-load_snapshot-clause-answers
-returns-in-Ok-load_snapshot-clause-answers g c = λ s q tell stands is.
+pub returns-in-Ok-load_ordered-clause-answers : goal.returns-in-Ok-load_ordered-clause-answers
+returns-in-Ok-load_ordered-clause-answers g c = λ s q tell stands.
     let finds = c.a_search_sees_the_state.ensures.finds c.args.disk.now c.args.store.now c.requires s tell stands _ _ _ _ c.in-Ok.ensures in
-    subst (λ (l : List Document). AreToCome (tree c.args.plan.now) c.in-Ok-load_snapshot.snapshot 0 (answers l q)) (sym finds.documents)
-    (c.in-Ok-load_snapshot.ensures.answers tell finds.contents finds.behind q finds.tables finds.segments finds.has is)
+    subst (λ (l : List Document). AreToCome (plan_of q) c.in-Ok-load_ordered.snapshot 0 (answers l q)) (sym finds.documents)
+    (c.in-Ok-load_ordered.ensures.answers tell finds.contents finds.behind q finds.tables finds.segments finds.has)
+
+pub returns-in-Ok-load_ordered-clause-ranked : goal.returns-in-Ok-load_ordered-clause-ranked
+returns-in-Ok-load_ordered-clause-ranked g c = λ s q tell stands.
+    let finds = c.a_search_sees_the_state.ensures.finds c.args.disk.now c.args.store.now c.requires s tell stands _ _ _ _ c.in-Ok.ensures in
+    subst (λ (l : List Document). AreToRank (plan_of q) c.in-Ok-load_ordered.snapshot (answers l q)) (sym finds.documents)
+    (c.in-Ok-load_ordered.ensures.ranked tell finds.contents finds.behind q finds.tables finds.segments finds.has)
 
 pub returns-in-Err-clause-undamaged : goal.returns-in-Err-clause-undamaged
 returns-in-Err-clause-undamaged g c = λ s tell stands.
     let finds = c.a_search_sees_the_state.ensures.finds c.args.disk.now c.args.store.now c.requires s tell stands _ _ _ _ c.in-Ok.ensures in
-    subst IsOutside (sym c.load_fault.ensures) (outside_of c.load_snapshot.result c.in-Err.fault c.in-Err.is (c.load_snapshot.ensures.undamaged tell finds.contents finds.tables finds.segments))
+    subst IsOutside (sym c.load_fault.ensures) (outside_of c.load_ordered.result c.in-Err.fault c.in-Err.is (c.load_ordered.ensures.undamaged tell finds.contents finds.tables finds.segments))

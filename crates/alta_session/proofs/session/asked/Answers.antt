@@ -2,7 +2,7 @@ use Rattle.std.proofs.Common.{List, ℕ, subst}
 use Rattle.alta_model.specs.Command.{Reads}
 use Rattle.alta_model.specs.Seen.{command_of}
 use Rattle.alta_model.specs.declared.line.Line.{Line}
-use Rattle.alta_model.specs.declared.line.Line.TheVariants.{Add, Delete, Search, Count, Explain, OpenCursor, Fetch, Close, Flush, Merge, Step, Stats}
+use Rattle.alta_model.specs.declared.line.Line.TheVariants.{Add, Delete, Search, Count, Explain, OpenCursor, Fetch, Close, Top, Flush, Merge, Step, Stats}
 use Rattle.alta_model.specs.declared.line.LineFault.TheVariants.{TooLong, NotUtf8, Unknown, Bad}
 use Rattle.alta_session.proofs.AddingLaws.{line_is_document}
 use Rattle.alta_session.proofs.AskLaws.{refused_asked, refused_searched, step_asks, step_refuses, reading_is}
@@ -57,6 +57,12 @@ pub returns-in-Close : goal.returns-in-Close
 returns-in-Close c = (
   step_asks c.args.bytes.now c.in-Ok.line (Close c.in-Close.cursor) c.in-Ok.ensures.reading c.in-Close.is,
   reading_is c.args.bytes.now c.in-Ok.line (Close c.in-Close.cursor) c.in-Ok.ensures.reading c.in-Close.is,
+)
+
+pub returns-in-Top : goal.returns-in-Top
+returns-in-Top c = (
+  step_asks c.args.bytes.now c.in-Ok.line (Top c.in-Top.count c.in-Top.text) c.in-Ok.ensures.reading c.in-Top.is,
+  reading_is c.args.bytes.now c.in-Ok.line (Top c.in-Top.count c.in-Top.text) c.in-Ok.ensures.reading c.in-Top.is,
 )
 
 pub returns-in-Flush : goal.returns-in-Flush

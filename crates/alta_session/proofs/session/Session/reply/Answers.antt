@@ -2,14 +2,14 @@ use Rattle.std.proofs.Common.{◌≡◌, ◌⊎◌, ◌≤◌, ◌++◌, ℕ, in
 use Rattle.std.specs.Prelude.{Some}
 use Rattle.alta_meta.specs.declared.document.State.{State}
 use Rattle.alta_images.specs.Work.{flushes, merges, steps}
-use Rattle.alta_model.specs.Command.{adds, deletes, searches, counts as asks_count, explains, opens, fetches, closes, flushes as asks_flush, merges as asks_merge, steps as asks_step, asks_stats}
+use Rattle.alta_model.specs.Command.{adds, deletes, searches, counts as asks_count, explains, opens, fetches, closes, ranks, flushes as asks_flush, merges as asks_merge, steps as asks_step, asks_stats}
 use Rattle.alta_model.specs.Lines.{Reading, asks}
 use Rattle.alta_search.specs.Open.{AreOpen}
 use Rattle.alta_search.specs.declared.cursors.TheConstants.{CURSORS}
 use Rattle.alta_session.specs.Cursors.{opening, fetching, closing}
-use Rattle.alta_session.specs.Loading.{Loads, loads_in, newest_in, open_loads, text_loads}
+use Rattle.alta_session.specs.Loading.{Loads, loads_in, newest_in, open_loads, text_loads, top_text_loads}
 use Rattle.alta_session.specs.Machine.{LooksIn, SearchesIn, changed_by, adding, deleting, step, stats_of}
-use Rattle.alta_session.specs.Searching.{IsNoQuery, searching, counting}
+use Rattle.alta_session.specs.Searching.{IsNoQuery, searching, counting, ranking}
 use Rattle.alta_session.specs.Tasks.{task_of, task_of_add, task_of_delete}
 use Rattle.alta_images.specs.States.{words_in}
 use Rattle.alta_session.specs.Spending.{OnlyReads, ReadsIn}
@@ -19,7 +19,7 @@ use Rattle.alta_session.proofs.AgreementLaws.{knows_state}
 use Rattle.alta_session.proofs.AnsweringLaws.{if_so, looked, answers_by, step_rests, turned}
 use Rattle.alta_session.proofs.AskLaws.{adds_more, deletes_more}
 use Rattle.alta_session.proofs.TaskLaws.{task_reads}
-use Rattle.alta_session.proofs.QueryingLaws.{count_refuses, kept_all, not_full, open_refuses, queried, search_refuses}
+use Rattle.alta_session.proofs.QueryingLaws.{count_refuses, kept_all, not_full, open_refuses, queried, rank_refuses, search_refuses}
 use Rattle.alta_store.specs.Agreement.{levels_of}
 use Rattle.alta_session.proofs.session.Session.reply.Goals as goal
 
@@ -80,6 +80,9 @@ count-requires g c = c.requires.can.agrees
 pub open-requires : goal.open-requires
 open-requires g c = c.requires.can.agrees
 
+pub rank-requires : goal.rank-requires
+rank-requires g c = c.requires.can.agrees
+
 pub returns-in-Search-clause-answers : goal.returns-in-Search-clause-answers
 returns-in-Search-clause-answers g c =
     queried g.D.Disk.tells g.D.Disk.state c.args.disk.now c.search.new.disk c.args.self.now c.args.self.now.cursors (text_loads c.args.self.now.store c.in-Search.text.now) (IsNoQuery c.in-Search.text.now) c.search.result (λ m. step m c.args.line.now) (λ m. task_of m c.args.line.now)
@@ -107,6 +110,20 @@ returns-in-Count-clause-no_disk g c = λ looks. c.count.ensures.queries.idles (s
 pub returns-in-Count-clause-loads : goal.returns-in-Count-clause-loads
 returns-in-Count-clause-loads g c = λ searches.
     subst (λ (r : Reading). Loads g.D.Disk.tells (loads_in (levels_of c.args.self.now.store) (newest_in c.args.self.now.store) (length c.args.self.now.cursors) r) (g.D.Disk.state c.args.disk.now) (g.D.Disk.state c.count.new.disk) c.count.result) (sym c.in-Count.ensures.1) c.count.ensures.queries.loaded
+
+pub returns-in-Top-clause-answers : goal.returns-in-Top-clause-answers
+returns-in-Top-clause-answers g c =
+    queried g.D.Disk.tells g.D.Disk.state c.args.disk.now c.rank.new.disk c.args.self.now c.args.self.now.cursors (top_text_loads c.args.self.now.store c.in-Top.text.now) (IsNoQuery c.in-Top.text.now) c.rank.result (λ m. step m c.args.line.now) (λ m. task_of m c.args.line.now)
+    (λ s all. (all, ranking c.in-Top.count c.in-Top.text.now s.documents)) (g.met.D.Disk.lawful c.args.disk.now) c.requires.can c.rank.ensures.queries
+    (kept_all c.rank.result c.args.self.now.cursors) (λ s all tell stands are. record { reply = c.rank.ensures.reply s tell stands; open_now = if_so c.rank.result (AreOpen c.args.self.now.cursors all) are })
+    (λ s all are refusal. rank_refuses c.in-Top.count c.in-Top.text.now s.documents refusal) c.in-Top.ensures.0 (λ m. task_reads m c.args.line.now (asks (ranks c.in-Top.count c.in-Top.text.now)) c.in-Top.ensures.1)
+
+pub returns-in-Top-clause-no_disk : goal.returns-in-Top-clause-no_disk
+returns-in-Top-clause-no_disk g c = λ looks. c.rank.ensures.queries.idles (subst LooksIn c.in-Top.ensures.1 looks)
+
+pub returns-in-Top-clause-loads : goal.returns-in-Top-clause-loads
+returns-in-Top-clause-loads g c = λ searches.
+    subst (λ (r : Reading). Loads g.D.Disk.tells (loads_in (levels_of c.args.self.now.store) (newest_in c.args.self.now.store) (length c.args.self.now.cursors) r) (g.D.Disk.state c.args.disk.now) (g.D.Disk.state c.rank.new.disk) c.rank.result) (sym c.in-Top.ensures.1) c.rank.ensures.queries.loaded
 
 -- a cursor is opened, read or closed
 pub returns-in-Open-clause-answers : goal.returns-in-Open-clause-answers
@@ -239,6 +256,10 @@ returns-in-Count-clause-works g c =
 pub returns-in-Open-clause-works : goal.returns-in-Open-clause-works
 returns-in-Open-clause-works g c =
     subst (λ (r : Reading). Works g.D.Disk.tells g.D.Disk.state c.args.disk.now c.open.new.disk c.args.self.now.store r c.open.result) (sym c.in-Open.ensures.1) (works_searching g.D.Disk.tells g.D.Disk.state c.args.disk.now c.open.new.disk c.args.self.now.store (asks (opens c.in-Open.text.now)) c.open.result tt (λ need gap is. not_full c.open.result need gap c.open.ensures.queries.loaded.only is) (λ none. absurd none))
+
+pub returns-in-Top-clause-works : goal.returns-in-Top-clause-works
+returns-in-Top-clause-works g c =
+    subst (λ (r : Reading). Works g.D.Disk.tells g.D.Disk.state c.args.disk.now c.rank.new.disk c.args.self.now.store r c.rank.result) (sym c.in-Top.ensures.1) (works_searching g.D.Disk.tells g.D.Disk.state c.args.disk.now c.rank.new.disk c.args.self.now.store (asks (ranks c.in-Top.count c.in-Top.text.now)) c.rank.result tt (λ need gap is. not_full c.rank.result need gap c.rank.ensures.queries.loaded.only is) (λ none. absurd none))
 
 pub returns-in-Explain-clause-works : goal.returns-in-Explain-clause-works
 returns-in-Explain-clause-works g c = works_still g.D.Disk.tells g.D.Disk.state c.args.disk.now c.args.self.now.store _ c.explain.result c.explain.ensures.memory

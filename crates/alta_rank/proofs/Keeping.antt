@@ -1,5 +1,5 @@
 -- The first answers of a list are those of the list in order.
-use Rattle.std.proofs.Common.{◌≡◌, ◌≢◌, ◌⊎◌, ⊎_elim, inl, inr, ℕ, zero, suc, ◌+◌, ◌<◌, ◌≤◌, min, eqb, Bool, true, false, cond, List, [], ◌∷◌, ◌++◌, length, get_or, map, take, refl, sym, subst, ap, ◌∙◌, arith, rules, length-append}
+use Rattle.std.proofs.Common.{◌≡◌, ◌≢◌, ◌⊎◌, ⊎_elim, inl, inr, ℕ, zero, suc, ◌+◌, ◌<◌, ◌≤◌, min, eqb, ltb, Bool, true, false, cond, List, [], ◌∷◌, ◌++◌, length, get_or, map, take, refl, sym, subst, ap, ◌∙◌, arith, rules, length-append}
 use Rattle.std.proofs.Math.Seq.{take-append_seam}
 use Rattle.std.specs.Prelude.{Contains, All, AllPairs, Option, Some, None, IsSome, IfSome, sum_by}
 use Rattle.std.specs.Cmp.{IsTotalOrder, IsStrictWeakOrder}
@@ -11,7 +11,7 @@ use Rattle.std.proofs.lemmas.List.{get_or-map, get_or_default, length-map, take_
 use Rattle.std.proofs.lemmas.List.Elements.{All-contains, Contains-append_cases}
 use Rattle.std.proofs.lemmas.List.Sorted.{ranks_by, sorted_far, Contains-permutation, IsPermutation-refl, IsPermutation-sym, IsPermutation-trans, IsPermutation-cons, IsPermutation-append_left, IsPermutation-append_right, IsPermutation-middle, IsPermutation-to_front, length_permutation, sum_by-IsPermutation}
 use Rattle.std.proofs.lemmas.List.Sums.{sum_by-cons}
-use Rattle.alta_rank.specs.Kept.{Replaces, left_out, taken_in, Keeps, joined, replaced}
+use Rattle.alta_rank.specs.Kept.{Replaces, left_out, taken_in, Keeps, joined, replaced, IsBest}
 use Rattle.alta_rank.specs.Ranked.{by_rank, number_of, placed, ranked}
 use Rattle.alta_rank.specs.declared.scored.Scored.{Scored}
 
@@ -207,13 +207,6 @@ falls-append (x ∷ xs) ys (a, f) g h = (
   falls-append xs ys f g (λ b c m n. h b c (has_tail x xs b m) n),
 )
 
--- These are the first `count` of all: there are no more, and none of those that were dropped comes before one of them.
-pub record IsBest (count : ℕ) (every kept : List Scored) : Type 0 where
-  pub dropped : List Scored
-  pub same : IsPermutation every (kept ++ dropped)
-  pub size : length kept ≡ min count (length every)
-  pub behind : (a b : Scored) → Contains kept a → Contains dropped b → lt b a ≡ false
-
 pub best-none : (count : ℕ) → IsBest count [] []
 best-none count = record { dropped = []; same = IsPermutation-refl []; size = omega arith; behind = λ a b m n. absurd (has_none b n) }
 
@@ -325,3 +318,21 @@ popped old rest new a last None some p top first l before least q = cc some
 popped old rest new a last (Some x) some p top first l before least q =
     let same : x ≡ last = top ∙ get_or_default old 0 x last l ∙ sym first in
     taken_in last rest (subst (λ y. IsPermutation old (y ∷ rest)) same p) q before least
+
+-- an answer that comes before none of those that are kept is left out
+pub best-left_out : (count : ℕ) (every kept : List Scored) (a last : Scored) → IsBest count every kept → count ≤ length kept
+    → lt a last ≡ false → All (λ b. lt last b ≡ false) kept → IsBest count (every ++ a ∷ []) kept
+best-left_out count every kept a last best full after least =
+    leaves count every kept a best full (λ k d l. order.chain a last (get_or kept k d) after (least k d l))
+
+-- it does so where its score is less, or the same and its number no lesser
+pub after_score : (a last : Scored) → a.score ≤ last.score → eqb last.score a.score ≡ false → lt a last ≡ false
+after_score a last l h = grind (arith, l, h)
+
+pub after_number : (a last : Scored) → last.score ≡ a.score → ltb a.number last.number ≡ false → lt a last ≡ false
+after_number a last e h = grind (arith, e, h)
+
+-- where none may be kept, none is
+pub best-none_kept : (count : ℕ) (every kept : List Scored) (a : Scored) → IsBest count every kept → count ≤ length kept → (0 < length kept → ⊥)
+    → IsBest count (every ++ a ∷ []) kept
+best-none_kept count every kept a best full none = leaves count every kept a best full (λ k d l. absurd (none (omega (arith, l))))

@@ -1,8 +1,8 @@
 use Rattle.std.proofs.Common.{◌≡◌, ◌<◌, false, refl, sym, ◌∙◌, arith}
 use Rattle.std.specs.BinaryHeap.{heap_items, heap_len}
 use Rattle.std.proofs.lemmas.List.Elements.{All-from_recursion}
-use Rattle.alta_rank.proofs.Best.{popped, lt}
-use Rattle.alta_rank.proofs.ranking.replace_last.Goals as goal
+use Rattle.alta_rank.proofs.Keeping.{popped, lt}
+use Rattle.alta_rank.proofs.best.replace_last.Goals as goal
 
 pub returns-clause-kept : goal.returns-clause-kept
 returns-clause-kept c =

@@ -1,0 +1,141 @@
+// The scores of documents over a snapshot.
+ghost use Rattle.std.specs.Prelude.{◌≡◌, ◌↔◌, ◌+◌, ◌<◌, ◌≤◌, map, length, All, IsTrue, IfSome, IfOk, None};
+ghost use Rattle.alta_compile.specs.Space.{document_end};
+ghost use Rattle.alta_content.specs.Rows.{end_of};
+ghost use Rattle.alta_rank.specs.Locations.{range_score};
+ghost use Rattle.alta_rank.specs.declared.usage.Use.{Use};
+ghost use Rattle.alta_search.specs.Lists.{IsCut, lists_at, test_at, count_lists, count_locations};
+ghost use Rattle.alta_search.specs.Plans.{lists, locations};
+ghost use Rattle.alta_search.specs.Scoring.{last_lists, IsScorerOf, HasScored, IsScorable};
+ghost use Rattle.alta_search.specs.Tops.{same_test, lists_for, scoring_lists};
+ghost use Rattle.alta_search.specs.Words.{reader_list};
+
+use crate::lists::{TestLists, terms_at};
+use crate::order::same;
+use crate::readers::{reader, readers};
+use crate::section::Section;
+use crate::test_reader::TestReader;
+use alta_codec::{Steps, TOP};
+use alta_content::DocRow;
+use alta_meta::kinds::DOCUMENT_END;
+use alta_query::Test;
+use alta_rank::{Scorer, Use, Uses};
+use std::alloc::{AllocError, Global};
+use std::sync::ledger::Ledger;
+
+/// How many uses a query has at most.
+const USES: usize = 64;
+
+/// How many cells a document has at most.
+const CELLS: u64 = 262_146;
+
+/// The test at an index; past the last one, where that of document ends stands, none.
+fn test_of<'a>(tests: &'a [TestLists], index: usize) -> Option<&'a Test>
+    ensures some { IfSome result (λ test. test.now ≡ test_at tests.now index) }
+    ensures none { result ≡ None → test_at tests.now index ≡ document_end }
+{
+    match tests.get(index) {
+        Some(lists) => Some(&lists.test),
+        None => None,
+    }
+}
+
+/// Whether the test is that of document ends.
+fn is_document_end(test: &Test) -> bool
+    ensures { result ≡ same_test test.now document_end }
+{
+    match test {
+        Test::Is(term) => term.as_slice() == [DOCUMENT_END].as_slice(),
+        Test::Begins(_) => false,
+    }
+}
+
+/// Whether the test is that at an index.
+fn is_at(tests: &[TestLists], index: usize, test: &Test) -> bool
+    ensures { result ≡ same_test test.now (test_at tests.now index) }
+{
+    match test_of(tests, index) {
+        Some(other) => same(test, other),
+        None => is_document_end(test),
+    }
+}
+
+/// The index of the first of the used tests that is this one, or one past all tests.
+fn index_for(tests: &[TestLists], used: &[usize], test: &Test) -> usize
+    ensures { lists_at tests.now result ≡ lists_for test.now (map (test_at tests.now) used.now) (map (lists_at tests.now) used.now) }
+{
+    for index in used {
+        if is_at(tests, *index, test) {
+            return *index;
+        }
+    }
+    tests.len()
+}
+
+/// The index of each use's test.
+fn indexes_for(
+    alloc: Global,
+    tests: &[TestLists],
+    used: &[usize],
+    uses: &[Use],
+) -> Result<Vec<usize>, AllocError>
+    ensures { IfOk result (λ is. map (lists_at tests.now) is.items ≡ map (λ (u : Use). lists_for u.test (map (test_at tests.now) used.now) (map (lists_at tests.now) used.now)) uses.now) }
+{
+    let mut indexes = Vec::with_capacity(alloc, uses.len())?;
+    for one in uses {
+        indexes.push(index_for(tests, used, &one.test))?;
+    }
+    Ok(indexes)
+}
+
+/// A scorer by the uses of a query over the snapshot of its plan's tests, behind which stands that of title ends. It adds a step a
+/// list.
+pub(crate) fn scorer<'a, L: Ledger>(
+    alloc: Global,
+    snapshot: &Section<'a>,
+    uses: Uses,
+    steps: &mut Steps<L>,
+) -> Result<Scorer<TestReader<'a>>, AllocError>
+    requires { 0 < length snapshot.now.tests }
+    ensures scorer { IfOk result (λ s. IsScorerOf uses snapshot.now s steps.old steps.new) }
+    ensures most { steps.new ≤ steps.old + lists (scoring_lists uses snapshot.now) + count_lists (last_lists snapshot.now) }
+{
+    let (tests, used) = snapshot.uses();
+    let indexes = indexes_for(alloc, tests, used, uses.as_slice())?;
+    let readers = readers(alloc, tests, &indexes, steps)?;
+    let titles = reader(alloc, terms_at(tests, used[used.len() - 1]), steps)?;
+    match Scorer::new(readers, uses, titles) {
+        Ok(scorer) => Ok(scorer),
+        Err(_) => unreachable!(),
+    }
+}
+
+/// Whether a row may be scored behind the rows before it.
+fn may_be_scored(scorer: &Scorer<TestReader<'_>>, row: &DocRow) -> bool
+    ensures { IsTrue result ↔ ((length scorer.now.uses ≤ 64) × IsScorable scorer.now.asked row.now) }
+{
+    scorer.len() <= USES
+        && scorer.asked() < row.first
+        && 1 <= row.cells
+        && row.cells <= CELLS
+        && row.first < TOP
+        && row.first + row.cells - 1 < TOP
+}
+
+/// The score of the document of a row, which stands behind those of the rows before it. Of a row that can't be one of a document
+/// it is 0.
+pub(crate) fn score_row<L: Ledger>(
+    scorer: &mut Scorer<TestReader<'_>>,
+    row: &DocRow,
+    steps: &mut Steps<L>,
+) -> u64
+    ensures has { HasScored scorer.old scorer.new steps.old steps.new }
+    ensures score { length scorer.old.uses ≤ 64 → IsScorable scorer.old.asked row.now
+        → result ≡ range_score scorer.old.uses (map reader_list scorer.old.readers) (reader_list scorer.old.titles) row.now.first (end_of row.now) }
+    ensures asked { length scorer.old.uses ≤ 64 → IsScorable scorer.old.asked row.now → scorer.new.asked ≡ end_of row.now }
+{
+    if !may_be_scored(scorer, row) {
+        return 0;
+    }
+    scorer.score(row.first, row.first + row.cells - 1, steps)
+}
