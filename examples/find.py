@@ -1,11 +1,11 @@
 #!/usr/bin/env python3
 """Finds documents: one query from the command line, or a prompt that takes one a line.
 
-Prints a line `NUMBER NAME` for each document, the newest first, and how many were found; a document that is stored in parts is
-one answer. A query with a fault is shown with a mark under it. Where the documents stand is known from the file of stamps that
-the importing scripts keep beside the index: --paths prints that, --context shows the line that answers the query best, --show
-the document, and --edit opens it in an editor. On a terminal the words that were found are marked, and a pager shows what is
-longer than the screen.
+Prints a line `NUMBER NAME` for each document, the newest first, and how many were found; with --top and at the prompt the best
+first, each with its score. A document that is stored in parts is one answer, with the score of its best part. A query with a
+fault is shown with a mark under it. Where the documents stand is known from the file of stamps that the importing scripts keep
+beside the index: --paths prints that, --context shows the line that answers the query best, --show the document, and --edit
+opens it in an editor. On a terminal the words that were found are marked, and a pager shows what is longer than the screen.
 
 The status is 0 where the last query found something, 1 where it found nothing, 2 where it has a fault, and 3 where the index
 could not be asked.
@@ -24,7 +24,7 @@ from matching import Wanted
 from prompt import Prompt
 from terminal import NAME, PLACE, Paint, paged, printable, quiet_end, wants_colour
 
-from buncocedar import Error, Index, Refused
+from buncocedar import MOST_BEST, Error, Index, Refused, UnknownCommand
 
 CONTEXT_COLUMNS = 100
 PROMPT_LIMIT = 20
@@ -100,6 +100,36 @@ class Rows:
             yield from reversed(collections.deque(self.counted(), maxlen=self.limit))
 
 
+class Best:
+    """The best rows of an answer, so many at most, each with its score, the best first; `total` is how many documents there are."""
+
+    def __init__(self, index, query, count, places):
+        asked = count
+        top = index.top(query, asked)
+        self.rows = best_parts(top.answers, places)
+        # The parts of one document are one row.
+        while len(self.rows) < count and len(top.answers) == asked < MOST_BEST:
+            asked = min(2 * asked, MOST_BEST)
+            top = index.top(query, asked)
+            self.rows = best_parts(top.answers, places)
+        del self.rows[count:]
+        self.total = sum(1 for _ in whole_documents(index.search(query), places)) if places.has_parts() else top.found
+
+    def __iter__(self):
+        return iter(self.rows)
+
+
+def best_parts(answers, places):
+    """The rows of documents: of the parts of one the first, which is the best."""
+    rows, seen = [], set()
+    for number, name, score in answers:
+        name = places.document(name)
+        if name not in seen:
+            seen.add(name)
+            rows.append((number, name, score))
+    return rows
+
+
 # --- What is shown.
 
 
@@ -129,11 +159,11 @@ class View:
         """The text for where it is written: a terminal is not to be steered by it."""
         return printable(text).replace("\n", "\ufffd") if self.terminal else text.replace("\n", " ")
 
-    def row(self, number, name):
+    def row(self, number, name, score=None):
         """Writes one document."""
         options = self.options
         if options.json:
-            self.write(json.dumps(self.described(number, name)))
+            self.write(json.dumps({**self.described(number, name), **({} if score is None else {"score": score})}))
         elif options.paths:
             self.show_path(name)
         elif options.names:
@@ -143,7 +173,7 @@ class View:
         elif options.edit:
             self.chosen.append(name)
         else:
-            self.write(f"{number} {self.paint(NAME, name)}")
+            self.write(f"{number} {self.paint(NAME, name)}{'' if score is None else f' {score}'}")
             if options.context:
                 self.context(name)
 
@@ -260,15 +290,18 @@ class View:
 # --- Queries.
 
 
-def answer(index, query, view, limit):
-    """Prints the reply to a query, and answers the status."""
+def answer(index, query, view, limit, top=None):
+    """Prints the reply to a query, where `top` is given so many of the best, and answers the status."""
     options = view.options
     try:
         if options.count and not view.places.has_parts():
             found = index.count(query)
             print(found, flush=True)
             return 0 if found else 1
-        rows = Rows(whole_documents(index.search(query), view.places), limit, options.oldest)
+        if top is None:
+            rows = Rows(whole_documents(index.search(query), view.places), limit, options.oldest)
+        else:
+            rows = Best(index, query, top, view.places)
         view.wanted = Wanted(index.explain(query)) if view.needs_wanted() else None
     except Refused as refusal:
         print(refusal, file=sys.stderr)
@@ -296,11 +329,12 @@ class Asking:
 
     commands = ("show", "edit")
 
-    def __init__(self, index, prompt, view, limit):
+    def __init__(self, index, prompt, view, limit, top):
         self.index = index
         self.prompt = prompt
         self.view = view
         self.limit = limit
+        self.top = top
         self.query = None
 
     def run(self):
@@ -313,7 +347,7 @@ class Asking:
             elif len(words) == 2 and words[0] in self.commands:
                 status = self.document(*words)
             else:
-                status = answer(self.index, line, self.view, self.limit)
+                status = answer(self.index, line, self.view, self.limit, self.top)
                 self.query = None if status == 2 else line
         return status
 
@@ -341,6 +375,13 @@ def count_of(text):
     return count
 
 
+def best_count(text):
+    count = count_of(text)
+    if not 1 <= count <= MOST_BEST:
+        raise ValueError
+    return count
+
+
 def words():
     parser = argparse.ArgumentParser(
         prog="examples/find.py", description=__doc__, formatter_class=argparse.RawDescriptionHelpFormatter
@@ -348,8 +389,11 @@ def words():
     parser.add_argument("index", metavar="INDEX")
     parser.add_argument("--wait", metavar="SECONDS", type=float, default=10.0, help="how long to wait for who has it open")
     parser.add_argument("query", metavar="QUERY", nargs="?", help="without one, queries are read line by line")
-    parser.add_argument("--limit", "--last", metavar="N", type=count_of, help="no more than the N newest (20 at the prompt)")
-    parser.add_argument("--oldest", action="store_true", help="the oldest first, as they come from the index")
+    parser.add_argument("--limit", "--last", metavar="N", type=count_of, help="no more than the N newest")
+    order = parser.add_mutually_exclusive_group()
+    order.add_argument("--top", metavar="N", type=best_count, help="the N best first, 1 to 1,000 (20 at the prompt)")
+    order.add_argument("--newest", action="store_true", help="the newest first, also at the prompt")
+    order.add_argument("--oldest", action="store_true", help="the oldest first, as they come from the index")
     parser.add_argument("--context", action="store_true", help="show the line of each document that answers best")
     parser.add_argument("--around", metavar="N", type=count_of, default=0, help="with N lines before and behind it")
     kind = parser.add_mutually_exclusive_group()
@@ -370,6 +414,8 @@ def wrong_use(parser, options, places):
     """Ends where the words of the command do not go together, and tells whether the file that they need is missing."""
     if options.null and not (options.paths or options.names):
         parser.error("-0 goes with --paths or --names")
+    if options.top and (options.limit or options.count):
+        parser.error("--top goes with neither --limit nor --count")
     if options.edit and options.query is None:
         parser.error("--edit goes with a query; at the prompt, edit N opens a document")
     is_missing = (options.context or options.show or options.edit or options.paths) and not os.path.exists(places.path)
@@ -378,17 +424,34 @@ def wrong_use(parser, options, places):
     return is_missing
 
 
+def knows_top(index):
+    """Whether the program ranks answers; an older one does not."""
+    # A query without words is refused before anything is read.
+    try:
+        index.top("", 1)
+    except Refused as refusal:
+        return not isinstance(refusal, UnknownCommand)
+    return True
+
+
+def asking(options, index, prompt, view):
+    """The prompt, where it is typed the twenty best answers first, if nothing else is said of their order and number."""
+    limit = PROMPT_LIMIT if options.limit is None and prompt.typed else options.limit
+    is_free = prompt.typed and options.limit is None and not (options.newest or options.oldest or options.count)
+    top = options.top or (PROMPT_LIMIT if is_free and knows_top(index) else None)
+    return Asking(index, prompt, view, limit, top)
+
+
 def ask(options, view):
     """Answers what the options ask, and gives the status."""
     status = 0
     with quiet_end(), Index(options.index, patience=options.wait, on_wait=say) as index:
         if options.query is None:
             with Prompt("find", "history", PROMPT_WORDS) as prompt:
-                limit = PROMPT_LIMIT if options.limit is None and prompt.typed else options.limit
-                return Asking(index, prompt, view, limit).run()
+                return asking(options, index, prompt, view).run()
         limit = 1 if (options.show or options.edit) and options.limit is None else options.limit
         with paged(not (options.no_pager or options.edit)):
-            status = answer(index, options.query, view, limit)
+            status = answer(index, options.query, view, limit, options.top)
     # Nobody waits for the index while the user edits.
     return status if all([view.edit(name) for name in view.chosen]) else 1
 

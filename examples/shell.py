@@ -8,6 +8,7 @@ asked.
 """
 
 import argparse
+import re
 import sys
 
 from importing import Index
@@ -19,6 +20,7 @@ from buncocedar import Error, Refused
 HELP = """add NAME            stores a document: title and body are asked for
 delete NAME         takes a document out of all answers
 search QUERY        the documents that match
+top COUNT QUERY     the best of them, with their scores
 count QUERY         how many match
 explain QUERY       how the query is read and answered
 open QUERY          a cursor over the answers as they are now
@@ -30,7 +32,7 @@ merge               joins all levels to one
 step TERMS          a part of such a joining
 help, quit          this text; the end, as Ctrl-D
 A query: words, "a phrase", qui*, title:fox, name:x, red NEAR/5 fox, AND, OR, NOT, ( )"""
-WORDS = [line.split()[0] for line in HELP.split("\n")[:12]] + ["help", "quit", "title:", "name:", "NEAR/", "AND", "OR", "NOT"]
+WORDS = [line.split()[0] for line in HELP.split("\n")[:13]] + ["help", "quit", "title:", "name:", "NEAR/", "AND", "OR", "NOT"]
 SOME_REFUSED = 1
 STOPPED = 3
 
@@ -55,6 +57,8 @@ class Shell:
                 self.add(rest.strip())
             elif word == "search":
                 self.search(rest)
+            elif word == "top" and (asked := re.fullmatch("([1-9][0-9]*) (.*)", rest)):
+                self.top(int(asked[1]), asked[2])
             elif word == "explain":
                 print(shown(self.index.explain(rest)))
             elif word == "count":
@@ -82,6 +86,12 @@ class Shell:
             found += 1
             print(f"{number} {name}")
         print(f"found {found}")
+
+    def top(self, count, query):
+        best = self.index.top(query, count)
+        for number, name, score in best.answers:
+            print(f"{number} {name} {score}")
+        print(f"found {best.found}")
 
     def say(self, line):
         """Any other line, as it is."""

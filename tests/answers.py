@@ -126,6 +126,23 @@ def loads(query):
     return found + [test for member in query[1] if member[0] not in ATOMS for test in loads(member)]
 
 
+def uses(query):
+    """The tests by which documents are ranked, in order, each with whether it is asked for in the title: those under no NOT."""
+    kind = query[0]
+    if kind in ("not", "value"):
+        return []
+    if kind in ("and", "or"):
+        return [use for member in query[1] for use in uses(member)]
+    return [(True, test) for test in tests_of(query[1])] if kind == "title" else [(False, test) for test in tests_of(query)]
+
+
+def score(query, document):
+    """How often a document has what is asked for: four times for each place before a title's end, and behind all of them, of what is asked
+    for in the title, no time."""
+    end = max(document.places(TITLE_END), default=-1)
+    return sum(4 if place < end else not in_title for in_title, test in uses(query) for place in document.places(test))
+
+
 def last_places(atom, places):
     """Of each solution of an atom without `title:`, the place of its last word."""
     of_tests = [places(test) for test in tests_of(atom)]
@@ -206,9 +223,17 @@ class Machine:
         word, _, rest = line.partition(" ")
         return getattr(self, "answer_" + word)(rest)
 
+    def load(self, tests):
+        """Is told which lists a line loads, in order."""
+
+    def matching(self, query):
+        """The documents that match."""
+        self.load(loads(query))
+        return [document for document in self.documents.values() if matches(query, document.places)]
+
     def answers(self, query):
         """The documents that match, as lines."""
-        return [f"{d.number} {d.name}\n" for d in self.documents.values() if matches(query, d.places)]
+        return [f"{document.number} {document.name}\n" for document in self.matching(query)]
 
     def answer_add(self, rest):
         name, title, body = rest.split("\t", 2)
@@ -233,6 +258,14 @@ class Machine:
     def answer_search(self, text):
         answers = self.answers(self.queries[text])
         return "".join(answers) + f"found {len(answers)}\n"
+
+    def answer_top(self, rest):
+        count, text = rest.split(" ", 1)
+        query = self.queries[text]
+        found = self.matching(query)
+        self.load([TITLE_END])
+        best = sorted((-score(query, document), document.number, document.name) for document in found)[: int(count)]
+        return "".join(f"{number} {name} {-points}\n" for points, number, name in best) + f"found {len(found)}\n"
 
     def answer_count(self, text):
         return f"found {len(self.answers(self.queries[text]))}\n"

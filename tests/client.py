@@ -205,6 +205,47 @@ class Calls(Case):
                 index.cursor("x")
             self.assertEqual(opened[0].number, 1)
 
+    def test_the_best_answers(self):
+        with self.fake() as index:
+            for name, title, body in [("a", "Red Fox", "the quick red fox"), ("b", "Fox", "quick brown dog"), ("c", "", "fox")]:
+                index.add(name, title, body)
+            best = [buncocedar.Scored(1, "a", 5), buncocedar.Scored(2, "b", 4), buncocedar.Scored(3, "c", 1)]
+            self.assertEqual(index.top("fox", 2), buncocedar.Top(best[:2], 3))
+            self.assertEqual(index.top("fox", 1000), (best, 3))
+            self.assertEqual(index.top("zebra", 1), ([], 0))
+            with self.assertRaises(buncocedar.QueryFault) as raised:
+                index.top("fault 8 Paren )", 5)
+            self.assertEqual((raised.exception.place, raised.exception.query), (8, "fault 8 Paren )"))
+            for count in (0, 1001):
+                with self.assertRaises(buncocedar.BadLine):
+                    index.top("fox", count)
+            for count, message in [("1", "count must be an int, not str"), (None, "count must be an int, not NoneType")]:
+                with self.assertRaisesRegex(TypeError, message):
+                    index.top("fox", count)
+        for reply in ("1 a", "1 a -5", "1 a b 5", "found"):
+            with self.fake(say=[1, reply]) as index:
+                with self.assertRaises(buncocedar.ProtocolFault):
+                    index.top("fox", 1)
+        with self.fake(old=True) as index:
+            with self.assertRaises(buncocedar.UnknownCommand):
+                index.top("fox", 1)
+
+    def test_lines_from_elsewhere(self):
+        with self.fake() as index:
+            index.add("a", "Fox", "fox")
+            for line, reply in [
+                (b"top 1 fox", ["1 a 5", "found 1"]),
+                (b"top 1 zebra", ["found 0"]),
+                (b"top 0 fox", ["! bad line"]),
+                (b"search fox", ["1 a", "found 1"]),
+                (b"explain fox", ['"fox"', "found D Wfox", "  x1 <= x0"]),
+                (b"explain fault 1 Word", ["! query 1 Word"]),
+                (b"what", ["! unknown command"]),
+                (b"\xff", ["! not UTF-8"]),
+                (b"add b\t\t" + b"x" * buncocedar.LINE_LIMIT, ["! line too long"]),
+            ]:
+                self.assertEqual(index.answer(line), reply, line)
+
     def test_other_types(self):
         with self.fake() as index:
             index.add("a", "", "x")

@@ -25,7 +25,7 @@ import tempfile
 import time
 from typing import NamedTuple
 
-from answers import NUMBERS, Document, Machine, loads, meets, spelled
+from answers import NUMBERS, Document, Machine, meets, spelled
 from held import Held, empty_file, slot_bytes
 from levels import entry_of_add, entry_of_delete, entry_of_replace, journal, level
 from reading import HALF, HALVES, HEAD, LEVELS, NOTHING, OLD_PAYLOAD, SLOT, SLOTS, TEXTS, Add, Delete, Extent, NoIndex, Root, opened
@@ -111,7 +111,8 @@ COUNTED = QUERIES + [term for term in TERMS if term not in QUERIES]
 
 def asking(chance, count):
     """Lines that change nothing."""
-    lines = [f"{chance.choice(['count', 'count', 'search', 'open'])} {spelled(query)}" for query in chance.sample(QUERIES, count)]
+    kinds = ["count", "count", "search", "open", f"top {chance.randrange(1, 4)}"]
+    lines = [f"{chance.choice(kinds)} {spelled(query)}" for query in chance.sample(QUERIES, count)]
     return lines + [f"fetch {chance.randrange(1, 4)} {chance.randrange(1, 4)}", "stats"]
 
 
@@ -191,13 +192,12 @@ class OpenedMachine(Machine):
         self.put(Document(self.next_number, entry.name.decode(), entry.title, entry.body))
         self.next_number += 1
 
-    def answers(self, query):
-        for test in loads(query):
+    def load(self, tests):
+        for test in tests:
             for term in sorted({term for of_level in self.held.levels for term in of_level.terms if meets(test, term)}):
                 for of_level in self.held.levels:
                     if term in of_level.terms:
                         of_level.load(term)
-        return super().answers(query)
 
 
 def expected(case):

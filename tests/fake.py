@@ -85,7 +85,7 @@ class Store:
         if word == b"add":
             name, title, body = rest.split(b"\t", 2)
             self.stored += 1
-            self.documents[name.decode()] = (self.stored, f"{title.decode()} {body.decode()}".lower().split())
+            self.documents[name.decode()] = (self.stored, title.decode().lower().split(), body.decode().lower().split())
         else:
             del self.documents[rest.decode()]
 
@@ -98,17 +98,27 @@ class Store:
         every = "NOT name:!" in query
         rows = [
             f"{number} {name}"
-            for name, (number, text) in self.documents.items()
-            if every or all(word in text for word in words)
+            for name, (number, title, body) in self.documents.items()
+            if every or all(word in title + body for word in words)
         ]
         return sorted(rows, key=lambda row: int(row.split()[0]))
+
+    def best(self, count, query):
+        """The lines of the best answers: a word counts four where it stands in the title."""
+        words, scored = query.lower().split(), []
+        for row in self.found(query):
+            number, name = row.split()
+            _, title, body = self.documents[name]
+            score = sum(4 * title.count(word) + body.count(word) for word in words)
+            scored.append((-score, int(number), name))
+        return [f"{number} {name} {-score}" for score, number, name in sorted(scored)[:count]]
 
     def reply(self, line):
         """The reply lines; the line is done first."""
         if len(line) > 262_143:
             return ["! line too long"]
         word, blank, rest = line.decode().partition(" ")
-        if word in ("flush", "merge", "step", "open", "fetch", "close") and DO.get("old"):
+        if word in ("flush", "merge", "step", "open", "fetch", "close", "top") and DO.get("old"):
             return ["! unknown command"]
         if word == "add":
             before = self.documents.get(rest.split("\t")[0])
@@ -122,7 +132,14 @@ class Store:
             number = self.documents[rest][0]
             self.commit(line)
             return [f"deleted {number}"]
-        if word in ("search", "count", "open", "explain"):
+        if word == "top":
+            count, _, query = rest.partition(" ")
+            if not (count.isdecimal() and 1 <= int(count) <= 1000):
+                return ["! bad line"]
+            if not query.startswith("fault "):
+                return self.best(int(count), query) + [f"found {len(self.found(query))}"]
+            rest = query
+        if word in ("search", "count", "open", "explain", "top"):
             if rest.startswith("fault "):
                 _, place, cause = rest.split(" ")[:3]
                 return [f"! query {place} {cause}"]
@@ -153,7 +170,7 @@ class Store:
         if word in ("flush", "merge", "step"):
             return ["ok"]
         if word == "stats":
-            words = sum(len(text) for _, text in self.documents.values())
+            words = sum(len(title) + len(body) for _, title, body in self.documents.values())
             return [f"documents {len(self.documents)} words {words} next {self.stored + 1}"]
         return ["! unknown command"]
 

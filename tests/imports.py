@@ -780,6 +780,33 @@ class Find(Case):
         self.assertIn("no index", self.run_script("find.py", self.at("none"), "x", expect=3))
         self.assertIn("--limit", self.run_script("find.py", self.path, "x", "--limit", "-3", expect=2))
 
+    def test_the_best_first(self):
+        self.write("notes/fox.txt", "quick\n")
+        self.write("notes/a.txt", "quick quick fox\n")
+        self.write("notes/b.txt", "quick\n")
+        # The second part of this one has more of it than the first.
+        self.write("notes/long", "quick " + "word " * (LINE_LIMIT // 5) + "quick " * 9)
+        self.run_script("folder.py", self.path, self.at("notes"))
+        for words, shown in [
+            (("--top", "9"), "5 long 9\n1 a.txt 2\n2 b.txt 1\n3 fox.txt 1\nfound 4\n"),
+            (("--top", "2"), "5 long 9\n1 a.txt 2\n... and 2 more\nfound 4\n"),
+            (("--top", "2", "--names"), "long\na.txt\n"),
+            (("--newest", "--limit", "1"), "4 long\n... and 3 more\nfound 4\n"),
+        ]:
+            self.run_script("find.py", self.path, "quick", *words)
+            self.assertEqual(self.out, shown)
+        self.run_script("find.py", self.path, "quick", "--top", "2", "--json")
+        self.assertEqual([json.loads(line)["score"] for line in self.out.splitlines()], [9, 2])
+        self.run_script("find.py", self.path, "zebra", "--top", "2", expect=1)
+        for words in (("--top", "0"), ("--top", "1001"), ("--top", "1", "--limit", "1"), ("--top", "1", "--oldest")):
+            self.run_script("find.py", self.path, "quick", *words, expect=2)
+        self.assertIn("! query 8 Paren", self.run_script("find.py", self.path, "fault 8 Paren", "--top", "1", expect=2))
+        self.assertIn("older than", self.run_script("find.py", self.path, "quick", "--top", "1", do={"old": True}, expect=2))
+        # At a prompt this is what comes, if nothing else is said, and the program can.
+        for words, do, row in [((), {}, "a.txt 2\r\n"), (("--newest",), {}, "a.txt\r\n"), ((), {"old": True}, "a.txt\r\n")]:
+            shown = self.typed(b"quick\n", b"quit\n", words=(*words, "--color", "never"), do=do)
+            self.assertIn(row, shown)
+
     def test_for_other_programs(self):
         self.write("notes/a b.txt", "quick\n")
         self.write("notes/c.txt", "so quick\n")
@@ -902,12 +929,12 @@ class Find(Case):
             self.run_script("find.py", self.path, stdin=file, expect=1)
         self.assertEqual(self.out, "found 0\nfound 0\n")
 
-    def typed(self, *lines, words=(), **variables):
+    def typed(self, *lines, words=(), do=None, **variables):
         """What a terminal shows where these lines are typed at the prompt."""
         ours, theirs = pty.openpty()
         variables = {"BUNCOCEDAR_HISTORY": self.at("history"), "TERM": "xterm", **variables}
         with mock.patch.dict(os.environ, variables):
-            process = self.start("find.py", *words, self.path, stdin=theirs, stdout=theirs)
+            process = self.start("find.py", *words, self.path, do=do, stdin=theirs, stdout=theirs)
         os.close(theirs)
         shown = ""
         for line in lines:
@@ -925,7 +952,7 @@ class Find(Case):
         for number in range(25):
             self.write(f"notes/{number:02}", "so quick \x1b]0;title\x07")
         self.run_script("folder.py", self.path, self.at("notes"))
-        shown = self.typed(b"quick\n", b"fault 2 Word\n", b"\x04", words=("--color", "never"))
+        shown = self.typed(b"quick\n", b"fault 2 Word\n", b"\x04", words=("--color", "never", "--newest"))
         self.assertEqual(self.status, 2)
         self.assertIn("25 24\r\n24 23\r\n", shown)
         self.assertIn("6 05\r\n... and 5 more\r\nfound 25\r\n", shown)

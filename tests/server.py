@@ -134,6 +134,15 @@ class Lines(Case):
             cursors[0].close()
             self.assertEqual(len(list(index.search("x"))), 3500)
 
+    def test_the_best_answers(self):
+        self.serve()
+        with self.index() as one, self.index() as other:
+            one.add("a", "Red Fox", "the quick red fox")
+            one.add("b", "", "fox")
+            self.assertEqual(other.top("fox", 1), ([(1, "a", 5)], 2))
+            with self.assertRaises(buncocedar.QueryFault):
+                other.top("fault 8 Paren )", 1)
+
     def test_cursors_are_of_their_client(self):
         self.serve()
         with self.index() as one, self.index() as other:

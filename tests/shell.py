@@ -96,6 +96,7 @@ class AtATerminal(Case):
             ("fetch 1 5\n", "end"),
             ("close 1\n", "closed 1"),
             ("close 1\n", "! no such cursor"),
+            ("top 3 fox\n", "1 a 5"),
             ("stats\n", "documents 1 words 6 next 2"),
             ("flush\n", "ok"),
             ("delete a\n", "deleted 1"),
@@ -144,14 +145,15 @@ class AtATerminal(Case):
 
 class BehindAPipe(Case):
     def test_lines(self):
-        text = "add a\tRed Fox\tthe quick red fox\nsearch fox\n\ncount fox\nstats\nexplain fox\n"
+        text = "add a\tRed Fox\tthe quick red fox\nsearch fox\n\ncount fox\nstats\nexplain fox\ntop 1 fox\n"
         status, out, err = self.piped(text, "--create")
         self.assertEqual((status, err), (0, ""))
         self.assertEqual(out.split("\n")[:5], ["added 1", "1 a", "found 1", "found 1", "documents 1 words 6 next 2"])
         self.assertEqual(out.split("\n")[5], '"fox"')
+        self.assertEqual(out.split("\n")[-3:-1], ["1 a 5", "found 1"])
 
     def test_refusals(self):
-        for line, said in [("quit", "! unknown command"), ("delete b", "! no such document"), ("close 7", "! no such cursor")]:
+        for line, said in [("quit", "! unknown command"), ("delete b", "! no such document"), ("close 7", "! no such cursor"), ("top 0 x", "! bad line")]:
             status, out, err = self.piped(f"{line}\nstats\n", "--create")
             self.assertEqual((status, out), (1, "documents 0 words 0 next 1\n"))
             self.assertIn(said, err)

@@ -153,7 +153,7 @@ def change(chance, style):
 
 
 def asked(chance):
-    return f"{chance.choice(['search', 'count', 'open'])} {spelled(chance.choice(QUERIES))}"
+    return f"{chance.choice(['search', 'count', 'open', f'top {chance.randrange(1, 9)}'])} {spelled(chance.choice(QUERIES))}"
 
 
 def work(chance, style):
@@ -195,6 +195,8 @@ STEADY = [
     # the two levels have thirteen terms
     ([LEVELLED + ["step 12", "count fox", "step 1", "count fox"]], 1),
     ([LEVELLED + ["step 11", "count fox", "step 1", "count fox"]], 2),
+    # the best first, from memory and from levels
+    ([[FIRST, SECOND, "top 1 red", "top 2 fox", "top 9 NOT fox", "flush", "top 1 red", "top 2 fox"]], 1),
     # all documents are gone
     ([LEVELLED + ["delete a", "delete b", "flush", "merge", "stats"]], 0),
     ([LEVELLED + ["delete a", "delete b", "step 1000", "stats", "add a\t\tred", "count red"]], 0),

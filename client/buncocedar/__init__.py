@@ -69,9 +69,11 @@ __all__ = [
     "QueryFault",
     "Refused",
     "Reply",
+    "Scored",
     "ServerEnded",
     "Stats",
     "TooManyCursors",
+    "Top",
     "UnknownCommand",
     "Usage",
     "value_range",
@@ -85,6 +87,7 @@ TITLE_ROOM = 4_096  # bytes that a title keeps where its line is cut
 MOST_VALUE = 4_294_967_295  # that a range of values may name
 LINES_UNDER_WAY = 64  # lines without a reply, at most
 BYTES_WAITING = 262_144  # bytes of lines that wait to be written, before one more is sent
+MOST_BEST = 1_000  # of the best answers, that may be asked for at once
 REFUSALS_KEPT = 1_000  # refused replies that nobody has taken yet, before the oldest is warned of
 SCANT_ROOM = 4_194_304  # bytes: with fewer free a disk counts as full
 SECONDS_OF_SILENCE = 0.5  # of a wait for an index that is in use, before it is told
@@ -94,14 +97,12 @@ _NAME = re.compile(r"[!-~]{1,64}")
 _NUMBER = r"(0|[1-9][0-9]*)"
 _ADDED = re.compile(f"added {_NUMBER}|replaced {_NUMBER} by {_NUMBER}")
 _DELETED = re.compile(f"deleted {_NUMBER}")
-_ROW = re.compile(f"{_NUMBER} ([!-~]{{1,64}})")
 _FOUND = re.compile(f"found {_NUMBER}")
 _STATS = re.compile(f"documents {_NUMBER} words {_NUMBER} next {_NUMBER}")
 _CURSOR = re.compile(f"cursor {_NUMBER}")
 _CLOSED = re.compile(f"closed {_NUMBER}")
 _PAGE_END = re.compile("more|end")
 _OK = re.compile("ok")
-_ANYTHING = re.compile(".*", re.DOTALL)
 
 
 class Error(Exception):
@@ -554,10 +555,37 @@ class Page(NamedTuple):
     more: bool
 
 
+class Scored(NamedTuple):
+    """A document that matches, and its score: how often it has what the query asks for, each place in its title four times."""
+
+    number: int
+    name: str
+    score: int
+
+
+class Top(NamedTuple):
+    """The best answers to a query, the first of them the best, and how many there are in all."""
+
+    answers: List[Scored]
+    found: int
+
+
+class _Lines(NamedTuple):
+    """The lines of a reply before its last one: their form, and what is made of one."""
+
+    form: re.Pattern
+    made: Callable[[re.Match], Any]
+
+
+_ROWS = _Lines(re.compile(f"{_NUMBER} ([!-~]{{1,64}})"), lambda line: (int(line[1]), line[2]))
+_SCORED = _Lines(re.compile(f"{_NUMBER} ([!-~]{{1,64}}) {_NUMBER}"), lambda line: Scored(int(line[1]), line[2], int(line[3])))
+_TEXTS = _Lines(re.compile(".*", re.DOTALL), lambda line: line[0])
+
+
 class Reply:
     """The reply to a line that was sent. Replies come in the order of their lines."""
 
-    def __init__(self, index, line, command, last, made, row=None, query=None, after_refusal=False):
+    def __init__(self, index, line, command, last, made, lines=None, query=None, after_refusal=False):
         self.command = command
         self.rows = deque()
         self.answered = False  # the program has given the whole reply, be it a refusal
@@ -567,7 +595,7 @@ class Reply:
         self._line = line
         self._last = last
         self._made = made
-        self._row = row
+        self._lines = lines
         self._query = query
         self._after_refusal = after_refusal
         self._begun = False
@@ -627,10 +655,10 @@ class Reply:
         if last:
             self._value = None if self._error else self._made(last)
             return True
-        row = self._row.fullmatch(line) if self._row and not self._error else None
+        row = self._lines.form.fullmatch(line) if self._lines and not self._error else None
         if not row:
             raise ProtocolFault(self.command, line)
-        self.rows.append((int(row[1]), row[2]) if self._row is _ROW else line)
+        self.rows.append(self._lines.made(row))
         return False
 
     def _settle(self, error=None):
@@ -821,9 +849,18 @@ class Index:
 
     def search(self, query: str) -> Iterator[Row]:
         """The live documents that match, as an iterator of (number, name) in order of number. Raises `QueryFault`."""
-        reply = self._ask("search", query, _FOUND, _first_number, _ROW)
+        reply = self._ask("search", query, _FOUND, _first_number, _ROWS)
         reply.begin()
         return reply.each()
+
+    def top(self, query: str, count: int) -> Top:
+        """The `Top` answers by falling score, and of one score by rising number: at most `count` of them, 1 to 1,000.
+
+        Raises `QueryFault`, `BadLine` for another `count`, and `UnknownCommand` where the program is an older one.
+        """
+        reply = self._ask(f"top {_whole(count, 'count')}", query, _FOUND, _first_number, _SCORED)
+        found = reply.result()
+        return Top(list(reply.rows), found)
 
     def count(self, query: str) -> int:
         """How many live documents match. Raises `QueryFault`."""
@@ -832,7 +869,7 @@ class Index:
     def explain(self, query: str) -> str:
         """The query's canonical spelling and, in the lines behind it, its plan. Raises `QueryFault`."""
         # The reply's end shows only by the next reply's begin.
-        reply = self._ask("explain", query, _STATS, _nothing, _ANYTHING, behind=b"stats\n", after_refusal=True)
+        reply = self._ask("explain", query, _STATS, _nothing, _TEXTS, behind=b"stats\n", after_refusal=True)
         reply.result()
         return "\n".join(reply.rows)
 
@@ -880,9 +917,9 @@ class Index:
             raise _too_long(len(line), "a line")
         if word not in _FORMS:
             raise UnknownCommand("! unknown command") if _is_utf8(line) else NotUtf8("! not UTF-8")
-        last, row = _FORMS[word]
+        last, lines = _FORMS[word]
         explains = word == b"explain"
-        return self._send(line, word.decode(), last, _whole_line, row, "", b"stats\n" if explains else b"", explains)
+        return self._send(line, word.decode(), last, _whole_line, lines, "", b"stats\n" if explains else b"", explains)
 
     # -- The end.
 
@@ -920,12 +957,12 @@ class Index:
 
     # -- Lines and replies.
 
-    def _ask(self, word, query, last, made, row=None, behind=b"", after_refusal=False):
+    def _ask(self, word, query, last, made, lines=None, behind=b"", after_refusal=False):
         query = one_line(query, "a query")
         line = f"{word} {query}".encode()
         if len(line) > LINE_LIMIT:
             raise _too_long(len(line), word)
-        return self._send(line, word, last, made, row, query, behind, after_refusal)
+        return self._send(line, word, last, made, lines, query, behind, after_refusal)
 
     def _say(self, line, last, made):
         return self._send(line.encode(), line, last, made).result()
@@ -936,12 +973,12 @@ class Index:
             oldest = next(iter(self._untaken))
             warnings.warn(f"{self.path}: {oldest.error} (nobody took this reply)", RuntimeWarning, stacklevel=2)
 
-    def _send(self, line, command, last, made, row=None, query=None, behind=b"", after_refusal=False):
+    def _send(self, line, command, last, made, lines=None, query=None, behind=b"", after_refusal=False):
         """Sends a line, and a line of this client `behind` it, where the reply's end shows only by that one's."""
         if b"\n" in line:
             raise BadLine("! bad line", f"a newline in the line of {ascii(command[:80])}")
         self._check()
-        reply = Reply(self, line + b"\n" + behind, command, last, made, row, query, after_refusal)
+        reply = Reply(self, line + b"\n" + behind, command, last, made, lines, query, after_refusal)
         while self.under_way() >= LINES_UNDER_WAY or len(self._out) > BYTES_WAITING:
             self._turn()
             self._check()
@@ -1079,7 +1116,7 @@ class Cursor:
     def page(self, count: int) -> Page:
         """The next `Page`, of at most so many rows, 1 to 1,000,000. Raises `NoSuchCursor` where it was closed."""
         line = f"fetch {self.number} {_whole(count, 'count')}"
-        reply = self._index._send(line.encode(), line, _PAGE_END, lambda last: last[0] == "more", _ROW)
+        reply = self._index._send(line.encode(), line, _PAGE_END, lambda last: last[0] == "more", _ROWS)
         more = reply.result()
         return Page(list(reply.rows), more)
 
@@ -1105,11 +1142,12 @@ class Cursor:
 _FORMS = {
     b"add": (_ADDED, None),
     b"delete": (_DELETED, None),
-    b"search": (_FOUND, _ANYTHING),
+    b"search": (_FOUND, _TEXTS),
+    b"top": (_FOUND, _TEXTS),
     b"count": (_FOUND, None),
-    b"explain": (_STATS, _ANYTHING),
+    b"explain": (_STATS, _TEXTS),
     b"open": (_CURSOR, None),
-    b"fetch": (_PAGE_END, _ANYTHING),
+    b"fetch": (_PAGE_END, _TEXTS),
     b"close": (_CLOSED, None),
     b"stats": (_STATS, None),
     b"flush": (_OK, None),

@@ -19,7 +19,9 @@ use alta_content::{DocRow, LevelRows};
 use alta_postings::encode;
 use alta_query::Test;
 use alta_rows::AllRows;
-use alta_search::{LevelList, Snapshot, Stored, TermLists, TestLists, loading_order, ranking_order};
+use alta_search::{
+    LevelList, Snapshot, Stored, TermLists, TestLists, loading_order, ranking_order,
+};
 use alta_words::Posting;
 use std::alloc::{AllocError, Global};
 use std::cmp::Ordering;
