@@ -53,11 +53,11 @@ live_read_off gone lists (row ∷ rows) =
     (λ n. ap (λ b. map document_in (cond b (read_off lists row ∷ more) more)) n ∙ rest ∙ sym (ap (λ b. map (document_of lists) (chosen b row others)) n))
     (cases_Bool (not (ends_among gone row)))
 
-live_append : (gone : List ℕ) (a b : List Added) → map document_in (live_of gone (a ++ b)) ≡ map document_in (live_of gone a) ++ map document_in (live_of gone b)
+pub live_append : (gone : List ℕ) (a b : List Added) → map document_in (live_of gone (a ++ b)) ≡ map document_in (live_of gone a) ++ map document_in (live_of gone b)
 live_append gone a b =
     ap (map document_in) (filter-append (λ (x : Added). not (ends_among gone x.row)) a b) ∙ map-append document_in (live_of gone a) (live_of gone b)
 
-live_levels : (gone : List ℕ) (levels : List Level) → map document_in (live_of gone (of_levels levels)) ≡ flat_map (documents_of gone) levels
+pub live_levels : (gone : List ℕ) (levels : List Level) → map document_in (live_of gone (of_levels levels)) ≡ flat_map (documents_of gone) levels
 live_levels gone [] = refl
 live_levels gone (l ∷ ls) =
     live_append gone (added_in l.content) (of_levels ls)

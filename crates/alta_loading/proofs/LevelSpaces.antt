@@ -147,11 +147,11 @@ module _ (levels : List Level) (image : List ℕ) (added : List Added) (newest :
   all_space =
       space_from all (subst RowsPrecede (sym rows_are) rise) (All-append IsInSpace (of_levels levels) added (levels_each levels image s) (space_each added h.space))
 
-  -- the lists of a term make up its list
   levels_part : (t : List ℕ) → located_in levels t ≡ mem.list_of (of_levels levels) t
   levels_part t = lists_of_levels levels image t s (rise_left (table_rows tables) newest.documents rise)
 
-  joined : (t : List ℕ) → concat (lists_of_term tables newest image t) ≡ mem.list_of all t
+  -- the lists of a term make up its list
+  pub joined : (t : List ℕ) → concat (lists_of_term (map tables_by levels) newest image t) ≡ mem.list_of all t
   joined t =
       let coded = map (list_at image) (loads_from 0 tables t) in
       let last = locations_of newest.lists t in
@@ -163,7 +163,8 @@ module _ (levels : List Level) (image : List ℕ) (added : List Added) (newest :
   abbrev terms : List (List ℕ)
   terms = all_terms tables newest
 
-  none_all : (t : List ℕ) → has t terms ≡ false → mem.list_of all t ≡ []
+  -- a term of no level and of none of the newest documents has none
+  pub none_all : (t : List ℕ) → has t (all_terms (map tables_by levels) newest) ≡ false → mem.list_of all t ≡ []
   none_all t none =
       let front = flat_map level_terms tables in let back = content.terms_of newest.lists in
       let p = or_parts (has t front) (has t back) (sym (has_append t front back) ∙ none) in

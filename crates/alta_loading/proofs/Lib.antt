@@ -3,6 +3,7 @@ pub mod Cuts
 pub mod Faults
 pub mod FirstUses
 pub mod LevelAnswers
+pub mod LevelDocuments
 pub mod LevelEnds
 pub mod LevelRanks
 pub mod LevelSpaces

@@ -57,10 +57,10 @@ contains_among x xs (k, l, e) = subst (λ (y : ℕ). among y xs ≡ true) (defau
 
 -- ---- the cell at a location
 
-abbrev cell_of : Bool → TermList → List TermList → ℕ → List (List ℕ)
+abbrev pub cell_of : Bool → TermList → List TermList → ℕ → List (List ℕ)
 cell_of b l ls x = map (λ (k : TermList). k.term) (cond b (l ∷ filter (λ (k : TermList). among x k.locations) ls) (filter (λ (k : TermList). among x k.locations) ls))
 
-cell_after : (t : List ℕ) (lists : List TermList) (x : ℕ) → After t (terms_of lists) → After t (cell_at lists x)
+pub cell_after : (t : List ℕ) (lists : List TermList) (x : ℕ) → After t (terms_of lists) → After t (cell_at lists x)
 cell_after t [] x a = tt
 cell_after t (l ∷ ls) x a =
     let rest = cell_after t ls x a.1 in

@@ -18,6 +18,7 @@ ghost use Rattle.alta_model.specs.Deciding.{answers};
 ghost use Rattle.alta_query.specs.Shape.{Shape};
 ghost use Rattle.alta_query.specs.declared.test.Test.{Test};
 ghost use Rattle.alta_search.specs.Documents.{AreToCome};
+ghost use Rattle.alta_search.specs.Shown.{ShowsDocuments};
 ghost use Rattle.alta_search.specs.Tops.{AreToRank};
 
 use alta_model::a_match_is_decided;
@@ -53,3 +54,11 @@ pub fn levels_and_newest_documents_are_ranked()
     answers_match();
     a_match_is_decided();
 }
+
+/// Over levels whose bytes are the segments of contents, and the newest documents behind them, what is loaded of any tests shows the
+/// documents of both that are not deleted. The function is a law, and has nothing to run.
+pub fn levels_and_newest_documents_are_shown()
+    ensures { (levels : List Level) (image gone : List ℕ) (documents : List Document) (newest : mem.LevelView) (tests : List Test)
+        → All (λ level. IsSegment (bytes_at level.extent image) level.content) levels → HasDocuments gone documents newest → RowsPrecede (all_rows (map tables_by levels) newest.content)
+        → ShowsDocuments (loaded_view (map tables_by levels) newest.content image tests gone) (flat_map (documents_of gone) levels ++ documents) }
+{}

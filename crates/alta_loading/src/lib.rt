@@ -13,7 +13,7 @@ mod terms;
 pub use fault::LoadFault;
 pub use laws::{
     levels_and_newest_documents_answer, levels_and_newest_documents_are_ranked,
-    loaded_lists_are_those_of_the_content,
+    levels_and_newest_documents_are_shown, loaded_lists_are_those_of_the_content,
 };
 pub use list::load_list;
 pub use loading::{load_test, load_tests};

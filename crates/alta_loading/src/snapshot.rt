@@ -25,10 +25,14 @@ ghost use Rattle.alta_search.specs.Documents.{AreToCome};
 ghost use Rattle.alta_search.specs.Newest.{HasAdded};
 ghost use Rattle.alta_search.specs.Order.{used};
 ghost use Rattle.alta_search.specs.Plans.{tests_of};
+ghost use Rattle.alta_search.specs.Shown.{ShowsDocuments};
 ghost use Rattle.alta_search.specs.Tops.{AreToRank};
 
 use crate::fault::LoadFault;
-use crate::laws::{levels_and_newest_documents_answer, levels_and_newest_documents_are_ranked};
+use crate::laws::{
+    levels_and_newest_documents_answer, levels_and_newest_documents_are_ranked,
+    levels_and_newest_documents_are_shown,
+};
 use crate::loading::load_tests;
 use alta_codec::Loc;
 use alta_compile::Plan;
@@ -114,11 +118,16 @@ pub fn load_ordered<D: Disk>(
     ensures ranked { D.tells → IfOk result (λ snapshot. (contents : List Level) → (behind : List Document) → (q : Shape) → levels.now ≡ map tables_by contents
         → All (λ level. IsSegment (bytes_at level.extent (D.state disk.old).content) level.content) contents → HasDocuments gone.now behind newest.now
         → AreToRank (plan_of q) snapshot (answers (flat_map (documents_of gone.now) contents ++ behind) q)) }
+    // The snapshot shows these documents with the terms of their cells.
+    ensures shown { D.tells → IfOk result (λ snapshot. (contents : List Level) → (behind : List Document) → levels.now ≡ map tables_by contents
+        → All (λ level. IsSegment (bytes_at level.extent (D.state disk.old).content) level.content) contents → HasDocuments gone.now behind newest.now
+        → ShowsDocuments snapshot (flat_map (documents_of gone.now) contents ++ behind)) }
     ensures cause { result ≡ Err DiskFault → Rose (D.state disk.old).faults (D.state disk.new).faults }
     ensures reads { Reads D.tells (load_sizes (loads_of_tests levels.now newest.now.content (each_once (used order)))) (D.state disk.old) (D.state disk.new) }
 {
     levels_and_newest_documents_answer();
     levels_and_newest_documents_are_ranked();
+    levels_and_newest_documents_are_shown();
     let (tests, uses) = order.into_parts();
     match load_tests(alloc, disk, levels, newest, tests.into_vec()) {
         Ok(tests) => {

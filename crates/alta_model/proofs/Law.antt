@@ -10,7 +10,7 @@ use Rattle.std.proofs.lemmas.Bool.{false≢true}
 use Rattle.std.proofs.lemmas.Bool.Decides.{nat_tests}
 use Rattle.std.proofs.lemmas.Slice.Eq.{bytes_eq-Decides}
 use Rattle.alta_codec.specs.Bytes.{has_byte}
-use Rattle.alta_model.specs.Command.{Command, Reads, IsCount, IsFine, spelled, is_tab, adds, deletes, searches, counts, explains, opens, fetches, closes, ranks, flushes, merges, steps, asks_stats}
+use Rattle.alta_model.specs.Command.{Command, Reads, IsCount, IsFine, spelled, is_tab, adds, deletes, searches, counts, explains, opens, fetches, closes, ranks, flushes, merges, steps, asks_stats, dumps}
 use Rattle.alta_model.specs.Faults.{is_space}
 use Rattle.alta_model.specs.Reading.{parted, command_in, in_parts, alone, with_rest, add_of, text_of, number_of, fetch_of, top_of, count_of, top_count_of, with_name, with_body, with_cursor, with_count, with_query}
 use Rattle.alta_model.proofs.Counts.{some_inj, none_is_not, count_reads, count_spelled, top_count_reads, top_count_spelled, counted_digits, both}
@@ -131,7 +131,8 @@ alone_read word c h =
     choice _ _ _ c _ h (λ e s. same word (codes "flush") flushes e s (record { spells = refl; fine = tt }))
     (λ h. choice _ _ _ c _ h (λ e s. same word (codes "merge") merges e s (record { spells = refl; fine = tt }))
     (λ h. choice _ _ _ c _ h (λ e s. same word (codes "stats") asks_stats e s (record { spells = refl; fine = tt }))
-    (λ h. absurd (none_is_not c h))))
+    (λ h. choice _ _ _ c _ h (λ e s. same word (codes "dump") dumps e s (record { spells = refl; fine = tt }))
+    (λ h. absurd (none_is_not c h)))))
   where
     same : (word verb : List ℕ) (d : Command) → bytes_eq word verb ≡ true → Some d ≡ Some c → Reads verb d → Reads word c
     same word verb d e s r = subst (Reads word) (some_inj d c s) (subst (λ w. Reads w d) (sym (same_bytes word verb e)) r)
@@ -253,6 +254,7 @@ spelled_reads flushes fine = refl
 spelled_reads merges fine = refl
 spelled_reads (steps count) fine = behind (codes "step") (decimal count) (steps count) refl (ap (option_map (λ n. steps n)) (count_reads count fine))
 spelled_reads asks_stats fine = refl
+spelled_reads dumps fine = refl
 
 pub reads_reading : (text : List ℕ) (c : Command) → Reads text c → command_in text ≡ Some c
 reads_reading text c h = subst (λ t. command_in t ≡ Some c) h.spells (spelled_reads c h.fine)

@@ -2,7 +2,7 @@
 use Rattle.std.proofs.Common.{◌≡◌, ℕ, List, refl, ap, sym, subst, ◌∙◌, arith, Bool, true, false}
 use Rattle.std.specs.Prelude.{if◌then◌else◌, Option, None, Result, Ok, Err, option_map}
 use Rattle.std.proofs.lemmas.Bool.{false≢true}
-use Rattle.alta_model.specs.Command.{Command, Reads, spelled, adds, deletes, searches, counts, explains, opens, fetches, closes, ranks, flushes, merges, steps, asks_stats}
+use Rattle.alta_model.specs.Command.{Command, Reads, spelled, adds, deletes, searches, counts, explains, opens, fetches, closes, ranks, flushes, merges, steps, asks_stats, dumps}
 use Rattle.alta_model.specs.Faults.{IsText, IsRefused, is_verb, word_of}
 use Rattle.alta_model.specs.Reading.{command_in}
 use Rattle.alta_model.specs.Seen.{command_of}
@@ -27,6 +27,7 @@ verb_known flushes = refl
 verb_known merges = refl
 verb_known (steps count) = refl
 verb_known asks_stats = refl
+verb_known dumps = refl
 
 pub known : (line : List ℕ) (c : Command) → Reads line c → is_verb (word_of line) ≡ true
 known line c reads = subst (λ t. is_verb (word_of t) ≡ true) reads.spells (verb_known c)

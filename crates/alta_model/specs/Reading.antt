@@ -5,7 +5,7 @@ use Rattle.std.specs.List.{list_all, fold, before_first, after_first, position_o
 use Rattle.std.specs.Option.{option_or}
 use Rattle.std.specs.Str.{bytes_eq}
 use Rattle.alta_codec.specs.Decimal.{count_in}
-use Rattle.alta_model.specs.Command.{Command, adds, deletes, searches, counts, explains, opens, fetches, closes, ranks, flushes, merges, steps, asks_stats, is_tab}
+use Rattle.alta_model.specs.Command.{Command, adds, deletes, searches, counts, explains, opens, fetches, closes, ranks, flushes, merges, steps, asks_stats, dumps, is_tab}
 use Rattle.alta_model.specs.Faults.{is_space}
 
 -- a number from 1 to 1,000,000 without leading zeros
@@ -73,7 +73,8 @@ alone word =
     if bytes_eq word (codes "flush") then Some flushes
     else (if bytes_eq word (codes "merge") then Some merges
     else (if bytes_eq word (codes "stats") then Some asks_stats
-    else None))
+    else (if bytes_eq word (codes "dump") then Some dumps
+    else None)))
 
 unfoldable pub with_rest : List ℕ → List ℕ → Option Command
 with_rest word rest =

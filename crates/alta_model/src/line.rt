@@ -53,6 +53,7 @@ pub enum Line<'a> {
         count: u64,
     },
     Stats,
+    Dump,
 }
 
 /// Why a line is refused.
@@ -126,6 +127,7 @@ fn is_verb(word: &str) -> bool
         || word == "merge"
         || word == "step"
         || word == "stats"
+        || word == "dump"
 }
 
 #[tactic(auto, unfolding(crate::specs::Reading::command_in, crate::specs::Reading::parted))]
@@ -150,6 +152,9 @@ fn command_alone(word: &str) -> Option<Line<'_>>
     }
     if word == "stats" {
         return Some(Line::Stats);
+    }
+    if word == "dump" {
+        return Some(Line::Dump);
     }
     None
 }

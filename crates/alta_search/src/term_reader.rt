@@ -11,7 +11,7 @@ use std::sync::ledger::Ledger;
 /// A reader of the lists of one term through all levels, which keeps where it stands: a union compares its readers' places
 /// again and again.
 #[derive(Drop)]
-pub(crate) struct TermReader<'a> {
+pub struct TermReader<'a> {
     at: Loc,
     chain: ChainReader<'a>,
 }

@@ -64,7 +64,7 @@ closing_some number cursors = closed_some number cursors (left_of number cursors
 
 -- ---- a page is no refusal
 -- the text begins with another byte than an exclamation mark
-abbrev BeginsOther : List ℕ → Type 0
+abbrev pub BeginsOther : List ℕ → Type 0
 BeginsOther [] = ⊥
 BeginsOther (x ∷ xs) = x ≢ 33
 
@@ -104,7 +104,7 @@ front_other : (front rest : List ℕ) → Leads front → BeginsOther rest → B
 front_other [] rest leads other = other
 front_other (x ∷ front) rest leads other = leads
 
-left_other : (xs ys : List ℕ) → BeginsOther xs → BeginsOther (xs ++ ys)
+pub left_other : (xs ys : List ℕ) → BeginsOther xs → BeginsOther (xs ++ ys)
 left_other [] ys other = absurd other
 left_other (x ∷ xs) ys other = other
 

@@ -1,7 +1,7 @@
 -- Laws of damage that lines find, and of places that they want.
 use Rattle.std.proofs.Common.{◌≡◌, ◌⊎◌, ℕ, inl, inr, List, [], ◌∷◌, ◌++◌, length, map, ap, sym, subst, ◌∙◌, Result, Err}
 use Rattle.alta_disk.specs.Disk.{DiskState}
-use Rattle.alta_model.specs.Command.{Command, adds, deletes, searches, counts, explains, opens, fetches, closes, ranks, flushes, merges, steps, asks_stats}
+use Rattle.alta_model.specs.Command.{Command, adds, deletes, searches, counts, explains, opens, fetches, closes, ranks, flushes, merges, steps, asks_stats, dumps}
 use Rattle.alta_model.specs.Lines.{Reading, asks, refuses, reading_of}
 use Rattle.alta_session.specs.Answering.{CanAnswer}
 use Rattle.alta_session.specs.Damage.{FindsDamage, SomeFindsDamage, SomeWantsPlace, WantsPlace}
@@ -29,6 +29,7 @@ which_searches flushes = inr (λ none. none)
 which_searches merges = inr (λ none. none)
 which_searches (steps count) = inr (λ none. none)
 which_searches asks_stats = inr (λ none. none)
+which_searches dumps = inl tt
 
 searches_or : (reading : Reading) → SearchesIn reading ⊎ (SearchesIn reading → ⊥)
 searches_or (asks command) = which_searches command

@@ -6,6 +6,7 @@ pub mod CursorLaws
 pub mod DamageLaws
 pub mod DeletingLaws
 pub mod DemoLaws
+pub mod DumpLaws
 pub mod EndingLaws
 pub mod FedLaws
 pub mod FeedLaws
@@ -19,6 +20,7 @@ pub mod ObeyingLaws
 pub mod OpeningLaws
 pub mod ProgressLaws
 pub mod QueryingLaws
+pub mod RestoringLaws
 pub mod RunLaws
 pub mod ScriptLaws
 pub mod SearchLaws

@@ -6,7 +6,7 @@ use Rattle.std.proofs.lemmas.Bool.{cases_lt}
 use Rattle.alta_codec.specs.Name.{is_name}
 use Rattle.alta_images.specs.States.{number_of}
 use Rattle.alta_meta.specs.declared.document.State.{State}
-use Rattle.alta_model.specs.Command.{Command, adds, deletes, searches, counts, explains, opens, fetches, closes, ranks, flushes, merges, steps, asks_stats}
+use Rattle.alta_model.specs.Command.{Command, adds, deletes, searches, counts, explains, opens, fetches, closes, ranks, flushes, merges, steps, asks_stats, dumps}
 use Rattle.alta_model.specs.Lines.{Reading, asks, refuses, reading_of}
 use Rattle.alta_model.specs.declared.line.TheConstants.{LINE_LIMIT}
 use Rattle.alta_model.specs.declared.line.LineFault.{LineFault}
@@ -16,6 +16,7 @@ use Rattle.alta_session.specs.Keeping.{clip}
 use Rattle.alta_session.specs.Machine.{Machine, refusal, adding, put_as, obeyed, answered, step, machine_after, replies}
 use Rattle.alta_session.proofs.CursorLaws.{opening_some, fetching_some, closing_some}
 use Rattle.alta_session.proofs.DeletingLaws.{deleting_some, if_some, stats_some}
+use Rattle.alta_session.proofs.DumpLaws.{dumped_some}
 use Rattle.alta_session.proofs.SearchLaws.{searching_some, counting_some, explaining_some, ranking_some, some_behind}
 
 pub after_append : (m : Machine) (xs ys : List (List ℕ)) → machine_after m (xs ++ ys) ≡ machine_after (machine_after m xs) ys
@@ -66,6 +67,7 @@ obeyed_some m flushes = lit< tt
 obeyed_some m merges = lit< tt
 obeyed_some m (steps count) = lit< tt
 obeyed_some m asks_stats = stats_some m.state
+obeyed_some m dumps = dumped_some m.state.documents
 
 answered_some : (m : Machine) (reading : Reading) → 0 < length (answered m reading).1
 answered_some m (asks command) = obeyed_some m command

@@ -5,7 +5,7 @@ use Rattle.std.specs.List.{All}
 use Rattle.alta_content.specs.declared.content.Content.{Content}
 use Rattle.alta_disk.specs.Disk.{DiskState}
 use Rattle.alta_loading.specs.Loads.{load_sizes}
-use Rattle.alta_model.specs.Command.{Command, adds, deletes, searches, counts, explains, opens, fetches, closes, ranks, flushes, merges, steps, asks_stats}
+use Rattle.alta_model.specs.Command.{Command, adds, deletes, searches, counts, explains, opens, fetches, closes, ranks, flushes, merges, steps, asks_stats, dumps}
 use Rattle.alta_model.specs.Lines.{Reading, asks, refuses, reading_of}
 use Rattle.alta_search.specs.Open.{AreOpen, OpenAnswers}
 use Rattle.alta_search.specs.declared.cursors.OpenCursor.{OpenCursor}
@@ -110,6 +110,7 @@ reads_so line reads = so (reading_of line) reads
     which merges none = absurd none
     which (steps count) none = absurd none
     which asks_stats reads = inl tt
+    which dumps reads = inr tt
 
     so : (r : Reading) → ReadsIn r → LooksIn r ⊎ SearchesIn r
     so (asks command) reads = which command reads

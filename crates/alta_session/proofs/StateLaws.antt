@@ -2,7 +2,7 @@
 use Rattle.std.proofs.Common.{◌≡◌, ℕ, Bool, true, false, Option, Some, None, List, refl, nat_le, if◌then◌else◌}
 use Rattle.alta_meta.specs.States.{IsState}
 use Rattle.alta_meta.specs.declared.document.State.{State}
-use Rattle.alta_model.specs.Command.{Command, adds, deletes, searches, counts, explains, opens, fetches, closes, ranks, flushes, merges, steps, asks_stats}
+use Rattle.alta_model.specs.Command.{Command, adds, deletes, searches, counts, explains, opens, fetches, closes, ranks, flushes, merges, steps, asks_stats, dumps}
 use Rattle.alta_model.specs.Lines.{Reading, asks, refuses, reading_of}
 use Rattle.alta_codec.specs.Name.{is_name}
 use Rattle.alta_images.proofs.StateLaws.{added_state, deleted_state, replaced_state}
@@ -46,6 +46,7 @@ obeyed_state m flushes is = is
 obeyed_state m merges is = is
 obeyed_state m (steps count) is = is
 obeyed_state m asks_stats is = is
+obeyed_state m dumps is = is
 
 answered_state : (m : Machine) (reading : Reading) → IsState m.state → IsState (answered m reading).0.state
 answered_state m (asks command) is = obeyed_state m command is

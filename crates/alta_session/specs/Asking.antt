@@ -1,18 +1,19 @@
 -- What a line asks for, as the code has it.
 use Rattle.std.specs.Prelude.{◌≡◌, List, ℕ, None, codes}
 use Rattle.alta_codec.specs.Name.{IsName}
-use Rattle.alta_model.specs.Command.{adds, deletes, searches, counts, explains, opens, fetches, closes, ranks, flushes, merges, steps, asks_stats}
+use Rattle.alta_dump.specs.Dumps.{dump_of}
+use Rattle.alta_model.specs.Command.{adds, deletes, searches, counts, explains, opens, fetches, closes, ranks, flushes, merges, steps, asks_stats, dumps}
 use Rattle.alta_model.specs.Lines.{asks, reading_of}
 use Rattle.alta_session.specs.Machine.{Machine, Searches, step, changed_by, turned_by, adding, deleting, stats_of}
 use Rattle.alta_session.specs.Cursors.{opening, fetching, closing}
 use Rattle.alta_session.specs.Tasks.{task_of}
 use Rattle.alta_session.specs.declared.session.Ask.{Ask}
 use Rattle.alta_session.specs.Searching.{searching, counting, explaining, ranking}
-use Rattle.alta_session.specs.declared.session.Ask.TheVariants.{Add, Delete, Search, Count, Explain, Open, Fetch, Close, Top, Flush, Merge, Step, Stats, Refused}
+use Rattle.alta_session.specs.declared.session.Ask.TheVariants.{Add, Delete, Search, Count, Explain, Open, Fetch, Close, Top, Flush, Merge, Step, Stats, Dump, Refused}
 use Rattle.alta_images.specs.States.{IsDocument}
 
 -- the document that it adds or deletes, the query that it answers, the cursor that it opens, reads or closes, the query whose best answers it
--- gives, a flush, a merge, a step, the counts, or the reply that refuses it
+-- gives, a flush, a merge, a step, the counts, a dump, or the reply that refuses it
 abbrev pub Asks : List ℕ → Ask → Type 0
 Asks line (Add name title body) =
     ((m : Machine) → step m line ≡ changed_by m (adding name.now title.now body.now m.state)) × (IsName name.now → IsDocument name.now title.now body.now)
@@ -29,4 +30,5 @@ Asks line Flush = ((m : Machine) → step m line ≡ (m, codes "ok\n")) × (read
 Asks line Merge = ((m : Machine) → step m line ≡ (m, codes "ok\n")) × (reading_of line ≡ asks merges)
 Asks line (Step count) = ((m : Machine) → step m line ≡ (m, codes "ok\n")) × (reading_of line ≡ asks (steps count))
 Asks line Stats = ((m : Machine) → step m line ≡ (m, stats_of m.state)) × (reading_of line ≡ asks asks_stats)
+Asks line Dump = ((m : Machine) → step m line ≡ (m, dump_of m.state)) × (reading_of line ≡ asks dumps)
 Asks line (Refused reply) = ((m : Machine) → step m line ≡ (m, reply.now)) × (Searches line → ⊥) × ((m : Machine) → task_of m line ≡ None)

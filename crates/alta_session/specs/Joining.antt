@@ -5,7 +5,7 @@ use Rattle.alta_images.specs.Broken.{IsBrokenAmong}
 use Rattle.alta_images.specs.Opened.{Opened, IsOpened}
 use Rattle.alta_images.specs.Work.{Task}
 use Rattle.alta_meta.specs.declared.document.State.{State}
-use Rattle.alta_model.specs.Command.{Command, adds, deletes, searches, counts, explains, opens, fetches, closes, ranks, flushes, merges, steps, asks_stats}
+use Rattle.alta_model.specs.Command.{Command, adds, deletes, searches, counts, explains, opens, fetches, closes, ranks, flushes, merges, steps, asks_stats, dumps}
 use Rattle.alta_model.specs.Lines.{Reading, asks, refuses}
 use Rattle.alta_session.specs.Machine.{SearchesIn, started_at}
 use Rattle.alta_session.specs.Tasks.{task_in}
@@ -41,6 +41,7 @@ IsIdle store (fetches cursor count) = ⊥
 IsIdle store (closes cursor) = ⊥
 IsIdle store (ranks count text) = ⊥
 IsIdle store asks_stats = ⊥
+IsIdle store dumps = ⊥
 
 abbrev pub IdlesIn : Store → Reading → Type 0
 IdlesIn store (asks command) = IsIdle store command

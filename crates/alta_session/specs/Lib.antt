@@ -14,6 +14,7 @@ pub mod Keeping
 pub mod Loading
 pub mod Machine
 pub mod Progress
+pub mod Restoring
 pub mod Run
 pub mod Searching
 pub mod Spending

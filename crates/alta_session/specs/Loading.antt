@@ -7,13 +7,14 @@ use Rattle.alta_compile.specs.Tree.{Tree}
 use Rattle.alta_content.specs.declared.content.Content.{Content}
 use Rattle.alta_disk.specs.Calls.{Reads}
 use Rattle.alta_disk.specs.Disk.{DiskState}
+use Rattle.alta_dump.specs.Shown.{dump_tests}
 use Rattle.alta_images.specs.Standing.{StandsFor}
 use Rattle.alta_loading.specs.Loads.{Load, IsFirstFault, IsWhole, load_sizes}
 use Rattle.alta_loading.specs.Met.{each_once, loads_of_tests}
 use Rattle.alta_loading.specs.declared.fault.LoadFault.{LoadFault}
 use Rattle.alta_loading.specs.declared.fault.LoadFault.TheVariants.{Disk as LoadDisk, Memory as LoadMemory, Damaged as LoadDamaged}
 use Rattle.alta_meta.specs.declared.document.State.{State}
-use Rattle.alta_model.specs.Command.{Command, adds, deletes, searches, counts, explains, opens, fetches, closes, ranks, flushes, merges, steps, asks_stats}
+use Rattle.alta_model.specs.Command.{Command, adds, deletes, searches, counts, explains, opens, fetches, closes, ranks, flushes, merges, steps, asks_stats, dumps}
 use Rattle.alta_model.specs.Lines.{Reading, asks, refuses, reading_of}
 use Rattle.alta_query.specs.Faults.{Fault}
 use Rattle.alta_query.specs.Patterns.{title_end}
@@ -77,6 +78,7 @@ command_loads levels newest many flushes = []
 command_loads levels newest many merges = []
 command_loads levels newest many (steps count) = []
 command_loads levels newest many asks_stats = []
+command_loads levels newest many dumps = tests_loads levels newest dump_tests
 
 abbrev pub loads_in : List Tables → Content → ℕ → Reading → List Load
 loads_in levels newest many (asks command) = command_loads levels newest many command

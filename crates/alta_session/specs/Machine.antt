@@ -2,8 +2,9 @@
 use Rattle.std.specs.Prelude.{◌≡◌, ℕ, true, List, [], ◌∷◌, ◌++◌, length, if◌then◌else◌, nat_le, nat_eq, codes, decimal, Option, Some, None}
 use Rattle.std.specs.List.{starts_with}
 use Rattle.alta_codec.specs.Name.{is_name}
+use Rattle.alta_dump.specs.Dumps.{dump_of}
 use Rattle.alta_meta.specs.declared.document.State.{State}
-use Rattle.alta_model.specs.Command.{Command, adds, deletes, searches, counts, explains, opens, fetches, closes, ranks, flushes, merges, steps, asks_stats}
+use Rattle.alta_model.specs.Command.{Command, adds, deletes, searches, counts, explains, opens, fetches, closes, ranks, flushes, merges, steps, asks_stats, dumps}
 use Rattle.alta_model.specs.Lines.{Reading, asks, refuses, reading_of}
 use Rattle.alta_model.specs.declared.line.LineFault.{LineFault}
 use Rattle.alta_model.specs.declared.line.LineFault.TheVariants.{TooLong, NotUtf8, Unknown, Bad}
@@ -78,6 +79,7 @@ obeyed m flushes = (m, codes "ok\n")
 obeyed m merges = (m, codes "ok\n")
 obeyed m (steps count) = (m, codes "ok\n")
 obeyed m asks_stats = (m, stats_of m.state)
+obeyed m dumps = (m, dump_of m.state)
 
 abbrev pub answered : Machine → Reading → Machine × List ℕ
 answered m (asks command) = obeyed m command
@@ -116,6 +118,7 @@ IsLook (deletes name) = ⊥
 IsLook flushes = ⊥
 IsLook merges = ⊥
 IsLook (steps count) = ⊥
+IsLook dumps = ⊥
 
 abbrev pub LooksIn : Reading → Type 0
 LooksIn (asks command) = IsLook command
@@ -125,12 +128,13 @@ LooksIn (refuses fault) = Unit {0}
 abbrev pub Looks : List ℕ → Type 0
 Looks line = LooksIn (reading_of line)
 
--- the command asks for the answers of a query, all at once or by a cursor, for the best of them or for their count
+-- the command asks for the answers of a query, all at once or by a cursor, for the best of them or for their count, or for a dump
 abbrev pub IsSearch : Command → Type 0
 IsSearch (searches text) = Unit {0}
 IsSearch (counts text) = Unit {0}
 IsSearch (opens text) = Unit {0}
 IsSearch (ranks count text) = Unit {0}
+IsSearch dumps = Unit {0}
 IsSearch (adds name title body) = ⊥
 IsSearch (deletes name) = ⊥
 IsSearch (explains text) = ⊥

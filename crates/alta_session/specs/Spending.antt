@@ -6,7 +6,7 @@ use Rattle.alta_disk.specs.Disk.{DiskState}
 use Rattle.alta_images.specs.Opened.{Opened}
 use Rattle.alta_journal.specs.declared.places.TheConstants.{HALF_BYTES}
 use Rattle.alta_loading.specs.Loads.{load_sizes}
-use Rattle.alta_model.specs.Command.{Command, adds, deletes, searches, counts, explains, opens, fetches, closes, ranks, flushes, merges, steps, asks_stats}
+use Rattle.alta_model.specs.Command.{Command, adds, deletes, searches, counts, explains, opens, fetches, closes, ranks, flushes, merges, steps, asks_stats, dumps}
 use Rattle.alta_model.specs.Lines.{Reading, asks, refuses, reading_of}
 use Rattle.alta_memlevel.specs.Documents.{content_of}
 use Rattle.alta_opening.specs.Costs.{named_bytes}
@@ -32,6 +32,7 @@ KeepsIndex flushes = ⊥
 KeepsIndex merges = ⊥
 KeepsIndex (steps count) = ⊥
 KeepsIndex asks_stats = Unit {0}
+KeepsIndex dumps = Unit {0}
 
 abbrev pub ReadsIn : Reading → Type 0
 ReadsIn (asks command) = KeepsIndex command

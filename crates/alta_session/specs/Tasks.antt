@@ -10,7 +10,7 @@ use Rattle.alta_images.specs.Working.{Full, worked}
 use Rattle.alta_journal.specs.declared.entry.Entry.{Entry}
 use Rattle.alta_journal.specs.declared.entry.Entry.TheVariants.{Add, Delete, Replace}
 use Rattle.alta_meta.specs.declared.document.State.{State}
-use Rattle.alta_model.specs.Command.{Command, adds, deletes, searches, counts, explains, opens, fetches, closes, ranks, flushes as asks_flush, merges as asks_merge, steps as asks_step, asks_stats}
+use Rattle.alta_model.specs.Command.{Command, adds, deletes, searches, counts, explains, opens, fetches, closes, ranks, flushes as asks_flush, merges as asks_merge, steps as asks_step, asks_stats, dumps}
 use Rattle.alta_model.specs.Lines.{Reading, asks, refuses, reading_of}
 use Rattle.alta_session.specs.Machine.{Machine, step}
 use Rattle.alta_session.specs.declared.session.Session.{Session}
@@ -44,6 +44,7 @@ task_by m (fetches cursor count) = None
 task_by m (closes cursor) = None
 task_by m (ranks count text) = None
 task_by m asks_stats = None
+task_by m dumps = None
 
 abbrev pub task_in : Machine → Reading → Option Task
 task_in m (asks command) = task_by m command

@@ -1,18 +1,26 @@
 // What follows from definitions and contracts alone. Each function is empty but for the laws that it takes: its contract is the law.
-ghost use Rattle.std.specs.Prelude.{◌≡◌, ℕ, List, map};
+ghost use Rattle.std.specs.Prelude.{◌≡◌, ℕ, List, map, All};
 ghost use Rattle.alta_disk.specs.Disk.{DiskState};
+ghost use Rattle.alta_dump.specs.Asked.{AsksForFoldings};
+ghost use Rattle.alta_dump.specs.Dumps.{restored};
+ghost use Rattle.alta_dump.specs.Laws.{AnswersAlike};
+ghost use Rattle.alta_dump.specs.Names.{HasItsName};
 ghost use Rattle.alta_images.specs.Standing.{StandsFor};
+ghost use Rattle.alta_images.specs.States.{empty};
 ghost use Rattle.alta_meta.specs.States.{IsState};
 ghost use Rattle.alta_meta.specs.declared.document.State.{State};
 ghost use Rattle.alta_model.specs.Deciding.{answers};
+ghost use Rattle.alta_query.specs.Matches.{IsWellFormed};
 ghost use Rattle.alta_query.specs.Shape.{Shape};
 ghost use Rattle.alta_search.specs.Documents.{told};
 ghost use Rattle.alta_search.specs.Told.{AnswerRow};
 ghost use Rattle.alta_session.specs.Found.{AreFound};
-ghost use Rattle.alta_session.specs.Machine.{Machine, step};
+ghost use Rattle.alta_session.specs.Machine.{Machine, machine_after, started_at, step};
+ghost use Rattle.alta_session.specs.Restoring.{AreAddLines};
 ghost use Rattle.alta_store.specs.Agreement.{Agrees};
 
 use alta_disk::Disk;
+use alta_dump::laws::the_lines_of_a_dump_answer_again;
 use alta_loading::levels_and_newest_documents_answer;
 use alta_store::{Store, a_search_sees_the_state};
 
@@ -31,4 +39,15 @@ pub fn a_search_answers_what_matches<D: Disk>()
 {
     a_search_sees_the_state::<D>();
     levels_and_newest_documents_answer();
+}
+
+/// The add lines of a dump that skips no document make, where no document was added yet, the documents again, numbered from 1 on;
+/// and where each document has its own name as its only one, as each that was added has, this state answers a query for folded
+/// words by documents of the same names as the state that was dumped, in the same order.
+pub fn the_lines_of_a_dump_restore()
+    ensures state { (s : State) (lines : List (List ℕ)) → AreAddLines s.documents lines → machine_after (started_at empty) lines ≡ started_at (restored s.documents) }
+    ensures answers { (s : State) (lines : List (List ℕ)) (q : Shape) → AreAddLines s.documents lines → All HasItsName s.documents → IsWellFormed q → AsksForFoldings q
+        → AnswersAlike s (machine_after (started_at empty) lines).state q }
+{
+    the_lines_of_a_dump_answer_again();
 }

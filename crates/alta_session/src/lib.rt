@@ -2,6 +2,7 @@
 #![tactic(auto)]
 
 mod demo;
+mod dumping;
 mod giving;
 mod laws;
 mod paging;
@@ -12,7 +13,7 @@ mod session;
 mod status;
 mod top;
 
-pub use laws::{a_line_keeps_a_state, a_search_answers_what_matches};
+pub use laws::{a_line_keeps_a_state, a_search_answers_what_matches, the_lines_of_a_dump_restore};
 pub use serving::serve;
 pub use session::Session;
 pub use status::{Status, status_line};

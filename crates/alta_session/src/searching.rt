@@ -21,6 +21,7 @@ ghost use Rattle.alta_search.specs.Answers.{coming};
 ghost use Rattle.alta_search.specs.Documents.{AreToCome};
 ghost use Rattle.alta_search.specs.Order.{used};
 ghost use Rattle.alta_search.specs.Plans.{tests_of};
+ghost use Rattle.alta_search.specs.Shown.{ShowsDocuments};
 ghost use Rattle.alta_search.specs.Told.{answer_of};
 ghost use Rattle.alta_search.specs.Tops.{AreBest, AreToRank, scored};
 ghost use Rattle.alta_search.specs.View.{Shows};
@@ -300,8 +301,8 @@ fn planned_for_top<D: Disk>(
     }
 }
 
-// The snapshot of a store's documents for the tests of an order, whose lists are loaded from the disk.
-fn load<D: Disk>(
+/// The snapshot of a store's documents for the tests of an order, whose lists are loaded from the disk.
+pub(crate) fn load<D: Disk>(
     alloc: Global,
     disk: &mut D,
     store: &Store,
@@ -312,6 +313,7 @@ fn load<D: Disk>(
     ensures answers { (s : State) (q : Shape) → D.tells → StandsFor s (D.state disk.old).content → IfOk result (λ snapshot. AreToCome (plan_of q) snapshot 0 (answers s.documents q)) }
     ensures ranked { (s : State) (q : Shape) → D.tells → StandsFor s (D.state disk.old).content
         → IfOk result (λ snapshot. AreToRank (plan_of q) snapshot (answers s.documents q)) }
+    ensures shown { (s : State) → D.tells → StandsFor s (D.state disk.old).content → IfOk result (λ snapshot. ShowsDocuments snapshot s.documents) }
     ensures undamaged { (s : State) → D.tells → StandsFor s (D.state disk.old).content → IfErr result IsOutside }
     ensures loads { Loads D.tells (order_loads store.now (used order)) (D.state disk.old) (D.state disk.new) result }
 {

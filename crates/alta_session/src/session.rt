@@ -21,6 +21,7 @@ ghost use Rattle.alta_images.specs.Standing.{StandsFor};
 ghost use Rattle.alta_images.specs.States.{IsDocument, has_name};
 ghost use Rattle.alta_images.specs.Work.{flushes, merges, steps};
 
+use crate::dumping::dump;
 use crate::paging::{close, fetch, open};
 use crate::replying::text;
 use crate::searching::{count, explain, rank, search};
@@ -81,7 +82,7 @@ impl Session {
     /// flushes where its record does not fit in the journal or the root is of a version that may not have it. `Damaged` where a list has a fault that the line loads, or that it reads to
     /// join levels, with the first in the order of reading; never where the disk stands for a state. Then the index is as before the
     /// line or as after it, and the session is not sound. `search`, `count`, `open` and `top` load the lists of their query, and `top`
-    /// those of the ends of titles behind them; they write nothing, and read no more than these lists have. An open loads none where as
+    /// those of the ends of titles behind them, and `dump` the lists of all ends and of all folded words; they write nothing, and read no more than these lists have. An open loads none where as
     /// many cursors are open as may be. `explain`, `fetch`, `close` and
     /// `stats` call no disk and fail for want of memory alone, and so does each line that is refused.
     pub fn line<D: Disk>(
@@ -137,6 +138,7 @@ impl Session {
             Ask::Merge => self.merge(alloc, disk),
             Ask::Step(count) => self.step(alloc, disk, count),
             Ask::Stats => stats(alloc, self.store.counts()),
+            Ask::Dump => dump(alloc, disk, &self.store),
             Ask::Refused(reply) => text(alloc, reply),
         }
     }
@@ -253,7 +255,8 @@ impl Session {
 }
 
 // What a line asks for: a document to be added or deleted, a query to be answered or explained, a cursor to be opened, read or
-// closed, a query whose best answers are given, a flush, a merge, a step of so many terms, the counts, or a reply that refuses it.
+// closed, a query whose best answers are given, a flush, a merge, a step of so many terms, the counts, a
+// dump, or a reply that refuses it.
 enum Ask<'a> {
     Add {
         name: &'a str,
@@ -278,6 +281,7 @@ enum Ask<'a> {
     Merge,
     Step(u64),
     Stats,
+    Dump,
     Refused(&'static str),
 }
 
@@ -301,6 +305,7 @@ fn asked(bytes: &[u8]) -> Ask<'_>
             Line::Merge => Ask::Merge,
             Line::Step { count } => Ask::Step(count),
             Line::Stats => Ask::Stats,
+            Line::Dump => Ask::Dump,
         },
         Err(LineFault::TooLong) => Ask::Refused("! line too long\n"),
         Err(LineFault::NotUtf8) => Ask::Refused("! not UTF-8\n"),

@@ -9,7 +9,7 @@ use std::test::Fail;
 #[test]
 fn lines_are_read_or_refused(rt: HostRuntime) -> Result<(), Fail> {
     let alloc = rt.alloc();
-    let rows: [(&[u8], &str); 33] = [
+    let rows: [(&[u8], &str); 35] = [
         (
             b"add a\tRed Fox\tthe quick",
             "Ok(Add { name: \"a\", title: \"Red Fox\", body: \"the quick\" })",
@@ -45,6 +45,8 @@ fn lines_are_read_or_refused(rt: HostRuntime) -> Result<(), Fail> {
         (b"top fox", "Err(Bad)"),
         (b"top 1", "Err(Bad)"),
         (b"tops 1 fox", "Err(Unknown)"),
+        (b"dump", "Ok(Dump)"),
+        (b"dump ", "Err(Bad)"),
         (b"flush", "Ok(Flush)"),
         (b"flush now", "Err(Bad)"),
         (b"find fox", "Err(Unknown)"),

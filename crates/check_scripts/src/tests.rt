@@ -5,7 +5,7 @@ use alta_codec::Text;
 use alta_console::MemoryConsole;
 use alta_disk::MemoryDisk;
 use alta_session::{Status, alta};
-use std::alloc::Global;
+use std::alloc::{AllocError, Global};
 use std::test::Fail;
 
 const LIMIT: u64 = 1 << 40;
@@ -131,6 +131,63 @@ fn the_best_answers_come_first(rt: HostRuntime) -> Result<(), Fail> {
     assert_eq!(rt;
         replies(alloc, &mut disk, more)?.as_slice(),
         b"ok\nadded 3\nok\nadded 4\ndeleted 1\n3 c 9\n2 b 4\nfound 3\n".as_slice()
+    );
+    Ok(())
+}
+
+// A word of so many letters.
+fn letters(alloc: Global, count: usize) -> Result<String, AllocError> {
+    let mut word = String::new(alloc);
+    for _ in 0..count {
+        word.push('x')?;
+    }
+    Ok(word)
+}
+
+// The documents come back as the lines that add their folded words, in a run that has none of the texts.
+#[test]
+fn a_dump_gives_folded_words_again(rt: HostRuntime) -> Result<(), Fail> {
+    let alloc = rt.alloc();
+    let mut disk = made(alloc)?;
+    let given = replies(alloc, &mut disk, BOTH)?;
+    assert_eq!(rt; given.as_slice(), b"added 1\nadded 2\n".as_slice());
+    let lines = "add a\tred fox\tthe quick red fox\nadd b\tfox\tquick brown dog\n";
+    let both = format!(in alloc; "{lines}dumped 2\n")?;
+    assert_eq!(rt;
+        replies(alloc, &mut disk, "dump")?.as_slice(),
+        both.as_bytes()
+    );
+    assert_eq!(rt;
+        replies(alloc, &mut disk, "flush")?.as_slice(),
+        b"ok\n".as_slice()
+    );
+    assert_eq!(rt;
+        replies(alloc, &mut disk, "dump")?.as_slice(),
+        both.as_bytes()
+    );
+    // A dump of what a dump makes is the same.
+    let mut again = made(alloc)?;
+    let _ = replies(alloc, &mut again, lines)?;
+    assert_eq!(rt;
+        replies(alloc, &mut again, "dump\ndump \n")?.as_slice(),
+        format!(in alloc; "{both}! bad line\n")?.as_bytes()
+    );
+    // Documents of three levels, of which one is deleted, and newest ones beside them.
+    let more = "add s\t\tStraße\nflush\nadd e\t\t\nflush\ndelete b\nadd b\t?\tO'Neil x.y\n";
+    let _ = replies(alloc, &mut disk, more)?;
+    assert_eq!(rt;
+        replies(alloc, &mut disk, "dump\nstats\n")?.as_slice(),
+        b"add a\tred fox\tthe quick red fox\nadd s\t\tstrasse\nadd e\t\t\nadd b\t\to'neil x.y\ndumped 4\ndocuments 4 words 9 next 6\n".as_slice()
+    );
+    // A word that is too long comes back as one of 129 letters.
+    let mut long = made(alloc)?;
+    let word = letters(alloc, 200)?;
+    let line = format!(in alloc; "add l\t\ta {word} b\ndump\n")?;
+    let short = letters(alloc, 129)?;
+    let want = format!(in alloc; "added 1\nadd l\t\ta {short} b\ndumped 1\n")?;
+    assert_eq!(rt;
+        replies(alloc, &mut long, &line)?.as_slice(),
+        want.as_bytes()
     );
     Ok(())
 }

@@ -15,6 +15,7 @@ use Rattle.alta_query.specs.declared.test.Test.{Test}
 use Rattle.alta_search.specs.Documents.{AreToCome}
 use Rattle.alta_search.specs.Lists.{AreKeys}
 use Rattle.alta_search.specs.Order.{used}
+use Rattle.alta_search.specs.Shown.{ShowsDocuments}
 use Rattle.alta_search.specs.Tops.{AreToRank}
 use Rattle.alta_search.specs.View.{View}
 use Rattle.alta_search.specs.declared.lists.TestLists.{TestLists}
@@ -58,6 +59,16 @@ returns-in_ok-gone-in-Ok-clause-ranked g c = λ told contents behind q same writ
     subst (λ (v : View). AreToRank (plan_of q) v wanted) (sym (returns-in_ok-gone-in-Ok-clause-view g c told))
     (subst (λ (levels : List Tables). AreToRank (plan_of q) (loaded_view levels newest image tests gone) wanted) (sym same)
     (c.levels_and_newest_documents_are_ranked.ensures contents image gone behind c.args.newest.now tests q written has
+    (subst (λ (levels : List Tables). RowsPrecede (all_rows levels newest)) same c.requires.rise)))
+
+pub returns-in_ok-gone-in-Ok-clause-shown : goal.returns-in_ok-gone-in-Ok-clause-shown
+returns-in_ok-gone-in-Ok-clause-shown g c = λ told contents behind same written has.
+    let newest = c.args.newest.now.content in let gone = c.args.gone.now in let tests = used c.args.order in
+    let image = (g.D.Disk.state c.args.disk.now).content in
+    let wanted = flat_map (documents_of gone) contents ++ behind in
+    subst (λ (v : View). ShowsDocuments v wanted) (sym (returns-in_ok-gone-in-Ok-clause-view g c told))
+    (subst (λ (levels : List Tables). ShowsDocuments (loaded_view levels newest image tests gone) wanted) (sym same)
+    (c.levels_and_newest_documents_are_shown.ensures contents image gone behind c.args.newest.now tests written has
     (subst (λ (levels : List Tables). RowsPrecede (all_rows levels newest)) same c.requires.rise)))
 
 pub returns-in_ok-gone-in-Ok-clause-tells : goal.returns-in_ok-gone-in-Ok-clause-tells

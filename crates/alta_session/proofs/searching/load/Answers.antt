@@ -3,6 +3,7 @@ use Rattle.alta_compile.specs.PlanOf.{plan_of}
 use Rattle.alta_meta.specs.declared.document.Document.{Document}
 use Rattle.alta_model.specs.Deciding.{answers}
 use Rattle.alta_search.specs.Documents.{AreToCome}
+use Rattle.alta_search.specs.Shown.{ShowsDocuments}
 use Rattle.alta_search.specs.Tops.{AreToRank}
 use Rattle.alta_session.proofs.LoadingLaws.{outside_of}
 use Rattle.alta_store.specs.Answers.{IsOutside}
@@ -19,6 +20,12 @@ returns-in-Ok-load_ordered-clause-ranked g c = λ s q tell stands.
     let finds = c.a_search_sees_the_state.ensures.finds c.args.disk.now c.args.store.now c.requires s tell stands _ _ _ _ c.in-Ok.ensures in
     subst (λ (l : List Document). AreToRank (plan_of q) c.in-Ok-load_ordered.snapshot (answers l q)) (sym finds.documents)
     (c.in-Ok-load_ordered.ensures.ranked tell finds.contents finds.behind q finds.tables finds.segments finds.has)
+
+pub returns-in-Ok-load_ordered-clause-shown : goal.returns-in-Ok-load_ordered-clause-shown
+returns-in-Ok-load_ordered-clause-shown g c = λ s tell stands.
+    let finds = c.a_search_sees_the_state.ensures.finds c.args.disk.now c.args.store.now c.requires s tell stands _ _ _ _ c.in-Ok.ensures in
+    subst (λ (l : List Document). ShowsDocuments c.in-Ok-load_ordered.snapshot l) (sym finds.documents)
+    (c.in-Ok-load_ordered.ensures.shown tell finds.contents finds.behind finds.tables finds.segments finds.has)
 
 pub returns-in-Err-clause-undamaged : goal.returns-in-Err-clause-undamaged
 returns-in-Err-clause-undamaged g c = λ s tell stands.

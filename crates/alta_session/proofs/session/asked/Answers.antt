@@ -2,7 +2,7 @@ use Rattle.std.proofs.Common.{List, ℕ, subst}
 use Rattle.alta_model.specs.Command.{Reads}
 use Rattle.alta_model.specs.Seen.{command_of}
 use Rattle.alta_model.specs.declared.line.Line.{Line}
-use Rattle.alta_model.specs.declared.line.Line.TheVariants.{Add, Delete, Search, Count, Explain, OpenCursor, Fetch, Close, Top, Flush, Merge, Step, Stats}
+use Rattle.alta_model.specs.declared.line.Line.TheVariants.{Add, Delete, Search, Count, Explain, OpenCursor, Fetch, Close, Top, Flush, Merge, Step, Stats, Dump}
 use Rattle.alta_model.specs.declared.line.LineFault.TheVariants.{TooLong, NotUtf8, Unknown, Bad}
 use Rattle.alta_session.proofs.AddingLaws.{line_is_document}
 use Rattle.alta_session.proofs.AskLaws.{refused_asked, refused_searched, step_asks, step_refuses, reading_is}
@@ -75,6 +75,12 @@ pub returns-in-Stats : goal.returns-in-Stats
 returns-in-Stats c = (
   step_asks c.args.bytes.now c.in-Ok.line Stats c.in-Ok.ensures.reading c.in-Stats.is,
   reading_is c.args.bytes.now c.in-Ok.line Stats c.in-Ok.ensures.reading c.in-Stats.is,
+)
+
+pub returns-in-Dump : goal.returns-in-Dump
+returns-in-Dump c = (
+  step_asks c.args.bytes.now c.in-Ok.line Dump c.in-Ok.ensures.reading c.in-Dump.is,
+  reading_is c.args.bytes.now c.in-Ok.line Dump c.in-Ok.ensures.reading c.in-Dump.is,
 )
 
 pub returns-in-Merge : goal.returns-in-Merge

@@ -1,13 +1,15 @@
 use Rattle.std.proofs.Common.{◌≡◌, ◌⊎◌, ◌≤◌, ◌++◌, ℕ, inl, List, length, codes, decimal, ◌∙◌, ap, sym, subst}
 use Rattle.std.specs.Prelude.{Some}
+use Rattle.alta_dump.specs.Dumps.{dump_of}
+use Rattle.alta_dump.specs.Shown.{dump_tests}
 use Rattle.alta_meta.specs.declared.document.State.{State}
 use Rattle.alta_images.specs.Work.{flushes, merges, steps}
-use Rattle.alta_model.specs.Command.{adds, deletes, searches, counts as asks_count, explains, opens, fetches, closes, ranks, flushes as asks_flush, merges as asks_merge, steps as asks_step, asks_stats}
+use Rattle.alta_model.specs.Command.{adds, deletes, searches, counts as asks_count, explains, opens, fetches, closes, ranks, flushes as asks_flush, merges as asks_merge, steps as asks_step, asks_stats, dumps}
 use Rattle.alta_model.specs.Lines.{Reading, asks}
 use Rattle.alta_search.specs.Open.{AreOpen}
 use Rattle.alta_search.specs.declared.cursors.TheConstants.{CURSORS}
 use Rattle.alta_session.specs.Cursors.{opening, fetching, closing}
-use Rattle.alta_session.specs.Loading.{Loads, loads_in, newest_in, open_loads, text_loads, top_text_loads}
+use Rattle.alta_session.specs.Loading.{Loads, loads_in, newest_in, open_loads, order_loads, text_loads, top_text_loads}
 use Rattle.alta_session.specs.Machine.{LooksIn, SearchesIn, changed_by, adding, deleting, step, stats_of}
 use Rattle.alta_session.specs.Searching.{IsNoQuery, searching, counting, ranking}
 use Rattle.alta_session.specs.Tasks.{task_of, task_of_add, task_of_delete}
@@ -19,6 +21,7 @@ use Rattle.alta_session.proofs.AgreementLaws.{knows_state}
 use Rattle.alta_session.proofs.AnsweringLaws.{if_so, looked, answers_by, step_rests, turned}
 use Rattle.alta_session.proofs.AskLaws.{adds_more, deletes_more}
 use Rattle.alta_session.proofs.TaskLaws.{task_reads}
+use Rattle.alta_session.proofs.DumpLaws.{dump_refuses}
 use Rattle.alta_session.proofs.QueryingLaws.{count_refuses, kept_all, not_full, open_refuses, queried, rank_refuses, search_refuses}
 use Rattle.alta_store.specs.Agreement.{levels_of}
 use Rattle.alta_session.proofs.session.Session.reply.Goals as goal
@@ -83,6 +86,9 @@ open-requires g c = c.requires.can.agrees
 pub rank-requires : goal.rank-requires
 rank-requires g c = c.requires.can.agrees
 
+pub dump-requires : goal.dump-requires
+dump-requires g c = c.requires.can.agrees
+
 pub returns-in-Search-clause-answers : goal.returns-in-Search-clause-answers
 returns-in-Search-clause-answers g c =
     queried g.D.Disk.tells g.D.Disk.state c.args.disk.now c.search.new.disk c.args.self.now c.args.self.now.cursors (text_loads c.args.self.now.store c.in-Search.text.now) (IsNoQuery c.in-Search.text.now) c.search.result (λ m. step m c.args.line.now) (λ m. task_of m c.args.line.now)
@@ -124,6 +130,20 @@ returns-in-Top-clause-no_disk g c = λ looks. c.rank.ensures.queries.idles (subs
 pub returns-in-Top-clause-loads : goal.returns-in-Top-clause-loads
 returns-in-Top-clause-loads g c = λ searches.
     subst (λ (r : Reading). Loads g.D.Disk.tells (loads_in (levels_of c.args.self.now.store) (newest_in c.args.self.now.store) (length c.args.self.now.cursors) r) (g.D.Disk.state c.args.disk.now) (g.D.Disk.state c.rank.new.disk) c.rank.result) (sym c.in-Top.ensures.1) c.rank.ensures.queries.loaded
+
+pub returns-in-Dump-clause-answers : goal.returns-in-Dump-clause-answers
+returns-in-Dump-clause-answers g c =
+    queried g.D.Disk.tells g.D.Disk.state c.args.disk.now c.dump.new.disk c.args.self.now c.args.self.now.cursors (order_loads c.args.self.now.store dump_tests) ⊥ c.dump.result (λ m. step m c.args.line.now) (λ m. task_of m c.args.line.now)
+    (λ s all. (all, dump_of s)) (g.met.D.Disk.lawful c.args.disk.now) c.requires.can c.dump.ensures.queries
+    (kept_all c.dump.result c.args.self.now.cursors) (λ s all tell stands are. record { reply = c.dump.ensures.reply s tell stands; open_now = if_so c.dump.result (AreOpen c.args.self.now.cursors all) are })
+    (λ s all are refusal. dump_refuses s.documents refusal) c.in-Dump.ensures.0 (λ m. task_reads m c.args.line.now (asks dumps) c.in-Dump.ensures.1)
+
+pub returns-in-Dump-clause-no_disk : goal.returns-in-Dump-clause-no_disk
+returns-in-Dump-clause-no_disk g c = λ looks. absurd (subst LooksIn c.in-Dump.ensures.1 looks)
+
+pub returns-in-Dump-clause-loads : goal.returns-in-Dump-clause-loads
+returns-in-Dump-clause-loads g c = λ searches.
+    subst (λ (r : Reading). Loads g.D.Disk.tells (loads_in (levels_of c.args.self.now.store) (newest_in c.args.self.now.store) (length c.args.self.now.cursors) r) (g.D.Disk.state c.args.disk.now) (g.D.Disk.state c.dump.new.disk) c.dump.result) (sym c.in-Dump.ensures.1) c.dump.ensures.queries.loaded
 
 -- a cursor is opened, read or closed
 pub returns-in-Open-clause-answers : goal.returns-in-Open-clause-answers
@@ -260,6 +280,10 @@ returns-in-Open-clause-works g c =
 pub returns-in-Top-clause-works : goal.returns-in-Top-clause-works
 returns-in-Top-clause-works g c =
     subst (λ (r : Reading). Works g.D.Disk.tells g.D.Disk.state c.args.disk.now c.rank.new.disk c.args.self.now.store r c.rank.result) (sym c.in-Top.ensures.1) (works_searching g.D.Disk.tells g.D.Disk.state c.args.disk.now c.rank.new.disk c.args.self.now.store (asks (ranks c.in-Top.count c.in-Top.text.now)) c.rank.result tt (λ need gap is. not_full c.rank.result need gap c.rank.ensures.queries.loaded.only is) (λ none. absurd none))
+
+pub returns-in-Dump-clause-works : goal.returns-in-Dump-clause-works
+returns-in-Dump-clause-works g c =
+    subst (λ (r : Reading). Works g.D.Disk.tells g.D.Disk.state c.args.disk.now c.dump.new.disk c.args.self.now.store r c.dump.result) (sym c.in-Dump.ensures.1) (works_searching g.D.Disk.tells g.D.Disk.state c.args.disk.now c.dump.new.disk c.args.self.now.store (asks dumps) c.dump.result tt (λ need gap is. not_full c.dump.result need gap c.dump.ensures.queries.loaded.only is) (λ none. absurd none))
 
 pub returns-in-Explain-clause-works : goal.returns-in-Explain-clause-works
 returns-in-Explain-clause-works g c = works_still g.D.Disk.tells g.D.Disk.state c.args.disk.now c.args.self.now.store _ c.explain.result c.explain.ensures.memory

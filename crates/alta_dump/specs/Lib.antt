@@ -1,0 +1,8 @@
+pub mod Plain
+pub mod Lines
+pub mod Dumps
+pub mod Names
+pub mod Asked
+pub mod Laws
+pub mod Seen
+pub mod Shown
