@@ -16,3 +16,4 @@ pub mod Runs
 pub mod TermRuns
 pub mod TermSets
 pub mod TestRuns
+pub mod TestedEnds

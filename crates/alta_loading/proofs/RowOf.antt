@@ -37,15 +37,16 @@ found before i (row ∷ rows) term (suc k) (m, more) e =
     let there : i + 1 + k ≡ i + suc k = omega arith in
     later i row rows term (less_differs row.term term (behind row.term rows term k more e)) ∙ found row.term (i + 1) rows term k more e ∙ ap Some there
 
-absent : (i : ℕ) (rows : List TermRow) (term : List ℕ) → ((k : ℕ) → slice_get (terms_of rows) k ≡ Some term → ⊥) → row_from i rows term ≡ None
-absent i [] term none = refl
-absent i (row ∷ rows) term none =
-    by_test (bytes_eq row.term term) (λ yes. absurd (none 0 (ap Some (same_term row.term term yes)))) (λ no. later i row rows term no ∙ absent (i + 1) rows term (λ k e. none (suc k) e))
+-- a term that no row has
+pub no_row : (i : ℕ) (rows : List TermRow) (term : List ℕ) → ((k : ℕ) → slice_get (terms_of rows) k ≡ Some term → ⊥) → row_from i rows term ≡ None
+no_row i [] term none = refl
+no_row i (row ∷ rows) term none =
+    by_test (bytes_eq row.term term) (λ yes. absurd (none 0 (ap Some (same_term row.term term yes)))) (λ no. later i row rows term no ∙ no_row (i + 1) rows term (λ k e. none (suc k) e))
 
 -- what a look-up finds is the row
 pub row_found : (rows : List TermRow) (term : List ℕ) (r : Option ℕ) → AreTerms rows
     → MatchOption r ((i : ℕ) → slice_get (terms_of rows) i ≡ Some term → ⊥) (λ i. slice_get (terms_of rows) i ≡ Some term) → r ≡ row_from 0 rows term
-row_found rows term None a h = sym (absent 0 rows term h)
+row_found rows term None a h = sym (no_row 0 rows term h)
 row_found rows term (Some i) a h = let here : i ≡ 0 + i = omega arith in ap Some here ∙ sym (found [] 0 rows term i a h)
 
 pub row_within : (rows : List TermRow) (term : List ℕ) (r : Option ℕ) → MatchOption r ((i : ℕ) → slice_get (terms_of rows) i ≡ Some term → ⊥) (λ i. slice_get (terms_of rows) i ≡ Some term)

@@ -5,3 +5,4 @@ pub mod Loads
 pub mod Met
 pub mod Snapshots
 pub mod Terms
+pub mod Tested

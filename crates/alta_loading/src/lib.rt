@@ -5,6 +5,7 @@ mod fault;
 mod laws;
 mod list;
 mod loading;
+mod mark;
 mod meeting;
 mod snapshot;
 mod term;
@@ -17,6 +18,7 @@ pub use laws::{
 };
 pub use list::load_list;
 pub use loading::{load_test, load_tests};
+pub use mark::Ends;
 pub use meeting::terms_met;
 pub use snapshot::{load_ordered, load_snapshot};
 pub use term::{load_coded, load_term};

@@ -8,11 +8,13 @@ ghost use Rattle.alta_loading.specs.Lists.{LiesWithin};
 ghost use Rattle.alta_loading.specs.Loads.{Tells, load_sizes};
 ghost use Rattle.alta_loading.specs.Met.{keys_met, lists_met, loads_met, loads_of_tests};
 ghost use Rattle.alta_loading.specs.Snapshots.{all_rows};
+ghost use Rattle.alta_loading.specs.Tested.{AreEndsWhole};
 ghost use Rattle.alta_loading.specs.declared.fault.LoadFault.TheVariants.{Disk as DiskFault};
 ghost use Rattle.alta_search.specs.Lists.{IsCut, test_in, test_keys, test_lists};
 ghost use Rattle.alta_search.specs.Newest.{HasAdded};
 
 use crate::fault::LoadFault;
+use crate::mark::Ends;
 use crate::meeting::terms_met;
 use crate::terms::load_terms;
 use alta_disk::Disk;
@@ -31,10 +33,12 @@ pub fn load_test<D: Disk>(
     alloc: Global,
     disk: &mut D,
     levels: &[Table],
+    ends: Ends,
     newest: &MemLevel,
     test: Test,
 ) -> Result<TestLists, LoadFault>
     requires within { D.tells → All (λ level. LiesWithin level (D.state disk.old).content) levels.now }
+    requires ends { D.tells → AreEndsWhole ends (D.state disk.old).content levels.now }
     requires newest { HasAdded newest.now }
     requires rise { RowsPrecede (all_rows levels.now newest.now.content) }
     ensures test { IfOk result (λ loaded. test_in loaded ≡ test) }
@@ -47,7 +51,7 @@ pub fn load_test<D: Disk>(
     ensures reads { Reads D.tells (load_sizes (loads_met levels.now newest.now.content test)) (D.state disk.old) (D.state disk.new) }
 {
     let met = terms_met(alloc, levels, newest, &test)?;
-    match load_terms(alloc, disk, levels, newest, met) {
+    match load_terms(alloc, disk, levels, ends, newest, met) {
         Ok(terms) => Ok(TestLists { test, terms }),
         Err(fault) => Err(fault),
     }
@@ -62,10 +66,12 @@ pub fn load_tests<D: Disk>(
     alloc: Global,
     disk: &mut D,
     levels: &[Table],
+    ends: Ends,
     newest: &MemLevel,
     order: Vec<Test>,
 ) -> Result<Vec<TestLists>, LoadFault>
     requires within { D.tells → All (λ level. LiesWithin level (D.state disk.old).content) levels.now }
+    requires ends { D.tells → AreEndsWhole ends (D.state disk.old).content levels.now }
     requires newest { HasAdded newest.now }
     requires rise { RowsPrecede (all_rows levels.now newest.now.content) }
     ensures tests { IfOk result (λ tests. map test_in tests.items ≡ order.items) }
@@ -78,7 +84,7 @@ pub fn load_tests<D: Disk>(
 {
     let mut tests = Vec::with_capacity(alloc, order.len())?;
     for test in order {
-        match load_test(alloc, disk, levels, newest, test) {
+        match load_test(alloc, disk, levels, ends, newest, test) {
             Ok(lists) => tests.push(lists)?,
             Err(fault) => return Err(fault),
         }

@@ -1,8 +1,9 @@
 // The snapshot of levels and of the newest documents.
-ghost use Rattle.std.specs.Prelude.{◌≡◌, ◌++◌, ℕ, List, flat_map, map, All, Err, IfOk};
+ghost use Rattle.std.specs.Prelude.{◌≡◌, ◌⊎◌, ◌↔◌, ◌∷◌, ◌++◌, ℕ, List, flat_map, map, All, Contains, Err, IfOk, IsTrue, OnOk};
 ghost use Rattle.alta_codec.specs.Faults.{Rose};
 ghost use Rattle.alta_codec.specs.Rising.{IsRising};
 ghost use Rattle.alta_compile.specs.PlanOf.{plan_of};
+ghost use Rattle.alta_compile.specs.Space.{document_end};
 ghost use Rattle.alta_compile.specs.View.{tree};
 ghost use Rattle.alta_disk.specs.Calls.{Reads};
 ghost use Rattle.alta_disk.specs.Disk.{DiskState};
@@ -16,11 +17,13 @@ ghost use Rattle.alta_loading.specs.Lists.{LiesWithin};
 ghost use Rattle.alta_loading.specs.Loads.{Tells, load_sizes};
 ghost use Rattle.alta_loading.specs.Met.{each_once, loads_of_tests};
 ghost use Rattle.alta_loading.specs.Snapshots.{all_rows, loaded_view};
+ghost use Rattle.alta_loading.specs.Tested.{AreEndsWhole};
 ghost use Rattle.alta_loading.specs.declared.fault.LoadFault.TheVariants.{Disk as DiskFault};
 ghost use Rattle.alta_memlevel.specs.Documents.{HasDocuments};
 ghost use Rattle.alta_meta.specs.declared.document.Document.{Document};
 ghost use Rattle.alta_model.specs.Deciding.{answers};
 ghost use Rattle.alta_query.specs.Shape.{Shape};
+ghost use Rattle.alta_query.specs.declared.test.Test.{Test};
 ghost use Rattle.alta_search.specs.Documents.{AreToCome};
 ghost use Rattle.alta_search.specs.Newest.{HasAdded};
 ghost use Rattle.alta_search.specs.Order.{used};
@@ -34,10 +37,13 @@ use crate::laws::{
     levels_and_newest_documents_are_shown,
 };
 use crate::loading::load_tests;
+use crate::mark::Ends;
 use alta_codec::Loc;
 use alta_compile::Plan;
 use alta_disk::Disk;
+use alta_level::is_end_term;
 use alta_memlevel::MemLevel;
+use alta_query::Test;
 use alta_rows::AllRows;
 use alta_search::{Loading, Snapshot, loading_order};
 use alta_table::Table;
@@ -80,12 +86,14 @@ pub fn load_snapshot<D: Disk>(
     ensures reads { Reads D.tells (load_sizes (loads_of_tests levels.now newest.now.content (each_once (tests_of (tree plan.now))))) (D.state disk.old) (D.state disk.new) }
 {
     let order = loading_order(alloc, plan)?;
-    load_ordered(alloc, disk, order, levels, newest, rows, gone)
+    let mut ends = Ends::Untested;
+    load_ordered(alloc, disk, order, levels, &mut ends, newest, rows, gone)
 }
 
 /// Loads the lists of the tests of an order, of each test those of the terms that meet it, from the levels, the oldest first, and
 /// from the newest documents; with the rows of all documents, and a copy of the deleted ends. Each test is loaded once, however many
-/// uses it has.
+/// uses it has. Where `ends` says that the lists of all ends of these levels were tested, they are not read; and it says so afterwards
+/// where the first test is theirs and all was loaded.
 ///
 /// # Errors
 ///
@@ -95,11 +103,13 @@ pub fn load_ordered<D: Disk>(
     disk: &mut D,
     order: Loading,
     levels: &[Table],
+    ends: &mut Ends,
     newest: &MemLevel,
     rows: AllRows,
     gone: &[Loc],
 ) -> Result<Snapshot, LoadFault>
     requires within { D.tells → All (λ level. LiesWithin level (D.state disk.old).content) levels.now }
+    requires ends { D.tells → AreEndsWhole ends.old (D.state disk.old).content levels.now }
     requires newest { HasAdded newest.now }
     requires rise { RowsPrecede (all_rows levels.now newest.now.content) }
     requires rows { rows ≡ all_rows levels.now newest.now.content }
@@ -122,6 +132,8 @@ pub fn load_ordered<D: Disk>(
     ensures shown { D.tells → IfOk result (λ snapshot. (contents : List Level) → (behind : List Document) → levels.now ≡ map tables_by contents
         → All (λ level. IsSegment (bytes_at level.extent (D.state disk.old).content) level.content) contents → HasDocuments gone.now behind newest.now
         → ShowsDocuments snapshot (flat_map (documents_of gone.now) contents ++ behind)) }
+    ensures ends { D.tells → AreEndsWhole ends.new (D.state disk.old).content levels.now }
+    ensures tested { (more : List Test) → used order ≡ document_end ∷ more → OnOk result (ends.new ≡ Ends.Tested) }
     ensures cause { result ≡ Err DiskFault → Rose (D.state disk.old).faults (D.state disk.new).faults }
     ensures reads { Reads D.tells (load_sizes (loads_of_tests levels.now newest.now.content (each_once (used order)))) (D.state disk.old) (D.state disk.new) }
 {
@@ -129,11 +141,34 @@ pub fn load_ordered<D: Disk>(
     levels_and_newest_documents_are_ranked();
     levels_and_newest_documents_are_shown();
     let (tests, uses) = order.into_parts();
-    match load_tests(alloc, disk, levels, newest, tests.into_vec()) {
+    let mark = marked(*ends, tests.as_slice());
+    match load_tests(alloc, disk, levels, *ends, newest, tests.into_vec()) {
         Ok(tests) => {
             let gone = Vec::from_slice(alloc, gone)?;
+            *ends = mark;
             Ok(Snapshot::new(tests, uses, rows, gone))
         }
         Err(fault) => Err(fault),
+    }
+}
+
+// The mark once the lists of these tests were loaded: where the first is that of document ends, the lists of all ends were tested.
+fn marked(ends: Ends, tests: &[Test]) -> Ends
+    ensures tested { (more : List Test) → tests.now ≡ document_end ∷ more → result ≡ Ends.Tested }
+    ensures only { (result ≡ ends) ⊎ ((result ≡ Ends.Tested) × Contains tests.now document_end) }
+{
+    match tests {
+        [first, ..] if is_end_test(first) => Ends::Tested,
+        _ => ends,
+    }
+}
+
+// Whether the test is that of document ends.
+fn is_end_test(test: &Test) -> bool
+    ensures { IsTrue result ↔ (test.now ≡ document_end) }
+{
+    match test {
+        Test::Is(term) => is_end_term(term.as_slice()),
+        Test::Begins(_start) => false,
     }
 }

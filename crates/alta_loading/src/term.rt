@@ -1,17 +1,20 @@
 // The lists of a term.
-ghost use Rattle.std.specs.Prelude.{◌≡◌, ◌∷◌, ◌++◌, ℕ, List, [], map, All, Err, IfOk, OnOk, Some, MatchOption, ◌<◌, length, IsTrue};
+ghost use Rattle.std.specs.Prelude.{◌≡◌, ◌∷◌, ◌++◌, ◌^◌, ℕ, List, [], map, All, Err, IfOk, OnOk, Some, MatchOption, ◌<◌, length, IsTrue};
 ghost use Rattle.alta_codec.specs.Faults.{Rose};
+ghost use Rattle.alta_content.specs.Rows.{ends_of};
 ghost use Rattle.alta_disk.specs.Calls.{Reads};
 ghost use Rattle.alta_disk.specs.Disk.{DiskState};
-ghost use Rattle.alta_loading.specs.Lists.{KeepsRow, LiesWithin};
+ghost use Rattle.alta_loading.specs.Lists.{KeepsRow, LiesWithin, stream_size};
 ghost use Rattle.alta_loading.specs.Loads.{KeepRows, Load, Tells, list_at, load_at, load_in, load_size, load_sizes, loads_from, number_of, row_from};
 ghost use Rattle.alta_loading.specs.declared.fault.LoadFault.TheVariants.{Disk as DiskFault};
 ghost use Rattle.alta_loading.specs.Terms.{KeepTerm, if_some, lists_of_term, number_if_some, term_key};
+ghost use Rattle.alta_loading.specs.Tested.{AreEndsWhole, IsAllEnds};
 ghost use Rattle.alta_search.specs.Lists.{key_of, level_in, level_list, stored_list, term_lists};
 ghost use Rattle.alta_table.specs.Tables.{Tables};
 
 use crate::fault::LoadFault;
 use crate::list::load_list;
+use crate::mark::Ends;
 use alta_codec::{Bytes, Loc};
 use alta_disk::Disk;
 use alta_level::is_end_term;
@@ -23,8 +26,8 @@ use std::alloc::{AllocError, Global};
 
 /// Loads the lists of a term: those of the levels, that of the oldest level first, and behind them a copy of that of the newest
 /// documents. A list of a level is kept as it is coded, but that of all documents' ends, once it was tested, as the level's rows
-/// have it. The oldest level is numbered 0, and the newest documents are numbered behind all levels. A level without the
-/// term has no list.
+/// have it; where `ends` says that it was tested before, it is not read. The oldest level is numbered 0, and the newest documents are
+/// numbered behind all levels. A level without the term has no list.
 ///
 /// # Errors
 ///
@@ -33,10 +36,12 @@ pub fn load_term<D: Disk>(
     alloc: Global,
     disk: &mut D,
     levels: &[Table],
+    ends: Ends,
     newest: &MemLevel,
     term: Bytes,
 ) -> Result<TermLists, LoadFault>
     requires within { D.tells → All (λ level. LiesWithin level (D.state disk.old).content) levels.now }
+    requires ends { D.tells → AreEndsWhole ends (D.state disk.old).content levels.now }
     requires sound { IsTrue newest.now.sound }
     ensures key { IfOk result (λ lists. key_of lists ≡ term_key levels.now newest.now.content term) }
     ensures lists { D.tells → IfOk result (λ lists. term_lists lists ≡ lists_of_term levels.now newest.now.content (D.state disk.old).content term) }
@@ -45,7 +50,7 @@ pub fn load_term<D: Disk>(
     ensures cause { result ≡ Err DiskFault → Rose (D.state disk.old).faults (D.state disk.new).faults }
     ensures reads { Reads D.tells (load_sizes (loads_from 0 levels.now term)) (D.state disk.old) (D.state disk.new) }
 {
-    match load_coded(alloc, disk, levels, term.as_slice()) {
+    match load_coded(alloc, disk, levels, ends, term.as_slice()) {
         Ok(coded) => {
             let list = newest.get(term.as_slice());
             let levels = with_newest(alloc, coded, levels.len() as u64, list)?;
@@ -78,7 +83,7 @@ fn with_newest(
 }
 
 /// Loads the lists of a term in levels, that of the oldest level first, by one read of the disk for each level that has the
-/// term. In each level the term is looked up by halves.
+/// term. In each level the term is looked up by halves. The lists of all ends are not read where `ends` says that they were tested.
 ///
 /// # Errors
 ///
@@ -88,9 +93,11 @@ pub fn load_coded<D: Disk>(
     alloc: Global,
     disk: &mut D,
     levels: &[Table],
+    ends: Ends,
     term: &[u8],
 ) -> Result<Vec<LevelList>, LoadFault>
-    requires { D.tells → All (λ level. LiesWithin level (D.state disk.old).content) levels.now }
+    requires within { D.tells → All (λ level. LiesWithin level (D.state disk.old).content) levels.now }
+    requires ends { D.tells → AreEndsWhole ends (D.state disk.old).content levels.now }
     // One list for each level that has the term.
     ensures numbers { IfOk result (λ lists. map level_in lists.items ≡ map number_of (loads_from 0 levels.now term.now)) }
     // They are what stands on the disk.
@@ -104,7 +111,7 @@ pub fn load_coded<D: Disk>(
     let mut lists = Vec::new(alloc);
     for number in 0..levels.len() {
         let level = &levels[number];
-        if let Err(fault) = load_next(alloc, disk, &mut lists, number as u64, level, term) {
+        if let Err(fault) = load_next(alloc, disk, &mut lists, number as u64, level, ends, term) {
             return Err(fault);
         }
     }
@@ -118,9 +125,11 @@ fn load_next<D: Disk>(
     lists: &mut Vec<LevelList>,
     number: u64,
     level: &Table,
+    ends: Ends,
     term: &[u8],
 ) -> Result<(), LoadFault>
-    requires { D.tells → LiesWithin level.now (D.state disk.old).content }
+    requires within { D.tells → LiesWithin level.now (D.state disk.old).content }
+    requires ends { D.tells → AreEndsWhole ends (D.state disk.old).content (level.now ∷ []) }
     ensures numbers { OnOk result (map level_in lists.new.items ≡ map level_in lists.old.items ++ map number_of (load_in number level.now term.now)) }
     ensures lists { D.tells → OnOk result (map level_list lists.new.items ≡ map level_list lists.old.items ++ map (list_at (D.state disk.old).content) (load_in number level.now term.now)) }
     ensures tells { D.tells → Tells (D.state disk.old).content (load_in number level.now term.now) result }
@@ -130,7 +139,7 @@ fn load_next<D: Disk>(
 {
     match row_of(level, term) {
         None => Ok(()),
-        Some(row) => match load_row(alloc, disk, number, level, row) {
+        Some(row) => match load_row(alloc, disk, number, level, ends, row) {
             Ok(list) => {
                 lists.push(list)?;
                 Ok(())
@@ -156,10 +165,12 @@ fn load_row<D: Disk>(
     disk: &mut D,
     number: u64,
     level: &Table,
+    ends: Ends,
     row: usize,
 ) -> Result<LevelList, LoadFault>
     requires row { row < length level.now.terms }
     requires within { D.tells → LiesWithin level.now (D.state disk.old).content }
+    requires ends { D.tells → AreEndsWhole ends (D.state disk.old).content (level.now ∷ []) }
     ensures number { IfOk result (λ list. level_in list ≡ number) }
     ensures list { D.tells → IfOk result (λ list. level_list list ≡ list_at (D.state disk.old).content (record { number = number; level = level.now; row = row })) }
     ensures tells { D.tells → Tells (D.state disk.old).content (load_at number level.now (Some row)) result }
@@ -167,6 +178,10 @@ fn load_row<D: Disk>(
     ensures cause { result ≡ Err DiskFault → Rose (D.state disk.old).faults (D.state disk.new).faults }
     ensures reads { Reads D.tells (load_sizes (load_at number level.now (Some row))) (D.state disk.old) (D.state disk.new) }
 {
+    if is_tested(ends, level, row) {
+        let list = all_ends(number, level)?;
+        return Ok(list);
+    }
     match load_list(alloc, disk, level, row) {
         Ok(posting) => Ok(LevelList {
             level: number,
@@ -174,6 +189,46 @@ fn load_row<D: Disk>(
         }),
         Err(fault) => Err(fault),
     }
+}
+
+// Whether nothing has to be read of a row: its list is that of all ends, which was tested, and the row counts as many as there are
+// documents.
+fn is_tested(ends: Ends, level: &Table, row: usize) -> bool
+    requires { row < length level.now.terms }
+    ensures ends { IsTrue result → (image : List ℕ) → AreEndsWhole ends image (level.now ∷ []) → IsAllEnds image (record { number = 0; level = level.now; row = row }) }
+    ensures kept { IsTrue result → KeepsRow level.now row (ends_of level.now.documents) }
+    ensures small { stream_size level.now row < 2 ^ 64 }
+{
+    // This call tells that the stream has no more bytes than a number can count.
+    let (_stream, _summary) = level.stream_place(row);
+    match ends {
+        Ends::Untested => false,
+        Ends::Tested => counts_all_ends(level, row),
+    }
+}
+
+// Whether a row is that of all ends, and counts as many as there are documents.
+fn counts_all_ends(level: &Table, row: usize) -> bool
+    requires { row < length level.now.terms }
+    ensures ends { IsTrue result → (image : List ℕ) → AreEndsWhole Ends.Tested image (level.now ∷ []) → IsAllEnds image (record { number = 0; level = level.now; row = row }) }
+    ensures kept { IsTrue result → KeepsRow level.now row (ends_of level.now.documents) }
+{
+    if !is_end_term(level.term(row)) {
+        return false;
+    }
+    level.count(row) == level.documents().len() as u64
+}
+
+// The list of all ends of a level, as its rows have them.
+fn all_ends(number: u64, level: &Table) -> Result<LevelList, AllocError>
+    ensures number { IfOk result (λ list. level_in list ≡ number) }
+    ensures list { IfOk result (λ list. level_list list ≡ ends_of level.now.documents) }
+{
+    let rows = level.rows().clone()?;
+    Ok(LevelList {
+        level: number,
+        stored: Stored::Ends(rows),
+    })
 }
 
 // The list of a row as it is kept: where it is that of the ends of documents, as the level's rows have them in a plain form, and else as

@@ -6,10 +6,12 @@ ghost use Rattle.alta_disk.specs.Disk.{DiskState};
 ghost use Rattle.alta_loading.specs.Lists.{LiesWithin};
 ghost use Rattle.alta_loading.specs.Loads.{Tells, load_sizes};
 ghost use Rattle.alta_loading.specs.Terms.{KeepTerms, lists_of_term, loads_of, term_key};
+ghost use Rattle.alta_loading.specs.Tested.{AreEndsWhole};
 ghost use Rattle.alta_loading.specs.declared.fault.LoadFault.TheVariants.{Disk as DiskFault};
 ghost use Rattle.alta_search.specs.Lists.{key_of, term_lists};
 
 use crate::fault::LoadFault;
+use crate::mark::Ends;
 use crate::term::load_term;
 use alta_codec::Bytes;
 use alta_disk::Disk;
@@ -27,10 +29,12 @@ pub fn load_terms<D: Disk>(
     alloc: Global,
     disk: &mut D,
     levels: &[Table],
+    ends: Ends,
     newest: &MemLevel,
     terms: Vec<Bytes>,
 ) -> Result<Vec<TermLists>, LoadFault>
     requires within { D.tells → All (λ level. LiesWithin level (D.state disk.old).content) levels.now }
+    requires ends { D.tells → AreEndsWhole ends (D.state disk.old).content levels.now }
     requires sound { IsTrue newest.now.sound }
     ensures keys { IfOk result (λ loaded. map key_of loaded.items ≡ map (term_key levels.now newest.now.content) terms.items) }
     ensures lists { D.tells → IfOk result (λ loaded. map term_lists loaded.items ≡ map (lists_of_term levels.now newest.now.content (D.state disk.old).content) terms.items) }
@@ -41,7 +45,7 @@ pub fn load_terms<D: Disk>(
 {
     let mut loaded = Vec::with_capacity(alloc, terms.len())?;
     for term in terms {
-        match load_term(alloc, disk, levels, newest, term) {
+        match load_term(alloc, disk, levels, ends, newest, term) {
             Ok(lists) => loaded.push(lists)?,
             Err(fault) => return Err(fault),
         }

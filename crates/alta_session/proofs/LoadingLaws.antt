@@ -19,6 +19,7 @@ use Rattle.alta_loading.specs.Met.{each_once, loads_met, loads_of_tests, terms_m
 use Rattle.alta_loading.specs.Terms.{loads_of}
 use Rattle.alta_loading.specs.declared.fault.LoadFault.{LoadFault}
 use Rattle.alta_loading.specs.declared.fault.LoadFault.TheVariants.{Disk as LoadDisk, Memory as LoadMemory, Damaged as LoadDamaged}
+use Rattle.alta_loading.specs.declared.mark.Ends.{Ends}
 use Rattle.alta_loading.proofs.Places.{fault_of_level}
 use Rattle.alta_loading.proofs.Runs.{reads_none, reads_most}
 use Rattle.alta_images.specs.Standing.{StandsFor}
@@ -33,7 +34,7 @@ use Rattle.alta_query.specs.declared.test.Test.{Test}
 use Rattle.alta_search.specs.Plans.{tests_of}
 use Rattle.alta_search.specs.declared.cursors.OpenCursor.{OpenCursor}
 use Rattle.alta_search.specs.declared.cursors.TheConstants.{CURSORS}
-use Rattle.alta_session.specs.Loading.{Loads, Queries, loads_of_text, newest_in, of_load, open_loads, query_loads, ranked_loads_of_text, ranked_query_loads, search_loads, text_loads, top_loads, top_text_loads}
+use Rattle.alta_session.specs.Loading.{KeepsMark, Loads, MarkHolds, Queries, loads_of_text, newest_in, of_load, open_loads, query_loads, ranked_loads_of_text, ranked_query_loads, search_loads, text_loads, top_loads, top_text_loads}
 use Rattle.alta_session.specs.Machine.{IsRefusal}
 use Rattle.alta_session.specs.Searching.{IsNoQuery}
 use Rattle.alta_session.proofs.StatusLaws.{ok_answers, err_answers}
@@ -178,9 +179,28 @@ agrees_read tells bytes d e store lawful agrees reads = record {
   joins = λ tell. subst (λ (image : List ℕ). GoesOnOver image (levels_of store) (gone_of store.catalog) store.job agrees.intact.joining) (sym (reads.content tell)) (agrees.joins tell);
 }
 
+-- ---- the mark of the lists of all ends
+
+-- behind a call that answers no refusal
+pub mark_loaded : (tells : Type 0) (d : DiskState) (store : Store) (ends ends_now : Ends) (result : Result (List ℕ) StoreFault) → MarkHolds tells d store ends_now → IfOk result (λ reply. IsRefusal reply → ⊥)
+    → KeepsMark tells d store ends ends_now result
+mark_loaded tells d store ends ends_now result holds other = record {
+  holds = holds;
+  refused = IfOk-weaker result (λ reply. IsRefusal reply → ⊥) (λ reply. IsRefusal reply → ends_now ≡ ends) (λ reply no refusal. absurd (no refusal)) other;
+}
+
+-- behind a call that loads nothing
+pub mark_still : (tells : Type 0) (d : DiskState) (store : Store) (ends : Ends) (result : Result (List ℕ) StoreFault) → MarkHolds tells d store ends → KeepsMark tells d store ends ends result
+mark_still tells d store ends (Ok reply) holds = record { holds = holds; refused = λ refusal. refl }
+mark_still tells d store ends (Err e) holds = record { holds = holds; refused = tt }
+
 -- ---- calls that answer a text
 
 -- the lists of a query were loaded
+pub loads_same : {X : Type 0} (tells : Type 0) (before after : DiskState) (loads : List Test → List Load) (result : Result X StoreFault) (tests other : List Test) → tests ≡ other
+    → Loads tells (loads tests) before after result → Loads tells (loads other) before after result
+loads_same tells before after loads result tests other same loaded = subst (λ (t : List Test). Loads tells (loads t) before after result) same loaded
+
 pub queries_loaded : {D X : Type 0} (tells : Type 0) (state : D → DiskState) (disk disk_now : D) (loads : List Load) (x : X) (result : Result (List ℕ) StoreFault) → Loads {X = X} tells loads (state disk) (state disk_now) (Ok x)
     → IfErr result (λ e. e ≡ Memory) → IfOk result (λ reply. IsRefusal reply → ⊥) → Queries tells state disk disk_now loads ⊥ result
 queries_loaded tells state disk disk_now loads x result loaded memory other = record {

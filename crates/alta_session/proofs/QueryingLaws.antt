@@ -1,5 +1,5 @@
 -- Laws of lines that ask for the answers of a query.
-use Rattle.std.proofs.Common.{◌≡◌, ◌⊎◌, ◌≤◌, ◌++◌, ℕ, inl, inr, ⊎_elim, Bool, true, false, cond, List, length, map, take, refl, ap, sym, subst, arith, Option, None, Result, Ok, Err, IfOk, IfErr, codes, decimal}
+use Rattle.std.proofs.Common.{◌≡◌, ◌⊎◌, ◌≤◌, ◌++◌, ℕ, inl, inr, ⊎_elim, Bool, true, false, cond, List, length, map, take, refl, ap, sym, subst, ◌∙◌, arith, Option, None, Result, Ok, Err, IfOk, IfErr, codes, decimal}
 use Rattle.std.specs.Prelude.{nat_le}
 use Rattle.std.proofs.lemmas.Bool.Decides.{nat_tests}
 use Rattle.alta_disk.specs.Disk.{DiskState, IsLawful, Same}
@@ -7,6 +7,7 @@ use Rattle.alta_disk.proofs.Moments.{leaves_by}
 use Rattle.alta_images.specs.Standing.{StandsFor, StandsForEither}
 use Rattle.alta_images.specs.Work.{Task}
 use Rattle.alta_loading.specs.Loads.{Load, load_sizes}
+use Rattle.alta_loading.specs.declared.mark.Ends.{Ends}
 use Rattle.alta_meta.specs.declared.document.Document.{Document}
 use Rattle.alta_meta.specs.declared.document.State.{State}
 use Rattle.alta_model.specs.Deciding.{answers}
@@ -22,12 +23,12 @@ use Rattle.alta_search.specs.declared.cursors.TheConstants.{CURSORS}
 use Rattle.alta_search.proofs.CursorAnswers.{same_length}
 use Rattle.alta_session.specs.Answering.{Answers, CanAnswer}
 use Rattle.alta_session.specs.Cursors.{Turn, Turns, opening, opened_by}
-use Rattle.alta_session.specs.Loading.{Queries}
+use Rattle.alta_session.specs.Loading.{KeepsMark, Queries}
 use Rattle.alta_session.specs.Machine.{IsRefusal, Machine, turned_by}
 use Rattle.alta_session.specs.Searching.{IsNoQuery, answer_lines, counted_by, counting, found_by, found_line, ranked_by, ranking, score_lines, searching}
 use Rattle.alta_session.specs.Tasks.{IsBy}
 use Rattle.alta_session.specs.declared.session.Session.{Session}
-use Rattle.alta_session.proofs.AnsweringLaws.{answers_by, if_so, ok_weaker, with_cursors}
+use Rattle.alta_session.proofs.AnsweringLaws.{answers_by, if_so, ok_weaker, with_mark}
 use Rattle.alta_session.proofs.CursorLaws.{found_other, cursor_other, lines_other, no_refusal, scores_other}
 use Rattle.alta_session.proofs.LoadingLaws.{agrees_read}
 use Rattle.alta_session.proofs.TaskLaws.{worked_none}
@@ -64,16 +65,16 @@ only_so (Err e) (inl outside) = inl outside
 only_so (Err e) (inr damaged) = inr (inr damaged)
 
 -- ---- a call that answers a query, with this turn of the machine
-pub queried : {D : Type 0} (tells : Type 0) (state : D → DiskState) (disk disk_now : D) (session : Session) (cursors : List OpenCursor) (loads : List Load) (idle : Type 0) (result : Result (List ℕ) StoreFault)
+pub queried : {D : Type 0} (tells : Type 0) (state : D → DiskState) (disk disk_now : D) (session : Session) (ends : Ends) (cursors : List OpenCursor) (loads : List Load) (idle : Type 0) (result : Result (List ℕ) StoreFault)
     (steps : Machine → Machine × List ℕ) (tasks : Machine → Option Task) (turn : State → List OpenAnswers → Turn) → IsLawful tells (state disk) → CanAnswer tells (state disk) session
-    → Queries tells state disk disk_now loads idle result → IfOk result (λ reply. IsRefusal reply → cursors ≡ session.cursors)
+    → Queries tells state disk disk_now loads idle result → KeepsMark tells (state disk_now) session.store session.ends ends result → IfOk result (λ reply. IsRefusal reply → cursors ≡ session.cursors)
     → ((s : State) (all : List OpenAnswers) → tells → StandsFor s (state disk).content → AreOpen session.cursors all → Turns (turn s all) cursors result)
     → ((s : State) (all : List OpenAnswers) → AreOpen session.cursors all → IsRefusal (turn s all).1 → idle)
-    → ((m : Machine) → steps m ≡ turned_by m (turn m.state m.cursors)) → ((m : Machine) → tasks m ≡ None) → Answers tells state disk disk_now session (with_cursors session cursors) result steps tasks
-queried tells state disk disk_now session cursors loads idle result steps tasks turn lawful can queries kept turns idles is none =
+    → ((m : Machine) → steps m ≡ turned_by m (turn m.state m.cursors)) → ((m : Machine) → tasks m ≡ None) → Answers tells state disk disk_now session (with_mark session ends cursors) result steps tasks
+queried tells state disk disk_now session ends cursors loads idle result steps tasks turn lawful can queries mark kept turns idles is none =
     let reads = queries.loaded.reads in
     let agrees_now : Agrees tells (state disk_now) session.store = agrees_read tells (load_sizes loads) (state disk) (state disk_now) session.store lawful can.agrees reads in
-    answers_by tells state disk disk_now session (with_cursors session cursors) result (λ m. turned_by m (turn m.state m.cursors)) steps (λ m. None) tasks (λ m. sym (is m)) (λ m. sym (none m)) (record {
+    answers_by tells state disk disk_now session (with_mark session ends cursors) result (λ m. turned_by m (turn m.state m.cursors)) steps (λ m. None) tasks (λ m. sym (is m)) (λ m. sym (none m)) (record {
       from = λ m tell agrees.
           let one : Turns (turn m.state m.cursors) cursors result = turns m.state m.cursors tell (agrees.stands tell) agrees.cursors in
           let before : (c : List ℕ) → (state disk).images c → StandsForEither m.state m.state c = λ c here. inl (images_stand tells (state disk) m.state lawful agrees.store.settled agrees.stands c here) in
@@ -87,9 +88,11 @@ queried tells state disk disk_now session cursors loads idle result steps tasks 
             full = λ held need gap here failed. absurd (not_full result need gap queries.loaded.only failed);
             undamaged = λ place failed. not_damaged result place (queries.undamaged m.state tell (agrees.stands tell)) failed;
           };
-      can = if_so result (CanAnswer tells (state disk_now) (with_cursors session cursors)) (record { sound = can.sound; agrees = agrees_now; limit = omega (arith, can.limit, reads.costs.limit) });
-      unchanged = ok_both result (λ reply. IsRefusal reply → disk_now ≡ disk) (λ reply. IsRefusal reply → cursors ≡ session.cursors) _
-          (λ reply same_disk same_cursors refusal. (same_disk refusal, ap (with_cursors session) (same_cursors refusal))) queries.refused kept;
+      can = if_so result (CanAnswer tells (state disk_now) (with_mark session ends cursors)) (record { sound = can.sound; agrees = agrees_now; mark = mark.holds; limit = omega (arith, can.limit, reads.costs.limit) });
+      unchanged = ok_both result (λ reply. IsRefusal reply → disk_now ≡ disk) (λ reply. IsRefusal reply → with_mark session ends cursors ≡ session) _
+          (λ reply same_disk same_session refusal. (same_disk refusal, same_session refusal)) queries.refused
+          (ok_both result (λ reply. IsRefusal reply → ends ≡ session.ends) (λ reply. IsRefusal reply → cursors ≡ session.cursors) _
+          (λ reply same_ends same_cursors refusal. ap (λ (e : Ends). with_mark session e cursors) (same_ends refusal) ∙ ap (with_mark session session.ends) (same_cursors refusal)) mark.refused kept);
       only = only_so result queries.loaded.only;
       full = λ need gap tell failed. absurd (not_full result need gap queries.loaded.only failed);
       still = λ place tell failed. reads.content tell;

@@ -74,7 +74,7 @@ all_added (d ∷ ds) (line ∷ lines) s each named apart free room =
 
 pub lines_restore : (documents : List Document) (lines : List (List ℕ)) → AreAddLines documents lines → machine_after (started_at empty) lines ≡ started_at (restored documents)
 lines_restore documents lines are =
-    all_added documents lines empty are.lines are.named are.distinct (λ k d l. refl) (omega (arith, are.numbered))
+    all_added documents lines empty are.each are.named are.distinct (λ k d l. refl) (omega (arith, are.numbered))
     ∙ parts (1 + length documents) (length documents + 1) (added_from 1 documents) (added_from 1 documents) (omega arith) refl
 
 pub each_has_line : (documents : List Document) (lines : List (List ℕ)) → map line_of documents ≡ map Some lines → All (λ d. IsSome (line_of d)) documents

@@ -5,6 +5,7 @@ use Rattle.alta_disk.specs.Disk.{DiskState, LeavesOnly}
 use Rattle.alta_journal.specs.declared.places.TheConstants.{HEAD_BYTES}
 use Rattle.alta_session.specs.Agreement.{AgreesOn, HasNotFailed}
 use Rattle.alta_session.specs.Fullness.{IsFull}
+use Rattle.alta_session.specs.Loading.{MarkHolds}
 use Rattle.alta_session.specs.Machine.{Machine, IsRefusal}
 use Rattle.alta_session.specs.Tasks.{IsBy, IsWorked, worked_where}
 use Rattle.alta_session.specs.declared.session.Session.{Session}
@@ -16,11 +17,12 @@ use Rattle.alta_images.specs.Work.{Task}
 use Rattle.alta_store.specs.declared.fault.StoreFault.{StoreFault}
 use Rattle.alta_store.specs.declared.fault.StoreFault.TheVariants.{Disk, Memory, Damaged, Full}
 
--- A line may be answered: no call of the session has failed, its store agrees with its disk, and the disk may be as long as the
--- smallest index.
+-- A line may be answered: no call of the session has failed, its store agrees with its disk, the mark of the lists of all ends holds,
+-- and the disk may be as long as the smallest index.
 pub record CanAnswer (tells : Type 0) (disk : DiskState) (session : Session) : Type 0 where
   pub sound : HasNotFailed session
   pub agrees : Agrees tells disk session.store
+  pub mark : MarkHolds tells disk session.store session.ends
   pub limit : HEAD_BYTES ≤ disk.limit
 
 -- What was answered is this text, or memory was wanting.

@@ -11,8 +11,10 @@ use Rattle.alta_dump.specs.Shown.{dump_tests}
 use Rattle.alta_images.specs.Standing.{StandsFor}
 use Rattle.alta_loading.specs.Loads.{Load, IsFirstFault, IsWhole, load_sizes}
 use Rattle.alta_loading.specs.Met.{each_once, loads_of_tests}
+use Rattle.alta_loading.specs.Tested.{AreEndsWhole}
 use Rattle.alta_loading.specs.declared.fault.LoadFault.{LoadFault}
 use Rattle.alta_loading.specs.declared.fault.LoadFault.TheVariants.{Disk as LoadDisk, Memory as LoadMemory, Damaged as LoadDamaged}
+use Rattle.alta_loading.specs.declared.mark.Ends.{Ends}
 use Rattle.alta_meta.specs.declared.document.State.{State}
 use Rattle.alta_model.specs.Command.{Command, adds, deletes, searches, counts, explains, opens, fetches, closes, ranks, flushes, merges, steps, asks_stats, dumps}
 use Rattle.alta_model.specs.Lines.{Reading, asks, refuses, reading_of}
@@ -26,7 +28,7 @@ use Rattle.alta_search.specs.declared.cursors.OpenCursor.{OpenCursor}
 use Rattle.alta_search.specs.declared.cursors.TheConstants.{CURSORS}
 use Rattle.alta_session.specs.Machine.{IsRefusal}
 use Rattle.alta_session.specs.declared.session.Session.{Session}
-use Rattle.alta_store.specs.Agreement.{levels_of}
+use Rattle.alta_store.specs.Agreement.{Agrees, levels_of}
 use Rattle.alta_store.specs.Answers.{IsOutside, AnswersFault}
 use Rattle.alta_store.specs.declared.fault.StoreFault.{StoreFault}
 use Rattle.alta_store.specs.declared.fault.StoreFault.TheVariants.{Disk, Memory, Damaged}
@@ -115,6 +117,22 @@ open_loads store cursors text = command_loads (levels_of store) (newest_in store
 -- the lists that a session loads for a line
 abbrev pub session_loads : Session → List ℕ → List Load
 session_loads session line = line_loads (levels_of session.store) (newest_in session.store) (length session.cursors) line
+
+-- ---- the mark of the lists of all ends
+
+-- where it says that those of a store's levels were tested, they are whole on the disk, if that tells
+abbrev pub MarkHolds : Type 0 → DiskState → Store → Ends → Type 0
+MarkHolds tells disk store ends = tells → AreEndsWhole ends disk.content (levels_of store)
+
+-- Lists may be loaded: store and disk agree, and the mark holds.
+pub record MayLoad (tells : Type 0) (disk : DiskState) (store : Store) (ends : Ends) : Type 0 where
+  pub agrees : Agrees tells disk store
+  pub mark : MarkHolds tells disk store ends
+
+-- The mark holds after a call that answers a text, and is as it was where that refuses.
+pub record KeepsMark (tells : Type 0) (disk_now : DiskState) (store : Store) (ends ends_now : Ends) (result : Result (List ℕ) StoreFault) : Type 0 where
+  pub holds : MarkHolds tells disk_now store ends_now
+  pub refused : IfOk result (λ reply. IsRefusal reply → ends_now ≡ ends)
 
 -- ---- a call that loads
 

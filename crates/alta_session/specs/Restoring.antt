@@ -8,7 +8,7 @@ use Rattle.alta_meta.specs.declared.document.Document.{Document}
 
 -- Each of the documents has its line, and they have proper names, no two the same, and not more than there are numbers.
 pub record AreAddLines (documents : List Document) (lines : List (List ℕ)) : Type 0 where
-  pub lines : map line_of documents ≡ map Some lines
+  pub each : map line_of documents ≡ map Some lines
   pub named : All IsName (map name_of documents)
   pub distinct : AllDiffer (map name_of documents)
   pub numbered : length documents < 4294967296

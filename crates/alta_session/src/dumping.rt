@@ -6,14 +6,14 @@ ghost use Rattle.alta_dump.specs.Shown.{dump_tests};
 ghost use Rattle.alta_images.specs.Standing.{StandsFor};
 ghost use Rattle.alta_meta.specs.declared.document.State.{State};
 ghost use Rattle.alta_search.specs.Shown.{ShowsDocuments};
-ghost use Rattle.alta_session.specs.Loading.{Queries, order_loads};
+ghost use Rattle.alta_session.specs.Loading.{KeepsMark, MayLoad, Queries, order_loads};
 ghost use Rattle.alta_session.specs.Machine.{IsRefusal};
-ghost use Rattle.alta_store.specs.Agreement.{Agrees};
 
 use crate::searching::load;
 use alta_codec::{Steps, Text};
 use alta_disk::Disk;
 use alta_dump::dump_order;
+use alta_loading::Ends;
 use alta_search::Snapshot;
 use alta_store::{Store, StoreFault};
 use std::alloc::{AllocError, Global};
@@ -23,15 +23,21 @@ use std::sync::ledger::{Blank, Ledger};
 /// The reply to a dump: for each live document the line that adds its folded words again, or that it is skipped; and then how many
 /// lines there are. What it loads of the disk are the lists of all ends and of all folded words, and its faults are those of loading
 /// them.
-pub(crate) fn dump<D: Disk>(alloc: Global, disk: &mut D, store: &Store) -> Result<Text, StoreFault>
-    requires { Agrees D.tells (D.state disk.old) store.now }
+pub(crate) fn dump<D: Disk>(
+    alloc: Global,
+    disk: &mut D,
+    store: &Store,
+    ends: &mut Ends,
+) -> Result<Text, StoreFault>
+    requires { MayLoad D.tells (D.state disk.old) store.now ends.old }
     ensures reply { (s : State) → D.tells → StandsFor s (D.state disk.old).content → IfOk result (λ reply. reply ≡ dump_of s) }
     ensures queries { Queries D.tells D.state disk.old disk.new (order_loads store.now dump_tests) ⊥ result }
+    ensures mark { KeepsMark D.tells (D.state disk.new) store.now ends.old ends.new result }
 {
     let Ok(order) = dump_order(alloc) else {
         return Err(StoreFault::Memory);
     };
-    match load(alloc, disk, store, order) {
+    match load(alloc, disk, store, ends, order) {
         Ok(snapshot) => dumped(alloc, &snapshot),
         Err(fault) => Err(fault),
     }

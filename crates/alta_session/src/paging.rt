@@ -10,16 +10,16 @@ ghost use Rattle.alta_search.specs.Open.{AreOpen, IsFetch, OpenAnswers, least_fr
 ghost use Rattle.alta_search.specs.declared.cursors.TheConstants.{CURSORS};
 ghost use Rattle.alta_session.specs.Answering.{IsReply};
 ghost use Rattle.alta_session.specs.Cursors.{Turns, closing, fetching, opened_over, opening};
-ghost use Rattle.alta_session.specs.Loading.{Loads, Queries, open_loads, search_loads};
+ghost use Rattle.alta_session.specs.Loading.{KeepsMark, Loads, MarkHolds, MayLoad, Queries, open_loads, search_loads};
 ghost use Rattle.alta_session.specs.Machine.{IsRefusal};
 ghost use Rattle.alta_session.specs.Searching.{IsNoQuery, row_lines};
-ghost use Rattle.alta_store.specs.Agreement.{Agrees};
 ghost use Rattle.alta_store.specs.Answers.{IsOutside};
 
 use crate::replying::{put_answers, refused, text, written};
 use crate::searching::planned;
 use alta_codec::{Steps, Text};
 use alta_disk::Disk;
+use alta_loading::Ends;
 use alta_query::{Query, parse};
 use alta_search::{Cursor, Cursors, Page};
 use alta_store::{Store, StoreFault};
@@ -33,16 +33,18 @@ pub(crate) fn open<D: Disk>(
     alloc: Global,
     disk: &mut D,
     store: &Store,
+    ends: &mut Ends,
     cursors: &mut Cursors,
     text: &str,
 ) -> Result<Text, StoreFault>
-    requires { Agrees D.tells (D.state disk.old) store.now }
+    requires { MayLoad D.tells (D.state disk.old) store.now ends.old }
     ensures turned { (s : State) (all : List OpenAnswers) → D.tells → StandsFor s (D.state disk.old).content → AreOpen cursors.old all → Turns (opening text.now s.documents all) cursors.new result }
     ensures kept { IfOk result (λ reply. IsRefusal reply → cursors.new ≡ cursors.old) }
     ensures queries { Queries D.tells D.state disk.old disk.new (open_loads store.now cursors.old text.now) (IsNoQuery text.now ⊎ (CURSORS ≤ length cursors.old)) result }
+    ensures mark { KeepsMark D.tells (D.state disk.new) store.now ends.old ends.new result }
 {
     match parse(alloc, text) {
-        Ok(query) => open_query(alloc, disk, store, cursors, &query),
+        Ok(query) => open_query(alloc, disk, store, ends, cursors, &query),
         Err(fault) => refused(alloc, fault),
     }
 }
@@ -52,19 +54,21 @@ fn open_query<D: Disk>(
     alloc: Global,
     disk: &mut D,
     store: &Store,
+    ends: &mut Ends,
     cursors: &mut Cursors,
     query: &Query,
 ) -> Result<Text, StoreFault>
-    requires { Agrees D.tells (D.state disk.old) store.now }
+    requires { MayLoad D.tells (D.state disk.old) store.now ends.old }
     ensures turned { (s : State) (all : List OpenAnswers) → D.tells → StandsFor s (D.state disk.old).content → AreOpen cursors.old all
         → Turns (opened_over (answers s.documents (shape query.now)) all) cursors.new result }
     ensures kept { IfOk result (λ reply. IsRefusal reply → cursors.new ≡ cursors.old) }
     ensures queries { Queries D.tells D.state disk.old disk.new (if nat_le CURSORS (length cursors.old) then [] else search_loads store.now (plan_of (shape query.now))) (CURSORS ≤ length cursors.old) result }
+    ensures mark { KeepsMark D.tells (D.state disk.new) store.now ends.old ends.new result }
 {
     if cursors.is_full() {
         return text(alloc, "! too many cursors\n");
     }
-    match put_cursor(alloc, disk, store, cursors, query) {
+    match put_cursor(alloc, disk, store, ends, cursors, query) {
         Ok(number) => numbered(alloc, "cursor", number),
         Err(fault) => Err(fault),
     }
@@ -75,18 +79,20 @@ fn put_cursor<D: Disk>(
     alloc: Global,
     disk: &mut D,
     store: &Store,
+    ends: &mut Ends,
     cursors: &mut Cursors,
     query: &Query,
 ) -> Result<u64, StoreFault>
-    requires agrees { Agrees D.tells (D.state disk.old) store.now }
+    requires may { MayLoad D.tells (D.state disk.old) store.now ends.old }
     requires room { length cursors.old < CURSORS }
     ensures opened { (s : State) (all : List OpenAnswers) → D.tells → StandsFor s (D.state disk.old).content → AreOpen cursors.old all
         → OnOk result (AreOpen cursors.new (with_opened (answers s.documents (shape query.now)) all)) }
     ensures number { IfOk result (λ number. (all : List OpenAnswers) → AreOpen cursors.old all → number ≡ least_free all) }
     ensures undamaged { (s : State) → D.tells → StandsFor s (D.state disk.old).content → IfErr result IsOutside }
     ensures loads { Loads D.tells (search_loads store.now (plan_of (shape query.now))) (D.state disk.old) (D.state disk.new) result }
+    ensures mark { MarkHolds D.tells (D.state disk.new) store.now ends.new }
 {
-    let (plan, snapshot) = match planned(alloc, disk, store, query) {
+    let (plan, snapshot) = match planned(alloc, disk, store, ends, query) {
         Ok(planned) => planned,
         Err(fault) => return Err(fault),
     };

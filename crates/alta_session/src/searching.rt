@@ -26,17 +26,16 @@ ghost use Rattle.alta_search.specs.Told.{answer_of};
 ghost use Rattle.alta_search.specs.Tops.{AreBest, AreToRank, scored};
 ghost use Rattle.alta_search.specs.View.{Shows};
 ghost use Rattle.alta_session.specs.Answering.{IsReply};
-ghost use Rattle.alta_session.specs.Loading.{Loads, Queries, order_loads, search_loads, text_loads, top_loads, top_text_loads, of_load};
+ghost use Rattle.alta_session.specs.Loading.{KeepsMark, Loads, MarkHolds, MayLoad, Queries, order_loads, search_loads, text_loads, top_loads, top_text_loads, of_load};
 ghost use Rattle.alta_session.specs.Machine.{IsRefusal};
 ghost use Rattle.alta_session.specs.Searching.{IsNoQuery, answer_lines, score_lines, found_line, found_by, counted_by, ranked_by, searching, counting, explaining, ranking};
-ghost use Rattle.alta_store.specs.Agreement.{Agrees};
 ghost use Rattle.alta_store.specs.Answers.{IsOutside};
 
 use crate::replying::{put_answers, put_count, put_scores, refused, written};
 use alta_codec::{Steps, Text};
 use alta_compile::{Plan, a_plan_is_text, compile};
 use alta_disk::Disk;
-use alta_loading::{LoadFault, load_ordered};
+use alta_loading::{Ends, LoadFault, load_ordered};
 use alta_query::{Query, parse, print};
 use alta_search::{Loading, Page, Snapshot, Top, loading_order, ranking_order};
 use alta_store::{Sources, Store, StoreFault, a_search_sees_the_state};
@@ -50,14 +49,16 @@ pub(crate) fn search<D: Disk>(
     alloc: Global,
     disk: &mut D,
     store: &Store,
+    ends: &mut Ends,
     text: &str,
 ) -> Result<Text, StoreFault>
-    requires { Agrees D.tells (D.state disk.old) store.now }
+    requires { MayLoad D.tells (D.state disk.old) store.now ends.old }
     ensures reply { (s : State) → D.tells → StandsFor s (D.state disk.old).content → IfOk result (λ reply. reply ≡ searching text.now s.documents) }
     ensures queries { Queries D.tells D.state disk.old disk.new (text_loads store.now text.now) (IsNoQuery text.now) result }
+    ensures mark { KeepsMark D.tells (D.state disk.new) store.now ends.old ends.new result }
 {
     match parse(alloc, text) {
-        Ok(query) => listed(alloc, disk, store, &query),
+        Ok(query) => listed(alloc, disk, store, ends, &query),
         Err(fault) => refused(alloc, fault),
     }
 }
@@ -68,14 +69,16 @@ pub(crate) fn count<D: Disk>(
     alloc: Global,
     disk: &mut D,
     store: &Store,
+    ends: &mut Ends,
     text: &str,
 ) -> Result<Text, StoreFault>
-    requires { Agrees D.tells (D.state disk.old) store.now }
+    requires { MayLoad D.tells (D.state disk.old) store.now ends.old }
     ensures reply { (s : State) → D.tells → StandsFor s (D.state disk.old).content → IfOk result (λ reply. reply ≡ counting text.now s.documents) }
     ensures queries { Queries D.tells D.state disk.old disk.new (text_loads store.now text.now) (IsNoQuery text.now) result }
+    ensures mark { KeepsMark D.tells (D.state disk.new) store.now ends.old ends.new result }
 {
     match parse(alloc, text) {
-        Ok(query) => counted(alloc, disk, store, &query),
+        Ok(query) => counted(alloc, disk, store, ends, &query),
         Err(fault) => refused(alloc, fault),
     }
 }
@@ -87,15 +90,17 @@ pub(crate) fn rank<D: Disk>(
     alloc: Global,
     disk: &mut D,
     store: &Store,
+    ends: &mut Ends,
     count: u64,
     text: &str,
 ) -> Result<Text, StoreFault>
-    requires { Agrees D.tells (D.state disk.old) store.now }
+    requires { MayLoad D.tells (D.state disk.old) store.now ends.old }
     ensures reply { (s : State) → D.tells → StandsFor s (D.state disk.old).content → IfOk result (λ reply. reply ≡ ranking count text.now s.documents) }
     ensures queries { Queries D.tells D.state disk.old disk.new (top_text_loads store.now text.now) (IsNoQuery text.now) result }
+    ensures mark { KeepsMark D.tells (D.state disk.new) store.now ends.old ends.new result }
 {
     match parse(alloc, text) {
-        Ok(query) => best_listed(alloc, disk, store, count, &query),
+        Ok(query) => best_listed(alloc, disk, store, ends, count, &query),
         Err(fault) => refused(alloc, fault),
     }
 }
@@ -134,13 +139,15 @@ fn listed<D: Disk>(
     alloc: Global,
     disk: &mut D,
     store: &Store,
+    ends: &mut Ends,
     query: &Query,
 ) -> Result<Text, StoreFault>
-    requires { Agrees D.tells (D.state disk.old) store.now }
+    requires { MayLoad D.tells (D.state disk.old) store.now ends.old }
     ensures reply { (s : State) → D.tells → StandsFor s (D.state disk.old).content → IfOk result (λ reply. reply ≡ found_by s.documents (Ok (shape query.now))) }
     ensures queries { Queries D.tells D.state disk.old disk.new (search_loads store.now (plan_of (shape query.now))) ⊥ result }
+    ensures mark { KeepsMark D.tells (D.state disk.new) store.now ends.old ends.new result }
 {
-    match planned(alloc, disk, store, query) {
+    match planned(alloc, disk, store, ends, query) {
         Ok((plan, snapshot)) => written(all_listed(alloc, &plan, query, &snapshot)),
         Err(fault) => Err(fault),
     }
@@ -171,13 +178,15 @@ fn counted<D: Disk>(
     alloc: Global,
     disk: &mut D,
     store: &Store,
+    ends: &mut Ends,
     query: &Query,
 ) -> Result<Text, StoreFault>
-    requires { Agrees D.tells (D.state disk.old) store.now }
+    requires { MayLoad D.tells (D.state disk.old) store.now ends.old }
     ensures reply { (s : State) → D.tells → StandsFor s (D.state disk.old).content → IfOk result (λ reply. reply ≡ counted_by s.documents (Ok (shape query.now))) }
     ensures queries { Queries D.tells D.state disk.old disk.new (search_loads store.now (plan_of (shape query.now))) ⊥ result }
+    ensures mark { KeepsMark D.tells (D.state disk.new) store.now ends.old ends.new result }
 {
-    match planned(alloc, disk, store, query) {
+    match planned(alloc, disk, store, ends, query) {
         Ok((plan, snapshot)) => written(all_counted(alloc, &plan, query, &snapshot)),
         Err(fault) => Err(fault),
     }
@@ -206,15 +215,17 @@ fn best_listed<D: Disk>(
     alloc: Global,
     disk: &mut D,
     store: &Store,
+    ends: &mut Ends,
     count: u64,
     query: &Query,
 ) -> Result<Text, StoreFault>
-    requires agrees { Agrees D.tells (D.state disk.old) store.now }
+    requires may { MayLoad D.tells (D.state disk.old) store.now ends.old }
     requires read { IsWellFormed (shape query.now) }
     ensures reply { (s : State) → D.tells → StandsFor s (D.state disk.old).content → IfOk result (λ reply. reply ≡ ranked_by count s.documents (Ok (shape query.now))) }
     ensures queries { Queries D.tells D.state disk.old disk.new (top_loads store.now (plan_of (shape query.now))) ⊥ result }
+    ensures mark { KeepsMark D.tells (D.state disk.new) store.now ends.old ends.new result }
 {
-    match planned_for_top(alloc, disk, store, query) {
+    match planned_for_top(alloc, disk, store, ends, query) {
         Ok((plan, snapshot)) => written(all_ranked(alloc, &plan, query, &snapshot, count)),
         Err(fault) => Err(fault),
     }
@@ -253,14 +264,16 @@ pub(crate) fn planned<D: Disk>(
     alloc: Global,
     disk: &mut D,
     store: &Store,
+    ends: &mut Ends,
     query: &Query,
 ) -> Result<(Plan, Snapshot), StoreFault>
-    requires { Agrees D.tells (D.state disk.old) store.now }
+    requires { MayLoad D.tells (D.state disk.old) store.now ends.old }
     ensures plan { IfOk result (λ found. tree found.0 ≡ plan_of (shape query.now)) }
     ensures tests { IfOk result (λ found. found.1.tests ≡ tests_of (tree found.0)) }
     ensures answers { (s : State) → D.tells → StandsFor s (D.state disk.old).content → IfOk result (λ found. AreToCome (tree found.0) found.1 0 (answers s.documents (shape query.now))) }
     ensures undamaged { (s : State) → D.tells → StandsFor s (D.state disk.old).content → IfErr result IsOutside }
     ensures loads { Loads D.tells (search_loads store.now (plan_of (shape query.now))) (D.state disk.old) (D.state disk.new) result }
+    ensures mark { MarkHolds D.tells (D.state disk.new) store.now ends.new }
 {
     let Ok(plan) = compile(alloc, query) else {
         return Err(StoreFault::Memory);
@@ -268,7 +281,7 @@ pub(crate) fn planned<D: Disk>(
     let Ok(order) = loading_order(alloc, &plan) else {
         return Err(StoreFault::Memory);
     };
-    match load(alloc, disk, store, order) {
+    match load(alloc, disk, store, ends, order) {
         Ok(snapshot) => Ok((plan, snapshot)),
         Err(fault) => Err(fault),
     }
@@ -279,15 +292,17 @@ fn planned_for_top<D: Disk>(
     alloc: Global,
     disk: &mut D,
     store: &Store,
+    ends: &mut Ends,
     query: &Query,
 ) -> Result<(Plan, Snapshot), StoreFault>
-    requires { Agrees D.tells (D.state disk.old) store.now }
+    requires { MayLoad D.tells (D.state disk.old) store.now ends.old }
     ensures plan { IfOk result (λ found. tree found.0 ≡ plan_of (shape query.now)) }
     ensures tests { IfOk result (λ found. found.1.tests ≡ tests_of (tree found.0) ++ title_end ∷ []) }
     ensures answers { (s : State) → D.tells → StandsFor s (D.state disk.old).content
         → IfOk result (λ found. AreToRank (tree found.0) found.1 (answers s.documents (shape query.now))) }
     ensures undamaged { (s : State) → D.tells → StandsFor s (D.state disk.old).content → IfErr result IsOutside }
     ensures loads { Loads D.tells (top_loads store.now (plan_of (shape query.now))) (D.state disk.old) (D.state disk.new) result }
+    ensures mark { MarkHolds D.tells (D.state disk.new) store.now ends.new }
 {
     let Ok(plan) = compile(alloc, query) else {
         return Err(StoreFault::Memory);
@@ -295,7 +310,7 @@ fn planned_for_top<D: Disk>(
     let Ok(order) = ranking_order(alloc, &plan) else {
         return Err(StoreFault::Memory);
     };
-    match load(alloc, disk, store, order) {
+    match load(alloc, disk, store, ends, order) {
         Ok(snapshot) => Ok((plan, snapshot)),
         Err(fault) => Err(fault),
     }
@@ -306,9 +321,10 @@ pub(crate) fn load<D: Disk>(
     alloc: Global,
     disk: &mut D,
     store: &Store,
+    ends: &mut Ends,
     order: Loading,
 ) -> Result<Snapshot, StoreFault>
-    requires { Agrees D.tells (D.state disk.old) store.now }
+    requires { MayLoad D.tells (D.state disk.old) store.now ends.old }
     ensures tests { IfOk result (λ snapshot. snapshot.tests ≡ used order) }
     ensures answers { (s : State) (q : Shape) → D.tells → StandsFor s (D.state disk.old).content → IfOk result (λ snapshot. AreToCome (plan_of q) snapshot 0 (answers s.documents q)) }
     ensures ranked { (s : State) (q : Shape) → D.tells → StandsFor s (D.state disk.old).content
@@ -316,6 +332,7 @@ pub(crate) fn load<D: Disk>(
     ensures shown { (s : State) → D.tells → StandsFor s (D.state disk.old).content → IfOk result (λ snapshot. ShowsDocuments snapshot s.documents) }
     ensures undamaged { (s : State) → D.tells → StandsFor s (D.state disk.old).content → IfErr result IsOutside }
     ensures loads { Loads D.tells (order_loads store.now (used order)) (D.state disk.old) (D.state disk.new) result }
+    ensures mark { MarkHolds D.tells (D.state disk.new) store.now ends.new }
 {
     a_search_sees_the_state::<D>();
     let Ok(sources) = store.sources() else {
@@ -327,7 +344,7 @@ pub(crate) fn load<D: Disk>(
         gone,
         rows,
     } = sources;
-    match load_ordered(alloc, disk, order, levels, newest, rows, gone) {
+    match load_ordered(alloc, disk, order, levels, ends, newest, rows, gone) {
         Ok(snapshot) => Ok(snapshot),
         Err(fault) => Err(load_fault(fault)),
     }

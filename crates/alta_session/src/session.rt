@@ -27,6 +27,7 @@ use crate::replying::text;
 use crate::searching::{count, explain, rank, search};
 use alta_codec::{Text, name_ok};
 use alta_disk::Disk;
+use alta_loading::Ends;
 use alta_model::{Line, LineFault, read_line};
 use alta_search::Cursors;
 use alta_store::{Store, StoreFault};
@@ -36,6 +37,8 @@ use std::alloc::Global;
 #[derive(Drop)]
 pub struct Session {
     store: Store,
+    // Whether a search has tested the lists of all ends of the levels since the index last changed.
+    ends: Ends,
     cursors: Cursors,
     sound: bool,
 }
@@ -58,6 +61,7 @@ impl Session {
         match Store::open(alloc, disk) {
             Ok(store) => Ok(Session {
                 store,
+                ends: Ends::Untested,
                 cursors: Cursors::new(alloc),
                 sound: true,
             }),
@@ -127,18 +131,25 @@ impl Session {
         match asked(line) {
             Ask::Add { name, title, body } => self.add(alloc, disk, name, title, body),
             Ask::Delete(name) => self.delete(alloc, disk, name),
-            Ask::Search(text) => search(alloc, disk, &self.store, text),
-            Ask::Count(text) => count(alloc, disk, &self.store, text),
+            Ask::Search(text) => search(alloc, disk, &self.store, &mut self.ends, text),
+            Ask::Count(text) => count(alloc, disk, &self.store, &mut self.ends, text),
             Ask::Explain(text) => explain(alloc, text),
-            Ask::Open(text) => open(alloc, disk, &self.store, &mut self.cursors, text),
+            Ask::Open(text) => open(
+                alloc,
+                disk,
+                &self.store,
+                &mut self.ends,
+                &mut self.cursors,
+                text,
+            ),
             Ask::Fetch { cursor, count } => fetch(alloc, &mut self.cursors, cursor, count),
             Ask::Close(cursor) => close(alloc, &mut self.cursors, cursor),
-            Ask::Top { count, text } => rank(alloc, disk, &self.store, count, text),
+            Ask::Top { count, text } => rank(alloc, disk, &self.store, &mut self.ends, count, text),
             Ask::Flush => self.flush(alloc, disk),
             Ask::Merge => self.merge(alloc, disk),
             Ask::Step(count) => self.step(alloc, disk, count),
             Ask::Stats => stats(alloc, self.store.counts()),
-            Ask::Dump => dump(alloc, disk, &self.store),
+            Ask::Dump => dump(alloc, disk, &self.store, &mut self.ends),
             Ask::Refused(reply) => text(alloc, reply),
         }
     }
@@ -161,7 +172,10 @@ impl Session {
             return text(alloc, "! bad name\n");
         }
         match self.store.add(disk, name, title, body) {
-            Ok(number) => added(alloc, number),
+            Ok(number) => {
+                self.ends = Ends::Untested;
+                added(alloc, number)
+            }
             Err(fault) => match fault {
                 StoreFault::Taken => self.replace(alloc, disk, name, title, body),
                 StoreFault::Numbers => text(alloc, "! no numbers left\n"),
@@ -186,7 +200,10 @@ impl Session {
         ensures works { Works D.tells D.state disk.old disk.new self.old.store (asks (adds name.now title.now body.now)) result }
     {
         match self.store.replace(disk, name, title, body) {
-            Ok(numbers) => replaced(alloc, numbers),
+            Ok(numbers) => {
+                self.ends = Ends::Untested;
+                replaced(alloc, numbers)
+            }
             Err(fault) => match fault {
                 StoreFault::Numbers => text(alloc, "! no numbers left\n"),
                 fault => Err(fault),
@@ -209,7 +226,10 @@ impl Session {
             return text(alloc, "! bad name\n");
         }
         match self.store.delete(disk, name) {
-            Ok(number) => deleted(alloc, number),
+            Ok(number) => {
+                self.ends = Ends::Untested;
+                deleted(alloc, number)
+            }
             Err(fault) => match fault {
                 StoreFault::Missing => text(alloc, "! no such document\n"),
                 fault => Err(fault),
@@ -224,7 +244,10 @@ impl Session {
         ensures works { Works D.tells D.state disk.old disk.new self.old.store (asks asks_flush) result }
     {
         match self.store.flush(disk) {
-            Ok(()) => text(alloc, "ok\n"),
+            Ok(()) => {
+                self.ends = Ends::Untested;
+                text(alloc, "ok\n")
+            }
             Err(fault) => Err(fault),
         }
     }
@@ -236,7 +259,10 @@ impl Session {
         ensures works { Works D.tells D.state disk.old disk.new self.old.store (asks asks_merge) result }
     {
         match self.store.merge(disk) {
-            Ok(()) => text(alloc, "ok\n"),
+            Ok(()) => {
+                self.ends = Ends::Untested;
+                text(alloc, "ok\n")
+            }
             Err(fault) => Err(fault),
         }
     }
@@ -248,7 +274,10 @@ impl Session {
         ensures works { Works D.tells D.state disk.old disk.new self.old.store (asks (asks_step n)) result }
     {
         match self.store.step(disk, n) {
-            Ok(()) => text(alloc, "ok\n"),
+            Ok(()) => {
+                self.ends = Ends::Untested;
+                text(alloc, "ok\n")
+            }
             Err(fault) => Err(fault),
         }
     }

@@ -103,7 +103,14 @@ fn loaded(
     let image = image_of(alloc, old, new, changes)?;
     let mut disk = MemoryDisk::new(alloc, image, 1000, fail);
     let term = Bytes::from_vec(Vec::from_slice(alloc, term.as_bytes())?);
-    let lists = load_term(alloc, &mut disk, &levels, &MemLevel::new(alloc), term)?;
+    let lists = load_term(
+        alloc,
+        &mut disk,
+        &levels,
+        Ends::Untested,
+        &MemLevel::new(alloc),
+        term,
+    )?;
     Ok(lists.levels.len())
 }
 
@@ -155,7 +162,14 @@ fn loaded_terms(
     for term in terms {
         wanted.push(Bytes::from_vec(Vec::from_slice(alloc, term.as_bytes())?))?;
     }
-    let lists = load_terms(alloc, &mut disk, &levels, &MemLevel::new(alloc), wanted)?;
+    let lists = load_terms(
+        alloc,
+        &mut disk,
+        &levels,
+        Ends::Untested,
+        &MemLevel::new(alloc),
+        wanted,
+    )?;
     Ok(lists.len())
 }
 

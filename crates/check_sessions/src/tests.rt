@@ -268,6 +268,51 @@ fn a_stop_at_a_gate_leaves_a_line_whole_or_absent(rt: HostRuntime) -> Result<(),
     Ok(())
 }
 
+// Whether a run over this content ends well on a disk that fails after so many calls.
+fn ends_well(alloc: Global, content: &[u8], input: &[u8], calls: u64) -> Result<bool, Fail> {
+    let mut disk = FuseDisk::new(disk_of(alloc, content.to_vec(alloc)?)?, calls);
+    let (status, _given) = call(alloc, &mut disk, "run", input, &[], &[])?;
+    Ok(status == Status::Done)
+}
+
+// How many calls of the disk it takes to open this content, which has a level.
+fn opening_calls(alloc: Global, content: &[u8]) -> Result<u64, Fail> {
+    for calls in OPENING..20 {
+        if ends_well(alloc, content, b"stats\n", calls)? {
+            return Ok(calls);
+        }
+    }
+    Err("an opening of many calls".into())
+}
+
+#[test]
+fn the_list_of_all_ends_is_read_once(rt: HostRuntime) -> Result<(), Fail> {
+    let alloc = rt.alloc();
+    let mut disk = made(alloc)?;
+    let (status, _given) = call(alloc, &mut disk, "run", FLUSHED, &[], &[])?;
+    assert_eq!(rt; status, Status::Done);
+    let content = disk.image(alloc, 0)?;
+    let opening = opening_calls(alloc, &content)?;
+    // How many calls the lines make.
+    let rows: [(&[u8], u64); 6] = [
+        (b"count zebra\ncount zebra\nsearch owl\n", 1),
+        // The list of a word is read each time.
+        (b"count fox\ncount fox\n", 3),
+        (b"open zebra\ncount (\ntop 1 fox\ncount zebra\n", 3),
+        // What changes the index makes four calls, and the list is read again behind it.
+        (b"count zebra\nadd b\tx\ty\ncount zebra\n", 6),
+        (b"count zebra\ndelete a\ncount zebra\n", 6),
+        // A line that is refused changes nothing.
+        (b"count zebra\ndelete b\ncount zebra\n", 1),
+    ];
+    for (input, calls) in rows {
+        let all = opening.saturating_add(calls);
+        assert!(rt; ends_well(alloc, &content, input, all)?);
+        assert!(rt; !ends_well(alloc, &content, input, all.saturating_sub(1))?);
+    }
+    Ok(())
+}
+
 #[test]
 fn words_and_contents_have_their_status(rt: HostRuntime) -> Result<(), Fail> {
     let alloc = rt.alloc();

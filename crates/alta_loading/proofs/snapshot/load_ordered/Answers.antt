@@ -5,11 +5,12 @@ use Rattle.alta_disk.specs.Calls.{Reads}
 use Rattle.alta_images.specs.Levels.{documents_of}
 use Rattle.alta_images.specs.Ordered.{RowsPrecede}
 use Rattle.alta_loading.specs.Loads.{IsWhole, Tells, load_sizes}
-use Rattle.alta_loading.specs.Met.{keys_met, loads_of_tests, lists_met}
+use Rattle.alta_loading.specs.Met.{each_once, keys_met, loads_of_tests, lists_met}
 use Rattle.alta_loading.specs.Snapshots.{all_rows, loaded_view}
 use Rattle.alta_loading.proofs.Cuts.{all_keyed, all_meet}
 use Rattle.alta_loading.proofs.Loaded.{once_loaded, tests_whole, view_is}
 use Rattle.alta_loading.proofs.Runs.{tells_fault, tells_value}
+use Rattle.alta_loading.proofs.TestedEnds.{mark_right}
 use Rattle.alta_model.specs.Deciding.{answers}
 use Rattle.alta_query.specs.declared.test.Test.{Test}
 use Rattle.alta_search.specs.Documents.{AreToCome}
@@ -86,6 +87,17 @@ returns-in-Err-clause-tells g c = λ told.
     subst (λ (ts : List Test). Tells {X = Snapshot} image (loads_of_tests levels newest ts) (Err c.in-Err.fault))
     (once_loaded order c.into_vec.result.items all (c.into_vec.ensures ∙ c.into_parts-tests.ensures.tests) c.into_parts-tests.ensures.order refl)
     (tells_fault {X = Vec TestLists Global} {Y = Snapshot} image (loads_of_tests levels newest c.into_vec.result.items) c.in-Err.fault (c.in-Err.ensures.tells told))
+
+pub returns-in_ok-gone-in-Ok-clause-ends : goal.returns-in_ok-gone-in-Ok-clause-ends
+returns-in_ok-gone-in-Ok-clause-ends g c = λ told.
+    let levels = c.args.levels.now in let newest = c.args.newest.now.content in let image = (g.D.Disk.state c.args.disk.now).content in
+    mark_right image levels newest c.as_slice.result.now c.args.ends.now c.marked-mark.result c.marked-mark.ensures.only (c.requires.ends told)
+    (subst (λ (ts : List Test). All (IsWhole image) (loads_of_tests levels newest ts)) (c.into_vec.ensures ∙ sym c.as_slice.ensures) (c.in-Ok.ensures.tells told).whole)
+
+pub returns-in_ok-gone-in-Ok-clause-tested : goal.returns-in_ok-gone-in-Ok-clause-tested
+returns-in_ok-gone-in-Ok-clause-tested g c = λ more is.
+    c.marked-mark.ensures.tested _
+    (once_loaded c.args.order c.as_slice.result.now (used c.args.order) (c.as_slice.ensures ∙ c.into_parts-tests.ensures.tests) c.into_parts-tests.ensures.order refl ∙ ap each_once is)
 
 pub returns-in-Err-clause-undamaged : goal.returns-in-Err-clause-undamaged
 returns-in-Err-clause-undamaged g c = λ told contents same written.

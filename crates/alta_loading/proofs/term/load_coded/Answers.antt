@@ -1,18 +1,26 @@
-use Rattle.std.proofs.Common.{List, ℕ, ◌+◌, ◌++◌, take, drop, Vec, Global, map, sym, subst, ap, ◌∙◌}
+use Rattle.std.proofs.Common.{List, [], ◌∷◌, ℕ, ◌+◌, ◌++◌, take, drop, Vec, Global, map, sym, subst, ap, ◌∙◌}
 use Rattle.std.proofs.lemmas.List.Elements.{All-get_or}
 use Rattle.alta_loading.proofs.Runs.{Run, loads_more, loads_split, run_cost, run_ended, run_on}
+use Rattle.alta_loading.proofs.TestedEnds.{one_tested}
 use Rattle.alta_search.specs.Lists.{level_in, level_list}
 use Rattle.alta_loading.specs.Lists.{LiesWithin}
 use Rattle.alta_loading.specs.Loads.{Load, load_in, loads_from}
+use Rattle.alta_loading.specs.Tested.{AreEndsWhole}
 use Rattle.alta_search.specs.declared.lists.LevelList.{LevelList}
 use Rattle.alta_loading.proofs.term.load_coded.Goals as goal
 
-pub load_next-requires : goal.load_next-requires
-load_next-requires g c = λ told.
+pub load_next-requires-clause-within : goal.load_next-requires-clause-within
+load_next-requires-clause-within g c = λ told.
     let x = c.index-levels-number.result in let i = c.loop-number.number in
     subst (λ (s : List ℕ). LiesWithin x s) (sym (c.loop-number.invariant.reads.content told))
     (subst (λ t. LiesWithin t (g.D.Disk.state c.args.disk.now).content) (sym c.index-levels-number.is)
-    (All-get_or (λ t. LiesWithin t (g.D.Disk.state c.args.disk.now).content) c.args.levels.now i x c.loop-number-test.true (c.requires told)))
+    (All-get_or (λ t. LiesWithin t (g.D.Disk.state c.args.disk.now).content) c.args.levels.now i x c.loop-number-test.true (c.requires.within told)))
+
+pub load_next-requires-clause-ends : goal.load_next-requires-clause-ends
+load_next-requires-clause-ends g c = λ told.
+    let x = c.index-levels-number.result in let i = c.loop-number.number in
+    subst (λ (s : List ℕ). AreEndsWhole c.args.ends s (x ∷ [])) (sym (c.loop-number.invariant.reads.content told))
+    (one_tested c.args.ends (g.D.Disk.state c.args.disk.now).content c.args.levels.now i x c.loop-number-test.true c.index-levels-number.is (c.requires.ends told))
 
 pub loop-number-preserved : goal.loop-number-preserved
 loop-number-preserved g c =

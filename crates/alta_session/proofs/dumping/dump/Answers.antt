@@ -1,9 +1,8 @@
-use Rattle.std.proofs.Common.{List, inl, refl, subst, ◌∙◌}
+use Rattle.std.proofs.Common.{inl, refl, ◌∙◌}
 use Rattle.std.proofs.lemmas.Result.{IfOk-weaker}
 use Rattle.alta_dump.specs.Shown.{dump_tests}
-use Rattle.alta_query.specs.declared.test.Test.{Test}
-use Rattle.alta_session.specs.Loading.{Loads, order_loads}
-use Rattle.alta_session.proofs.LoadingLaws.{loads_memory, queries_failed, queries_loaded}
+use Rattle.alta_session.specs.Loading.{order_loads}
+use Rattle.alta_session.proofs.LoadingLaws.{loads_memory, loads_same, mark_loaded, queries_failed, queries_loaded}
 use Rattle.alta_session.proofs.dumping.dump.Goals as goal
 
 pub dumped-requires : goal.dumped-requires
@@ -15,14 +14,14 @@ returns-in-Ok-load-clause-reply g c = λ s tell stands.
 
 pub returns-in-Ok-load-clause-queries : goal.returns-in-Ok-load-clause-queries
 returns-in-Ok-load-clause-queries g c =
-    queries_loaded g.D.Disk.tells g.D.Disk.state c.args.disk.now c.load.new.disk (order_loads c.args.store.now dump_tests) _ c.dumped.result
-    (subst (λ (tests : List Test). Loads g.D.Disk.tells (order_loads c.args.store.now tests) (g.D.Disk.state c.args.disk.now) (g.D.Disk.state c.load.new.disk) _) c.in-Ok.ensures c.in-Ok-load.ensures.loads)
+    queries_loaded g.D.Disk.tells g.D.Disk.state c.args.disk.now c.load.new.disk (order_loads c.args.store.now dump_tests) c.in-Ok-load.snapshot c.dumped.result
+    (loads_same g.D.Disk.tells (g.D.Disk.state c.args.disk.now) (g.D.Disk.state c.load.new.disk) (order_loads c.args.store.now) _ _ dump_tests c.in-Ok.ensures c.in-Ok-load.ensures.loads)
     c.dumped.ensures.memory c.dumped.ensures.other
 
 pub returns-in-Err-clause-queries : goal.returns-in-Err-clause-queries
 returns-in-Err-clause-queries g c =
     queries_failed g.D.Disk.tells g.D.Disk.state c.args.disk.now c.load.new.disk (order_loads c.args.store.now dump_tests) c.in-Err.fault
-    (subst (λ (tests : List Test). Loads g.D.Disk.tells (order_loads c.args.store.now tests) (g.D.Disk.state c.args.disk.now) (g.D.Disk.state c.load.new.disk) _) c.in-Ok.ensures c.in-Err.ensures.loads)
+    (loads_same g.D.Disk.tells (g.D.Disk.state c.args.disk.now) (g.D.Disk.state c.load.new.disk) (order_loads c.args.store.now) _ _ dump_tests c.in-Ok.ensures c.in-Err.ensures.loads)
     c.in-Err.ensures.undamaged
 
 pub returns-in_default-clause-queries : goal.returns-in_default-clause-queries
@@ -32,3 +31,10 @@ returns-in_default-clause-queries g c = record {
   refused = tt;
   idles = λ none. absurd none;
 }
+
+pub returns-in-Ok-load-clause-mark : goal.returns-in-Ok-load-clause-mark
+returns-in-Ok-load-clause-mark g c =
+    mark_loaded g.D.Disk.tells (g.D.Disk.state c.load.new.disk) c.args.store.now c.args.ends.now c.load.new.ends c.dumped.result c.load.ensures.mark c.dumped.ensures.other
+
+pub returns-in_default-clause-mark : goal.returns-in_default-clause-mark
+returns-in_default-clause-mark g c = record { holds = c.requires.mark; refused = tt }

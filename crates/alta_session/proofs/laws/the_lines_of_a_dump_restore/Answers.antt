@@ -11,4 +11,4 @@ returns-clause-state c = λ s lines are. lines_restore s.documents lines are
 pub returns-clause-answers : goal.returns-clause-answers
 returns-clause-answers c = λ s lines q are names fine folding.
     subst (λ (m : Machine). AnswersAlike s m.state q) (sym (lines_restore s.documents lines are))
-    (c.the_lines_of_a_dump_answer_again.ensures s q (record { lines = each_has_line s.documents lines are.lines; names = names }) fine folding)
+    (c.the_lines_of_a_dump_answer_again.ensures s q (record { lines = each_has_line s.documents lines are.each; names = names }) fine folding)

@@ -1,6 +1,6 @@
 use Rattle.alta_query.specs.View.{shape}
 use Rattle.alta_session.proofs.CursorLaws.{open_found, open_refused}
-use Rattle.alta_session.proofs.LoadingLaws.{none_loaded, open_none_loads, queries_idle, queries_opened}
+use Rattle.alta_session.proofs.LoadingLaws.{mark_still, none_loaded, open_none_loads, queries_idle, queries_opened}
 use Rattle.alta_session.proofs.SearchLaws.{parsed, not_parsed}
 use Rattle.alta_session.proofs.paging.open.Goals as goal
 
@@ -24,3 +24,6 @@ returns-in-Err-clause-queries g c =
     queries_idle g.D.Disk.tells g.D.Disk.state c.args.disk.now _ _ c.refused.result c.refused.ensures.memory
     (open_none_loads c.args.store.now c.args.cursors.now c.args.text.now c.refused.result
     (none_loaded c.args.store.now c.args.text.now c.in-Err.fault c.refused.result (not_parsed c.parse.result c.in-Err.fault c.args.text.now c.in-Err.is c.parse.ensures.reading) c.refused.ensures.wanting))
+
+pub returns-in-Err-clause-mark : goal.returns-in-Err-clause-mark
+returns-in-Err-clause-mark g c = mark_still g.D.Disk.tells (g.D.Disk.state c.args.disk.now) c.args.store.now c.args.ends.now c.refused.result c.requires.mark

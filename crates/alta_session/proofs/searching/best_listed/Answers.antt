@@ -9,7 +9,7 @@ use Rattle.alta_rank.specs.Uses.{uses_of}
 use Rattle.alta_search.specs.Tops.{AreToRank, scored}
 use Rattle.alta_session.specs.Loading.{top_loads}
 use Rattle.alta_session.specs.Searching.{score_lines, found_line}
-use Rattle.alta_session.proofs.LoadingLaws.{queries_failed, queries_loaded}
+use Rattle.alta_session.proofs.LoadingLaws.{mark_loaded, queries_failed, queries_loaded}
 use Rattle.alta_session.proofs.SearchLaws.{is_written_for, other_written}
 use Rattle.alta_session.proofs.searching.best_listed.Goals as goal
 
@@ -27,3 +27,8 @@ returns-in-Ok-clause-queries g c =
 pub returns-in-Err-clause-queries : goal.returns-in-Err-clause-queries
 returns-in-Err-clause-queries g c =
     queries_failed g.D.Disk.tells g.D.Disk.state c.args.disk.now c.planned_for_top.new.disk (top_loads c.args.store.now (plan_of (shape c.args.query.now))) c.in-Err.fault c.in-Err.ensures.loads c.in-Err.ensures.undamaged
+
+pub returns-in-Ok-clause-mark : goal.returns-in-Ok-clause-mark
+returns-in-Ok-clause-mark g c =
+    mark_loaded g.D.Disk.tells (g.D.Disk.state c.planned_for_top.new.disk) c.args.store.now c.args.ends.now c.planned_for_top.new.ends c.written.result c.planned_for_top.ensures.mark
+    (other_written c.written.result c.all_ranked.result c.written.ensures.reply c.all_ranked.ensures.other)

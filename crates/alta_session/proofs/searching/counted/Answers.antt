@@ -7,7 +7,7 @@ use Rattle.alta_query.specs.View.{shape}
 use Rattle.alta_search.specs.Documents.{AreToCome}
 use Rattle.alta_session.specs.Loading.{search_loads}
 use Rattle.alta_session.specs.Searching.{found_line}
-use Rattle.alta_session.proofs.LoadingLaws.{queries_failed, queries_loaded}
+use Rattle.alta_session.proofs.LoadingLaws.{mark_loaded, queries_failed, queries_loaded}
 use Rattle.alta_session.proofs.SearchLaws.{is_written_for, other_written}
 use Rattle.alta_session.proofs.searching.counted.Goals as goal
 
@@ -24,3 +24,8 @@ returns-in-Ok-clause-queries g c =
 pub returns-in-Err-clause-queries : goal.returns-in-Err-clause-queries
 returns-in-Err-clause-queries g c =
     queries_failed g.D.Disk.tells g.D.Disk.state c.args.disk.now c.planned.new.disk (search_loads c.args.store.now (plan_of (shape c.args.query.now))) c.in-Err.fault c.in-Err.ensures.loads c.in-Err.ensures.undamaged
+
+pub returns-in-Ok-clause-mark : goal.returns-in-Ok-clause-mark
+returns-in-Ok-clause-mark g c =
+    mark_loaded g.D.Disk.tells (g.D.Disk.state c.planned.new.disk) c.args.store.now c.args.ends.now c.planned.new.ends c.written.result c.planned.ensures.mark
+    (other_written c.written.result c.all_counted.result c.written.ensures.reply c.all_counted.ensures.other)

@@ -2,7 +2,7 @@ use Rattle.alta_compile.specs.PlanOf.{plan_of}
 use Rattle.alta_query.specs.View.{shape}
 use Rattle.alta_session.specs.Loading.{search_loads, text_loads}
 use Rattle.alta_session.specs.Searching.{IsNoQuery}
-use Rattle.alta_session.proofs.LoadingLaws.{is_query, none_loaded, queries_found, queries_idle, text_found}
+use Rattle.alta_session.proofs.LoadingLaws.{is_query, mark_still, none_loaded, queries_found, queries_idle, text_found}
 use Rattle.alta_session.proofs.SearchLaws.{parsed, not_parsed, search_found, search_refused}
 use Rattle.alta_session.proofs.searching.search.Goals as goal
 
@@ -24,3 +24,6 @@ pub returns-in-Err-clause-queries : goal.returns-in-Err-clause-queries
 returns-in-Err-clause-queries g c =
     queries_idle g.D.Disk.tells g.D.Disk.state c.args.disk.now (text_loads c.args.store.now c.args.text.now) (IsNoQuery c.args.text.now) c.refused.result c.refused.ensures.memory
     (none_loaded c.args.store.now c.args.text.now c.in-Err.fault c.refused.result (not_parsed c.parse.result c.in-Err.fault c.args.text.now c.in-Err.is c.parse.ensures.reading) c.refused.ensures.wanting)
+
+pub returns-in-Err-clause-mark : goal.returns-in-Err-clause-mark
+returns-in-Err-clause-mark g c = mark_still g.D.Disk.tells (g.D.Disk.state c.args.disk.now) c.args.store.now c.args.ends.now c.refused.result c.requires.mark

@@ -34,6 +34,7 @@ returns-in-Ok-clause-answers g c =
     (record {
       sound = search rules;
       agrees = c.in-Ok.ensures.obeys.agrees;
+      mark = λ told. tt;
       limit = omega (arith, c.requires.can.limit, c.add.ensures.obeys.costs.limit);
     }) c.add.ensures.obeys.costs.faults c.add.ensures.obeys.costs.limit
     (λ m tell agrees.

@@ -26,6 +26,7 @@ returns-in-Ok-clause-answers g c =
     (record {
       sound = search rules;
       agrees = obeys.agrees;
+      mark = λ told. tt;
       limit = omega (arith, c.requires.limit, obeys.costs.limit);
     }) obeys.costs.faults obeys.costs.limit
     (λ m tell agrees. record {

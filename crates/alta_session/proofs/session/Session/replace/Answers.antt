@@ -33,6 +33,7 @@ returns-in-Ok-clause-answers g c =
     (record {
       sound = search rules;
       agrees = obeys.agrees;
+      mark = λ told. tt;
       limit = omega (arith, c.requires.can.limit, obeys.costs.limit);
     }) obeys.costs.faults obeys.costs.limit
     (λ m tell agrees.

@@ -75,24 +75,24 @@ returns-in-Step-clause-no_disk g c = λ looks. absurd (subst LooksIn c.in-Step.e
 
 -- a query is answered over the disk
 pub search-requires : goal.search-requires
-search-requires g c = c.requires.can.agrees
+search-requires g c = record { agrees = c.requires.can.agrees; mark = c.requires.can.mark }
 
 pub count-requires : goal.count-requires
-count-requires g c = c.requires.can.agrees
+count-requires g c = record { agrees = c.requires.can.agrees; mark = c.requires.can.mark }
 
 pub open-requires : goal.open-requires
-open-requires g c = c.requires.can.agrees
+open-requires g c = record { agrees = c.requires.can.agrees; mark = c.requires.can.mark }
 
 pub rank-requires : goal.rank-requires
-rank-requires g c = c.requires.can.agrees
+rank-requires g c = record { agrees = c.requires.can.agrees; mark = c.requires.can.mark }
 
 pub dump-requires : goal.dump-requires
-dump-requires g c = c.requires.can.agrees
+dump-requires g c = record { agrees = c.requires.can.agrees; mark = c.requires.can.mark }
 
 pub returns-in-Search-clause-answers : goal.returns-in-Search-clause-answers
 returns-in-Search-clause-answers g c =
-    queried g.D.Disk.tells g.D.Disk.state c.args.disk.now c.search.new.disk c.args.self.now c.args.self.now.cursors (text_loads c.args.self.now.store c.in-Search.text.now) (IsNoQuery c.in-Search.text.now) c.search.result (λ m. step m c.args.line.now) (λ m. task_of m c.args.line.now)
-    (λ s all. (all, searching c.in-Search.text.now s.documents)) (g.met.D.Disk.lawful c.args.disk.now) c.requires.can c.search.ensures.queries
+    queried g.D.Disk.tells g.D.Disk.state c.args.disk.now c.search.new.disk c.args.self.now c.search.new.ends c.args.self.now.cursors (text_loads c.args.self.now.store c.in-Search.text.now) (IsNoQuery c.in-Search.text.now) c.search.result (λ m. step m c.args.line.now) (λ m. task_of m c.args.line.now)
+    (λ s all. (all, searching c.in-Search.text.now s.documents)) (g.met.D.Disk.lawful c.args.disk.now) c.requires.can c.search.ensures.queries c.search.ensures.mark
     (kept_all c.search.result c.args.self.now.cursors) (λ s all tell stands are. record { reply = c.search.ensures.reply s tell stands; open_now = if_so c.search.result (AreOpen c.args.self.now.cursors all) are })
     (λ s all are refusal. search_refuses c.in-Search.text.now s.documents refusal) c.in-Search.ensures.0 (λ m. task_reads m c.args.line.now (asks (searches c.in-Search.text.now)) c.in-Search.ensures.1)
 
@@ -105,8 +105,8 @@ returns-in-Search-clause-loads g c = λ searches.
 
 pub returns-in-Count-clause-answers : goal.returns-in-Count-clause-answers
 returns-in-Count-clause-answers g c =
-    queried g.D.Disk.tells g.D.Disk.state c.args.disk.now c.count.new.disk c.args.self.now c.args.self.now.cursors (text_loads c.args.self.now.store c.in-Count.text.now) (IsNoQuery c.in-Count.text.now) c.count.result (λ m. step m c.args.line.now) (λ m. task_of m c.args.line.now)
-    (λ s all. (all, counting c.in-Count.text.now s.documents)) (g.met.D.Disk.lawful c.args.disk.now) c.requires.can c.count.ensures.queries
+    queried g.D.Disk.tells g.D.Disk.state c.args.disk.now c.count.new.disk c.args.self.now c.count.new.ends c.args.self.now.cursors (text_loads c.args.self.now.store c.in-Count.text.now) (IsNoQuery c.in-Count.text.now) c.count.result (λ m. step m c.args.line.now) (λ m. task_of m c.args.line.now)
+    (λ s all. (all, counting c.in-Count.text.now s.documents)) (g.met.D.Disk.lawful c.args.disk.now) c.requires.can c.count.ensures.queries c.count.ensures.mark
     (kept_all c.count.result c.args.self.now.cursors) (λ s all tell stands are. record { reply = c.count.ensures.reply s tell stands; open_now = if_so c.count.result (AreOpen c.args.self.now.cursors all) are })
     (λ s all are refusal. count_refuses c.in-Count.text.now s.documents refusal) c.in-Count.ensures.0 (λ m. task_reads m c.args.line.now (asks (asks_count c.in-Count.text.now)) c.in-Count.ensures.1)
 
@@ -119,8 +119,8 @@ returns-in-Count-clause-loads g c = λ searches.
 
 pub returns-in-Top-clause-answers : goal.returns-in-Top-clause-answers
 returns-in-Top-clause-answers g c =
-    queried g.D.Disk.tells g.D.Disk.state c.args.disk.now c.rank.new.disk c.args.self.now c.args.self.now.cursors (top_text_loads c.args.self.now.store c.in-Top.text.now) (IsNoQuery c.in-Top.text.now) c.rank.result (λ m. step m c.args.line.now) (λ m. task_of m c.args.line.now)
-    (λ s all. (all, ranking c.in-Top.count c.in-Top.text.now s.documents)) (g.met.D.Disk.lawful c.args.disk.now) c.requires.can c.rank.ensures.queries
+    queried g.D.Disk.tells g.D.Disk.state c.args.disk.now c.rank.new.disk c.args.self.now c.rank.new.ends c.args.self.now.cursors (top_text_loads c.args.self.now.store c.in-Top.text.now) (IsNoQuery c.in-Top.text.now) c.rank.result (λ m. step m c.args.line.now) (λ m. task_of m c.args.line.now)
+    (λ s all. (all, ranking c.in-Top.count c.in-Top.text.now s.documents)) (g.met.D.Disk.lawful c.args.disk.now) c.requires.can c.rank.ensures.queries c.rank.ensures.mark
     (kept_all c.rank.result c.args.self.now.cursors) (λ s all tell stands are. record { reply = c.rank.ensures.reply s tell stands; open_now = if_so c.rank.result (AreOpen c.args.self.now.cursors all) are })
     (λ s all are refusal. rank_refuses c.in-Top.count c.in-Top.text.now s.documents refusal) c.in-Top.ensures.0 (λ m. task_reads m c.args.line.now (asks (ranks c.in-Top.count c.in-Top.text.now)) c.in-Top.ensures.1)
 
@@ -133,8 +133,8 @@ returns-in-Top-clause-loads g c = λ searches.
 
 pub returns-in-Dump-clause-answers : goal.returns-in-Dump-clause-answers
 returns-in-Dump-clause-answers g c =
-    queried g.D.Disk.tells g.D.Disk.state c.args.disk.now c.dump.new.disk c.args.self.now c.args.self.now.cursors (order_loads c.args.self.now.store dump_tests) ⊥ c.dump.result (λ m. step m c.args.line.now) (λ m. task_of m c.args.line.now)
-    (λ s all. (all, dump_of s)) (g.met.D.Disk.lawful c.args.disk.now) c.requires.can c.dump.ensures.queries
+    queried g.D.Disk.tells g.D.Disk.state c.args.disk.now c.dump.new.disk c.args.self.now c.dump.new.ends c.args.self.now.cursors (order_loads c.args.self.now.store dump_tests) ⊥ c.dump.result (λ m. step m c.args.line.now) (λ m. task_of m c.args.line.now)
+    (λ s all. (all, dump_of s)) (g.met.D.Disk.lawful c.args.disk.now) c.requires.can c.dump.ensures.queries c.dump.ensures.mark
     (kept_all c.dump.result c.args.self.now.cursors) (λ s all tell stands are. record { reply = c.dump.ensures.reply s tell stands; open_now = if_so c.dump.result (AreOpen c.args.self.now.cursors all) are })
     (λ s all are refusal. dump_refuses s.documents refusal) c.in-Dump.ensures.0 (λ m. task_reads m c.args.line.now (asks dumps) c.in-Dump.ensures.1)
 
@@ -150,8 +150,8 @@ pub returns-in-Open-clause-answers : goal.returns-in-Open-clause-answers
 returns-in-Open-clause-answers g c =
     let session = c.args.self.now in
     let text = c.in-Open.text.now in
-    queried g.D.Disk.tells g.D.Disk.state c.args.disk.now c.open.new.disk session c.open.new.cursors (open_loads session.store session.cursors text) (IsNoQuery text ⊎ (CURSORS ≤ length session.cursors)) c.open.result
-    (λ m. step m c.args.line.now) (λ m. task_of m c.args.line.now) (λ s all. opening text s.documents all) (g.met.D.Disk.lawful c.args.disk.now) c.requires.can c.open.ensures.queries c.open.ensures.kept c.open.ensures.turned
+    queried g.D.Disk.tells g.D.Disk.state c.args.disk.now c.open.new.disk session c.open.new.ends c.open.new.cursors (open_loads session.store session.cursors text) (IsNoQuery text ⊎ (CURSORS ≤ length session.cursors)) c.open.result
+    (λ m. step m c.args.line.now) (λ m. task_of m c.args.line.now) (λ s all. opening text s.documents all) (g.met.D.Disk.lawful c.args.disk.now) c.requires.can c.open.ensures.queries c.open.ensures.mark c.open.ensures.kept c.open.ensures.turned
     (λ s all are refusal. open_refuses text s.documents session.cursors all are refusal) c.in-Open.ensures.0 (λ m. task_reads m c.args.line.now (asks (opens c.in-Open.text.now)) c.in-Open.ensures.1)
 
 pub returns-in-Open-clause-no_disk : goal.returns-in-Open-clause-no_disk

@@ -11,6 +11,7 @@ pub returns-in-Ok-clause-can : goal.returns-in-Ok-clause-can
 returns-in-Ok-clause-can g c = record {
   sound = (refl, c.in-Ok.ensures.sound);
   agrees = c.in-Ok.ensures.agrees;
+  mark = λ told. tt;
   limit = c.in-Ok.ensures.opens.limit;
 }
 
