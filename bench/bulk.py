@@ -2,7 +2,7 @@
 """Measures adding many documents with a merge behind them, beside SQLite's full-text index, and how the cost grows.
 
 usage: bench/bulk.py [--program PATH] [--lines FILE | --texts FOLDER] [--count N] [--parts N,N,..] [--folder FOLDER] [--fast]
-                     [--merge-each BYTES] [--merge-share SHARE]
+                     [--merge-full | --merge-each BYTES [--merge-share SHARE]]
 
 FILE has `add` lines, as `examples/packages.py` writes them. Without one, the text files below FOLDER (/usr/share/doc), packed ones
 too, are cut at empty lines into documents of 400 bytes or more, in the order of their paths. The first N of the documents
@@ -10,8 +10,9 @@ too, are cut at empty lines into documents of 400 bytes or more, in the order of
 the current folder by default), by:
 
 - the program, an add and its commit a line, then by a run that only opens the index, and then by another that merges; with
-  --merge-each it also merges whenever so many bytes of lines have gone in, as the importing scripts do with 12,000,000, with
-  --merge-share only where they are this share of all that went in before, as 0.33 for a third;
+  --merge-full it also merges whenever there are sixteen levels and one more in the journal, as the importing scripts do, with
+  --merge-each whenever so many bytes of lines have gone in, with --merge-share only where they are this share of all that went in
+  before, as 0.33 for a third;
 - FTS5, which keeps no texts, with a commit for each document, in WAL mode, synced each time; and then optimized (left out with --fast);
 - FTS5 in one transaction, and then optimized.
 
@@ -34,8 +35,9 @@ import time
 from typing import NamedTuple
 
 TOP = os.path.dirname(os.path.dirname(os.path.abspath(__file__)))
-sys.path.insert(0, os.path.join(TOP, "tests"))
+sys.path[:0] = [os.path.join(TOP, "tests"), os.path.join(TOP, "examples")]
 
+from importing import LEVELS, Levels
 from reading import HEAD, read_roots
 
 LEAST = 400  # bytes of a document that is cut from a file
@@ -163,6 +165,17 @@ def with_merges(lines, each, share):
             since = 0
 
 
+def with_merges_of_levels(lines):
+    """The lines, with a merge wherever there are as many levels as there may be, and one more in the journal."""
+    levels = Levels(0)
+    for line in lines:
+        yield line
+        levels.put(len(line) - 1)
+        if levels.count > LEVELS:
+            yield b"merge\n"
+            levels = Levels(1)
+
+
 # ---- the indexes
 
 
@@ -236,7 +249,10 @@ def measure(program, options, lines):
             file.writelines(lines)
         given = os.path.join(folder, "given")
         with open(given, "wb") as file:
-            file.writelines(with_merges(lines, options.merge_each, options.merge_share))
+            if options.merge_full:
+                file.writelines(with_merges_of_levels(lines))
+            else:
+                file.writelines(with_merges(lines, options.merge_each, options.merge_share))
         found = {"program": by_program(program, folder, given, len(lines), text)}
         for how in ("commits", "bulk")[options.fast :]:
             found[f"FTS5, {how}"] = by_table(folder, source, len(lines), text, how)
@@ -253,6 +269,7 @@ def main():
     parser.add_argument("--parts", type=lambda text: [int(word) for word in text.split(",")], default=[4, 2, 1])
     parser.add_argument("--folder", default=".")
     parser.add_argument("--fast", action="store_true")
+    parser.add_argument("--merge-full", action="store_true")
     parser.add_argument("--merge-each", metavar="BYTES", type=int, default=0)
     parser.add_argument("--merge-share", metavar="SHARE", type=float, default=0)
     options = parser.parse_args()

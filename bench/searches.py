@@ -1,15 +1,18 @@
 #!/usr/bin/env python3
 """Measures counts of queries beside SQLite's full-text index over the same documents, in the same run.
 
-usage: bench/searches.py [--program PATH] [--before PATH] --lines FILE [--count N] [--repeat N] [--turns N] [--merged]
+usage: bench/searches.py [--program PATH] [--before PATH ..] --lines FILE [--count N] [--repeat N] [--turns N] [--merged] [--top K]
 
 FILE has `add` lines, as `examples/packages.py - /var/lib/dpkg/status` writes them. As many of its first N documents as fit in one journal half go
 into a new index of the program and into a new FTS5 table in memory of Python's sqlite3, whose words are cut by its `unicode61`. With
 --merged all N go in, and a `merge` behind them makes them one level; then the FTS5 table stands on disk, keeps no texts and is
 optimized. Each query is asked so many times in one run of the program, and as often of SQLite; the processor time of the same run
-without it is taken off. With --before another program is asked too, over an index of its own; with --turns all are asked so often
-in turn, and the least time counts. Prints the milliseconds a query of each, and what each counts; the counts differ where program and
+without it is taken off. With --before others are asked too, each over an index of its own, and named in their order; with --turns all
+are asked so often in turn, and the least time counts. Prints the milliseconds a query of each, and what each counts; the counts differ where program and
 SQLite cut words in other ways.
+
+With --top the best K are asked for in place of counts: `top K` of the program beside its `count`, FTS5's `order by rank limit K`, and the
+first K of Xapian, where its Python module is there, by its default weighting. Neither of these two tells how many there are.
 """
 
 import argparse
@@ -20,7 +23,7 @@ import sys
 import tempfile
 import time
 
-from peer import table_of, texts_of
+from peer import database_of, query_of, table_of, texts_of, xapian
 from rounds import spent
 
 JOURNAL_BYTES = 1_048_576
@@ -28,18 +31,30 @@ JOURNAL_BYTES = 1_048_576
 # The same question for the program and for FTS5.
 QUERIES = [
     ("library", "library"),
+    ("for", "for"),
+    ("chess", "chess"),
     ("zymurgy", "zymurgy"),
     ('"shared library"', '"shared library"'),
     ("python AND library", "python AND library"),
     ("python NOT library", "python NOT library"),
+    ("chess AND library", "chess AND library"),
+    ("library AND chess", "library AND chess"),
+    ("astronomy AND the", "astronomy AND the"),
     ("chess AND package", "chess AND package"),
     ("package AND chess", "package AND chess"),
     ("the AND files", "the AND files"),
+    ("library AND for", "library AND for"),
+    ("data AND library", "data AND library"),
     ("library NOT development", "library NOT development"),
+    ("for NOT library", "for NOT library"),
+    ("python OR perl", "python OR perl"),
     ("data NEAR/5 library", "NEAR(data library, 4)"),
     ("lib*", "lib*"),
     ("title:library", "title: library"),
 ]
+
+# A common word, a middle one, a rare one, all of two, one of two, a phrase: the same for all three.
+RANKED = ["for", "python", "chess", "python AND library", "python OR perl", '"shared library"']
 
 
 def fitting(lines):
@@ -58,9 +73,9 @@ class Program:
         spent(self.words, b"".join(lines) + (b"merge\n" if is_merged else b""))
 
     def turn(self, data):
-        """The processor time of this input, and the first line that is printed."""
+        """The processor time of this input, and the first line that tells how many were found."""
         seconds, printed = spent(self.words, data)
-        return seconds, printed.split(b"\n")[0].decode()
+        return seconds, next((line.decode() for line in printed.split(b"\n") if line.startswith(b"found ")), "")
 
 
 def turn_of_table(base, query, repeat):
@@ -69,6 +84,22 @@ def turn_of_table(base, query, repeat):
     for _ in range(repeat):
         (found,) = base.execute("select count(*) from mail where mail match ?", (query,)).fetchone()
     return time.process_time() - begun, f"found {found}"
+
+
+def turn_of_rank(base, query, repeat, count):
+    """The processor time of so often the first by FTS5, and how many they are."""
+    begun = time.process_time()
+    for _ in range(repeat):
+        rows = base.execute("select rowid from mail where mail match ? order by rank limit ?", (query, count)).fetchall()
+    return time.process_time() - begun, f"{len(rows)} best"
+
+
+def turn_of_database(base, query, repeat, count):
+    """The same by Xapian. Each time the query is read anew."""
+    begun = time.process_time()
+    for _ in range(repeat):
+        rows = [(found.docid, found.weight) for found in query_of(base, query).get_mset(0, count)]
+    return time.process_time() - begun, f"{len(rows)} best"
 
 
 def least_of(turns, calls):
@@ -89,26 +120,52 @@ def compared(programs, base, options):
         print(f"{ours}: {shown}, FTS5 {peer[0] / options.repeat * 1e3:.3f} ms ({peer[1]})", flush=True)
 
 
+def ranked(programs, base, database, options):
+    """Prints the milliseconds of the best answers and of the count by each program, less an opening, and of the best answers by its peers."""
+    openings = least_of(max(5, options.turns), [lambda one=one: one.turn(b"") for one in programs])
+    print("opening " + ", ".join(f"{seconds * 1e3:.1f} ms" for seconds, _ in openings))
+    for query in RANKED:
+        calls = []
+        for one in programs:
+            for line in (f"top {options.top} {query}\n", f"count {query}\n"):
+                calls.append(lambda one=one, line=line: one.turn(line.encode() * options.repeat))
+        calls.append(lambda: turn_of_rank(base, query, options.repeat, options.top))
+        if database:
+            calls.append(lambda: turn_of_database(database, query, options.repeat, options.top))
+        times = least_of(options.turns, calls)
+        shown = []
+        for place, (opening, _) in enumerate(openings):
+            (best, found), (count, counted) = times[2 * place : 2 * place + 2]
+            best, count = ((seconds - opening) / options.repeat * 1e3 for seconds in (best, count))
+            shown.append(f"top {best:.3f} ms ({found}), count {count:.3f} ms ({counted}), {best / count:.2f} of it")
+        for name, (seconds, found) in zip(["FTS5", "Xapian"], times[2 * len(programs) :]):
+            shown.append(f"{name} {seconds / options.repeat * 1e3:.3f} ms ({found})")
+        print(f"{query}: " + "; ".join(shown), flush=True)
+
+
 def main():
     top = os.path.dirname(os.path.dirname(os.path.abspath(__file__)))
     parser = argparse.ArgumentParser(description=__doc__, formatter_class=argparse.RawDescriptionHelpFormatter)
     parser.add_argument("--program", default=os.path.join(top, "crates", "alta_cli", "out", "alta_cli"))
-    parser.add_argument("--before")
+    parser.add_argument("--before", action="append", default=[])
     parser.add_argument("--lines", required=True)
     parser.add_argument("--count", type=int, default=10000)
     parser.add_argument("--repeat", type=int, default=100)
     parser.add_argument("--turns", type=int, default=1)
     parser.add_argument("--merged", action="store_true")
+    parser.add_argument("--top", metavar="K", type=int, default=0)
     options = parser.parse_args()
     with open(options.lines, "rb") as file:
         lines = file.readlines()[: options.count]
     lines = lines if options.merged else fitting(lines)
     print(f"{len(lines)} documents, {sum(map(len, lines))} bytes of input")
     with tempfile.TemporaryDirectory() as folder:
-        paths = [options.program] + ([options.before] if options.before else [])
-        programs = [Program(path, folder, lines, options.merged) for path in paths]
+        programs = [Program(path, folder, lines, options.merged) for path in [options.program, *options.before]]
         base = table_of(texts_of(lines), os.path.join(folder, "x.db") if options.merged else ":memory:", not options.merged)
-        compared(programs, base, options)
+        if options.top:
+            ranked(programs, base, database_of(texts_of(lines), folder) if xapian else None, options)
+        else:
+            compared(programs, base, options)
     return 0
 
 

@@ -22,7 +22,7 @@ from collections import deque
 from typing import Callable, NamedTuple
 
 import checkout  # noqa: F401
-from indexfile import Unusable, put_packed, read_root, sync_folder
+from indexfile import HALF, LEVELS, Unusable, put_packed, read_root, sync_folder
 from stamps import Source, Stamp, Stamps, digest, name_of, numbered, part_name, part_of, stamps_path, stem_of
 
 import buncocedar
@@ -32,10 +32,7 @@ from buncocedar.beside import PREFIX, making, remove_left
 EVERY_DOCUMENT = "NOT name:! OR name:!"
 TEXT_LIMIT = 33_554_432  # bytes of a text that are looked at
 OVERLAP = 100  # words of a part that the next one has too
-# Bytes of lines from one merge to the next. A full journal, of a megabyte, becomes a level, and there are sixteen at most:
-# with fewer between two merges no level is joined twice.
-MERGE_BYTES = 12_000_000
-LEVEL_BYTES = 1_000_000
+RECORD = 17  # bytes that a line takes more in the journal, at most
 MEMORY = "/dev/shm"
 BESIDE = "buncocedar-"  # how the name of a folder in memory begins, in which an index is made
 
@@ -313,7 +310,7 @@ class Import:
         self.unread = 0
         self.stored_in_part = []
         self.bytes = 0
-        self.since_merge = LEVEL_BYTES * levels_behind_the_first(index.path)
+        self.levels = Levels(level_count(index.path) + bool(self.live))
         self.gone = []
         self.pruned = 0
         self.unseen = False
@@ -413,7 +410,7 @@ class Import:
         if text.beyond:
             self.unread += 1
             self.log.say(f"cut {sent.name}: {text.beyond:,} bytes of its text left out, behind {TEXT_LIMIT:,}")
-        if self.options.merge and self.since_merge >= MERGE_BYTES:
+        if self.options.merge and self.levels.count > LEVELS:
             self.merge()
 
     def replace(self, sent, parts, gone):
@@ -425,10 +422,11 @@ class Import:
             sent.added.append((name, self.index.send_add(name, title, body)))
             length = size(title) + size(body)
             self.bytes += length
-            self.since_merge += length
+            self.levels.put(len("add \t\t") + len(name) + length)
             self.collect()
         for name in gone:
             sent.gone.append((name, self.index.send_delete(name)))
+            self.levels.put(0)
 
     def standing(self, name, but=()):
         """The names under which the index has a document and its parts, but for some of them."""
@@ -438,7 +436,7 @@ class Import:
 
     def merge(self):
         """Joins all levels, so that no level is written again for each full journal."""
-        self.since_merge = 0
+        self.levels = Levels(1)
         self.log.progress(lambda: f"{several(self.stored())} stored; the levels are joined")
         try:
             self.index.merge()
@@ -615,11 +613,30 @@ class Import:
         return ""
 
 
-def levels_behind_the_first(path):
-    """How many levels were written since the last merge, as far as the file tells it."""
+class Levels:
+    """How many levels an index has as lines go in, with the one that its journal becomes when it is full.
+
+    There are sixteen at most: with one more in the journal the next to be written has the two oldest joined before, and the oldest has
+    all that was ever merged. So a merge comes first.
+    """
+
+    def __init__(self, count):
+        self.count = count
+        self.used = HALF  # bytes of the journal, which is taken for full where it is not known
+
+    def put(self, size):
+        """A line of so many bytes goes in."""
+        if self.used + size + RECORD > HALF:
+            self.count += 1
+            self.used = 0
+        self.used += size + RECORD
+
+
+def level_count(path):
+    """How many levels the file has, as far as it tells it."""
     try:
         with open(path, "rb") as file:
-            return max(0, len(read_root(file).levels) - 1)
+            return len(read_root(file).levels)
     except (OSError, Unusable):
         return 0
 
@@ -743,7 +760,7 @@ def arguments(tool, describe, *names):
     parser.add_argument("--prune", action="store_true", help="delete what earlier runs brought in and is gone from the source")
     parser.add_argument("--fast", action="store_true", help="make a new index in memory, and move it into place at the end")
     parser.add_argument("--whole", action="store_true", help="refuse what is too long for a line, in place of parts")
-    parser.add_argument("--no-merge", action="store_true", help=f"do not join the levels each {MERGE_BYTES:,} bytes")
+    parser.add_argument("--no-merge", action="store_true", help=f"do not join the levels when there are {LEVELS}")
     parser.add_argument("--verbose", action="store_true", help="list what is passed over, since it is no text")
     parser.add_argument("--wait", metavar="SECONDS", type=float, default=10.0, help="how long to wait for who has it open")
     return parser

@@ -26,13 +26,14 @@ explain QUERY       how the query is read and answered
 open QUERY          a cursor over the answers as they are now
 fetch CURSOR COUNT  its next answers
 close CURSOR        gives it back
+dump                the words of all documents, as lines that add them
 stats               how many documents and words there are, and the next number
 flush               writes the newest documents out of the journal
 merge               joins all levels to one
 step TERMS          a part of such a joining
 help, quit          this text; the end, as Ctrl-D
 A query: words, "a phrase", qui*, title:fox, name:x, red NEAR/5 fox, AND, OR, NOT, ( )"""
-WORDS = [line.split()[0] for line in HELP.split("\n")[:13]] + ["help", "quit", "title:", "name:", "NEAR/", "AND", "OR", "NOT"]
+WORDS = [line.split()[0] for line in HELP.split("\n")[:14]] + ["help", "quit", "title:", "name:", "NEAR/", "AND", "OR", "NOT"]
 SOME_REFUSED = 1
 STOPPED = 3
 
@@ -95,12 +96,10 @@ class Shell:
 
     def say(self, line):
         """Any other line, as it is."""
-        *rows, last = self.index.answer(line.encode(errors="replace"))
-        for row in rows:
-            print(shown(row))
-        if last.startswith("! "):
-            raise Refused(last)
-        print(shown(last))
+        for reply in self.index.each_answer(line.encode(errors="replace")):
+            if reply.startswith("! "):
+                raise Refused(reply)
+            print(shown(reply))
 
 
 def opened(options):

@@ -10,6 +10,8 @@ import re
 NUMBERS = 2**32
 LEVELS = 32
 CURSORS = 64
+TOO_LONG = "x" * 129  # for a word that is too long to be found
+DUMPED_BYTES = 262_143  # of a line that a dump gives, at most
 ATOMS = ("word", "phrase", "prefix", "name", "near", "title")
 END = ("is", b"D")
 TITLE_END = ("is", b"T")
@@ -66,6 +68,7 @@ class Document:
     def __init__(self, number, name, title, body):
         self.number, self.name = number, name
         self.cells = cells_of(name, title, body)
+        self.first, self.last = 0, len(self.cells) - 1
         self.words = len(self.cells) - 3
         self.lists = {}
         for place, terms in enumerate(self.cells):
@@ -75,6 +78,28 @@ class Document:
     def places(self, test):
         """The places whose terms meet a test."""
         return {place for term, places in self.lists.items() if meets(test, term) for place in places}
+
+    def terms(self, kind):
+        """The terms of a kind, each with where it stands, by places."""
+        return sorted((place, term) for term, places in self.lists.items() if term.startswith(kind) for place in places)
+
+
+def line_again(document):
+    """The line that adds a document with the folded words of this one, or none where its words would not be the same."""
+    ends, first, last = document.places(TITLE_END), document.first, document.last
+    try:
+        words = {place: term[1:].decode() for place, term in document.terms(b"W")}
+    except UnicodeDecodeError:
+        return None
+    if len(ends) != 1 or ends & {first, last} or len(words) < len(document.terms(b"W")):
+        return None
+    (end,) = ends
+    title, body = (" ".join(words.get(place, TOO_LONG) for place in part) for part in (range(first + 1, end), range(end + 1, last)))
+    line = f"add {document.name}\t{title}\t{body}"
+    again = Document(document.number, document.name, title, body)
+    alike = again.last == last - first and again.places(TITLE_END) == {end - first}
+    alike = alike and again.terms(b"W") == [(place - first, term) for place, term in document.terms(b"W")]
+    return line if alike and "\t" not in title and len(line) <= DUMPED_BYTES else None
 
 
 # ---- queries
@@ -266,6 +291,12 @@ class Machine:
         self.load([TITLE_END])
         best = sorted((-score(query, document), document.number, document.name) for document in found)[: int(count)]
         return "".join(f"{number} {name} {-points}\n" for points, number, name in best) + f"found {len(found)}\n"
+
+    def answer_dump(self, _):
+        self.load([END, TITLE_END, ("begins", b"W")])
+        lines = [(document, line_again(document)) for document in self.documents.values()]
+        given = [f"skipped {document.number} {document.name}\n" if line is None else f"{line}\n" for document, line in lines]
+        return "".join(given) + f"dumped {sum(line is not None for _, line in lines)}\n"
 
     def answer_count(self, text):
         return f"found {len(self.answers(self.queries[text]))}\n"

@@ -230,6 +230,29 @@ class Calls(Case):
             with self.assertRaises(buncocedar.UnknownCommand):
                 index.top("fox", 1)
 
+    def test_words_again(self):
+        with self.fake() as index:
+            self.assertEqual(list(index.dump()), [])
+            index.add("a", "Red  Fox", "The quick\tred fox")
+            index.add("b", "", "")
+            words = [buncocedar.Dumped("a", "red fox", "the quick red fox"), buncocedar.Dumped("b", "", "")]
+            rows = index.dump()
+            self.assertEqual(next(rows), words[0])
+            self.assertEqual(index.count("fox"), 1)
+            self.assertEqual(list(rows), words[1:])
+            index.delete("a")
+            self.assertEqual(list(index.dump()), words[1:])
+        with self.fake(say=[1, "skipped 7 b\nadd c\t\tx\ty\ndumped 1"]) as index:
+            self.assertEqual(list(index.dump()), [buncocedar.Skipped(7, "b"), buncocedar.Dumped("c", "", "x\ty")])
+        for reply in ("add c", "skipped b", "dumped", "1 a"):
+            with self.fake(say=[1, reply]) as index:
+                with self.assertRaises(buncocedar.ProtocolFault):
+                    list(index.dump())
+        with self.fake(old=True) as index:
+            for call in (index.dump, lambda: index.top("fox", 1)):
+                with self.assertRaises(buncocedar.UnknownCommand):
+                    call()
+
     def test_lines_from_elsewhere(self):
         with self.fake() as index:
             index.add("a", "Fox", "fox")
@@ -237,6 +260,7 @@ class Calls(Case):
                 (b"top 1 fox", ["1 a 5", "found 1"]),
                 (b"top 1 zebra", ["found 0"]),
                 (b"top 0 fox", ["! bad line"]),
+                (b"dump", ["add a\tfox\tfox", "dumped 1"]),
                 (b"search fox", ["1 a", "found 1"]),
                 (b"explain fox", ['"fox"', "found D Wfox", "  x1 <= x0"]),
                 (b"explain fault 1 Word", ["! query 1 Word"]),
@@ -245,6 +269,7 @@ class Calls(Case):
                 (b"add b\t\t" + b"x" * buncocedar.LINE_LIMIT, ["! line too long"]),
             ]:
                 self.assertEqual(index.answer(line), reply, line)
+                self.assertEqual(list(index.each_answer(line)), reply, line)
 
     def test_other_types(self):
         with self.fake() as index:

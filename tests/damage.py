@@ -113,7 +113,7 @@ def asking(chance, count):
     """Lines that change nothing."""
     kinds = ["count", "count", "search", "open", f"top {chance.randrange(1, 4)}"]
     lines = [f"{chance.choice(kinds)} {spelled(query)}" for query in chance.sample(QUERIES, count)]
-    return lines + [f"fetch {chance.randrange(1, 4)} {chance.randrange(1, 4)}", "stats"]
+    return lines + [f"fetch {chance.randrange(1, 4)} {chance.randrange(1, 4)}", "stats"] + ["dump"] * chance.choice([0, 0, 1])
 
 
 def all_counts(chance):
@@ -165,11 +165,16 @@ class LevelDocument:
     def __init__(self, of_level, row):
         self.level, self.row = of_level, row
         self.number, self.name = row.number, row.name.decode()
+        self.first, self.last = row.first, row.last
         self.words = row.last - row.first - 2
 
     def places(self, test):
         lists = [list_ for term, list_ in self.level.lists.items() if meets(test, term)]
-        return {location for list_ in lists for location in list_ if self.row.first <= location <= self.row.last}
+        return {location for list_ in lists for location in list_ if self.first <= location <= self.last}
+
+    def terms(self, kind):
+        lists = [(term, list_) for term, list_ in self.level.lists.items() if term.startswith(kind)]
+        return sorted((location, term) for term, list_ in lists for location in list_ if self.first <= location <= self.last)
 
 
 class OpenedMachine(Machine):

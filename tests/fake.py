@@ -118,7 +118,7 @@ class Store:
         if len(line) > 262_143:
             return ["! line too long"]
         word, blank, rest = line.decode().partition(" ")
-        if word in ("flush", "merge", "step", "open", "fetch", "close", "top") and DO.get("old"):
+        if word in ("flush", "merge", "step", "open", "fetch", "close", "top", "dump") and DO.get("old"):
             return ["! unknown command"]
         if word == "add":
             before = self.documents.get(rest.split("\t")[0])
@@ -139,6 +139,12 @@ class Store:
             if not query.startswith("fault "):
                 return self.best(int(count), query) + [f"found {len(self.found(query))}"]
             rest = query
+        if word == "dump" and blank:
+            return ["! bad line"]
+        if word == "dump":
+            documents = sorted((number, name, title, body) for name, (number, title, body) in self.documents.items())
+            lines = [f"add {name}\t{' '.join(title)}\t{' '.join(body)}" for _, name, title, body in documents]
+            return lines + [f"dumped {len(lines)}"]
         if word in ("search", "count", "open", "explain", "top"):
             if rest.startswith("fault "):
                 _, place, cause = rest.split(" ")[:3]

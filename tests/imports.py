@@ -477,23 +477,26 @@ class Folders(Case):
                 self.merges.append(self.stats().documents)
                 super().merge()
 
+        # Five documents fill the journal, and there are three levels at most: the first merge comes where the journal behind three has one.
         notes = self.notes(30)
+        half = 5 * (len("add 000.txt\t000.txt\ttext 00") + importing.RECORD)
+        few_levels = lambda: mock.patch.multiple(importing, HALF=half, LEVELS=3)
         source = stamps.Source("folder", notes)
-        for merge, merges in ((True, [10, 20, 30]), (False, [])):
+        for merge, merges in ((True, [16, 27]), (False, [])):
             Merging.merges.clear()
             if os.path.exists(self.path):
                 os.remove(self.path)
-            with mock.patch.object(importing, "MERGE_BYTES", 10 * len("000.txttext 0")), mock.patch.object(importing, "Index", Merging):
+            with few_levels(), mock.patch.object(importing, "Index", Merging):
                 with mock.patch.dict(os.environ, {"BUNCOCEDAR_PROGRAM": FAKE}), contextlib.redirect_stderr(io.StringIO()):
                     options = importing.Options(merge=merge)
                     self.assertEqual(importing.bring("folder", self.path, source, folder.files(notes), options), 0)
             self.assertEqual([number for number in Merging.merges], merges)
         # A program without levels, and one that ends in a merge.
-        for do, status, stored in (({"old": True}, 0, 30), ({"end": [13, -9]}, 3, 10)):
+        for do, status, stored in (({"old": True}, 0, 30), ({"end": [19, -9]}, 3, 16)):
             os.remove(self.path)
             told = io.StringIO()
             with contextlib.redirect_stderr(told):
-                with mock.patch.object(importing, "MERGE_BYTES", 10 * len("000.txttext 0")):
+                with few_levels():
                     with mock.patch.dict(os.environ, {"BUNCOCEDAR_PROGRAM": FAKE, "FAKE": json.dumps(do)}):
                         self.assertEqual(importing.bring("folder", self.path, source, folder.files(notes)), status, told.getvalue())
             self.assertEqual(len(self.stored()), stored)

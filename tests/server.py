@@ -143,6 +143,26 @@ class Lines(Case):
             with self.assertRaises(buncocedar.QueryFault):
                 other.top("fault 8 Paren )", 1)
 
+    def test_words_again(self):
+        self.serve()
+        with self.index() as one, self.index() as other:
+            one.add("a", "Red Fox", "the quick red fox")
+            one.add("b", "", "fox")
+            self.assertEqual(list(other.dump()), [("a", "red fox", "the quick red fox"), ("b", "", "fox")])
+            # Of one that reads none of its dump nobody has to wait.
+            self.assertEqual(one.add_many((f"n{i}", "", "word " * 100) for i in range(3_000)), (3_000, []))
+            slow = self.raw()
+            slow.sendall(b"dump\n" * 3)
+            self.assertEqual(len(list(other.dump())), 3_002)
+            slow.shutdown(socket.SHUT_WR)
+            lines = slow.makefile("rb").read().split(b"\n")
+            self.assertEqual(lines[3_002::3_003], [b"dumped 3002"] * 3)
+            # What is no dump is refused as by the program.
+            wrong = self.raw()
+            wrong.sendall(b"dump x\ndump " + b"x" * buncocedar.LINE_LIMIT + b"\ndump\n")
+            wrong.shutdown(socket.SHUT_WR)
+            self.assertEqual(wrong.makefile("rb").read().split(b"\n")[:3], [b"! bad line", b"! line too long", b"add a\tred fox\tthe quick red fox"])
+
     def test_cursors_are_of_their_client(self):
         self.serve()
         with self.index() as one, self.index() as other:
@@ -399,7 +419,8 @@ class Together:
         threads = [threading.Thread(target=work, args=(replies, client)) for client, replies in enumerate(sent)]
         for thread in threads:
             thread.start()
-        until(lambda: any(len(replies) > 70 for replies in sent))
+        # A client that comes when the server has ended would have the index for itself.
+        until(lambda: all(sent) and any(len(replies) > 70 for replies in sent))
         time.sleep(seconds)
         server.send_signal(number)
         for thread in threads:

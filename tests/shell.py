@@ -97,6 +97,7 @@ class AtATerminal(Case):
             ("close 1\n", "closed 1"),
             ("close 1\n", "! no such cursor"),
             ("top 3 fox\n", "1 a 5"),
+            ("dump\n", "add a    red fox    the quick red fox"),
             ("stats\n", "documents 1 words 6 next 2"),
             ("flush\n", "ok"),
             ("delete a\n", "deleted 1"),
@@ -145,12 +146,12 @@ class AtATerminal(Case):
 
 class BehindAPipe(Case):
     def test_lines(self):
-        text = "add a\tRed Fox\tthe quick red fox\nsearch fox\n\ncount fox\nstats\nexplain fox\ntop 1 fox\n"
+        text = "add a\tRed Fox\tthe quick red fox\nsearch fox\n\ncount fox\nstats\nexplain fox\ntop 1 fox\ndump\n"
         status, out, err = self.piped(text, "--create")
         self.assertEqual((status, err), (0, ""))
         self.assertEqual(out.split("\n")[:5], ["added 1", "1 a", "found 1", "found 1", "documents 1 words 6 next 2"])
         self.assertEqual(out.split("\n")[5], '"fox"')
-        self.assertEqual(out.split("\n")[-3:-1], ["1 a 5", "found 1"])
+        self.assertEqual(out.split("\n")[-5:-1], ["1 a 5", "found 1", "add a\tred fox\tthe quick red fox", "dumped 1"])
 
     def test_refusals(self):
         for line, said in [("quit", "! unknown command"), ("delete b", "! no such document"), ("close 7", "! no such cursor"), ("top 0 x", "! bad line")]:

@@ -176,7 +176,7 @@ def script(chance, style):
             lines.append(change(chance, style))
         else:
             fetch = f"fetch {chance.randrange(1, 4)} {chance.randrange(1, 9)}"
-            lines.append(chance.choice([asked(chance), "stats", fetch, "close 1"]))
+            lines.append(chance.choice([asked(chance), "stats", "dump", fetch, "close 1"]))
     return lines
 
 
@@ -195,8 +195,8 @@ STEADY = [
     # the two levels have thirteen terms
     ([LEVELLED + ["step 12", "count fox", "step 1", "count fox"]], 1),
     ([LEVELLED + ["step 11", "count fox", "step 1", "count fox"]], 2),
-    # the best first, from memory and from levels
-    ([[FIRST, SECOND, "top 1 red", "top 2 fox", "top 9 NOT fox", "flush", "top 1 red", "top 2 fox"]], 1),
+    # the best first, from memory and from levels, and all words again
+    ([[FIRST, SECOND, "top 1 red", "top 2 fox", "top 9 NOT fox", "flush", "top 1 red", "top 2 fox", "dump"], ["dump"]], 1),
     # all documents are gone
     ([LEVELLED + ["delete a", "delete b", "flush", "merge", "stats"]], 0),
     ([LEVELLED + ["delete a", "delete b", "step 1000", "stats", "add a\t\tred", "count red"]], 0),

@@ -47,6 +47,7 @@ __all__ = [
     "Cursor",
     "Damaged",
     "DiskFault",
+    "Dumped",
     "Ended",
     "Error",
     "Full",
@@ -71,6 +72,7 @@ __all__ = [
     "Reply",
     "Scored",
     "ServerEnded",
+    "Skipped",
     "Stats",
     "TooManyCursors",
     "Top",
@@ -103,6 +105,7 @@ _CURSOR = re.compile(f"cursor {_NUMBER}")
 _CLOSED = re.compile(f"closed {_NUMBER}")
 _PAGE_END = re.compile("more|end")
 _OK = re.compile("ok")
+_DUMP_END = re.compile(f"dumped {_NUMBER}")
 
 
 class Error(Exception):
@@ -570,6 +573,21 @@ class Top(NamedTuple):
     found: int
 
 
+class Dumped(NamedTuple):
+    """The words of a document as the index has them, folded, with a space between two: it can be added again."""
+
+    name: str
+    title: str
+    body: str
+
+
+class Skipped(NamedTuple):
+    """A document whose words give no line that would make it again."""
+
+    number: int
+    name: str
+
+
 class _Lines(NamedTuple):
     """The lines of a reply before its last one: their form, and what is made of one."""
 
@@ -580,6 +598,10 @@ class _Lines(NamedTuple):
 _ROWS = _Lines(re.compile(f"{_NUMBER} ([!-~]{{1,64}})"), lambda line: (int(line[1]), line[2]))
 _SCORED = _Lines(re.compile(f"{_NUMBER} ([!-~]{{1,64}}) {_NUMBER}"), lambda line: Scored(int(line[1]), line[2], int(line[3])))
 _TEXTS = _Lines(re.compile(".*", re.DOTALL), lambda line: line[0])
+_DUMPED = _Lines(
+    re.compile(f"add ([!-~]{{1,64}})\t([^\t]*)\t(.*)|skipped {_NUMBER} ([!-~]{{1,64}})", re.DOTALL),
+    lambda line: Skipped(int(line[4]), line[5]) if line[1] is None else Dumped(line[1], line[2], line[3]),
+)
 
 
 class Reply:
@@ -619,11 +641,16 @@ class Reply:
 
     def lines(self) -> List[str]:
         """Waits for the reply and gives its lines, of a line that was sent by `send_line`; a refusal is one of them."""
+        return list(self.each_line())
+
+    def each_line(self) -> Iterator[str]:
+        """The lines that `lines` gives, as they come."""
         try:
-            end = self.result()
+            yield from self.each()
         except Refused as refusal:
-            return [refusal.reply]
-        return [*self.rows] if self._after_refusal else [*self.rows, end]
+            yield refusal.reply
+        else:
+            yield from [] if self._after_refusal else [self._value]
 
     def begin(self) -> None:
         """Waits for the first line of the reply, and raises as `result` where there is no more to come."""
@@ -881,6 +908,12 @@ class Index:
         """The `Stats` of the index."""
         return self._say("stats", _STATS, lambda last: Stats(int(last[1]), int(last[2]), int(last[3])))
 
+    def dump(self) -> Iterator[Union[Dumped, Skipped]]:
+        """The words of all live documents in order of number, as an iterator: a `Dumped` each, or a `Skipped` where they give no line."""
+        reply = self._send(b"dump", "dump", _DUMP_END, _first_number, _DUMPED)
+        reply.begin()
+        return reply.each()
+
     # -- Upkeep.
 
     def flush(self) -> None:
@@ -902,10 +935,16 @@ class Index:
 
         For who has lines from elsewhere, as a server. A line that this client cannot tell the end of a reply to is refused.
         """
+        return list(self.each_answer(line))
+
+    def each_answer(self, line: bytes) -> Iterator[str]:
+        """The lines that `answer` gives, as they come."""
         try:
-            return self.send_line(line).lines()
+            reply = self.send_line(line)
         except Refused as refusal:
-            return [refusal.reply]
+            yield refusal.reply
+        else:
+            yield from reply.each_line()
 
     def send_line(self, line: bytes) -> Reply:
         """Sends what `answer` sends, and answers its `Reply` at once, or when one of those under way has come.
@@ -1146,6 +1185,7 @@ _FORMS = {
     b"top": (_FOUND, _TEXTS),
     b"count": (_FOUND, None),
     b"explain": (_STATS, _TEXTS),
+    b"dump": (_DUMP_END, _TEXTS),
     b"open": (_CURSOR, None),
     b"fetch": (_PAGE_END, _TEXTS),
     b"close": (_CLOSED, None),

@@ -3,8 +3,9 @@
 Each client speaks the lines of the program; `buncocedar.Index`, and what stands on it, finds the server by itself. One thread
 owns the index, and has lines of all clients answered in the order in which they come: of each client one, or one page of a search,
 or eight documents to be added or deleted. So neither a large search nor a client that reads slowly or sends much keeps the others
-waiting. A thread for each client reads its lines and writes its replies. A client has cursors of its own, which end with it. While
-nobody asks, levels are joined by steps, so that no add has to wait for a join.
+waiting. A thread for each client reads its lines and writes its replies. A dump is one line, behind which all wait; its lines wait
+in a file, and not for the client that reads them. A client has cursors of its own, which end with it. While nobody asks, levels are
+joined by steps, so that no add has to wait for a join.
 
 An interrupt (SIGINT, SIGTERM) ends the server when the line that it is at is answered, a second one ends the program at once.
 However it ends, what a client was answered is stored. The status is 0 where it was asked to end, and 3 where the index could
@@ -22,6 +23,7 @@ import signal
 import socket
 import stat
 import sys
+import tempfile
 import threading
 import time
 from collections import deque
@@ -30,6 +32,8 @@ from concurrent.futures import Future
 from . import LINE_LIMIT, Ended, Error, Index, Refused, server_path
 
 PAGE = 1_000  # rows of a search, at a time
+PIECE = 1 << 16  # bytes of a dump, at a time
+KEPT_IN_MEMORY = 1 << 20  # bytes of a dump that wait for their client
 IDLE_SECONDS = 0.5  # without a line, before levels are joined
 STEP_TERMS = 5_000  # of a join, between two looks for a line
 LINES_AHEAD = 8  # of changes of one client, and of all lines that are given to the program before the first has its reply
@@ -114,6 +118,10 @@ class Session:
         word, blank, query = line.partition(b" ")
         if word == b"search" and blank and len(line) <= LINE_LIMIT:
             yield from self.search(query)
+        elif word == b"dump" and len(line) <= LINE_LIMIT:
+            with self.ask(line) as file:
+                while lines := file.readlines(PIECE):
+                    yield [line.rstrip("\n") for line in lines]
         elif word == b"open":
             lines = self.ask(line)
             if lines[0].startswith("cursor "):
@@ -189,7 +197,7 @@ class Server:
         self._stopped = False
 
     def ask(self, line):
-        """The lines of the reply, when the owner has come to it: for the threads of clients."""
+        """The lines of the reply, to a dump in a file, when the owner has come to it: for the threads of clients."""
         return self.send(line).result()
 
     def send(self, line):
@@ -275,10 +283,13 @@ class Server:
         """Waits for the first reply that is under way, and hands it on."""
         reply, future = self._sent.popleft()
         try:
-            future.set_result(reply.lines())
+            future.set_result(spooled(reply) if reply.command == "dump" else reply.lines())
         except Error as error:
             self._fail(error)
             future.set_exception(self.end)
+        except OSError as error:
+            # The file of a dump could not be written: its client gets no more of it.
+            future.set_exception(error)
 
     def _tidy(self):
         """Moves a join on where there are many levels, and tells whether there may be more to do."""
@@ -292,6 +303,15 @@ class Server:
 
     def _fail(self, error):
         self.end = error if isinstance(error, Ended) else Ended(-signal.SIGKILL, str(error), self.index.path)
+
+
+def spooled(reply):
+    """The lines of a reply, in a file."""
+    file = tempfile.SpooledTemporaryFile(KEPT_IN_MEMORY, "w+", encoding="utf-8", newline="\n")
+    for line in reply.each_line():
+        file.write(f"{line}\n")
+    file.seek(0)
+    return file
 
 
 def listening(path):
