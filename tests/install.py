@@ -84,13 +84,15 @@ class Launcher(unittest.TestCase):
 
 
 RT = """#!/bin/sh
-# Stands for the kit's command: it proves when it is let, and builds or refuses.
-echo "rt $*" >>calls
+# Stands for the kit's command: it proves when it is let, over the libraries of the crates below, and builds or refuses.
+crate=${PWD##*/}
+echo "rt $1 $crate" >>"$HERE/calls"
 case $1 in
-    all)
-        echo "== alta_codec"
-        until [ -e go ] || [ ! -e calls ]; do sleep 0.05; done
-        [ ! -e refused ]
+    lib)
+        until [ -e "$HERE/go" ] || [ ! -e "$HERE/calls" ]; do sleep 0.05; done
+        [ "$crate" = alta_codec ] || [ -e ../alta_codec/out/rlib/proved ] || exit 1
+        [ ! -e "$HERE/refused" ] || [ "$(cat "$HERE/refused")" != "$crate" ] || exit 1
+        mkdir -p out/rlib && echo "$crate" >>out/rlib/proved
         ;;
     run)
         printf '#!/bin/sh\\necho new "$@"\\n' >out/alta_cli
@@ -109,12 +111,15 @@ class Building(unittest.TestCase):
         self.top = folder.name
         self.crate = os.path.join(self.top, "crates", "alta_cli")
         os.makedirs(os.path.join(self.crate, "src"))
-        shutil.copy(os.path.join(TOP, "alta"), self.top)
+        for file in ("alta", "build.py"):
+            shutil.copy(os.path.join(TOP, file), self.top)
+        self.put("HANDLES", "Handles allowed: none.\n")
         self.put("crates.txt", "alta_codec:\nalta_cli: alta_codec\n")
+        self.put("crates/alta_codec/src/lib.rt", "")
         self.put("crates/alta_cli/src/main.rt", "fn main() {}\n")
         self.put("bin/rt", RT, 0o755)
         self.put("index", "")
-        self.environment = {**os.environ, "PATH": os.path.join(self.top, "bin") + os.pathsep + os.environ["PATH"]}
+        self.environment = {**os.environ, "PATH": os.path.join(self.top, "bin") + os.pathsep + os.environ["PATH"], "HERE": self.crate}
         self.words = [os.path.join(self.top, "alta"), os.path.join(self.top, "index"), "run"]
 
     def put(self, name, content, mode=0o644):
@@ -158,9 +163,9 @@ class Building(unittest.TestCase):
         self.assertEqual((process.returncode, given.split(" ")[0].strip()), (status, out), said)
         return said
 
-    def calls(self):
+    def calls(self, word=1):
         with open(os.path.join(self.crate, "calls")) as file:
-            return [line.split()[1] for line in file]
+            return [line.split()[word] for line in file]
 
     def test_the_first_time(self):
         # Of two at once one builds, and the other waits for it.
@@ -171,7 +176,7 @@ class Building(unittest.TestCase):
         self.assertIn("half an hour to an hour", self.ended(first, 0, "new"))
         self.ended(second, 0, "new")
         self.ended(self.start(), 0, "new")
-        self.assertEqual(self.calls(), ["all", "run"])
+        self.assertEqual(self.calls(), ["lib", "run"])
         left = sorted(os.listdir(os.path.join(self.crate, "out")))
         self.assertEqual(left, ["alta_cli", "begun", "build.log"])
 
@@ -188,11 +193,11 @@ class Building(unittest.TestCase):
         self.ended(first, 0, "new")
         self.assertEqual(self.ended(self.start("--no-build"), 0, "new"), "")
         self.assertIn("building the program", self.ended(self.start(), 0, "new"))
-        self.assertEqual(self.calls(), ["all", "run", "all", "run"])
+        self.assertEqual(self.calls(), ["lib", "run", "lib", "run"])
 
     def test_no_older_program_stands_for_one_that_is_refused(self):
         self.put_older()
-        self.put("crates/alta_cli/refused", "")
+        self.put("crates/alta_cli/refused", "alta_codec")
         self.let_go()
         for _ in range(2):
             self.assertIn("the program could not be built", self.ended(self.start(), 2, ""))
@@ -211,7 +216,7 @@ class Building(unittest.TestCase):
         self.assertEqual(self.ended(self.start("--no-build"), 0, "old"), "")
         # What it had begun goes on, and is all that is to be done.
         self.let_go()
-        self.until(lambda: self.calls() == ["all", "run"])
+        self.until(lambda: self.calls() == ["lib", "run"])
         self.ended(self.start(), 0, "new")
 
     def test_a_build_that_was_interrupted(self):
@@ -223,7 +228,22 @@ class Building(unittest.TestCase):
         # The shell has waited for what it had begun.
         self.assertNotIn("building", os.listdir(os.path.join(self.crate, "out")))
         self.assertEqual(self.ended(self.start("--no-build"), 0, "new"), "")
-        self.assertEqual(self.calls(), ["all", "run"])
+        self.assertEqual(self.calls(), ["lib", "run"])
+
+    def test_each_crate_behind_those_below_it(self):
+        self.put("crates.txt", "alta_codec:\nalta_disk: alta_codec arrayvec\nalta_text: alta_codec\nother: alta_codec\nalta_cli: alta_text alta_disk\n")
+        for name in ("alta_disk", "alta_text", "other"):
+            self.put(f"crates/{name}/src/lib.rt", "\n" * len(name))
+        self.put("crates/alta_cli/refused", "alta_codec")
+        self.let_go()
+        self.ended(self.start(), 2, "")
+        self.assertEqual(self.calls(2), ["alta_codec"])
+        os.remove(os.path.join(self.crate, "refused"))
+        self.ended(self.start(), 0, "new")
+        called = self.calls(2)
+        self.assertEqual((called[1], sorted(called[2:4]), called[4:]), ("alta_codec", ["alta_disk", "alta_text"], ["alta_cli"]))
+        with open(os.path.join(self.top, "crates", "alta_codec", "out", "rlib", "proved")) as file:
+            self.assertEqual(file.read(), "alta_codec\n")
 
     def test_words(self):
         launcher = self.words[0]
