@@ -1,39 +1,67 @@
 -- The content of added documents: one document more, and that the locations of a term rise.
-use Rattle.std.proofs.Common.{◌≡◌, ℕ, zero, suc, ◌+◌, ◌<◌, ◌≤◌, Bool, true, false, cond, List, [], ◌∷◌, ◌++◌, length, map, get_or, refl, sym, ap, subst, ◌∙◌, append-nil, append_assoc, arith, lit≤}
+use Rattle.std.proofs.Common.{◌≡◌, ⊎_elim, ℕ, zero, suc, ◌+◌, ◌<◌, ◌≤◌, Bool, true, false, ◌||◌, cond, List, [], ◌∷◌, ◌++◌, length, map, get_or, refl, sym, ap, subst, ◌∙◌, append-nil, append_assoc, arith, lit≤}
 use Rattle.std.specs.Cmp.Lexicographic.{slice_cmp}
 use Rattle.std.specs.List.{All}
 use Rattle.std.specs.List.Sorted.{IsStrictlySortedBy}
 use Rattle.std.specs.Ordering.{nat_cmp}
 use Rattle.std.specs.Map.{values_of}
 use Rattle.std.specs.Str.{bytes_eq}
+use Rattle.std.proofs.lemmas.Bool.{cases_Bool, or_parts, true≢false, cond-true, cond-false}
 use Rattle.std.proofs.lemmas.List.Elements.{All-nil, All-cons, All-head, All-tail, All-push, All-weaker}
 use Rattle.alta_codec.specs.declared.location.TheConstants.{TOP}
 use Rattle.alta_codec.specs.Rising.{IsRising}
+use Rattle.alta_content.proofs.Order.{Sorted, has, has_in_order, in_order_sorted}
+use Rattle.alta_content.specs.Joining.{in_order}
 use Rattle.alta_content.specs.declared.content.Content.{Content}
 use Rattle.alta_content.specs.declared.document.DocRow.{DocRow}
 use Rattle.alta_content.specs.Lists.{locations_of, terms_of}
 use Rattle.alta_content.specs.Rows.{end_of}
 use Rattle.alta_meta.specs.Cells.{cell_holds}
 use Rattle.alta_memlevel.specs.Added.{Added, places_of, list_of, IsInSpace, IsSpace, HasContent}
-use Rattle.alta_memlevel.specs.Lists.{Numbers, keys_in, list_in, term_lists}
+use Rattle.alta_memlevel.proofs.One.{listed_at, listed_some, listed_terms}
+use Rattle.alta_memlevel.specs.Lists.{Entries, Numbers, keys_in, list_in, term_lists}
 
-pub locations_of-term_lists : (es : List (Numbers × Numbers)) (t : List ℕ) → locations_of (term_lists es) t ≡ list_in es t
-locations_of-term_lists [] t = refl
-locations_of-term_lists (e ∷ es) t = ap (λ l. cond (bytes_eq t e.0.items) e.1.items l) (locations_of-term_lists es t)
+-- ---- the terms in order, with their lists
 
-pub terms_of_term_lists : (es : List (Numbers × Numbers)) → terms_of (term_lists es) ≡ keys_in es
-terms_of_term_lists [] = refl
-terms_of_term_lists (e ∷ es) = ap (λ l. e.0.items ∷ l) (terms_of_term_lists es)
+not_among : (es : Entries) (t : List ℕ) → has t (keys_in es) ≡ false → list_in es t ≡ []
+not_among [] t h = refl
+not_among (e ∷ es) t h =
+    let p = or_parts (bytes_eq t e.0.items) (has t (keys_in es)) h in
+    cond-false (bytes_eq t e.0.items) e.1.items (list_in es t) p.0 ∙ not_among es t p.1
 
-pub some-term_lists : (es : List (Numbers × Numbers)) → All (λ xs. 0 < length xs.items) (values_of es) → All (λ l. 0 < length l.locations) (term_lists es)
-some-term_lists [] h = All-nil (λ l. 0 < length l.locations)
-some-term_lists (e ∷ es) h =
-    All-cons (λ l. 0 < length l.locations) (record { term = e.0.items; locations = e.1.items }) (term_lists es)
-    (All-head (λ xs. 0 < length xs.items) e.1 (values_of es) h)
-    (some-term_lists es (All-tail (λ xs. 0 < length xs.items) e.1 (values_of es) h))
+abbrev HasLocation : Numbers → Type 0
+HasLocation xs = 0 < length xs.items
+
+some_among : (es : Entries) (t : List ℕ) → All HasLocation (values_of es) → has t (keys_in es) ≡ true → 0 < length (list_in es t)
+some_among [] t a h = absurd (true≢false (sym h))
+some_among (e ∷ es) t a h =
+    ⊎_elim
+    (λ here. subst (λ l. 0 < length l) (sym (cond-true (bytes_eq t e.0.items) e.1.items (list_in es t) here)) (All-head HasLocation e.1 (values_of es) a))
+    (λ other.
+    let rest : has t (keys_in es) ≡ true = ap (λ b. b || has t (keys_in es)) (sym other) ∙ h in
+    subst (λ l. 0 < length l) (sym (cond-false (bytes_eq t e.0.items) e.1.items (list_in es t) other)) (some_among es t (All-tail HasLocation e.1 (values_of es) a) rest))
+    (cases_Bool (bytes_eq t e.0.items))
+
+pub locations_of-term_lists : (es : Entries) (t : List ℕ) → locations_of (term_lists es) t ≡ list_in es t
+locations_of-term_lists es t =
+    listed_at (list_in es) (in_order (keys_in es)) t
+    ∙ ap (λ b. cond b (list_in es t) []) (has_in_order t (keys_in es))
+    ∙ ⊎_elim
+    (λ y. ap (λ b. cond b (list_in es t) []) y)
+    (λ n. ap (λ b. cond b (list_in es t) []) n ∙ sym (not_among es t n))
+    (cases_Bool (has t (keys_in es)))
+
+pub terms_of_term_lists : (es : Entries) → terms_of (term_lists es) ≡ in_order (keys_in es)
+terms_of_term_lists es = listed_terms (list_in es) (in_order (keys_in es))
+
+pub terms_rise : (es : Entries) → IsStrictlySortedBy (slice_cmp nat_cmp) (terms_of (term_lists es))
+terms_rise es = subst Sorted (sym (terms_of_term_lists es)) (in_order_sorted (keys_in es))
+
+pub some-term_lists : (es : Entries) → All (λ xs. 0 < length xs.items) (values_of es) → All (λ l. 0 < length l.locations) (term_lists es)
+some-term_lists es h = listed_some (list_in es) (in_order (keys_in es)) (λ t m. some_among es t h (sym (has_in_order t (keys_in es)) ∙ m))
 
 -- ---- no documents
-pub content_empty : (rows : List DocRow) (es : List (Numbers × Numbers)) → rows ≡ [] → es ≡ [] → HasContent [] record { documents = rows; lists = term_lists es }
+pub content_empty : (rows : List DocRow) (es : Entries) → rows ≡ [] → es ≡ [] → HasContent [] record { documents = rows; lists = term_lists es }
 unfolding IsStrictlySortedBy
 content_empty rows es r e = rw (r, e) record {
   space = tt;

@@ -1,27 +1,21 @@
 -- The list of a term in a map whose keys are the terms' bytes.
-use Rattle.std.proofs.Common.{◌≡◌, ⊎_elim, ℕ, ◌+◌, ◌<◌, Bool, ◌||◌, true, false, cond, List, [], ◌∷◌, ◌++◌, length, Some, None, refl, sym, ap, subst, ◌∙◌, append-nil, append_assoc, arith, BTreeMap, get_or, take}
+use Rattle.std.proofs.Common.{◌≡◌, ⊎_elim, ℕ, ◌+◌, ◌<◌, Bool, ◌||◌, true, false, cond, List, [], ◌∷◌, ◌++◌, length, Some, None, refl, sym, ap, subst, ◌∙◌, append-nil, append_assoc, arith, get_or, take}
 use Rattle.std.specs.Prelude.{Option, slice_get}
 use Rattle.std.proofs.lemmas.List.{take_more, length-take-le}
 use Rattle.std.proofs.lemmas.Option.{get_or_from_slice_get}
 use Rattle.std.proofs.lemmas.List.Folds.{list_any_more}
-use Rattle.std.specs.declared.cmp.Ordering.{Ordering}
-use Rattle.std.specs.Ordering.{is_eq, nat_cmp, eq_by_cmp}
-use Rattle.std.specs.Cmp.{eq_by_cmp_equiv}
-use Rattle.std.specs.Cmp.Lexicographic.{slice_cmp, bytes_decides, nat_list_cmp_total, nat_list_eq_equiv}
+use Rattle.std.specs.Cmp.Lexicographic.{bytes_decides, nat_list_eq_equiv}
+use Rattle.std.specs.HashMap.{HashMap, UpdatesBy}
 use Rattle.std.specs.Str.{bytes_eq}
-use Rattle.std.specs.BTreeMap.{get_by, is_at, UpdatesBy}
 use Rattle.std.specs.Map.{lookup, KeepsOthers, IsKeyTest, AreApart}
 use Rattle.std.proofs.lemmas.Bool.{cases_Bool, cond-true, cond-false}
-use Rattle.std.proofs.lemmas.Map.Text.{is_eq-slice_cmp}
 use Rattle.alta_meta.specs.Cells.{cell_holds}
 use Rattle.alta_memlevel.specs.Added.{places_of}
-use Rattle.alta_memlevel.specs.Lists.{Numbers, list_in, list_at, order, term_lists}
-use Rattle.alta_content.specs.Lists.{locations_of}
-use Rattle.alta_memlevel.proofs.Contents.{locations_of-term_lists}
+use Rattle.alta_memlevel.specs.Lists.{Entries, Numbers, list_in, same_key}
 
--- how a term's bytes compare to a key
-abbrev pub compare_to : List ℕ → Numbers → Ordering
-compare_to term k = slice_cmp nat_cmp term k.items
+-- whether a key has the term's bytes
+abbrev pub is_term : List ℕ → Numbers → Bool
+is_term term k = bytes_eq term k.items
 
 -- the list that a look-up found: none where it found nothing
 abbrev pub items_of : Option Numbers → List ℕ
@@ -32,59 +26,56 @@ items_of-cond : (b : Bool) (v : Numbers) (o : Option Numbers) → items_of (cond
 items_of-cond true v o = refl
 items_of-cond false v o = refl
 
-pub list_in-lookup : (term : List ℕ) (es : List (Numbers × Numbers)) → list_in es term ≡ items_of (lookup (is_at (compare_to term)) es)
+pub list_in-lookup : (term : List ℕ) (es : Entries) → list_in es term ≡ items_of (lookup (is_term term) es)
 list_in-lookup term [] = refl
 list_in-lookup term (e ∷ es) =
-    rw (is_eq-slice_cmp term e.0.items)
-    (ap (λ l. cond (bytes_eq term e.0.items) e.1.items l) (list_in-lookup term es)
-    ∙ sym (items_of-cond (bytes_eq term e.0.items) e.1 (lookup (is_at (compare_to term)) es)))
+    ap (λ l. cond (bytes_eq term e.0.items) e.1.items l) (list_in-lookup term es)
+    ∙ sym (items_of-cond (bytes_eq term e.0.items) e.1 (lookup (is_term term) es))
 
-apart : (bs cs ks : List ℕ) → bytes_eq bs cs ≡ false → is_eq (slice_cmp nat_cmp bs ks) ≡ true → is_eq (slice_cmp nat_cmp cs ks) ≡ false
-apart bs cs ks n y =
-    let same : bytes_eq bs ks ≡ true = sym (is_eq-slice_cmp bs ks) ∙ y in
-    is_eq-slice_cmp cs ks ∙ nat_list_eq_equiv.symm cs ks ∙ sym (nat_list_eq_equiv.congr bs ks cs same) ∙ n
+apart : (bs cs ks : List ℕ) → bytes_eq bs cs ≡ false → bytes_eq bs ks ≡ true → bytes_eq cs ks ≡ false
+apart bs cs ks n same = nat_list_eq_equiv.symm cs ks ∙ sym (nat_list_eq_equiv.congr bs ks cs same) ∙ n
 
-others : (test : Numbers → Bool) (old new : List (Numbers × Numbers)) → KeepsOthers (eq_by_cmp order) test old new
-    → (other : Numbers → Bool) → IsKeyTest (eq_by_cmp order) other → AreApart test other → lookup other new ≡ lookup other old
+others : (test : Numbers → Bool) (old new : Entries) → KeepsOthers same_key test old new
+    → (other : Numbers → Bool) → IsKeyTest same_key other → AreApart test other → lookup other new ≡ lookup other old
 unfolding KeepsOthers
 others test old new h = h
 
--- what a change at one term leaves at each term
-pub get_by-updates : (bs : List ℕ) (m n : BTreeMap Numbers Numbers) (v : Numbers) → UpdatesBy order (compare_to bs) m n (Some v)
-    → (cs : List ℕ) → get_by (compare_to cs) n ≡ cond (bytes_eq bs cs) (Some v) (get_by (compare_to cs) m)
-get_by-updates bs m n v h cs =
-    ⊎_elim
-    (λ y. subst (λ l. get_by (compare_to l) n ≡ Some v) ((bytes_decides bs cs).0 y) h.1 ∙ sym (cond-true (bytes_eq bs cs) (Some v) (get_by (compare_to cs) m) y))
-    (λ n'. others (is_at (compare_to bs)) m.entries n.entries h.3 (is_at (compare_to cs)) (λ x y. (eq_by_cmp_equiv nat_list_cmp_total).congr cs x.items y.items) (λ k. apart bs cs k.items n')
-    ∙ sym (cond-false (bytes_eq bs cs) (Some v) (get_by (compare_to cs) m) n'))
-    (cases_Bool (bytes_eq bs cs))
+module _ {S : Type 0} (bs : List ℕ) (m n : HashMap Numbers Numbers S) (v : Numbers) where
+  -- what a change at one term leaves at each term
+  pub lookup-updates : UpdatesBy same_key (is_term bs) m n (Some v)
+      → (cs : List ℕ) → lookup (is_term cs) n.entries ≡ cond (bytes_eq bs cs) (Some v) (lookup (is_term cs) m.entries)
+  lookup-updates h cs =
+      ⊎_elim
+      (λ y. subst (λ l. lookup (is_term l) n.entries ≡ Some v) ((bytes_decides bs cs).0 y) h.1 ∙ sym (cond-true (bytes_eq bs cs) (Some v) (lookup (is_term cs) m.entries) y))
+      (λ n'. others (is_term bs) m.entries n.entries h.3 (is_term cs) (λ x y. nat_list_eq_equiv.congr cs x.items y.items) (λ k. apart bs cs k.items n')
+      ∙ sym (cond-false (bytes_eq bs cs) (Some v) (lookup (is_term cs) m.entries) n'))
+      (cases_Bool (bytes_eq bs cs))
 
--- a location more at one term
-pub list_at-updates : (bs : List ℕ) (m n : BTreeMap Numbers Numbers) (v : Numbers) (x : ℕ) → UpdatesBy order (compare_to bs) m n (Some v)
-    → v.items ≡ list_at m bs ++ x ∷ []
-    → (cs : List ℕ) → list_at n cs ≡ list_at m cs ++ cond (bytes_eq bs cs) (x ∷ []) []
-list_at-updates bs m n v x h e cs =
-    list_in-lookup cs n.entries ∙ ap items_of (get_by-updates bs m n v h cs)
-    ∙ items_of-cond (bytes_eq bs cs) v (get_by (compare_to cs) m)
-    ∙ ap (λ l. cond (bytes_eq bs cs) v.items l) (sym (list_in-lookup cs m.entries))
-    ∙ ⊎_elim
-    (λ y. cond-true (bytes_eq bs cs) v.items (list_at m cs) y ∙ e
-    ∙ ap (λ l. list_at m l ++ x ∷ []) ((bytes_decides bs cs).0 y)
-    ∙ ap (λ l. list_at m cs ++ l) (sym (cond-true (bytes_eq bs cs) (x ∷ []) [] y)))
-    (λ n'. cond-false (bytes_eq bs cs) v.items (list_at m cs) n' ∙ sym (append-nil (list_at m cs))
-    ∙ ap (λ l. list_at m cs ++ l) (sym (cond-false (bytes_eq bs cs) (x ∷ []) [] n')))
-    (cases_Bool (bytes_eq bs cs))
+  -- a location more at one term
+  pub list_in-updates : (x : ℕ) → UpdatesBy same_key (is_term bs) m n (Some v)
+      → v.items ≡ list_in m.entries bs ++ x ∷ []
+      → (cs : List ℕ) → list_in n.entries cs ≡ list_in m.entries cs ++ cond (bytes_eq bs cs) (x ∷ []) []
+  list_in-updates x h e cs =
+      list_in-lookup cs n.entries ∙ ap items_of (lookup-updates h cs)
+      ∙ items_of-cond (bytes_eq bs cs) v (lookup (is_term cs) m.entries)
+      ∙ ap (λ l. cond (bytes_eq bs cs) v.items l) (sym (list_in-lookup cs m.entries))
+      ∙ ⊎_elim
+      (λ y. cond-true (bytes_eq bs cs) v.items (list_in m.entries cs) y ∙ e
+      ∙ ap (λ l. list_in m.entries l ++ x ∷ []) ((bytes_decides bs cs).0 y)
+      ∙ ap (λ l. list_in m.entries cs ++ l) (sym (cond-true (bytes_eq bs cs) (x ∷ []) [] y)))
+      (λ n'. cond-false (bytes_eq bs cs) v.items (list_in m.entries cs) n' ∙ sym (append-nil (list_in m.entries cs))
+      ∙ ap (λ l. list_in m.entries cs ++ l) (sym (cond-false (bytes_eq bs cs) (x ∷ []) [] n')))
+      (cases_Bool (bytes_eq bs cs))
 
 -- the list of a term that a look-up found, or not
-pub list_at-found : (bs : List ℕ) (m : BTreeMap Numbers Numbers) (o : Option Numbers) → o ≡ get_by (compare_to bs) m → list_at m bs ≡ items_of o
-list_at-found bs m o e = list_in-lookup bs m.entries ∙ ap items_of (sym e)
+pub list_in-found : (bs : List ℕ) (es : Entries) (o : Option Numbers) → o ≡ lookup (is_term bs) es → list_in es bs ≡ items_of o
+list_in-found bs es o e = list_in-lookup bs es ∙ ap items_of (sym e)
 
--- where a term stands, by what a look-up found
-pub located : (bs : List ℕ) (m : BTreeMap Numbers Numbers) (v : Numbers) → Some v ≡ get_by (compare_to bs) m → v.items ≡ locations_of (term_lists m.entries) bs
-located bs m v e = sym (locations_of-term_lists m.entries bs ∙ list_at-found bs m (Some v) e)
+pub found_list : (bs : List ℕ) (es : Entries) (v : Numbers) → Some v ≡ lookup (is_term bs) es → v.items ≡ list_in es bs
+found_list bs es v e = sym (list_in-found bs es (Some v) e)
 
-pub not_located : (bs : List ℕ) (m : BTreeMap Numbers Numbers) → None ≡ get_by (compare_to bs) m → [] ≡ locations_of (term_lists m.entries) bs
-not_located bs m e = sym (locations_of-term_lists m.entries bs ∙ list_at-found bs m None e)
+pub no_list : (bs : List ℕ) (es : Entries) → None ≡ lookup (is_term bs) es → [] ≡ list_in es bs
+no_list bs es e = sym (list_in-found bs es None e)
 
 or_false : (b : Bool) → (b || false) ≡ b
 or_false true = refl

@@ -73,7 +73,7 @@ module _ (f : List ℕ → List ℕ) where
       (λ n. rw n (listed_at us t))
       (cases_Bool (bytes_eq t u))
 
-  listed_some : (ts : List (List ℕ)) → ((t : List ℕ) → has t ts ≡ true → 0 < length (f t)) → All HasSome (listed ts)
+  pub listed_some : (ts : List (List ℕ)) → ((t : List ℕ) → has t ts ≡ true → 0 < length (f t)) → All HasSome (listed ts)
   listed_some [] h = All-nil HasSome
   listed_some (t ∷ ts) h = All-cons HasSome (record { term = t; locations = f t }) (listed ts) (h t (has_head t ts)) (listed_some ts (λ u m. h u (has_more u t ts m)))
 

@@ -1,11 +1,10 @@
 -- The terms with their locations, as the level keeps them.
-use Rattle.std.specs.Prelude.{◌≡◌, ℕ, ◌+◌, ◌<◌, List, [], ◌∷◌, ◌++◌, cond, Vec, length, take, map}
-use Rattle.std.specs.BTreeMap.{BTreeMap, values, IsOrdered}
-use Rattle.std.specs.Cmp.Lexicographic.{slice_cmp}
-use Rattle.std.specs.Ordering.{nat_cmp}
-use Rattle.std.specs.declared.cmp.Ordering.{Ordering}
+use Rattle.std.specs.Prelude.{◌≡◌, ℕ, ◌+◌, ◌<◌, Bool, List, [], ◌∷◌, ◌++◌, cond, Vec, length, take, map}
+use Rattle.std.specs.Borrow.{Bor}
+use Rattle.std.specs.Map.{keys_of, values_of}
 use Rattle.std.specs.Str.{bytes_eq}
-use Rattle.std.specs.List.{All}
+use Rattle.std.specs.List.{All, IsDistinct}
+use Rattle.alta_content.specs.Joining.{in_order}
 use Rattle.alta_content.specs.TermList.{TermList}
 use Rattle.alta_meta.specs.Cells.{cell_holds}
 use Rattle.std.specs.declared.alloc.Global.{Global}
@@ -14,34 +13,42 @@ use Rattle.std.specs.declared.alloc.Global.{Global}
 abbrev pub Numbers : Type 0
 Numbers = Vec ℕ Global
 
+-- what the level keeps: terms with their lists, in any order
+abbrev pub Entries : Type 0
+Entries = List (Numbers × Numbers)
+
 -- the locations beside the term's bytes: none where the term has no entry
-abbrev pub list_in : List (Numbers × Numbers) → List ℕ → List ℕ
+abbrev pub list_in : Entries → List ℕ → List ℕ
 list_in [] term = []
 list_in (e ∷ es) term = cond (bytes_eq term e.0.items) e.1.items (list_in es term)
 
--- the locations of a term
-abbrev pub list_at : BTreeMap Numbers Numbers → List ℕ → List ℕ
-list_at m term = list_in m.entries term
-
--- the terms, in order
-abbrev pub keys_in : List (Numbers × Numbers) → List (List ℕ)
+-- the terms, as they are kept
+abbrev pub keys_in : Entries → List (List ℕ)
 keys_in es = map (λ e. e.0.items) es
 
--- the terms with their locations, as a content has them
-abbrev pub term_lists : List (Numbers × Numbers) → List TermList
-term_lists es = map (λ e. record { term = e.0.items; locations = e.1.items }) es
+-- these terms with their locations
+abbrev pub lists_at : Entries → List (List ℕ) → List TermList
+lists_at es terms = map (λ term. record { term = term; locations = list_in es term }) terms
 
--- the collating order of the keys
-abbrev pub order : Numbers → Numbers → Ordering
-order x y = slice_cmp nat_cmp x.items y.items
+-- the terms in collating order with their locations, as a content has them
+abbrev pub term_lists : Entries → List TermList
+term_lists es = lists_at es (in_order (keys_in es))
 
--- the terms are in order, and each has a location
-pub record IsIndex (m : BTreeMap Numbers Numbers) : Type 0 where
-  pub ordered : IsOrdered order m
-  pub none_empty : All (λ xs. 0 < length xs.items) (values m)
+-- the bytes that slices show
+abbrev pub bytes_in : List (Bor (List ℕ)) → List (List ℕ)
+bytes_in slices = map (λ (s : Bor (List ℕ)). s.now) slices
+
+-- whether two terms are the same
+abbrev pub same_key : Numbers → Numbers → Bool
+same_key x y = bytes_eq x.items y.items
+
+-- no term stands twice, and each has a location
+pub record IsIndex (es : Entries) : Type 0 where
+  pub apart : IsDistinct same_key (keys_of es)
+  pub none_empty : All (λ xs. 0 < length xs.items) (values_of es)
 
 -- lists that have the location at the terms of the cell before the index, and no more than others had, have it at the term of the index too
-abbrev pub AddsOnce : List (List ℕ) → ℕ → ℕ → BTreeMap Numbers Numbers → BTreeMap Numbers Numbers → Type 0
-AddsOnce cell i location m n =
-    (base other : List ℕ) → list_at m other ≡ base ++ cond (cell_holds other (take i cell)) (location ∷ []) []
-    → list_at n other ≡ base ++ cond (cell_holds other (take (i + 1) cell)) (location ∷ []) []
+abbrev pub AddsOnce : List (List ℕ) → ℕ → ℕ → Entries → Entries → Type 0
+AddsOnce cell i location es fs =
+    (base other : List ℕ) → list_in es other ≡ base ++ cond (cell_holds other (take i cell)) (location ∷ []) []
+    → list_in fs other ≡ base ++ cond (cell_holds other (take (i + 1) cell)) (location ∷ []) []

@@ -3,24 +3,26 @@ ghost use Rattle.std.specs.Prelude.{◌≡◌, IfOk};
 ghost use Rattle.alta_content.specs.Spans.{SpansRise, lists_outside};
 ghost use Rattle.alta_memlevel.specs.Lists.{term_lists};
 
-use crate::lists::Lists;
+use crate::lists::{Lists, list_of};
+use crate::terms::terms_in_order;
 use alta_content::{Span, TermLists, put_locations};
 use std::alloc::{AllocError, Global};
 
-/// The terms that have a location outside of the spans, each with these locations. Each list is copied.
+/// The terms that have a location outside of the spans, in collating order, each with these locations. Each list is copied.
 pub fn copy_lists(alloc: Global, lists: &Lists, spans: &[Span]) -> Result<TermLists, AllocError>
     requires { SpansRise spans.now }
     ensures { IfOk result (λ kept. kept ≡ lists_outside spans.now (term_lists lists.now.entries)) }
 {
+    let terms = terms_in_order(alloc, lists, b"")?;
     let mut kept = TermLists::new(alloc);
     let mut locations = Vec::new(alloc);
-    for (term, list) in lists {
+    for term in &terms {
         locations.clear();
-        put_locations(&mut locations, list.as_slice(), spans)?;
+        put_locations(&mut locations, list_of(lists, *term), spans)?;
         if locations.is_empty() {
             continue;
         }
-        kept.put(term.as_slice(), &locations)?;
+        kept.put(*term, &locations)?;
     }
     Ok(kept)
 }

@@ -12,13 +12,14 @@ ghost use Rattle.alta_memlevel.specs.Added.{Added, HasContent, live_of};
 ghost use Rattle.alta_rows.specs.All.{rows_of_levels, shared_rows};
 
 use crate::copying::copy_lists;
-use crate::lists::{Lists, put_cells, terms_from};
+use crate::lists::{Lists, list_of, put_cells};
+use crate::terms::terms_from;
 use alta_codec::{Bytes, Loc};
 use alta_content::{Content, DocRow, DocRows, LevelRows, keep_rows, spans_of};
 use alta_meta::Cell;
 use alta_rows::{AllRows, RowRuns};
 use std::alloc::{AllocError, Global};
-use std::collections::BTreeMap;
+use std::collections::HashMap;
 use std::marker::Model;
 use std::rc::Rc;
 
@@ -42,7 +43,7 @@ impl Model for MemLevel {
 
     ghost view = { λ m. record { sound = m.whole; content = record { documents = m.rows; lists = term_lists m.lists.entries } } };
 
-    ghost invariant = { λ m. IsTrue m.whole → IsIndex m.lists × RowsRise m.rows };
+    ghost invariant = { λ m. IsTrue m.whole → IsIndex m.lists.entries × RowsRise m.rows };
 }
 
 impl MemLevel {
@@ -55,7 +56,7 @@ impl MemLevel {
     {
         MemLevel {
             rows: RowRuns::new(alloc),
-            lists: BTreeMap::new(alloc),
+            lists: HashMap::new(alloc),
             whole: true,
             alloc,
         }
@@ -121,20 +122,16 @@ impl MemLevel {
     }
 
     /// The locations of a term, rising, without a copy: none where no cell holds it.
-    #[tactic(auto, using(crate::proofs::Keyed::located, crate::proofs::Keyed::not_located))]
     pub fn get(&self, term: &[u8]) -> &[Loc]
         requires { IsTrue self.now.sound }
         ensures value { result.now ≡ locations_of self.now.content.lists term.now }
         ensures rising { (added : List Added) → HasContent added self.now.content → IsRising result.now }
     {
-        match self.lists.get(term) {
-            Some(list) => list.as_slice(),
-            None => &[],
-        }
+        list_of(&self.lists, term)
     }
 
-    /// The terms that begin so, in collating order. Only these, and the one behind them, are visited. Where memory
-    /// is wanting, the level stays sound.
+    /// The terms that begin so, in collating order. All terms are visited, and these sorted. Where memory is wanting, the level
+    /// stays sound.
     #[tactic(auto, using(crate::proofs::Contents::terms_of_term_lists))]
     pub fn prefixed(&self, prefix: &[u8]) -> Result<Vec<Bytes>, AllocError>
         requires { IsTrue self.now.sound }
@@ -146,8 +143,8 @@ impl MemLevel {
     }
 
     /// Takes the content out without the documents whose end is deleted, and leaves a level of no documents. The ends
-    /// may stand in any order, and may be ends of no document. A term that no other document has is left out. Rows and
-    /// lists are copied before the level lets them go. Where memory is wanting, the level stays as it was.
+    /// may stand in any order, and may be ends of no document. A term that no other document has is left out. The terms are
+    /// sorted, and rows and lists are copied, before the level lets them go. Where memory is wanting, the level stays as it was.
     #[tactic(auto, using(crate::proofs::Contents::content_empty))]
     pub fn drain_content(&mut self, deleted: &[Loc]) -> Result<Content, AllocError>
         requires { IsTrue self.old.sound }
@@ -161,7 +158,7 @@ impl MemLevel {
         let mut rows = self.rows.copy()?;
         let spans = spans_of(self.alloc, &rows, deleted)?;
         let lists = copy_lists(self.alloc, &self.lists, &spans)?;
-        self.lists = BTreeMap::new(self.alloc);
+        self.lists = HashMap::new(self.alloc);
         self.rows = RowRuns::new(self.alloc);
         keep_rows(&mut rows, &spans);
         Ok(Content {

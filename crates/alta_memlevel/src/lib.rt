@@ -5,6 +5,7 @@ mod copying;
 mod laws;
 mod level;
 mod lists;
+mod terms;
 
 pub use laws::drained_documents_are_kept;
 pub use level::MemLevel;

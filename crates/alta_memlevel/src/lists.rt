@@ -1,28 +1,35 @@
-// The terms in collating order, each with its rising locations.
-ghost use Rattle.std.specs.Prelude.{◌≡◌, List, ℕ, ◌+◌, ◌<◌, ◌≤◌, ◌++◌, ◌∷◌, [], cond, length, take, slice_index_or, nat_eq, IfOk, OnOk};
-ghost use Rattle.std.specs.List.{filter, starts_with};
-ghost use Rattle.std.specs.List.Sorted.{IsStrictlySortedBy};
-ghost use Rattle.std.specs.Ordering.{nat_cmp};
-ghost use Rattle.std.specs.Cmp.Lexicographic.{slice_cmp};
+// The terms, each with its rising locations, found by a hash of their bytes.
+ghost use Rattle.std.specs.Prelude.{◌≡◌, List, ℕ, ◌+◌, ◌<◌, ◌≤◌, ◌++◌, ◌∷◌, [], cond, length, take, slice_index_or, OnOk};
 ghost use Rattle.std.specs.Str.{bytes_eq};
 ghost use Rattle.alta_codec.specs.declared.location.TheConstants.{TOP};
 ghost use Rattle.alta_meta.specs.Cells.{cell_holds};
 ghost use Rattle.alta_memlevel.specs.Added.{places_of};
-ghost use Rattle.alta_memlevel.specs.Lists.{keys_in, list_at, IsIndex, AddsOnce};
+ghost use Rattle.alta_memlevel.specs.Lists.{list_in, IsIndex, AddsOnce};
 
-use alta_codec::{Bytes, Loc};
+use alta_codec::Loc;
 use alta_meta::Cell;
 use std::alloc::{AllocError, Global};
-use std::collections::BTreeMap;
+use std::collections::HashMap;
 
 /// The locations of each term that has one.
-pub type Lists = BTreeMap<Vec<u8>, Vec<Loc>>;
+pub type Lists = HashMap<Vec<u8>, Vec<Loc>>;
+
+/// The locations of a term: none where it has none.
+#[tactic(auto, using(crate::proofs::Keyed::found_list, crate::proofs::Keyed::no_list))]
+pub fn list_of<'a>(lists: &'a Lists, term: &[u8]) -> &'a [Loc]
+    ensures { result.now ≡ list_in lists.now.entries term.now }
+{
+    match lists.get(term) {
+        Some(list) => list.as_slice(),
+        None => &[],
+    }
+}
 
 /// Adds a location at the end of the term's.
 pub fn put(alloc: Global, lists: &mut Lists, term: &[u8], location: Loc) -> Result<(), AllocError>
-    requires { IsIndex lists.old }
-    ensures index { OnOk result (IsIndex lists.new) }
-    ensures added { OnOk result ((other : List ℕ) → list_at lists.new other ≡ list_at lists.old other ++ (cond (bytes_eq term.now other) (location ∷ []) [])) }
+    requires { IsIndex lists.old.entries }
+    ensures index { OnOk result (IsIndex lists.new.entries) }
+    ensures added { OnOk result ((other : List ℕ) → list_in lists.new.entries other ≡ list_in lists.old.entries other ++ (cond (bytes_eq term.now other) (location ∷ []) [])) }
 {
     if let Some(list) = lists.get_mut(term) {
         list.push(location)?;
@@ -33,10 +40,10 @@ pub fn put(alloc: Global, lists: &mut Lists, term: &[u8], location: Loc) -> Resu
 
 /// Adds a term that is not among them, with its first location.
 fn put_first(alloc: Global, lists: &mut Lists, term: &[u8], location: Loc) -> Result<(), AllocError>
-    requires index { IsIndex lists.old }
-    requires new { list_at lists.old term.now ≡ [] }
-    ensures index { OnOk result (IsIndex lists.new) }
-    ensures added { OnOk result ((other : List ℕ) → list_at lists.new other ≡ list_at lists.old other ++ (cond (bytes_eq term.now other) (location ∷ []) [])) }
+    requires index { IsIndex lists.old.entries }
+    requires new { list_in lists.old.entries term.now ≡ [] }
+    ensures index { OnOk result (IsIndex lists.new.entries) }
+    ensures added { OnOk result ((other : List ℕ) → list_in lists.new.entries other ≡ list_in lists.old.entries other ++ (cond (bytes_eq term.now other) (location ∷ []) [])) }
 {
     let key = Vec::from_slice(alloc, term)?;
     let list = vec![in alloc; location]?;
@@ -69,9 +76,9 @@ fn holds_before(cell: &Cell, end: usize, term: &[u8]) -> bool
 
 /// Adds a location to each term of the cell, once.
 fn put_cell(alloc: Global, lists: &mut Lists, cell: &Cell, location: Loc) -> Result<(), AllocError>
-    requires { IsIndex lists.old }
-    ensures index { OnOk result (IsIndex lists.new) }
-    ensures added { OnOk result ((other : List ℕ) → list_at lists.new other ≡ list_at lists.old other ++ (cond (cell_holds other cell.now) (location ∷ []) [])) }
+    requires { IsIndex lists.old.entries }
+    ensures index { OnOk result (IsIndex lists.new.entries) }
+    ensures added { OnOk result ((other : List ℕ) → list_in lists.new.entries other ≡ list_in lists.old.entries other ++ (cond (cell_holds other cell.now) (location ∷ []) [])) }
 {
     for i in 0..cell.len() {
         put_once(alloc, lists, cell, i, location)?;
@@ -88,9 +95,9 @@ fn put_once(
     location: Loc,
 ) -> Result<(), AllocError>
     requires within { i < length cell.now }
-    requires index { IsIndex lists.old }
-    ensures index { OnOk result (IsIndex lists.new) }
-    ensures added { OnOk result (AddsOnce cell.now i location lists.old lists.new) }
+    requires index { IsIndex lists.old.entries }
+    ensures index { OnOk result (IsIndex lists.new.entries) }
+    ensures added { OnOk result (AddsOnce cell.now i location lists.old.entries lists.new.entries) }
 {
     let Some(term) = cell.get(i) else {
         return Ok(());
@@ -109,10 +116,10 @@ pub fn put_cells(
     first: Loc,
     cells: &[Cell],
 ) -> Result<(), AllocError>
-    requires index { IsIndex lists.old }
+    requires index { IsIndex lists.old.entries }
     requires below { first + length cells.now < TOP + 1 }
-    ensures index { OnOk result (IsIndex lists.new) }
-    ensures added { OnOk result ((other : List ℕ) → list_at lists.new other ≡ list_at lists.old other ++ places_of first other cells.now) }
+    ensures index { OnOk result (IsIndex lists.new.entries) }
+    ensures added { OnOk result ((other : List ℕ) → list_in lists.new.entries other ≡ list_in lists.old.entries other ++ places_of first other cells.now) }
 {
     let mut location = first;
     for cell in cells {
@@ -120,21 +127,4 @@ pub fn put_cells(
         location += 1;
     }
     Ok(())
-}
-
-/// The terms that begin so, in order.
-pub fn terms_from(alloc: Global, lists: &Lists, prefix: &[u8]) -> Result<Vec<Bytes>, AllocError>
-    ensures terms { IfOk result (λ found. found.items ≡ filter (λ t. starts_with nat_eq t prefix.now) (keys_in lists.now.entries)) }
-    ensures rising { IfOk result (λ found. IsStrictlySortedBy (slice_cmp nat_cmp) found.items) }
-{
-    let from = Vec::from_slice(alloc, prefix)?;
-    let mut found = Vec::new(alloc);
-    for (term, _) in lists.range(from..) {
-        if !term.as_slice().starts_with(prefix) {
-            break;
-        }
-        let bytes = Vec::from_slice(alloc, term.as_slice())?;
-        found.push(Bytes::from_vec(bytes))?;
-    }
-    Ok(found)
 }

@@ -2,7 +2,7 @@ use Rattle.std.proofs.Common.{◌≡◌, ◌++◌, ◌∷◌, [], ◌+◌, take,
 use Rattle.std.proofs.lemmas.List.{get_or_default}
 use Rattle.alta_meta.specs.Cells.{cell_holds}
 use Rattle.alta_memlevel.specs.Added.{places_of}
-use Rattle.alta_memlevel.specs.Lists.{list_at}
+use Rattle.alta_memlevel.specs.Lists.{list_in}
 use Rattle.alta_memlevel.proofs.Keyed.{places_of-more}
 use Rattle.alta_memlevel.proofs.lists.put_cells.Goals as goal
 
@@ -21,6 +21,6 @@ loop-cell-preserved c =
           let x = cond (cell_holds other c.cell-item.result) (c.loop-cell.location ∷ []) [] in
           c.in_ok-put_cell.ensures.added other
           ∙ ap (λ l. l ++ x) (c.loop-cell.invariant.2 other)
-          ∙ append_assoc (list_at c.args.lists.now other) (places_of c.args.first other (take i c.args.cells.now)) x
-          ∙ ap (λ l. list_at c.args.lists.now other ++ l) (sym more),
+          ∙ append_assoc (list_in c.args.lists.now.entries other) (places_of c.args.first other (take i c.args.cells.now)) x
+          ∙ ap (λ l. list_in c.args.lists.now.entries other ++ l) (sym more),
     )

@@ -1,12 +1,8 @@
 use Rattle.std.proofs.Common.{◌≡◌, ◌∷◌, [], ◌++◌, ◌<◌, sym, ap, subst, ◌∙◌, IsTrue}
-use Rattle.std.specs.Cmp.Lexicographic.{slice_cmp}
 use Rattle.std.specs.List.{All}
-use Rattle.std.specs.List.Sorted.{IsStrictlySortedBy}
-use Rattle.std.specs.Ordering.{nat_cmp}
 use Rattle.alta_content.specs.Rows.{RowsRise, end_of}
 use Rattle.alta_content.specs.declared.content.Content.{Content}
-use Rattle.alta_memlevel.proofs.Contents.{locations_of-term_lists, terms_of_term_lists, some-term_lists, content-push}
-use Rattle.alta_memlevel.proofs.Prefixes.{terms_rise}
+use Rattle.alta_memlevel.proofs.Contents.{locations_of-term_lists, some-term_lists, terms_rise, content-push}
 use Rattle.alta_memlevel.proofs.Ends.{ends_rise}
 use Rattle.alta_memlevel.specs.Added.{Added, places_of, HasContent}
 use Rattle.alta_memlevel.specs.Lists.{term_lists}
@@ -28,7 +24,7 @@ returns-clause-added c =
     (λ t. locations_of-term_lists c.put_cells.new.lists.entries t ∙ c.in_ok-put_cells.ensures.added t
     ∙ ap (λ l. l ++ places_of c.args.row.first t c.args.cells.now) (sym (locations_of-term_lists c.self.inside.lists.entries t)))
     (some-term_lists c.put_cells.new.lists.entries c.in_ok-put_cells.ensures.index.none_empty)
-    (subst (λ ts. IsStrictlySortedBy (slice_cmp nat_cmp) ts) (sym (terms_of_term_lists c.put_cells.new.lists.entries)) (terms_rise c.put_cells.new.lists.entries c.in_ok-put_cells.ensures.index.ordered))
+    (terms_rise c.put_cells.new.lists.entries)
 
 pub push-requires : goal.push-requires
 push-requires c =
