@@ -1,10 +1,10 @@
 -- What a catalog keeps, as documents come and go.
 use Rattle.std.proofs.Common.{◌≡◌, ◌⊎◌, ⊎_elim, ℕ, ◌+◌, ◌-◌, ◌<◌, ◌≤◌, true, false, IsTrue, Global, List, [], ◌∷◌, ◌++◌, length, get_or, map, append_assoc, not, refl, sym, ◌∙◌, ap, subst, arith, length-append}
-use Rattle.std.specs.Prelude.{◌==◌, ◌↔◌, Contains, IsUtf8, IfSome, Option, Some, None, String, Vec}
+use Rattle.std.specs.Prelude.{◌==◌, ◌↔◌, Contains, IsUtf8, IfSome, Option, Some, None, Vec}
 use Rattle.std.specs.List.{All, filter, sum_by}
 use Rattle.std.specs.Map.{update}
 use Rattle.std.specs.Str.{bytes_eq}
-use Rattle.std.specs.BTreeMap.{BTreeMap, get_by_text}
+use Rattle.std.specs.HashMap.{get_by_text}
 use Rattle.std.proofs.lemmas.Bool.{false≢true}
 use Rattle.std.proofs.lemmas.List.{map-append}
 use Rattle.std.proofs.lemmas.List.Elements.{All-push, All-map, All-contains, Contains-append_left, Contains-get_or}
@@ -21,6 +21,7 @@ use Rattle.alta_meta.specs.Cells.{cells_of}
 use Rattle.alta_meta.specs.declared.document.Document.{Document}
 use Rattle.alta_meta.specs.declared.document.State.{State}
 use Rattle.alta_catalog.specs.Knowing.{AreFound, AreNumbered, AreParts, Knows, KnowsBy, Notes, documents_of}
+use Rattle.alta_catalog.specs.Names.{NameMap}
 use Rattle.alta_catalog.specs.Rows.{AreRowsOf, documents_left}
 use Rattle.alta_catalog.specs.Finding.{AreOther, FollowOn}
 use Rattle.alta_images.specs.Opened.{table_rows}
@@ -75,7 +76,7 @@ parts_are c s f = record {
 }
 
 -- each document is found by its name
-found_by : (known : BTreeMap (String Global) ℕ) (ds : List Document) (d : Document) → AreFound known ds → Contains ds d → get_by_text known d.name ≡ Some d.number
+found_by : (known : NameMap) (ds : List Document) (d : Document) → AreFound known ds → Contains ds d → get_by_text known d.name ≡ Some d.number
 found_by known [] d found has = absurd (no_member d has)
 found_by known (e ∷ ds) d found has =
     ⊎_elim (λ (same : e ≡ d). subst (λ (x : Document). get_by_text known x.name ≡ Some x.number) same found.0)

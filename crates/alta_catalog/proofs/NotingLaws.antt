@@ -1,25 +1,36 @@
 -- What the store notes of a state, as documents come and go.
-use Rattle.std.proofs.Common.{◌≡◌, ℕ, ◌+◌, Bool, true, false, cond, not, Global, List, [], ◌∷◌, ◌++◌, sym, ◌∙◌, ap, subst}
-use Rattle.std.specs.Prelude.{◌||◌, ◌==◌, Some, None, String, is_some}
+use Rattle.std.proofs.Common.{◌≡◌, ℕ, ◌+◌, Bool, true, false, cond, not, List, [], ◌∷◌, ◌++◌, refl, sym, ◌∙◌, ap, subst}
+use Rattle.std.specs.Prelude.{◌||◌, ◌==◌, Option, Some, None, is_some}
 use Rattle.std.specs.List.{filter}
 use Rattle.std.specs.Map.{update}
 use Rattle.std.specs.Str.{bytes_eq}
-use Rattle.std.specs.BTreeMap.{BTreeMap, get_by_text}
+use Rattle.std.specs.HashMap.{get_by_text}
 use Rattle.alta_meta.specs.Cells.{cells_of}
 use Rattle.alta_meta.specs.declared.document.Document.{Document}
 use Rattle.alta_meta.specs.declared.document.State.{State}
 use Rattle.alta_catalog.specs.Knowing.{AreFound, Notes}
+use Rattle.alta_catalog.specs.Names.{NameMap}
 use Rattle.alta_images.specs.States.{has_name, has_number, number_of, with_added, with_deleted, without}
 use Rattle.alta_images.proofs.Tests.{by_test, bytes_from}
 use Rattle.alta_catalog.proofs.DocumentLaws.{found_left, found_more, name_gone, name_stays, number_found, numbered_as, same_left}
-use Rattle.alta_images.proofs.NameLaws.{has_name-with_added, is_some-noted}
+use Rattle.alta_images.proofs.NameLaws.{bytes_eq-swap, has_name-with_added}
 use Rattle.alta_images.specs.Known.{known_of}
 use Rattle.alta_images.specs.Ordered.{IsOrdered}
 use Rattle.alta_images.proofs.KnownLaws.{ordered_deleted}
 
-module _ (number : ℕ) (old : BTreeMap (String Global) ℕ) (kept : List Document) (s : State) (notes : Notes number old kept s) where
+some_noted : (b : Bool) (v : ℕ) (o : Option ℕ) → is_some (cond b (Some v) o) ≡ (b || is_some o)
+some_noted true v o = refl
+some_noted false v o = refl
+
+-- a name that is noted is found, and so is each that was
+found_noted : (old new : NameMap) (key : List ℕ) (v : ℕ) → ((q : List ℕ) → get_by_text new q ≡ update bytes_eq (get_by_text old) key (Some v) q)
+    → (q : List ℕ) → is_some (get_by_text new q) ≡ (bytes_eq q key || is_some (get_by_text old q))
+found_noted old new key v noted q =
+    ap is_some (noted q) ∙ some_noted (bytes_eq key q) v (get_by_text old q) ∙ ap (λ (b : Bool). b || is_some (get_by_text old q)) (bytes_eq-swap key q)
+
+module _ (number : ℕ) (old : NameMap) (kept : List Document) (s : State) (notes : Notes number old kept s) where
   -- a document more
-  pub notes_added : (new : BTreeMap (String Global) ℕ) (name title body : List ℕ) → is_some (get_by_text old name) ≡ false
+  pub notes_added : (new : NameMap) (name title body : List ℕ) → is_some (get_by_text old name) ≡ false
       → ((q : List ℕ) → get_by_text new q ≡ update bytes_eq (get_by_text old) name (Some number) q)
       → (d : Document) → d ≡ record { number = number; name = name; cells = cells_of name title body } → IsOrdered (known_of (with_added name title body s)) → Notes (number + 1) new (kept ++ d ∷ []) (with_added name title body s)
   notes_added new name title body free noted d is ordered =
@@ -27,7 +38,7 @@ module _ (number : ℕ) (old : BTreeMap (String Global) ℕ) (kept : List Docume
       record {
         next = ap (λ (n : ℕ). n + 1) notes.next;
         documents = ap (λ (ds : List Document). ds ++ d ∷ []) notes.documents ∙ ap (λ (c : Document). s.documents ++ c ∷ []) (is ∙ ap made notes.next);
-        names = λ q. is_some-noted old new name number noted q ∙ ap (λ (known : Bool). bytes_eq q name || known) (notes.names q) ∙ sym (has_name-with_added q name title body s);
+        names = λ q. found_noted old new name number noted q ∙ ap (λ (known : Bool). bytes_eq q name || known) (notes.names q) ∙ sym (has_name-with_added q name title body s);
         numbers = found_more old new s.documents (made s.next) (subst (λ (n : ℕ). (q : List ℕ) → get_by_text new q ≡ update bytes_eq (get_by_text old) name (Some n) q) notes.next noted) free notes.numbers;
         ordered = ordered;
       }
@@ -50,7 +61,7 @@ module _ (number : ℕ) (old : BTreeMap (String Global) ℕ) (kept : List Docume
   deleted_is q n is = ap (λ (ds : List Document). record { next = s.next; documents = ds }) (sym (documents_left q n is))
 
   -- a document less
-  pub notes_deleted : (new : BTreeMap (String Global) ℕ) (q : List ℕ) (n : ℕ) → get_by_text old q ≡ Some n
+  pub notes_deleted : (new : NameMap) (q : List ℕ) (n : ℕ) → get_by_text old q ≡ Some n
       → ((x : List ℕ) → get_by_text new x ≡ update bytes_eq (get_by_text old) q None x)
       → (rest : List Document) → rest ≡ filter (λ (d : Document). not (d.number == n)) kept → Notes number new rest (without n s)
   notes_deleted new q n is forgot rest rest_is =
@@ -66,7 +77,7 @@ module _ (number : ℕ) (old : BTreeMap (String Global) ℕ) (kept : List Docume
         ordered = subst (λ (t : State). IsOrdered (known_of t)) (sym (deleted_is q n is)) (ordered_deleted s q notes.ordered);
       }
 
-  pub notes_more : (new : BTreeMap (String Global) ℕ) (name title body : List ℕ) → is_some (get_by_text old name) ≡ false
+  pub notes_more : (new : NameMap) (name title body : List ℕ) → is_some (get_by_text old name) ≡ false
       → ((q : List ℕ) → get_by_text new q ≡ update bytes_eq (get_by_text old) name (Some number) q)
       → (d : Document) → d ≡ record { number = number; name = name; cells = cells_of name title body } → IsOrdered (known_of (with_added name title body s)) → (all : List Document) → all ≡ kept ++ d ∷ [] → Notes (number + 1) new all (with_added name title body s)
   notes_more new name title body free noted d is ordered all all_is = subst (λ (ds : List Document). Notes (number + 1) new ds (with_added name title body s)) (sym all_is) (notes_added new name title body free noted d is ordered)

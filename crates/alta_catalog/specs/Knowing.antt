@@ -1,8 +1,7 @@
 -- What a catalog knows of a state.
-use Rattle.std.proofs.Common.{Global}
-use Rattle.std.specs.Prelude.{◌≡◌, ℕ, ◌+◌, ◌-◌, ◌*◌, ◌≤◌, IsTrue, Contains, List, [], ◌∷◌, ◌++◌, String, is_some, Some, length}
+use Rattle.std.specs.Prelude.{◌≡◌, ℕ, ◌+◌, ◌-◌, ◌*◌, ◌≤◌, IsTrue, Contains, List, [], ◌∷◌, ◌++◌, is_some, Some, length}
 use Rattle.std.specs.List.{All, sum_by}
-use Rattle.std.specs.BTreeMap.{BTreeMap, get_by_text}
+use Rattle.std.specs.HashMap.{get_by_text}
 use Rattle.alta_codec.specs.Rising.{IsRising}
 use Rattle.alta_content.specs.Rows.{end_of}
 use Rattle.alta_content.specs.declared.document.DocRow.{DocRow}
@@ -15,6 +14,7 @@ use Rattle.alta_images.specs.States.{has_name, words_in}
 use Rattle.alta_images.specs.Work.{added_from}
 use Rattle.alta_journal.specs.declared.entry.Entry.{Entry}
 use Rattle.alta_root.specs.declared.root.Root.{Root}
+use Rattle.alta_catalog.specs.Names.{NameMap}
 use Rattle.alta_catalog.specs.Rows.{AreRowsOf, documents_left}
 use Rattle.alta_catalog.specs.declared.catalog.Catalog.{Catalog}
 use Rattle.alta_table.specs.Tables.{Tables}
@@ -24,12 +24,12 @@ use Rattle.alta_images.specs.Ordered.{IsOrdered}
 -- ---- names and numbers
 
 -- each document's number is found by its name
-abbrev pub AreFound : BTreeMap (String Global) ℕ → List Document → Type 0
+abbrev pub AreFound : NameMap → List Document → Type 0
 AreFound known [] = Unit {0}
 AreFound known (document ∷ documents) = (get_by_text known document.name ≡ Some document.number) × AreFound known documents
 
 -- This is the next number of the state, these are its documents, and these are their names; their numbers rise.
-pub record Notes (number : ℕ) (known : BTreeMap (String Global) ℕ) (kept : List Document) (s : State) : Type 0 where
+pub record Notes (number : ℕ) (known : NameMap) (kept : List Document) (s : State) : Type 0 where
   pub next : number ≡ s.next
   pub documents : kept ≡ s.documents
   pub names : (name : List ℕ) → is_some (get_by_text known name) ≡ has_name name s

@@ -1,9 +1,12 @@
 -- The names of live documents: as a map, and as a list in order.
-use Rattle.std.proofs.Common.{Global}
+use Rattle.std.proofs.Common.{BuildHasherDefault, FoldHasher, Global}
 use Rattle.std.specs.Prelude.{◌≡◌, ◌↔◌, ℕ, if◌then◌else◌, List, [], ◌∷◌, map, Contains, String, string_bytes, Option, Some, None}
-use Rattle.std.specs.BTreeMap.{BTreeMap, get_by_text}
+use Rattle.std.specs.Cmp.Lexicographic.{slice_cmp}
+use Rattle.std.specs.HashMap.{HashMap, get_by_text}
 use Rattle.std.specs.List.{All}
+use Rattle.std.specs.Ordering.{nat_cmp}
 use Rattle.std.specs.Str.{bytes_eq}
+use Rattle.std.specs.declared.cmp.Ordering.{Ordering}
 use Rattle.alta_catalog.specs.declared.lists.NameRow.{NameRow}
 use Rattle.alta_codec.specs.Order.{Precedes}
 use Rattle.alta_images.specs.Known.{Named}
@@ -17,8 +20,12 @@ abbrev pub number_of : List ℕ → List Named → Option ℕ
 number_of name [] = None
 number_of name (row ∷ rows) = if bytes_eq name row.name then Some row.number else number_of name rows
 
+-- numbers by their names
+abbrev pub NameMap : Type 0
+NameMap = HashMap (String Global) ℕ (BuildHasherDefault FoldHasher)
+
 -- The map has the names of these, each with its number, and no other name.
-abbrev pub AreNames : BTreeMap (String Global) ℕ → List Named → Type 0
+abbrev pub AreNames : NameMap → List Named → Type 0
 AreNames names live = (name : List ℕ) → get_by_text names name ≡ number_of name live
 
 -- ---- a list
@@ -32,6 +39,10 @@ Ascend (name ∷ names) = All (Precedes name) names × Ascend names
 pub record AreNamesOf (s : State) (rows : List NameRow) : Type 0 where
   pub ascending : Ascend (map (λ (row : NameRow). row.name) rows)
   pub live : (name : List ℕ) (number : ℕ) → Contains rows (record { name = name; number = number }) ↔ (number_in name s ≡ Some number)
+
+-- rows by their names, in the order of bytes
+abbrev pub by_name : NameRow → NameRow → Ordering
+by_name a b = slice_cmp nat_cmp a.name b.name
 
 -- the row of a name as it is kept
 abbrev pub row_of : String Global × ℕ → NameRow

@@ -1,5 +1,4 @@
 // What is known of all live documents.
-ghost use Rattle.std.specs.BTreeMap.{BTreeMap};
 ghost use Rattle.std.specs.List.{sum_by};
 ghost use Rattle.std.specs.Prelude.{◌≡◌, ◌↔◌, ◌++◌, ◌∷◌, [], ◌+◌, ◌-◌, ◌*◌, ◌<◌, ◌≤◌, ℕ, List, true, false, length, IsTrue, IfOk, IfSome, IfNone, OnOk};
 ghost use Rattle.alta_codec.specs.Name.{IsName};
@@ -36,7 +35,7 @@ use alta_root::{LAST_NEXT, Root};
 use alta_rows::AllRows;
 use alta_table::Table;
 use std::alloc::{AllocError, Global};
-use std::collections::BTreeMap;
+use std::collections::HashMap;
 use std::mem;
 
 // The cells of a document that are no words: its name's, its title's end, and its own end.
@@ -55,7 +54,7 @@ pub struct Catalog {
     // How many live documents there are, and how many words they have.
     count: u64,
     words: u64,
-    names: BTreeMap<String, u64>,
+    names: HashMap<String, u64>,
     levels: Vec<Table>,
     memory: MemLevel,
     gone: Deletions,
@@ -71,7 +70,7 @@ impl Catalog {
         root: &Root,
         levels: Vec<Table>,
         deleted: &[Loc],
-        names: BTreeMap<String, u64>,
+        names: HashMap<String, u64>,
     ) -> Result<Catalog, AllocError>
         requires sound { (size : ℕ) × IsSound size root.now }
         requires rows { AreDocuments (table_rows levels.items) }
@@ -161,8 +160,8 @@ impl Catalog {
         self.names.get(name).copied()
     }
 
-    /// The names of the live documents with their numbers, in the order of bytes, each once. One pass over the names, which
-    /// are kept in this order: a copy of each, and no comparison.
+    /// The names of the live documents with their numbers, in the order of bytes, each once. They are kept by their hashes and so in no
+    /// order: one pass over them, a copy of each, and then a sort of the copies.
     ///
     /// # Errors
     ///

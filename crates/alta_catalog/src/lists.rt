@@ -1,6 +1,8 @@
 // Names with numbers, which contracts see as the list of their rows.
 ghost use Rattle.std.specs.Prelude.{◌≡◌, ◌∷◌, ◌++◌, [], length, slice_get, OnOk, OnErr};
+ghost use Rattle.std.specs.List.Sorted.{IsPermutation, IsSorted};
 ghost use Rattle.std.specs.Option.{option_copied};
+ghost use Rattle.alta_catalog.specs.Names.{by_name};
 
 use alta_codec::{DocNumber, Text};
 use std::alloc::{AllocError, Global};
@@ -47,6 +49,15 @@ impl Names {
     {
         self.items.push(item)?;
         Ok(())
+    }
+
+    /// Sorts the rows by their names, in the order of bytes.
+    pub(crate) fn sort(&mut self)
+        ensures same { IsPermutation self.old self.new }
+        ensures sorted { IsSorted by_name self.new }
+    {
+        self.items
+            .sort_unstable_by(|a, b| a.name.as_str().cmp(b.name.as_str()));
     }
 
     /// How many rows there are.

@@ -1,20 +1,21 @@
 // The numbers of live documents by their names.
-ghost use Rattle.std.specs.BTreeMap.{IsOrdered, get_by_text};
+ghost use Rattle.std.specs.HashMap.{IsUnique, get_by_text};
+ghost use Rattle.std.specs.List.Sorted.{IsPermutation, IsSorted};
 ghost use Rattle.std.specs.Map.{update};
 ghost use Rattle.std.specs.Prelude.{◌≡◌, ℕ, List, Some, None, IfOk, OnOk, map};
 ghost use Rattle.std.specs.Str.{bytes_eq};
-ghost use Rattle.std.specs.String.{string_cmp};
-ghost use Rattle.alta_catalog.specs.Names.{row_of};
+ghost use Rattle.std.specs.String.{string_eq};
+ghost use Rattle.alta_catalog.specs.Names.{by_name, row_of};
 
 use crate::lists::{NameRow, Names};
 use alta_codec::Text;
 use std::alloc::{AllocError, Global};
-use std::collections::BTreeMap;
+use std::collections::HashMap;
 
 // Notes the name of a document.
 pub(crate) fn note(
     alloc: Global,
-    names: &mut BTreeMap<String, u64>,
+    names: &mut HashMap<String, u64>,
     name: &str,
     number: u64,
 ) -> Result<(), AllocError>
@@ -26,16 +27,27 @@ pub(crate) fn note(
 }
 
 // Forgets the name of a document.
-pub(crate) fn forget(names: &mut BTreeMap<String, u64>, name: &str)
+pub(crate) fn forget(names: &mut HashMap<String, u64>, name: &str)
     ensures { (q : List ℕ) → get_by_text names.new q ≡ update bytes_eq (get_by_text names.old) name.now None q }
 {
     names.remove(name);
 }
 
-// The names with their numbers, in the order of the map.
-pub(crate) fn rows_in(alloc: Global, names: &BTreeMap<String, u64>) -> Result<Names, AllocError>
+// The names with their numbers, in the order of bytes.
+pub(crate) fn rows_in(alloc: Global, names: &HashMap<String, u64>) -> Result<Names, AllocError>
+    ensures rows { IfOk result (IsPermutation (map row_of names.now.entries)) }
+    ensures sorted { IfOk result (IsSorted by_name) }
+    ensures unique { IsUnique string_eq names.now }
+{
+    let mut rows = copy_of(alloc, names)?;
+    rows.sort();
+    Ok(rows)
+}
+
+// A copy of the names with their numbers, in the order of the map.
+fn copy_of(alloc: Global, names: &HashMap<String, u64>) -> Result<Names, AllocError>
     ensures rows { IfOk result (λ rows. rows ≡ map row_of names.now.entries) }
-    ensures ordered { IsOrdered string_cmp names.now }
+    ensures unique { IsUnique string_eq names.now }
 {
     let mut rows = Names::new(alloc);
     for (name, number) in names {

@@ -1,9 +1,10 @@
 -- Names of live documents, as a list and as a map.
-use Rattle.std.proofs.Common.{◌≡◌, ℕ, suc, ◌+◌, ◌<◌, Bool, true, false, cond, Global, List, [], ◌∷◌, ◌++◌, length, take, drop, get_or, drop-cons, Option, refl, sym, ap, subst, ◌∙◌, Err, append_assoc, arith}
-use Rattle.std.specs.Prelude.{◌||◌, not, Some, None, String, is_some}
-use Rattle.std.specs.BTreeMap.{BTreeMap, get_by_text}
-use Rattle.std.specs.Map.{update}
+use Rattle.std.proofs.Common.{◌≡◌, inl, inr, ⊎_elim, ℕ, suc, ◌+◌, ◌<◌, Bool, true, false, cond, Global, List, [], ◌∷◌, ◌++◌, length, take, drop, get_or, drop-cons, Option, refl, sym, ap, subst, ◌∙◌, Err, append_assoc, arith}
+use Rattle.std.specs.Prelude.{◌||◌, ◌⊎◌, not, Some, None, String, is_some}
+use Rattle.std.specs.HashMap.{IsReordered, get_by_text}
+use Rattle.std.specs.Map.{lookup, update}
 use Rattle.std.specs.Str.{bytes_eq}
+use Rattle.std.specs.String.{string_bytes, string_eq}
 use Rattle.std.proofs.lemmas.Bool.{false≢true}
 use Rattle.std.proofs.lemmas.List.{append-nil, take_more}
 use Rattle.alta_content.specs.Rows.{ends_among}
@@ -15,7 +16,7 @@ use Rattle.alta_images.proofs.OrderLaws.{live_append, live_drop, live_keep}
 use Rattle.alta_images.proofs.Tests.{by_test, bytes_from}
 use Rattle.alta_table.specs.Places.{name_place}
 use Rattle.alta_table.specs.Tables.{Tables}
-use Rattle.alta_opening.specs.Names.{AreNames, may_join, number_of}
+use Rattle.alta_opening.specs.Names.{AreNames, NameMap, may_join, number_of}
 
 -- ---- a name among live documents
 
@@ -43,7 +44,7 @@ number_before name [] last differs = ap (λ (b : Bool). cond b (Some last.number
 number_before name (row ∷ rows) last differs = ap (λ (o : Option ℕ). cond (bytes_eq name row.name) (Some row.number) o) (number_before name rows last differs)
 
 -- a name that no live document has is noted
-pub noted : (m n : BTreeMap (String Global) ℕ) (live : List Named) (name : List ℕ) (number : ℕ) → AreNames m live → is_taken name live ≡ false
+pub noted : (m n : NameMap) (live : List Named) (name : List ℕ) (number : ℕ) → AreNames m live → is_taken name live ≡ false
     → ((q : List ℕ) → get_by_text n q ≡ update bytes_eq (get_by_text m) name (Some number) q) → AreNames n (live ++ named name number ∷ [])
 noted m n live name number are free updated q =
     by_test (bytes_eq name q)
@@ -56,6 +57,30 @@ noted m n live name number are free updated q =
     updated q ∙ ap (λ (b : Bool). cond b (Some number) (get_by_text m q)) differs ∙ are q
     ∙ sym (number_before q live (named name number) (bytes_eq-swap q name ∙ differs)))
 
+-- ---- a map in another order
+
+-- one of the keys has this text, or none is found by it
+text_in : (text : List ℕ) (es : List (String Global × ℕ)) → ((key : String Global) × (text ≡ string_bytes key)) ⊎ (lookup (λ (key : String Global). bytes_eq text (string_bytes key)) es ≡ None)
+text_in text [] = inr refl
+text_in text (e ∷ es) =
+    by_test (bytes_eq text (string_bytes e.0))
+    (λ same. inl (e.0, bytes_from text (string_bytes e.0) same))
+    (λ differs.
+    ⊎_elim (λ key. inl key)
+    (λ none. inr (ap (λ (b : Bool). cond b (Some e.1) (lookup (λ (key : String Global). bytes_eq text (string_bytes key)) es)) differs ∙ none))
+    (text_in text es))
+
+-- each name has the number of before
+same_found : (m n : NameMap) → IsReordered string_eq m n → (name : List ℕ) → get_by_text n name ≡ get_by_text m name
+same_found m n same name =
+    ⊎_elim by_key (λ none. ⊎_elim by_key (λ neither. neither ∙ sym none) (text_in name n.entries)) (text_in name m.entries)
+  where
+    by_key : (key : String Global) × (name ≡ string_bytes key) → get_by_text n name ≡ get_by_text m name
+    by_key (key, is) = ap (get_by_text n) is ∙ same.2 key ∙ ap (get_by_text m) (sym is)
+
+pub names_stay : (m n : NameMap) (live : List Named) → IsReordered string_eq m n → AreNames m live → AreNames n live
+names_stay m n live same are name = same_found m n same name ∙ are name
+
 -- ---- a row behind live documents
 
 pub joins_dead : (deleted : List ℕ) (live : List Named) (row : DocRow) → ends_among deleted row ≡ true → may_join deleted live row ≡ true
@@ -64,7 +89,7 @@ joins_dead deleted live row dead = ap (λ (b : Bool). b || not (is_taken row.nam
 pub joins_live : (deleted : List ℕ) (live : List Named) (row : DocRow) → ends_among deleted row ≡ false → may_join deleted live row ≡ not (is_taken row.name live)
 joins_live deleted live row lives = ap (λ (b : Bool). b || not (is_taken row.name live)) lives
 
-pub names_live : (m n : BTreeMap (String Global) ℕ) (deleted : List ℕ) (live : List Named) (row : DocRow) → ends_among deleted row ≡ false → AreNames m live → is_taken row.name live ≡ false
+pub names_live : (m n : NameMap) (deleted : List ℕ) (live : List Named) (row : DocRow) → ends_among deleted row ≡ false → AreNames m live → is_taken row.name live ≡ false
     → ((q : List ℕ) → get_by_text n q ≡ update bytes_eq (get_by_text m) row.name (Some row.number) q) → AreNames n (live ++ live_in deleted (row ∷ []))
 names_live m n deleted live row lives are free updated =
     subst (AreNames n) (sym (ap (λ (l : List Named). live ++ l) (live_keep deleted row [] lives))) (noted m n live row.name row.number are free updated)
@@ -122,14 +147,14 @@ live_more deleted rows i row inside is live =
     (sym (live_append deleted (take i rows) (row ∷ [])) ∙ ap (λ (r : DocRow). live_in deleted (take i rows ++ r ∷ [])) is ∙ ap (live_in deleted) (sym (take_more rows i row inside)))
 
 -- what is known of the names in front of a row
-abbrev pub IsNoted : List ℕ → Tables → BTreeMap (String Global) ℕ → List Named → ℕ → Type 0
+abbrev pub IsNoted : List ℕ → Tables → NameMap → List Named → ℕ → Type 0
 IsNoted deleted level names live i =
     (names_from deleted level live 0 level.documents ≡ names_from deleted level (live ++ live_in deleted (take i level.documents)) i (drop i level.documents))
     × AreNames names (live ++ live_in deleted (take i level.documents))
 
-module _ (deleted : List ℕ) (level : Tables) (names : BTreeMap (String Global) ℕ) (live : List Named) (i : ℕ) (row : DocRow) (inside : i < length level.documents) (is : row ≡ get_or level.documents i row)
+module _ (deleted : List ℕ) (level : Tables) (names : NameMap) (live : List Named) (i : ℕ) (row : DocRow) (inside : i < length level.documents) (is : row ≡ get_or level.documents i row)
     (so_far : IsNoted deleted level names live i) where
-  pub passed_row : (next : BTreeMap (String Global) ℕ) → may_join deleted (live ++ live_in deleted (take i level.documents)) row ≡ true
+  pub passed_row : (next : NameMap) → may_join deleted (live ++ live_in deleted (take i level.documents)) row ≡ true
       → AreNames next ((live ++ live_in deleted (take i level.documents)) ++ live_in deleted (row ∷ [])) → IsNoted deleted level next live (i + 1)
   passed_row next joins are = (
     so_far.0 ∙ ap (names_from deleted level (live ++ live_in deleted (take i level.documents)) i) (rows_from level.documents i row inside is)

@@ -22,14 +22,14 @@ use alta_disk::Disk;
 use alta_root::{LEVEL_BYTES, Root};
 use alta_table::Table;
 use std::alloc::Global;
-use std::collections::BTreeMap;
+use std::collections::HashMap;
 
 /// The levels that were opened so far, their last row, and the names of their live documents.
 #[derive(Drop)]
 pub(crate) struct Levels {
     pub(crate) levels: Vec<Table>,
     pub(crate) last: Last,
-    pub(crate) names: BTreeMap<String, u64>,
+    pub(crate) names: HashMap<String, u64>,
 }
 
 // No level.
@@ -40,7 +40,7 @@ fn no_levels(alloc: Global, root: &Root, deleted: &[Loc]) -> Levels
     Levels {
         levels: Vec::new(alloc),
         last: Last { number: 0, end: 0 },
-        names: BTreeMap::new(alloc),
+        names: HashMap::new(alloc),
     }
 }
 

@@ -1,5 +1,5 @@
 // The names of live documents.
-ghost use Rattle.std.specs.BTreeMap.{get_by_text};
+ghost use Rattle.std.specs.HashMap.{get_by_text};
 ghost use Rattle.std.specs.Map.{update};
 ghost use Rattle.std.specs.Prelude.{◌≡◌, ◌≢◌, ◌++◌, ◌∷◌, [], ℕ, List, not, true, Some, Ok, Err, IfOk, OnOk};
 ghost use Rattle.std.specs.Str.{bytes_eq};
@@ -15,7 +15,7 @@ use alta_codec::Loc;
 use alta_content::DocRow;
 use alta_table::Table;
 use std::alloc::{AllocError, Global};
-use std::collections::BTreeMap;
+use std::collections::HashMap;
 
 // Whether the row's document is deleted.
 fn is_deleted(deleted: &[Loc], row: &DocRow) -> bool
@@ -30,7 +30,7 @@ fn is_deleted(deleted: &[Loc], row: &DocRow) -> bool
 // Notes the name of a document, in place of one that has it, and answers whether there was one.
 fn note(
     alloc: Global,
-    names: &mut BTreeMap<String, u64>,
+    names: &mut HashMap<String, u64>,
     name: &str,
     number: u64,
 ) -> Result<bool, AllocError>
@@ -45,7 +45,7 @@ fn note(
 // Whether a row's document is deleted, or no live one before has its name. The name of one that is not deleted is noted.
 fn join(
     alloc: Global,
-    names: &mut BTreeMap<String, u64>,
+    names: &mut HashMap<String, u64>,
     deleted: &[Loc],
     row: &DocRow,
 ) -> Result<bool, AllocError>
@@ -61,11 +61,18 @@ fn join(
     Ok(!taken)
 }
 
-/// Notes the names of a level's live documents. A name that a live document before has is damage at its place. After an error
+// Makes room for so many names more.
+fn make_room(names: &mut HashMap<String, u64>, count: usize) -> Result<(), AllocError>
+    ensures { (live : List Named) → AreNames names.old live → AreNames names.new live }
+{
+    names.reserve(count)
+}
+
+/// Notes the names of a level's live documents, for all of whose rows room is made at once. A name that a live document before has is damage at its place. After an error
 /// some of the level's names are noted.
 pub(crate) fn note_names(
     alloc: Global,
-    names: &mut BTreeMap<String, u64>,
+    names: &mut HashMap<String, u64>,
     deleted: &[Loc],
     level: &Table,
 ) -> Result<(), OpeningFault>
@@ -76,6 +83,7 @@ pub(crate) fn note_names(
     ensures disk { result ≢ Err DiskFault }
 {
     let rows = level.documents();
+    make_room(names, rows.len())?;
     for (i, row) in rows.iter().enumerate() {
         if !join(alloc, names, deleted, row)? {
             return Err(OpeningFault::Damaged(level.name_place(i)));

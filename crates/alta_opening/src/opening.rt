@@ -23,7 +23,7 @@ use alta_disk::Disk;
 use alta_root::Root;
 use alta_table::Table;
 use std::alloc::Global;
-use std::collections::BTreeMap;
+use std::collections::HashMap;
 
 /// What a root names, opened: all but its journal.
 #[derive(Drop)]
@@ -33,7 +33,7 @@ pub struct OpenLevels {
     /// Head and tables of each level, the oldest first.
     pub levels: Vec<Table>,
     /// The numbers of the levels' live documents by their names.
-    pub names: BTreeMap<String, u64>,
+    pub names: HashMap<String, u64>,
 }
 
 /// Opens what the counting root names, in this order: the deletion list; of each level, the oldest first, its head and tables, its
@@ -41,8 +41,8 @@ pub struct OpenLevels {
 /// journal nor a stream or a summary is read, and nothing is written.
 ///
 /// The list is one call of the disk, and a level is two: 32 bytes, then its documents and terms. Each row is looked at in one walk beside
-/// the deleted ends, and once more to look its end up among them and to put a live name into the map, one search of it each; of the
-/// order, the first row and the last.
+/// the deleted ends, and once more to look its end up among them, by halves, and to put a live name into the map, by its hash; of the
+/// order, the first row and the last. Room for the names of a level is made at once.
 ///
 /// # Errors
 ///

@@ -61,7 +61,7 @@ use alta_root::{Root, Slot, read_roots};
 use alta_rows::AllRows;
 use alta_table::Table;
 use std::alloc::{AllocError, Global};
-use std::collections::BTreeMap;
+use std::collections::HashMap;
 
 // How many levels a root has at most.
 const LEVELS: usize = 16;
@@ -124,8 +124,8 @@ impl Store {
         self.catalog.counts()
     }
 
-    /// The names of the live documents with their numbers, in the order of bytes, each once. One pass over the names, which
-    /// are kept in this order: a copy of each, and no comparison.
+    /// The names of the live documents with their numbers, in the order of bytes, each once. They are kept by their hashes and so in no
+    /// order: one pass over them, a copy of each, and then a sort of the copies.
     ///
     /// # Errors
     ///
@@ -869,7 +869,7 @@ fn catalog_of(
     root: &Root,
     levels: Vec<Table>,
     deleted: &[Loc],
-    names: BTreeMap<String, u64>,
+    names: HashMap<String, u64>,
     found: &[Placed],
 ) -> Result<Catalog, CatalogFault>
     requires sound { (size : ℕ) × IsSound size root.now }

@@ -1,10 +1,8 @@
 -- The names of one row, and rows that come behind or in place of those of one level.
 use Rattle.std.proofs.Common.{◌≡◌, ◌<◌, ◌≤◌, ℕ, Bool, arith, cond, drop, get_or, length, Global, List, [], ◌∷◌, ◌++◌, sym, ◌∙◌, ap, subst}
 use Rattle.std.specs.Prelude.{Some, None, String}
-use Rattle.std.specs.BTreeMap.{BTreeMap, IsEmpty, get_by_text, is_at}
-use Rattle.std.specs.Cmp.Lexicographic.{slice_cmp}
+use Rattle.std.specs.HashMap.{IsEmpty, get_by_text}
 use Rattle.std.specs.Map.{lookup, update}
-use Rattle.std.specs.Ordering.{nat_cmp}
 use Rattle.std.specs.Str.{bytes_eq}
 use Rattle.std.specs.String.{string_bytes}
 use Rattle.std.proofs.Math.Seq.{drop-length}
@@ -16,13 +14,13 @@ use Rattle.alta_content.proofs.Contents.{rows_rise}
 use Rattle.alta_images.specs.Opened.{live_in, table_rows}
 use Rattle.alta_images.proofs.NameLaws.{bytes_eq-swap}
 use Rattle.alta_table.specs.Tables.{Tables}
-use Rattle.alta_catalog.specs.Names.{AreNames}
+use Rattle.alta_catalog.specs.Names.{AreNames, NameMap}
 
-none_known : (names : BTreeMap (String Global) ℕ) → IsEmpty names → (q : List ℕ) → get_by_text names q ≡ None
-none_known names empty q = ap (λ (es : List (String Global × ℕ)). lookup (is_at (λ (k : String Global). slice_cmp nat_cmp q (string_bytes k))) es) empty
+none_known : (names : NameMap) → IsEmpty names → (q : List ℕ) → get_by_text names q ≡ None
+none_known names empty q = ap (λ (es : List (String Global × ℕ)). lookup (λ (k : String Global). bytes_eq q (string_bytes k)) es) empty
 
 -- a map of the name of one row
-pub one_name : (old new : BTreeMap (String Global) ℕ) (row : DocRow) (name : List ℕ) → IsEmpty old → name ≡ row.name
+pub one_name : (old new : NameMap) (row : DocRow) (name : List ℕ) → IsEmpty old → name ≡ row.name
     → ((q : List ℕ) → get_by_text new q ≡ update bytes_eq (get_by_text old) name (Some row.number) q)
     → (level : Tables) → level.documents ≡ row ∷ [] → (levels : List Tables) → levels ≡ level ∷ [] → AreNames new (live_in [] (table_rows levels))
 one_name old new row name empty is noted level rows levels are =

@@ -1,5 +1,5 @@
 // A level of one document, and documents that come and go behind it.
-ghost use Rattle.std.specs.BTreeMap.{get_by_text};
+ghost use Rattle.std.specs.HashMap.{get_by_text};
 ghost use Rattle.std.specs.Map.{update};
 ghost use Rattle.std.specs.Prelude.{◌≡◌, ◌<◌, ℕ, List, [], Some, length, All, IfOk, IfSome, OnOk};
 ghost use Rattle.std.specs.Str.{bytes_eq};
@@ -19,7 +19,7 @@ use alta_root::{Root, VERSION};
 use alta_table::{LevelFault, Table, head, tables_in_front};
 use arrayvec::ArrayVec;
 use std::alloc::{AllocError, Global};
-use std::collections::BTreeMap;
+use std::collections::HashMap;
 use std::test::Fail;
 
 // A level of one document, of number 1, at the locations 1 to 9, with the name `a`: six words.
@@ -70,7 +70,7 @@ fn later_level(alloc: Global) -> Result<Table, LevelFault>
 // Notes the name of a document.
 fn note(
     alloc: Global,
-    names: &mut BTreeMap<String, u64>,
+    names: &mut HashMap<String, u64>,
     name: &str,
     number: u64,
 ) -> Result<(), AllocError>
@@ -87,7 +87,7 @@ fn catalog_of(alloc: Global, root: &Root, level: Table) -> Result<Option<Catalog
     requires stand { AreDocuments level.documents }
     ensures { IfOk result (λ found. IfSome found (λ c. (s : State) × Knows c s)) }
 {
-    let mut names = BTreeMap::new(alloc);
+    let mut names = HashMap::new(alloc);
     match level.documents() {
         [row] => {
             let end = row.first.saturating_add(row.cells);

@@ -1,10 +1,10 @@
 use Rattle.std.proofs.Common.{List, ℕ, ap, sym, ◌∙◌}
 use Rattle.std.specs.Prelude.{Some, is_some}
-use Rattle.std.specs.BTreeMap.{get_by_text}
+use Rattle.std.specs.HashMap.{get_by_text}
 use Rattle.std.specs.Map.{update}
 use Rattle.std.specs.Str.{bytes_eq}
 use Rattle.std.specs.String.{string_bytes}
-use Rattle.std.proofs.lemmas.Map.Text.{btree_map_updates_text}
+use Rattle.std.proofs.lemmas.Map.Text.{hash_map_updates_text}
 use Rattle.alta_opening.proofs.Naming.{taken_found}
 use Rattle.alta_opening.proofs.names.note.Goals as goal
 
@@ -16,5 +16,5 @@ returns-clause-taken c = λ live are.
 
 pub returns-clause-noted : goal.returns-clause-noted
 returns-clause-noted c = λ q.
-    btree_map_updates_text (string_bytes c.in_ok-key.key) c.args.names.now c.insert.new.self _ c.in_ok-before.ensures.updates q
+    hash_map_updates_text (string_bytes c.in_ok-key.key) c.args.names.now c.insert.new.self _ c.in_ok-before.ensures.updates q
     ∙ ap (λ (bytes : List ℕ). update bytes_eq (get_by_text c.args.names.now) bytes (Some c.args.number) q) c.in_ok-key.ensures.ok

@@ -1,4 +1,4 @@
-use Rattle.std.proofs.Common.{◌<◌, List, ℕ, ap, map, refl, subst, ◌∙◌, sym}
+use Rattle.std.proofs.Common.{arith, ◌≡◌, ◌<◌, List, ℕ, ap, map, refl, subst, ◌∙◌, sym}
 use Rattle.std.specs.List.{All}
 use Rattle.alta_catalog.specs.Rows.{MayStart}
 use Rattle.alta_content.specs.Rows.{AreDocuments, end_of}
@@ -18,6 +18,10 @@ use Rattle.alta_root.specs.Slots.{Counts}
 use Rattle.alta_store.specs.Agreement.{KeepsOpened}
 use Rattle.alta_store.proofs.Loads.{KnowsAll, damaged_record, loads, of_catalog_damaged, of_damaged, of_levels_damaged, of_root_damaged, refused_entry, same_error, small_places}
 use Rattle.alta_store.proofs.Reading.{shown_broken}
+use Rattle.alta_opening.specs.Costs.{named_bytes}
+use Rattle.alta_root.proofs.SlotLaws.{one_counts}
+use Rattle.alta_root.specs.declared.root.Root.{Root}
+use Rattle.alta_root.specs.declared.root.Roots.{Roots}
 use Rattle.alta_store.proofs.store.load.Goals as goal
 
 pub returns-in-Err-clause-damaged : goal.returns-in-Err-clause-damaged
@@ -95,3 +99,31 @@ returns-in-Err-catalog_of-clause-damaged g c = λ told place e.
     (subst (λ (ends : List ℕ). MayStart some.0 root ends c.in-Ok-open_levels.opened.levels.items) (sym c.deref.ensures.value) some.1)
     (small_places root.version slot found c.in-Ok-replay.read.1.place middle replay) place
     (ap Err (of_catalog_damaged c.in-Err-catalog_of.fault place (sym c.catalog_fault.ensures ∙ same_error _ _ e)))))
+
+pub returns-in-Ok-catalog_of-clause-read : goal.returns-in-Ok-catalog_of-clause-read
+returns-in-Ok-catalog_of-clause-read g c = λ told slot root counts.
+    let before = (g.D.Disk.state c.args.disk.now).content in
+    let found = c.in-Ok.roots.root in
+    let same : found ≡ root = ap (λ (r : Roots). r.root) (one_counts before c.in-Ok.roots.slot slot found root (c.in-Ok.ensures.counts told) counts) in
+    omega (
+      arith,
+      c.read_roots.ensures.reads.costs.taken,
+      c.open_levels.ensures.taken told,
+      c.replay.ensures.taken.1,
+      ap (λ (image : List ℕ). named_bytes found image) (c.read_roots.ensures.reads.content told),
+      ap (λ (r : Root). named_bytes r before) same,
+    )
+
+pub returns-in-Err-catalog_of-clause-read : goal.returns-in-Err-catalog_of-clause-read
+returns-in-Err-catalog_of-clause-read g c = λ told slot root counts.
+    let before = (g.D.Disk.state c.args.disk.now).content in
+    let found = c.in-Ok.roots.root in
+    let same : found ≡ root = ap (λ (r : Roots). r.root) (one_counts before c.in-Ok.roots.slot slot found root (c.in-Ok.ensures.counts told) counts) in
+    omega (
+      arith,
+      c.read_roots.ensures.reads.costs.taken,
+      c.open_levels.ensures.taken told,
+      c.replay.ensures.taken.1,
+      ap (λ (image : List ℕ). named_bytes found image) (c.read_roots.ensures.reads.content told),
+      ap (λ (r : Root). named_bytes r before) same,
+    )

@@ -1,5 +1,5 @@
 use Rattle.std.proofs.Common.{◌≡◌, ◌++◌, ◌∙◌, rules, sym}
-use Rattle.std.specs.BTreeMap.{get_by_text}
+use Rattle.std.specs.HashMap.{get_by_text}
 use Rattle.alta_catalog.specs.Rows.{documents_left}
 use Rattle.alta_catalog.proofs.KnowingLaws.{named_some}
 use Rattle.alta_catalog.proofs.Naming.{number_known}
