@@ -11,6 +11,7 @@ pub mod Loaded
 pub mod Places
 pub mod PrefixRows
 pub mod ReadOff
+pub mod RowNear
 pub mod RowOf
 pub mod Runs
 pub mod TermRuns

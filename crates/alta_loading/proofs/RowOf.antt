@@ -13,7 +13,7 @@ use Rattle.alta_table.specs.Terms.{AreTerms, AreTermsBehind, counts_of, terms_of
 use Rattle.alta_table.specs.declared.term.TermRow.{TermRow}
 
 -- a term of these rows comes behind the term before them
-behind : (before : List ℕ) (rows : List TermRow) (term : List ℕ) (k : ℕ) → AreTermsBehind before rows → slice_get (terms_of rows) k ≡ Some term → Precedes before term
+pub behind : (before : List ℕ) (rows : List TermRow) (term : List ℕ) (k : ℕ) → AreTermsBehind before rows → slice_get (terms_of rows) k ≡ Some term → Precedes before term
 unfolding AreTermsBehind
 behind before [] term k a e = absurd (cc)
 behind before (row ∷ rows) term zero (m, more) e =

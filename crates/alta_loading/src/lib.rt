@@ -7,6 +7,7 @@ mod list;
 mod loading;
 mod mark;
 mod meeting;
+mod near;
 mod snapshot;
 mod term;
 mod terms;

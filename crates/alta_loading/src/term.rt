@@ -15,6 +15,7 @@ ghost use Rattle.alta_table.specs.Tables.{Tables};
 use crate::fault::LoadFault;
 use crate::list::load_list;
 use crate::mark::Ends;
+use crate::near::find_near;
 use alta_codec::{Bytes, Loc};
 use alta_disk::Disk;
 use alta_level::is_end_term;
@@ -50,7 +51,35 @@ pub fn load_term<D: Disk>(
     ensures cause { result ≡ Err DiskFault → Rose (D.state disk.old).faults (D.state disk.new).faults }
     ensures reads { Reads D.tells (load_sizes (loads_from 0 levels.now term)) (D.state disk.old) (D.state disk.new) }
 {
-    match load_coded(alloc, disk, levels, ends, term.as_slice()) {
+    load_term_near(alloc, disk, levels, ends, newest, term, &mut [])
+}
+
+/// Loads the lists of a term, as [`load_term`] does. In each level the term is looked up near the place of `nears` that has the
+/// level's index, where there is one, and behind it the place is where the next term is looked up.
+///
+/// # Errors
+///
+/// Those of [`load_coded`].
+pub fn load_term_near<D: Disk>(
+    alloc: Global,
+    disk: &mut D,
+    levels: &[Table],
+    ends: Ends,
+    newest: &MemLevel,
+    term: Bytes,
+    nears: &mut [usize],
+) -> Result<TermLists, LoadFault>
+    requires within { D.tells → All (λ level. LiesWithin level (D.state disk.old).content) levels.now }
+    requires ends { D.tells → AreEndsWhole ends (D.state disk.old).content levels.now }
+    requires sound { IsTrue newest.now.sound }
+    ensures key { IfOk result (λ lists. key_of lists ≡ term_key levels.now newest.now.content term) }
+    ensures lists { D.tells → IfOk result (λ lists. term_lists lists ≡ lists_of_term levels.now newest.now.content (D.state disk.old).content term) }
+    ensures tells { D.tells → Tells (D.state disk.old).content (loads_from 0 levels.now term) result }
+    ensures kept { IfOk result (λ lists. KeepTerm levels.now newest.now.content term (term_lists lists)) }
+    ensures cause { result ≡ Err DiskFault → Rose (D.state disk.old).faults (D.state disk.new).faults }
+    ensures reads { Reads D.tells (load_sizes (loads_from 0 levels.now term)) (D.state disk.old) (D.state disk.new) }
+{
+    match load_coded_near(alloc, disk, levels, ends, term.as_slice(), nears) {
         Ok(coded) => {
             let list = newest.get(term.as_slice());
             let levels = with_newest(alloc, coded, levels.len() as u64, list)?;
@@ -108,10 +137,41 @@ pub fn load_coded<D: Disk>(
     ensures cause { result ≡ Err DiskFault → Rose (D.state disk.old).faults (D.state disk.new).faults }
     ensures reads { Reads D.tells (load_sizes (loads_from 0 levels.now term.now)) (D.state disk.old) (D.state disk.new) }
 {
+    load_coded_near(alloc, disk, levels, ends, term, &mut [])
+}
+
+// The lists of a term in levels, as `load_coded` loads them. In each level the term is looked up near the place of `nears` that has
+// the level's index, where there is one.
+fn load_coded_near<D: Disk>(
+    alloc: Global,
+    disk: &mut D,
+    levels: &[Table],
+    ends: Ends,
+    term: &[u8],
+    nears: &mut [usize],
+) -> Result<Vec<LevelList>, LoadFault>
+    requires within { D.tells → All (λ level. LiesWithin level (D.state disk.old).content) levels.now }
+    requires ends { D.tells → AreEndsWhole ends (D.state disk.old).content levels.now }
+    ensures numbers { IfOk result (λ lists. map level_in lists.items ≡ map number_of (loads_from 0 levels.now term.now)) }
+    ensures lists { D.tells → IfOk result (λ lists. map level_list lists.items ≡ map (list_at (D.state disk.old).content) (loads_from 0 levels.now term.now)) }
+    ensures tells { D.tells → Tells (D.state disk.old).content (loads_from 0 levels.now term.now) result }
+    ensures kept { IfOk result (λ lists. KeepRows (loads_from 0 levels.now term.now) (map level_list lists.items)) }
+    ensures cause { result ≡ Err DiskFault → Rose (D.state disk.old).faults (D.state disk.new).faults }
+    ensures reads { Reads D.tells (load_sizes (loads_from 0 levels.now term.now)) (D.state disk.old) (D.state disk.new) }
+{
     let mut lists = Vec::new(alloc);
     for number in 0..levels.len() {
         let level = &levels[number];
-        if let Err(fault) = load_next(alloc, disk, &mut lists, number as u64, level, ends, term) {
+        if let Err(fault) = load_next(
+            alloc,
+            disk,
+            &mut lists,
+            number as u64,
+            level,
+            ends,
+            term,
+            nears,
+        ) {
             return Err(fault);
         }
     }
@@ -127,6 +187,7 @@ fn load_next<D: Disk>(
     level: &Table,
     ends: Ends,
     term: &[u8],
+    nears: &mut [usize],
 ) -> Result<(), LoadFault>
     requires within { D.tells → LiesWithin level.now (D.state disk.old).content }
     requires ends { D.tells → AreEndsWhole ends (D.state disk.old).content (level.now ∷ []) }
@@ -137,7 +198,7 @@ fn load_next<D: Disk>(
     ensures cause { result ≡ Err DiskFault → Rose (D.state disk.old).faults (D.state disk.new).faults }
     ensures reads { Reads D.tells (load_sizes (load_in number level.now term.now)) (D.state disk.old) (D.state disk.new) }
 {
-    match row_of(level, term) {
+    match row_of(level, term, number, nears) {
         None => Ok(()),
         Some(row) => match load_row(alloc, disk, number, level, ends, row) {
             Ok(list) => {
@@ -149,14 +210,17 @@ fn load_next<D: Disk>(
     }
 }
 
-// The row of a term in a level.
-fn row_of(level: &Table, term: &[u8]) -> Option<usize>
+// The row of a term in the level of this number, near the place of the number, where there is one.
+fn row_of(level: &Table, term: &[u8], number: u64, nears: &mut [usize]) -> Option<usize>
     ensures row { result ≡ row_from 0 level.now.terms term.now }
     ensures within { MatchOption result (Unit {0}) (λ row. row < length level.now.terms) }
 {
     // This call tells that the terms rise.
     let _documents = level.documents();
-    level.find(term)
+    match nears.get_mut(number as usize) {
+        Some(near) => find_near(level, term, near),
+        None => level.find(term),
+    }
 }
 
 // The list of a row of a level.

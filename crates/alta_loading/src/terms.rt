@@ -12,7 +12,7 @@ ghost use Rattle.alta_search.specs.Lists.{key_of, term_lists};
 
 use crate::fault::LoadFault;
 use crate::mark::Ends;
-use crate::term::load_term;
+use crate::term::load_term_near;
 use alta_codec::Bytes;
 use alta_disk::Disk;
 use alta_memlevel::MemLevel;
@@ -20,11 +20,12 @@ use alta_search::TermLists;
 use alta_table::Table;
 use std::alloc::Global;
 
-/// Loads the lists of each of these terms, one term after the other, as [`load_term`] loads those of one.
+/// Loads the lists of each of these terms, one term after the other, as [`crate::load_term`] loads those of one. Each is looked up in
+/// a level near the place of the term before, so terms in collating order are found in a few steps each.
 ///
 /// # Errors
 ///
-/// Those of [`load_term`]: the damage is the first fault of the first list that has one, in the order of loading.
+/// Those of [`crate::load_term`]: the damage is the first fault of the first list that has one, in the order of loading.
 pub fn load_terms<D: Disk>(
     alloc: Global,
     disk: &mut D,
@@ -44,11 +45,17 @@ pub fn load_terms<D: Disk>(
     ensures reads { Reads D.tells (load_sizes (loads_of levels.now terms.items)) (D.state disk.old) (D.state disk.new) }
 {
     let mut loaded = Vec::with_capacity(alloc, terms.len())?;
+    let mut nears = vec![in alloc; 0usize; places(terms.len(), levels.len())]?;
     for term in terms {
-        match load_term(alloc, disk, levels, ends, newest, term) {
+        match load_term_near(alloc, disk, levels, ends, newest, term, &mut nears) {
             Ok(lists) => loaded.push(lists)?,
             Err(fault) => return Err(fault),
         }
     }
     Ok(loaded)
+}
+
+// At how many places of levels terms are looked up: in each level, but at none where the term is alone and has none before it.
+fn places(terms: usize, levels: usize) -> usize {
+    if terms > 1 { levels } else { 0 }
 }

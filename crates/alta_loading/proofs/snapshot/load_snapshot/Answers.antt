@@ -1,8 +1,6 @@
 use Rattle.std.proofs.Common.{◌≡◌, ◌++◌, List, sym, subst}
 use Rattle.std.specs.Prelude.{IfOk, flat_map}
-use Rattle.alta_compile.specs.PlanOf.{plan_of}
 use Rattle.alta_compile.specs.Tree.{Tree}
-use Rattle.alta_compile.specs.View.{tree}
 use Rattle.alta_disk.specs.Calls.{Reads}
 use Rattle.alta_images.specs.Levels.{documents_of}
 use Rattle.alta_loading.specs.Loads.{Tells, load_sizes}

@@ -1,8 +1,14 @@
 use Rattle.alta_loading.proofs.RowOf.{row_found, row_within}
 use Rattle.alta_loading.proofs.term.row_of.Goals as goal
 
-pub returns-clause-row : goal.returns-clause-row
-returns-clause-row c = row_found c.args.level.now.terms c.args.term.now c.find.result c.documents-documents.ensures.kept.terms_stand c.find.ensures
+pub returns-in-Some-clause-row : goal.returns-in-Some-clause-row
+returns-in-Some-clause-row c = row_found c.args.level.now.terms c.args.term.now c.find_near.result c.documents-documents.ensures.kept.terms_stand c.find_near.ensures
 
-pub returns-clause-within : goal.returns-clause-within
-returns-clause-within c = row_within c.args.level.now.terms c.args.term.now c.find.result c.find.ensures
+pub returns-in-Some-clause-within : goal.returns-in-Some-clause-within
+returns-in-Some-clause-within c = row_within c.args.level.now.terms c.args.term.now c.find_near.result c.find_near.ensures
+
+pub returns-in-None-clause-row : goal.returns-in-None-clause-row
+returns-in-None-clause-row c = row_found c.args.level.now.terms c.args.term.now c.find.result c.documents-documents.ensures.kept.terms_stand c.find.ensures
+
+pub returns-in-None-clause-within : goal.returns-in-None-clause-within
+returns-in-None-clause-within c = row_within c.args.level.now.terms c.args.term.now c.find.result c.find.ensures

@@ -25,7 +25,7 @@ loop-term-preserved g c =
     let now : map (λ (t : TermLists). t.term) ys ≡ done ++ term ∷ [] =
     ap (map (λ (t : TermLists). t.term)) pushed ∙ map_push (λ (t : TermLists). t.term) xs l ∙ ap (λ (t : List ℕ). done ++ t ∷ []) same in record {
       split = front-more (λ (t : TermLists). t.term) xs ys l pushed term left rest c.args.terms.items here same inv.split;
-      run = terms_on g.D.Disk.tells levels newest done (map key_of xs) (map term_lists xs) (g.D.Disk.state c.args.disk.now) (g.D.Disk.state c.loop-term.disk) inv.run term (g.D.Disk.state c.load_term.new.disk) c.load_term.ensures.reads
+      run = terms_on g.D.Disk.tells levels newest done (map key_of xs) (map term_lists xs) (g.D.Disk.state c.args.disk.now) (g.D.Disk.state c.loop-term.disk) inv.run term (g.D.Disk.state c.load_term_near.new.disk) c.load_term_near.ensures.reads
           (map key_of ys) (map term_lists ys) (map (λ (t : TermLists). t.term) ys) (key_of l) (term_lists l) now (ap (map key_of) pushed ∙ map_push key_of xs l) (ap (map term_lists) pushed ∙ map_push term_lists xs l)
           is.key is.lists (λ h. tells_value {X = TermLists} {Y = Unit {0}} (g.D.Disk.state c.loop-term.disk).content (loads_from 0 levels term) l tt (is.tells h)) is.kept;
     }
@@ -36,7 +36,7 @@ returns-in-Err-clause-tells g c =
     let left = c.loop-term.term-iterator.rest.items in let rest = c.next.new.self.rest.items in
     let here : left ≡ term ∷ rest = search rules in
     let done = map (λ (t : TermLists). t.term) xs in
-    terms_ended g.D.Disk.tells levels c.args.newest.now.content done (map key_of xs) (map term_lists xs) (g.D.Disk.state c.args.disk.now) (g.D.Disk.state c.loop-term.disk) inv.run term (g.D.Disk.state c.load_term.new.disk) c.load_term.ensures.reads
+    terms_ended g.D.Disk.tells levels c.args.newest.now.content done (map key_of xs) (map term_lists xs) (g.D.Disk.state c.args.disk.now) (g.D.Disk.state c.loop-term.disk) inv.run term (g.D.Disk.state c.load_term_near.new.disk) c.load_term_near.ensures.reads
     {X = Vec TermLists Global} rest c.args.terms.items c.in-Err.fault (ap (λ (l : List (List ℕ)). done ++ l) (sym here) ∙ inv.split)
     (λ h. tells_fault {X = TermLists} {Y = Unit {0}} (g.D.Disk.state c.loop-term.disk).content (loads_from 0 levels term) c.in-Err.fault (c.in-Err.ensures.tells h))
 
@@ -46,7 +46,7 @@ returns-in-Err-clause-reads g c =
     let left = c.loop-term.term-iterator.rest.items in let rest = c.next.new.self.rest.items in
     let here : left ≡ term ∷ rest = search rules in
     let done = map (λ (t : TermLists). t.term) xs in
-    terms_cost g.D.Disk.tells levels c.args.newest.now.content done (map key_of xs) (map term_lists xs) (g.D.Disk.state c.args.disk.now) (g.D.Disk.state c.loop-term.disk) inv.run term (g.D.Disk.state c.load_term.new.disk) c.load_term.ensures.reads
+    terms_cost g.D.Disk.tells levels c.args.newest.now.content done (map key_of xs) (map term_lists xs) (g.D.Disk.state c.args.disk.now) (g.D.Disk.state c.loop-term.disk) inv.run term (g.D.Disk.state c.load_term_near.new.disk) c.load_term_near.ensures.reads
     rest c.args.terms.items (ap (λ (l : List (List ℕ)). done ++ l) (sym here) ∙ inv.split)
 
 pub returns-in_err-push-in-Ok-clause-reads : goal.returns-in_err-push-in-Ok-clause-reads
@@ -55,7 +55,7 @@ returns-in_err-push-in-Ok-clause-reads g c =
     let left = c.loop-term.term-iterator.rest.items in let rest = c.next.new.self.rest.items in
     let here : left ≡ term ∷ rest = search rules in
     let done = map (λ (t : TermLists). t.term) xs in
-    terms_cost g.D.Disk.tells levels c.args.newest.now.content done (map key_of xs) (map term_lists xs) (g.D.Disk.state c.args.disk.now) (g.D.Disk.state c.loop-term.disk) inv.run term (g.D.Disk.state c.load_term.new.disk) c.load_term.ensures.reads
+    terms_cost g.D.Disk.tells levels c.args.newest.now.content done (map key_of xs) (map term_lists xs) (g.D.Disk.state c.args.disk.now) (g.D.Disk.state c.loop-term.disk) inv.run term (g.D.Disk.state c.load_term_near.new.disk) c.load_term_near.ensures.reads
     rest c.args.terms.items (ap (λ (l : List (List ℕ)). done ++ l) (sym here) ∙ inv.split)
 
 pub returns-clause-tells : goal.returns-clause-tells

@@ -7,7 +7,7 @@ use Rattle.alta_loading.specs.Lists.{LiesWithin}
 use Rattle.alta_loading.specs.Loads.{Load, load_in, loads_from}
 use Rattle.alta_loading.specs.Tested.{AreEndsWhole}
 use Rattle.alta_search.specs.declared.lists.LevelList.{LevelList}
-use Rattle.alta_loading.proofs.term.load_coded.Goals as goal
+use Rattle.alta_loading.proofs.term.load_coded_near.Goals as goal
 
 pub load_next-requires-clause-within : goal.load_next-requires-clause-within
 load_next-requires-clause-within g c = λ told.

@@ -2,7 +2,7 @@ use Rattle.std.proofs.Common.{List, ℕ, Err, subst}
 use Rattle.alta_loading.proofs.Runs.{tells_fault}
 use Rattle.alta_loading.specs.Loads.{Tells, loads_from}
 use Rattle.alta_search.specs.declared.lists.TermLists.{TermLists}
-use Rattle.alta_loading.proofs.term.load_term.Goals as goal
+use Rattle.alta_loading.proofs.term.load_term_near.Goals as goal
 
 pub returns-in-Err-clause-tells : goal.returns-in-Err-clause-tells
 returns-in-Err-clause-tells g c = λ told.

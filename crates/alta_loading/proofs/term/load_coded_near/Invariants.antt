@@ -2,7 +2,7 @@ use Rattle.std.proofs.Common.{take, map}
 use Rattle.alta_search.specs.Lists.{level_in, level_list}
 use Rattle.alta_loading.specs.Loads.{loads_from}
 use Rattle.alta_loading.proofs.Runs.{Run}
-use Rattle.alta_loading.proofs.term.load_coded.Given as goal
+use Rattle.alta_loading.proofs.term.load_coded_near.Given as goal
 
 abbrev pub invariant-loop-number : goal.invariant-loop-number
 invariant-loop-number g l =
