@@ -26,6 +26,13 @@ impl<R: BackReader> EndReader<R> {
         EndReader { inner }
     }
 
+    /// The reader that it is made of.
+    pub fn into_inner(self) -> R
+        ensures { result ≡ self.inner }
+    {
+        self.inner
+    }
+
     /// The first location after the previous document: one past the end before the place, 1 where there is none.
     pub fn start(&self) -> Loc
         requires { ⟦<EndReader<R> as Reader>⟧.sound self.now }

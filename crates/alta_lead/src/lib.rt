@@ -6,5 +6,7 @@ mod reader;
 mod rounds;
 #[cfg(test)]
 mod tests;
+mod walk;
 
 pub use reader::LeadReader;
+pub use walk::tally;

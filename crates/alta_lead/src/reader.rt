@@ -73,6 +73,16 @@ impl<R: BackReader> LeadReader<R> {
         reader
     }
 
+    /// The readers of the ends, of the words and of the negated words, and which of the words leads.
+    pub fn into_parts(self) -> (EndReader<R>, Vec<R>, Vec<R>, usize)
+        ensures ends { result.0 ≡ self.ends }
+        ensures words { result.1 ≡ self.words }
+        ensures negated { result.2 ≡ self.negated }
+        ensures lead { result.3 ≡ self.lead }
+    {
+        (self.ends, self.words, self.negated, self.lead)
+    }
+
     /// Brings its readers to the first end of its list at or above `to`, where none has passed an element of that document.
     fn bring<L: Ledger>(&mut self, to: Loc, steps: &mut Steps<L>)
         requires ends { R.sound self.old.ends.inner }

@@ -40,7 +40,7 @@ fn led<R: BackReader, L: Ledger>(
 
 /// Asks the words about the document from `start` to `end`. It answers `end` where the document has each word and no negated
 /// word, else a place behind it before which no other document has.
-fn told<R: BackReader, L: Ledger>(
+pub(crate) fn told<R: BackReader, L: Ledger>(
     words: &mut [R],
     negated: &mut [R],
     start: Loc,

@@ -1,8 +1,9 @@
 // Command lines.
-ghost use Rattle.std.specs.Prelude.{◌≡◌, ◌↔◌, option_map, IfOk, OnOk, Err, if◌then◌else◌};
-ghost use Rattle.std.specs.Str.{IsUtf8};
+ghost use Rattle.std.specs.Prelude.{◌≡◌, ◌↔◌, option_map, take, drop, IfOk, OnOk, Err, if◌then◌else◌};
+ghost use Rattle.std.specs.List.{list_any};
+ghost use Rattle.std.specs.Str.{IsUtf8, bytes_eq};
 ghost use Rattle.alta_model.specs.Command.{Command, Reads, is_tab};
-ghost use Rattle.alta_model.specs.Faults.{IsRefused, IsText, is_space, is_verb, word_of};
+ghost use Rattle.alta_model.specs.Faults.{IsRefused, IsText, is_space, is_verb, verbs, word_of};
 ghost use Rattle.alta_model.specs.Reading.{command_in, parted, alone, with_rest, add_of, text_of, number_of, fetch_of, top_of, count_of, top_count_of};
 ghost use Rattle.alta_model.specs.Lines.{reading_of, reading_in};
 ghost use Rattle.alta_model.specs.Seen.{command_of};
@@ -110,9 +111,22 @@ fn word(text: &str) -> &str
     }
 }
 
-#[tactic(auto, unfolding(crate::specs::Faults::is_verb))]
+/// Whether a word is a verb.
 fn is_verb(word: &str) -> bool
     ensures { result ≡ is_verb word.now }
+{
+    if asks_by_text(word) {
+        return true;
+    }
+    if asks_by_number(word) {
+        return true;
+    }
+    works(word)
+}
+
+/// Whether a word is a verb behind which a document, a name or a query stands.
+fn asks_by_text(word: &str) -> bool
+    ensures { result ≡ list_any (λ verb. bytes_eq word.now verb) (take 6 verbs) }
 {
     word == "add"
         || word == "delete"
@@ -120,14 +134,20 @@ fn is_verb(word: &str) -> bool
         || word == "count"
         || word == "explain"
         || word == "open"
-        || word == "fetch"
-        || word == "close"
-        || word == "top"
-        || word == "flush"
-        || word == "merge"
-        || word == "step"
-        || word == "stats"
-        || word == "dump"
+}
+
+/// Whether a word is one of the next three verbs, behind which a number stands.
+fn asks_by_number(word: &str) -> bool
+    ensures { result ≡ list_any (λ verb. bytes_eq word.now verb) (take 3 (drop 6 verbs)) }
+{
+    word == "fetch" || word == "close" || word == "top"
+}
+
+/// Whether a word is one of the last five verbs, which are about the index.
+fn works(word: &str) -> bool
+    ensures { result ≡ list_any (λ verb. bytes_eq word.now verb) (drop 9 verbs) }
+{
+    word == "flush" || word == "merge" || word == "step" || word == "stats" || word == "dump"
 }
 
 #[tactic(auto, unfolding(crate::specs::Reading::command_in, crate::specs::Reading::parted))]

@@ -14,7 +14,7 @@ use Rattle.alta_query.specs.declared.fault.Cause.{Cause}
 use Rattle.alta_query.specs.declared.fault.QueryFault.{QueryFault}
 use Rattle.alta_query.specs.declared.machine.Frame.{Frame}
 use Rattle.alta_query.specs.declared.query.Query.{Query}
-use Rattle.alta_query.proofs.Frames.{marks_open, none_left}
+use Rattle.alta_query.proofs.Frames.{marks_open}
 
 pub ran_out : (r : Result Query QueryFault) (read : Result Shape Fault) → IsErrAnd r IsMemory → Gives r read
 ran_out (Ok q) read h = absurd h
@@ -42,11 +42,11 @@ pub whole_made : (ors ands new : List Query) (l q : Query) → shape l ≡ all_o
 whole_made ors ands new l q e f g = g ∙ ap any_of (and_pushed ors ands new l e f)
 
 -- a `)` behind the last member of an or
-pub closed : (ors ands new : List Query) (l q : Query) (fs : List machine.Frame) (w : ℕ) (s : State) → shape l ≡ all_of (map shape ands) → new ≡ ors ++ l ∷ [] → shape q ≡ any_of (map shape new) → close (shape q) fs w ≡ s → close (whole (map shape ors) (map shape ands)) fs (w + 0) ≡ s
-closed ors ands new l q fs w s e f g h =
+pub closed : (ors ands : List Query) (q : Query) (fs : List machine.Frame) (w : ℕ) (s : State) → shape q ≡ whole (map shape ors) (map shape ands) → close (shape q) fs w ≡ s → close (whole (map shape ors) (map shape ands)) fs (w + 0) ≡ s
+closed ors ands q fs w s e h =
     let zero : w + 0 ≡ w = omega arith in
-    ap (λ k. close (whole (map shape ors) (map shape ands)) fs k) zero ∙ ap (λ x. close x fs w) (sym (whole_made ors ands new l q e f g)) ∙ h
+    ap (λ k. close (whole (map shape ors) (map shape ands)) fs k) zero ∙ ap (λ x. close x fs w) (sym e) ∙ h
 
 -- a `)` where nothing is open
-pub close_none : (q : Shape) (ors ands : List Query) (xs ys : List Frame) (n i j : ℕ) → ors ≡ [] → ands ≡ [] → i ≡ length xs → j ≡ length ys → (i ≡ 0) × (j ≡ 0) → close q (frames_of xs) n ≡ record { mode = has; ors = map shape ors; ands = map shape ands; frames = frames_of ys; words = n }
-close_none q ors ands xs ys n i j no_ors no_ands len left e = rw (no_ors, no_ands, none_left xs i len e.0, none_left ys j left e.1) refl
+pub close_none : (q : Shape) (ors ands : List Query) (xs : List Frame) (n : ℕ) → ors ≡ [] → ands ≡ [] → xs ≡ [] → close q [] n ≡ record { mode = has; ors = map shape ors; ands = map shape ands; frames = frames_of xs; words = n }
+close_none q ors ands xs n no_ors no_ands none = rw (no_ors, no_ands, none) refl

@@ -1,12 +1,12 @@
 // What the parser keeps, and how a token changes it.
 
-ghost use Rattle.std.specs.Prelude.{◌≡◌, ℕ, List, [], None, ◌+◌, ◌≤◌, map, IfOk, OnOk, option_map};
+ghost use Rattle.std.specs.Prelude.{◌≡◌, ℕ, List, [], None, ◌+◌, ◌≤◌, map, IfSome, IfNone, IfOk, OnOk, option_map};
 ghost use Rattle.std.specs.Str.{IsUtf8};
 ghost use Rattle.alta_query.specs.View.{shape, atom_view, side_view};
-ghost use Rattle.alta_query.specs.Shape.{lone, near, negated, all_of, any_of};
+ghost use Rattle.alta_query.specs.Shape.{Shape, lone, near, negated, all_of, any_of};
 ghost use Rattle.alta_query.specs.Token.{open_paren, close_paren, side_of, atom_weight};
 ghost use Rattle.alta_query.specs.Pieces.{token_of, atom_in, side_in};
-ghost use Rattle.alta_query.specs.Machine.{give, step, operand_step, start, run, cause_in, wrapped, unwrapped, put, put_last};
+ghost use Rattle.alta_query.specs.Machine.{give, step, operand_step, start, run, cause_in, wrapped, unwrapped, whole, close, put, put_last};
 ghost use Rattle.alta_query.specs.Answer.{Gives};
 ghost use Rattle.alta_query.specs.Faults as faults;
 ghost use Rattle.alta_query.specs.Faults.{has, Mark, any_open};
@@ -116,7 +116,7 @@ impl<'a> Machine<'a> {
     {
         let Machine {
             mode,
-            mut ors,
+            ors,
             ands,
             frames,
             ..
@@ -124,8 +124,8 @@ impl<'a> Machine<'a> {
         if let Some(cause) = end_cause(mode, !frames.is_empty()) {
             return Err(QueryFault { place: end, cause });
         }
-        ors.push(all(ands))?;
-        Ok(any(ors))
+        let all = whole(ors, ands)?;
+        Ok(all)
     }
 
     /// Reads a `(`.
@@ -144,18 +144,16 @@ impl<'a> Machine<'a> {
         ensures { OnOk result (state_of self.new ≡ step (state_of self.old) close_paren) }
     {
         let ands = mem::replace(&mut self.ands, Vec::new(alloc));
-        let mut ors = mem::replace(&mut self.ors, Vec::new(alloc));
-        ors.push(all(ands))?;
-        let operand = any(ors);
-        while let Some(frame) = self.frames.pop() {
-            if let Frame::Paren(ors, ands) = frame {
-                self.ors = ors;
-                self.ands = ands;
-                return self.give(alloc, operand);
-            }
-        }
-        self.mode = Mode::Has;
-        Ok(())
+        let ors = mem::replace(&mut self.ors, Vec::new(alloc));
+        let operand = whole(ors, ands)?;
+        let Some((ors, ands)) = last_paren(&mut self.frames) else {
+            drop(operand);
+            self.mode = Mode::Has;
+            return Ok(());
+        };
+        self.ors = ors;
+        self.ands = ands;
+        self.give(alloc, operand)
     }
 
     /// Reads an operand.
@@ -275,23 +273,53 @@ fn put(alloc: Global, query: Query, atom: Atom) -> Result<Query, AllocError>
     ensures { IfOk result (λ q. shape q ≡ put (atom_view atom) (shape query)) }
 {
     match query {
-        Query::Atom(_) => Ok(Query::Atom(atom)),
+        Query::Atom(old) => {
+            drop(old);
+            Ok(Query::Atom(atom))
+        }
         Query::Not(inner) => {
             let inner = put(alloc, Box::into_inner(inner), atom)?;
             negation(alloc, inner)
         }
-        other => Ok(other),
+        other => {
+            drop(atom);
+            Ok(other)
+        }
     }
 }
 
 fn put_last(alloc: Global, ands: &mut Vec<Query>, atom: Atom) -> Result<(), AllocError>
     ensures { OnOk result (map shape ands.new.items ≡ put_last (atom_view atom) (map shape ands.old.items)) }
 {
-    if let Some(last) = ands.pop() {
-        let last = put(alloc, last, atom)?;
-        ands.push(last)?;
-    }
+    let Some(last) = ands.pop() else {
+        drop(atom);
+        return Ok(());
+    };
+    let last = put(alloc, last, atom)?;
+    ands.push(last)?;
     Ok(())
+}
+
+/// All of an or, of which these are the first members and the members of the last one.
+fn whole(ors: Vec<Query>, ands: Vec<Query>) -> Result<Query, AllocError>
+    ensures { IfOk result (λ q. shape q ≡ whole (map shape ors.items) (map shape ands.items)) }
+{
+    let mut ors = ors;
+    ors.push(all(ands))?;
+    Ok(any(ors))
+}
+
+/// Ends what is open up to the last `(`, and gives what was read before it.
+fn last_paren(frames: &mut Vec<Frame>) -> Option<(Vec<Query>, Vec<Query>)>
+    ensures paren { IfSome result (λ before. (q : Shape) (n : ℕ) → close q (frames_of frames.old.items) n ≡ give has q (map shape before.0.items) (map shape before.1.items) (frames_of frames.new.items) n) }
+    ensures none { IfNone result ((frames.new.items ≡ []) × ((q : Shape) (n : ℕ) → close q (frames_of frames.old.items) n ≡ close q [] n)) }
+{
+    while let Some(frame) = frames.pop() {
+        if let Frame::Paren(ors, ands) = frame {
+            return Some((ors, ands));
+        }
+    }
+    None
 }
 
 /// An and of these members.

@@ -4,16 +4,17 @@ use Rattle.std.specs.Prelude.{Contains}
 use Rattle.std.proofs.lemmas.Bool.{cases_lt}
 use Rattle.std.proofs.lemmas.List.{get_or_default, length-map}
 use Rattle.alta_codec.specs.declared.location.TheConstants.{TOP}
-use Rattle.alta_codec.specs.Rising.{IsRising, first_from, count_from}
-use Rattle.alta_codec.proofs.Places.{Contains-head, Contains-tail, Contains-cases, not-Contains-nil, first_from-above, first_from-least}
+use Rattle.alta_codec.specs.Rising.{IsRising, first_from}
+use Rattle.alta_codec.proofs.Places.{Contains-head, Contains-tail, not-Contains-nil, first_from-above, first_from-least}
 use Rattle.alta_compile.specs.Space.{Placed, AreApart}
 use Rattle.alta_compile.specs.Space as space
 use Rattle.alta_compile.specs.Tree.{Tree, plan_list}
 use Rattle.alta_compile.proofs.Ends.{plan_ends}
 use Rattle.alta_compile.proofs.Spaces.{Has, apart_one, end-is}
-use Rattle.alta_compound.specs.Unions.{RisesAbove, above_from_rising, count_same}
+use Rattle.alta_compound.specs.Unions.{RisesAbove}
 use Rattle.alta_docread.specs.Kept.{has, less}
-use Rattle.alta_docread.specs.KeptLaws.{true_or_false, has-Contains, Contains-has, less-has, less-rises}
+use Rattle.alta_docread.specs.KeptLaws.{true_or_false, has-Contains, Contains-has, less-rises}
+use Rattle.alta_lead.proofs.Counting.{live_same, live_dead, live_one, live_past}
 use Rattle.alta_content.specs.Rows.{end_of, ends_of}
 use Rattle.alta_content.specs.declared.document.DocRow.{DocRow}
 use Rattle.alta_rows.proofs.Levels.{rising_fits}
@@ -28,55 +29,14 @@ use Rattle.alta_search.proofs.Walking.{onward_more, goes_up}
 
 -- ---- counts of ends that were not deleted
 
-above_each : (low : ℕ) (xs : List ℕ) (z : ℕ) → RisesAbove low xs → Contains xs z → low < z
-above_each low [] z r m = absurd (not-Contains-nil z m)
-above_each low (x ∷ xs) z (a, b, r) m =
-    ⊎_elim (λ e. omega (arith, a, e)) (λ n. omega (arith, a, above_each x xs z r n)) (Contains-cases x xs z m)
-
--- an element is counted once
-count_here : (low at : ℕ) (xs : List ℕ) → RisesAbove low xs → Contains xs at → count_from xs at ≡ 1 + count_from xs (at + 1)
-unfolding count_from
-count_here low at [] r m = absurd (not-Contains-nil at m)
-count_here low at (x ∷ xs) (a, b, r) m =
-    ⊎_elim
-    (λ e. let same : count_from xs (at + 1) ≡ count_from xs at = count_same xs at (at + 1) (omega arith) (λ z n h. omega (arith, above_each x xs z r n, e)) in grind (arith, e, same))
-    (λ n. let under : x < at = above_each x xs at r n in grind (arith, under, count_here x at xs r n)) (Contains-cases x xs at m)
-
--- from TOP on there are none
-count_past : (low place : ℕ) (xs : List ℕ) → RisesAbove low xs → TOP ≤ place → count_from xs place ≡ 0
-unfolding count_from
-count_past low place [] r past = refl
-count_past low place (x ∷ xs) (a, b, r) past = grind (arith, past, b, count_past x place xs r past)
-
 module _ (list gone : List ℕ) where
-  held : (z : ℕ) → Contains (less list gone) z → Contains list z × (Contains gone z → ⊥)
-  held z m = (less-has list gone z).0 m
-
-  -- from two places between which the list has nothing, there are as many
-  pub live_same : (from place : ℕ) → from ≤ place → ((z : ℕ) → Contains list z → from ≤ z → place ≤ z) → count_live list gone place ≡ count_live list gone from
-  live_same from place le gap = count_same (less list gone) from place le (λ z m h. gap z (held z m).0 h)
-
-  -- behind a deleted end there are as many, and behind another one fewer
-  live_dead : (at : ℕ) → Contains gone at → count_live list gone (at + 1) ≡ count_live list gone at
-  live_dead at m =
-      count_same (less list gone) at (at + 1) (omega arith)
-      (λ z n h. ⊎_elim (λ l. omega (arith, l)) (λ le. let e : at ≡ z = omega arith in absurd ((held z n).1 (subst (Contains gone) e m))) (cases_lt at z))
-
-  live_one : (at : ℕ) → IsRising list → Contains list at → (Contains gone at → ⊥) → count_live list gone at ≡ 1 + count_live list gone (at + 1)
-  live_one at rising m live =
-      count_here 0 at (less list gone) (above_from_rising (less list gone) (less-rises list gone rising)) ((less-has list gone at).1 (m, live))
-
   live_next : (at next : ℕ) → at < TOP → next ≡ first_from list (at + 1) → count_live list gone next ≡ count_live list gone (at + 1)
   live_next at next below is =
-      live_same (at + 1) next (omega (arith, is, first_from-above list (at + 1) (omega (arith, below)))) (λ z m h. omega (arith, is, first_from-least list (at + 1) z m h))
+      live_same list gone (at + 1) next (omega (arith, is, first_from-above list (at + 1) (omega (arith, below)))) (λ z m h. omega (arith, is, first_from-least list (at + 1) z m h))
 
   -- a step of the reader over a deleted end
   pub live_step : (at next : ℕ) → Contains gone at → at < TOP → next ≡ first_from list (at + 1) → count_live list gone next ≡ count_live list gone at
-  live_step at next m below is = live_next at next below is ∙ live_dead at m
-
-  -- past the last there are none
-  pub live_past : (place : ℕ) → IsRising list → TOP ≤ place → count_live list gone place ≡ 0
-  live_past place rising past = count_past 0 place (less list gone) (above_from_rising (less list gone) (less-rises list gone rising)) past
+  live_step at next m below is = live_next at next below is ∙ live_dead list gone at m
 
   pub live_fits : (place : ℕ) → IsRising list → count_live list gone place < TOP
   live_fits place rising = omega (arith, below_or_from (less list gone) place, rising_fits (less list gone) (less-rises list gone rising))

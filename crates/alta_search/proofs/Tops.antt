@@ -89,18 +89,14 @@ module _ (law : ScoresAreOfCells) (q : Shape) (p : Tree) (v : View) (documents :
           ap length to_rank.answers,
         )
 
--- the steps of the walk, of the scorer and of the scores together
-pub top_steps : (v : View) (uses : List Use) (n before walked made after : ℕ) → n + 1 ≡ length v.cuts
-    → walked ≤ before + locations (take n v.cuts) + lists (take n v.cuts)
-    → made ≤ walked + (locations (scoring_lists uses v) + lists (scoring_lists uses v)) + (count_locations (last_lists v) + count_lists (last_lists v)) → after ≤ made
-    → AreTopSteps uses v before after
-top_steps v uses n before walked made after e walk make score =
+-- the steps of the walk leave those of the last lists
+pub walk_steps : (v : View) (n before walked : ℕ) → n + 1 ≡ length v.cuts → walked ≤ before + locations (take n v.cuts) + lists (take n v.cuts)
+    → walked + (count_locations (last_lists v) + count_lists (last_lists v)) ≤ before + (locations v.cuts + lists v.cuts)
+walk_steps v n before walked e walk =
     let last : length v.cuts - 1 ≡ n = omega (arith, e) in
     omega (
       arith,
       walk,
-      make,
-      score,
       sum_taken count_locations v.cuts [] n e,
       sum_taken count_lists v.cuts [] n e,
       ap (λ k. count_locations (get_or v.cuts k [])) last,

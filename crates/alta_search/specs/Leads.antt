@@ -1,13 +1,14 @@
 -- A reader of the ends of a conjunction, which its rarest word leads.
-use Rattle.std.specs.Prelude.{◌≡◌, ◌⊎◌, ℕ, ◌+◌, ◌*◌, ◌<◌, ◌≤◌, IsTrue, List, [], ◌∷◌, ◌++◌, map, length, slice_index_or, sum_by, All, Option, Some}
+use Rattle.std.specs.Prelude.{◌≡◌, ◌⊎◌, ℕ, ◌+◌, ◌*◌, ◌<◌, ◌≤◌, IsTrue, List, [], ◌∷◌, ◌++◌, map, length, slice_index_or, sum_by, All, Contains, Option, Some}
 use Rattle.std.specs.List.{concat}
 use Rattle.alta_codec.specs.Rising.{pred_of, first_from, count_from}
 use Rattle.alta_compile.specs.Space.{Placed, IsSpace, ends_of, list_of}
 use Rattle.alta_compile.specs.Tree as plan
 use Rattle.alta_compile.specs.Tree.{plan_list}
 use Rattle.alta_compile.specs.declared.asked.Conjunction.{Conjunction}
+use Rattle.alta_docread.specs.Tree.{IsAhead}
 use Rattle.alta_lead.specs.Having.{ends_having}
-use Rattle.alta_lead.specs.Moves.{left_of}
+use Rattle.alta_lead.specs.Moves.{AreAhead, left_of}
 use Rattle.alta_lead.specs.View.{chains_of, IsSoundLead}
 use Rattle.alta_lead.specs.declared.reader.LeadReader.{LeadReader}
 use Rattle.alta_search.specs.Conjoined.{conjoined_tests}
@@ -40,6 +41,18 @@ IsSoundLed r = IsSoundLead IsSoundSingle single_list single_place r
 
 abbrev pub led_moves : LeadReader SingleReader → ℕ
 led_moves r = moves_left (single_list r.ends.inner) (map single_list r.words.items) (map single_list r.negated.items) r.lead r.at
+
+-- The readers of these lists stand at an answer, or before it: none has passed an element from there on.
+pub record AreAtAnswer (ends : List ℕ) (words negated : List (List ℕ)) (at end : ℕ) (places others : List ℕ) : Type 0 where
+  pub answer : Contains (ends_having ends words negated) at
+  pub ends_ahead : IsAhead at ends end
+  pub words_ahead : AreAhead at words places
+  pub negated_ahead : AreAhead at negated others
+
+-- From an answer on, the steps are at most what is left of the readers, and so many moves of each as it has left.
+pub record AreFewSteps (ends : List ℕ) (words negated : List (List ℕ)) (lead at left before after : ℕ) : Type 0 where
+  pub steps : after ≤ before + left
+  pub moves : after ≤ before + moves_left ends words negated lead at
 
 -- the reader went to the first end at or above `to`, or stayed where it stood there
 pub record IsSought (old new : LeadReader SingleReader) (to before after : ℕ) : Type 0 where

@@ -1,5 +1,5 @@
 // A reader of the ends that a plan finds.
-ghost use Rattle.std.specs.Prelude.{◌≡◌, ◌+◌, ◌<◌, ◌≤◌, length, All, IsTrue};
+ghost use Rattle.std.specs.Prelude.{◌≡◌, ◌+◌, ◌<◌, ◌≤◌, length, All, IsTrue, IfOk, IfErr};
 ghost use Rattle.alta_codec.specs.declared.location.TheConstants.{TOP};
 ghost use Rattle.alta_codec.specs.Rising.{first_from, count_from};
 ghost use Rattle.alta_docread.specs.Tree.{IsUnmoved};
@@ -8,7 +8,7 @@ ghost use Rattle.alta_lead.specs.Moves.{left_of, list_of};
 ghost use Rattle.alta_lead.specs.View.{chains_of, all_of};
 ghost use Rattle.alta_search.specs.Leads.{IsSoundLed, led_moves, IsSought, IsLedFrom};
 ghost use Rattle.alta_search.specs.Walks.{IsOnward, IsStarted, nothing};
-ghost use Rattle.alta_search.specs.Ways.{way_view, IsSoundWay};
+ghost use Rattle.alta_search.specs.Ways.{way_view, led_view, IsSoundWay};
 ghost use Rattle.alta_search.specs.Words.{IsSoundSingle, single_list, single_place, single_left, reader_list, reader_all, reader_place, reader_left};
 
 use crate::single_reader::SingleReader;
@@ -99,6 +99,18 @@ impl<'a> PlanReader<'a> {
         seek_on(&mut reader, from, steps);
         PlanReader {
             way: Way::Led(reader),
+        }
+    }
+
+    /// The reader of the ends of a conjunction, where a word leads it, and this reader again where none does.
+    pub(crate) fn into_led(self) -> Result<LeadReader<SingleReader<'a>>, PlanReader<'a>>
+        ensures sound { IfOk result IsSoundLed }
+        ensures led { IfOk result (λ r. self.entry ≡ led_view r) }
+        ensures other { IfErr result (λ r. r ≡ self.entry) }
+    {
+        match self.way {
+            Way::Led(reader) => Ok(reader),
+            way => Err(PlanReader { way }),
         }
     }
 

@@ -12,19 +12,19 @@ ghost use Rattle.alta_rank.specs.Uses.{uses_of};
 ghost use Rattle.alta_rank.specs.declared.scored.Scored.{Scored};
 ghost use Rattle.alta_search.specs.Answers.{coming};
 ghost use Rattle.alta_search.specs.Leads.{IsConjunction};
+ghost use Rattle.alta_search.specs.Lists.{count_lists, count_locations};
 ghost use Rattle.alta_search.specs.Plans.{tests_of, lists, locations};
-ghost use Rattle.alta_search.specs.Scoring.{HasScored, AreScorable, scored_by};
+ghost use Rattle.alta_search.specs.Scoring.{HasScored, AreScorable, last_lists, scored_by};
 ghost use Rattle.alta_search.specs.Told.{rows_at};
 ghost use Rattle.alta_search.specs.Tops.{AreBest, AreToRank, AreTopSteps};
 ghost use Rattle.alta_search.specs.View.{Shows};
 
-use crate::cursor::{asked, begin};
+use crate::cursor::{asked, picked};
 use crate::page::Top;
 use crate::scoring::{score_row, scorer};
 use crate::section::Section;
 use crate::snapshot::Snapshot;
 use crate::test_reader::TestReader;
-use crate::walk::collect;
 use alta_codec::{Steps, TOP};
 use alta_compile::{Conjunction, Plan};
 use alta_content::DocRow;
@@ -50,10 +50,30 @@ fn answered<L: Ledger>(
     ensures answers { IfOk result (λ picks. (space : List Placed) → Shows space snapshot.now → rows_at snapshot.now.rows picks.items ≡ coming space (tree plan.now) snapshot.now 0) }
     ensures most { steps.new ≤ steps.old + locations snapshot.now.cuts + lists snapshot.now.cuts }
 {
-    let mut reader = begin(alloc, plan, found, snapshot, 0, steps)?;
-    let mut walk = snapshot.rows().walk();
-    let picked = collect(alloc, &mut reader, &mut walk, snapshot.gone(), TOP, steps)?;
+    let (picked, _) = picked(alloc, plan, found, snapshot, 0, TOP, steps)?;
     Ok(picked.picks)
+}
+
+/// The indexes of the rows of all answers of a query by its plan, over the snapshot of the plan's tests and of one test behind them. It
+/// leaves the steps of that test's lists.
+fn all_answered<L: Ledger>(
+    alloc: Global,
+    plan: &Plan,
+    query: &Query,
+    snapshot: &Snapshot,
+    steps: &mut Steps<L>,
+) -> Result<Vec<usize>, AllocError>
+    requires tests { snapshot.now.tests ≡ tests_of (tree plan.now) ++ title_end ∷ [] }
+    requires query { tree plan.now ≡ plan_of (shape query.now) }
+    ensures inside { IfOk result (λ picks. All (λ i. i < length snapshot.now.rows) picks.items) }
+    ensures answers { IfOk result (λ picks. (space : List Placed) → Shows space snapshot.now → rows_at snapshot.now.rows picks.items ≡ coming space (tree plan.now) snapshot.now 0) }
+    ensures most { steps.new + (count_locations (last_lists snapshot.now) + count_lists (last_lists snapshot.now)) ≤ steps.old + (locations snapshot.now.cuts + lists snapshot.now.cuts) }
+{
+    let section = snapshot.first(snapshot.len() - 1);
+    let found = asked(alloc, plan, query)?;
+    let picks = answered(alloc, plan, &found, &section, steps);
+    drop(found);
+    picks
 }
 
 /// Takes the document of a row in, with its score. Its name is copied only where it is kept.
@@ -121,9 +141,7 @@ pub fn top<L: Ledger>(
     a_query_has_few_uses();
     a_score_is_of_the_cells();
     let uses = uses(alloc, query)?;
-    let found = asked(alloc, plan, query)?;
-    let section = snapshot.first(snapshot.len() - 1);
-    let picks = answered(alloc, plan, &found, &section, steps)?;
+    let picks = all_answered(alloc, plan, query, snapshot, steps)?;
     let mut scorer = scorer(alloc, &snapshot.whole(), uses, steps)?;
     let best = best_of(alloc, &mut scorer, snapshot.rows(), &picks, count, steps)?;
     Ok(Top {

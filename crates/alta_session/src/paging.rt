@@ -43,10 +43,13 @@ pub(crate) fn open<D: Disk>(
     ensures queries { Queries D.tells D.state disk.old disk.new (open_loads store.now cursors.old text.now) (IsNoQuery text.now ⊎ (CURSORS ≤ length cursors.old)) result }
     ensures mark { KeepsMark D.tells (D.state disk.new) store.now ends.old ends.new result }
 {
-    match parse(alloc, text) {
-        Ok(query) => open_query(alloc, disk, store, ends, cursors, &query),
-        Err(fault) => refused(alloc, fault),
-    }
+    let query = match parse(alloc, text) {
+        Ok(query) => query,
+        Err(fault) => return refused(alloc, fault),
+    };
+    let reply = open_query(alloc, disk, store, ends, cursors, &query);
+    drop(query);
+    reply
 }
 
 // The reply to an open of a query.

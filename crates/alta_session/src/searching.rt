@@ -57,10 +57,13 @@ pub(crate) fn search<D: Disk>(
     ensures queries { Queries D.tells D.state disk.old disk.new (text_loads store.now text.now) (IsNoQuery text.now) result }
     ensures mark { KeepsMark D.tells (D.state disk.new) store.now ends.old ends.new result }
 {
-    match parse(alloc, text) {
-        Ok(query) => listed(alloc, disk, store, ends, &query),
-        Err(fault) => refused(alloc, fault),
-    }
+    let query = match parse(alloc, text) {
+        Ok(query) => query,
+        Err(fault) => return refused(alloc, fault),
+    };
+    let reply = listed(alloc, disk, store, ends, &query);
+    drop(query);
+    reply
 }
 
 /// The reply to a count: how many documents match, or that the text is no query. What it loads of the disk are the lists of the
@@ -77,10 +80,13 @@ pub(crate) fn count<D: Disk>(
     ensures queries { Queries D.tells D.state disk.old disk.new (text_loads store.now text.now) (IsNoQuery text.now) result }
     ensures mark { KeepsMark D.tells (D.state disk.new) store.now ends.old ends.new result }
 {
-    match parse(alloc, text) {
-        Ok(query) => counted(alloc, disk, store, ends, &query),
-        Err(fault) => refused(alloc, fault),
-    }
+    let query = match parse(alloc, text) {
+        Ok(query) => query,
+        Err(fault) => return refused(alloc, fault),
+    };
+    let reply = counted(alloc, disk, store, ends, &query);
+    drop(query);
+    reply
 }
 
 /// The reply to a top: a line for each of the first `count` documents that match, by falling score and at the same score by rising
@@ -99,10 +105,13 @@ pub(crate) fn rank<D: Disk>(
     ensures queries { Queries D.tells D.state disk.old disk.new (top_text_loads store.now text.now) (IsNoQuery text.now) result }
     ensures mark { KeepsMark D.tells (D.state disk.new) store.now ends.old ends.new result }
 {
-    match parse(alloc, text) {
-        Ok(query) => best_listed(alloc, disk, store, ends, count, &query),
-        Err(fault) => refused(alloc, fault),
-    }
+    let query = match parse(alloc, text) {
+        Ok(query) => query,
+        Err(fault) => return refused(alloc, fault),
+    };
+    let reply = best_listed(alloc, disk, store, ends, count, &query);
+    drop(query);
+    reply
 }
 
 /// The reply to an explain: the canonical spelling of the query and the lines of its plan, or that the text is no query. It
@@ -110,10 +119,13 @@ pub(crate) fn rank<D: Disk>(
 pub(crate) fn explain(alloc: Global, text: &str) -> Result<Text, StoreFault>
     ensures { IsReply (explaining text.now) result }
 {
-    match parse(alloc, text) {
-        Ok(query) => written(with_plan(alloc, &query)),
-        Err(fault) => refused(alloc, fault),
-    }
+    let query = match parse(alloc, text) {
+        Ok(query) => query,
+        Err(fault) => return refused(alloc, fault),
+    };
+    let reply = written(with_plan(alloc, &query));
+    drop(query);
+    reply
 }
 
 // The canonical spelling of a query, and the lines of its plan.
@@ -148,7 +160,12 @@ fn listed<D: Disk>(
     ensures mark { KeepsMark D.tells (D.state disk.new) store.now ends.old ends.new result }
 {
     match planned(alloc, disk, store, ends, query) {
-        Ok((plan, snapshot)) => written(all_listed(alloc, &plan, query, &snapshot)),
+        Ok((plan, snapshot)) => {
+            let reply = written(all_listed(alloc, &plan, query, &snapshot));
+            drop(plan);
+            drop(snapshot);
+            reply
+        }
         Err(fault) => Err(fault),
     }
 }
@@ -187,7 +204,12 @@ fn counted<D: Disk>(
     ensures mark { KeepsMark D.tells (D.state disk.new) store.now ends.old ends.new result }
 {
     match planned(alloc, disk, store, ends, query) {
-        Ok((plan, snapshot)) => written(all_counted(alloc, &plan, query, &snapshot)),
+        Ok((plan, snapshot)) => {
+            let reply = written(all_counted(alloc, &plan, query, &snapshot));
+            drop(plan);
+            drop(snapshot);
+            reply
+        }
         Err(fault) => Err(fault),
     }
 }
@@ -226,7 +248,12 @@ fn best_listed<D: Disk>(
     ensures mark { KeepsMark D.tells (D.state disk.new) store.now ends.old ends.new result }
 {
     match planned_for_top(alloc, disk, store, ends, query) {
-        Ok((plan, snapshot)) => written(all_ranked(alloc, &plan, query, &snapshot, count)),
+        Ok((plan, snapshot)) => {
+            let reply = written(all_ranked(alloc, &plan, query, &snapshot, count));
+            drop(plan);
+            drop(snapshot);
+            reply
+        }
         Err(fault) => Err(fault),
     }
 }
@@ -279,11 +306,15 @@ pub(crate) fn planned<D: Disk>(
         return Err(StoreFault::Memory);
     };
     let Ok(order) = loading_order(alloc, &plan) else {
+        drop(plan);
         return Err(StoreFault::Memory);
     };
     match load(alloc, disk, store, ends, order) {
         Ok(snapshot) => Ok((plan, snapshot)),
-        Err(fault) => Err(fault),
+        Err(fault) => {
+            drop(plan);
+            Err(fault)
+        }
     }
 }
 
@@ -308,11 +339,15 @@ fn planned_for_top<D: Disk>(
         return Err(StoreFault::Memory);
     };
     let Ok(order) = ranking_order(alloc, &plan) else {
+        drop(plan);
         return Err(StoreFault::Memory);
     };
     match load(alloc, disk, store, ends, order) {
         Ok(snapshot) => Ok((plan, snapshot)),
-        Err(fault) => Err(fault),
+        Err(fault) => {
+            drop(plan);
+            Err(fault)
+        }
     }
 }
 

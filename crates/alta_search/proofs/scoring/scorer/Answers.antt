@@ -64,6 +64,40 @@ unreachable-requires g c =
       scoring_size c.args.uses v,
     )))
 
+pub returns-in_err-readers-clause-most : goal.returns-in_err-readers-clause-most
+returns-in_err-readers-clause-most g c =
+    let v = c.args.snapshot.now in
+    omega (
+      arith,
+      c.readers.ensures.most,
+      ap lists (index_cuts c.uses.result.0.now c.uses.result.1.now v c.args.uses c.as_slice.result.now c.deref.result.now c.in_ok-indexes.indexes.items
+          c.uses.ensures.used c.uses.ensures.cuts c.as_slice.ensures c.deref.ensures.value c.in_ok-indexes.ensures),
+    )
+
+pub returns-in_err-titles-clause-most : goal.returns-in_err-titles-clause-most
+returns-in_err-titles-clause-most g c =
+    let v = c.args.snapshot.now in
+    omega (
+      arith,
+      c.in_ok-readers.ensures.exact,
+      c.reader.ensures.most,
+      ap lists (index_cuts c.uses.result.0.now c.uses.result.1.now v c.args.uses c.as_slice.result.now c.deref.result.now c.in_ok-indexes.indexes.items
+          c.uses.ensures.used c.uses.ensures.cuts c.as_slice.ensures c.deref.ensures.value c.in_ok-indexes.ensures),
+      ap count_lists (c.terms_at.ensures ∙ last_is c.uses.result.0.now c.uses.result.1.now v c.uses.ensures.cuts (some_used c.uses.result.0.now c.uses.result.1.now v c.uses.ensures.used c.requires)),
+    )
+
+pub returns-clause-most : goal.returns-clause-most
+returns-clause-most g c =
+    let v = c.args.snapshot.now in
+    omega (
+      arith,
+      c.in_ok-readers.ensures.exact,
+      c.in_ok-titles.ensures.exact,
+      ap lists (index_cuts c.uses.result.0.now c.uses.result.1.now v c.args.uses c.as_slice.result.now c.deref.result.now c.in_ok-indexes.indexes.items
+          c.uses.ensures.used c.uses.ensures.cuts c.as_slice.ensures c.deref.ensures.value c.in_ok-indexes.ensures),
+      ap count_lists (c.terms_at.ensures ∙ last_is c.uses.result.0.now c.uses.result.1.now v c.uses.ensures.cuts (some_used c.uses.result.0.now c.uses.result.1.now v c.uses.ensures.used c.requires)),
+    )
+
 pub returns-clause-scorer : goal.returns-clause-scorer
 returns-clause-scorer g c =
     let v = c.args.snapshot.now in let used = c.uses.result.1.now in let tests = c.uses.result.0.now in

@@ -1,25 +1,27 @@
-use Rattle.std.proofs.Common.{◌≡◌, ◌+◌, arith}
+use Rattle.std.proofs.Common.{◌≡◌, sym, subst, ap, ◌∙◌, arith}
+use Rattle.std.specs.Prelude.{IfOk}
 use Rattle.alta_search.specs.Answers.{count_live}
-use Rattle.alta_search.proofs.Tallying.{live_fits, tally_fits, tally_end}
+use Rattle.alta_search.specs.Walks.{PlanView, IsReading}
 use Rattle.alta_search.proofs.walk.tally.Goals as goal
 
-pub overflow_add-live : goal.overflow_add-live
-overflow_add-live g c =
-    let gone = c.args.gone.now in let new = c.pass_gone-live.new.reader in
-    omega (
-      arith,
-      tally_fits c.args.reader.now c.gone.reader gone c.gone.live c.gone.at c.args.steps.now c.gone.steps c.gone.invariant c.pass_gone-live.result
-          (count_live c.gone.reader.list gone new.place) c.requires.stands.rising c.pass_gone-live.ensures.count,
-    )
+pub returns-in-Ok-clause-count : goal.returns-in-Ok-clause-count
+returns-in-Ok-clause-count g c =
+    subst (λ (v : PlanView). IfOk c.tally_led.result (λ n. n ≡ count_live v.list c.args.gone.now v.place)) (sym c.in-Ok.ensures.led) c.tally_led.ensures.count
 
-pub returns-clause-count : goal.returns-clause-count
-returns-clause-count g c =
-    tally_end c.args.reader.now c.gone.reader c.args.gone.now c.gone.live c.gone.at c.args.steps.now c.gone.steps c.gone.invariant
-    c.pass.new.reader c.pass.result c.pass.new.steps c.gone-test.false c.pass.ensures.onward c.pass.ensures.reached (c.pass.ensures.count c.args.gone.now)
+pub returns-in-Ok-clause-steps : goal.returns-in-Ok-clause-steps
+returns-in-Ok-clause-steps g c = omega (arith, c.tally_led.ensures.steps, ap (λ (v : PlanView). v.left) c.in-Ok.ensures.led)
 
-pub overflow_add-result : goal.overflow_add-result
-overflow_add-result g c =
-    let all : c.gone.live + c.pass.result ≡ count_live c.args.reader.now.list c.args.gone.now c.args.reader.now.place =
-    tally_end c.args.reader.now c.gone.reader c.args.gone.now c.gone.live c.gone.at c.args.steps.now c.gone.steps c.gone.invariant
-    c.pass.new.reader c.pass.result c.pass.new.steps c.gone-test.false c.pass.ensures.onward c.pass.ensures.reached (c.pass.ensures.count c.args.gone.now) in
-    omega (arith, all, live_fits c.args.reader.now.list c.args.gone.now c.args.reader.now.place c.requires.stands.rising)
+pub returns-in-Ok-clause-moves : goal.returns-in-Ok-clause-moves
+returns-in-Ok-clause-moves g c = omega (arith, c.tally_led.ensures.moves, ap (λ (v : PlanView). v.moves) c.in-Ok.ensures.led)
+
+pub tally_each-requires-clause-stands : goal.tally_each-requires-clause-stands
+tally_each-requires-clause-stands g c = subst IsReading (sym c.in-Err.ensures.other) c.requires.stands
+
+pub returns-in-Err-clause-count : goal.returns-in-Err-clause-count
+returns-in-Err-clause-count g c = c.tally_each.ensures.count ∙ ap (λ (v : PlanView). count_live v.list c.args.gone.now v.place) c.in-Err.ensures.other
+
+pub returns-in-Err-clause-steps : goal.returns-in-Err-clause-steps
+returns-in-Err-clause-steps g c = omega (arith, c.tally_each.ensures.onward.steps, ap (λ (v : PlanView). v.left) c.in-Err.ensures.other)
+
+pub returns-in-Err-clause-moves : goal.returns-in-Err-clause-moves
+returns-in-Err-clause-moves g c = omega (arith, c.tally_each.ensures.onward.moves, ap (λ (v : PlanView). v.moves) c.in-Err.ensures.other)

@@ -4,15 +4,15 @@ use Rattle.alta_session.proofs.LoadingLaws.{mark_still, none_loaded, open_none_l
 use Rattle.alta_session.proofs.SearchLaws.{parsed, not_parsed}
 use Rattle.alta_session.proofs.paging.open.Goals as goal
 
-pub returns-in-Ok-clause-turned : goal.returns-in-Ok-clause-turned
-returns-in-Ok-clause-turned g c = λ s all tell stands h.
-    open_found c.args.text.now s.documents all c.open_query.new.cursors c.open_query.result (shape c.in-Ok.query) (parsed c.parse.result c.in-Ok.query c.args.text.now c.in-Ok.is c.parse.ensures.reading)
-    (c.open_query.ensures.turned s all tell stands h)
+pub returns-clause-turned : goal.returns-clause-turned
+returns-clause-turned g c = λ s all tell stands h.
+    open_found c.args.text.now s.documents all c.open_query-reply.new.cursors c.open_query-reply.result (shape c.in-Ok.query) (parsed c.parse.result c.in-Ok.query c.args.text.now c.in-Ok.is c.parse.ensures.reading)
+    (c.open_query-reply.ensures.turned s all tell stands h)
 
-pub returns-in-Ok-clause-queries : goal.returns-in-Ok-clause-queries
-returns-in-Ok-clause-queries g c =
+pub returns-clause-queries : goal.returns-clause-queries
+returns-clause-queries g c =
     let is = parsed c.parse.result c.in-Ok.query c.args.text.now c.in-Ok.is c.parse.ensures.reading in
-    queries_opened g.D.Disk.tells g.D.Disk.state c.args.disk.now c.open_query.new.disk c.args.store.now c.args.cursors.now c.args.text.now (shape c.in-Ok.query) c.open_query.result is c.open_query.ensures.queries
+    queries_opened g.D.Disk.tells g.D.Disk.state c.args.disk.now c.open_query-reply.new.disk c.args.store.now c.args.cursors.now c.args.text.now (shape c.in-Ok.query) c.open_query-reply.result is c.open_query-reply.ensures.queries
 
 pub returns-in-Err-clause-turned : goal.returns-in-Err-clause-turned
 returns-in-Err-clause-turned g c = λ s all tell stands h.

@@ -15,14 +15,14 @@ use Rattle.alta_session.proofs.searching.best_listed.Goals as goal
 
 pub returns-in-Ok-clause-reply : goal.returns-in-Ok-clause-reply
 returns-in-Ok-clause-reply g c = λ s tell stands.
-    is_written_for (λ (documents : List Document). AreToRank (tree c.in-Ok.plan) c.in-Ok.snapshot documents) c.written.result c.all_ranked.result
+    is_written_for (λ (documents : List Document). AreToRank (tree c.in-Ok.plan) c.in-Ok.snapshot documents) c.written-reply.result c.all_ranked.result
     (λ (documents : List Document). score_lines (take c.args.count (ranked (map (scored (uses_of (shape c.args.query.now))) documents))) ++ found_line (length documents))
-    c.written.ensures.reply c.all_ranked.ensures.lines (answers s.documents (shape c.args.query.now)) (c.in-Ok.ensures.answers s tell stands)
+    c.written-reply.ensures.reply c.all_ranked.ensures.lines (answers s.documents (shape c.args.query.now)) (c.in-Ok.ensures.answers s tell stands)
 
 pub returns-in-Ok-clause-queries : goal.returns-in-Ok-clause-queries
 returns-in-Ok-clause-queries g c =
-    queries_loaded g.D.Disk.tells g.D.Disk.state c.args.disk.now c.planned_for_top.new.disk (top_loads c.args.store.now (plan_of (shape c.args.query.now))) _ c.written.result c.in-Ok.ensures.loads c.written.ensures.memory
-    (other_written c.written.result c.all_ranked.result c.written.ensures.reply c.all_ranked.ensures.other)
+    queries_loaded g.D.Disk.tells g.D.Disk.state c.args.disk.now c.planned_for_top.new.disk (top_loads c.args.store.now (plan_of (shape c.args.query.now))) _ c.written-reply.result c.in-Ok.ensures.loads c.written-reply.ensures.memory
+    (other_written c.written-reply.result c.all_ranked.result c.written-reply.ensures.reply c.all_ranked.ensures.other)
 
 pub returns-in-Err-clause-queries : goal.returns-in-Err-clause-queries
 returns-in-Err-clause-queries g c =
@@ -30,5 +30,5 @@ returns-in-Err-clause-queries g c =
 
 pub returns-in-Ok-clause-mark : goal.returns-in-Ok-clause-mark
 returns-in-Ok-clause-mark g c =
-    mark_loaded g.D.Disk.tells (g.D.Disk.state c.planned_for_top.new.disk) c.args.store.now c.args.ends.now c.planned_for_top.new.ends c.written.result c.planned_for_top.ensures.mark
-    (other_written c.written.result c.all_ranked.result c.written.ensures.reply c.all_ranked.ensures.other)
+    mark_loaded g.D.Disk.tells (g.D.Disk.state c.planned_for_top.new.disk) c.args.store.now c.args.ends.now c.planned_for_top.new.ends c.written-reply.result c.planned_for_top.ensures.mark
+    (other_written c.written-reply.result c.all_ranked.result c.written-reply.ensures.reply c.all_ranked.ensures.other)

@@ -6,15 +6,15 @@ use Rattle.alta_session.proofs.LoadingLaws.{is_query, mark_still, none_loaded, q
 use Rattle.alta_session.proofs.SearchLaws.{parsed, not_parsed, count_found, count_refused}
 use Rattle.alta_session.proofs.searching.count.Goals as goal
 
-pub returns-in-Ok-clause-reply : goal.returns-in-Ok-clause-reply
-returns-in-Ok-clause-reply g c = λ s tell stands.
-    count_found c.counted.result c.args.text.now s.documents (shape c.in-Ok.query) (parsed c.parse.result c.in-Ok.query c.args.text.now c.in-Ok.is c.parse.ensures.reading) (c.counted.ensures.reply s tell stands)
+pub returns-clause-reply : goal.returns-clause-reply
+returns-clause-reply g c = λ s tell stands.
+    count_found c.counted-reply.result c.args.text.now s.documents (shape c.in-Ok.query) (parsed c.parse.result c.in-Ok.query c.args.text.now c.in-Ok.is c.parse.ensures.reading) (c.counted-reply.ensures.reply s tell stands)
 
-pub returns-in-Ok-clause-queries : goal.returns-in-Ok-clause-queries
-returns-in-Ok-clause-queries g c =
+pub returns-clause-queries : goal.returns-clause-queries
+returns-clause-queries g c =
     let is = parsed c.parse.result c.in-Ok.query c.args.text.now c.in-Ok.is c.parse.ensures.reading in
-    queries_found g.D.Disk.tells g.D.Disk.state c.args.disk.now c.counted.new.disk (search_loads c.args.store.now (plan_of (shape c.in-Ok.query))) (text_loads c.args.store.now c.args.text.now) (IsNoQuery c.args.text.now) c.counted.result
-    (text_found c.args.store.now c.args.text.now (shape c.in-Ok.query) is) (is_query c.args.text.now (shape c.in-Ok.query) is) c.counted.ensures.queries
+    queries_found g.D.Disk.tells g.D.Disk.state c.args.disk.now c.counted-reply.new.disk (search_loads c.args.store.now (plan_of (shape c.in-Ok.query))) (text_loads c.args.store.now c.args.text.now) (IsNoQuery c.args.text.now) c.counted-reply.result
+    (text_found c.args.store.now c.args.text.now (shape c.in-Ok.query) is) (is_query c.args.text.now (shape c.in-Ok.query) is) c.counted-reply.ensures.queries
 
 pub returns-in-Err-clause-reply : goal.returns-in-Err-clause-reply
 returns-in-Err-clause-reply g c = λ s tell stands.

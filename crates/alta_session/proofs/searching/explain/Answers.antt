@@ -2,11 +2,11 @@ use Rattle.alta_query.specs.View.{shape}
 use Rattle.alta_session.proofs.SearchLaws.{is_written, parsed, not_parsed, explain_found, explain_refused}
 use Rattle.alta_session.proofs.searching.explain.Goals as goal
 
-pub returns-in-Ok : goal.returns-in-Ok
-returns-in-Ok c = record {
-  reply = explain_found c.written.result c.args.text.now (shape c.in-Ok.query) (parsed c.parse.result c.in-Ok.query c.args.text.now c.in-Ok.is c.parse.ensures.reading)
-      (is_written c.written.result c.with_plan.result _ c.written.ensures.reply c.with_plan.ensures);
-  memory = c.written.ensures.memory;
+pub returns : goal.returns
+returns c = record {
+  reply = explain_found c.written-reply.result c.args.text.now (shape c.in-Ok.query) (parsed c.parse.result c.in-Ok.query c.args.text.now c.in-Ok.is c.parse.ensures.reading)
+      (is_written c.written-reply.result c.with_plan.result _ c.written-reply.ensures.reply c.with_plan.ensures);
+  memory = c.written-reply.ensures.memory;
 }
 
 pub returns-in-Err : goal.returns-in-Err

@@ -13,13 +13,13 @@ use Rattle.alta_session.proofs.searching.listed.Goals as goal
 
 pub returns-in-Ok-clause-reply : goal.returns-in-Ok-clause-reply
 returns-in-Ok-clause-reply g c = λ s tell stands.
-    is_written_for (λ (documents : List Document). AreToCome (tree c.in-Ok.plan) c.in-Ok.snapshot 0 documents) c.written.result c.all_listed.result (λ (documents : List Document). answer_lines documents ++ found_line (length documents))
-    c.written.ensures.reply c.all_listed.ensures.lines (answers s.documents (shape c.args.query.now)) (c.in-Ok.ensures.answers s tell stands)
+    is_written_for (λ (documents : List Document). AreToCome (tree c.in-Ok.plan) c.in-Ok.snapshot 0 documents) c.written-reply.result c.all_listed.result (λ (documents : List Document). answer_lines documents ++ found_line (length documents))
+    c.written-reply.ensures.reply c.all_listed.ensures.lines (answers s.documents (shape c.args.query.now)) (c.in-Ok.ensures.answers s tell stands)
 
 pub returns-in-Ok-clause-queries : goal.returns-in-Ok-clause-queries
 returns-in-Ok-clause-queries g c =
-    queries_loaded g.D.Disk.tells g.D.Disk.state c.args.disk.now c.planned.new.disk (search_loads c.args.store.now (plan_of (shape c.args.query.now))) _ c.written.result c.in-Ok.ensures.loads c.written.ensures.memory
-    (other_written c.written.result c.all_listed.result c.written.ensures.reply c.all_listed.ensures.other)
+    queries_loaded g.D.Disk.tells g.D.Disk.state c.args.disk.now c.planned.new.disk (search_loads c.args.store.now (plan_of (shape c.args.query.now))) _ c.written-reply.result c.in-Ok.ensures.loads c.written-reply.ensures.memory
+    (other_written c.written-reply.result c.all_listed.result c.written-reply.ensures.reply c.all_listed.ensures.other)
 
 pub returns-in-Err-clause-queries : goal.returns-in-Err-clause-queries
 returns-in-Err-clause-queries g c =
@@ -27,5 +27,5 @@ returns-in-Err-clause-queries g c =
 
 pub returns-in-Ok-clause-mark : goal.returns-in-Ok-clause-mark
 returns-in-Ok-clause-mark g c =
-    mark_loaded g.D.Disk.tells (g.D.Disk.state c.planned.new.disk) c.args.store.now c.args.ends.now c.planned.new.ends c.written.result c.planned.ensures.mark
-    (other_written c.written.result c.all_listed.result c.written.ensures.reply c.all_listed.ensures.other)
+    mark_loaded g.D.Disk.tells (g.D.Disk.state c.planned.new.disk) c.args.store.now c.args.ends.now c.planned.new.ends c.written-reply.result c.planned.ensures.mark
+    (other_written c.written-reply.result c.all_listed.result c.written-reply.ensures.reply c.all_listed.ensures.other)

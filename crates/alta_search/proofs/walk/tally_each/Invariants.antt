@@ -1,6 +1,6 @@
 use Rattle.std.proofs.Common.{◌-◌, length}
 use Rattle.alta_search.proofs.Tallying.{IsTallying}
-use Rattle.alta_search.proofs.walk.tally.Given as goal
+use Rattle.alta_search.proofs.walk.tally_each.Given as goal
 
 abbrev pub invariant-gone : goal.invariant-gone
 invariant-gone g l = IsTallying l.fn.reader l.reader l.gone l.live l.at l.fn.steps l.steps
