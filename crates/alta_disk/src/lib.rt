@@ -9,8 +9,6 @@ mod laws;
 mod memory;
 mod rebuilt;
 mod synced;
-#[cfg(test)]
-mod tests;
 mod written;
 
 pub use alta_codec::Failed;

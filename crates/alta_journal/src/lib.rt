@@ -11,8 +11,6 @@ mod places;
 mod preparing;
 mod record;
 mod replaying;
-#[cfg(test)]
-mod tests;
 
 pub use appending::{JournalFault, append, format};
 pub use entry::Entry;

@@ -11,8 +11,6 @@ mod root;
 mod slot;
 mod spelling;
 mod switching;
-#[cfg(test)]
-mod tests;
 
 pub use fault::RootFault;
 pub use gaps::{gap, place};

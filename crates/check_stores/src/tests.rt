@@ -1,5 +1,5 @@
 // Disks that are opened, damaged, added to and stopped.
-ghost use Rattle.std.specs.Prelude.{◌≡◌, ◌≤◌, true, OnOk};
+ghost use Rattle.std.specs.Prelude.{◌≡◌, ◌≤◌, true, OnOk, IsTrue};
 ghost use Rattle.alta_codec.specs.Name.{IsName};
 ghost use Rattle.alta_disk.specs.Disk.{DiskState};
 ghost use Rattle.alta_journal.specs.declared.places.TheConstants.{HEAD_BYTES};
@@ -177,6 +177,13 @@ pub(crate) type Counts = (u64, u64, u64);
 // What a store answers, and its counts at the end.
 pub(crate) type Answers = (Vec<Option<Numbers>>, Counts);
 
+// Whether a text is a name.
+fn is_named(name: &str) -> bool
+    ensures { IsTrue result → IsName name.now }
+{
+    name_ok(name.as_bytes())
+}
+
 // Opens a store, and does this with each of these names in turn, up to a fault.
 fn answers<D: Disk>(
     alloc: Global,
@@ -186,7 +193,7 @@ fn answers<D: Disk>(
     let mut store = Store::open(alloc, disk)?;
     let mut numbers = Vec::new(alloc);
     for (act, name) in steps {
-        if !name_ok(name.as_bytes()) {
+        if !is_named(name) {
             return Ok((numbers, store.counts()));
         }
         let Ok(both) = done(&mut store, disk, *act, name) else {

@@ -1,8 +1,8 @@
 // Images of disks in memory, the fuse, and the file.
-use crate::{
+use alta_codec::Text;
+use alta_disk::{
     Disk, Failed, FileDisk, FuseDisk, MemoryDisk, images_keep_the_firm_bytes, write_in_order,
 };
-use alta_codec::Text;
 use std::alloc::{AllocError, Global};
 use std::fs::File;
 use std::process::Abort;
@@ -127,40 +127,48 @@ fn check(rt: &impl Abort, alloc: Global, row: &Row) -> Result<(), AllocError> {
     Ok(())
 }
 
-#[test]
-fn images(rt: HostRuntime) -> Result<(), Fail> {
-    for row in &ROWS {
-        check(&rt, rt.alloc(), row)?;
-    }
-    Ok(())
+// Whether the image for a pick is this.
+fn is_image(alloc: Global, disk: &MemoryDisk, pick: u64, want: &[u8]) -> Result<bool, AllocError> {
+    Ok(disk.image(alloc, pick)?.as_slice() == want)
 }
 
-#[test]
-fn calls_in_memory(rt: HostRuntime) -> Result<(), Fail> {
-    let alloc = rt.alloc();
+// A disk behind a fuse of three calls, of which the third writes, and then each call has failed, one of them a write.
+fn fused(alloc: Global) -> Result<MemoryDisk, Fail> {
     let content = b"abcdef".to_vec(alloc)?;
     let mut disk = MemoryDisk::new(alloc, content, 16, Vec::new(alloc));
-    assert_eq!(rt; write_in_order(&mut disk, 6, b"gh", 0, b"A"), Ok(()));
+    let Ok(()) = write_in_order(&mut disk, 6, b"gh", 0, b"A") else {
+        return Err("two writes in order fail".into());
+    };
     images_keep_the_firm_bytes(&disk);
     let mut fuse = FuseDisk::new(disk, 3);
     let mut two = [0; 2];
-    assert_eq!(rt; fuse.len(), Ok(8));
-    assert_eq!(rt; fuse.read(6, &mut two), Ok(()));
-    assert_eq!(rt; fuse.write(1, b"B"), Ok(()));
-    assert_eq!(rt; (two, fuse.limit()), (*b"gh", 16));
-    assert_eq!(rt; fuse.write(4, b"EF"), Err(Failed));
-    assert_eq!(rt; (fuse.sync(), fuse.len()), (Err(Failed), Err(Failed)));
-    let disk = fuse.into_inner();
-    let images = (
-        disk.image(alloc, 0)?,
-        disk.image(alloc, 1)?,
-        disk.image(alloc, 2)?,
-        disk.image(alloc, 9)?,
-    );
-    assert_eq!(rt; images.0.as_slice(), b"ABcdefgh".as_slice());
-    assert_eq!(rt; images.1.as_slice(), b"Abcdefgh".as_slice());
-    assert_eq!(rt; images.2.as_slice(), b"A\xA5cd\xA5\xA5gh".as_slice());
-    assert_eq!(rt; images.3.as_slice(), b"A\0cd\0\0gh".as_slice());
+    let Ok(8) = fuse.len() else {
+        return Err("another length".into());
+    };
+    let Ok(()) = fuse.read(6, &mut two) else {
+        return Err("a read fails".into());
+    };
+    let Ok(()) = fuse.write(1, b"B") else {
+        return Err("a write fails".into());
+    };
+    if two != *b"gh" || fuse.limit() != 16 {
+        return Err("other bytes, or another limit".into());
+    }
+    if fuse.write(4, b"EF").is_ok() || fuse.sync().is_ok() || fuse.len().is_ok() {
+        return Err("a call behind the fuse does not fail".into());
+    }
+    Ok(fuse.into_inner())
+}
+
+pub(crate) fn calls_in_memory(rt: &impl Abort, alloc: Global) -> Result<(), Fail> {
+    for row in &ROWS {
+        check(rt, alloc, row)?;
+    }
+    let disk = fused(alloc)?;
+    assert!(rt; is_image(alloc, &disk, 0, b"ABcdefgh")?);
+    assert!(rt; is_image(alloc, &disk, 1, b"Abcdefgh")?);
+    assert!(rt; is_image(alloc, &disk, 2, b"A\xA5cd\xA5\xA5gh")?);
+    assert!(rt; is_image(alloc, &disk, 9, b"A\0cd\0\0gh")?);
     Ok(())
 }
 
@@ -195,13 +203,9 @@ fn calls_on_a_file(rt: HostRuntime) -> Result<(), Fail> {
     let _ = fs::remove_file(&rt, path.as_str());
     let mut disk = FileDisk::new(rt.clone()?, Some(Text::from_string(path.clone()?)));
     let mut three = [0; 3];
-    assert_eq!(rt; hello(&mut disk), Ok((0, *b"ell")));
-    assert_eq!(rt; (disk.len(), disk.limit()), (Ok(5), 1_099_511_627_776));
-    assert_eq!(rt;
-        disk.read(3, &mut three),
-        Err(Failed),
-        "a read that ends early"
-    );
+    assert!(rt; hello(&mut disk) == Ok((0, *b"ell")));
+    assert!(rt; disk.len() == Ok(5) && disk.limit() == 1_099_511_627_776);
+    assert!(rt; disk.read(3, &mut three).is_err(), "a read that ends early");
     let mut lost = FileDisk::new(rt.clone()?, Some(Text::from_string(inside)));
     assert!(rt; each_call_fails(&mut lost), "a file in place of a folder");
     let mut none = FileDisk::new(rt.clone()?, None);
