@@ -1,13 +1,14 @@
 #!/usr/bin/env python3
 """Measures how large an index is beside its text, and how long opening it takes, beside SQLite's full-text index.
 
-usage: bench/opening.py [--program PATH] [--count N] [--word WORD] [--turns N] [--merge] --lines FILE
+usage: bench/opening.py [--program PATH] [--before PATH] [--count N] [--word WORD] [--turns N] [--merge] --lines FILE
 
 FILE has `add` lines, as `examples/packages.py - /var/lib/dpkg/status` writes them. The first N go into a new index of the
 program, with `flush` (or `merge`) behind them, and into a new FTS5 table on disk that keeps no texts and is optimized. Sizes are those of
 the files, the program's without its slots and journal, so that gaps between levels count. A time is the processor time of one
 process: that which opens the index and counts the word, less that of a process that opens nothing. The least of all turns
-counts; both take turns in one run.
+counts; all take turns in one run. Beside an opening alone (one `stats`) stands opening.c, compiled by `gcc -O2`, which does the same
+reads and tests. With --before that of a program of before is printed too.
 """
 
 import argparse
@@ -30,6 +31,13 @@ print(time.process_time() - begun, found)
 """
 
 
+def compiled(folder):
+    """The opening in C."""
+    program = os.path.join(folder, "opening")
+    subprocess.run(["gcc", "-O2", "-o", program, os.path.join(os.path.dirname(os.path.abspath(__file__)), "opening.c")], check=True)
+    return program
+
+
 def first_query(table, word):
     words = [sys.executable, "-c", FIRST_QUERY, table, word]
     seconds, found = subprocess.run(words, stdout=subprocess.PIPE, check=True).stdout.split()
@@ -40,6 +48,7 @@ def main():
     top = os.path.dirname(os.path.dirname(os.path.abspath(__file__)))
     parser = argparse.ArgumentParser(description=__doc__, formatter_class=argparse.RawDescriptionHelpFormatter)
     parser.add_argument("--program", default=os.path.join(top, "crates", "alta_cli", "out", "alta_cli"))
+    parser.add_argument("--before")
     parser.add_argument("--lines", required=True)
     parser.add_argument("--count", type=int, default=60000)
     parser.add_argument("--word", default="library")
@@ -60,14 +69,22 @@ def main():
         base.close()
         for name, size in ("index", os.path.getsize(path) - LEVELS_START), ("FTS5", os.path.getsize(table)):
             print(f"{name}: {size} bytes, {size / text:.3f} of the text")
-        opened, asked, started = [], [], []
+        in_c = compiled(folder)
+        programs = {"index": options.program} | ({"before": options.before} if options.before else {})
+        times = {}
         for _ in range(options.turns):
-            opened.append(spent([options.program, path, "run"], f"count {options.word}\n".encode()))
-            started.append(spent([options.program], b"", check=False, stderr=subprocess.DEVNULL))
-            asked.append(first_query(table, options.word))
-        least = min(opened)[0] - min(started)[0]
-        print(f"index: opened, and one count: {least * 1e3:.1f} ms ({opened[0][1].decode().strip()})")
-        print(f"FTS5: opened, and one count: {min(asked)[0] * 1e3:.1f} ms ({asked[0][1]})")
+            for name, program in programs.items():
+                started = spent([program], b"", check=False, stderr=subprocess.DEVNULL)[0]
+                for line in (f"count {options.word}", "stats"):
+                    seconds, said = spent([program, path, "run"], f"{line}\n".encode())
+                    times.setdefault(f"{name}, {line}", []).append((seconds - started, said.decode().strip()))
+            started = spent([in_c], b"", check=False)[0]
+            seconds, said = spent([in_c, path])
+            times.setdefault("C, the opening alone", []).append((seconds - started, said.decode().strip()))
+            times.setdefault("FTS5, its first query", []).append(first_query(table, options.word))
+        for name, spans in times.items():
+            seconds, said = min(spans)
+            print(f"{name}: {seconds * 1e3:.1f} ms ({said})")
     return 0
 
 

@@ -33,7 +33,7 @@ import sys
 import tempfile
 import time
 
-from leads import write
+from decode import BLOCK, number
 from rounds import seconds
 
 WORDS = 64
@@ -52,6 +52,30 @@ QUERIES = [
     ("h NOT", "NOT half", "without", ["half"], "every NOT half"),
     ("i prefix", "pre*", "many", [], "pre*"),
 ]
+
+
+def posting(locations):
+    """The stream and the summary of a list."""
+    stream, rows, before = bytearray(), [], 0
+    for index, location in enumerate(locations):
+        if index % BLOCK == 0:
+            rows.append([location, locations[min(index + BLOCK, len(locations)) - 1], len(stream)])
+        stream += number(location - before)
+        before = location
+    if len(rows) < 2:
+        return stream, b""
+    fields = [field for row in rows for field in row]
+    fields += [rows[min(first + BLOCK, len(rows)) - 1][1] for first in range(0, len(rows), BLOCK)]
+    return stream, b"".join(field.to_bytes(8, "big") for field in fields)
+
+
+def write(folder, name, locations):
+    """The files of a list."""
+    paths = [os.path.join(folder, name), os.path.join(folder, name + ".summary")]
+    for path, content in zip(paths, posting(locations)):
+        with open(path, "wb") as file:
+            file.write(content)
+    return paths
 
 
 def free(chance, places, before=None):

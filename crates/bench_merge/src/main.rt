@@ -107,18 +107,70 @@ fn repeat(
     Ok(sum)
 }
 
-// Takes the steps of the words that are left.
-fn take_steps(rt: &HostRuntime, mut job: Job, words: env::Args) -> io::Result<()> {
+// Begins the join of the two, and takes the steps of the words that are left.
+fn take_steps(rt: &HostRuntime, a: Content, b: Content, words: env::Args) -> io::Result<()>
+    requires a { IsPart a }
+    requires b { IsPart b }
+{
+    if !may_join(&a, &b) {
+        return Ok(());
+    }
+    let mut job = Job::new(rt.alloc(), a, b, &[])?;
     for word in words {
-        let n = word.as_str().parse::<u64>().unwrap_or(1);
-        let done = job.step(n)?;
+        let done = job.step(number(word.as_str(), 1))?;
         println!(rt; "{done}")?;
     }
     Ok(())
 }
 
-fn main(rt: HostRuntime) -> io::Result<ExitCode> {
+// The number that a word spells, or another where it spells none.
+fn number(word: &str, other: u64) -> u64 {
+    word.parse::<u64>().unwrap_or(other)
+}
+
+// The number that the next word spells, or another where there is none.
+fn next_number(words: &mut env::Args, other: u64) -> u64 {
+    match words.next() {
+        Some(word) => number(word.as_str(), other),
+        None => other,
+    }
+}
+
+// The ends that are dead: of each document whose place is a multiple of `every`, in both, and none where that is 0.
+fn dead_ends(alloc: Global, a: &Content, b: &Content, every: u64) -> Result<Vec<Loc>, AllocError> {
+    let mut dead = Vec::new(alloc);
+    if every == 0 {
+        return Ok(dead);
+    }
+    put_ends(&mut dead, a.documents.as_slice(), every)?;
+    put_ends(&mut dead, b.documents.as_slice(), every)?;
+    Ok(dead)
+}
+
+// Does what the words ask with the two files.
+fn work(rt: &HostRuntime, older: &[u8], newer: &[u8], mut words: env::Args) -> io::Result<()>
+    requires older { length older.now ≤ MOST }
+    requires newer { length newer.now ≤ MOST }
+{
     let alloc = rt.alloc();
+    let a = read(alloc, older)?;
+    let b = read(alloc, newer)?;
+    println!(rt; "{} {}", a.lists.len(), b.lists.len())?;
+    let Some(mode) = words.next() else {
+        return Ok(());
+    };
+    if mode.as_str() == "begin" {
+        return take_steps(rt, a, b, words);
+    }
+    let rounds = next_number(&mut words, 1);
+    let every = next_number(&mut words, 0);
+    let dead = dead_ends(alloc, &a, &b, every)?;
+    let sum = repeat(alloc, older, newer, mode.as_str() == "join", rounds, &dead)?;
+    println!(rt; "{sum}")?;
+    Ok(())
+}
+
+fn main(rt: HostRuntime) -> io::Result<ExitCode> {
     let mut words = env::args(&rt)?;
     let _program = words.next();
     let (Some(older), Some(newer)) = (words.next(), words.next()) else {
@@ -129,32 +181,6 @@ fn main(rt: HostRuntime) -> io::Result<ExitCode> {
     if older.len() > MOST || newer.len() > MOST {
         return Ok(ExitCode::from(2));
     }
-    let a = read(alloc, &older)?;
-    let b = read(alloc, &newer)?;
-    println!(rt; "{} {}", a.lists.len(), b.lists.len())?;
-    let Some(mode) = words.next() else {
-        return Ok(ExitCode::SUCCESS);
-    };
-    if mode.as_str() == "begin" {
-        if !may_join(&a, &b) {
-            return Ok(ExitCode::SUCCESS);
-        }
-        let job = Job::new(alloc, a, b, &[])?;
-        take_steps(&rt, job, words)?;
-        return Ok(ExitCode::SUCCESS);
-    }
-    let joins = mode.as_str() == "join";
-    let rounds = match words.next() {
-        Some(word) => word.as_str().parse::<u64>().unwrap_or(1),
-        None => 1,
-    };
-    let mut dead = Vec::new(alloc);
-    if let Some(word) = words.next() {
-        let every = word.as_str().parse::<u64>().unwrap_or(0);
-        put_ends(&mut dead, a.documents.as_slice(), every)?;
-        put_ends(&mut dead, b.documents.as_slice(), every)?;
-    }
-    let sum = repeat(alloc, &older, &newer, joins, rounds, &dead)?;
-    println!(rt; "{sum}")?;
+    work(&rt, &older, &newer, words)?;
     Ok(ExitCode::SUCCESS)
 }
