@@ -117,8 +117,9 @@ def asking(chance, count):
 
 
 def all_counts(chance):
-    """A count of each term and of each query, in any order, and the stats before or behind them."""
-    lines = [f"count {spelled(query)}" for query in chance.sample(COUNTED, len(COUNTED))]
+    """Two counts of each term and of each query, in any order, and the stats before or behind them: what a search has tested of a
+    level is not tested again by the next."""
+    lines = [f"count {spelled(query)}" for query in chance.sample(COUNTED * 2, len(COUNTED) * 2)]
     return ["stats", *lines] if chance.random() < 0.5 else [*lines, "stats"]
 
 

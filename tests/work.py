@@ -247,6 +247,17 @@ def three_halves():
     yield [lines[:30], lines[30:] + [f"{word} {spelled(query)}" for query in QUERIES for word in ("search", "count")]], 3
 
 
+def many():
+    """Each query over 150 documents in memory, in levels with some in memory, with every third deleted, and in one level, first with its gaps."""
+    texts = [" ".join(WORDS[number * place % 11] for place in range(1, 2 + number % 9)) for number in range(150)]
+    adds = [f"add d{number}\t{WORDS[number % 7]}\t{text}" for number, text in enumerate(texts)]
+    asks = [f"{word} {spelled(query)}" for query in QUERIES for word in ("count", "search", "top 3")]
+    deletes = [f"delete d{number}" for number in range(0, 150, 3)]
+    levelled = [*adds[:70], "flush", *adds[70:140], "flush", *adds[140:]]
+    yield [adds + asks + ["flush"] + asks, deletes + asks + ["merge"] + asks], 1
+    yield [levelled + asks + deletes + asks, asks], 2
+
+
 def try_round(path, program, chance, style):
     """Some runs over a new index."""
     tried = Round(program, path, chance.choice([1, 2, 2]))
@@ -287,7 +298,7 @@ def main():
     sums = Sums()
     with tempfile.TemporaryDirectory(dir=memory) as folder:
         path = os.path.join(folder, "index")
-        for runs, levels in (*STEADY, *seventeen(), *three_halves()):
+        for runs, levels in (*STEADY, *seventeen(), *three_halves(), *many()):
             sums.add(steady(path, program, runs, levels))
             os.remove(path)
         for runs, levels, raised in RAISED:
