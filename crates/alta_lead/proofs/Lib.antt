@@ -1,5 +1,7 @@
+pub mod AnyOf
 pub mod Bringing
 pub mod Counting
+pub mod Following
 pub mod Going
 pub mod Leading
 pub mod Moving

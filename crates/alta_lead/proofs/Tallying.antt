@@ -10,7 +10,7 @@ use Rattle.alta_codec.proofs.Places.{first_from-above, first_from-le_top, first_
 use Rattle.alta_docread.specs.Kept.{less}
 use Rattle.alta_docread.specs.Tree.{IsAhead}
 use Rattle.alta_lead.specs.Having.{IsAnswer, ends_having}
-use Rattle.alta_lead.specs.HavingLaws.{having-answers, having-rises}
+use Rattle.alta_lead.specs.HavingLaws.{having-answers}
 use Rattle.alta_lead.specs.Moves.{AreAhead, IsMoved, AreMoved}
 use Rattle.alta_lead.specs.Rounds.{IsTold}
 use Rattle.alta_lead.specs.Tallying.{IsLedTo}
@@ -53,22 +53,29 @@ answer_rest ends words negated lead at l a =
 
 -- what is asked about a document decides whether it is an answer
 pub told_some : (ends : List ℕ) (words negated : List (List ℕ)) (end next : ℕ) → IsRising ends → Contains ends end → IsTold words negated (pred_of ends end + 1) end next
-    → OnTrue (nat_eq next end) (IsAnswer ends words negated end)
+    → OnTrue (nat_eq next end) (end < TOP → Contains (ends_having ends words negated) end)
 told_some ends words negated end next rising m t =
-    on_true (nat_eq next end) (IsAnswer ends words negated end) (λ e. told_answer ends words negated end next rising m t (eqb-true next end e))
+    on_true (nat_eq next end) (end < TOP → Contains (ends_having ends words negated) end)
+    (λ e below. (having-answers ends words negated end rising).1 (told_answer ends words negated end next rising m t (eqb-true next end e)))
 
 pub told_none : (ends : List ℕ) (words negated : List (List ℕ)) (end next : ℕ) → IsRising ends → Contains ends end → IsTold words negated (pred_of ends end + 1) end next
-    → OnFalse (nat_eq next end) (end < TOP → IsAnswer ends words negated end → ⊥)
+    → OnFalse (nat_eq next end) (end < TOP → Contains (ends_having ends words negated) end → ⊥)
 told_none ends words negated end next rising m t =
-    on_false (nat_eq next end) (end < TOP → IsAnswer ends words negated end → ⊥)
-    (λ e below a. omega (arith, t.later, eqb-false next end e, told_least ends words negated end next rising m t end a (omega arith)))
+    on_false (nat_eq next end) (end < TOP → Contains (ends_having ends words negated) end → ⊥)
+    (λ e below n.
+    omega (
+      arith,
+      t.later,
+      eqb-false next end e,
+      told_least ends words negated end next rising m t end ((having-answers ends words negated end rising).0 n) (omega arith),
+    ))
 
 -- ---- all of them
 
 module _ {E R : Type 0} (EndSound : E → Type 0) (end_list end_all : E → List ℕ) (end_location end_left end_cost : E → ℕ)
     (Sound : R → Type 0) (list all : R → List ℕ) (location left cost : R → ℕ) where
   -- So many documents up to `from` were counted, and so many deleted ends passed.
-  pub record IsTallying (lead : ℕ) (ends ends' : E) (words words' negated negated' : List R) (gone : List ℕ) (start from live passed before after : ℕ) : Type 0 where
+  pub record IsTallying (lead having : List ℕ) (ends ends' : E) (words words' negated negated' : List R) (gone : List ℕ) (start from live passed before after : ℕ) : Type 0 where
     pub rounds : ℕ
     pub by_ends : ℕ
     pub by_words : ℕ
@@ -77,21 +84,20 @@ module _ {E R : Type 0} (EndSound : E → Type 0) (end_list end_all : E → List
     pub words_moved : AreMoved Sound list all left cost (2 * rounds) words words' by_words
     pub negated_moved : AreMoved Sound list all left cost rounds negated negated' by_negated
     pub steps : after ≤ before + by_ends + by_words + by_negated
-    pub bounded : rounds + count_from (get_or (map list words) lead []) from ≤ count_from (get_or (map list words) lead []) start
+    pub bounded : rounds + count_from lead from ≤ count_from lead start
     pub top : from ≤ TOP
     pub begins : pred_of (end_list ends) from + 1 ≡ from
     pub ends_ahead : IsAhead from (end_list ends) (end_location ends')
     pub words_ahead : AreAhead from (map list words) (map location words')
     pub negated_ahead : AreAhead from (map list negated) (map location negated')
-    pub count : live + count_from (less (ends_having (end_list ends) (map list words) (map list negated)) gone) from
-        ≡ count_from (less (ends_having (end_list ends) (map list words) (map list negated)) gone) start
+    pub count : live + count_from (less having gone) from ≡ count_from (less having gone) start
     pub within : passed ≤ length gone
     pub gone_before : (k : ℕ) → k < passed → get_or gone k 0 < from
 
-  pub tallying_starts : (lead : ℕ) (e : E) (ws ns : List R) (gone : List ℕ) (start before : ℕ) → EndSound e → All Sound ws → All Sound ns → start ≤ TOP
+  pub tallying_starts : (lead having : List ℕ) (e : E) (ws ns : List R) (gone : List ℕ) (start before : ℕ) → EndSound e → All Sound ws → All Sound ns → start ≤ TOP
       → pred_of (end_list e) start + 1 ≡ start → IsAhead start (end_list e) (end_location e) → AreAhead start (map list ws) (map location ws)
-      → AreAhead start (map list ns) (map location ns) → IsTallying lead e e ws ws ns ns gone start start 0 0 before before
-  tallying_starts lead e ws ns gone start before se sw sn top begins ae aw an = record {
+      → AreAhead start (map list ns) (map location ns) → IsTallying lead having e e ws ws ns ns gone start start 0 0 before before
+  tallying_starts lead having e ws ns gone start before se sw sn top begins ae aw an = record {
     rounds = 0;
     by_ends = 0;
     by_words = 0;
@@ -111,11 +117,13 @@ module _ {E R : Type 0} (EndSound : E → Type 0) (end_list end_all : E → List
     gone_before = λ k l. absurd (omega (arith, l));
   }
 
-  -- one document more
-  module _ (lead : ℕ) (e f h : E) (ws vs us ns ms ls : List R) (gone : List ℕ) (start from live passed before mid after : ℕ) (found : Bool) (end : ℕ)
-      (rising : IsRising (end_list e)) (so_far : IsTallying lead e f ws vs ns ms gone start from live passed before mid)
-      (to : IsLedTo EndSound end_list end_all end_location end_left end_cost Sound list all location left cost lead (end_list f) (map list vs) (map list ms)
-      f h vs us ms ls from end found mid after) where
+  -- One document more: the leading list and the list whose ends are counted are made of the lists that are read.
+  module _ (lead_of : List (List ℕ) → List ℕ) (having_of : List ℕ → List (List ℕ) → List (List ℕ) → List ℕ)
+      (e f h : E) (ws vs us ns ms ls : List R) (gone : List ℕ) (start from live passed before mid after : ℕ) (found : Bool) (end : ℕ)
+      (rising : IsRising (end_list e)) (rises : IsRising (having_of (end_list e) (map list ws) (map list ns)))
+      (so_far : IsTallying (lead_of (map list ws)) (having_of (end_list e) (map list ws) (map list ns)) e f ws vs ns ms gone start from live passed before mid)
+      (to : IsLedTo EndSound end_list end_all end_location end_left end_cost Sound list all location left cost (lead_of (map list vs))
+      (having_of (end_list f) (map list vs) (map list ms)) (end_list f) (map list vs) (map list ms) f h vs us ms ls from end found mid after) where
     abbrev Ends : List ℕ
     Ends = end_list e
 
@@ -125,19 +133,21 @@ module _ {E R : Type 0} (EndSound : E → Type 0) (end_list end_all : E → List
     abbrev Negated : List (List ℕ)
     Negated = map list ns
 
-    abbrev Having : List ℕ
-    Having = ends_having Ends Words Negated
+    abbrev Leading : List ℕ
+    Leading = lead_of Words
 
-    led : IsLedTo EndSound end_list end_all end_location end_left end_cost Sound list all location left cost lead Ends Words Negated f h vs us ms ls from end found mid after
+    abbrev Having : List ℕ
+    Having = having_of Ends Words Negated
+
+    led : IsLedTo EndSound end_list end_all end_location end_left end_cost Sound list all location left cost Leading Having Ends Words Negated
+        f h vs us ms ls from end found mid after
     led =
         let P : List ℕ → List (List ℕ) → List (List ℕ) → Type 0 =
-        λ es xs ys. IsLedTo EndSound end_list end_all end_location end_left end_cost Sound list all location left cost lead es xs ys f h vs us ms ls from end found mid after in
+        λ es xs ys. IsLedTo EndSound end_list end_all end_location end_left end_cost Sound list all location left cost (lead_of xs) (having_of es xs ys) es xs ys
+        f h vs us ms ls from end found mid after in
         subst (λ es. P es Words Negated) so_far.ends_moved.same_list
         (subst (λ xs. P (end_list f) xs Negated) so_far.words_moved.lists
         (subst (λ ys. P (end_list f) (map list vs) ys) so_far.negated_moved.lists to))
-
-    gap : (z : ℕ) → Contains Having z → from ≤ z → end ≤ z
-    gap z m = led.least z ((having-answers Ends Words Negated z rising).0 m)
 
     ends_more : IsMoved EndSound end_list end_all end_left end_cost (so_far.rounds + 1) e h (so_far.by_ends + led.by_ends)
     ends_more = moved_then EndSound end_list end_all end_left end_cost e f h so_far.rounds 1 so_far.by_ends led.by_ends so_far.ends_moved led.ends_moved
@@ -156,12 +166,10 @@ module _ {E R : Type 0} (EndSound : E → Type 0) (end_list end_all : E → List
     pub tallying_on : (more at : ℕ) → end < TOP
         → OnTrue found ((Contains gone end → ⊥) → more ≡ 1) → OnFalse found (more ≡ 0) → (Contains gone end → more ≡ 0)
         → at ≤ length gone → ((k : ℕ) → k < at → get_or gone k 0 < end)
-        → IsTallying lead e h ws us ns ls gone start (end + 1) (live + more) at before after
+        → IsTallying Leading Having e h ws us ns ls gone start (end + 1) (live + more) at before after
     tallying_on more at below one none dead within passed =
         let is_end : Contains Ends end = ⊎_elim (λ m. m) (λ t. absurd (omega (arith, t, below))) led.standing in
-        let answers = having-answers Ends Words Negated end rising in
-        let over = live_over Having gone from end more (having-rises Ends Words Negated rising) led.later gap
-        (λ m live. is_one found one led.none (answers.0 m) live) (λ out. is_none found none led.some (λ a. out (answers.1 a))) dead in
+        let over = live_over Having gone from end more rises led.later led.least (is_one found one led.none) (is_none found none led.some) dead in
         record {
           rounds = so_far.rounds + 1;
           by_ends = so_far.by_ends + led.by_ends;
@@ -182,13 +190,13 @@ module _ {E R : Type 0} (EndSound : E → Type 0) (end_list end_all : E → List
           gone_before = λ k l. omega (arith, passed k l);
         }
       where
-        is_one : (b : Bool) → OnTrue b ((Contains gone end → ⊥) → more ≡ 1) → OnFalse b (end < TOP → IsAnswer Ends Words Negated end → ⊥)
-            → IsAnswer Ends Words Negated end → (Contains gone end → ⊥) → more ≡ 1
-        is_one true h n a live = h live
-        is_one false h n a live = absurd (n below a)
+        is_one : (b : Bool) → OnTrue b ((Contains gone end → ⊥) → more ≡ 1) → OnFalse b (end < TOP → Contains Having end → ⊥)
+            → Contains Having end → (Contains gone end → ⊥) → more ≡ 1
+        is_one true h n m live = h live
+        is_one false h n m live = absurd (n below m)
 
-        is_none : (b : Bool) → OnFalse b (more ≡ 0) → OnTrue b (IsAnswer Ends Words Negated end) → (IsAnswer Ends Words Negated end → ⊥) → more ≡ 0
-        is_none true h s out = absurd (out s)
+        is_none : (b : Bool) → OnFalse b (more ≡ 0) → OnTrue b (end < TOP → Contains Having end) → (Contains Having end → ⊥) → more ≡ 0
+        is_none true h s out = absurd (out (s below))
         is_none false h s out = h
 
     -- no document is left
@@ -197,17 +205,17 @@ module _ {E R : Type 0} (EndSound : E → Type 0) (end_list end_all : E → List
         omega (
           arith,
           so_far.count,
-          live_same Having gone from TOP so_far.top (λ z m l. omega (arith, past, gap z m l)),
-          live_past Having gone TOP (having-rises Ends Words Negated rising) (omega arith),
+          live_same Having gone from TOP so_far.top (λ z m l. omega (arith, past, led.least z m l)),
+          live_past Having gone TOP rises (omega arith),
         )
 
     pub tallied_steps : after ≤ before + (end_left e + sum_by left ws + sum_by left ns)
     tallied_steps = omega (arith, spent, ends_more.steps, words_more.steps, negated_more.steps)
 
     pub tallied_moves : (of : List ℕ → ℕ) → ((x : E) → end_cost x ≤ of (end_list x)) → ((r : R) → cost r ≤ of (list r))
-        → after ≤ before + (2 * count_from (get_or Words lead []) start + 2) * (of Ends + sum_by of Words + sum_by of Negated)
+        → after ≤ before + (2 * count_from Leading start + 2) * (of Ends + sum_by of Words + sum_by of Negated)
     tallied_moves of p q =
-        let n = 2 * count_from (get_or Words lead []) start + 2 in let a = of Ends in let b = sum_by of Words in let c = sum_by of Negated in
+        let n = 2 * count_from Leading start + 2 in let a = of Ends in let b = sum_by of Words in let c = sum_by of Negated in
         let few : 2 * (so_far.rounds + 1) ≤ n = omega (arith, so_far.bounded) in
         omega (
           arith,

@@ -1,7 +1,8 @@
 -- The ends of the documents that have each word of a conjunction and none of its negated words.
-use Rattle.std.specs.Prelude.{ℕ, ◌+◌, ◌<◌, ◌≤◌, Bool, true, ◌&&◌, not, nat_le, List, [], ◌∷◌, All, Contains}
+use Rattle.std.specs.Prelude.{ℕ, ◌+◌, ◌<◌, ◌≤◌, Bool, true, ◌&&◌, not, nat_le, List, [], ◌∷◌, All, Any, Contains}
 use Rattle.std.specs.List.{filter}
 use Rattle.alta_codec.specs.Rising.{first_from, pred_of}
+use Rattle.alta_compound.specs.Union.{union_of}
 
 -- the list has an element above `low` and at most at `high`
 abbrev pub HasWithin : ℕ → ℕ → List ℕ → Type 0
@@ -32,3 +33,12 @@ is_answer ends words negated end = each_within (pred_of ends end) end words && n
 -- the ends of the documents that have each word and none of the negated words, in order
 unfoldable pub ends_having : List ℕ → List (List ℕ) → List (List ℕ) → List ℕ
 ends_having ends words negated = filter (is_answer ends words negated) ends
+
+-- The document of the end has a location of one of the words.
+pub record HasAny (ends : List ℕ) (words : List (List ℕ)) (end : ℕ) : Type 0 where
+  pub is_end : Contains ends end
+  pub some : Any (HasWithin (pred_of ends end) end) words
+
+-- the ends of the documents that have one of the words, in order
+abbrev pub ends_with_any : List ℕ → List (List ℕ) → List ℕ
+ends_with_any ends words = ends_having ends (union_of words ∷ []) []

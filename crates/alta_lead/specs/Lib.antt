@@ -1,3 +1,6 @@
+pub mod AnyLaws
+pub mod Followed
+pub mod FollowedLaws
 pub mod Having
 pub mod HavingLaws
 pub mod Moves

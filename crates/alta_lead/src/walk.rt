@@ -35,8 +35,8 @@ fn document<E: BackReader, R: BackReader, L: Ledger>(
     requires ends_ahead { IsAhead from (E.list ends.old.inner) (E.location ends.old.inner) }
     requires words_ahead { AreAhead from (map R.list words.old) (map R.location words.old) }
     requires negated_ahead { AreAhead from (map R.list negated.old) (map R.location negated.old) }
-    ensures { IsLedTo E.sound E.list E.all E.location E.left E.cost R.sound R.list R.all R.location R.left R.cost lead
-        (E.list ends.old.inner) (map R.list words.old) (map R.list negated.old)
+    ensures { IsLedTo E.sound E.list E.all E.location E.left E.cost R.sound R.list R.all R.location R.left R.cost (slice_index_or (map R.list words.old) lead [])
+        (ends_having (E.list ends.old.inner) (map R.list words.old) (map R.list negated.old)) (E.list ends.old.inner) (map R.list words.old) (map R.list negated.old)
         ends.old.inner ends.new.inner words.old words.new negated.old negated.new from result.0 result.1 steps.old steps.new }
 {
     let at = bring(words, lead, from, steps);
@@ -50,7 +50,7 @@ fn document<E: BackReader, R: BackReader, L: Ledger>(
 
 /// Whether a document counts, as 1 or 0, which is an answer or not: 1 where it is one and its end was not deleted. Deleted ends
 /// before the index lie below its end; it answers the first index of which that is not known.
-fn counted(gone: &[Loc], from: usize, end: Loc, found: bool) -> (usize, u64)
+pub(crate) fn counted(gone: &[Loc], from: usize, end: Loc, found: bool) -> (usize, u64)
     requires rising { IsRising gone.now }
     requires within { from ≤ length gone.now }
     requires before { (k : ℕ) → k < from → slice_index gone.now k < end }

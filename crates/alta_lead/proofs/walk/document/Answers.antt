@@ -4,6 +4,7 @@ use Rattle.std.proofs.lemmas.List.{length-map}
 use Rattle.alta_codec.specs.declared.location.TheConstants.{TOP}
 use Rattle.alta_codec.specs.Rising.{IsPlace, first_from, pred_of}
 use Rattle.alta_codec.proofs.Places.{first_from-place}
+use Rattle.alta_lead.specs.HavingLaws.{having-answers}
 use Rattle.alta_lead.specs.Moves.{AreAhead}
 use Rattle.alta_lead.specs.Rounds.{IsTold}
 use Rattle.alta_lead.proofs.Moving.{all_still, all_moved_then, all_moved_more}
@@ -28,6 +29,7 @@ returns-then-end-eq-TOP g c =
     let W = map R.list words in let lead = get_or W c.args.lead [] in
     let w = c.bring-at.ensures in let r = c.reach-end.ensures in
     let top : c.reach-end.result ≡ TOP = omega (arith, c.if-end-eq-TOP.true) in
+    let rising = g.met.E.Reader.rises c.args.ends.now.inner c.requires.ends in
     record {
       by_ends = c.reach-end.new.steps - c.bring-at.new.steps;
       by_words = c.bring-at.new.steps - c.args.steps.now;
@@ -39,12 +41,13 @@ returns-then-end-eq-TOP g c =
       later = c.requires.top;
       standing = inr refl;
       top = omega arith;
-      least = λ z a h.
+      least = λ z m h.
           omega (
             arith,
             top,
             led_least E W (map R.list negated) c.args.lead c.args.from c.bring-at.result c.reach-end.result z
-                (omega (arith, c.requires.lead, length-map words R.list)) (w.place ∙ ap (first_from lead) (sym c.requires.begins)) r.place a h,
+                (omega (arith, c.requires.lead, length-map words R.list)) (w.place ∙ ap (first_from lead) (sym c.requires.begins)) r.place
+                ((having-answers E W (map R.list negated) z rising).0 m) h,
           );
       some = tt;
       none = λ below. absurd (omega (arith, below));
@@ -118,8 +121,9 @@ returns g c =
       later = b.2;
       standing = inl is_end;
       top = b.3;
-      least = λ z a h. led_least E W N c.args.lead c.args.from c.bring-at.result end z
-          (omega (arith, c.requires.lead, length-map words R.list)) (w.place ∙ ap (first_from lead) (sym c.requires.begins)) r.place a h;
+      least = λ z m h. led_least E W N c.args.lead c.args.from c.bring-at.result end z
+          (omega (arith, c.requires.lead, length-map words R.list)) (w.place ∙ ap (first_from lead) (sym c.requires.begins)) r.place
+          ((having-answers E W N z rising).0 m) h;
       some = told_some E W N end c.told-next.result rising is_end told;
       none = told_none E W N end c.told-next.result rising is_end told;
       rest = λ h. led_rest E lead c.args.from c.bring-at.result end c.requires.top w.place r.place h;

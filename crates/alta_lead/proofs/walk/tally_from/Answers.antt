@@ -1,4 +1,4 @@
-use Rattle.std.proofs.Common.{◌+◌, map, length, sym, subst, ap, ◌∙◌, arith}
+use Rattle.std.proofs.Common.{◌+◌, [], map, length, get_or, sym, subst, ap, ◌∙◌, arith}
 use Rattle.std.proofs.lemmas.List.{length-map}
 use Rattle.alta_codec.specs.Rising.{pred_of}
 use Rattle.alta_docread.specs.Tree.{IsAhead}
@@ -12,7 +12,8 @@ use Rattle.alta_lead.proofs.walk.tally_from.Goals as goal
 pub documents-init : goal.documents-init
 documents-init g c =
     let X = g.E.Reader in let R = g.R.Reader in
-    tallying_starts X.sound X.list X.all X.location X.left X.cost R.sound R.list R.all R.location R.left R.cost c.args.lead c.args.ends.now.inner c.args.words.now c.args.negated.now
+    tallying_starts X.sound X.list X.all X.location X.left X.cost R.sound R.list R.all R.location R.left R.cost (get_or (map R.list c.args.words.now) c.args.lead [])
+    (ends_having (X.list c.args.ends.now.inner) (map R.list c.args.words.now) (map R.list c.args.negated.now)) c.args.ends.now.inner c.args.words.now c.args.negated.now
     c.args.gone.now c.args.start c.args.steps.now c.requires.ends c.requires.words c.requires.negated c.requires.top c.requires.begins c.requires.ends_ahead c.requires.words_ahead c.requires.negated_ahead
 
 pub document-end-requires-clause-lead : goal.document-end-requires-clause-lead
@@ -39,23 +40,26 @@ document-end-requires-clause-negated_ahead g c =
 pub returns-then-end-eq-TOP-clause-count : goal.returns-then-end-eq-TOP-clause-count
 returns-then-end-eq-TOP-clause-count g c =
     let X = g.E.Reader in let R = g.R.Reader in let s = c.documents in let d = c.document-end in
-    tallied X.sound X.list X.all X.location X.left X.cost R.sound R.list R.all R.location R.left R.cost c.args.lead c.args.ends.now.inner s.ends.inner d.new.ends.inner
+    let rising = g.met.E.Reader.rises c.args.ends.now.inner c.requires.ends in
+    tallied X.sound X.list X.all X.location X.left X.cost R.sound R.list R.all R.location R.left R.cost (λ ws. get_or ws c.args.lead []) ends_having c.args.ends.now.inner s.ends.inner d.new.ends.inner
     c.args.words.now s.words d.new.words c.args.negated.now s.negated d.new.negated c.args.gone.now c.args.start s.from s.live s.passed c.args.steps.now s.steps d.new.steps d.result.1 d.result.0
-    (g.met.E.Reader.rises c.args.ends.now.inner c.requires.ends) s.invariant d.ensures (omega (arith, c.if-end-eq-TOP.true))
+    rising (having-rises (X.list c.args.ends.now.inner) (map R.list c.args.words.now) (map R.list c.args.negated.now) rising) s.invariant d.ensures (omega (arith, c.if-end-eq-TOP.true))
 
 pub returns-then-end-eq-TOP-clause-steps : goal.returns-then-end-eq-TOP-clause-steps
 returns-then-end-eq-TOP-clause-steps g c =
     let X = g.E.Reader in let R = g.R.Reader in let s = c.documents in let d = c.document-end in
-    tallied_steps X.sound X.list X.all X.location X.left X.cost R.sound R.list R.all R.location R.left R.cost c.args.lead c.args.ends.now.inner s.ends.inner d.new.ends.inner
+    let rising = g.met.E.Reader.rises c.args.ends.now.inner c.requires.ends in
+    tallied_steps X.sound X.list X.all X.location X.left X.cost R.sound R.list R.all R.location R.left R.cost (λ ws. get_or ws c.args.lead []) ends_having c.args.ends.now.inner s.ends.inner d.new.ends.inner
     c.args.words.now s.words d.new.words c.args.negated.now s.negated d.new.negated c.args.gone.now c.args.start s.from s.live s.passed c.args.steps.now s.steps d.new.steps d.result.1 d.result.0
-    (g.met.E.Reader.rises c.args.ends.now.inner c.requires.ends) s.invariant d.ensures
+    rising (having-rises (X.list c.args.ends.now.inner) (map R.list c.args.words.now) (map R.list c.args.negated.now) rising) s.invariant d.ensures
 
 pub returns-then-end-eq-TOP-clause-moves : goal.returns-then-end-eq-TOP-clause-moves
 returns-then-end-eq-TOP-clause-moves g c =
     let X = g.E.Reader in let R = g.R.Reader in let s = c.documents in let d = c.document-end in
-    tallied_moves X.sound X.list X.all X.location X.left X.cost R.sound R.list R.all R.location R.left R.cost c.args.lead c.args.ends.now.inner s.ends.inner d.new.ends.inner
+    let rising = g.met.E.Reader.rises c.args.ends.now.inner c.requires.ends in
+    tallied_moves X.sound X.list X.all X.location X.left X.cost R.sound R.list R.all R.location R.left R.cost (λ ws. get_or ws c.args.lead []) ends_having c.args.ends.now.inner s.ends.inner d.new.ends.inner
     c.args.words.now s.words d.new.words c.args.negated.now s.negated d.new.negated c.args.gone.now c.args.start s.from s.live s.passed c.args.steps.now s.steps d.new.steps d.result.1 d.result.0
-    (g.met.E.Reader.rises c.args.ends.now.inner c.requires.ends) s.invariant d.ensures
+    rising (having-rises (X.list c.args.ends.now.inner) (map R.list c.args.words.now) (map R.list c.args.negated.now) rising) s.invariant d.ensures
 
 pub counted-at-requires-clause-before : goal.counted-at-requires-clause-before
 counted-at-requires-clause-before g c = λ k l. omega (arith, c.documents.invariant.gone_before k l, c.document-end.ensures.later)
@@ -70,7 +74,8 @@ overflow_add-live g c =
 pub documents-preserved : goal.documents-preserved
 documents-preserved g c =
     let X = g.E.Reader in let R = g.R.Reader in let s = c.documents in let d = c.document-end in let n = c.counted-at in
-    tallying_on X.sound X.list X.all X.location X.left X.cost R.sound R.list R.all R.location R.left R.cost c.args.lead c.args.ends.now.inner s.ends.inner d.new.ends.inner
+    let rising = g.met.E.Reader.rises c.args.ends.now.inner c.requires.ends in
+    tallying_on X.sound X.list X.all X.location X.left X.cost R.sound R.list R.all R.location R.left R.cost (λ ws. get_or ws c.args.lead []) ends_having c.args.ends.now.inner s.ends.inner d.new.ends.inner
     c.args.words.now s.words d.new.words c.args.negated.now s.negated d.new.negated c.args.gone.now c.args.start s.from s.live s.passed c.args.steps.now s.steps d.new.steps d.result.1 d.result.0
-    (g.met.E.Reader.rises c.args.ends.now.inner c.requires.ends) s.invariant d.ensures n.result.1 n.result.0 (omega (arith, d.ensures.top, c.if-end-eq-TOP.false))
+    rising (having-rises (X.list c.args.ends.now.inner) (map R.list c.args.words.now) (map R.list c.args.negated.now) rising) s.invariant d.ensures n.result.1 n.result.0 (omega (arith, d.ensures.top, c.if-end-eq-TOP.false))
     n.ensures.one n.ensures.none n.ensures.dead n.ensures.within n.ensures.before
