@@ -1,4 +1,4 @@
--- The loop over the members of a conjunction.
+-- The loops over the members of a conjunction and of an or.
 use Rattle.std.proofs.Common.{◌≡◌, ℕ, ◌+◌, ◌<◌, ◌≤◌, Bool, true, false, ◌&&◌, ◌||◌, cond, List, [], ◌++◌, length, drop, get_or, map, refl, sym, subst, ap, ◌∙◌, append_assoc}
 use Rattle.std.specs.Prelude.{Option, Some, None, is_some}
 use Rattle.std.proofs.lemmas.List.{append-nil}
@@ -6,7 +6,7 @@ use Rattle.alta_query.specs.Shape.{Shape, Shapes, more, none, shapes_of}
 use Rattle.alta_query.specs.View.{shape}
 use Rattle.alta_query.specs.declared.query.Query.{Query}
 use Rattle.alta_query.specs.declared.test.Test.{Test}
-use Rattle.alta_compile.specs.Conjoined.{word_in, word_against, listed, words_in, words_against, are_words, is_some_word, conjunction_in}
+use Rattle.alta_compile.specs.Conjoined.{word_in, word_against, listed, words_in, words_against, are_words, is_some_word, conjunction_in, each_word}
 use Rattle.alta_compile.specs.declared.asked.Conjunction.{Conjunction}
 use Rattle.alta_compile.proofs.Gathered.{drop-next, drop-none}
 
@@ -67,3 +67,22 @@ conjoining_ends items i ws ns whole past c =
     let n : ns ≡ words_against whole = sym (append-nil ns) ∙ d.negated in
     let e : true ≡ are_words whole = d.each in
     whole_of ws ns (words_in whole) (words_against whole) (are_words whole) w n e
+
+-- ---- whether each member is a word
+
+module _ (items : List Query) (i : ℕ) (whole : Bool) where
+  abbrev IsAsking : ℕ → Type 0
+  IsAsking k = each_word (shapes_of (map shape (drop k items))) ≡ whole
+
+  opened : (q : Query) → i < length items → get_or items i q ≡ q → IsAsking i
+      → (is_some (word_in (shape q)) && each_word (shapes_of (map shape (drop (i + 1) items)))) ≡ whole
+  opened q within is h = subst (λ qs. each_word (shapes_of (map shape qs)) ≡ whole) (drop-next items i q within is) h
+
+  pub asking_step : (q : Query) → i < length items → get_or items i q ≡ q → is_some (word_in (shape q)) ≡ true → IsAsking i → IsAsking (i + 1)
+  asking_step q within is found h = sym (ap (λ b. b && each_word (shapes_of (map shape (drop (i + 1) items)))) found) ∙ opened q within is h
+
+  pub asking_stops : (q : Query) → i < length items → get_or items i q ≡ q → is_some (word_in (shape q)) ≡ false → IsAsking i → false ≡ whole
+  asking_stops q within is missing h = sym (ap (λ b. b && each_word (shapes_of (map shape (drop (i + 1) items)))) missing) ∙ opened q within is h
+
+  pub asking_ends : length items ≤ i → IsAsking i → true ≡ whole
+  asking_ends past h = subst (λ qs. each_word (shapes_of (map shape qs)) ≡ whole) (drop-none items i past) h

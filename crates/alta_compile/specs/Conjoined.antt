@@ -71,3 +71,60 @@ conjunction_of (atom a) = conjunction_in (more (atom a) none)
 conjunction_of (all qs) = conjunction_in qs
 conjunction_of (any qs) = None
 conjunction_of (negated q) = None
+
+-- whether each member is a word
+abbrev pub each_word : Shapes → Bool
+each_word none = true
+each_word (more q qs) = is_some (word_in q) && each_word qs
+
+-- whether a query is an or of words
+abbrev pub is_either : Shape → Bool
+is_either (atom a) = false
+is_either (all qs) = false
+is_either (any qs) = each_word qs
+is_either (negated q) = false
+
+-- the words of the members of an or
+abbrev pub either_words : Shape → List Test
+either_words (atom a) = []
+either_words (all qs) = []
+either_words (any qs) = words_in qs
+either_words (negated q) = []
+
+-- the word of a text of one word in titles
+abbrev pub lone_titled : Lone → Option Test
+lone_titled (words true text tests) = only tests
+lone_titled (words false text tests) = None
+lone_titled (prefix title text test) = None
+lone_titled (name text) = None
+lone_titled (value low high) = None
+
+abbrev pub atom_titled : Atom → Option Test
+atom_titled (lone l) = lone_titled l
+atom_titled (near left distance right) = None
+
+-- the word that a query asks for in titles, where it asks for nothing else
+abbrev pub titled_word : Shape → Option Test
+titled_word (atom a) = atom_titled a
+titled_word (all qs) = None
+titled_word (any qs) = None
+titled_word (negated q) = None
+
+-- the test of a stem that may stand anywhere
+abbrev pub lone_stem : Lone → Option Test
+lone_stem (words title text tests) = None
+lone_stem (prefix true text test) = None
+lone_stem (prefix false text test) = Some test
+lone_stem (name text) = None
+lone_stem (value low high) = None
+
+abbrev pub atom_stem : Atom → Option Test
+atom_stem (lone l) = lone_stem l
+atom_stem (near left distance right) = None
+
+-- the stem that a query asks for, where it asks for nothing else
+abbrev pub stem_in : Shape → Option Test
+stem_in (atom a) = atom_stem a
+stem_in (all qs) = None
+stem_in (any qs) = None
+stem_in (negated q) = None

@@ -1,9 +1,9 @@
-// Queries that are conjunctions of words and negated words.
+// Queries that are conjunctions of words and negated words, alternatives of words, a word in titles, or a stem.
 ghost use Rattle.std.specs.Prelude.{◌≡◌, ◌||◌, [], ◌∷◌, ◌++◌, cond, is_some, map, IfOk, OnOk};
 ghost use Rattle.std.specs.Option.{option_copied};
 ghost use Rattle.alta_query.specs.Shape.{shapes_of};
 ghost use Rattle.alta_query.specs.View.{shape, atom_view};
-ghost use Rattle.alta_compile.specs.Conjoined.{atom_word, word_in, word_against, listed, only, is_some_word, conjunction_in, conjunction_of};
+ghost use Rattle.alta_compile.specs.Conjoined.{atom_word, word_in, word_against, listed, only, is_some_word, conjunction_in, conjunction_of, each_word, is_either, atom_titled, titled_word, atom_stem, stem_in};
 
 use crate::asked::Conjunction;
 use alta_query::{Atom, Query, Test, Tests};
@@ -20,6 +20,58 @@ pub fn conjunction(alloc: Global, query: &Query) -> Result<Option<Conjunction>, 
         Query::Atom(_) => gather(alloc, slice::from_ref(query)),
         Query::And(members) => gather(alloc, members),
         Query::Or(_) | Query::Not(_) => Ok(None),
+    }
+}
+
+/// Whether a query is an Or of words that may stand anywhere, and of nothing else.
+pub fn asks_either(query: &Query) -> bool
+    ensures { result ≡ is_either (shape query.now) }
+{
+    match query {
+        Query::Or(members) => each_is_word(members),
+        Query::Atom(_) | Query::And(_) | Query::Not(_) => false,
+    }
+}
+
+/// Whether a query is one word in titles, and nothing else.
+pub fn asks_title(query: &Query) -> bool
+    ensures { result ≡ is_some (titled_word (shape query.now)) }
+{
+    match query {
+        Query::Atom(atom) => is_titled(atom),
+        Query::And(_) | Query::Or(_) | Query::Not(_) => false,
+    }
+}
+
+/// Whether a query is one stem that may stand anywhere, and nothing else.
+pub fn asks_stem(query: &Query) -> bool
+    ensures { result ≡ is_some (stem_in (shape query.now)) }
+{
+    match query {
+        Query::Atom(atom) => is_stem(atom),
+        Query::And(_) | Query::Or(_) | Query::Not(_) => false,
+    }
+}
+
+/// Whether each member is a word.
+fn each_is_word(members: &[Query]) -> bool
+    ensures { result ≡ each_word (shapes_of (map shape members.now)) }
+{
+    for member in members {
+        if !is_word(member) {
+            return false;
+        }
+    }
+    true
+}
+
+/// Whether a query is a word.
+fn is_word(query: &Query) -> bool
+    ensures { result ≡ is_some (word_in (shape query.now)) }
+{
+    match word(query) {
+        Some(_) => true,
+        None => false,
     }
 }
 
@@ -116,5 +168,39 @@ fn exact(test: &Test) -> Option<&Test>
     match test {
         Test::Is(_) => Some(test),
         Test::Begins(_) => None,
+    }
+}
+
+/// Whether an atom is one word in titles.
+fn is_titled(atom: &Atom) -> bool
+    ensures { result ≡ is_some (atom_titled (atom_view atom.now)) }
+{
+    match atom {
+        Atom::Words {
+            title: true,
+            tests,
+            ..
+        } => is_only(tests.as_slice()),
+        _ => false,
+    }
+}
+
+/// Whether there is one test, which asks for one term.
+fn is_only(tests: &[Test]) -> bool
+    ensures { result ≡ is_some (only tests.now) }
+{
+    match only_test(tests) {
+        Some(_) => true,
+        None => false,
+    }
+}
+
+/// Whether an atom is a stem that may stand anywhere.
+fn is_stem(atom: &Atom) -> bool
+    ensures { result ≡ is_some (atom_stem (atom_view atom.now)) }
+{
+    match atom {
+        Atom::Prefix { title: false, .. } => true,
+        _ => false,
     }
 }

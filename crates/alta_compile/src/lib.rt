@@ -11,7 +11,7 @@ mod plan;
 
 pub use asked::Conjunction;
 pub use compiling::compile;
-pub use conjoining::conjunction;
+pub use conjoining::{asks_either, asks_stem, asks_title, conjunction};
 pub use explaining::explain;
 pub use laws::{
     a_plan_finds_numbers, a_plan_is_text, a_range_is_shown, all_parts, atoms_as_one,

@@ -4,14 +4,15 @@ use Rattle.std.specs.Prelude.{All, sum_by}
 use Rattle.std.proofs.lemmas.List.Elements.{All-nil, All-cons, All-head, All-tail}
 use Rattle.std.proofs.lemmas.List.Sums.{sum_by-cons}
 use Rattle.alta_codec.specs.declared.location.TheConstants.{TOP}
+use Rattle.alta_codec.specs.Rising.{first_from}
 use Rattle.alta_lead.specs.Having.{ends_having}
 use Rattle.alta_lead.specs.declared.reader.LeadReader.{LeadReader}
 use Rattle.alta_search.specs.Answers.{count_live}
 use Rattle.alta_search.specs.Leads.{IsSoundLed, AreAtAnswer, AreFewSteps}
-use Rattle.alta_search.specs.Words.{IsSoundSingle, single_list, single_place}
+use Rattle.alta_search.specs.Words.{IsSoundSingle, single_list, single_place, IsUnmovedSingle}
 use Rattle.alta_search.specs.declared.single_reader.SingleReader.{SingleReader}
 use Rattle.alta_search.specs.declared.single_reader.SingleReader.TheVariants.{Coded}
-use Rattle.alta_words.specs.Held.{IsSoundWord}
+use Rattle.alta_words.specs.Held.{IsSoundWord, word_list, word_place}
 use Rattle.alta_words.specs.declared.word.WordReader.{WordReader}
 
 pub after_front : {X : Type 0} (P : X → Type 0) (xs ys : List X) → All P (xs ++ ys) → All P ys
@@ -34,6 +35,12 @@ pub coded_sound : (ws : List WordReader) → All IsSoundSingle (map Coded ws) �
 coded_sound [] h = All-nil IsSoundWord
 coded_sound (w ∷ ws) h =
     All-cons IsSoundWord w ws (All-head IsSoundSingle (Coded w) (map Coded ws) h) (coded_sound ws (All-tail IsSoundSingle (Coded w) (map Coded ws) h))
+
+pub coded_unmoved : (ws : List WordReader) → All IsUnmovedSingle (map Coded ws) → All (λ w. word_place w ≡ first_from (word_list w) 0) ws
+coded_unmoved [] h = All-nil (λ w. word_place w ≡ first_from (word_list w) 0)
+coded_unmoved (w ∷ ws) h =
+    All-cons (λ v. word_place v ≡ first_from (word_list v) 0) w ws (All-head IsUnmovedSingle (Coded w) (map Coded ws) h)
+    (coded_unmoved ws (All-tail IsUnmovedSingle (Coded w) (map Coded ws) h))
 
 -- what holds of the readers of coded lists that these readers are
 pub as_coded : {X : Type 0} (f : SingleReader → X) (vs ws : List WordReader) (rs : List SingleReader) → vs ≡ ws → map Coded ws ≡ rs → map (λ w. f (Coded w)) vs ≡ map f rs

@@ -54,7 +54,7 @@ no_value (lone (name text)) t h = refl
 no_value (lone (value low high)) t h = absurd cc
 no_value (near left distance right) t h = refl
 
-word_plan : (a : Atom) (t : Test) → atom_word a ≡ Some t → plan_of (atom a) ≡ found (found_of (phrase_pattern (t ∷ [])))
+pub word_plan : (a : Atom) (t : Test) → atom_word a ≡ Some t → plan_of (atom a) ≡ found (found_of (phrase_pattern (t ∷ [])))
 word_plan a t h = ap (atom_plan (pattern_of a)) (no_value a t h) ∙ ap (λ p. found (found_of p)) (is_word a t h)
 
 -- its test asks for one term
@@ -74,6 +74,10 @@ exact_word (near left distance right) t h = absurd cc
 some_or_none : (o : Option Test) → ((t : Test) × (o ≡ Some t)) ⊎ (o ≡ None)
 some_or_none (Some t) = inl (t, refl)
 some_or_none None = inr refl
+
+pub some_is : (o : Option Test) → is_some o ≡ true → (t : Test) × (o ≡ Some t)
+some_is (Some t) h = (t, refl)
+some_is None h = absurd cc
 
 -- a member that is a word, or a NOT of a word
 abbrev IsMember : Shape → Type 0
@@ -176,7 +180,7 @@ all_map P f (t ∷ ts) =
 
 module _ (space : List Placed) (s : IsSpace space) (d : Placed) (m : Has space d) where
   -- the document has a location whose cell meets the test
-  abbrev HasWord : Test → Type 0
+  abbrev pub HasWord : Test → Type 0
   HasWord t = HasWithin (pred_of (ends_of space) (end_of d)) (end_of d) (list_of space t)
 
   abbrev HasNot : Test → Type 0
@@ -191,7 +195,7 @@ module _ (space : List Placed) (s : IsSpace space) (d : Placed) (m : Has space d
   within_met t (x, n, low, high) =
       let (p, e, at) = within space s t d x m n (omega (arith, low)) high in (p, met_at t d.cells p at)
 
-  word_law : (t : Test) → Satisfies d.cells (phrase_pattern (t ∷ [])) ↔ HasWord t
+  pub word_law : (t : Test) → Satisfies d.cells (phrase_pattern (t ∷ [])) ↔ HasWord t
   word_law t = (
     λ (places, a). let (p, h) = one_place d.cells t places a.met in met_within t p h,
     λ h. let (p, k) = within_met t h in (p ∷ [], record { met = (k, tt); kept = All-nil (IsKept (p ∷ [])) }),
@@ -275,7 +279,7 @@ listed_exact : (o : Option Test) → ((t : Test) → o ≡ Some t → IsExact t)
 listed_exact None h = All-nil IsExact
 listed_exact (Some t) h = All-cons IsExact t [] (h t refl) (All-nil IsExact)
 
-words_exact : (qs : Shapes) → All IsExact (words_in qs)
+pub words_exact : (qs : Shapes) → All IsExact (words_in qs)
 words_exact none = All-nil IsExact
 words_exact (more q qs) = All-append IsExact (listed (word_in q)) (words_in qs) (listed_exact (word_in q) (word_exact q)) (words_exact qs)
 

@@ -220,7 +220,7 @@ no_ends_having : (ws ns : List (List ℕ)) → ends_having [] ws ns ≡ []
 unfolding ends_having
 no_ends_having ws ns = refl
 
-no_word_having : (ends : List ℕ) (ws ns : List (List ℕ)) (k : ℕ) → IsRising ends → k < length ws → get_or ws k [] ≡ [] → ends_having ends ws ns ≡ []
+pub no_word_having : (ends : List ℕ) (ws ns : List (List ℕ)) (k : ℕ) → IsRising ends → k < length ws → get_or ws k [] ≡ [] → ends_having ends ws ns ≡ []
 no_word_having ends ws ns k rises l none =
     no_element (ends_having ends ws ns)
     (λ z m. let (x, h, a, b) = ((having-answers ends ws ns z rises).0 m).each k [] l in not-Contains-nil x (subst (λ xs. Contains xs x) none h))

@@ -2,7 +2,7 @@
 use Rattle.std.proofs.Common.{◌≡◌, ⊎_elim, ℕ, zero, suc, ◌+◌, ◌*◌, ◌<◌, ◌≤◌, List, [], ◌∷◌, ◌++◌, map, length, get_or, take, drop, take-append-drop, refl, sym, subst, ap, ◌∙◌, arith}
 use Rattle.std.specs.Prelude.{All, sum_by}
 use Rattle.std.specs.List.{concat}
-use Rattle.std.proofs.lemmas.List.{get_or_default, length-append, length-map, map-append}
+use Rattle.std.proofs.lemmas.List.{length-append, length-map, map-append}
 use Rattle.std.proofs.lemmas.List.Elements.{All-nil, All-cons, All-head, All-tail, All-append}
 use Rattle.std.proofs.lemmas.List.Sums.{sum_by-append, sum_by-cons}
 use Rattle.std.proofs.lemmas.Nat.{mul-le}
@@ -15,7 +15,7 @@ use Rattle.alta_search.specs.Conjoined.{tests_against, conjoined_tests}
 use Rattle.alta_search.specs.Leads.{thirds, IsLeadOf, IsLedOver}
 use Rattle.alta_search.specs.Lists.{test_list, IsCut, count_lists, count_locations, count_below}
 use Rattle.alta_search.specs.Met.{IsSingle}
-use Rattle.alta_search.specs.Plans.{lists, locations, locations_below}
+use Rattle.alta_search.specs.Plans.{lists}
 use Rattle.alta_search.specs.View.{View, Shows}
 use Rattle.alta_search.specs.Walks.{PlanView}
 use Rattle.alta_search.proofs.LeadReaders.{single_size}

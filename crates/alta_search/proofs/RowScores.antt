@@ -1,9 +1,8 @@
 -- The scores of rows over a snapshot of a space are those of its documents.
-use Rattle.std.proofs.Common.{◌≡◌, ◌≢◌, ◌⊎◌, ⊎_elim, inl, inr, ℕ, zero, suc, ◌+◌, ◌-◌, ◌<◌, ◌≤◌, eqb, Bool, true, false, cond, List, [], ◌∷◌, ◌++◌, map, length, get_or, refl, sym, subst, ap, ◌∙◌, arith}
-use Rattle.std.specs.Prelude.{◌↔◌, Contains, All, AllPairs, filter, if◌then◌else◌}
+use Rattle.std.proofs.Common.{◌≡◌, ◌≢◌, ⊎_elim, inl, inr, ℕ, zero, suc, ◌+◌, ◌-◌, ◌<◌, eqb, Bool, true, false, cond, List, [], ◌∷◌, ◌++◌, map, length, get_or, refl, sym, subst, ap, ◌∙◌, arith}
+use Rattle.std.specs.Prelude.{Contains, All, AllPairs, filter, if◌then◌else◌}
 use Rattle.std.proofs.lemmas.Bool.{true≢false}
 use Rattle.std.proofs.lemmas.List.Elements.{All-head, All-tail}
-use Rattle.alta_codec.specs.declared.location.TheConstants.{TOP}
 use Rattle.alta_compile.specs.Space.{Placed, AreApart, IsSpace, end_of, list_of, past}
 use Rattle.alta_compile.specs.Tree.{Tree, plan_list}
 use Rattle.alta_compile.proofs.Spaces.{Has, HasAt, apart_one, apart_two, at_met, at_within, list-has, has-list, list-rises, met_at}
@@ -17,12 +16,11 @@ use Rattle.alta_rank.specs.Cells.{score_of}
 use Rattle.alta_rank.specs.Locations.{range_score, IsListIn, AreListsIn}
 use Rattle.alta_rank.specs.Ranked as rank
 use Rattle.alta_rank.specs.Scoring.{Scoring}
-use Rattle.alta_rank.specs.declared.scored.Scored.{Scored}
 use Rattle.alta_rank.specs.declared.usage.Use.{Use}
 use Rattle.alta_search.specs.Answers.{coming, is_answer}
 use Rattle.alta_search.specs.Lists.{test_list}
 use Rattle.alta_search.specs.Readers.{Each}
-use Rattle.alta_search.specs.Scoring.{AreScorable, IsScorable, last_lists, scored_by}
+use Rattle.alta_search.specs.Scoring.{AreScorable, scored_by}
 use Rattle.alta_search.specs.Tops.{IsShort, cells_from, document_of, lists_for, number_of, same_test, scored, scoring_lists}
 use Rattle.alta_search.specs.View.{IsRowOf, Shows, View}
 use Rattle.alta_search.specs.Words.{reader_list}

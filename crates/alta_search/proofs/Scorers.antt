@@ -7,7 +7,6 @@ use Rattle.std.proofs.lemmas.List.Elements.{All-nil, All-cons, All-head, All-tai
 use Rattle.alta_codec.specs.Rising.{IsRising}
 use Rattle.alta_docread.specs.KeptLaws.{true_or_false}
 use Rattle.alta_query.specs.declared.test.Test.{Test}
-use Rattle.alta_rank.specs.Scoring.{Scoring}
 use Rattle.alta_rank.specs.declared.usage.Use.{Use}
 use Rattle.alta_search.specs.Lists.{IsCut, count_lists, lists_at, test_at}
 use Rattle.alta_search.specs.Plans.{lists}

@@ -1,34 +1,30 @@
 -- The best answers of a query over a snapshot of its plan's tests and the test of title ends.
-use Rattle.std.proofs.Common.{◌≡◌, ◌≢◌, ℕ, ◌+◌, ◌-◌, ◌<◌, ◌≤◌, List, [], ◌∷◌, ◌++◌, map, take, length, get_or, refl, sym, subst, ap, ◌∙◌, arith, length-append}
+use Rattle.std.proofs.Common.{◌≡◌, ℕ, ◌+◌, ◌-◌, ◌≤◌, List, [], ◌∷◌, ◌++◌, map, take, length, get_or, sym, subst, ap, ◌∙◌, arith, length-append}
 use Rattle.std.proofs.lemmas.List.{length-map}
-use Rattle.std.specs.Prelude.{AllPairs}
 use Rattle.std.proofs.Math.Seq.{take-append_seam}
 use Rattle.alta_compile.specs.PlanOf.{plan_of}
 use Rattle.alta_compile.specs.Space.{list_of}
 use Rattle.alta_compile.specs.Tree.{Tree, plan_list}
-use Rattle.alta_content.specs.declared.document.DocRow.{DocRow}
 use Rattle.alta_meta.specs.declared.document.Document.{Document}
 use Rattle.alta_query.specs.Patterns.{title_end}
 use Rattle.alta_query.specs.Shape.{Shape}
 use Rattle.alta_query.specs.declared.test.Test.{Test}
 use Rattle.alta_rank.specs.Kept.{IsBest}
-use Rattle.alta_rank.specs.Ranked as rank
 use Rattle.alta_rank.specs.Scoring.{Scoring}
 use Rattle.alta_rank.specs.Uses.{uses_of}
 use Rattle.alta_rank.specs.declared.scored.Scored.{Scored}
-use Rattle.alta_rank.specs.declared.usage.Use.{Use}
 use Rattle.alta_search.specs.Answers.{coming, is_answer}
 use Rattle.alta_search.specs.Lists.{count_lists, count_locations, test_list}
 use Rattle.alta_search.specs.Plans.{lists, locations, tests_of}
 use Rattle.alta_search.specs.Scoring.{AreScorable, IsScorerOf, last_lists, scored_by}
 use Rattle.alta_search.specs.Told.{rows_at}
-use Rattle.alta_search.specs.Tops.{AreToRank, AreTopSteps, document_of, number_of, scored, scoring_lists}
+use Rattle.alta_search.specs.Tops.{AreToRank, document_of, scored}
 use Rattle.alta_search.specs.View.{View}
 use Rattle.alta_search.specs.Words.{reader_list}
 use Rattle.alta_search.specs.declared.test_reader.TestReader.{TestReader}
 use Rattle.alta_search.proofs.Among.{AreAmong, among_front, uses_among}
 use Rattle.alta_search.proofs.Ranks.{rows_size, sum_taken}
-use Rattle.alta_search.proofs.RowScores.{ScoresAreOfCells, answers_scored, last_at, numbers_stay, scorable, space_lists, uses_lists}
+use Rattle.alta_search.proofs.RowScores.{ScoresAreOfCells, answers_scored, last_at, scorable, space_lists, uses_lists}
 
 -- all tests but the last
 pub front_of : (n : ℕ) (ts rs : List Test) (t : Test) → ts ≡ rs ++ t ∷ [] → n + 1 ≡ length ts → take n ts ≡ rs

@@ -129,7 +129,7 @@ fn chain_reader<'a, L: Ledger>(
 }
 
 /// A reader of the locations of a test that has one term at most, at the first. It adds a step a list.
-fn word_reader<'a, L: Ledger>(
+pub(crate) fn word_reader<'a, L: Ledger>(
     alloc: Global,
     terms: &'a [TermLists],
     steps: &mut Steps<L>,
@@ -157,7 +157,7 @@ fn word_reader<'a, L: Ledger>(
 }
 
 /// Readers of the locations of the tests at these indexes, in their order. It adds a step a list.
-fn word_readers<'a, L: Ledger>(
+pub(crate) fn word_readers<'a, L: Ledger>(
     alloc: Global,
     tests: &'a [TestLists],
     uses: &[usize],

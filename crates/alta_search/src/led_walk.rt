@@ -29,7 +29,7 @@ fn is_coded(reader: &SingleReader<'_>) -> bool
 }
 
 /// Whether each reads one list, which is coded.
-fn are_coded(readers: &[SingleReader<'_>]) -> bool
+pub(crate) fn are_coded(readers: &[SingleReader<'_>]) -> bool
     ensures { IsTrue result → All IsCoded readers.now }
 {
     readers.iter().all(|reader| is_coded(reader))
@@ -47,7 +47,7 @@ fn coded(reader: SingleReader<'_>) -> WordReader<'_>
 }
 
 /// The readers of these lists.
-fn all_coded<'a>(
+pub(crate) fn all_coded<'a>(
     alloc: Global,
     readers: Vec<SingleReader<'a>>,
 ) -> Result<Vec<WordReader<'a>>, AllocError>

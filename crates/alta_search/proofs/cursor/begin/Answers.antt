@@ -1,4 +1,4 @@
-use Rattle.std.proofs.Common.{◌≡◌, ◌+◌, sym, subst}
+use Rattle.std.proofs.Common.{◌+◌, sym, subst}
 use Rattle.alta_search.specs.Leads.{AreByRarest}
 use Rattle.alta_search.proofs.Paging.{rarest_none}
 use Rattle.alta_search.proofs.cursor.begin.Goals as goal

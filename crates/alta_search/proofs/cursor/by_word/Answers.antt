@@ -1,4 +1,4 @@
-use Rattle.std.proofs.Common.{◌≡◌, ◌+◌, ◌∙◌, sym, subst, arith}
+use Rattle.std.proofs.Common.{◌+◌, ◌∙◌, sym, subst, arith}
 use Rattle.std.specs.Prelude.{All, Some}
 use Rattle.alta_compile.specs.View.{tree}
 use Rattle.alta_search.specs.Met.{IsExact}

@@ -1,4 +1,4 @@
-use Rattle.std.proofs.Common.{◌≡◌, ◌<◌, map, length, subst, ap, ◌∙◌, arith}
+use Rattle.std.proofs.Common.{map, length, subst, ap, ◌∙◌, arith}
 use Rattle.std.proofs.lemmas.List.{length-map}
 use Rattle.alta_content.specs.Rows.{end_of}
 use Rattle.alta_rows.proofs.Levels.{rising_fits}

@@ -1,4 +1,4 @@
-use Rattle.std.proofs.Common.{◌≡◌, map, sym, subst, ◌∙◌}
+use Rattle.std.proofs.Common.{map, sym, subst, ◌∙◌}
 use Rattle.alta_search.specs.Leads.{IsLeadOf}
 use Rattle.alta_search.specs.Lists.{lists_at, IsCut}
 use Rattle.alta_search.specs.Met.{IsSingle}

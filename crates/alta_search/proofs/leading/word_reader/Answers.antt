@@ -1,4 +1,4 @@
-use Rattle.std.proofs.Common.{◌≡◌, ◌<◌, [], ◌∷◌, map, refl, sym, subst}
+use Rattle.std.proofs.Common.{map, refl, sym, subst}
 use Rattle.std.specs.List.{concat}
 use Rattle.alta_codec.specs.Rising.{IsRising}
 use Rattle.alta_search.specs.Lists.{level_list, term_lists, IsCut}

@@ -1,4 +1,4 @@
-use Rattle.std.proofs.Common.{◌≡◌, ◌+◌, ◌≤◌, ℕ, List, map, take, length, sym, subst, ap, ◌∙◌, arith}
+use Rattle.std.proofs.Common.{◌≡◌, ◌≤◌, ℕ, List, map, take, length, sym, subst, ap, ◌∙◌, arith}
 use Rattle.alta_compile.specs.View.{tree}
 use Rattle.alta_content.specs.declared.document.DocRow.{DocRow}
 use Rattle.alta_query.specs.View.{shape}

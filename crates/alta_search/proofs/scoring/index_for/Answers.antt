@@ -1,5 +1,5 @@
-use Rattle.std.proofs.Common.{sym, ◌∙◌, arith}
-use Rattle.alta_search.proofs.SameTests.{among_here, among_behind, among_none}
+use Rattle.std.proofs.Common.{sym, ◌∙◌}
+use Rattle.alta_search.proofs.SameTests.{among_here, among_behind}
 use Rattle.alta_search.proofs.scoring.index_for.Goals as goal
 
 pub returns-then-is_at : goal.returns-then-is_at

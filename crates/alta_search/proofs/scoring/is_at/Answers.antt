@@ -1,4 +1,4 @@
-use Rattle.std.proofs.Common.{ap, sym, ◌∙◌}
+use Rattle.std.proofs.Common.{ap, ◌∙◌}
 use Rattle.alta_search.specs.Tops.{same_test}
 use Rattle.alta_search.proofs.SameTests.{by_test}
 use Rattle.alta_search.proofs.scoring.is_at.Goals as goal

@@ -8,7 +8,7 @@ use Rattle.alta_rank.specs.declared.usage.Use.{Use}
 use Rattle.alta_search.specs.Lists.{IsCut, count_lists, lists_at, test_at}
 use Rattle.alta_search.specs.Plans.{lists}
 use Rattle.alta_search.specs.Readers.{Each, IsFresh}
-use Rattle.alta_search.specs.Scoring.{IsScorerOf, last_lists}
+use Rattle.alta_search.specs.Scoring.{IsScorerOf}
 use Rattle.alta_search.specs.Tops.{scoring_lists}
 use Rattle.alta_search.specs.View.{View}
 use Rattle.alta_search.specs.Words.{reader_list, reader_all, reader_place, reader_left}
