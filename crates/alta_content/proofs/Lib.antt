@@ -12,4 +12,5 @@ pub mod Packs
 pub mod Ranges
 pub mod Rises
 pub mod Searches
+pub mod SideBySide
 pub mod Walks

@@ -6,5 +6,6 @@ pub mod Lists
 pub mod Packed
 pub mod Parts
 pub mod Rows
+pub mod Runs
 pub mod Spans
 pub mod TermList

@@ -3,33 +3,36 @@ ghost use Rattle.std.specs.Prelude.{◌≡◌, ◌<◌, ◌↔◌, [], map, leng
 ghost use Rattle.alta_codec.specs.Rising.{IsRising};
 ghost use Rattle.alta_codec.specs.declared.location.TheConstants.{TOP};
 ghost use Rattle.alta_content.specs.Rows.{AreJoined, end_of};
+ghost use Rattle.alta_content.specs.Runs.{AreRunsOf};
 
 use crate::document::DocRow;
+use crate::runs::{Runs, runs_of};
 use alta_codec::Loc;
 use std::alloc::{AllocError, Global};
 use std::marker::Model;
 use std::rc::Rc;
 
 /// The rows of the documents of a level, in rising order of their ends. The ends stand beside them in a list of their own, so
-/// that a look-up reads eight bytes a row. It is kept whether they stand side by side. Contracts see the list of rows.
+/// that a look-up reads eight bytes a row, and so do the runs of documents that stand side by side. Contracts see the list of rows.
 #[derive(Drop)]
 pub struct LevelRows {
     rows: Vec<DocRow>,
     ends: Vec<Loc>,
-    joined: bool,
+    runs: Runs,
 }
 
 impl Model for LevelRows {
-    ghost use Rattle.std.specs.Prelude.{List, map, ◌≡◌, IsTrue};
+    ghost use Rattle.std.specs.Prelude.{List, map, ◌≡◌};
     ghost use Rattle.alta_codec.specs.Rising.{IsRising};
-    ghost use Rattle.alta_content.specs.Rows.{AreJoined, end_of};
+    ghost use Rattle.alta_content.specs.Rows.{end_of};
+    ghost use Rattle.alta_content.specs.Runs.{AreRunsOf};
     ghost use Rattle.alta_content.specs.declared.document.DocRow.{DocRow};
 
     ghost Value = { List DocRow };
 
     ghost view = { λ r. r.rows.items };
 
-    ghost invariant = { λ r. (r.ends.items ≡ map end_of r.rows.items) × IsRising (map end_of r.rows.items) × (IsTrue r.joined → AreJoined r.rows.items) };
+    ghost invariant = { λ r. (r.ends.items ≡ map end_of r.rows.items) × IsRising (map end_of r.rows.items) × AreRunsOf r.rows.items r.runs.firsts.items r.runs.ends.items };
 }
 
 /// The location of a document's last cell.
@@ -53,20 +56,6 @@ pub fn ends_of(alloc: Global, rows: &[DocRow]) -> Result<Vec<Loc>, AllocError>
     Ok(ends)
 }
 
-/// Whether each document begins right behind the end of the one before.
-fn are_joined(rows: &[DocRow], ends: &[Loc]) -> bool
-    requires ends { ends.now ≡ map end_of rows.now }
-    requires rising { IsRising ends.now }
-    ensures { IsTrue result → AreJoined rows.now }
-{
-    for i in 1..rows.len() {
-        if rows[i].first != ends[i - 1] + 1 {
-            return false;
-        }
-    }
-    true
-}
-
 /// Equal rows, each with a name in memory of its own.
 fn copies_of(alloc: Global, rows: &[DocRow]) -> Result<Vec<DocRow>, AllocError>
     ensures { IfOk result (λ copies. copies.items ≡ rows.now) }
@@ -79,23 +68,24 @@ fn copies_of(alloc: Global, rows: &[DocRow]) -> Result<Vec<DocRow>, AllocError>
 }
 
 impl LevelRows {
-    /// These rows, without a copy. It takes eight bytes a row, and fails for want of memory alone.
+    /// These rows, without a copy. It takes eight bytes a row and sixteen bytes a run, and fails for want of memory alone.
     pub fn new(alloc: Global, rows: Vec<DocRow>) -> Result<LevelRows, AllocError>
         requires { IsRising (map end_of rows.items) }
         ensures { IfOk result (λ r. r ≡ rows.items) }
     {
         let ends = ends_of(alloc, &rows)?;
-        Ok(LevelRows::with_ends(rows, ends))
+        let runs = runs_of(alloc, &rows, &ends)?;
+        Ok(LevelRows::with_runs(rows, ends, runs))
     }
 
-    /// These rows and their ends, without a copy.
-    pub fn with_ends(rows: Vec<DocRow>, ends: Vec<Loc>) -> LevelRows
+    /// These rows, their ends and their runs, without a copy.
+    pub fn with_runs(rows: Vec<DocRow>, ends: Vec<Loc>, runs: Runs) -> LevelRows
         requires rising { IsRising (map end_of rows.items) }
         requires ends { ends.items ≡ map end_of rows.items }
+        requires runs { AreRunsOf rows.items runs.firsts.items runs.ends.items }
         ensures { result ≡ rows.items }
     {
-        let joined = are_joined(&rows, &ends);
-        LevelRows { rows, ends, joined }
+        LevelRows { rows, ends, runs }
     }
 
     /// The rows in a vector of their own: the vector that holds them, where nobody else keeps them, and else equal rows. Fails for
@@ -148,7 +138,14 @@ impl LevelRows {
     pub fn is_joined(&self) -> bool
         ensures { IsTrue result → AreJoined self.now }
     {
-        self.joined
+        self.runs.ends.len() <= 1
+    }
+
+    /// The runs of the documents.
+    pub fn runs(&self) -> &Runs
+        ensures { AreRunsOf self.now result.now.firsts.items result.now.ends.items }
+    {
+        &self.runs
     }
 
     /// The ends of the documents.

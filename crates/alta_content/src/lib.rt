@@ -8,6 +8,7 @@ mod laws;
 mod level;
 mod packing;
 mod rows;
+mod runs;
 mod spans;
 mod term_lists;
 
@@ -16,5 +17,6 @@ pub use document::DocRow;
 pub use laws::joins_keep_contents;
 pub use level::{LevelRows, ends_of};
 pub use rows::DocRows;
+pub use runs::{Runs, runs_of};
 pub use spans::{Span, keep_locations, keep_rows, put_locations, spans_of};
 pub use term_lists::TermLists;

@@ -1,25 +1,26 @@
 -- Locations beside the ranges and the ends of documents.
-use Rattle.std.specs.Prelude.{◌≡◌, ◌↔◌, ◌⊎◌, ℕ, ◌+◌, ◌-◌, ◌<◌, ◌≤◌, Bool, true, false, List, length, slice_index, Option, MatchOption}
+use Rattle.std.specs.Prelude.{◌≡◌, ◌⊎◌, ℕ, ◌+◌, ◌-◌, ◌<◌, ◌≤◌, Bool, true, List, length, slice_index}
 use Rattle.alta_content.specs.declared.document.DocRow.{DocRow}
-use Rattle.alta_content.specs.Lists.{AreInRanges, IsInRange}
+use Rattle.alta_content.specs.Lists.{AreInRanges}
 use Rattle.alta_content.specs.Rows.{ends_of}
+use Rattle.alta_content.specs.Runs.{AreInRuns, IsInRun}
 
 -- each location lies in the range of a document, and of the term `D` they are the ends of the documents
 pub record AreFitting (documents : List DocRow) (ends : Bool) (list : List ℕ) : Type 0 where
   pub within : AreInRanges documents list
   pub ends_are : ends ≡ true → list ≡ ends_of documents
 
--- each location lies in a range, and the documents before this row end before the last of them
-pub record AreInRangesTo (documents : List DocRow) (locations : List ℕ) (row : ℕ) : Type 0 where
-  pub within : row ≤ length documents
-  pub passed : 0 < length locations → (i : ℕ) → i < row → slice_index (ends_of documents) i < slice_index locations (length locations - 1)
-  pub held : AreInRanges documents locations
+-- each location lies in a run, and the runs before this one end before the last of them
+pub record AreInRunsTo (firsts ends locations : List ℕ) (run : ℕ) : Type 0 where
+  pub within : run ≤ length ends
+  pub passed : 0 < length locations → (i : ℕ) → i < run → slice_index ends i < slice_index locations (length locations - 1)
+  pub held : AreInRuns firsts ends locations
 
--- a location lies in no range
-pub record HasOutside (documents : List DocRow) (locations : List ℕ) : Type 0 where
+-- a location lies in no run
+pub record HasOutside (firsts ends locations : List ℕ) : Type 0 where
   pub at : ℕ
   pub within : at < length locations
-  pub outside : IsInRange documents (slice_index locations at) → ⊥
+  pub outside : IsInRun firsts ends (slice_index locations at) → ⊥
 
 -- the locations are the ends of the documents from one row on, up to another
 pub record AreEndsTo (documents : List DocRow) (from : ℕ) (locations : List ℕ) (row : ℕ) : Type 0 where
@@ -31,8 +32,3 @@ pub record AreEndsTo (documents : List DocRow) (from : ℕ) (locations : List �
 abbrev pub HasOther : List DocRow → ℕ → List ℕ → Type 0
 HasOther documents from locations =
     (length documents < from + length locations) ⊎ ((k : ℕ) × (k < length locations) × (slice_index locations k ≡ slice_index (ends_of documents) (from + k) → ⊥))
-
--- what the row behind all locations tells: where there is none something did not fit, and of the ends none may be missing
-pub record IsFit (documents : List DocRow) (ends : Bool) (row : Option ℕ) (fits : Bool) : Type 0 where
-  pub ranges : ends ≡ false → MatchOption row (fits ≡ false) (λ at. fits ≡ true)
-  pub ends_are : ends ≡ true → MatchOption row (fits ≡ false) (λ at. (fits ≡ true) ↔ (at ≡ length documents))

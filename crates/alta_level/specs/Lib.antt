@@ -4,3 +4,4 @@ pub mod Stored
 pub mod Segments
 pub mod Damage
 pub mod Fitting
+pub mod Meeting

@@ -117,7 +117,7 @@ fn tested(list: &StoredList<'_>, documents: &LevelRows) -> Result<Bounds, LevelF
 
 /// Tests a list as [`read_list`] does, with the same faults, and keeps none of its locations: it answers what a
 /// [`Posting`](alta_words::Posting) of its bytes is made with. It takes no memory, and never answers `Memory`. Each number of the stream
-/// is read once.
+/// is read once, and in a damaged list at most twice.
 pub fn check_list(list: &StoredList<'_>, documents: &LevelRows) -> Result<Bounds, LevelFault>
     requires stream { list.now.stream_place + length list.now.stream.now < 2 ^ 64 }
     requires summary { list.now.summary_place + length list.now.summary.now < 2 ^ 64 }

@@ -5,6 +5,7 @@
 //! the stream and the summary of each term's list. A content has exactly one segment.
 #![tactic(auto)]
 
+mod blocks;
 mod building;
 mod checking;
 mod comparing;
@@ -13,8 +14,6 @@ mod ends;
 mod laws;
 mod ranges;
 mod reading;
-#[cfg(test)]
-mod segment_tests;
 mod stored;
 mod walking;
 mod writing;

@@ -1,15 +1,17 @@
 // A stream beside the rows of its summary and the ranges of documents, each number read once and none kept.
-ghost use Rattle.std.specs.Prelude.{◌↔◌, List, ℕ, false, IfErr, IfOk, IsTrue};
+ghost use Rattle.std.specs.Prelude.{◌↔◌, List, ℕ, false, true, IfErr, IfOk, IsTrue};
 ghost use Rattle.alta_codec.specs.Rising.{IsRising};
 ghost use Rattle.alta_content.specs.Rows.{AreDocuments, AreJoined};
+ghost use Rattle.alta_content.specs.Runs.{AreInRuns, RunsRise};
 ghost use Rattle.alta_level.specs.Coded.{IsCoded};
 ghost use Rattle.alta_level.specs.Fitting.{AreFitting};
 ghost use Rattle.alta_postings.specs.Deltas.{decoded_list};
 ghost use Rattle.alta_words.specs.Fault.{IsPostingFault};
 ghost use Rattle.alta_words.specs.Word.{HasBounds, IsPosting};
 
-use crate::ranges::{first_at, is_fit, row_after};
-use alta_content::LevelRows;
+use crate::blocks::next_block;
+use crate::ranges::{are_all_ends, are_all_held, ends_after, first_at};
+use alta_content::{LevelRows, Runs};
 use alta_postings::fill_block;
 use alta_summary::Summary;
 use alta_words::{Bounds, Compared, PostingFault, check, summary_fault};
@@ -22,6 +24,68 @@ pub struct Walked {
     pub bounds: Bounds,
     /// Whether its locations fit the documents.
     pub fits: bool,
+}
+
+// Reads a stream block by block, beside the rows of its summary and the ends of the documents.
+fn walk_ends(
+    stream: &[u8],
+    table: &Summary<'_>,
+    documents: &LevelRows,
+) -> Result<Walked, PostingFault>
+    requires documents { AreDocuments documents.now }
+    ensures posting { IfOk result (λ walked. IsPosting stream.now table.now.bytes walked.bounds.rows) }
+    ensures bounds { IfOk result (λ walked. HasBounds (decoded_list stream.now) walked.bounds.count walked.bounds.first walked.bounds.last) }
+    ensures fits { IfOk result (λ walked. IsTrue walked.fits ↔ AreFitting documents.now true (decoded_list stream.now)) }
+    ensures fault { IfErr result (IsPostingFault stream.now table.now.bytes) }
+{
+    let mut read = Compared::none();
+    let mut row = Some(0);
+    let mut block = ArrayVec::new();
+    'whole: while read.at < stream.len() {
+        match fill_block(stream, read.at, read.last, &mut block) {
+            Ok(span) => {
+                row = ends_after(documents, row, block.as_slice());
+                read = read.with(stream, table, &span);
+            }
+            Err(fault) => return Err(PostingFault::Stream(fault.place)),
+        }
+    }
+    match read.end(stream, table) {
+        Ok(bounds) => Ok(Walked {
+            bounds,
+            fits: are_all_ends(documents, row),
+        }),
+        Err(fault) => Err(fault),
+    }
+}
+
+// Reads a stream block by block, beside the rows of its summary and the runs of documents.
+fn walk_runs(stream: &[u8], table: &Summary<'_>, runs: &Runs) -> Result<Walked, PostingFault>
+    requires { RunsRise runs.now.firsts.items runs.now.ends.items }
+    ensures posting { IfOk result (λ walked. IsPosting stream.now table.now.bytes walked.bounds.rows) }
+    ensures bounds { IfOk result (λ walked. HasBounds (decoded_list stream.now) walked.bounds.count walked.bounds.first walked.bounds.last) }
+    ensures fits { IfOk result (λ walked. IsTrue walked.fits ↔ AreInRuns runs.now.firsts.items runs.now.ends.items (decoded_list stream.now)) }
+    ensures fault { IfErr result (IsPostingFault stream.now table.now.bytes) }
+{
+    let mut read = Compared::none();
+    let mut run = Some(0);
+    let mut block = ArrayVec::new();
+    'whole: while read.at < stream.len() {
+        match next_block(stream, table, runs, &read, run, &mut block) {
+            Ok(met) => {
+                run = met.run;
+                read = read.with(stream, table, &met.span);
+            }
+            Err(fault) => return Err(PostingFault::Stream(fault.place)),
+        }
+    }
+    match read.end(stream, table) {
+        Ok(bounds) => Ok(Walked {
+            bounds,
+            fits: are_all_held(run),
+        }),
+        Err(fault) => Err(fault),
+    }
 }
 
 // Reads a stream block by block, beside the rows of its summary and the documents.
@@ -37,29 +101,14 @@ fn walk(
     ensures fits { IfOk result (λ walked. IsTrue walked.fits ↔ AreFitting documents.now ends (decoded_list stream.now)) }
     ensures fault { IfErr result (IsPostingFault stream.now table.now.bytes) }
 {
-    let mut read = Compared::none();
-    let mut row = Some(0);
-    let mut block = ArrayVec::new();
-    'whole: while read.at < stream.len() {
-        match fill_block(stream, read.at, read.last, &mut block) {
-            Ok(span) => {
-                row = row_after(documents, ends, row, block.as_slice());
-                read = read.with(stream, table, &span);
-            }
-            Err(fault) => return Err(PostingFault::Stream(fault.place)),
-        }
+    if ends {
+        return walk_ends(stream, table, documents);
     }
-    match read.end(stream, table) {
-        Ok(bounds) => Ok(Walked {
-            bounds,
-            fits: is_fit(documents, ends, row),
-        }),
-        Err(fault) => Err(fault),
-    }
+    walk_runs(stream, table, documents.runs())
 }
 
-// Reads a stream and a summary once each, and looks at each location beside the documents: whether it lies in the range of one,
-// and, where they have to be the `ends` of the documents, whether they are.
+// Reads a stream and a summary once each, beside the documents: whether each location lies in the range of one, and, where they have
+// to be the `ends` of the documents, whether they are.
 fn walk_list(
     stream: &[u8],
     summary: &[u8],
@@ -123,7 +172,7 @@ fn walk_joined(stream: &[u8], summary: &[u8], documents: &LevelRows) -> Result<W
 
 /// Tests a stream and a summary as [`alta_words::check`] does, and whether each location lies in the range of a document, and, where
 /// they have to be the `ends` of the documents, whether they are. Where the documents stand side by side, the first location and
-/// the last tell it of all. It takes no memory.
+/// the last tell it of all, and where they stand in several runs, of each block that lies in one. It takes no memory.
 pub fn test_list(
     stream: &[u8],
     summary: &[u8],

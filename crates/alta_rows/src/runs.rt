@@ -5,7 +5,7 @@ ghost use Rattle.alta_content.specs.Rows.{end_of, ends_of};
 ghost use Rattle.alta_rows.specs.All.{shared_rows, rows_of_levels};
 
 use crate::all::{AllRows, row_in};
-use alta_content::{DocRow, LevelRows, ends_of};
+use alta_content::{DocRow, LevelRows, ends_of, runs_of};
 use std::alloc::{AllocError, Global};
 use std::marker::Model;
 use std::mem;
@@ -68,8 +68,9 @@ impl RowRuns {
     {
         self.full.reserve(1)?;
         let ends = ends_of(self.alloc, &self.last)?;
+        let runs = runs_of(self.alloc, &self.last, &ends)?;
         let rows = mem::replace(&mut self.last, Vec::new(self.alloc));
-        match Rc::new(self.alloc, LevelRows::with_ends(rows, ends)) {
+        match Rc::new(self.alloc, LevelRows::with_runs(rows, ends, runs)) {
             Ok(run) => {
                 let Ok(()) = self.full.push(run) else {
                     unreachable!()

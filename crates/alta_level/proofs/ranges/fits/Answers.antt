@@ -1,15 +1,13 @@
-use Rattle.alta_level.proofs.Apart.{apart_from}
-use Rattle.alta_level.proofs.Walks.{all_fits, fits_row, row_fits}
+use Rattle.std.proofs.Common.{true, false}
+use Rattle.alta_level.proofs.Walks.{fits_by}
 use Rattle.alta_level.proofs.ranges.fits.Goals as goal
 
-pub row_after-requires-clause-apart : goal.row_after-requires-clause-apart
-row_after-requires-clause-apart c = apart_from c.args.documents.now c.requires.documents
+pub returns-then-is_end_term : goal.returns-then-is_end_term
+returns-then-is_end_term c =
+    fits_by c.args.documents.now c.is_end_term.result c.args.term.now c.args.locations.now c.args.count c.is_end_term.ensures c.if-locations-count.false true c.if-is_end_term.true
+    c.are_ends.result c.are_ends.ensures
 
-pub returns : goal.returns
-returns c =
-    let documents = c.args.documents.now in
-    let ends = c.is_end_term-ends.result in
-    let (to, from) = all_fits documents ends c.args.locations.now c.row_after.result c.is_fit.result c.requires.documents c.row_after.ensures.ranges c.row_after.ensures.ends c.is_fit.ensures in (
-      λ t. row_fits documents ends c.args.term.now c.args.locations.now c.args.count c.is_end_term-ends.ensures (to t) c.if-locations-count.false,
-      λ f. from (fits_row documents ends c.args.term.now c.args.locations.now c.args.count c.is_end_term-ends.ensures f),
-    )
+pub returns-else-is_end_term : goal.returns-else-is_end_term
+returns-else-is_end_term c =
+    fits_by c.args.documents.now c.is_end_term.result c.args.term.now c.args.locations.now c.args.count c.is_end_term.ensures c.if-locations-count.false false c.if-is_end_term.false
+    c.are_in_ranges.result c.are_in_ranges.ensures

@@ -1,0 +1,24 @@
+use Rattle.std.proofs.Common.{Option, ℕ, ◌<◌, ◌≤◌, length, get_or, sym, subst}
+use Rattle.std.specs.Prelude.{IfOk, IfSome}
+use Rattle.alta_level.specs.Meeting.{IsMet}
+use Rattle.alta_level.proofs.blocks.next_block.Goals as goal
+
+pub read_beside-requires-clause-within : goal.read_beside-requires-clause-within
+read_beside-requires-clause-within c = subst (λ (o : Option ℕ). IfSome o (λ (from : ℕ). from ≤ length c.args.runs.now.ends.items)) c.in-Some.is c.requires.within
+
+pub read_beside-requires-clause-passed : goal.read_beside-requires-clause-passed
+read_beside-requires-clause-passed c =
+    subst (λ (o : Option ℕ). IfSome o (λ (from : ℕ). (i : ℕ) → i < from → get_or c.args.runs.now.ends.items i 0 < c.args.read.now.last)) c.in-Some.is c.requires.passed
+
+pub returns-in-Some-clause-met : goal.returns-in-Some-clause-met
+returns-in-Some-clause-met c =
+    let read = c.args.read.now in
+    let runs = c.args.runs.now in
+    subst (λ (o : Option ℕ). IfOk c.read_beside.result (IsMet c.args.stream.now read.at read.last runs.firsts.items runs.ends.items o)) (sym c.in-Some.is) c.read_beside.ensures.met
+
+pub returns-in-None-clause-met : goal.returns-in-None-clause-met
+returns-in-None-clause-met c =
+    let read = c.args.read.now in
+    let runs = c.args.runs.now in
+    subst (λ (o : Option ℕ). IfOk c.pass_block.result (IsMet c.args.stream.now read.at read.last runs.firsts.items runs.ends.items o)) (sym c.in-None.is)
+    (c.pass_block.ensures.met runs.firsts.items runs.ends.items)
