@@ -11,8 +11,6 @@ mod location;
 mod name;
 mod number;
 mod steps;
-#[cfg(test)]
-mod tests;
 mod text;
 
 pub use bytes::Bytes;

@@ -4,8 +4,6 @@
 mod line;
 mod report;
 mod script;
-#[cfg(test)]
-mod tests;
 
 pub use report::report_line;
 pub use script::script_line;

@@ -11,8 +11,6 @@ mod opening;
 mod order;
 mod reading;
 mod tables;
-#[cfg(test)]
-mod tests;
 
 pub use fault::OpeningFault;
 pub use opening::{OpenLevels, open_levels};

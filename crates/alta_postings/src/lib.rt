@@ -9,8 +9,6 @@ mod places;
 mod runs;
 mod step;
 mod stream;
-#[cfg(test)]
-mod tests;
 
 pub use block::{BlockSpan, fill_block, scan_block};
 pub use coding::{Coded, encode, mark, put_stream};

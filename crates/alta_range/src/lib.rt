@@ -9,8 +9,6 @@ mod level;
 mod numeral;
 mod range;
 mod terms;
-#[cfg(test)]
-mod tests;
 
 pub use covering::cover;
 pub use laws::{

@@ -8,8 +8,6 @@ mod ranking;
 mod scored;
 mod scorer;
 mod scoring;
-#[cfg(test)]
-mod tests;
 mod usage;
 
 pub use best::Best;

@@ -20,8 +20,6 @@ mod piece;
 mod places;
 mod putting;
 mod rewriting;
-#[cfg(test)]
-mod tests;
 
 pub use ends::Ends;
 pub use fault::RewriteFault;

@@ -22,9 +22,6 @@ use alta_disk::{Disk, Failed};
 use alta_journal::{Half, format};
 use alta_root::{Root, Slot, switch};
 
-#[cfg(test)]
-mod tests;
-
 /// Writes pieces into gaps beside what the root that counts names, and makes `root` the one that counts, in the slot that does
 /// not count now. Nothing is pending at the start.
 ///

@@ -3,8 +3,6 @@
 
 mod all;
 mod runs;
-#[cfg(test)]
-mod tests;
 mod walk;
 
 pub use all::AllRows;

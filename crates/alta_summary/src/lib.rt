@@ -6,8 +6,6 @@ mod building;
 mod field;
 mod search;
 mod summary;
-#[cfg(test)]
-mod tests;
 
 pub use building::build;
 pub use summary::{Row, Summary, SummaryFault};

@@ -3,15 +3,11 @@
 
 mod chain;
 mod checking;
-#[cfg(test)]
-mod coded_tests;
 mod compared;
 mod leaf;
 mod plain;
 mod posting;
 mod standing;
-#[cfg(test)]
-mod tests;
 mod word;
 
 pub use chain::ChainReader;

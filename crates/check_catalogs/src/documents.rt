@@ -20,6 +20,7 @@ use alta_table::{LevelFault, Table, head, tables_in_front};
 use arrayvec::ArrayVec;
 use std::alloc::{AllocError, Global};
 use std::collections::HashMap;
+use std::process::Abort;
 use std::test::Fail;
 
 // A level of one document, of number 1, at the locations 1 to 9, with the name `a`: six words.
@@ -164,14 +165,12 @@ fn differing(
     Ok(None)
 }
 
-#[test]
-fn documents_come_and_go(rt: HostRuntime) -> Result<(), Fail> {
-    let alloc = rt.alloc();
+pub(crate) fn documents_come_and_go(rt: &impl Abort, alloc: Global) -> Result<(), Fail> {
     let table = level(alloc, LEVEL, 126).or(Err("the level is damaged"))?;
     let Some(mut catalog) = catalog_of(alloc, &root(), table)? else {
         return Err(Fail::from("the level has no single document"));
     };
-    assert_eq!(rt; catalog.counts(), (1, 6, 3));
+    assert!(rt; catalog.counts() == (1, 6, 3));
     let steps: [Step; 9] = [
         (0, "a", false, (1, 6, 3)),
         (0, "b", true, (2, 12, 4)),
@@ -184,18 +183,19 @@ fn documents_come_and_go(rt: HostRuntime) -> Result<(), Fail> {
         (9, "", false, (1, 6, 5)),
     ];
     let found = differing(alloc, &mut catalog, &steps).or(Err("no memory"))?;
-    assert_eq!(rt; found, None);
-    assert_eq!(rt; catalog.number_of("a"), Some(4));
-    assert_eq!(rt; catalog.number_of("b"), None);
-    assert_eq!(rt; catalog.gone(), [9, 27].as_slice());
-    assert_eq!(rt; catalog.levels().len(), 1);
+    assert!(rt; found.is_none());
+    assert!(rt; catalog.number_of("a") == Some(4) && catalog.number_of("b").is_none());
+    assert!(rt; catalog.gone() == [9, 27].as_slice() && catalog.levels().len() == 1);
     let (memory, gone) = catalog.newest();
-    assert_eq!(rt; memory.len(), 2);
-    assert_eq!(rt; gone, [9, 27].as_slice());
-    let names = catalog.names(alloc)?;
-    assert_eq!(rt; names.len(), 1);
-    assert!(rt; names.get(0).is_some_and(is_a));
+    assert!(rt; memory.len() == 2 && gone == [9, 27].as_slice());
+    assert!(rt; has_a_alone(alloc, &catalog)?);
     Ok(())
+}
+
+// Whether `a` is the only name.
+fn has_a_alone(alloc: Global, catalog: &Catalog) -> Result<bool, AllocError> {
+    let names = catalog.names(alloc)?;
+    Ok(names.len() == 1 && names.get(0).is_some_and(is_a))
 }
 
 // Prepares the level with one document to come behind that of the catalog, where it stands behind it.
@@ -240,49 +240,41 @@ fn has_changed(alloc: Global, catalog: &mut Catalog) -> Result<bool, MetaFault>
     Ok(differing(alloc, catalog, &steps)?.is_none())
 }
 
-#[test]
-fn newest_documents_become_a_level(rt: HostRuntime) -> Result<(), Fail> {
-    let alloc = rt.alloc();
+pub(crate) fn newest_documents_become_a_level(rt: &impl Abort, alloc: Global) -> Result<(), Fail> {
     let table = level(alloc, LEVEL, 126).or(Err("the level is damaged"))?;
     let Some(mut catalog) = catalog_of(alloc, &root(), table)? else {
         return Err(Fail::from("the level has no single document"));
     };
     let changed = has_changed(alloc, &mut catalog).or(Err("no memory"))?;
     assert!(rt; changed);
-    assert_eq!(rt; catalog.bounds(), (5, 37));
-    assert_eq!(rt; catalog.take_newest().len(), 2);
+    assert!(rt; catalog.bounds() == (5, 37));
+    assert!(rt; catalog.take_newest().len() == 2);
     let table = later_level(alloc).or(Err("the later level is damaged"))?;
     let Some(prepared) = prepare_behind(&catalog, &table)? else {
         return Err(Fail::from("the level does not stand behind"));
     };
-    assert_eq!(rt; prepared.deleted(), [9].as_slice());
+    assert!(rt; prepared.deleted() == [9].as_slice());
     catalog.put_levels(prepared, None, Some(table));
-    assert_eq!(rt; catalog.number_of("a"), Some(4));
-    assert_eq!(rt; catalog.counts(), (1, 6, 5));
-    assert_eq!(rt; catalog.gone(), [9].as_slice());
-    assert_eq!(rt; catalog.levels().len(), 2);
-    assert_eq!(rt; catalog.newest().0.len(), 0);
+    assert!(rt; catalog.number_of("a") == Some(4) && catalog.counts() == (1, 6, 5));
+    assert!(rt; catalog.gone() == [9].as_slice());
+    assert!(rt; catalog.levels().len() == 2 && catalog.newest().0.len() == 0);
     Ok(())
 }
 
-#[test]
-fn a_level_comes_in_place_of_all(rt: HostRuntime) -> Result<(), Fail> {
-    let alloc = rt.alloc();
+pub(crate) fn a_level_comes_in_place_of_all(rt: &impl Abort, alloc: Global) -> Result<(), Fail> {
     let table = level(alloc, LEVEL, 126).or(Err("the level is damaged"))?;
     let Some(mut catalog) = catalog_of(alloc, &root(), table)? else {
         return Err(Fail::from("the level has no single document"));
     };
     let changed = has_changed(alloc, &mut catalog).or(Err("no memory"))?;
     assert!(rt; changed);
-    assert_eq!(rt; catalog.take_newest().len(), 2);
+    assert!(rt; catalog.take_newest().len() == 2);
     let table = later_level(alloc).or(Err("the later level is damaged"))?;
     let prepared = prepare_instead(&catalog, &table)?;
-    assert_eq!(rt; prepared.deleted().len(), 0);
+    assert!(rt; prepared.deleted().is_empty());
     catalog.put_levels(prepared, Some(table), None);
-    assert_eq!(rt; catalog.number_of("a"), Some(4));
-    assert_eq!(rt; catalog.counts(), (1, 6, 5));
-    assert_eq!(rt; catalog.gone().len(), 0);
-    assert_eq!(rt; catalog.levels().len(), 1);
+    assert!(rt; catalog.number_of("a") == Some(4) && catalog.counts() == (1, 6, 5));
+    assert!(rt; catalog.gone().is_empty() && catalog.levels().len() == 1);
     Ok(())
 }
 
@@ -307,9 +299,10 @@ fn apply(alloc: Global, catalog: &mut Catalog, found: &[Placed]) -> Result<(), C
     apply_entries(alloc, catalog, found)
 }
 
-#[test]
-fn entries_are_refused_at_their_place(rt: HostRuntime) -> Result<(), Fail> {
-    let alloc = rt.alloc();
+pub(crate) fn entries_are_refused_at_their_place(
+    rt: &impl Abort,
+    alloc: Global,
+) -> Result<(), Fail> {
     let table = level(alloc, LEVEL, 126).or(Err("the level is damaged"))?;
     let Some(mut catalog) = catalog_of(alloc, &root(), table)? else {
         return Err(Fail::from("the level has no single document"));
@@ -317,7 +310,7 @@ fn entries_are_refused_at_their_place(rt: HostRuntime) -> Result<(), Fail> {
     let found = [delete_at(8192, 1), delete_at(8206, 1)];
     let answer = apply(alloc, &mut catalog, &found);
     assert!(rt; answer == Err(CatalogFault::Damaged(8211)));
-    assert_eq!(rt; catalog.counts(), (0, 0, 3));
+    assert!(rt; catalog.counts() == (0, 0, 3));
     laws();
     Ok(())
 }
@@ -343,9 +336,10 @@ fn replace_at(
     Ok(Some(Placed { place, entry }))
 }
 
-#[test]
-fn a_document_takes_the_place_of_another(rt: HostRuntime) -> Result<(), Fail> {
-    let alloc = rt.alloc();
+pub(crate) fn a_document_takes_the_place_of_another(
+    rt: &impl Abort,
+    alloc: Global,
+) -> Result<(), Fail> {
     let table = level(alloc, LEVEL, 126).or(Err("the level is damaged"))?;
     let Some(mut catalog) = catalog_of(alloc, &root(), table)? else {
         return Err(Fail::from("the level has no single document"));
@@ -359,9 +353,8 @@ fn a_document_takes_the_place_of_another(rt: HostRuntime) -> Result<(), Fail> {
     let found = [first, second];
     let answer = apply(alloc, &mut catalog, &found);
     assert!(rt; answer == Err(CatalogFault::Damaged(8230)));
-    assert_eq!(rt; catalog.counts(), (1, 0, 4));
-    assert_eq!(rt; catalog.number_of("a"), Some(3));
-    assert_eq!(rt; catalog.gone(), [9].as_slice());
+    assert!(rt; catalog.counts() == (1, 0, 4) && catalog.number_of("a") == Some(3));
+    assert!(rt; catalog.gone() == [9].as_slice());
     Ok(())
 }
 

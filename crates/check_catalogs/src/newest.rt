@@ -6,6 +6,7 @@ use alta_content::{Content, DocRow, TermLists};
 use alta_memlevel::MemLevel;
 use alta_meta::{Cell, cells};
 use std::alloc::{AllocError, Global};
+use std::process::Abort;
 use std::test::Fail;
 
 /// The cells of a document, none where its name isn't one.
@@ -44,32 +45,49 @@ fn two_documents(alloc: Global, nine: &[Cell], seven: &[Cell]) -> Result<MemLeve
     Ok(level)
 }
 
-/// Whether the level has this list at each term of the two documents.
-fn has_the_lists(level: &MemLevel) -> bool
+/// Numbers with a blank between two.
+pub(crate) fn numbers_of(alloc: Global, text: &str) -> Result<Vec<u64>, Fail> {
+    let mut numbers = Vec::new(alloc);
+    if text.is_empty() {
+        return Ok(numbers);
+    }
+    for part in text.split(' ') {
+        let Ok(number) = part.parse::<u64>() else {
+            return Err(Fail::new("a number is missing"));
+        };
+        numbers.push(number)?;
+    }
+    Ok(numbers)
+}
+
+/// Each term of the two documents with its list, and one that is none.
+const LISTS: &str = "D 9 16
+Na 1
+Nb 10
+S 1 10
+T 4 12
+Wbrown 14
+Wdog 15
+Wfox 3 8 11
+Wquick 6 13
+Wred 2 7
+Wthe 5
+XFox 3 11
+XRed 2
+W";
+
+/// Whether the level has these lists.
+fn has_the_lists(alloc: Global, level: &MemLevel) -> Result<bool, Fail>
     requires { IsTrue level.now.sound }
 {
-    let rows: [(&[u8], &[u64]); 14] = [
-        (b"D", &[9, 16]),
-        (b"Na", &[1]),
-        (b"Nb", &[10]),
-        (b"S", &[1, 10]),
-        (b"T", &[4, 12]),
-        (b"Wbrown", &[14]),
-        (b"Wdog", &[15]),
-        (b"Wfox", &[3, 8, 11]),
-        (b"Wquick", &[6, 13]),
-        (b"Wred", &[2, 7]),
-        (b"Wthe", &[5]),
-        (b"XFox", &[3, 11]),
-        (b"XRed", &[2]),
-        (b"W", &[]),
-    ];
-    for (term, want) in rows {
-        if level.get(term) != want {
-            return false;
+    for row in LISTS.split('\n') {
+        let (term, list) = row.split_once(' ').unwrap_or((row, ""));
+        let want = numbers_of(alloc, list)?;
+        if level.get(term.as_bytes()) != want.as_slice() {
+            return Ok(false);
         }
     }
-    true
+    Ok(true)
 }
 
 /// Whether the terms that begin so are one term, which is this one.
@@ -84,19 +102,20 @@ fn has_one(level: &MemLevel, prefix: &[u8], only: &[u8]) -> Result<bool, AllocEr
 }
 
 /// Whether the level of the two documents has their lists and terms.
-fn has_their_content(alloc: Global, nine: &[Cell], seven: &[Cell]) -> Result<bool, AllocError> {
+fn has_their_content(alloc: Global, nine: &[Cell], seven: &[Cell]) -> Result<bool, Fail> {
     if nine.len() != 9 || seven.len() != 7 {
         return Ok(false);
     }
     let level = two_documents(alloc, nine, seven)?;
-    let listed = has_the_lists(&level);
+    let listed = has_the_lists(alloc, &level)?;
     let one = has_one(&level, b"Wf", b"Wfox")?;
     Ok(level.sound() && listed && one && level.prefixed(b"W")?.len() == 6)
 }
 
-#[test]
-fn the_content_is_that_of_the_documents(rt: HostRuntime) -> Result<(), Fail> {
-    let alloc = rt.alloc();
+pub(crate) fn the_content_is_that_of_the_documents(
+    rt: &impl Abort,
+    alloc: Global,
+) -> Result<(), Fail> {
     let nine = made(alloc, "a", "Red Fox", "the quick red fox");
     let seven = made(alloc, "b", "Fox", "quick brown dog");
     assert!(rt; has_their_content(alloc, &nine, &seven)?);
@@ -115,26 +134,28 @@ fn begins_with(
     Ok(lists.first() == Some(term) && locations.as_slice() == want)
 }
 
+/// The terms of the second document in their order, each with its list.
+const SECOND: &str = "D 16
+Nb 10
+S 10
+T 12
+Wbrown 14
+Wdog 15
+Wfox 11
+Wquick 13
+XFox 11";
+
 /// Whether the content has exactly the second document's row and lists.
-fn is_the_second(alloc: Global, content: Content) -> Result<bool, AllocError> {
-    let lists: [(&[u8], &[u64]); 9] = [
-        (b"D", &[16]),
-        (b"Nb", &[10]),
-        (b"S", &[10]),
-        (b"T", &[12]),
-        (b"Wbrown", &[14]),
-        (b"Wdog", &[15]),
-        (b"Wfox", &[11]),
-        (b"Wquick", &[13]),
-        (b"XFox", &[11]),
-    ];
+fn is_the_second(alloc: Global, content: Content) -> Result<bool, Fail> {
     let first = content.documents.get(0).map(|row| row.first);
     if content.documents.len() != 1 || first != Some(10) {
         return Ok(false);
     }
     let mut left = content.lists;
-    for (term, want) in lists {
-        if !begins_with(alloc, &left, term, want)? {
+    for row in SECOND.split('\n') {
+        let (term, list) = row.split_once(' ').unwrap_or((row, ""));
+        let want = numbers_of(alloc, list)?;
+        if !begins_with(alloc, &left, term.as_bytes(), &want)? {
             return Ok(false);
         }
         left.skip();
@@ -144,12 +165,7 @@ fn is_the_second(alloc: Global, content: Content) -> Result<bool, AllocError> {
 
 /// Whether the level, drained without the first document, gives the second one, and has after a further add of a
 /// document of seven cells that one alone.
-fn drains(
-    alloc: Global,
-    nine: &[Cell],
-    seven: &[Cell],
-    again: &[Cell],
-) -> Result<bool, AllocError> {
+fn drains(alloc: Global, nine: &[Cell], seven: &[Cell], again: &[Cell]) -> Result<bool, Fail> {
     if nine.len() != 9 || seven.len() != 7 || again.len() != 7 {
         return Ok(false);
     }
@@ -164,9 +180,7 @@ fn drains(
     Ok(second && emptied && added && rest.documents.len() == 1)
 }
 
-#[test]
-fn a_level_is_drained_and_added_to(rt: HostRuntime) -> Result<(), Fail> {
-    let alloc = rt.alloc();
+pub(crate) fn a_level_is_drained_and_added_to(rt: &impl Abort, alloc: Global) -> Result<(), Fail> {
     let nine = made(alloc, "a", "Red Fox", "the quick red fox");
     let seven = made(alloc, "b", "Fox", "quick brown dog");
     let again = made(alloc, "c", "Fox", "quick brown dog");

@@ -1,5 +1,6 @@
 // Each field reader once.
 use alta_format::*;
+use std::process::Abort;
 use std::test::Fail;
 
 // How many bytes are left where the field is broken.
@@ -10,8 +11,7 @@ fn left<T: Drop>(read: Result<T, ReadFault>) -> Option<usize> {
     }
 }
 
-#[test]
-fn fields_are_read_in_turn(rt: HostRuntime) -> Result<(), Fail> {
+pub(crate) fn fields_are_read_in_turn(rt: &impl Abort) -> Result<(), Fail> {
     let bytes = [0xac, 2, 7, 0, 0, 0, 0, 0, 0, 1, 0, b'a', b'b', b'c'];
     let (number, rest) = packed_at(&bytes).ok().ok_or("a number stands here")?;
     assert_eq!(rt; number, 300);
@@ -25,8 +25,7 @@ fn fields_are_read_in_turn(rt: HostRuntime) -> Result<(), Fail> {
     Ok(())
 }
 
-#[test]
-fn a_broken_field_says_how_much_is_left(rt: HostRuntime) {
+pub(crate) fn a_broken_field_says_how_much_is_left(rt: &impl Abort) {
     assert_eq!(rt; left(packed_at(&[0x80, 0, 5])), Some(3));
     assert_eq!(rt; left(packed_at(&[0x80])), Some(1));
     assert_eq!(rt; left(byte_at(&[])), Some(0));

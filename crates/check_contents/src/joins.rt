@@ -7,6 +7,7 @@ use alta_content::{Content, DocRows, TermLists};
 use alta_level::read_content;
 use alta_merge::{Job, may_join};
 use std::alloc::{AllocError, Global};
+use std::process::Abort;
 use std::test::Fail;
 
 /// The documents 1, at 1 to 9, and 2, at 10 to 16.
@@ -151,9 +152,7 @@ fn join_is(
     }
 }
 
-#[test]
-fn contents_are_joined_in_steps(rt: HostRuntime) -> Result<(), Fail> {
-    let alloc = rt.alloc();
+pub(crate) fn contents_are_joined_in_steps(rt: &impl Abort, alloc: Global) -> Result<(), Fail> {
     let rows: [(&[u8], &[u8], &[Loc], &[u8], u64); 9] = [
         (FIRST, SECOND, &[], ALL, 17),
         (FIRST, SECOND, &[22, 16], WITHOUT_2_AND_3, 17),

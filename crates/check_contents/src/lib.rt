@@ -3,11 +3,17 @@
 #![tactic(auto)]
 
 #[cfg(test)]
+mod all;
+#[cfg(test)]
 mod fields;
 #[cfg(test)]
 mod joins;
 #[cfg(test)]
 mod lists;
+#[cfg(test)]
+mod rewrites;
+#[cfg(test)]
+mod segments;
 #[cfg(test)]
 mod tables;
 #[cfg(test)]

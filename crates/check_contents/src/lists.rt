@@ -2,6 +2,7 @@
 use alta_codec::Text;
 use alta_content::*;
 use std::alloc::{AllocError, Global};
+use std::process::Abort;
 use std::test::Fail;
 
 fn row(alloc: Global, number: u64, first: u64) -> Result<DocRow, AllocError> {
@@ -18,9 +19,7 @@ fn begins_with(lists: &TermLists, term: &[u8]) -> bool {
     lists.first() == Some(term)
 }
 
-#[test]
-fn rows_hold_what_is_pushed(rt: HostRuntime) -> Result<(), Fail> {
-    let alloc = rt.alloc();
+pub(crate) fn rows_hold_what_is_pushed(rt: &impl Abort, alloc: Global) -> Result<(), Fail> {
     let mut rows = DocRows::new(alloc);
     rows.push(row(alloc, 1, 10)?)?;
     rows.push(row(alloc, 2, 20)?)?;
@@ -30,9 +29,10 @@ fn rows_hold_what_is_pushed(rt: HostRuntime) -> Result<(), Fail> {
     Ok(())
 }
 
-#[test]
-fn term_lists_are_read_from_the_front(rt: HostRuntime) -> Result<(), Fail> {
-    let alloc = rt.alloc();
+pub(crate) fn term_lists_are_read_from_the_front(
+    rt: &impl Abort,
+    alloc: Global,
+) -> Result<(), Fail> {
     let mut lists = TermLists::new(alloc);
     lists.put(b"Wred", &[5, 6])?;
     lists.put(b"Wthe", &[7])?;
@@ -49,9 +49,7 @@ fn term_lists_are_read_from_the_front(rt: HostRuntime) -> Result<(), Fail> {
     Ok(())
 }
 
-#[test]
-fn any_numbers_are_packed(rt: HostRuntime) -> Result<(), Fail> {
-    let alloc = rt.alloc();
+pub(crate) fn any_numbers_are_packed(rt: &impl Abort, alloc: Global) -> Result<(), Fail> {
     let numbers = [9, 3, u64::MAX, 0, 128];
     let mut lists = TermLists::new(alloc);
     lists.put(b"", &[])?;

@@ -2,8 +2,10 @@
 ghost use Rattle.std.specs.Prelude.{◌<◌, IfOk};
 ghost use Rattle.alta_content.specs.Rows.{AreDocuments};
 
+use crate::segments::{byte, number};
 use alta_table::*;
 use std::alloc::Global;
+use std::process::Abort;
 use std::test::Fail;
 
 // A segment with one document: number 1, first location 1, nine cells, name `a`. The tables have 114 bytes, and behind
@@ -46,11 +48,8 @@ fn place_of(opened: Result<Table, LevelFault>) -> Option<u64> {
     }
 }
 
-#[test]
-fn a_segment_is_opened_and_searched(rt: HostRuntime) -> Result<(), Fail> {
-    let table = open(rt.alloc(), &SEGMENT, 126)
-        .ok()
-        .ok_or("these are tables")?;
+pub(crate) fn a_segment_is_opened_and_searched(rt: &impl Abort, alloc: Global) -> Result<(), Fail> {
+    let table = open(alloc, &SEGMENT, 126).ok().ok_or("these are tables")?;
     for row in table.documents() {
         assert_eq!(rt; (row.number, row.first, row.cells), (1, 1, 9));
         assert_eq!(rt; row.name.as_str(), "a");
@@ -74,50 +73,58 @@ fn a_segment_is_opened_and_searched(rt: HostRuntime) -> Result<(), Fail> {
     Ok(())
 }
 
-#[test]
-fn the_first_broken_field_is_named(rt: HostRuntime) {
-    let rows: [(usize, u8, Option<u64>); 24] = [
-        (114, 0, None),
-        (7, 0, Some(0)),
-        (23, 95, Some(16)),
-        (31, 90, Some(24)),
-        (15, 9, Some(106)),
-        (15, 11, Some(114)),
-        (23, 4, Some(36)),
-        (23, 6, Some(37)),
-        (32, 0, Some(32)),
-        (33, 0, Some(33)),
-        (34, 2, Some(34)),
-        (35, 0, Some(35)),
-        (35, 2, Some(36)),
-        (36, 0x20, Some(36)),
-        (37, 1, Some(37)),
-        (38, 0, Some(38)),
-        (39, 0x4d, Some(39)),
-        (40, 0, Some(40)),
-        (41, 0, Some(125)),
-        (42, 1, Some(112)),
-        (43, 0x80, Some(43)),
-        (73, 0x61, Some(73)),
-        (73, 0x66, Some(73)),
-        (113, 1, Some(113)),
-    ];
-    for (at, byte, want) in rows {
-        assert_eq!(rt; damage(rt.alloc(), at, byte), want, "at {at}");
+// Where the segment is damaged, or that it is whole, if one byte is changed.
+fn told(alloc: Global, text: &str) -> Result<String, Fail> {
+    let (at, value) = text.split_once(' ').unwrap_or((text, ""));
+    match damage(alloc, number(at)? as usize, byte(value)?) {
+        Some(place) => Ok(format!(in alloc; "{place}")?),
+        None => Ok(String::from_str(alloc, "whole")?),
     }
 }
 
-#[test]
-fn a_cut_head_is_damaged_where_it_ends(rt: HostRuntime) {
-    assert_eq!(rt; place_of(open(rt.alloc(), &SEGMENT[..20], 20)), Some(16));
-    assert_eq!(rt; place_of(open(rt.alloc(), &[], 0)), Some(0));
+// An index, the byte that is there then, and the first broken field.
+const FIELDS: &str = "114 0 => whole
+7 0 => 0
+23 95 => 16
+31 90 => 24
+15 9 => 106
+15 11 => 114
+23 4 => 36
+23 6 => 37
+32 0 => 32
+33 0 => 33
+34 2 => 34
+35 0 => 35
+35 2 => 36
+36 32 => 36
+37 1 => 37
+38 0 => 38
+39 77 => 39
+40 0 => 40
+41 0 => 125
+42 1 => 112
+43 128 => 43
+73 97 => 73
+73 102 => 73
+113 1 => 113";
+
+pub(crate) fn the_first_broken_field_is_named(rt: &impl Abort, alloc: Global) -> Result<(), Fail> {
+    for row in FIELDS.split('\n') {
+        let (text, want) = row.split_once(" => ").unwrap_or((row, "no answer"));
+        assert_eq!(rt; told(alloc, text)?.as_str(), want, "{row}");
+    }
+    Ok(())
 }
 
-#[test]
-fn tables_without_their_end_are_damaged_at_the_number_of_terms(
-    rt: HostRuntime,
+pub(crate) fn a_cut_head_is_damaged_where_it_ends(rt: &impl Abort, alloc: Global) {
+    assert_eq!(rt; place_of(open(alloc, &SEGMENT[..20], 20)), Some(16));
+    assert_eq!(rt; place_of(open(alloc, &[], 0)), Some(0));
+}
+
+pub(crate) fn tables_without_their_end_are_damaged_at_the_number_of_terms(
+    rt: &impl Abort,
+    alloc: Global,
 ) -> Result<(), Fail> {
-    let alloc = rt.alloc();
     let table = open(alloc, &SEGMENT, 126).ok().ok_or("these are tables")?;
     let mut documents = Vec::new(alloc);
     put_documents(&mut documents, table.documents())?;

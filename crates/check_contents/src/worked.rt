@@ -11,12 +11,13 @@ use alta_memlevel::{MemLevel, drained_documents_are_kept};
 use alta_meta::cells;
 use alta_model::{Line, read_line};
 use std::alloc::Global;
+use std::process::Abort;
 use std::test::Fail;
 
 const LINE: &[u8] = b"add a\tRed Fox\tthe quick red fox";
 
 /// Its segment, at the locations 1 to 9.
-const SEGMENT: &[u8] =
+pub(crate) const SEGMENT: &[u8] =
     b"\0\0\0\0\0\0\0\x01\0\0\0\0\0\0\0\x0a\0\0\0\0\0\0\0\x05\0\0\0\0\0\0\0\x4d\x01\x01\x09\x01a\x00\x01D\x01\x01\x00\x00\x02Na\x01\x01\x00\x00\x01S\x01\x01\x00\x00\x01T\x01\x01\x00\x00\x04Wfox\x02\x02\x00\x01\x05quick\x01\x01\x00\x01\x03red\x02\x02\x00\x01\x03the\x01\x01\x00\x00\x04XFox\x01\x01\x00\x01\x03Red\x01\x01\x00\x09\x01\x01\x04\x03\x05\x06\x02\x05\x05\x03\x02";
 
 /// A level in memory of this document alone, with the number 1 and at the locations from 1 on.
@@ -50,7 +51,7 @@ fn level_of(alloc: Global, name: &str, title: &str, body: &str) -> Option<MemLev
 }
 
 /// What that level hands out.
-fn content_of(alloc: Global, name: &str, title: &str, body: &str) -> Option<Content>
+pub(crate) fn content_of(alloc: Global, name: &str, title: &str, body: &str) -> Option<Content>
     ensures { IfSome result (λ content. IsPart content) }
 {
     let mut level = level_of(alloc, name, title, body)?;
@@ -76,9 +77,11 @@ fn segment(alloc: Global, line: &[u8]) -> Option<Vec<u8>> {
     }
 }
 
-#[test]
-fn the_first_line_becomes_its_segment(rt: HostRuntime) -> Result<(), Fail> {
-    match segment(rt.alloc(), LINE) {
+pub(crate) fn the_first_line_becomes_its_segment(
+    rt: &impl Abort,
+    alloc: Global,
+) -> Result<(), Fail> {
+    match segment(alloc, LINE) {
         Some(bytes) => {
             assert_eq!(rt; bytes.len(), 126);
             assert_eq!(rt; bytes.as_slice(), SEGMENT);

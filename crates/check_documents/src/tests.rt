@@ -14,6 +14,7 @@ use alta_solver::{Bound, Form, Solver, System};
 use alta_words::PlainReader;
 use std::alloc::{AllocError, Global};
 use std::marker::Brand;
+use std::process::Abort;
 use std::sync::ledger::{Blank, Ledger};
 use std::test::Fail;
 
@@ -410,9 +411,8 @@ fn uncounted_rows(alloc: Global) -> Result<(u64, Vec<u64>), AllocError> {
     rows::<Brand>(alloc, Blank::new(1))
 }
 
-#[test]
-fn small_trees(rt: HostRuntime) -> Result<(), Fail> {
-    let (wrong, rest) = uncounted_rows(rt.alloc())?;
+pub(crate) fn small_trees(rt: &impl Abort, alloc: Global) -> Result<(), Fail> {
+    let (wrong, rest) = uncounted_rows(alloc)?;
     assert_eq!(rt; wrong, 0);
     assert_eq!(rt; rest.as_slice(), [16].as_slice());
     Ok(())
@@ -546,9 +546,8 @@ fn uncounted_led(alloc: Global) -> Result<u64, AllocError> {
     led_rows::<Brand>(alloc, Blank::new(1))
 }
 
-#[test]
-fn leads_find_what_trees_find(rt: HostRuntime) -> Result<(), Fail> {
-    let wrong = uncounted_led(rt.alloc())?;
+pub(crate) fn leads_find_what_trees_find(rt: &impl Abort, alloc: Global) -> Result<(), Fail> {
+    let wrong = uncounted_led(alloc)?;
     assert_eq!(rt; wrong, 0);
     Ok(())
 }

@@ -17,6 +17,7 @@ use alta_level::build;
 use alta_opening::{OpenLevels, open_levels};
 use alta_root::{Root, read_roots};
 use std::alloc::{AllocError, Global};
+use std::process::Abort;
 use std::test::Fail;
 
 // A disk's head, and two levels of 126 and of 66 bytes.
@@ -174,9 +175,10 @@ fn merged(alloc: Global, dead: &[u64]) -> Result<Vec<u8>, JoinFault> {
     Ok(segment(alloc, content)?)
 }
 
-#[test]
-fn levels_are_read_up_to_the_first_fault(rt: HostRuntime) -> Result<(), Fail> {
-    let alloc = rt.alloc();
+pub(crate) fn levels_are_read_up_to_the_first_fault(
+    rt: &impl Abort,
+    alloc: Global,
+) -> Result<(), Fail> {
     let first = FIRST as u64;
     let second = SECOND as u64;
     let rows: [(&[(usize, u8)], Result<usize, JoinFault>); 5] = [
@@ -199,9 +201,7 @@ fn levels_are_read_up_to_the_first_fault(rt: HostRuntime) -> Result<(), Fail> {
 }
 
 // Three calls read the root, and two each level's tables; then each level is one.
-#[test]
-fn each_read_may_fail(rt: HostRuntime) -> Result<(), Fail> {
-    let alloc = rt.alloc();
+pub(crate) fn each_read_may_fail(rt: &impl Abort, alloc: Global) -> Result<(), Fail> {
     for call in 8..11u64 {
         let fail = vec![in alloc; call]?;
         let want = if call < 10 {
@@ -214,9 +214,10 @@ fn each_read_may_fail(rt: HostRuntime) -> Result<(), Fail> {
     Ok(())
 }
 
-#[test]
-fn levels_are_joined_at_once_and_in_steps_and_merged(rt: HostRuntime) -> Result<(), Fail> {
-    let alloc = rt.alloc();
+pub(crate) fn levels_are_joined_at_once_and_in_steps_and_merged(
+    rt: &impl Abort,
+    alloc: Global,
+) -> Result<(), Fail> {
     let rows: [(&[u64], &[u8], u64); 4] = [
         (&[], BOTH, 11),
         (&[9], NEWER, 11),

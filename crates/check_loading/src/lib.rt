@@ -2,6 +2,8 @@
 #![tactic(auto)]
 
 #[cfg(test)]
+mod all;
+#[cfg(test)]
 mod lists;
 #[cfg(test)]
 mod snapshots;

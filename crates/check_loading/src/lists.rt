@@ -9,6 +9,7 @@ use alta_loading::*;
 use alta_memlevel::MemLevel;
 use alta_table::{LevelFault, Table, head, tables_in_front, tables_read_back};
 use std::alloc::{AllocError, Global};
+use std::process::Abort;
 use std::test::Fail;
 
 /// The segment of one document, `a`, with the title `Red Fox` and the body `the quick red fox`: 126 bytes, of which
@@ -114,34 +115,74 @@ fn loaded(
     Ok(lists.levels.len())
 }
 
-#[test]
-fn lists_are_loaded_up_to_the_first_fault(rt: HostRuntime) -> Result<(), Fail> {
-    let alloc = rt.alloc();
-    let rows: [(&str, &[(usize, u8)], Result<usize, LoadFault>); 13] = [
-        ("D", &[], Ok(2)),
-        ("Wfox", &[], Ok(1)),
-        ("Wa", &[], Ok(1)),
-        ("Wzebra", &[], Ok(0)),
-        // The first number of a stream.
-        ("D", &[(114, 0)], Err(LoadFault::Damaged(114))),
-        ("D", &[(176, 0)], Err(LoadFault::Damaged(176))),
-        // The older level comes first.
-        ("D", &[(176, 0), (114, 0)], Err(LoadFault::Damaged(114))),
-        // A later number, and one that runs past the stream.
-        ("Wa", &[(180, 0)], Err(LoadFault::Damaged(180))),
-        ("Wfox", &[(119, 0x80)], Err(LoadFault::Damaged(119))),
-        // A row of the summary that is not its block.
-        ("Wa", &[(249, 2)], Err(LoadFault::Damaged(242))),
-        // A location in no document, and an end that is none.
-        ("Wfox", &[(118, 32)], Err(LoadFault::Damaged(118))),
-        ("D", &[(114, 8)], Err(LoadFault::Damaged(114))),
-        // What is not loaded is not looked at.
-        ("D", &[(118, 0), (180, 0)], Ok(2)),
-    ];
-    for (term, changes, want) in rows {
-        let got = loaded(alloc, OLD, NEW, changes, Vec::new(alloc), term);
-        assert_eq!(rt; got, want, "{term}");
+fn number(text: &str) -> Result<usize, Fail> {
+    match text.parse::<usize>() {
+        Ok(number) => Ok(number),
+        Err(_) => Err(Fail::new("a number is missing")),
     }
+}
+
+fn byte(digits: &str) -> Result<u8, Fail> {
+    match u8::from_str_radix(digits, 16) {
+        Ok(byte) => Ok(byte),
+        Err(_) => Err(Fail::new("a byte is missing")),
+    }
+}
+
+// The bytes that are changed: each behind its place, or `-` for none.
+pub(crate) fn changes_of(alloc: Global, text: &str) -> Result<Vec<(usize, u8)>, Fail> {
+    let mut changes = Vec::new(alloc);
+    if text == "-" {
+        return Ok(changes);
+    }
+    for part in text.split(' ') {
+        let (place, digits) = part.split_once(':').unwrap_or((part, ""));
+        changes.push((number(place)?, byte(digits)?))?;
+    }
+    Ok(changes)
+}
+
+// How many are loaded, or the fault.
+fn told(alloc: Global, found: Result<usize, LoadFault>) -> Result<String, Fail> {
+    match found {
+        Ok(count) => Ok(format!(in alloc; "{count}")?),
+        Err(LoadFault::Damaged(place)) => Ok(format!(in alloc; "damaged {place}")?),
+        Err(LoadFault::Disk) => Ok(String::from_str(alloc, "failed")?),
+        Err(LoadFault::Memory) => Err(Fail::new("no memory")),
+    }
+}
+
+// A term, the bytes that are changed, and how many lists are loaded or the first fault: the first number of a stream, of which that
+// in the older level comes first; a later number, and one that runs past the stream; a row of the summary that is not its block; a
+// location in no document, and an end that is none; and what is not loaded is not looked at.
+const LISTS: &str = "D | - => 2
+Wfox | - => 1
+Wa | - => 1
+Wzebra | - => 0
+D | 114:00 => damaged 114
+D | 176:00 => damaged 176
+D | 176:00 114:00 => damaged 114
+Wa | 180:00 => damaged 180
+Wfox | 119:80 => damaged 119
+Wa | 249:02 => damaged 242
+Wfox | 118:20 => damaged 118
+D | 114:08 => damaged 114
+D | 118:00 180:00 => 2";
+
+pub(crate) fn lists_are_loaded_up_to_the_first_fault(
+    rt: &impl Abort,
+    alloc: Global,
+) -> Result<(), Fail> {
+    for row in LISTS.split('\n') {
+        let (asked, want) = row.split_once(" => ").unwrap_or((row, "no answer"));
+        let (term, changes) = asked.split_once(" | ").unwrap_or((asked, ""));
+        let changes = changes_of(alloc, changes)?;
+        let found = loaded(alloc, OLD, NEW, &changes, Vec::new(alloc), term);
+        assert_eq!(rt; told(alloc, found)?.as_str(), want, "{row}");
+    }
+    // The second call of the disk fails.
+    let second = loaded(alloc, OLD, NEW, &[], Vec::from_slice(alloc, &[2])?, "D");
+    assert!(rt; told(alloc, second)?.as_str() == "failed");
     Ok(())
 }
 
@@ -151,7 +192,7 @@ fn loaded_terms(
     old: &[u8],
     new: &[u8],
     changes: &[(usize, u8)],
-    terms: &[&str],
+    terms: &str,
 ) -> Result<usize, LoadFault>
     requires { length old.now + length new.now < 1000 }
 {
@@ -159,7 +200,7 @@ fn loaded_terms(
     let image = image_of(alloc, old, new, changes)?;
     let mut disk = MemoryDisk::new(alloc, image, 1000, Vec::new(alloc));
     let mut wanted = Vec::new(alloc);
-    for term in terms {
+    for term in terms.split(' ') {
         wanted.push(Bytes::from_vec(Vec::from_slice(alloc, term.as_bytes())?))?;
     }
     let lists = load_terms(
@@ -173,33 +214,19 @@ fn loaded_terms(
     Ok(lists.len())
 }
 
-#[test]
-fn terms_are_loaded_in_order(rt: HostRuntime) -> Result<(), Fail> {
-    let alloc = rt.alloc();
-    let rows: [(&[&str], &[(usize, u8)], Result<usize, LoadFault>); 3] = [
-        (&["D", "Wfox", "Wzebra"], &[], Ok(3)),
-        // All lists of a term come before those of the next.
-        (
-            &["D", "Wfox"],
-            &[(118, 32), (176, 0)],
-            Err(LoadFault::Damaged(176)),
-        ),
-        (
-            &["Wfox", "D"],
-            &[(118, 32), (176, 0)],
-            Err(LoadFault::Damaged(118)),
-        ),
-    ];
-    for (terms, changes, want) in rows {
-        assert_eq!(rt; loaded_terms(alloc, OLD, NEW, changes, terms), want);
-    }
-    Ok(())
-}
+// Terms, the bytes that are changed, and how many terms are loaded or the first fault: all lists of a term come before those of the
+// next.
+const TERMS: &str = "D Wfox Wzebra | - => 3
+D Wfox | 118:20 176:00 => damaged 176
+Wfox D | 118:20 176:00 => damaged 118";
 
-#[test]
-fn a_failed_read_is_told(rt: HostRuntime) -> Result<(), Fail> {
-    let alloc = rt.alloc();
-    let second = loaded(alloc, OLD, NEW, &[], Vec::from_slice(alloc, &[2])?, "D");
-    assert_eq!(rt; second, Err(LoadFault::Disk));
+pub(crate) fn terms_are_loaded_in_order(rt: &impl Abort, alloc: Global) -> Result<(), Fail> {
+    for row in TERMS.split('\n') {
+        let (asked, want) = row.split_once(" => ").unwrap_or((row, "no answer"));
+        let (terms, changes) = asked.split_once(" | ").unwrap_or((asked, ""));
+        let changes = changes_of(alloc, changes)?;
+        let found = loaded_terms(alloc, OLD, NEW, &changes, terms);
+        assert_eq!(rt; told(alloc, found)?.as_str(), want, "{row}");
+    }
     Ok(())
 }

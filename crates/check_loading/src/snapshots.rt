@@ -10,7 +10,7 @@ ghost use Rattle.alta_loading.specs.Snapshots.{all_rows};
 ghost use Rattle.alta_search.specs.Newest.{HasAdded};
 ghost use Rattle.alta_search.specs.Plans.{tests_of};
 
-use crate::lists::{image_of, tables_of};
+use crate::lists::{changes_of, image_of, tables_of};
 use alta_codec::{Bytes, Loc, Steps, TOP, Text};
 use alta_compile::{Plan, compile};
 use alta_content::{DocRow, LevelRows};
@@ -24,6 +24,7 @@ use alta_search::{Page, Snapshot, search};
 use alta_table::Table;
 use std::alloc::{AllocError, Global};
 use std::marker::Brand;
+use std::process::Abort;
 use std::rc::Rc;
 use std::sync::ledger::{Blank, Ledger};
 use std::test::Fail;
@@ -206,95 +207,108 @@ fn uncounted(alloc: Global, query: &Query) -> Result<String, Fail> {
     answered::<Brand>(alloc, query, Blank::new(1))
 }
 
-/// A query, and the names of the documents that answer it, the second being deleted.
-fn asked(k: u8) -> (&'static str, &'static str) {
-    match k {
-        0 => ("fox", "a"),
-        1 => ("red", "ac"),
-        2 => ("dog", "c"),
-        3 => ("quick fox", "a"),
-        4 => ("bro*", ""),
-        5 => ("re*", "ac"),
-        6 => ("\"red fox\"", "a"),
-        7 => ("\"red dog\"", "c"),
-        8 => ("the NEAR/1 red", "c"),
-        9 => ("title:dog", "c"),
-        10 => ("red NOT barks", "a"),
-        11 => ("quick OR barks", "ac"),
-        12 => ("name:b", ""),
-        _ => ("zebra", ""),
-    }
-}
-
-#[test]
-fn levels_and_newest_documents_answer(rt: HostRuntime) -> Result<(), Fail> {
-    let alloc = rt.alloc();
-    for k in 0..14 {
-        let (text, names) = asked(k);
-        let Ok(query) = parse(alloc, text) else {
-            return Err(Fail::new(text));
-        };
-        let answered = uncounted(alloc, &query)?;
-        assert_eq!(rt; answered.as_str(), names, "{text}");
-    }
-    Ok(())
-}
-
-// Why the snapshot for a query is not loaded.
-fn fault_of(
-    alloc: Global,
-    text: &'static str,
-    changes: &[(usize, u8)],
-) -> Result<Option<LoadFault>, Fail> {
+// The same of a text's query, or `none`.
+fn names_found(alloc: Global, text: &str) -> Result<String, Fail> {
     let Ok(query) = parse(alloc, text) else {
-        return Err(Fail::new(text));
+        return Err(Fail::new("no query"));
     };
-    let plan = compile(alloc, &query)?;
-    match load(alloc, &plan, changes)? {
-        Ok(_snapshot) => Ok(None),
-        Err(fault) => Ok(Some(fault)),
+    let found = uncounted(alloc, &query);
+    drop(query);
+    let mut names = found?;
+    if names.is_empty() {
+        names.push_str("none")?;
     }
+    Ok(names)
 }
 
-#[test]
-fn the_first_fault_of_a_plan_is_told(rt: HostRuntime) -> Result<(), Fail> {
-    let alloc = rt.alloc();
-    let rows: [(&'static str, &[(usize, u8)], u64); 6] = [
-        // The document ends come first, in the older level and then in the newer.
-        ("fox", &[(118, 0), (234, 0)], 234),
-        ("fox", &[(234, 0), (114, 0)], 114),
-        // Then the terms of the query, each in the older level first.
-        ("fox", &[(240, 0), (118, 0)], 118),
-        ("fox", &[(240, 0)], 240),
-        // A prefix loads each term that begins so, in their order.
-        ("qu* OR re*", &[(121, 0), (241, 0)], 241),
-        ("re*", &[(121, 0), (118, 0)], 121),
-    ];
-    for (text, changes, place) in rows {
-        let fault = fault_of(alloc, text, changes)?;
-        assert_eq!(rt; fault, Some(LoadFault::Damaged(place)), "{text}");
+// A query, and the names of the documents that answer it, the second being deleted.
+const ANSWERS: &str = "fox => a
+red => ac
+dog => c
+quick fox => a
+bro* => none
+re* => ac
+\"red fox\" => a
+\"red dog\" => c
+the NEAR/1 red => c
+title:dog => c
+red NOT barks => a
+quick OR barks => ac
+name:b => none
+zebra => none";
+
+pub(crate) fn levels_and_newest_documents_answer(
+    rt: &impl Abort,
+    alloc: Global,
+) -> Result<(), Fail> {
+    for row in ANSWERS.split('\n') {
+        let (text, want) = row.split_once(" => ").unwrap_or((row, "no answer"));
+        assert_eq!(rt; names_found(alloc, text)?.as_str(), want, "{row}");
     }
-    // What is not loaded is not looked at.
-    let fault = fault_of(alloc, "dog", &[(118, 0), (121, 0), (240, 0)])?;
-    assert_eq!(rt; fault, None);
     Ok(())
 }
 
-// Whether these are the terms.
-fn are(terms: &[Bytes], want: &[&str]) -> bool {
-    if terms.len() != want.len() {
-        return false;
-    }
-    for i in 0..terms.len() {
-        if terms[i].as_slice() != want[i].as_bytes() {
-            return false;
-        }
-    }
-    true
+// The plan of a text's query.
+fn plan_of(alloc: Global, text: &str) -> Result<Plan, Fail> {
+    let Ok(query) = parse(alloc, text) else {
+        return Err(Fail::new("no query"));
+    };
+    let plan = compile(alloc, &query);
+    drop(query);
+    Ok(plan?)
 }
 
-// Whether these are the terms that meet the test for a term, or for a prefix.
-fn met(alloc: Global, prefix: bool, text: &str, want: &[&str]) -> Result<bool, Fail> {
+// Whether the snapshot for a query is loaded from levels with these bytes changed, or why not.
+fn fault_of(alloc: Global, text: &str, changes: &str) -> Result<String, Fail> {
+    let plan = plan_of(alloc, text)?;
+    let changes = changes_of(alloc, changes)?;
+    match load(alloc, &plan, &changes)? {
+        Ok(_snapshot) => Ok(String::from_str(alloc, "loaded")?),
+        Err(LoadFault::Damaged(place)) => Ok(format!(in alloc; "damaged {place}")?),
+        Err(_) => Err(Fail::new("another fault")),
+    }
+}
+
+// A query, the bytes that are changed, and the first fault. The document ends come first, in the older level and then in the newer;
+// then the terms of the query, each in the older level first. A prefix loads each term that begins so, in their order. What is not
+// loaded is not looked at.
+const FAULTS: &str = "fox | 118:00 234:00 => damaged 234
+fox | 234:00 114:00 => damaged 114
+fox | 240:00 118:00 => damaged 118
+fox | 240:00 => damaged 240
+qu* OR re* | 121:00 241:00 => damaged 241
+re* | 121:00 118:00 => damaged 121
+dog | 118:00 121:00 240:00 => loaded";
+
+pub(crate) fn the_first_fault_of_a_plan_is_told(
+    rt: &impl Abort,
+    alloc: Global,
+) -> Result<(), Fail> {
+    for row in FAULTS.split('\n') {
+        let (asked, want) = row.split_once(" => ").unwrap_or((row, "no answer"));
+        let (text, changes) = asked.split_once(" | ").unwrap_or((asked, ""));
+        assert_eq!(rt; fault_of(alloc, text, changes)?.as_str(), want, "{row}");
+    }
+    Ok(())
+}
+
+// Terms with a blank between two, or `none`.
+fn spelled(alloc: Global, terms: &[Bytes]) -> Result<String, Fail> {
+    let mut out = String::new(alloc);
+    for term in terms {
+        if !out.is_empty() {
+            out.push_str(" ")?;
+        }
+        out.push_str(str::from_utf8(term.as_slice()).unwrap_or("?"))?;
+    }
+    if out.is_empty() {
+        out.push_str("none")?;
+    }
+    Ok(out)
+}
+
+// The terms that meet the test for a term, or for a prefix.
+fn met(alloc: Global, prefix: bool, text: &str) -> Result<String, Fail> {
     let levels = levels(alloc)?;
     let newest = newest(alloc)?;
     let bytes = Bytes::from_vec(Vec::from_slice(alloc, text.as_bytes())?);
@@ -304,23 +318,27 @@ fn met(alloc: Global, prefix: bool, text: &str, want: &[&str]) -> Result<bool, F
         Test::Is(bytes)
     };
     let terms = terms_met(alloc, &levels, &newest, &test)?;
-    Ok(are(&terms, want))
+    spelled(alloc, &terms)
 }
 
-#[test]
-fn terms_of_levels_and_newest_documents_are_met(rt: HostRuntime) -> Result<(), Fail> {
-    let alloc = rt.alloc();
-    let rows: [(bool, &str, &[&str]); 7] = [
-        (false, "Wred", &["Wred"]),
-        (false, "Wre", &[]),
-        (false, "Nc", &["Nc"]),
-        (true, "N", &["Na", "Nb", "Nc"]),
-        (true, "Wb", &["Wbarks", "Wbrown"]),
-        (true, "X", &["XDog", "XFox", "XRed"]),
-        (true, "Z", &[]),
-    ];
-    for (prefix, text, want) in rows {
-        assert!(rt; met(alloc, prefix, text, want)?, "{text}");
+// A test, and the terms that meet it.
+const MET: &str = "is Wred => Wred
+is Wre => none
+is Nc => Nc
+begins N => Na Nb Nc
+begins Wb => Wbarks Wbrown
+begins X => XDog XFox XRed
+begins Z => none";
+
+pub(crate) fn terms_of_levels_and_newest_documents_are_met(
+    rt: &impl Abort,
+    alloc: Global,
+) -> Result<(), Fail> {
+    for row in MET.split('\n') {
+        let (asked, want) = row.split_once(" => ").unwrap_or((row, "no answer"));
+        let (kind, text) = asked.split_once(' ').unwrap_or((asked, ""));
+        let found = met(alloc, kind == "begins", text)?;
+        assert_eq!(rt; found.as_str(), want, "{row}");
     }
     Ok(())
 }

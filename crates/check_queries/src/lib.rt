@@ -2,12 +2,10 @@
 #![tactic(auto)]
 
 #[cfg(test)]
-mod cells;
+mod all;
 #[cfg(test)]
-mod lines;
+mod reading;
 #[cfg(test)]
-mod plans;
+mod rows;
 #[cfg(test)]
-mod queries;
-#[cfg(test)]
-mod words;
+mod tests;

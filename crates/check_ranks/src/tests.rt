@@ -11,6 +11,7 @@ use alta_reader::{BackReader, Reader};
 use alta_words::PlainReader;
 use std::alloc::Global;
 use std::marker::Brand;
+use std::process::Abort;
 use std::sync::ledger::{Blank, Ledger};
 use std::test::Fail;
 
@@ -128,8 +129,7 @@ fn uncounted(alloc: Global) -> Result<Vec<Option<(u64, u64)>>, Fail> {
     rows::<Brand>(alloc, Blank::new(1))
 }
 
-#[test]
-fn scores_of_two_documents(rt: HostRuntime) -> Result<(), Fail> {
+pub(crate) fn scores_of_two_documents(rt: &impl Abort, alloc: Global) -> Result<(), Fail> {
     let want = [
         Some((5, 4)),
         Some((4, 4)),
@@ -141,7 +141,7 @@ fn scores_of_two_documents(rt: HostRuntime) -> Result<(), Fail> {
         Some((6, 5)),
         Some((5, 4)),
     ];
-    let rows = uncounted(rt.alloc())?;
+    let rows = uncounted(alloc)?;
     assert_eq!(rt; rows.as_slice(), want.as_slice());
     Ok(())
 }

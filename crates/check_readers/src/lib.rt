@@ -2,6 +2,12 @@
 #![tactic(auto)]
 
 #[cfg(test)]
+mod all;
+#[cfg(test)]
+mod chains;
+#[cfg(test)]
+mod coded;
+#[cfg(test)]
 mod counted;
 #[cfg(test)]
 mod search;

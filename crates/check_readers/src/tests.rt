@@ -12,6 +12,7 @@ use alta_words::PlainReader;
 use std::alloc::{AllocError, Global};
 use std::cell::Cell;
 use std::marker::Brand;
+use std::process::Abort;
 use std::sync::ledger::{Blank, Ledger};
 use std::test::Fail;
 
@@ -221,9 +222,8 @@ fn uncounted_solver(
     solver_rows::<Brand>(alloc, Blank::new(1))
 }
 
-#[test]
-fn unions_and_ends(rt: HostRuntime) -> Result<(), Fail> {
-    let ((union, moves), (walk, starts)) = uncounted_readers(rt.alloc())?;
+pub(crate) fn unions_and_ends(rt: &impl Abort, alloc: Global) -> Result<(), Fail> {
+    let ((union, moves), (walk, starts)) = uncounted_readers(alloc)?;
     assert_eq!(rt; union, [(2, 0), (7, 3)]);
     assert_eq!(rt; moves, 2);
     let want = [(2, 0), (3, 2), (4, 3), (5, 4), (100, 9), (TOP, 100)];
@@ -232,9 +232,8 @@ fn unions_and_ends(rt: HostRuntime) -> Result<(), Fail> {
     Ok(())
 }
 
-#[test]
-fn least_solutions(rt: HostRuntime) -> Result<(), Fail> {
-    let (rows, back) = uncounted_solver(rt.alloc())?;
+pub(crate) fn least_solutions(rt: &impl Abort, alloc: Global) -> Result<(), Fail> {
+    let (rows, back) = uncounted_solver(alloc)?;
     let want = [
         Some((8, 6)),
         Some((3, 6)),
@@ -246,13 +245,12 @@ fn least_solutions(rt: HostRuntime) -> Result<(), Fail> {
     ];
     assert_eq!(rt; rows.as_slice(), want.as_slice());
     assert_eq!(rt; back, (1, 1));
-    let none: Vec<PlainReader<'static>> = Vec::new(rt.alloc());
-    assert_eq!(rt; back_of(none, System::new(Vec::new(rt.alloc()))), (0, 0));
+    let none: Vec<PlainReader<'static>> = Vec::new(alloc);
+    assert_eq!(rt; back_of(none, System::new(Vec::new(alloc))), (0, 0));
     Ok(())
 }
 
-#[test]
-fn limits_of_a_constant(rt: HostRuntime) {
+pub(crate) fn limits_of_a_constant(rt: &impl Abort) {
     let rows = [
         (1_000_000, true),
         (1_000_001, false),
@@ -322,9 +320,8 @@ fn uncounted_differences(alloc: Global) -> Result<(u64, u64), AllocError> {
     differences::<Brand>(alloc, Blank::new(1))
 }
 
-#[test]
-fn against_a_plain_search(rt: HostRuntime) -> Result<(), Fail> {
-    let (different, solved) = uncounted_differences(rt.alloc())?;
+pub(crate) fn against_a_plain_search(rt: &impl Abort, alloc: Global) -> Result<(), Fail> {
+    let (different, solved) = uncounted_differences(alloc)?;
     assert_eq!(rt; different, 0);
     assert!(rt; solved > 300);
     Ok(())

@@ -22,6 +22,7 @@ use alta_search::{
 };
 use std::alloc::{AllocError, Global};
 use std::marker::Brand;
+use std::process::Abort;
 use std::rc::Rc;
 use std::sync::ledger::{Blank, Ledger};
 use std::test::Fail;
@@ -157,16 +158,13 @@ fn uncounted(alloc: Global) -> Result<String, AllocError> {
     paged::<Brand>(alloc, Blank::new(1))
 }
 
-#[test]
-fn pages_end_with_the_answers(rt: HostRuntime) -> Result<(), Fail> {
-    let told = uncounted(rt.alloc())?;
+pub(crate) fn pages_end_with_the_answers(rt: &impl Abort, alloc: Global) -> Result<(), Fail> {
+    let told = uncounted(alloc)?;
     assert_eq!(rt; told.as_str(), "a+/b+/c//ab+/-c/");
     Ok(())
 }
 
-#[test]
-fn numbers_are_the_least(rt: HostRuntime) -> Result<(), Fail> {
-    let alloc = rt.alloc();
+pub(crate) fn numbers_are_the_least(rt: &impl Abort, alloc: Global) -> Result<(), Fail> {
     let mut cursors = Cursors::new(alloc);
     for number in 1..4u64 {
         assert_eq!(rt; opened(alloc, &mut cursors)?, number);

@@ -1,6 +1,7 @@
 // The best answers of queries over the two documents.
 ghost use Rattle.std.specs.Prelude.{◌≡◌, ◌<◌};
 
+use crate::tests::digit;
 use crate::worked::{deleted, ranked};
 use alta_codec::Steps;
 use alta_compile::compile;
@@ -8,6 +9,7 @@ use alta_query::{Query, parse};
 use alta_search::top;
 use std::alloc::{AllocError, Global};
 use std::marker::Brand;
+use std::process::Abort;
 use std::sync::ledger::{Blank, Ledger};
 use std::test::Fail;
 
@@ -42,44 +44,52 @@ fn uncounted(alloc: Global, query: &Query, count: u64, gone: u8) -> Result<Strin
     best::<Brand>(alloc, query, count, gone, Blank::new(1))
 }
 
-/// How many answers are asked for, a query, which documents are deleted, and the best answers.
-fn asked(k: u8) -> (u64, &'static str, u8, &'static str) {
-    match k {
-        0 => (1, "fox", 0, "1 a 5, found 2"),
-        1 => (2, "quick OR fox", 0, "1 a 6, 2 b 5, found 2"),
-        2 => (5, "quick NOT red", 0, "2 b 1, found 1"),
-        // Of the same score the lower number.
-        3 => (2, "quick", 0, "1 a 1, 2 b 1, found 2"),
-        4 => (1, "quick", 0, "1 a 1, found 2"),
-        // More are asked for than there are.
-        5 => (1000, "fox", 0, "1 a 5, 2 b 4, found 2"),
-        // A name counts once, a NEAR each of its sides, and a word in the title only there.
-        6 => (2, "name:b", 0, "2 b 4, found 1"),
-        7 => (2, "red NEAR/1 fox", 0, "1 a 10, found 1"),
-        8 => (2, "title:fox", 0, "1 a 4, 2 b 4, found 2"),
-        9 => (2, "title:\"Red Fox\"", 0, "1 a 8, found 1"),
-        // What stands under a NOT counts nothing.
-        10 => (2, "NOT brown", 0, "1 a 0, found 1"),
-        11 => (2, "fox NOT zebra", 0, "1 a 5, 2 b 4, found 2"),
-        12 => (2, "qui* OR dog", 0, "1 a 2, 2 b 2, found 2"),
-        // A deleted document is no answer.
-        13 => (2, "fox", 1, "2 b 4, found 1"),
-        14 => (2, "fox", 3, "found 0"),
-        15 => (0, "fox", 0, "found 2"),
-        _ => (3, "zebra", 0, "found 0"),
+/// What is told of a text's query.
+fn told(alloc: Global, text: &str, count: u64, gone: u8) -> Result<String, Fail> {
+    let Ok(query) = parse(alloc, text) else {
+        return Err(Fail::new("no query"));
+    };
+    let told = uncounted(alloc, &query, count, gone);
+    drop(query);
+    Ok(told?)
+}
+
+/// How many answers are asked for, which documents are deleted, a query, and the best answers.
+///
+/// Of the same score the lower number comes first, and no more come than there are. A name counts once, a NEAR each of its sides,
+/// and a word in the title only there. What stands under a NOT counts nothing, and a deleted document is no answer.
+const ROWS: &str = "1 0 fox => 1 a 5, found 2
+2 0 quick OR fox => 1 a 6, 2 b 5, found 2
+5 0 quick NOT red => 2 b 1, found 1
+2 0 quick => 1 a 1, 2 b 1, found 2
+1 0 quick => 1 a 1, found 2
+1000 0 fox => 1 a 5, 2 b 4, found 2
+2 0 name:b => 2 b 4, found 1
+2 0 red NEAR/1 fox => 1 a 10, found 1
+2 0 title:fox => 1 a 4, 2 b 4, found 2
+2 0 title:\"Red Fox\" => 1 a 8, found 1
+2 0 NOT brown => 1 a 0, found 1
+2 0 fox NOT zebra => 1 a 5, 2 b 4, found 2
+2 0 qui* OR dog => 1 a 2, 2 b 2, found 2
+2 1 fox => 2 b 4, found 1
+2 3 fox => found 0
+0 0 fox => found 2
+3 0 zebra => found 0";
+
+fn number(text: &str) -> Result<u64, Fail> {
+    match text.parse::<u64>() {
+        Ok(number) => Ok(number),
+        Err(_) => Err(Fail::new("a number is missing")),
     }
 }
 
-#[test]
-fn the_best_come_first(rt: HostRuntime) -> Result<(), Fail> {
-    let alloc = rt.alloc();
-    for k in 0..17 {
-        let (count, text, gone, want) = asked(k);
-        let Ok(query) = parse(alloc, text) else {
-            return Err(Fail::new("no query"));
-        };
-        let told = uncounted(alloc, &query, count, gone)?;
-        assert_eq!(rt; told.as_str(), want, "{text}");
+pub(crate) fn the_best_come_first(rt: &impl Abort, alloc: Global) -> Result<(), Fail> {
+    for row in ROWS.split('\n') {
+        let (asked, want) = row.split_once(" => ").unwrap_or((row, ""));
+        let (count, rest) = asked.split_once(' ').unwrap_or((asked, ""));
+        let (gone, text) = rest.split_once(' ').unwrap_or((rest, ""));
+        let told = told(alloc, text, number(count)?, digit(gone)?)?;
+        assert_eq!(rt; told.as_str(), want, "{row}");
     }
     Ok(())
 }

@@ -11,6 +11,7 @@ use alta_query::{Query, parse};
 use alta_search::{Cursor, Page, count, search};
 use std::alloc::{AllocError, Global};
 use std::marker::Brand;
+use std::process::Abort;
 use std::sync::ledger::{Blank, Ledger};
 use std::test::Fail;
 
@@ -121,42 +122,79 @@ fn uncounted(alloc: Global, query: &Query, gone: u8) -> Result<String, AllocErro
     counted::<Brand>(alloc, query, gone, Blank::new(1))
 }
 
-/// What is to be told where these are the answers.
+/// The names of the documents that a text's query matches, and behind a bar what is told.
+fn answered(alloc: Global, text: &str, gone: u8) -> Result<String, Fail> {
+    let Ok(query) = parse(alloc, text) else {
+        return Err(Fail::new("no query"));
+    };
+    let mut all = matched(alloc, &query, gone)?;
+    let told = uncounted(alloc, &query, gone);
+    drop(query);
+    let told = told?;
+    all.push_str("|")?;
+    all.push_str(told.as_str())?;
+    Ok(all)
+}
+
+/// What that is where these are the answers.
 fn telling(names: &str) -> &'static str {
     match names {
-        "ab" => "ab/a+/b//ab//",
-        "a" => "a/a///a//",
-        "b" => "b/b///b//",
-        _ => "//////",
+        "ab" => "ab|ab/a+/b//ab//",
+        "a" => "a|a/a///a//",
+        "b" => "b|b/b///b//",
+        "none" => "|//////",
+        _ => "no names",
     }
 }
 
-/// A query, which documents are deleted, and the answers.
-fn asked(k: u8) -> (&'static str, u8, &'static str) {
-    match k {
-        0 => ("fox", 0, "ab"),
-        1 => ("\"fox quick\"", 0, ""),
-        2 => ("\"red fox\" NOT brown", 0, "a"),
-        3 => ("red-fox NOT brown", 0, "a"),
-        4 => ("NOT zebra", 0, "ab"),
-        5 => ("qui* OR dog", 0, "ab"),
-        6 => ("title:quick", 0, ""),
-        7 => ("title:fox", 0, "ab"),
-        8 => ("name:b", 0, "b"),
-        9 => ("red NEAR/1 red", 0, "a"),
-        10 => ("Red", 0, "a"),
-        11 => ("RED", 0, ""),
-        12 => ("quick NOT red", 1, "b"),
-        13 => ("quick", 1, "b"),
-        14 => ("quick", 2, "a"),
-        15 => ("red OR brown", 1, "b"),
-        // Two terms, one through both levels: a union of chains.
-        16 => ("qui* NEAR/1 red", 0, "a"),
-        17 => ("qui* NEAR/2 fox", 0, "ab"),
-        18 => ("qui* NOT qui*", 0, ""),
-        19 => ("NOT zebra", 3, ""),
-        _ => ("zebra", 0, ""),
+/// Which documents are deleted, a query, and the answers. `qui* NEAR/1 red` has two terms, one through both levels: a union of
+/// chains. Nine words are more than a count walks over together.
+const ANSWERS: &str = "0 fox => ab
+0 \"fox quick\" => none
+0 \"red fox\" NOT brown => a
+0 red-fox NOT brown => a
+0 NOT zebra => ab
+0 qui* OR dog => ab
+0 title:quick => none
+0 title:fox => ab
+0 name:b => b
+0 red NEAR/1 red => a
+0 Red => a
+0 RED => none
+1 quick NOT red => b
+1 quick => b
+2 quick => a
+1 red OR brown => b
+0 qui* NEAR/1 red => a
+0 qui* NEAR/2 fox => ab
+0 qui* NOT qui* => none
+3 NOT zebra => none
+0 red OR brown OR zebra => ab
+2 fox OR fox => a
+2 brown OR zebra => none
+0 a OR b OR c OR d OR e OR f OR g OR h OR red => a
+0 title:red => a
+1 title:fox => b
+0 qui* => ab
+1 qui* => b
+0 zeb* => none
+0 zebra => none";
+
+pub(crate) fn digit(text: &str) -> Result<u8, Fail> {
+    match text.parse::<u8>() {
+        Ok(digit) => Ok(digit),
+        Err(_) => Err(Fail::new("a digit is missing")),
     }
+}
+
+pub(crate) fn answers_are_the_matches(rt: &impl Abort, alloc: Global) -> Result<(), Fail> {
+    for row in ANSWERS.split('\n') {
+        let (asked, names) = row.split_once(" => ").unwrap_or((row, ""));
+        let (gone, text) = asked.split_once(' ').unwrap_or((asked, ""));
+        let told = answered(alloc, text, digit(gone)?)?;
+        assert_eq!(rt; told.as_str(), telling(names), "{row}");
+    }
+    Ok(())
 }
 
 /// How many answers a search for a rare word and a common one tells over the thousand and one documents.
@@ -221,70 +259,52 @@ fn uncounted_first(alloc: Global, query: &Query) -> Result<(u64, u64, bool), All
     first_of_many::<Brand>(alloc, query, Blank::new(1))
 }
 
-#[test]
-fn answers_are_the_matches(rt: HostRuntime) -> Result<(), Fail> {
-    let alloc = rt.alloc();
-    for k in 0..21 {
-        let (text, gone, names) = asked(k);
-        let Ok(query) = parse(alloc, text) else {
-            return Err(Fail::new("no query"));
-        };
-        let matched = matched(alloc, &query, gone)?;
-        assert_eq!(rt; matched.as_str(), names, "{text}");
-        let told = uncounted(alloc, &query, gone)?;
-        assert_eq!(rt; told.as_str(), telling(names), "{text}");
-    }
-    Ok(())
+/// How many a text's query finds, the number of the first, and whether more are left behind it.
+fn first_told(alloc: Global, text: &str) -> Result<String, Fail> {
+    let Ok(query) = parse(alloc, text) else {
+        return Err(Fail::new("no query"));
+    };
+    let first = uncounted_first(alloc, &query);
+    drop(query);
+    let (count, number, left) = first?;
+    let left = if left { "more" } else { "all" };
+    Ok(format!(in alloc; "{count} {number} {left}")?)
 }
 
 /// A query over the thousand and one documents: how many it finds, the number of the first, and whether more are left behind it.
-fn asked_of_many(k: u8) -> (&'static str, u64, u64, bool) {
-    match k {
-        0 => ("common", 1001, 1, true),
-        1 => ("rare common", 1, 1001, false),
-        2 => ("common rare", 1, 1001, false),
-        3 => ("common NOT rare", 1000, 1, true),
-        4 => ("rare NOT common", 0, 0, false),
-        5 => ("common absent", 0, 0, false),
-        6 => ("common NOT absent", 1001, 1, true),
-        _ => ("rare NOT absent", 1, 1001, false),
-    }
-}
+const OF_MANY: &str = "common => 1001 1 more
+rare common => 1 1001 all
+common rare => 1 1001 all
+common NOT rare => 1000 1 more
+rare NOT common => 0 0 all
+common absent => 0 0 all
+common NOT absent => 1001 1 more
+rare NOT absent => 1 1001 all
+rare OR common => 1001 1 more
+absent OR rare => 1 1001 all
+absent OR missing => 0 0 all";
 
-#[test]
-fn rare_words_find_their_documents(rt: HostRuntime) -> Result<(), Fail> {
-    let alloc = rt.alloc();
-    for k in 0..8 {
-        let (text, found, first, more) = asked_of_many(k);
-        let Ok(query) = parse(alloc, text) else {
-            return Err(Fail::new("no query"));
-        };
-        let (count, number, left) = uncounted_first(alloc, &query)?;
-        assert_eq!(rt; count, found, "{text}");
-        assert_eq!(rt; number, first, "{text}");
-        assert_eq!(rt; left, more, "{text}");
+pub(crate) fn rare_words_find_their_documents(rt: &impl Abort, alloc: Global) -> Result<(), Fail> {
+    for row in OF_MANY.split('\n') {
+        let (text, want) = row.split_once(" => ").unwrap_or((row, ""));
+        assert_eq!(rt; first_told(alloc, text)?.as_str(), want, "{row}");
     }
     Ok(())
 }
 
-/// A query that few steps answer with one document, and whether it is one of a word without another.
-fn asked_few(k: u8) -> (&'static str, bool) {
-    match k {
-        0 => ("rare common", false),
-        1 => ("common rare", false),
-        _ => ("quick NOT red", true),
-    }
+/// How many documents a query finds that few steps answer, and which is one of a word without another, or not.
+fn few(alloc: Global, text: &str, without: bool) -> Result<u64, Fail> {
+    let Ok(query) = parse(alloc, text) else {
+        return Err(Fail::new("no query"));
+    };
+    let found = uncounted_few(alloc, &query, without);
+    drop(query);
+    Ok(found?)
 }
 
-#[test]
-fn few_steps_find_as_much(rt: HostRuntime) -> Result<(), Fail> {
-    let alloc = rt.alloc();
-    for k in 0..3 {
-        let (text, without) = asked_few(k);
-        let Ok(query) = parse(alloc, text) else {
-            return Err(Fail::new("no query"));
-        };
-        assert_eq!(rt; uncounted_few(alloc, &query, without)?, 1, "{text}");
-    }
+pub(crate) fn few_steps_find_as_much(rt: &impl Abort, alloc: Global) -> Result<(), Fail> {
+    assert!(rt; few(alloc, "rare common", false)? == 1);
+    assert!(rt; few(alloc, "common rare", false)? == 1);
+    assert!(rt; few(alloc, "quick NOT red", true)? == 1);
     Ok(())
 }

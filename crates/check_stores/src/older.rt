@@ -1,6 +1,7 @@
 // An index that an earlier program wrote, under a root of version 1: it is opened, added to, raised, flushed and merged.
-use crate::tests::{Act, Counts, answers_on, content_after, formatted, is_row, names_of, put};
+use crate::tests::{content_after, counts_told, formatted, names_told, put, steps_of};
 use std::alloc::Global;
+use std::process::Abort;
 use std::test::Fail;
 
 // The slot that counts: two levels, and a deletion list.
@@ -34,46 +35,33 @@ fn earlier_index(alloc: Global) -> Result<Vec<u8>, Fail> {
     Ok(content)
 }
 
-#[test]
-fn an_earlier_index_is_read_and_added_to(rt: HostRuntime) -> Result<(), Fail> {
-    let alloc = rt.alloc();
+pub(crate) fn an_earlier_index_is_read_and_added_to(
+    rt: &impl Abort,
+    alloc: Global,
+) -> Result<(), Fail> {
     let content = earlier_index(alloc)?;
-    let names = names_of(alloc, content.clone()?).or(Err("the store was not opened"))?;
-    assert_eq!(rt; names.len(), 2);
-    assert!(rt; is_row(&names, 0, "c", 3));
-    assert!(rt; is_row(&names, 1, "d", 4));
-    let added = content_after(alloc, content, &[(Act::Add, "e")])?;
-    assert_eq!(rt; added.get(1), Some(&1));
-    assert_eq!(rt; added.get(4_097), Some(&1));
-    let (_, counts) = answers_on(alloc, added, &[]).or(Err("the store was not opened"))?;
-    assert_eq!(rt; counts, (3, 12, 6));
+    assert_eq!(rt; names_told(alloc, content.clone()?)?.as_str(), "c 3, d 4, ");
+    let add = steps_of(alloc, "add e")?;
+    let added = content_after(alloc, content, &add)?;
+    assert!(rt; added.get(1) == Some(&1) && added.get(4_097) == Some(&1));
+    assert_eq!(rt; counts_told(alloc, added)?.as_str(), "3 12 6");
     Ok(())
 }
 
-#[test]
-fn an_earlier_index_is_raised(rt: HostRuntime) -> Result<(), Fail> {
-    let alloc = rt.alloc();
+// What is done, and the counts then.
+const RAISES: &str = "flush => 2 6 5
+merge => 2 6 5
+replace c => 2 3 6
+add e, replace d, delete c, flush, merge => 2 7 7";
+
+pub(crate) fn an_earlier_index_is_raised(rt: &impl Abort, alloc: Global) -> Result<(), Fail> {
     let content = earlier_index(alloc)?;
-    let rows: [(&[(Act, &str)], Counts); 4] = [
-        (&[(Act::Flush, "a")], (2, 6, 5)),
-        (&[(Act::Merge, "a")], (2, 6, 5)),
-        (&[(Act::Replace, "c")], (2, 3, 6)),
-        (
-            &[
-                (Act::Add, "e"),
-                (Act::Replace, "d"),
-                (Act::Delete, "c"),
-                (Act::Flush, "a"),
-                (Act::Merge, "a"),
-            ],
-            (2, 7, 7),
-        ),
-    ];
-    for (steps, want) in rows {
-        let then = content_after(alloc, content.clone()?, steps)?;
-        assert_eq!(rt; then.get(4_097), Some(&2));
-        let (_, counts) = answers_on(alloc, then, &[]).or(Err("the store was not opened"))?;
-        assert_eq!(rt; counts, want);
+    for row in RAISES.split('\n') {
+        let (text, want) = row.split_once(" => ").unwrap_or((row, "no answer"));
+        let steps = steps_of(alloc, text)?;
+        let then = content_after(alloc, content.clone()?, &steps)?;
+        assert!(rt; then.get(4_097) == Some(&2), "{row}");
+        assert_eq!(rt; counts_told(alloc, then)?.as_str(), want, "{row}");
     }
     Ok(())
 }

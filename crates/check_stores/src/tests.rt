@@ -9,6 +9,7 @@ use alta_codec::name_ok;
 use alta_disk::{Disk, FuseDisk, MemoryDisk};
 use alta_store::{Names, Store, StoreFault, format};
 use std::alloc::Global;
+use std::process::Abort;
 use std::test::Fail;
 
 const LIMIT: u64 = 1 << 40;
@@ -40,7 +41,7 @@ pub(crate) enum Act {
 }
 
 // The numbers of the document that went and of the one that came, 0 for none.
-pub(crate) type Numbers = (u64, u64);
+type Numbers = (u64, u64);
 
 // The content of a disk that was just formatted.
 pub(crate) fn formatted(alloc: Global) -> Result<Vec<u8>, Fail> {
@@ -59,21 +60,13 @@ fn opened(alloc: Global, content: Vec<u8>) -> Option<StoreFault> {
 }
 
 // The names of the store of this content.
-pub(crate) fn names_of(alloc: Global, content: Vec<u8>) -> Result<Names, StoreFault> {
+fn names_of(alloc: Global, content: Vec<u8>) -> Result<Names, StoreFault> {
     if content.len() as u64 > LIMIT {
         return Err(StoreFault::NoRoot);
     }
     let mut disk = MemoryDisk::new(alloc, content, LIMIT, Vec::new(alloc));
     let store = Store::open(alloc, &mut disk)?;
     store.names(alloc).or(Err(StoreFault::Memory))
-}
-
-// Whether the row at an index has this name and this number.
-pub(crate) fn is_row(names: &Names, i: usize, name: &str, number: u64) -> bool {
-    match names.as_slice().get(i) {
-        Some(row) => row.name.as_str() == name && row.number == number,
-        None => false,
-    }
 }
 
 // Writes bytes over those at a place.
@@ -172,10 +165,10 @@ fn merge_all<D: Disk>(store: &mut Store, disk: &mut D) -> Result<Option<Numbers>
 }
 
 // How many documents and words there are, and the next number.
-pub(crate) type Counts = (u64, u64, u64);
+type Counts = (u64, u64, u64);
 
 // What a store answers, and its counts at the end.
-pub(crate) type Answers = (Vec<Option<Numbers>>, Counts);
+type Answers = (Vec<Option<Numbers>>, Counts);
 
 // Whether a text is a name.
 fn is_named(name: &str) -> bool
@@ -228,7 +221,7 @@ fn done<D: Disk>(
 }
 
 // The same over a disk of this content.
-pub(crate) fn answers_on(
+fn answers_on(
     alloc: Global,
     content: Vec<u8>,
     steps: &[(Act, &str)],
@@ -285,218 +278,268 @@ fn keeps_answers(
     Ok(true)
 }
 
-#[test]
-fn a_formatted_disk_has_the_stated_bytes(rt: HostRuntime) -> Result<(), Fail> {
-    let alloc = rt.alloc();
+fn number(text: &str) -> Result<u64, Fail> {
+    match text.parse::<u64>() {
+        Ok(number) => Ok(number),
+        Err(_) => Err("a number is missing".into()),
+    }
+}
+
+fn byte(digits: &str) -> Result<u8, Fail> {
+    match u8::from_str_radix(digits, 16) {
+        Ok(byte) => Ok(byte),
+        Err(_) => Err("a byte is missing".into()),
+    }
+}
+
+// The record of a name.
+fn record(name: &str) -> Option<&'static [u8]> {
+    match name {
+        "ADD_A" => Some(RECORD),
+        "ADD_B" => Some(RECORD_B),
+        "ADD_AA" => Some(RECORD_AA),
+        "DELETE_1" => Some(DELETE_1),
+        "DELETE_2" => Some(DELETE_2),
+        "REPLACE_1" => Some(REPLACE_1),
+        _ => None,
+    }
+}
+
+// Puts a byte of two digits or a record, and answers the place behind, which for a record is that of the gate of the next.
+fn put_part(content: &mut [u8], at: usize, part: &str) -> Result<usize, Fail> {
+    match record(part) {
+        Some(bytes) => {
+            put(content, at, bytes);
+            Ok(at.saturating_add(bytes.len()).saturating_sub(1))
+        }
+        None => {
+            let value = byte(part)?;
+            put(content, at, &[value]);
+            Ok(at.saturating_add(1))
+        }
+    }
+}
+
+fn put_parts(content: &mut [u8], place: &str, parts: &str) -> Result<(), Fail> {
+    let mut at = number(place)? as usize;
+    for part in parts.split(' ') {
+        at = put_part(content, at, part)?;
+    }
+    Ok(())
+}
+
+// Puts what a text says over a content: places, each with bytes or records behind it, and a comma between two of them.
+fn put_all(content: &mut [u8], text: &str) -> Result<(), Fail> {
+    for part in text.split(", ") {
+        let (place, parts) = part.split_once(' ').unwrap_or((part, ""));
+        put_parts(content, place, parts)?;
+    }
+    Ok(())
+}
+
+// A disk that was just formatted, with that over it.
+fn changed(alloc: Global, text: &str) -> Result<Vec<u8>, Fail> {
+    let mut content = formatted(alloc)?;
+    put_all(&mut content, text)?;
+    Ok(content)
+}
+
+// That a store of this content is opened, or why not.
+fn told(alloc: Global, content: Vec<u8>) -> Result<String, Fail> {
+    match opened(alloc, content) {
+        None => Ok(String::from_str(alloc, "opened")?),
+        Some(StoreFault::NoRoot) => Ok(String::from_str(alloc, "no root")?),
+        Some(StoreFault::Damaged(place)) => Ok(format!(in alloc; "damaged {place}")?),
+        Some(_) => Err("another fault".into()),
+    }
+}
+
+// Compares what is told of this content with what a row puts over it.
+fn ask(rt: &impl Abort, alloc: Global, content: &[u8], rows: &str) -> Result<(), Fail> {
+    for row in rows.split('\n') {
+        let (text, want) = row.split_once(" => ").unwrap_or((row, "no answer"));
+        let mut other = content.to_vec(alloc)?;
+        put_all(&mut other, text)?;
+        assert_eq!(rt; told(alloc, other)?.as_str(), want, "{row}");
+    }
+    Ok(())
+}
+
+// The names of the store of this content, each with its number.
+pub(crate) fn names_told(alloc: Global, content: Vec<u8>) -> Result<String, Fail> {
+    let names = names_of(alloc, content).or(Err("the store was not opened"))?;
+    let mut out = String::new(alloc);
+    for row in names.as_slice() {
+        let name = row.name.as_str();
+        write!(out, "{name} {}, ", row.number)?;
+    }
+    let count = names.len();
+    if names.as_slice().len() != count || names.get(count).is_some() {
+        return Err("there are more names".into());
+    }
+    Ok(out)
+}
+
+fn act_of(text: &str) -> Result<Act, Fail> {
+    match text {
+        "add" => Ok(Act::Add),
+        "delete" => Ok(Act::Delete),
+        "replace" => Ok(Act::Replace),
+        "flush" => Ok(Act::Flush),
+        "merge" => Ok(Act::Merge),
+        _ => Err("this is no act".into()),
+    }
+}
+
+// What is done with which name, with a comma between two of them.
+pub(crate) fn steps_of(alloc: Global, text: &str) -> Result<Vec<(Act, &str)>, Fail> {
+    let mut steps = Vec::new(alloc);
+    for part in text.split(", ") {
+        let (act, name) = part.split_once(' ').unwrap_or((part, "a"));
+        steps.push((act_of(act)?, name))?;
+    }
+    Ok(steps)
+}
+
+fn counts_in(alloc: Global, counts: Counts) -> Result<String, Fail> {
+    let (documents, words, next) = counts;
+    Ok(format!(in alloc; "{documents} {words} {next}")?)
+}
+
+// How many documents and words there are in a store of this content, and the next number.
+pub(crate) fn counts_told(alloc: Global, content: Vec<u8>) -> Result<String, Fail> {
+    let (_, counts) = answers_on(alloc, content, &[]).or(Err("the store was not opened"))?;
+    counts_in(alloc, counts)
+}
+
+// The numbers of what went and of what came in each step, and the counts at the end.
+fn numbers_told(alloc: Global, content: Vec<u8>, text: &str) -> Result<String, Fail> {
+    let steps = steps_of(alloc, text)?;
+    let (numbers, counts) = answers_on(alloc, content, &steps).or(Err("the disk failed"))?;
+    let mut out = String::new(alloc);
+    for both in numbers.as_slice() {
+        match *both {
+            Some((gone, come)) => write!(out, "{gone}/{come} ")?,
+            None => out.push_str("- ")?,
+        }
+    }
+    out.push_str(counts_in(alloc, counts)?.as_str())?;
+    Ok(out)
+}
+
+pub(crate) fn a_formatted_disk_has_the_stated_bytes(
+    rt: &impl Abort,
+    alloc: Global,
+) -> Result<(), Fail> {
     let content = formatted(alloc)?;
-    assert_eq!(rt; content.len(), 2_105_344);
-    assert_eq!(rt;
-        &content[..24],
-        b"\xa5\x02\0\0\0\0\0\0\0\0\0\0\0\0\0\x01\0\0\0\0\0\0\0\x01".as_slice()
+    assert!(rt; content.len() == 2_105_344);
+    assert!(rt;
+        &content[..24] == b"\xa5\x02\0\0\0\0\0\0\0\0\0\0\0\0\0\x01\0\0\0\0\0\0\0\x01".as_slice()
     );
     assert!(rt; content[24..].iter().all(|byte| *byte == 0));
     Ok(())
 }
 
-#[test]
-fn a_broken_rule_has_its_place(rt: HostRuntime) -> Result<(), Fail> {
-    let alloc = rt.alloc();
+// Each rule broken; and entries that are not allowed: records of 40 and 14 bytes, one behind the other, from 8,192 on.
+const RULES: &str = "0 a5 => opened
+0 00 => no root
+1 00 => damaged 1
+1 01 => opened
+1 03 => damaged 1
+2 07 => opened
+3 01 => damaged 40
+8 00 00 00 00 00 00 00 00 => damaged 8
+8 00 00 00 01 00 00 00 00 => opened
+8 00 00 00 01 00 00 00 01 => damaged 8
+23 02 => damaged 16
+39 01 => damaged 24
+4096 a5 => damaged 4097
+8192 a5 ff ff ff ff => damaged 8193
+8192 a5 00 00 00 01 04 => damaged 8197
+8192 ADD_A => opened
+8192 DELETE_1 => damaged 8197
+8192 ADD_A DELETE_1 => opened
+8192 ADD_A DELETE_2 => damaged 8237
+8192 ADD_A ADD_A => damaged 8237
+8192 ADD_A DELETE_1 DELETE_1 => damaged 8251
+8192 ADD_A DELETE_1 ADD_A => opened
+8192 ADD_A DELETE_1 ADD_A ADD_A => damaged 8291
+8192 ADD_A DELETE_1 ADD_A DELETE_2 => opened
+8192 REPLACE_1 => damaged 8197
+8192 ADD_A REPLACE_1 DELETE_2 => opened
+8192 ADD_A REPLACE_1 REPLACE_1 => damaged 8265
+8192 ADD_B ADD_A REPLACE_1 => damaged 8253
+8 00 00 00 01 00 00 00 00, 8192 ADD_A => damaged 8197
+8192 ADD_A REPLACE_1 => opened
+8192 ADD_A REPLACE_1, 1 01 => damaged 8237";
+
+// To how many bytes a disk is cut.
+const CUTS: &str = "2105344 => opened
+2105343 => damaged 2105343
+8192 => damaged 8192
+8191 => no root
+0 => no root";
+
+pub(crate) fn a_broken_rule_has_its_place(rt: &impl Abort, alloc: Global) -> Result<(), Fail> {
     let fresh = formatted(alloc)?;
-    let rows: [(usize, &[u8], Option<StoreFault>); 16] = [
-        (0, b"\xa5", None),
-        (0, b"\0", Some(StoreFault::NoRoot)),
-        (1, b"\0", Some(StoreFault::Damaged(1))),
-        (1, b"\x01", None),
-        (1, b"\x03", Some(StoreFault::Damaged(1))),
-        (2, b"\x07", None),
-        (3, b"\x01", Some(StoreFault::Damaged(40))),
-        (8, b"\0\0\0\0\0\0\0\0", Some(StoreFault::Damaged(8))),
-        (8, b"\0\0\0\x01\0\0\0\0", None),
-        (8, b"\0\0\0\x01\0\0\0\x01", Some(StoreFault::Damaged(8))),
-        (23, b"\x02", Some(StoreFault::Damaged(16))),
-        (39, b"\x01", Some(StoreFault::Damaged(24))),
-        (4_096, b"\xa5", Some(StoreFault::Damaged(4_097))),
-        (
-            8_192,
-            b"\xa5\xff\xff\xff\xff",
-            Some(StoreFault::Damaged(8_193)),
-        ),
-        (
-            8_192,
-            b"\xa5\0\0\0\x01\x04",
-            Some(StoreFault::Damaged(8_197)),
-        ),
-        (8_192, RECORD, None),
-    ];
-    for (at, bytes, want) in rows {
+    ask(rt, alloc, &fresh, RULES)?;
+    for row in CUTS.split('\n') {
+        let (len, want) = row.split_once(" => ").unwrap_or((row, "no answer"));
         let mut content = fresh.clone()?;
-        put(&mut content, at, bytes);
-        assert_eq!(rt; opened(alloc, content), want, "at {at}");
-    }
-    for (len, want) in [
-        (2_105_344, None),
-        (2_105_343, Some(StoreFault::Damaged(2_105_343))),
-        (8_192, Some(StoreFault::Damaged(8_192))),
-        (8_191, Some(StoreFault::NoRoot)),
-        (0, Some(StoreFault::NoRoot)),
-    ] {
-        let mut content = fresh.clone()?;
-        content.truncate(len);
-        assert_eq!(rt; opened(alloc, content), want, "cut to {len}");
+        content.truncate(number(len)? as usize);
+        assert_eq!(rt; told(alloc, content)?.as_str(), want, "{row}");
     }
     Ok(())
 }
 
-#[test]
-fn the_later_slot_and_its_half_count(rt: HostRuntime) -> Result<(), Fail> {
-    let alloc = rt.alloc();
-    let mut content = formatted(alloc)?;
-    put(&mut content, 8_192, RECORD);
-    // Slot B with the fields of slot A, and the sequence that comes next, is the later one.
-    put(&mut content, 4_096, b"\xa5\x02\x01");
-    put(&mut content, 4_111, b"\x01\0\0\0\0\0\0\0\x01");
-    put(&mut content, 1_056_768, RECORD_B);
-    put(&mut content, 1_056_784, RECORD_AA);
-    let names = names_of(alloc, content.clone()?).or(Err("the store was not opened"))?;
-    assert_eq!(rt; names.len(), 2);
-    assert!(rt; is_row(&names, 0, "B", 1));
-    assert!(rt; is_row(&names, 1, "aa", 2));
-    // Where no slot comes next, and where slot A does.
-    let rows: [(usize, &[u8], Option<StoreFault>); 3] = [
-        (4_098, b"\x02", Some(StoreFault::Damaged(4_098))),
-        (2, b"\x02", None),
-        (1_056_773, b"\x04", Some(StoreFault::Damaged(1_056_773))),
-    ];
-    for (at, bytes, want) in rows {
-        let mut other = content.clone()?;
-        put(&mut other, at, bytes);
-        assert_eq!(rt; opened(alloc, other), want, "at {at}");
-    }
+// Slot B with the fields of slot A, and the sequence that comes next, is the later one.
+const LATER: &str =
+    "8192 ADD_A, 4096 a5 02 01, 4111 01 00 00 00 00 00 00 00 01, 1056768 ADD_B ADD_AA";
+
+// Where no slot comes next, and where slot A does.
+const LATER_RULES: &str = "4098 02 => damaged 4098
+2 02 => opened
+1056773 04 => damaged 1056773";
+
+pub(crate) fn the_later_slot_and_its_half_count(
+    rt: &impl Abort,
+    alloc: Global,
+) -> Result<(), Fail> {
+    let content = changed(alloc, LATER)?;
+    ask(rt, alloc, &content, LATER_RULES)?;
+    assert!(rt; names_told(alloc, content.clone()?)?.as_str() == "B 1, aa 2, ");
     // The deletion list begins with a location of 0, which no list has.
     let mut listed = content.clone()?;
     listed.push(1)?;
-    put(
+    put_all(
         &mut listed,
-        4_120,
-        b"\0\0\0\0\0\x20\x20\0\0\0\0\0\0\0\0\x01",
-    );
-    assert_eq!(rt; opened(alloc, listed), Some(StoreFault::Damaged(2_105_344)));
+        "4120 00 00 00 00 00 20 20 00 00 00 00 00 00 00 00 01",
+    )?;
+    assert!(rt; told(alloc, listed)?.as_str() == "damaged 2105344");
     Ok(())
 }
 
-#[test]
-fn an_entry_that_is_not_allowed_has_its_place(rt: HostRuntime) -> Result<(), Fail> {
-    let alloc = rt.alloc();
+pub(crate) fn names_and_numbers_are_as_the_state_has_them(
+    rt: &impl Abort,
+    alloc: Global,
+) -> Result<(), Fail> {
+    let steps = "delete zz, replace zz, add a, add a, add b, delete a, delete a, add a, replace b";
+    let told = numbers_told(alloc, formatted(alloc)?, steps)?;
+    assert_eq!(rt; told.as_str(), "- - 0/1 - 0/2 1/0 - 0/3 2/4 2 7 5");
+    let last = changed(alloc, "8 00 00 00 00 ff ff ff ff")?;
+    let told = numbers_told(alloc, last, "add a, add b, replace a")?;
+    assert_eq!(rt; told.as_str(), "0/4294967295 - - 1 6 4294967296");
+    let names = names_told(alloc, changed(alloc, "8192 ADD_A ADD_B ADD_AA")?)?;
+    assert_eq!(rt; names.as_str(), "B 2, a 1, aa 3, ");
+    Ok(())
+}
+
+pub(crate) fn a_stop_at_any_call_keeps_what_was_answered(
+    rt: &impl Abort,
+    alloc: Global,
+) -> Result<(), Fail> {
     let fresh = formatted(alloc)?;
-    // What is written from 8,192 on: records of 40 and 14 bytes, one behind the other.
-    let rows: [(&[&[u8]], Option<StoreFault>); 12] = [
-        (&[DELETE_1], Some(StoreFault::Damaged(8_197))),
-        (&[RECORD, DELETE_1], None),
-        (&[RECORD, DELETE_2], Some(StoreFault::Damaged(8_237))),
-        (&[RECORD, RECORD], Some(StoreFault::Damaged(8_237))),
-        (
-            &[RECORD, DELETE_1, DELETE_1],
-            Some(StoreFault::Damaged(8_251)),
-        ),
-        (&[RECORD, DELETE_1, RECORD], None),
-        (
-            &[RECORD, DELETE_1, RECORD, RECORD],
-            Some(StoreFault::Damaged(8_291)),
-        ),
-        (&[RECORD, DELETE_1, RECORD, DELETE_2], None),
-        (&[REPLACE_1], Some(StoreFault::Damaged(8_197))),
-        (&[RECORD, REPLACE_1, DELETE_2], None),
-        (
-            &[RECORD, REPLACE_1, REPLACE_1],
-            Some(StoreFault::Damaged(8_265)),
-        ),
-        (
-            &[RECORD_B, RECORD, REPLACE_1],
-            Some(StoreFault::Damaged(8_253)),
-        ),
-    ];
-    for (records, want) in rows {
-        let mut content = fresh.clone()?;
-        let mut at: usize = 8_192;
-        for record in records {
-            put(&mut content, at, record);
-            at = at.saturating_add(record.len()).saturating_sub(1);
-        }
-        assert_eq!(rt; opened(alloc, content), want, "records to {at}");
-    }
-    let mut full = fresh.clone()?;
-    put(&mut full, 8, b"\0\0\0\x01\0\0\0\0");
-    put(&mut full, 8_192, RECORD);
-    assert_eq!(rt; opened(alloc, full), Some(StoreFault::Damaged(8_197)));
-    Ok(())
-}
-
-#[test]
-fn names_and_numbers_are_as_the_state_has_them(rt: HostRuntime) -> Result<(), Fail> {
-    let alloc = rt.alloc();
-    let fresh = formatted(alloc)?;
-    let steps = [
-        (Act::Delete, "zz"),
-        (Act::Replace, "zz"),
-        (Act::Add, "a"),
-        (Act::Add, "a"),
-        (Act::Add, "b"),
-        (Act::Delete, "a"),
-        (Act::Delete, "a"),
-        (Act::Add, "a"),
-        (Act::Replace, "b"),
-    ];
-    let (numbers, counts) = answers_on(alloc, fresh.clone()?, &steps).or(Err("the disk failed"))?;
-    assert_eq!(rt;
-        numbers.as_slice(),
-        [
-            None,
-            None,
-            Some((0, 1)),
-            None,
-            Some((0, 2)),
-            Some((1, 0)),
-            None,
-            Some((0, 3)),
-            Some((2, 4)),
-        ]
-        .as_slice()
-    );
-    assert_eq!(rt; counts, (2, 7, 5));
-    let mut last = fresh.clone()?;
-    put(&mut last, 8, b"\0\0\0\0\xff\xff\xff\xff");
-    let steps = [(Act::Add, "a"), (Act::Add, "b"), (Act::Replace, "a")];
-    let (numbers, counts) = answers_on(alloc, last, &steps).or(Err("the disk failed"))?;
-    assert_eq!(rt;
-        numbers.as_slice(),
-        [Some((0, 4_294_967_295)), None, None].as_slice()
-    );
-    assert_eq!(rt; counts, (1, 6, 4_294_967_296));
-    Ok(())
-}
-
-#[test]
-fn names_stand_in_the_order_of_bytes(rt: HostRuntime) -> Result<(), Fail> {
-    let alloc = rt.alloc();
-    let mut content = formatted(alloc)?;
-    put(&mut content, 8_192, RECORD);
-    put(&mut content, 8_232, RECORD_B);
-    put(&mut content, 8_248, RECORD_AA);
-    let names = names_of(alloc, content).or(Err("the store was not opened"))?;
-    assert_eq!(rt; names.len(), 3);
-    assert!(rt; is_row(&names, 0, "B", 2));
-    assert!(rt; is_row(&names, 1, "a", 1));
-    assert!(rt; is_row(&names, 2, "aa", 3));
-    assert!(rt; names.get(3).is_none());
-    Ok(())
-}
-
-#[test]
-fn a_stop_at_any_call_keeps_what_was_answered(rt: HostRuntime) -> Result<(), Fail> {
-    let alloc = rt.alloc();
-    let fresh = formatted(alloc)?;
-    assert!(rt; fresh.len() as u64 <= LIMIT);
-    let steps = [(Act::Add, "a"), (Act::Add, "b"), (Act::Replace, "a")];
+    let steps = steps_of(alloc, "add a, add b, replace a")?;
     // The counts after so many steps.
     let after: [Counts; 5] = [(0, 0, 1), (1, 6, 2), (2, 12, 3), (2, 7, 4), (2, 7, 4)];
     // Opening makes five calls, and each step four.
@@ -509,38 +552,26 @@ fn a_stop_at_any_call_keeps_what_was_answered(rt: HostRuntime) -> Result<(), Fai
     Ok(())
 }
 
-#[test]
-fn a_root_of_version_1_is_raised_before_a_replace(rt: HostRuntime) -> Result<(), Fail> {
-    let alloc = rt.alloc();
-    let mut old = formatted(alloc)?;
-    put(&mut old, 1, b"\x01");
-    put(&mut old, 8_192, RECORD);
-    let added = content_after(alloc, old.clone()?, &[(Act::Add, "b")])?;
-    assert_eq!(rt; added.get(1), Some(&1));
-    assert_eq!(rt; added.get(4_096), Some(&0));
-    let replaced = content_after(alloc, old.clone()?, &[(Act::Replace, "a")])?;
+pub(crate) fn a_root_of_version_1_is_raised_before_a_replace(
+    rt: &impl Abort,
+    alloc: Global,
+) -> Result<(), Fail> {
+    let old = changed(alloc, "1 01, 8192 ADD_A")?;
+    let add = steps_of(alloc, "add b")?;
+    let added = content_after(alloc, old.clone()?, &add)?;
+    assert!(rt; added.get(1) == Some(&1) && added.get(4_096) == Some(&0));
+    let replace = steps_of(alloc, "replace a")?;
+    let replaced = content_after(alloc, old.clone()?, &replace)?;
     assert!(rt; replaced.len() > 2_105_344);
-    assert_eq!(rt; &replaced[4_096..4_099], b"\xa5\x02\x01".as_slice());
-    assert_eq!(rt; &replaced[1_056_768..1_056_797], REPLACE_1);
+    assert!(rt; &replaced[4_096..4_099] == b"\xa5\x02\x01".as_slice());
+    assert!(rt; &replaced[1_056_768..1_056_797] == REPLACE_1);
     // Opening makes five calls, the switch seven, and the record four.
     let after: [Counts; 3] = [(1, 6, 2), (1, 1, 3), (1, 1, 3)];
     for calls in 4..17 {
         assert!(rt;
-            keeps_answers(alloc, &old, &[(Act::Replace, "a")], &after, calls)?,
+            keeps_answers(alloc, &old, &replace, &after, calls)?,
             "{calls} calls"
         );
     }
-    Ok(())
-}
-
-#[test]
-fn a_root_of_version_1_has_no_newer_record(rt: HostRuntime) -> Result<(), Fail> {
-    let alloc = rt.alloc();
-    let mut content = formatted(alloc)?;
-    put(&mut content, 8_192, RECORD);
-    put(&mut content, 8_232, REPLACE_1);
-    assert_eq!(rt; opened(alloc, content.clone()?), None);
-    put(&mut content, 1, b"\x01");
-    assert_eq!(rt; opened(alloc, content), Some(StoreFault::Damaged(8_237)));
     Ok(())
 }
