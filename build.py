@@ -4,7 +4,8 @@
 usage: build.py [--jobs N]
 
 Each crate is proved by `rt lib` as soon as those below it are, that with the longest chain above it first, N side by side: as many as
-there are processors, with 3 GB of memory for each, and four at most. A crate that has nothing beside it gets the processors that are idle.
+there are processors, with 4 GB of memory for each, and four at most. A proof works alone at its begin and end, so each gets N / 2 jobs,
+and that with the longest chain N.
 `rt` locks the crates below the one that it proves, so each lane works in a copy of its own of the sources. What a crate has in out/ is moved
 there and back, and its library is linked into the other copies. Prints "== NAME" and what `rt` said as each crate is proved, and ends
 with 1 where one is not. An unchanged crate that is proved is not proved again.
@@ -20,7 +21,7 @@ from concurrent.futures import FIRST_COMPLETED, ThreadPoolExecutor, wait
 
 TOP = os.path.dirname(os.path.realpath(__file__))
 PROGRAM = "alta_cli"
-MEMORY_OF_ONE = 3 << 30
+MEMORY_OF_ONE = 4 << 30
 
 
 def needs():
@@ -111,20 +112,16 @@ class Build:
 def prove_all(build, below, lanes):
     """Proves all crates, and tells whether all are."""
     order, proved, running, good = chains(below), set(), {}, True
-    left, lines = sorted(below, key=lambda name: -order[name]), {name: lines_of(name) for name in below}
+    left = sorted(below, key=lambda name: -order[name])
     with ThreadPoolExecutor(lanes) as pool:
         while running or (left and good):
             ready = [name for name in left if good and proved.issuperset(below[name])]
-            for place, name in enumerate(ready):
-                idle = lanes - sum(jobs for _, jobs in running.values())
-                if idle > 0:
-                    # Where the chain that begins here takes longer than all that is left would side by side, nothing else is in more of a hurry.
-                    is_longest = order[name] * lanes > sum(lines[it] for it in left)
-                    jobs = max(lanes // 2 if is_longest else 1, idle // (len(ready) - place))
-                    left.remove(name)
-                    running[pool.submit(build.prove, name, jobs)] = name, jobs
+            for name in ready[: lanes - len(running)]:
+                is_first = all(order[name] >= order[it] for it in running.values())
+                left.remove(name)
+                running[pool.submit(build.prove, name, lanes if is_first else max(1, lanes // 2))] = name
             for it in wait(running, return_when=FIRST_COMPLETED).done:
-                (name, _), (said, is_proved) = running.pop(it), it.result()
+                name, (said, is_proved) = running.pop(it), it.result()
                 print(f"== {name}\n{said}", end="", flush=True)
                 proved |= {name} if is_proved else set()
                 good = good and is_proved
