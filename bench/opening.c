@@ -1,7 +1,7 @@
 // Opens an index as the program does, with the same reads and tests of root and tables: opening FILE reads the counting root, the journal's
-// half, and head and tables of each level, keeps a span for each term with its text spelled out, the rows of the documents, and their
-// names in a table of hashes, and prints how many documents and terms there are. It ends with 6 where a rule is broken. Deletion lists and
-// records of the journal are not read: the index is one behind a merge.
+// half, and head and tables of each level, keeps a span for each term with its text spelled out and the place of its list, the rows of the
+// documents, and these rows by their names in a table of hashes, and prints how many documents and terms there are. It ends with 6 where a
+// rule is broken. Deletion lists and records of the journal are not read: the index is one behind a merge.
 #include <fcntl.h>
 #include <stdint.h>
 #include <stdio.h>
@@ -14,11 +14,11 @@ enum { SLOT = 4096, HALVES = 8192, HALF = 1048576, LEVELS = 2105344, MOST_LEVELS
 static const uint64_t LIMIT = 1ull << 62;
 
 typedef struct { uint64_t number, first, cells; char *name; } Row;
-typedef struct { uint64_t text, length, count, stream, summary; } Span;
+typedef struct { uint64_t text, length, count, place, stream, summary; } Span;
 typedef struct { const uint8_t *at, *end; } Part;
 
 static int file;
-static char **names;
+static const Row **names;
 static uint64_t room, held;
 
 static void broken(void) { exit(6); }
@@ -65,20 +65,20 @@ static uint64_t hash(const char *name) {
     return sum;
 }
 
-// Puts a name into the table, which has room, and is broken where it is there.
-static void note(char *name) {
-    uint64_t at = hash(name) & (room - 1);
+// Puts a row into the table, which has room, by its name, and is broken where the name is there.
+static void note(const Row *row) {
+    uint64_t at = hash(row->name) & (room - 1);
     while (names[at]) {
-        if (!strcmp(names[at], name)) broken();
+        if (!strcmp(names[at]->name, row->name)) broken();
         at = (at + 1) & (room - 1);
     }
-    names[at] = name;
+    names[at] = row;
     held++;
 }
 
 static void make_room(uint64_t count) {
     if (room && (held + count) * 8 <= room * 7) return;
-    char **old = names;
+    const Row **old = names;
     uint64_t before = room;
     for (room = 16; room * 7 < (held + count) * 8;) room *= 2;
     names = calloc(room, sizeof *names);
@@ -113,7 +113,7 @@ static Row *documents(Part part, uint64_t count) {
     return rows;
 }
 
-// The terms of a level, spelled out one behind the other, and where the lists of all end.
+// The terms of a level, spelled out one behind the other, with the places of their lists behind the first, and where the lists of all end.
 static uint64_t terms(Part part, uint64_t count) {
     uint64_t most = 4096, used = 0, lists = 0, has_end = 0;
     uint8_t *text = malloc(most);
@@ -137,7 +137,7 @@ static uint64_t terms(Part part, uint64_t count) {
         memcpy(term + shared, bytes, rest);
         if (!strchr("WXNSTD", term[0]) || !term[0]) broken();
         has_end |= shared + rest == 1 && term[0] == 'D';
-        Span span = {used, shared + rest, number(&part), number(&part), number(&part)};
+        Span span = {used, shared + rest, number(&part), lists, number(&part), number(&part)};
         if (span.count == 0 || span.stream >= LIMIT || span.summary >= LIMIT) broken();
         used += span.length;
         lists += span.stream + span.summary;
@@ -169,7 +169,7 @@ int main(int count, char **words) {
         uint64_t lists = terms((Part){tables + documents_length, tables + documents_length + terms_length}, spans);
         if (lists != bytes - 32 - documents_length - terms_length) broken();
         make_room(rows);
-        for (uint64_t k = 0; k < rows; k++) note(found[k].name);
+        for (uint64_t k = 0; k < rows; k++) note(&found[k]);
         all_documents += rows;
         all_terms += spans;
     }

@@ -1,13 +1,14 @@
 #!/usr/bin/env python3
 """Measures counts of queries beside SQLite's full-text index over the same documents, in the same run.
 
-usage: bench/searches.py [--program PATH] [--before PATH ..] --lines FILE [--count N] [--repeat N] [--turns N] [--merged] [--top K]
+usage: bench/searches.py [--program PATH] [--before PATH ..] --lines FILE [--count N] [--repeat N] [--turns N] [--merged] [--levels] [--gaps N] [--top K]
 
 FILE has `add` lines, as `examples/packages.py - /var/lib/dpkg/status` writes them. As many of its first N documents as fit in one journal half go
 into a new index of the program and into a new FTS5 table in memory of Python's sqlite3, whose words are cut by its `unicode61`. With
 --merged all N go in, and a `merge` behind them makes them one level; then the FTS5 table stands on disk, keeps no texts and is
-optimized. Each query is asked so many times in one run of the program, and as often of SQLite; the processor time of the same run
-without it is taken off. With --before others are asked too, each over an index of its own, and named in their order; with --turns all
+optimized; with --gaps every Nth is deleted before that merge, and never was in the table. With --levels the program is also asked over an
+index of its own in which they lie in sixteen levels and the journal. Each query is asked so many times in one run of the program, and as
+often of SQLite; the processor time of a run without it in the same turns is taken off. With --before others are asked too, each over an index of its own, and named in their order; with --turns all
 are asked so often in turn, and the least time counts. Prints the milliseconds a query of each, and what each counts; the counts differ where program and
 SQLite cut words in other ways.
 
@@ -27,6 +28,7 @@ from peer import database_of, query_of, table_of, texts_of, xapian
 from rounds import spent
 
 JOURNAL_BYTES = 1_048_576
+MOST_LEVELS = 16
 
 # The same question for the program and for FTS5.
 QUERIES = [
@@ -63,14 +65,28 @@ def fitting(lines):
     return [line for line, size in zip(lines, sizes) if size < JOURNAL_BYTES]
 
 
-class Program:
-    """A program over its own index of the documents, and the least times of some turns."""
+def without(lines, each):
+    """The lines, those that delete every so manieth document (none by 0), and the lines of the documents that are left."""
+    gone = lines[each - 1 :: each] if each else []
+    left = [line for place, line in enumerate(lines, 1) if not each or place % each]
+    return lines + [b"delete " + line[4:].split(b"\t")[0] + b"\n" for line in gone], left
 
-    def __init__(self, path, folder, lines, is_merged):
+
+def in_levels(lines):
+    """The lines in seventeen parts, with a `flush` behind each but the last."""
+    size = -(-len(lines) // (MOST_LEVELS + 1))
+    parts = [b"".join(lines[start : start + size]) for start in range(0, len(lines), size)]
+    return b"flush\n".join(parts)
+
+
+class Program:
+    """A program over its own index, made by these lines, and what its times are printed behind."""
+
+    def __init__(self, path, folder, data, label=""):
         index = os.path.join(folder, f"{os.path.basename(path)} {len(os.listdir(folder))}")
         subprocess.run([path, index, "init"], check=True)
-        self.words = [path, index, "run"]
-        spent(self.words, b"".join(lines) + (b"merge\n" if is_merged else b""))
+        self.words, self.label = [path, index, "run"], label
+        spent(self.words, data)
 
     def turn(self, data):
         """The processor time of this input, and the first line that tells how many were found."""
@@ -108,16 +124,15 @@ def least_of(turns, calls):
 
 
 def compared(programs, base, options):
-    """Prints the milliseconds a query of the programs, less an opening, and of the table, and what each counts."""
-    openings = least_of(max(5, options.turns), [lambda one=one: one.turn(b"") for one in programs])
-    print("opening " + ", ".join(f"{seconds * 1e3:.1f} ms" for seconds, _ in openings))
+    """Prints the milliseconds a query of the programs, less an opening in the same turns, and of the table, and what each counts."""
     for ours, theirs in QUERIES:
         data = f"count {ours}\n".encode() * options.repeat
-        calls = [lambda one=one: one.turn(data) for one in programs]
-        *mine, peer = least_of(options.turns, [*calls, lambda: turn_of_table(base, theirs, options.repeat)])
-        cells = [((seconds - opening) / options.repeat, found) for (seconds, found), (opening, _) in zip(mine, openings)]
-        shown = ", before ".join(f"{seconds * 1e3:.3f} ms ({found})" for seconds, found in cells)
-        print(f"{ours}: {shown}, FTS5 {peer[0] / options.repeat * 1e3:.3f} ms ({peer[1]})", flush=True)
+        calls = [lambda one=one, asked=asked: one.turn(asked) for one in programs for asked in (b"", data)]
+        *mine, (peer, counted) = least_of(options.turns, [*calls, lambda: turn_of_table(base, theirs, options.repeat)])
+        shown = []
+        for one, (opening, _), (seconds, found) in zip(programs, mine[::2], mine[1::2]):
+            shown.append(f"{one.label}{(seconds - opening) / options.repeat * 1e3:.3f} ms ({found}), {(seconds - opening) / peer:.2f} of FTS5")
+        print(f"{ours}: " + ", ".join(shown) + f", FTS5 {peer / options.repeat * 1e3:.3f} ms ({counted})", flush=True)
 
 
 def ranked(programs, base, database, options):
@@ -134,10 +149,10 @@ def ranked(programs, base, database, options):
             calls.append(lambda: turn_of_database(database, query, options.repeat, options.top))
         times = least_of(options.turns, calls)
         shown = []
-        for place, (opening, _) in enumerate(openings):
+        for place, (one, (opening, _)) in enumerate(zip(programs, openings)):
             (best, found), (count, counted) = times[2 * place : 2 * place + 2]
             best, count = ((seconds - opening) / options.repeat * 1e3 for seconds in (best, count))
-            shown.append(f"top {best:.3f} ms ({found}), count {count:.3f} ms ({counted}), {best / count:.2f} of it")
+            shown.append(f"{one.label}top {best:.3f} ms ({found}), count {count:.3f} ms ({counted}), {best / count:.2f} of it")
         for name, (seconds, found) in zip(["FTS5", "Xapian"], times[2 * len(programs) :]):
             shown.append(f"{name} {seconds / options.repeat * 1e3:.3f} ms ({found})")
         print(f"{query}: " + "; ".join(shown), flush=True)
@@ -153,6 +168,8 @@ def main():
     parser.add_argument("--repeat", type=int, default=100)
     parser.add_argument("--turns", type=int, default=1)
     parser.add_argument("--merged", action="store_true")
+    parser.add_argument("--levels", action="store_true")
+    parser.add_argument("--gaps", metavar="N", type=int, default=0)
     parser.add_argument("--top", metavar="K", type=int, default=0)
     options = parser.parse_args()
     with open(options.lines, "rb") as file:
@@ -160,7 +177,11 @@ def main():
     lines = lines if options.merged else fitting(lines)
     print(f"{len(lines)} documents, {sum(map(len, lines))} bytes of input")
     with tempfile.TemporaryDirectory() as folder:
-        programs = [Program(path, folder, lines, options.merged) for path in [options.program, *options.before]]
+        asked, lines = without(lines, options.gaps)
+        data = b"".join(asked) + (b"merge\n" if options.merged else b"")
+        programs = [Program(options.program, folder, data), *(Program(path, folder, data, "before ") for path in options.before)]
+        if options.levels:
+            programs.append(Program(options.program, folder, in_levels(lines), "in levels "))
         base = table_of(texts_of(lines), os.path.join(folder, "x.db") if options.merged else ":memory:", not options.merged)
         if options.top:
             ranked(programs, base, database_of(texts_of(lines), folder) if xapian else None, options)
