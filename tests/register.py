@@ -1,11 +1,16 @@
 #!/usr/bin/env python3
 """Refuses documents that name what is not there, or that leave out what they promise to name: tests/register.py
 
-The register of docs/ARCHITECTURE.md has exactly the crates of crates.txt, in their order, and says of each crate of the program
-whether it touches a disk or a console, which is whether its sources use these. docs/GUARANTEES.md names each of them.
+The register of docs/ARCHITECTURE.md is the one list of crates with what each is: it has exactly the crates of crates.txt, in their
+order, each once, under the headings of the layers, and no other document has a table of crates. No crate stands on one of a layer
+above its own, as crates.txt has it. The drawing of the layers has each crate of the program once, in the layer of its heading. The
+register says of each of these whether it touches a disk or a console, which is whether its sources use these. docs/GUARANTEES.md
+has the contract of each, in order, under the same headings.
+
 No crate, no file and no heading of docs/FIGURES.md is named in the documents below that is not there. docs/READING.md names each
 file of definitions to which the contract of `alta` leads by `use` lines, so that a reader of that page has read all that the
-contract says.
+contract says: in the tables those of which a definition is reached from the contract, with words that they define, and apart from
+these the others. The functions of its theorems stand in the files that it names beside them.
 """
 
 import os
@@ -19,8 +24,9 @@ FIGURES = "docs/FIGURES.md"
 OTHERS = ["README.md", "docs/DECISIONS.md", "docs/PLAN.md", "docs/FORMAT.md", "docs/QUERIES.md"]
 DOCUMENTS = [REGISTER, STATEMENTS, READING, FIGURES] + OTHERS
 CONTRACT = "crates/alta_session/src/top.rt"
-ROW = re.compile(r"^\| ((?:alta|check|bench)_\w+) \|", re.MULTILINE)
+ROW = re.compile(r"^\| `?((?:alta|check|bench)_\w+)`? \|", re.MULTILINE)
 TOUCHES = re.compile(r"^\| (alta_\w+) \|.*\| ([^|]+) \|$", re.MULTILINE)
+STATEMENT = re.compile(r"^\*\*(alta_\w+)\*\*:", re.MULTILINE)
 OUTSIDE = ("disk", "console")
 CODE = re.compile(r"`[^`\n]*`")
 ALTA = re.compile(r"\balta_[a-z]+\b")
@@ -29,15 +35,66 @@ PATH = re.compile(r"`((?:[\w.-]+/)+[\w-]+\.\w+)`")
 HEADING = re.compile(r"^\*\*([^*]+)\.\*\*", re.MULTILINE)
 MEASURED = re.compile(r'`docs/FIGURES\.md`, "([^"]+)"')
 USE = re.compile(r"^\s*(?:ghost )?use Rattle\.(\w+)\.specs\.(\w+)", re.MULTILINE)
+NAMES = re.compile(r"^\s*(?:ghost |pub )*use Rattle\.(\w+)\.specs\.(\w+)\.\{([^}]*)\}", re.MULTILINE)
+INSIDE = re.compile(r"^(?:(?:\w+ )*mutual$|module )")
+DEFINITION = re.compile(r"^((?:(?:pub|abbrev|unfoldable|record|data) +)+)([\w◌>=]+)")
+CASE = re.compile(r"^ +([\w']+) :")
+WORD = re.compile(r"[\w']+|>>=")
+READ = re.compile(r"^\| `(\w+/(?:specs|src)/\w+\.\w+)` \| ([^|]*) \|", re.MULTILINE)
+THEOREMS = re.compile(r"((?:`[\w:]+`(?: \(clause `\w+`\))?(?:, )?)+) (?:\(|in )`(\w+/src/\w+\.rt)`")
 
 
-def listed(text):
-    """The crates of crates.txt, in order."""
-    return [line.split(":")[0].strip() for line in text.splitlines() if line.split("#")[0].strip()]
+def stood_on(text):
+    """The crates of crates.txt, in order, each with those on which it stands."""
+    lines = [line.partition("#")[0].partition(":") for line in text.splitlines()]
+    return {name.strip(): below.split() for name, _, below in lines if name.strip()}
+
+
+def order_faults(below, register):
+    """Which crates stand on one of a layer above theirs; `below` has the crates on which each stands."""
+    headings, layers = headed(part(register, "Register of crates"), ROW)
+    rank = [first_word(heading) for heading in headings].index
+    return [
+        f"{REGISTER}: {name} stands on {other}, which is in a layer above"
+        for name in below
+        for other in below[name]
+        if layers.get(name) and layers.get(other) and rank(layers[other]) > rank(layers[name])
+    ]
+
+
+def first_word(text):
+    """The first word of a heading, which names its layer."""
+    return re.findall(r"\w+", text)[0].lower()
+
+
+def part(text, heading):
+    """What stands below a heading, up to the next one of its kind."""
+    return text.partition(f"\n## {heading}\n")[2].partition("\n## ")[0]
+
+
+def headed(text, name):
+    """The headings below, and for each match of `name` the first word of that above it."""
+    headings, found, layer = [], {}, ""
+    for line in text.splitlines():
+        if line.startswith("### "):
+            headings.append(line[4:])
+            layer = first_word(line)
+        for crate in name.findall(line):
+            found[crate] = layer
+    return headings, found
+
+
+def drawn(text):
+    """The crates of the drawing of layers, each with its layer, one behind the other."""
+    found, layer = [], ""
+    for line in part(text, "Layers").partition("```\n")[2].partition("```")[0].splitlines():
+        layer = line.split()[0] if line[:1].strip() else layer
+        found += [(crate, layer) for crate in ALTA.findall(line)]
+    return found
 
 
 def register_faults(crates, text):
-    """How the register differs from the list of crates."""
+    """How the register differs from the list of crates, and the drawing from the register."""
     rows = ROW.findall(text)
     faults = [f"{REGISTER}: {name} has no row" for name in crates if name not in rows]
     faults += [f"{REGISTER}: {name} is no crate" for name in rows if name not in crates]
@@ -45,6 +102,28 @@ def register_faults(crates, text):
     if not faults and rows != crates:
         name = next(row for row, crate in zip(rows, crates) if row != crate)
         faults.append(f"{REGISTER}: {name} does not stand where crates.txt has it")
+    layers = headed(part(text, "Register of crates"), ROW)[1]
+    program = [name for name in crates if name.startswith("alta_")]
+    places = drawn(text)
+    faults += [f"{REGISTER}: {name} has no layer" for name in crates if not layers.get(name)]
+    for name in program:
+        found = [layer for crate, layer in places if crate == name]
+        if found != [layers.get(name)]:
+            drawn_in = ", ".join(found) or "no layer"
+            faults.append(f"{REGISTER}: {name} is drawn in {drawn_in}, and stands in {layers.get(name) or 'none'}")
+    return faults
+
+
+def statement_faults(crates, text, register):
+    """Of which crates of the program no contract is stated, or not in its place."""
+    program = [name for name in crates if name.startswith("alta_")]
+    stated = STATEMENT.findall(text)
+    faults = [f"{STATEMENTS}: {name} has no contract" for name in program if name not in stated]
+    if not faults and stated != program:
+        faults.append(f"{STATEMENTS}: the contracts do not stand in the order of crates.txt")
+    layers = headed(part(register, "Register of crates"), ROW)
+    if headed(part(text, "By crate"), STATEMENT)[0] != layers[0]:
+        faults.append(f"{STATEMENTS}: its headings are not those of the register")
     return faults
 
 
@@ -70,16 +149,16 @@ def named(text):
 
 def faults_in(crates, texts, exists):
     """The faults of these documents, paths with their texts; `exists` tells whether a path of the repository is there."""
-    faults = register_faults(crates, texts[REGISTER])
-    faults += [f"{STATEMENTS}: {name} is not named" for name in crates if name not in named(texts[STATEMENTS])]
+    faults = register_faults(crates, texts[REGISTER]) + statement_faults(crates, texts[STATEMENTS], texts[REGISTER])
+    headings = HEADING.findall(texts[FIGURES])
     for path, text in texts.items():
         faults += [f"{path}: {name} is no crate" for name in sorted(named(text) - set(crates))]
+        faults += [f"{path}: {name} has a row, which belongs into the register" for name in ROW.findall(text) if path != REGISTER]
         faults += [
             f"{path}: there is no {file}"
             for file in sorted(set(PATH.findall(text)))
             if not exists(file) and not exists("crates/" + file)
         ]
-        headings = HEADING.findall(texts[FIGURES])
         faults += [f"{path}: no figures are headed {name}" for name in MEASURED.findall(text) if name not in headings]
     return faults
 
@@ -96,56 +175,224 @@ def led_to(start, text_of):
     return sorted(found)
 
 
-def reading_faults(files, text):
-    """Which of these files the page for readers does not name."""
-    return [f"{READING}: {path} is not named" for path in files if f"`{path[len('crates/'):]}`" not in text]
+def definitions(text):
+    """The definitions of a file, each with the words that it is made of, and for each case of a `data` the definition that has it."""
+    words, cases, name, data, inside = {}, {}, None, False, ""
+    for line in text.splitlines():
+        if INSIDE.match(line):
+            inside = "  "
+        elif line.strip() and not line.startswith(inside):
+            inside = ""
+        line = line[len(inside) :].partition("-- ")[0]
+        if begins := DEFINITION.match(line):
+            name, data = begins[2].strip("◌"), "data" in begins[1]
+            words[name] = set()
+        elif data and (case := CASE.match(line)):
+            cases[case[1]] = name
+        if name:
+            words[name].update(WORD.findall(line))
+    return words, cases
+
+
+def reached_from(start, text_of):
+    """The definitions that are reached from the clauses of the top call, by files."""
+    read = {}
+
+    def file_of(path):
+        if path not in read:
+            text = text_of(path) or ""
+            uses = {}
+            for crate, module, names in NAMES.findall(text):
+                for name in names.split(","):
+                    name, _, other = name.partition(" as ")
+                    uses[(other or name).strip().strip("◌")] = (f"crates/{crate}/specs/{module}.antt", name.strip().strip("◌"))
+            read[path] = (*definitions(text), uses)
+        return read[path]
+
+    def found_at(path, word):
+        """Where a word of this file is defined."""
+        words, cases, uses = file_of(path)
+        if word in words or word in cases:
+            return path, cases.get(word, word)
+        return found_at(*uses[word]) if word in uses and text_of(uses[word][0]) is not None else None
+
+    clauses = text_of(start).partition("\npub fn alta<")[2].partition("\n{")[0]
+    left = [found_at(start, word) for word in WORD.findall(clauses)]
+    reached = {}
+    while left:
+        at = left.pop()
+        if at and at[1] not in reached.setdefault(at[0], set()):
+            reached[at[0]].add(at[1])
+            left += [found_at(at[0], word) for word in file_of(at[0])[0].get(at[1], ())]
+    return reached
+
+
+def reading_faults(files, text, text_of, reached):
+    """What the page for readers leaves out of these files, and which of its words are not where it says."""
+    faults = [f"{READING}: {path} is not named" for path in files if f"`{path[len('crates/'):]}`" not in text]
+    rows = [("crates/" + path, CODE.findall(words)) for path, words in READ.findall(text)]
+    tables = {path for path, _ in rows}
+    for path in files:
+        if f"`{path[len('crates/'):]}`" in text and (path in tables) != (path in reached):
+            faults.append(f"{READING}: {path} is " + ("reached and in no table" if path in reached else "in a table and not reached"))
+    for path, words in rows:
+        there = text_of(path) or ""
+        known = set(definitions(there)[0]) if path.endswith(".antt") else set(WORD.findall(there))
+        faults += [f"{READING}: {path} does not define {word}" for word in words if word.strip("`") not in known]
+    for functions, path in THEOREMS.findall(text):
+        there = text_of("crates/" + path) or ""
+        for function in re.findall(r"`([\w:]+)`(?!\))", functions):
+            if not re.search(rf"\b(?:fn|trait|ghost) {function.split('::')[-1]}\b", there):
+                faults.append(f"{READING}: there is no {function} in {path}")
+    return faults
+
+
+DRAWING = """
+## Layers
+
+```
+high    alta_b  it
+         |
+low     alta_a
+```
+"""
+
+TABLES = """
+## Register of crates
+
+### Low
+
+| alta_a | x | memory |
+
+### High: b
+
+| alta_b | x | disk |
+
+### Tests
+
+| check_c | x | memory |
+"""
+
+STATED = """
+## By crate
+
+### Low
+
+**alta_a**: `alta_b::check_it`, alta_z, check_y: `alta_a/specs/No.antt`, `tests/a.py`
+As measured (`docs/FIGURES.md`, "Adds"; `docs/FIGURES.md`, "Sums")
+
+| check_c | again |
+"""
+
+TOP = """
+ghost use Rattle.alta_a.specs.One.{x};
+ghost use Rattle.std.specs.Prelude.{y};
+
+pub fn alta<D>() -> u8
+    ensures { x result }
+{
+"""
+
+ONE = """
+use Rattle.alta_b.specs.Two.{first as one, second}
+use Rattle.alta_a.specs.declared.list.List.{List}
+-- second
+abbrev pub x : ℕ → ℕ
+x n = one n
+
+abbrev pub other : ℕ
+other = second
+"""
+
+TWO = """
+use Rattle.alta_a.specs.One.{x}
+use Rattle.alta_b.specs.Three.{w}
+abbrev mutual
+  pub data D : Type 0 where
+    first : D
+
+abbrev pub second : ℕ
+second = w
+"""
+
+PAGE = """
+| `alta_a/specs/One.antt` | `x`, `y` | it |
+| `alta_b/specs/Three.antt` | `w` | it |
+| `it_holds`, `it_fails` (`alta_b/src/laws.rt`) | it |
+"""
+
+
+def fails(what, found, want):
+    """Ends the check where it does not find in itself what it should."""
+    if found != want:
+        raise SystemExit(f"register: the check itself fails: {what}: {found}")
 
 
 def test_itself():
     """A text for each fault, and one without."""
-    crates = listed("# lowest first\nalta_a:\nalta_b: alta_a\ncheck_c: alta_b\n")
-    good = "| alta_a | x | memory |\n| alta_b | x | disk |\n| check_c | x | memory |\n"
+    crates = list(stood_on("# lowest first\nalta_a:\nalta_b: alta_a\ncheck_c: alta_b\n"))
+    good = DRAWING + TABLES
+    turned = good.replace("alta_a", "alta_z").replace("alta_b", "alta_a").replace("alta_z", "alta_b")
     rows = {
         good: [],
-        good.replace("alta_b", "alta_x"): ["alta_b has no row", "alta_x is no crate"],
-        good + "| alta_a | x | memory |\n": ["alta_a has two rows"],
-        "| alta_b | x | y |\n| alta_a | x | y |\n| check_c | x | y |\n": ["alta_b does not stand where crates.txt has it"],
+        good.replace("| alta_b", "| alta_x"): [
+            "alta_b has no row",
+            "alta_x is no crate",
+            "alta_b has no layer",
+            "alta_b is drawn in high, and stands in none",
+        ],
+        good + "| alta_a | x | memory |\n": ["alta_a has two rows", "alta_a is drawn in low, and stands in tests"],
+        turned: ["alta_b does not stand where crates.txt has it"],
+        good.replace("high    alta_b", "high    alta_a"): [
+            "alta_a is drawn in high, low, and stands in low",
+            "alta_b is drawn in no layer, and stands in high",
+        ],
     }
     for text, want in rows.items():
-        if register_faults(crates, text) != [f"{REGISTER}: {fault}" for fault in want]:
-            raise SystemExit(f"register: the check itself fails: {text!r}")
+        fails(text, register_faults(crates, text), [f"{REGISTER}: {fault}" for fault in want])
+    below = stood_on("alta_a: alta_b arrayvec\nalta_b:\ncheck_c: alta_b  # as it is\n")
+    fails("layers", order_faults(below, good), [f"{REGISTER}: alta_a stands on alta_b, which is in a layer above"])
     used = {"alta_a": outside_of("alta_a", ["ghost use alta_disk::x;\n"]), "alta_b": outside_of("alta_b", ["use alta_console::C;\n"])}
-    if touch_faults(good, used) != [f"{REGISTER}: alta_b touches console"]:
-        raise SystemExit("register: the check itself fails: what is touched")
-    texts = {REGISTER: good, STATEMENTS: "**alta_a**, `alta_b::check_it`, alta_z, check_y: `alta_a/specs/No.antt`, `tests/a.py`"}
-    texts[STATEMENTS] += 'as measured (`docs/FIGURES.md`, "Adds"; `docs/FIGURES.md`, "Sums")'
-    texts[FIGURES] = "**Adds.** `bench/adds.py`, **not Sums.**\n"
-    want = ["check_c is not named", "alta_z is no crate", "check_y is no crate", "there is no alta_a/specs/No.antt"]
-    want = [f"{STATEMENTS}: {fault}" for fault in want + ["no figures are headed Sums"]]
-    if faults_in(crates, texts, lambda path: path in ("tests/a.py", "bench/adds.py", FIGURES)) != want:
-        raise SystemExit("register: the check itself fails: names")
+    fails("what is touched", touch_faults(good, used), [f"{REGISTER}: alta_b touches console"])
+    texts = {REGISTER: good, STATEMENTS: STATED, FIGURES: "**Adds.** `bench/adds.py`, **not Sums.**\n"}
+    want = ["alta_b has no contract", "its headings are not those of the register", "alta_z is no crate", "check_y is no crate"]
+    want += ["check_c has a row, which belongs into the register", "there is no alta_a/specs/No.antt", "no figures are headed Sums"]
+    there = ("tests/a.py", "bench/adds.py", FIGURES)
+    fails("names", faults_in(crates, texts, lambda path: path in there), [f"{STATEMENTS}: {fault}" for fault in want])
+
+
+def test_reading():
+    """Definitions of which one is reached, and a page that says so wrongly."""
     files = {
-        "top": "ghost use Rattle.alta_a.specs.One.{x};\nghost use Rattle.std.specs.Prelude.{y};\n",
-        "crates/alta_a/specs/One.antt": "use Rattle.alta_b.specs.Two.{z}\nuse Rattle.alta_a.specs.declared.list.List.{List}\n",
-        "crates/alta_b/specs/Two.antt": "use Rattle.alta_a.specs.One.{x}\n",
+        "top": TOP,
+        "crates/alta_a/specs/One.antt": ONE,
+        "crates/alta_b/specs/Two.antt": TWO,
+        "crates/alta_b/specs/Three.antt": "abbrev pub w : ℕ\nw = 0\n",
+        "crates/alta_b/src/laws.rt": "pub fn it_holds()\n",
     }
     found = led_to("top", files.get)
-    if found != ["crates/alta_a/specs/One.antt", "crates/alta_b/specs/Two.antt"]:
-        raise SystemExit("register: the check itself fails: use lines")
-    if reading_faults(found, "`alta_a/specs/One.antt`") != [f"{READING}: crates/alta_b/specs/Two.antt is not named"]:
-        raise SystemExit("register: the check itself fails: reading")
+    fails("use lines", found, [f"crates/{path}.antt" for path in ("alta_a/specs/One", "alta_b/specs/Three", "alta_b/specs/Two")])
+    reached = reached_from("top", files.get)
+    fails("what is reached", reached, {"crates/alta_a/specs/One.antt": {"x"}, "crates/alta_b/specs/Two.antt": {"D"}})
+    want = ["crates/alta_b/specs/Two.antt is not named", "crates/alta_b/specs/Three.antt is in a table and not reached"]
+    want += ["crates/alta_a/specs/One.antt does not define `y`", "there is no it_fails in alta_b/src/laws.rt"]
+    fails("reading", reading_faults(found, PAGE, files.get, reached), [f"{READING}: {fault}" for fault in want])
 
 
 def main():
     test_itself()
+    test_reading()
     top = os.path.dirname(os.path.dirname(os.path.abspath(__file__)))
+    read = {}
 
     def text_of(path):
-        place = os.path.join(top, path)
-        if not os.path.isfile(place):
-            return None
-        with open(place, encoding="utf-8") as file:
-            return file.read()
+        if path not in read:
+            place = os.path.join(top, path)
+            read[path] = None
+            if os.path.isfile(place):
+                with open(place, encoding="utf-8") as file:
+                    read[path] = file.read()
+        return read[path]
 
     def sources_of(crate):
         found = []
@@ -154,12 +401,14 @@ def main():
             found += [os.path.join(place, name) for name in names if name != "tests.rt"]
         return [text_of(path) for path in sorted(found)]
 
-    crates = listed(text_of("crates.txt"))
+    below = stood_on(text_of("crates.txt"))
+    crates = list(below)
     used = {name: outside_of(name, sources_of(name)) for name in crates if name.startswith("alta_")}
     texts = {path: text_of(path) for path in DOCUMENTS}
     files = led_to(CONTRACT, text_of)
     faults = faults_in(crates, texts, lambda path: os.path.exists(os.path.join(top, path)))
-    faults += touch_faults(texts[REGISTER], used) + reading_faults(files, texts[READING])
+    faults += order_faults(below, texts[REGISTER]) + touch_faults(texts[REGISTER], used)
+    faults += reading_faults(files, texts[READING], text_of, reached_from(CONTRACT, text_of))
     for fault in faults:
         print(f"register: {fault}")
     print(f"register: {len(crates)} crates, {len(files)} files of definitions below the contract, {len(faults)} faults")
