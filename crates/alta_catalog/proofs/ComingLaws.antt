@@ -10,11 +10,11 @@ use Rattle.alta_codec.specs.Rising.{IsRising}
 use Rattle.alta_content.specs.Rows.{IsPlaced, RowsRise, end_of}
 use Rattle.alta_content.specs.declared.document.DocRow.{DocRow}
 use Rattle.alta_content.proofs.Rises.{above_from_rising, filter-has, filter-keeps, filter-rises}
-use Rattle.alta_images.specs.Opened.{table_rows}
-use Rattle.alta_images.specs.Ordered.{Precedes, RowsPrecede}
-use Rattle.alta_images.proofs.KeptStates.{map_filter}
-use Rattle.alta_images.proofs.KnownLaws.{all_weaker}
-use Rattle.alta_images.proofs.Tests.{apart_test, by_test, equal_test}
+use Rattle.alta_meaning.specs.Opened.{table_rows}
+use Rattle.alta_meaning.specs.Ordered.{Precedes, RowsPrecede}
+use Rattle.alta_meaning.proofs.KeptStates.{map_filter}
+use Rattle.alta_meaning.proofs.KnownLaws.{all_weaker}
+use Rattle.alta_meaning.proofs.Tests.{apart_test, by_test, equal_test}
 use Rattle.alta_memlevel.proofs.Ends.{ends_rise}
 use Rattle.alta_table.specs.Tables.{Tables}
 use Rattle.alta_catalog.specs.Replacing.{ends_in, is_end}

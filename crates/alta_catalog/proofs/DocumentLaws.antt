@@ -6,13 +6,13 @@ use Rattle.std.specs.Map.{update}
 use Rattle.std.specs.Str.{bytes_eq}
 use Rattle.std.specs.HashMap.{get_by_text}
 use Rattle.std.proofs.lemmas.Bool.{false≢true}
-use Rattle.alta_meta.specs.declared.document.Document.{Document}
+use Rattle.alta_machine.specs.declared.document.Document.{Document}
 use Rattle.alta_catalog.specs.Knowing.{AreFound}
-use Rattle.alta_catalog.specs.Names.{NameMap}
-use Rattle.alta_images.specs.States.{has_number_in}
-use Rattle.alta_images.proofs.Tests.{by_test, filter_keep, filter_drop, equal_test, equal_from, apart_test, bytes_from, bytes_same, none_left, or_right, or_left, or_neither}
-use Rattle.alta_images.specs.Known.{Named, named_of}
-use Rattle.alta_images.specs.Ordered.{AreOrdered, IsBefore}
+use Rattle.alta_meaning.specs.Names.{NameMap}
+use Rattle.alta_machine.specs.Changes.{has_number_in}
+use Rattle.alta_meaning.proofs.Tests.{by_test, filter_keep, filter_drop, equal_test, equal_from, apart_test, bytes_from, bytes_same, none_left, or_right, or_left, or_neither}
+use Rattle.alta_meaning.specs.Known.{Named, named_of}
+use Rattle.alta_meaning.specs.Ordered.{AreOrdered, IsBefore}
 use Rattle.std.proofs.lemmas.List.Elements.{All-head, All-tail}
 
 -- one of these documents has this name

@@ -9,14 +9,14 @@ use Rattle.std.proofs.lemmas.List.Sums.{sum_by-cons}
 use Rattle.alta_content.specs.Rows.{end_of, ends_among}
 use Rattle.alta_memlevel.specs.Added.{Added, IsInSpace, IsSpace}
 use Rattle.alta_memlevel.specs.Documents.{document_in}
-use Rattle.alta_meta.specs.declared.document.Document.{Document}
+use Rattle.alta_machine.specs.declared.document.Document.{Document}
 use Rattle.alta_catalog.specs.Knowing.{AreNumbered}
 use Rattle.alta_catalog.specs.Rows.{documents_left}
-use Rattle.alta_images.specs.States.{has_number_in}
-use Rattle.alta_images.proofs.Tests.{apart_test, by_test, equal_from, equal_test, filter_drop, filter_keep, none_left}
+use Rattle.alta_machine.specs.Changes.{has_number_in}
+use Rattle.alta_meaning.proofs.Tests.{apart_test, by_test, equal_from, equal_test, filter_drop, filter_keep, none_left}
 use Rattle.alta_catalog.proofs.DocumentLaws.{none_behind}
-use Rattle.alta_images.specs.Known.{Named, named_of}
-use Rattle.alta_images.specs.Ordered.{AreOrdered, IsBefore}
+use Rattle.alta_meaning.specs.Known.{Named, named_of}
+use Rattle.alta_meaning.specs.Ordered.{AreOrdered, IsBefore}
 
 -- ---- members of lists
 pub here_or_there : {X : Type 0} (x : X) (xs : List X) (y : X) → Contains (x ∷ xs) y → (x ≡ y) ⊎ Contains xs y

@@ -4,15 +4,15 @@ use Rattle.std.specs.Prelude.{Result, Err}
 use Rattle.std.proofs.lemmas.List.{take_more, drop_more, map-append}
 use Rattle.alta_journal.specs.declared.entry.Entry.{Entry}
 use Rattle.alta_journal.specs.declared.placed.Placed.{Placed}
-use Rattle.alta_meta.specs.declared.document.State.{State}
+use Rattle.alta_machine.specs.declared.document.State.{State}
 use Rattle.alta_root.specs.declared.root.Root.{Root}
 use Rattle.alta_catalog.specs.Knowing.{Follows, KnowsBy}
 use Rattle.alta_memlevel.specs.Added.{Added}
 use Rattle.alta_catalog.specs.declared.catalog.Catalog.{Catalog}
-use Rattle.alta_images.specs.Entries.{Allows, AllowsAll, after_entry, after_entries, entries_in, IsRefusedAt}
+use Rattle.alta_meaning.specs.Entries.{Allows, AllowsAll, after_entry, after_entries, entries_in, IsRefusedAt}
 use Rattle.alta_catalog.specs.declared.fault.CatalogFault.{CatalogFault}
 use Rattle.alta_catalog.specs.declared.fault.CatalogFault.TheVariants.{Damaged}
-use Rattle.alta_images.proofs.Entering.{after_more, allows_more}
+use Rattle.alta_meaning.proofs.Entering.{after_more, allows_more}
 
 module _ (found : List Placed) (i : ℕ) (p : Placed) (inside : i < length found) (is : p ≡ get_or found i p) where
   entries_more : entries_in (take (i + 1) found) ≡ entries_in (take i found) ++ p.entry ∷ []

@@ -11,8 +11,8 @@ use Rattle.std.proofs.lemmas.List.{append-nil, take_all, take_more}
 use Rattle.std.proofs.lemmas.List.Elements.{All-append, Contains-append_left, Contains-append_right, Contains-get_or}
 use Rattle.alta_content.specs.Rows.{AreDocumentsBehind, Before, behind_row}
 use Rattle.alta_content.specs.declared.document.DocRow.{DocRow}
-use Rattle.alta_images.specs.Opened.{table_rows}
-use Rattle.alta_images.proofs.Tests.{apart_test}
+use Rattle.alta_meaning.specs.Opened.{table_rows}
+use Rattle.alta_meaning.proofs.Tests.{apart_test}
 use Rattle.alta_table.specs.Tables.{Tables}
 use Rattle.alta_catalog.specs.Finding.{AreOther, FollowOn}
 

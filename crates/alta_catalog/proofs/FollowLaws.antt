@@ -4,12 +4,12 @@ use Rattle.std.specs.List.{sum_by}
 use Rattle.std.proofs.lemmas.List.Elements.{All-push}
 use Rattle.std.proofs.lemmas.List.Sums.{sum_by-cons, sum_by_push}
 use Rattle.alta_content.specs.declared.document.DocRow.{DocRow}
-use Rattle.alta_images.specs.Work.{added_at, added_from}
+use Rattle.alta_meaning.specs.Work.{added_at, added_from}
 use Rattle.alta_journal.specs.declared.entry.Entry.{Entry}
 use Rattle.alta_journal.specs.declared.entry.Entry.TheVariants.{Add, Delete, Replace}
 use Rattle.alta_memlevel.specs.Added.{Added, HasContent, LevelView}
 use Rattle.alta_memlevel.specs.Documents.{AreMade, IsMade}
-use Rattle.alta_meta.specs.Cells.{cells_of}
+use Rattle.alta_machine.specs.Cells.{cells_of}
 use Rattle.alta_root.specs.declared.root.Root.{Root}
 use Rattle.alta_catalog.specs.Knowing.{Follows, newest_of}
 use Rattle.alta_catalog.specs.declared.catalog.Catalog.{Catalog}

@@ -10,26 +10,26 @@ use Rattle.alta_content.specs.Rows.{end_of, ends_among, live_rows}
 use Rattle.alta_content.specs.declared.document.DocRow.{DocRow}
 use Rattle.alta_content.proofs.Outside.{filter_alike, filter_all}
 use Rattle.alta_content.proofs.Rises.{Contains-head, Contains-tail, above_from_rising, filter-has, filter-keeps, filter-rises}
-use Rattle.alta_images.specs.Entries.{AllowsAll}
-use Rattle.alta_images.specs.Levels.{Level}
-use Rattle.alta_images.specs.Opened.{IsOpened, Opened, are_in_order, comes_behind, is_below, journal_of, levels_from, table_rows, with_level}
-use Rattle.alta_images.specs.Known.{Known, replayed}
-use Rattle.alta_images.specs.Ordered.{AreBelow, Precedes, RowsPrecede}
-use Rattle.alta_images.specs.Standing.{view_of}
-use Rattle.alta_images.specs.Views.{View}
-use Rattle.alta_images.specs.Work.{added_from, gone, gone_among, is_gone, newest, level_rows}
-use Rattle.alta_images.proofs.CellLaws.{doc_of}
-use Rattle.alta_images.proofs.KeptStates.{added_behind, after_documents, left_out, map_filter, stay}
-use Rattle.alta_images.proofs.KnownLaws.{all_both, all_weaker, allows_replayed}
-use Rattle.alta_images.proofs.OrderLaws.{all_from, first_of_levels, is_more, rows_more}
-use Rattle.alta_images.proofs.Steps.{one_value}
-use Rattle.alta_images.proofs.Tests.{by_test, filter_drop, filter_keep, and_left, and_right, below_from}
+use Rattle.alta_meaning.specs.Entries.{AllowsAll}
+use Rattle.alta_meaning.specs.Levels.{Level}
+use Rattle.alta_meaning.specs.Opened.{IsOpened, Opened, are_in_order, comes_behind, is_below, journal_of, levels_from, table_rows, with_level}
+use Rattle.alta_meaning.specs.Known.{Known, replayed}
+use Rattle.alta_meaning.specs.Ordered.{AreBelow, Precedes, RowsPrecede}
+use Rattle.alta_meaning.specs.Standing.{view_of}
+use Rattle.alta_meaning.specs.Views.{View}
+use Rattle.alta_meaning.specs.Work.{added_from, gone, gone_among, is_gone, newest, level_rows}
+use Rattle.alta_meaning.proofs.CellLaws.{doc_of}
+use Rattle.alta_meaning.proofs.KeptStates.{added_behind, after_documents, left_out, map_filter, stay}
+use Rattle.alta_meaning.proofs.KnownLaws.{all_both, all_weaker, allows_replayed}
+use Rattle.alta_meaning.proofs.OrderLaws.{all_from, first_of_levels, is_more, rows_more}
+use Rattle.alta_meaning.proofs.Steps.{one_value}
+use Rattle.alta_meaning.proofs.Tests.{by_test, filter_drop, filter_keep, and_left, and_right, below_from}
 use Rattle.alta_journal.specs.Placed.{placed}
 use Rattle.alta_journal.specs.declared.entry.Entry.{Entry}
 use Rattle.alta_memlevel.specs.Added.{Added, IsInSpace, live_of}
 use Rattle.alta_memlevel.specs.Documents.{document_in}
-use Rattle.alta_meta.specs.declared.document.Document.{Document}
-use Rattle.alta_meta.specs.declared.document.State.{State}
+use Rattle.alta_machine.specs.declared.document.Document.{Document}
+use Rattle.alta_machine.specs.declared.document.State.{State}
 use Rattle.alta_root.specs.declared.root.Root.{Root}
 use Rattle.alta_table.specs.Tables.{Tables}
 use Rattle.alta_catalog.specs.Knowing.{Follows, Knows, KnowsBy, gone_of, levels_of, newest_of}

@@ -17,30 +17,30 @@ use Rattle.alta_content.specs.Rows.{end_of, ends_among}
 use Rattle.alta_content.specs.declared.document.DocRow.{DocRow}
 use Rattle.alta_memlevel.specs.Added.{Added, HasContent, IsInSpace, IsSpace, LevelView}
 use Rattle.alta_memlevel.specs.Documents.{IsBefore, IsMade, document_in}
-use Rattle.alta_meta.specs.Cells.{cells_of}
-use Rattle.alta_meta.specs.declared.document.Document.{Document}
-use Rattle.alta_meta.specs.declared.document.State.{State}
+use Rattle.alta_machine.specs.Cells.{cells_of}
+use Rattle.alta_machine.specs.declared.document.Document.{Document}
+use Rattle.alta_machine.specs.declared.document.State.{State}
 use Rattle.alta_catalog.specs.Knowing.{AreFound, AreNumbered, AreParts, Knows, KnowsBy, Notes, documents_of}
-use Rattle.alta_catalog.specs.Names.{NameMap}
+use Rattle.alta_meaning.specs.Names.{NameMap}
 use Rattle.alta_catalog.specs.Rows.{AreRowsOf, documents_left}
 use Rattle.alta_catalog.specs.Finding.{AreOther, FollowOn}
-use Rattle.alta_images.specs.Opened.{table_rows}
-use Rattle.alta_rows.specs.All.{rows_of_levels, shared_rows}
+use Rattle.alta_meaning.specs.Opened.{table_rows}
+use Rattle.alta_content.specs.All.{rows_of_levels, shared_rows}
 use Rattle.alta_content.specs.declared.level.LevelRows.{LevelRows}
 use Rattle.std.specs.declared.rc.Rc.{Rc}
-use Rattle.alta_images.specs.Ordered.{RowsPrecede, IsOrdered}
+use Rattle.alta_meaning.specs.Ordered.{RowsPrecede, IsOrdered}
 use Rattle.alta_catalog.proofs.SharingLaws.{space_ends, space_precedes}
 use Rattle.alta_catalog.proofs.StartLaws.{row_of}
 use Rattle.alta_table.specs.Tables.{Tables}
 use Rattle.alta_catalog.proofs.SpaceLaws.{left_append, ordered_long, space_push, words_fit}
-use Rattle.alta_images.specs.States.{has_name, has_number, has_number_in, with_added, with_deleted, without, word_count, words_in}
+use Rattle.alta_machine.specs.Changes.{has_name, has_number, has_number_in, with_added, with_deleted, without, word_count, words_in}
 use Rattle.alta_catalog.specs.declared.catalog.Catalog.{Catalog}
-use Rattle.alta_images.proofs.Tests.{equal_from}
+use Rattle.alta_meaning.proofs.Tests.{equal_from}
 use Rattle.alta_catalog.proofs.EndLaws.{IsSame, all_same, among, among_more, has_number_of, here_or_there, is_left, left_more, left_out, no_member, none_with, not_among, there, numbered_more, one_fewer, one_less, space_all}
 use Rattle.alta_catalog.proofs.NotingLaws.{deleted_is, is_named, is_numbered, notes_deleted, notes_more}
 use Rattle.alta_content.proofs.Elements.{all_right}
-use Rattle.alta_images.specs.Known.{known_of}
-use Rattle.alta_images.proofs.KnownLaws.{ordered_allowed}
+use Rattle.alta_meaning.specs.Known.{known_of}
+use Rattle.alta_meaning.proofs.KnownLaws.{ordered_allowed}
 use Rattle.alta_journal.specs.declared.entry.Entry.TheVariants.{Add}
 use Rattle.alta_journal.specs.declared.places.TheConstants.{TEXTS_BYTES}
 use Rattle.alta_memlevel.proofs.Cells.{cells_few, cells_long}

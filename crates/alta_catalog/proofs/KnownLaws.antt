@@ -3,18 +3,18 @@ use Rattle.std.proofs.Common.{◌≡◌, ℕ, ◌+◌, Bool, cond, List, [], ◌
 use Rattle.std.specs.Prelude.{Ok, Err}
 use Rattle.std.proofs.lemmas.List.{map-append}
 use Rattle.alta_content.specs.declared.document.DocRow.{DocRow}
-use Rattle.alta_images.specs.Entries.{Allows, AllowsAll, IsRefusedAt, after_entries, after_entry, entries_in}
-use Rattle.alta_images.specs.Known.{Known, Named, admits, known_behind, known_of, named_of, replayed}
-use Rattle.alta_images.specs.Opened.{IsNamed, Opened, journal_of, known_at, live_in, table_rows}
-use Rattle.alta_images.specs.Switching.{with_entry}
-use Rattle.alta_images.proofs.Entering.{after_more}
-use Rattle.alta_images.proofs.KnownLaws.{admitted_from, allowed_from, allows_replayed, known_entry}
-use Rattle.alta_images.proofs.Tests.{by_test}
+use Rattle.alta_meaning.specs.Entries.{Allows, AllowsAll, IsRefusedAt, after_entries, after_entry, entries_in}
+use Rattle.alta_meaning.specs.Known.{Known, Named, admits, known_behind, known_of, named_of, replayed}
+use Rattle.alta_meaning.specs.Opened.{IsNamed, Opened, journal_of, known_at, live_in, table_rows}
+use Rattle.alta_meaning.specs.Switching.{with_entry}
+use Rattle.alta_meaning.proofs.Entering.{after_more}
+use Rattle.alta_meaning.proofs.KnownLaws.{admitted_from, allowed_from, allows_replayed, known_entry}
+use Rattle.alta_meaning.proofs.Tests.{by_test}
 use Rattle.alta_journal.specs.Placed.{placed}
 use Rattle.alta_journal.specs.declared.entry.Entry.{Entry}
 use Rattle.alta_journal.specs.declared.placed.Placed.{Placed}
-use Rattle.alta_meta.specs.declared.document.Document.{Document}
-use Rattle.alta_meta.specs.declared.document.State.{State}
+use Rattle.alta_machine.specs.declared.document.Document.{Document}
+use Rattle.alta_machine.specs.declared.document.State.{State}
 use Rattle.alta_root.specs.declared.root.Root.{Root}
 use Rattle.alta_table.specs.Tables.{Tables}
 use Rattle.alta_catalog.specs.Knowing.{Knows}

@@ -10,21 +10,21 @@ use Rattle.alta_content.specs.Rows.{IsPlaced, RowsRise, end_of, ends_among, live
 use Rattle.alta_content.specs.declared.document.DocRow.{DocRow}
 use Rattle.alta_content.proofs.Outside.{filter_alike}
 use Rattle.alta_content.proofs.Rises.{filter-rises}
-use Rattle.alta_images.specs.Known.{named, named_of}
-use Rattle.alta_images.specs.Opened.{live_in, table_rows}
-use Rattle.alta_images.specs.Ordered.{RowsPrecede}
-use Rattle.alta_images.specs.States.{word_count}
-use Rattle.alta_images.proofs.KeptStates.{map_filter}
-use Rattle.alta_images.proofs.KnownLaws.{all_weaker}
-use Rattle.alta_images.proofs.Tests.{by_test, filter_drop, filter_keep}
+use Rattle.alta_meaning.specs.Known.{named, named_of}
+use Rattle.alta_meaning.specs.Opened.{live_in, table_rows}
+use Rattle.alta_meaning.specs.Ordered.{RowsPrecede}
+use Rattle.alta_machine.specs.Changes.{word_count}
+use Rattle.alta_meaning.proofs.KeptStates.{map_filter}
+use Rattle.alta_meaning.proofs.KnownLaws.{all_weaker}
+use Rattle.alta_meaning.proofs.Tests.{by_test, filter_drop, filter_keep}
 use Rattle.alta_memlevel.specs.Added.{Added, HasContent, IsInSpace, IsSpace, LevelView}
 use Rattle.alta_memlevel.specs.Documents.{IsBefore, document_in}
-use Rattle.alta_meta.specs.declared.document.Document.{Document}
-use Rattle.alta_meta.specs.declared.document.State.{State}
+use Rattle.alta_machine.specs.declared.document.Document.{Document}
+use Rattle.alta_machine.specs.declared.document.State.{State}
 use Rattle.alta_table.specs.Tables.{Tables}
 use Rattle.alta_catalog.specs.Counting.{row_words}
 use Rattle.alta_catalog.specs.Knowing.{IsEndIn, Knows, KnowsBy, Notes}
-use Rattle.alta_catalog.specs.Names.{NameMap}
+use Rattle.alta_meaning.specs.Names.{NameMap}
 use Rattle.alta_catalog.specs.Replacing.{IsEmptied, IsPrepared, MayReplace, ends_in, level_in, rows_between, tables_between}
 use Rattle.alta_catalog.specs.Rows.{AreRowsOf, documents_left}
 use Rattle.alta_catalog.specs.declared.catalog.Catalog.{Catalog}

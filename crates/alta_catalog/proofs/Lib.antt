@@ -20,3 +20,5 @@ pub mod SpaceLaws
 pub mod StartLaws
 pub mod StartingLaws
 pub mod TallyLaws
+pub mod Gone
+pub mod Places

@@ -6,14 +6,14 @@ use Rattle.std.proofs.lemmas.List.Elements.{All-append, All-nil, All-cons}
 use Rattle.alta_content.specs.Rows.{ends_among}
 use Rattle.alta_content.specs.declared.document.DocRow.{DocRow}
 use Rattle.alta_content.specs.TermList.{TermList}
-use Rattle.alta_images.specs.Entries.{after_entries}
-use Rattle.alta_images.specs.Levels.{Level, document_of, documents_of, live_rows, locations_from}
-use Rattle.alta_images.specs.Opened.{Opened, table_rows}
-use Rattle.alta_images.specs.Standing.{Means, tables_by}
-use Rattle.alta_images.proofs.Tests.{by_test, filter_drop, filter_keep}
+use Rattle.alta_meaning.specs.Entries.{after_entries}
+use Rattle.alta_meaning.specs.Levels.{Level, document_of, documents_of, live_rows, locations_from}
+use Rattle.alta_meaning.specs.Opened.{Opened, table_rows}
+use Rattle.alta_meaning.specs.Standing.{Means, tables_by}
+use Rattle.alta_meaning.proofs.Tests.{by_test, filter_drop, filter_keep}
 use Rattle.alta_memlevel.specs.Added.{Added}
-use Rattle.alta_meta.specs.declared.document.Document.{Document}
-use Rattle.alta_meta.specs.declared.document.State.{State}
+use Rattle.alta_machine.specs.declared.document.Document.{Document}
+use Rattle.alta_machine.specs.declared.document.State.{State}
 use Rattle.alta_root.specs.declared.root.Root.{Root}
 use Rattle.alta_table.specs.Tables.{Tables}
 use Rattle.alta_catalog.specs.Rows.{MayBe, MayStart, documents_left}

@@ -19,14 +19,15 @@ use Rattle.std.proofs.lemmas.List.Sorted.{Contains-permutation, IsPermutation-sy
 use Rattle.std.proofs.lemmas.Map.Keys.{IsDistinct-IsPermutation, apart_from_distinct, sorted_from_all_adjacent}
 use Rattle.std.proofs.lemmas.Map.Text.{is_eq-slice_cmp}
 use Rattle.alta_codec.specs.Order.{Precedes}
-use Rattle.alta_meta.specs.declared.document.Document.{Document}
-use Rattle.alta_meta.specs.declared.document.State.{State}
+use Rattle.alta_machine.specs.declared.document.Document.{Document}
+use Rattle.alta_machine.specs.declared.document.State.{State}
 use Rattle.alta_catalog.specs.Knowing.{Notes}
-use Rattle.alta_catalog.specs.Names.{Ascend, AreNamesOf, NameMap, by_name, row_of}
-use Rattle.alta_images.specs.States.{has_name, number_of}
+use Rattle.alta_catalog.specs.Names.{Ascend, AreNamesOf, by_name, row_of}
+use Rattle.alta_meaning.specs.Names.{NameMap}
+use Rattle.alta_machine.specs.Changes.{has_name, number_of}
 use Rattle.alta_catalog.specs.declared.lists.NameRow.{NameRow}
-use Rattle.alta_images.proofs.NameLaws.{bytes_eq-swap}
-use Rattle.alta_images.proofs.Tests.{by_test, bytes_from, bytes_same}
+use Rattle.alta_meaning.proofs.NameLaws.{bytes_eq-swap}
+use Rattle.alta_meaning.proofs.Tests.{by_test, bytes_from, bytes_same}
 use Rattle.alta_catalog.proofs.DocumentLaws.{no_number_of, number_found}
 use Rattle.alta_catalog.proofs.EndLaws.{here_or_there, there}
 

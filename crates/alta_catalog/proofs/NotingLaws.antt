@@ -5,18 +5,18 @@ use Rattle.std.specs.List.{filter}
 use Rattle.std.specs.Map.{update}
 use Rattle.std.specs.Str.{bytes_eq}
 use Rattle.std.specs.HashMap.{get_by_text}
-use Rattle.alta_meta.specs.Cells.{cells_of}
-use Rattle.alta_meta.specs.declared.document.Document.{Document}
-use Rattle.alta_meta.specs.declared.document.State.{State}
+use Rattle.alta_machine.specs.Cells.{cells_of}
+use Rattle.alta_machine.specs.declared.document.Document.{Document}
+use Rattle.alta_machine.specs.declared.document.State.{State}
 use Rattle.alta_catalog.specs.Knowing.{AreFound, Notes}
-use Rattle.alta_catalog.specs.Names.{NameMap}
-use Rattle.alta_images.specs.States.{has_name, has_number, number_of, with_added, with_deleted, without}
-use Rattle.alta_images.proofs.Tests.{by_test, bytes_from}
+use Rattle.alta_meaning.specs.Names.{NameMap}
+use Rattle.alta_machine.specs.Changes.{has_name, has_number, number_of, with_added, with_deleted, without}
+use Rattle.alta_meaning.proofs.Tests.{by_test, bytes_from}
 use Rattle.alta_catalog.proofs.DocumentLaws.{found_left, found_more, name_gone, name_stays, number_found, numbered_as, same_left}
-use Rattle.alta_images.proofs.NameLaws.{bytes_eq-swap, has_name-with_added}
-use Rattle.alta_images.specs.Known.{known_of}
-use Rattle.alta_images.specs.Ordered.{IsOrdered}
-use Rattle.alta_images.proofs.KnownLaws.{ordered_deleted}
+use Rattle.alta_meaning.proofs.NameLaws.{bytes_eq-swap, has_name-with_added}
+use Rattle.alta_meaning.specs.Known.{known_of}
+use Rattle.alta_meaning.specs.Ordered.{IsOrdered}
+use Rattle.alta_meaning.proofs.KnownLaws.{ordered_deleted}
 
 some_noted : (b : Bool) (v : ℕ) (o : Option ℕ) → is_some (cond b (Some v) o) ≡ (b || is_some o)
 some_noted true v o = refl

@@ -4,12 +4,12 @@ use Rattle.std.specs.Prelude.{◌||◌, Some}
 use Rattle.std.specs.List.{list_any}
 use Rattle.std.specs.HashMap.{get_by_text}
 use Rattle.std.specs.Str.{bytes_eq}
-use Rattle.alta_images.specs.Known.{Named, named_of}
-use Rattle.alta_meta.specs.declared.document.Document.{Document}
-use Rattle.alta_meta.specs.declared.document.State.{State}
+use Rattle.alta_meaning.specs.Known.{Named, named_of}
+use Rattle.alta_machine.specs.declared.document.Document.{Document}
+use Rattle.alta_machine.specs.declared.document.State.{State}
 use Rattle.alta_catalog.specs.Knowing.{AreFound, Notes}
-use Rattle.alta_catalog.specs.Names.{NameMap}
-use Rattle.alta_images.specs.Ordered.{IsOrdered}
+use Rattle.alta_meaning.specs.Names.{NameMap}
+use Rattle.alta_meaning.specs.Ordered.{IsOrdered}
 
 -- ---- documents with the same names and numbers
 

@@ -4,12 +4,12 @@ use Rattle.std.specs.Prelude.{◌&&◌, ◌||◌, ◌==◌, option_map}
 use Rattle.std.specs.List.{All, find, list_any}
 use Rattle.std.specs.Str.{bytes_eq}
 use Rattle.std.proofs.lemmas.List.Elements.{All-head, All-tail}
-use Rattle.alta_images.proofs.Tests.{by_test, bytes_from, and_left, or_neither}
-use Rattle.alta_images.specs.Known.{known_of, named_of}
-use Rattle.alta_images.specs.Ordered.{AreOrdered, IsBefore, IsOrdered}
-use Rattle.alta_images.specs.States.{has_named, number_of}
-use Rattle.alta_meta.specs.declared.document.Document.{Document}
-use Rattle.alta_meta.specs.declared.document.State.{State}
+use Rattle.alta_meaning.proofs.Tests.{by_test, bytes_from, and_left, or_neither}
+use Rattle.alta_meaning.specs.Known.{known_of, named_of}
+use Rattle.alta_meaning.specs.Ordered.{AreOrdered, IsBefore, IsOrdered}
+use Rattle.alta_machine.specs.Changes.{has_named, number_of}
+use Rattle.alta_machine.specs.declared.document.Document.{Document}
+use Rattle.alta_machine.specs.declared.document.State.{State}
 
 -- the number of a name is this one
 abbrev pub is_number : Option ℕ → ℕ → Bool

@@ -8,8 +8,8 @@ use Rattle.std.proofs.lemmas.List.{get_or-take, get_or_default, length-take-le, 
 use Rattle.std.proofs.lemmas.List.Elements.{All-head, All-tail}
 use Rattle.alta_codec.specs.Rising.{IsRising}
 use Rattle.alta_content.proofs.Rises.{Contains-cases, Contains-head, Contains-tail, RisesAbove}
-use Rattle.alta_deletions.specs.Ends.{with_end}
-use Rattle.alta_images.proofs.Tests.{filter_drop, filter_keep}
+use Rattle.alta_catalog.specs.Ends.{with_end}
+use Rattle.alta_meaning.proofs.Tests.{filter_drop, filter_keep}
 use Rattle.alta_catalog.proofs.EndLaws.{no_member}
 
 all_pass : (p : ℕ → Bool) (xs : List ℕ) → All (λ x. p x ≡ true) xs → filter p xs ≡ xs

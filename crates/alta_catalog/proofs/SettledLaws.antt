@@ -7,14 +7,14 @@ use Rattle.std.proofs.lemmas.List.Elements.{All-nil, All-head, All-tail, All-app
 use Rattle.alta_codec.specs.Rising.{IsRising}
 use Rattle.alta_content.specs.Rows.{IsPlaced, end_of}
 use Rattle.alta_content.specs.declared.document.DocRow.{DocRow}
-use Rattle.alta_images.specs.Opened.{table_rows}
-use Rattle.alta_images.specs.Ordered.{Precedes, RowsPrecede}
-use Rattle.alta_images.specs.States.{words_in}
-use Rattle.alta_images.proofs.KeptStates.{rise_some}
-use Rattle.alta_images.proofs.KnownLaws.{all_weaker}
+use Rattle.alta_meaning.specs.Opened.{table_rows}
+use Rattle.alta_meaning.specs.Ordered.{Precedes, RowsPrecede}
+use Rattle.alta_machine.specs.Changes.{words_in}
+use Rattle.alta_meaning.proofs.KeptStates.{rise_some}
+use Rattle.alta_meaning.proofs.KnownLaws.{all_weaker}
 use Rattle.alta_memlevel.specs.Added.{Added, HasContent, IsInSpace, IsSpace}
 use Rattle.alta_memlevel.specs.Documents.{IsBefore, IsMade}
-use Rattle.alta_meta.specs.declared.document.State.{State}
+use Rattle.alta_machine.specs.declared.document.State.{State}
 use Rattle.alta_catalog.specs.Knowing.{IsEndIn, KnowsBy, Notes}
 use Rattle.alta_catalog.specs.Rows.{AreRowsOf, documents_left}
 use Rattle.alta_catalog.specs.declared.catalog.Catalog.{Catalog}

@@ -4,7 +4,7 @@ use Rattle.std.proofs.lemmas.List.Elements.{All-map}
 use Rattle.alta_codec.specs.Rising.{IsRising}
 use Rattle.alta_content.specs.Rows.{RowsRise, end_of}
 use Rattle.alta_content.specs.declared.document.DocRow.{DocRow}
-use Rattle.alta_images.specs.Ordered.{Precedes, RowsPrecede}
+use Rattle.alta_meaning.specs.Ordered.{Precedes, RowsPrecede}
 use Rattle.alta_memlevel.specs.Added.{Added, IsSpace}
 use Rattle.alta_memlevel.proofs.Ends.{ends_rise}
 use Rattle.alta_catalog.proofs.StartLaws.{row_of}

@@ -7,13 +7,13 @@ use Rattle.std.proofs.lemmas.List.Sums.{sum_by-cons}
 use Rattle.alta_content.specs.Rows.{end_of, ends_among}
 use Rattle.alta_memlevel.specs.Added.{Added, IsInSpace, IsSpace, live_of}
 use Rattle.alta_memlevel.specs.Documents.{document_in}
-use Rattle.alta_meta.specs.declared.document.Document.{Document}
-use Rattle.alta_images.specs.States.{word_count}
-use Rattle.alta_images.proofs.Tests.{by_test, filter_drop, filter_keep}
+use Rattle.alta_machine.specs.declared.document.Document.{Document}
+use Rattle.alta_machine.specs.Changes.{word_count}
+use Rattle.alta_meaning.proofs.Tests.{by_test, filter_drop, filter_keep}
 use Rattle.alta_catalog.specs.Rows.{documents_left}
-use Rattle.alta_images.specs.Known.{Named, named_of}
-use Rattle.alta_images.specs.Ordered.{AreOrdered, IsBefore}
-use Rattle.alta_images.proofs.KnownLaws.{all_both, all_weaker}
+use Rattle.alta_meaning.specs.Known.{Named, named_of}
+use Rattle.alta_meaning.specs.Ordered.{AreOrdered, IsBefore}
+use Rattle.alta_meaning.proofs.KnownLaws.{all_both, all_weaker}
 
 -- a document more, behind all
 pub space_push : (xs : List Added) (a : Added) → IsSpace xs → IsInSpace a → All (λ (b : Added). b.row.number < a.row.number) xs → All (λ (b : Added). end_of b.row < a.row.first) xs → IsSpace (xs ++ a ∷ [])

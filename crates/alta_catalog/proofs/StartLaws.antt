@@ -10,18 +10,18 @@ use Rattle.std.proofs.lemmas.List.Elements.{All-nil, All-cons, All-head, All-pus
 use Rattle.std.proofs.lemmas.List.Sums.{sum_by-cons}
 use Rattle.alta_content.specs.Rows.{AreDocuments, AreDocumentsBehind, Before, behind_row, end_of, ends_among, live_rows, start}
 use Rattle.alta_content.specs.declared.document.DocRow.{DocRow}
-use Rattle.alta_images.specs.Known.{Named, named, named_of}
-use Rattle.alta_images.specs.Opened.{have_ends, live_in, table_rows}
-use Rattle.alta_images.specs.Ordered.{AreOrdered, IsBefore}
-use Rattle.alta_images.specs.States.{word_count}
-use Rattle.alta_images.proofs.Tests.{by_test, bytes_from, bytes_same, equal_from, filter_drop, filter_keep, and_left, and_right}
+use Rattle.alta_meaning.specs.Known.{Named, named, named_of}
+use Rattle.alta_meaning.specs.Opened.{have_ends, live_in, table_rows}
+use Rattle.alta_meaning.specs.Ordered.{AreOrdered, IsBefore}
+use Rattle.alta_machine.specs.Changes.{word_count}
+use Rattle.alta_meaning.proofs.Tests.{by_test, bytes_from, bytes_same, equal_from, filter_drop, filter_keep, and_left, and_right}
 use Rattle.alta_memlevel.specs.Added.{Added, IsSpace}
 use Rattle.alta_memlevel.specs.Documents.{document_in}
-use Rattle.alta_meta.specs.declared.document.Document.{Document}
+use Rattle.alta_machine.specs.declared.document.Document.{Document}
 use Rattle.alta_table.specs.Tables.{Tables}
 use Rattle.alta_catalog.specs.Counting.{cells_in, row_words}
 use Rattle.alta_catalog.specs.Knowing.{AreFound, IsEndIn}
-use Rattle.alta_catalog.specs.Names.{AreNames, NameMap, number_of}
+use Rattle.alta_meaning.specs.Names.{AreNames, NameMap, number_of}
 use Rattle.alta_catalog.specs.Rows.{AreRowsOf, documents_left}
 use Rattle.alta_catalog.proofs.SpaceLaws.{left_alive, left_dead}
 use Rattle.alta_catalog.proofs.EndLaws.{here_or_there, no_member, there}

@@ -5,22 +5,22 @@ use Rattle.std.specs.List.{All, sum_by}
 use Rattle.alta_codec.specs.Rising.{IsRising}
 use Rattle.alta_content.specs.Rows.{AreDocuments, end_of, live_rows, start, ends_among}
 use Rattle.alta_content.specs.declared.document.DocRow.{DocRow}
-use Rattle.alta_images.specs.Known.{named_of}
-use Rattle.alta_images.specs.Opened.{have_ends, live_in, table_rows}
-use Rattle.alta_images.specs.Ordered.{AreBelow, AreOrdered}
+use Rattle.alta_meaning.specs.Known.{named_of}
+use Rattle.alta_meaning.specs.Opened.{have_ends, live_in, table_rows}
+use Rattle.alta_meaning.specs.Ordered.{AreBelow, AreOrdered}
 use Rattle.alta_memlevel.specs.Added.{Added, HasContent, IsSpace, live_of}
-use Rattle.alta_meta.specs.declared.document.Document.{Document}
-use Rattle.alta_meta.specs.declared.document.State.{State}
+use Rattle.alta_machine.specs.declared.document.Document.{Document}
+use Rattle.alta_machine.specs.declared.document.State.{State}
 use Rattle.alta_root.specs.Root.{IsSound}
 use Rattle.alta_root.specs.declared.root.Root.{Root}
 use Rattle.alta_catalog.specs.Counting.{cells_in, row_words}
 use Rattle.alta_catalog.specs.Knowing.{KnowsBy}
-use Rattle.alta_catalog.specs.Names.{AreNames}
+use Rattle.alta_meaning.specs.Names.{AreNames}
 use Rattle.alta_catalog.specs.Rows.{MayStart, documents_left}
 use Rattle.alta_catalog.specs.declared.catalog.Catalog.{Catalog}
 use Rattle.alta_catalog.proofs.SettledLaws.{IsSettled, settled_knows}
 use Rattle.alta_catalog.proofs.StartLaws.{all_rows, cells_fit, ends_there, filled_of, lies_behind, live_long, live_named, live_words, name_known, names_found, space_of}
-use Rattle.alta_images.proofs.KnownLaws.{IsWithin}
+use Rattle.alta_meaning.proofs.KnownLaws.{IsWithin}
 use Rattle.std.proofs.lemmas.List.Elements.{All-filter, All-map}
 use Rattle.alta_memlevel.specs.Documents.{document_in}
 

@@ -7,8 +7,8 @@ use Rattle.std.proofs.lemmas.List.Sums.{sum_by-append, sum_by-cons}
 use Rattle.alta_codec.specs.declared.location.TheConstants.{TOP}
 use Rattle.alta_content.specs.Rows.{AreDocumentsBehind, Before, behind_row, end_of, ends_among, live_rows}
 use Rattle.alta_content.specs.declared.document.DocRow.{DocRow}
-use Rattle.alta_images.specs.Opened.{table_rows}
-use Rattle.alta_images.proofs.Tests.{filter_drop, filter_keep}
+use Rattle.alta_meaning.specs.Opened.{table_rows}
+use Rattle.alta_meaning.proofs.Tests.{filter_drop, filter_keep}
 use Rattle.alta_table.specs.Tables.{Tables}
 use Rattle.alta_catalog.specs.Counting.{IsTally, cells_in, row_words}
 use Rattle.alta_catalog.specs.declared.starting.Tally.{Tally}

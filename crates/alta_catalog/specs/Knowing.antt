@@ -7,19 +7,19 @@ use Rattle.alta_content.specs.Rows.{end_of}
 use Rattle.alta_content.specs.declared.document.DocRow.{DocRow}
 use Rattle.alta_memlevel.specs.Added.{Added, HasContent, IsSpace, LevelView}
 use Rattle.alta_memlevel.specs.Documents.{AreMade, HasDocuments, IsBefore}
-use Rattle.alta_meta.specs.declared.document.Document.{Document}
-use Rattle.alta_meta.specs.declared.document.State.{State}
-use Rattle.alta_images.specs.Opened.{table_rows}
-use Rattle.alta_images.specs.States.{has_name, words_in}
-use Rattle.alta_images.specs.Work.{added_from}
+use Rattle.alta_machine.specs.declared.document.Document.{Document}
+use Rattle.alta_machine.specs.declared.document.State.{State}
+use Rattle.alta_meaning.specs.Opened.{table_rows}
+use Rattle.alta_machine.specs.Changes.{has_name, words_in}
+use Rattle.alta_meaning.specs.Work.{added_from}
 use Rattle.alta_journal.specs.declared.entry.Entry.{Entry}
 use Rattle.alta_root.specs.declared.root.Root.{Root}
-use Rattle.alta_catalog.specs.Names.{NameMap}
+use Rattle.alta_meaning.specs.Names.{NameMap}
 use Rattle.alta_catalog.specs.Rows.{AreRowsOf, documents_left}
 use Rattle.alta_catalog.specs.declared.catalog.Catalog.{Catalog}
 use Rattle.alta_table.specs.Tables.{Tables}
-use Rattle.alta_images.specs.Known.{known_of}
-use Rattle.alta_images.specs.Ordered.{IsOrdered}
+use Rattle.alta_meaning.specs.Known.{known_of}
+use Rattle.alta_meaning.specs.Ordered.{IsOrdered}
 
 -- ---- names and numbers
 

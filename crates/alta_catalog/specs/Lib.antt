@@ -4,3 +4,4 @@ pub mod Knowing
 pub mod Names
 pub mod Replacing
 pub mod Rows
+pub mod Ends

@@ -1,34 +1,15 @@
 -- The names of live documents: as a map, and as a list in order.
-use Rattle.std.proofs.Common.{BuildHasherDefault, FoldHasher, Global}
-use Rattle.std.specs.Prelude.{◌≡◌, ◌↔◌, ℕ, if◌then◌else◌, List, [], ◌∷◌, map, Contains, String, string_bytes, Option, Some, None}
+use Rattle.std.proofs.Common.{Global}
+use Rattle.std.specs.Prelude.{◌≡◌, ◌↔◌, ℕ, List, [], ◌∷◌, map, Contains, String, string_bytes, Some}
 use Rattle.std.specs.Cmp.Lexicographic.{slice_cmp}
-use Rattle.std.specs.HashMap.{HashMap, get_by_text}
 use Rattle.std.specs.List.{All}
 use Rattle.std.specs.Ordering.{nat_cmp}
-use Rattle.std.specs.Str.{bytes_eq}
 use Rattle.std.specs.declared.cmp.Ordering.{Ordering}
 use Rattle.alta_catalog.specs.declared.lists.NameRow.{NameRow}
 use Rattle.alta_codec.specs.Order.{Precedes}
-use Rattle.alta_images.specs.Known.{Named}
-use Rattle.alta_images.specs.States.{number_of as number_in}
-use Rattle.alta_meta.specs.declared.document.State.{State}
-
--- ---- a map
-
--- the number of the first of these with this name
-abbrev pub number_of : List ℕ → List Named → Option ℕ
-number_of name [] = None
-number_of name (row ∷ rows) = if bytes_eq name row.name then Some row.number else number_of name rows
-
--- numbers by their names
-abbrev pub NameMap : Type 0
-NameMap = HashMap (String Global) ℕ (BuildHasherDefault FoldHasher)
-
--- The map has the names of these, each with its number, and no other name.
-abbrev pub AreNames : NameMap → List Named → Type 0
-AreNames names live = (name : List ℕ) → get_by_text names name ≡ number_of name live
-
--- ---- a list
+use Rattle.alta_meaning.specs.Known.{Named}
+use Rattle.alta_machine.specs.Changes.{number_of as number_in}
+use Rattle.alta_machine.specs.declared.document.State.{State}
 
 -- each name comes before all those behind it, in the order of bytes
 abbrev pub Ascend : List (List ℕ) → Type 0

@@ -4,7 +4,7 @@ use Rattle.std.specs.List.{All, filter, list_any}
 use Rattle.std.specs.Vec.{vec_capacity, vec_len}
 use Rattle.alta_content.specs.Rows.{end_of, ends_among}
 use Rattle.alta_content.specs.declared.document.DocRow.{DocRow}
-use Rattle.alta_images.specs.Opened.{table_rows}
+use Rattle.alta_meaning.specs.Opened.{table_rows}
 use Rattle.alta_memlevel.specs.Added.{HasContent}
 use Rattle.alta_catalog.specs.declared.catalog.Catalog.{Catalog}
 use Rattle.alta_catalog.specs.declared.replacing.PreparedLevels.{PreparedLevels}

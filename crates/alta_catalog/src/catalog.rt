@@ -5,21 +5,23 @@ ghost use Rattle.alta_codec.specs.Name.{IsName};
 ghost use Rattle.alta_codec.specs.Rising.{IsRising};
 ghost use Rattle.alta_content.specs.declared.document.DocRow.{DocRow};
 ghost use Rattle.alta_content.specs.Rows.{AreDocuments, ends_among, RowsRise};
-ghost use Rattle.alta_images.specs.Opened.{have_ends, live_in, table_rows};
-ghost use Rattle.alta_images.specs.Ordered.{AreBelow, AreOrdered, RowsPrecede};
-ghost use Rattle.alta_images.specs.States.{has_name, has_number, number_of, with_added, with_deleted, without, words_in};
+ghost use Rattle.alta_meaning.specs.Opened.{have_ends, live_in, table_rows};
+ghost use Rattle.alta_meaning.specs.Ordered.{AreBelow, AreOrdered, RowsPrecede};
+ghost use Rattle.alta_machine.specs.Changes.{has_name, has_number, number_of, with_added, with_deleted, without, words_in};
 ghost use Rattle.alta_journal.specs.declared.entry.Entry.{Entry};
 ghost use Rattle.alta_journal.specs.declared.entry.Entry.TheVariants.{Add as AddEntry, Delete as DeleteEntry};
 ghost use Rattle.alta_journal.specs.declared.places.TheConstants.{TEXTS_BYTES};
 ghost use Rattle.alta_memlevel.specs.Added.{Added, HasContent};
-ghost use Rattle.alta_meta.specs.declared.document.State.{State};
+ghost use Rattle.alta_machine.specs.declared.document.State.{State};
 ghost use Rattle.alta_root.specs.Root.{IsSound};
 ghost use Rattle.alta_catalog.specs.Knowing.{AreParts, Follows, Knows, KnowsBy, gone_of, levels_of, location_of, memory_of, newest_of, next_of};
-ghost use Rattle.alta_catalog.specs.Names.{AreNames, AreNamesOf};
+ghost use Rattle.alta_meaning.specs.Names.{AreNames};
+ghost use Rattle.alta_catalog.specs.Names.{AreNamesOf};
 ghost use Rattle.alta_catalog.specs.Replacing.{HasRoom, IsEmptied, IsPrepared, MayReplace, deleted_of, level_in, rows_between, stay_from_of, tables_between};
 ghost use Rattle.alta_catalog.specs.Rows.{AreRowsOf, MayStart, documents_left};
 ghost use Rattle.alta_root.specs.declared.root.Root.{Root};
 
+use crate::Deletions;
 use crate::finding::{end_of, find};
 use crate::lists::Names;
 use crate::names::{forget, note, rows_in};
@@ -27,13 +29,11 @@ use crate::replacing::{PreparedLevels, ends_to_come, put_between};
 use crate::sharing::{share_rows, with_runs};
 use crate::starting::{ends_of, tally_levels};
 use alta_codec::{DocNumber, Loc, Text};
-use alta_content::DocRow;
-use alta_deletions::Deletions;
+use alta_content::{AllRows, DocRow};
+use alta_machine::{MetaFault, cells};
 use alta_memlevel::MemLevel;
-use alta_meta::{MetaFault, cells};
 use alta_root::{LAST_NEXT, Root};
-use alta_rows::AllRows;
-use alta_table::Table;
+use alta_table::OpenLevel;
 use std::alloc::{AllocError, Global};
 use std::collections::HashMap;
 use std::mem;
@@ -55,7 +55,7 @@ pub struct Catalog {
     count: u64,
     words: u64,
     names: HashMap<String, u64>,
-    levels: Vec<Table>,
+    levels: Vec<OpenLevel>,
     memory: MemLevel,
     gone: Deletions,
 }
@@ -68,7 +68,7 @@ impl Catalog {
     pub fn new(
         alloc: Global,
         root: &Root,
-        levels: Vec<Table>,
+        levels: Vec<OpenLevel>,
         deleted: &[Loc],
         names: HashMap<String, u64>,
     ) -> Result<Catalog, AllocError>
@@ -101,7 +101,7 @@ impl Catalog {
     }
 
     /// The tables of the levels, the oldest first.
-    pub fn levels(&self) -> &[Table]
+    pub fn levels(&self) -> &[OpenLevel]
         ensures { result.now ≡ levels_of self.now }
     {
         &self.levels
@@ -200,7 +200,7 @@ impl Catalog {
             number: self.next,
             first: self.location,
             cells: count,
-            name: Text::from_string(String::from_str(alloc, name)?),
+            name: Text::of(alloc, name)?,
         };
         self.memory.add(row, &cells)?;
         note(alloc, &mut self.names, name, self.next)?;
@@ -307,8 +307,8 @@ impl Catalog {
     pub fn put_levels(
         &mut self,
         prepared: PreparedLevels,
-        oldest: Option<Table>,
-        newest: Option<Table>,
+        oldest: Option<OpenLevel>,
+        newest: Option<OpenLevel>,
     )
         requires room { HasRoom self.old prepared }
         ensures knows { (before : Catalog) → (s : State) → (n : ℕ) → (olds : List Added) → IsEmptied before self.old → Knows before s

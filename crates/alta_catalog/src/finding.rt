@@ -4,13 +4,13 @@ ghost use Rattle.std.specs.List.{All};
 ghost use Rattle.alta_codec.specs.declared.location.TheConstants.{TOP};
 ghost use Rattle.alta_content.specs.Rows.{AreDocuments, end_of as end_in};
 ghost use Rattle.alta_content.specs.declared.document.DocRow.{DocRow};
-ghost use Rattle.alta_images.specs.Opened.{table_rows};
+ghost use Rattle.alta_meaning.specs.Opened.{table_rows};
 ghost use Rattle.alta_catalog.specs.Finding.{AreOther, FollowOn};
 
 use alta_codec::Loc;
 use alta_content::DocRow;
 use alta_memlevel::MemLevel;
-use alta_table::Table;
+use alta_table::OpenLevel;
 
 /// The location of the last cell of a row.
 pub(crate) fn end_of(row: &DocRow) -> Loc
@@ -23,7 +23,7 @@ pub(crate) fn end_of(row: &DocRow) -> Loc
 
 /// The row with this number, of the levels or in memory, where the numbers follow on one another from the first on.
 pub(crate) fn find<'a>(
-    levels: &'a [Table],
+    levels: &'a [OpenLevel],
     memory: &'a MemLevel,
     first: u64,
     number: u64,
@@ -52,7 +52,7 @@ fn index_of(first: u64, number: u64, rows: usize) -> Option<usize>
 }
 
 // The row with this number, of the first level that has one.
-fn level_row(levels: &[Table], number: u64) -> Option<&DocRow>
+fn level_row(levels: &[OpenLevel], number: u64) -> Option<&DocRow>
     ensures some { IfSome result (λ row. Contains (table_rows levels.now) row.now × (row.now.number ≡ number)) }
     ensures none { IfNone result (AreOther number (table_rows levels.now)) }
 {

@@ -1,8 +1,10 @@
 //! What an index knows of its live documents in memory: those of its levels by number, name and count of cells, and the newest ones with
 //! all their words.
+//! The ends of the documents that were deleted from an index: a rising list, which is searched, edited and coded.
 #![tactic(auto)]
 
 mod catalog;
+mod deletions;
 mod fault;
 mod finding;
 mod laws;
@@ -14,6 +16,7 @@ mod sharing;
 mod starting;
 
 pub use catalog::Catalog;
+pub use deletions::Deletions;
 pub use fault::CatalogFault;
 pub use laws::{
     a_catalog_knows_one, a_root_may_start, a_state_may_be, an_entry_goes_on, some_rows_rise,

@@ -3,14 +3,14 @@ ghost use Rattle.std.specs.Prelude.{◌≡◌, ◌+◌, ◌++◌, ◌<◌, ◌�
 ghost use Rattle.std.specs.Vec.{vec_capacity, vec_len};
 ghost use Rattle.alta_codec.specs.Rising.{IsRising};
 ghost use Rattle.alta_content.specs.Rows.{RowsRise};
-ghost use Rattle.alta_images.specs.Opened.{table_rows};
+ghost use Rattle.alta_meaning.specs.Opened.{table_rows};
 ghost use Rattle.alta_catalog.specs.Replacing.{deleted_of, ends_in, is_end, some_in};
 
+use crate::Deletions;
 use crate::finding::end_of;
 use alta_codec::Loc;
 use alta_content::DocRow;
-use alta_deletions::Deletions;
-use alta_table::Table;
+use alta_table::OpenLevel;
 use std::alloc::{AllocError, Global};
 use std::cmp::min;
 
@@ -20,7 +20,7 @@ pub struct PreparedLevels {
     // The index of the first level that stays.
     pub(crate) stay_from: usize,
     // Room for the tables of all levels to come.
-    pub(crate) levels: Vec<Table>,
+    pub(crate) levels: Vec<OpenLevel>,
     // The ends of their documents that are gone.
     pub(crate) deleted: Deletions,
 }
@@ -43,7 +43,7 @@ pub(crate) fn ends_to_come(
     alloc: Global,
     gone: &[Loc],
     oldest: &[DocRow],
-    levels: &[Table],
+    levels: &[OpenLevel],
     newest: &[DocRow],
 ) -> Result<Vec<Loc>, AllocError>
     requires rising { IsRising gone.now }
@@ -61,7 +61,7 @@ pub(crate) fn ends_to_come(
 }
 
 // Whether a row to come ends there.
-fn comes(oldest: &[DocRow], levels: &[Table], newest: &[DocRow], end: Loc) -> bool
+fn comes(oldest: &[DocRow], levels: &[OpenLevel], newest: &[DocRow], end: Loc) -> bool
     requires { RowsRise (oldest.now ++ (table_rows levels.now ++ newest.now)) }
     ensures { result ≡ is_end (oldest.now ++ (table_rows levels.now ++ newest.now)) end }
 {
@@ -69,7 +69,7 @@ fn comes(oldest: &[DocRow], levels: &[Table], newest: &[DocRow], end: Loc) -> bo
 }
 
 // Whether a row of a level ends there.
-fn ends_in_level(levels: &[Table], end: Loc) -> bool
+fn ends_in_level(levels: &[OpenLevel], end: Loc) -> bool
     ensures { result ≡ is_end (table_rows levels.now) end }
 {
     for level in levels {

@@ -5,9 +5,9 @@ ghost use Rattle.alta_journal.specs.declared.entry.Entry.{Entry};
 ghost use Rattle.alta_journal.specs.declared.entry.Entry.TheVariants.{Add, Replace};
 ghost use Rattle.alta_content.specs.declared.document.DocRow.{DocRow};
 ghost use Rattle.alta_content.specs.Rows.{ends_among};
-ghost use Rattle.alta_meta.specs.declared.document.State.{State};
-ghost use Rattle.alta_images.specs.Entries.{Allows, AllowsAll, after_entry, after_entries, entries_in, IsRefusedAt};
-ghost use Rattle.alta_images.specs.States.{has_named, with_added, without};
+ghost use Rattle.alta_machine.specs.declared.document.State.{State};
+ghost use Rattle.alta_meaning.specs.Entries.{Allows, AllowsAll, after_entry, after_entries, entries_in, IsRefusedAt};
+ghost use Rattle.alta_machine.specs.Changes.{has_named, with_added, without};
 ghost use Rattle.alta_root.specs.declared.root.Root.{Root};
 ghost use Rattle.alta_catalog.specs.Knowing.{Follows, Knows, KnowsBy, gone_of, levels_of};
 ghost use Rattle.alta_catalog.specs.declared.fault.CatalogFault.TheVariants.{Memory, Damaged};
@@ -15,7 +15,7 @@ ghost use Rattle.alta_catalog.specs.declared.fault.CatalogFault.TheVariants.{Mem
 use crate::CatalogFault;
 use crate::catalog::Catalog;
 use alta_journal::{Entry, Placed};
-use alta_meta::MetaFault;
+use alta_machine::MetaFault;
 use std::alloc::Global;
 
 // How far behind its gate the payload of a record stands.

@@ -1,15 +1,18 @@
 // The rows of levels, to be shared with searches.
 ghost use Rattle.std.specs.Prelude.{◌≡◌, ◌++◌, map, IfOk};
 ghost use Rattle.alta_catalog.specs.Knowing.{documents_of};
-ghost use Rattle.alta_rows.specs.All.{rows_of_levels, shared_rows};
+ghost use Rattle.alta_content.specs.All.{rows_of_levels, shared_rows};
 
 use alta_content::LevelRows;
-use alta_table::Table;
+use alta_table::OpenLevel;
 use std::alloc::{AllocError, Global};
 use std::rc::Rc;
 
 /// The rows of levels, shared, with room for more.
-pub(crate) fn share_rows(alloc: Global, levels: &[Table]) -> Result<Vec<Rc<LevelRows>>, AllocError>
+pub(crate) fn share_rows(
+    alloc: Global,
+    levels: &[OpenLevel],
+) -> Result<Vec<Rc<LevelRows>>, AllocError>
     ensures { IfOk result (λ rows. map shared_rows rows.items ≡ map documents_of levels.now) }
 {
     let mut rows = Vec::with_capacity(alloc, levels.len() + 1)?;

@@ -5,15 +5,15 @@ ghost use Rattle.alta_codec.specs.Rising.{IsRising};
 ghost use Rattle.alta_codec.specs.declared.location.TheConstants.{TOP};
 ghost use Rattle.alta_content.specs.Rows.{AreDocuments, end_of as end_in};
 ghost use Rattle.alta_content.specs.declared.document.DocRow.{DocRow};
-ghost use Rattle.alta_images.specs.Opened.{table_rows};
+ghost use Rattle.alta_meaning.specs.Opened.{table_rows};
 ghost use Rattle.alta_catalog.specs.Counting.{IsTally, cells_in};
 
+use crate::Deletions;
 use crate::catalog::MARKS;
 use crate::finding::end_of;
 use alta_codec::Loc;
 use alta_content::DocRow;
-use alta_deletions::Deletions;
-use alta_table::Table;
+use alta_table::OpenLevel;
 use std::alloc::{AllocError, Global};
 
 /// The deleted ends of rising locations.
@@ -36,7 +36,7 @@ pub(crate) struct Tally {
 }
 
 /// What is counted of the live documents of levels.
-pub(crate) fn tally_levels(levels: &[Table], gone: &Deletions) -> Tally
+pub(crate) fn tally_levels(levels: &[OpenLevel], gone: &Deletions) -> Tally
     requires { cells_in (table_rows levels.now) < 2 ^ 64 }
     ensures { IsTally gone.now (table_rows levels.now) result }
 {

@@ -5,3 +5,4 @@ pub mod Name
 pub mod Numbers
 pub mod Order
 pub mod Rising
+pub mod Inequality

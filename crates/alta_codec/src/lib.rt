@@ -2,22 +2,28 @@
 //! the answer of a failed call, and the counter of steps.
 #![tactic(auto)]
 
+mod buffer;
 mod bytes;
 mod decimal;
 mod extent;
 mod failed;
+mod form;
 mod gallop;
+mod listed;
 mod location;
 mod name;
 mod number;
 mod steps;
 mod text;
 
+pub use buffer::zeros;
 pub use bytes::Bytes;
 pub use decimal::read_count;
 pub use extent::Extent;
 pub use failed::Failed;
+pub use form::Form;
 pub use gallop::{index_from, near_from};
+pub use listed::Listed;
 pub use location::{DocNumber, Loc, TOP};
 pub use name::name_ok;
 pub use number::{CodeFault, get_number, numbers_read_back, put_number};

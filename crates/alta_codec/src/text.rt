@@ -1,7 +1,7 @@
 // Owned text, which contracts see as the list of its bytes.
 ghost use Rattle.std.specs.Prelude.{◌≡◌, IfOk, string_bytes};
 
-use std::alloc::AllocError;
+use std::alloc::{AllocError, Global};
 use std::marker::Model;
 
 /// Owned text in UTF-8. Contracts see it as the list of its bytes.
@@ -24,6 +24,15 @@ impl Text {
         ensures { result ≡ string_bytes text }
     {
         Text { text }
+    }
+
+    /// An owned copy of this text.
+    pub fn of(alloc: Global, text: &str) -> Result<Text, AllocError>
+        ensures { IfOk result (λ t. t ≡ text.now) }
+    {
+        Ok(Text {
+            text: String::from_str(alloc, text)?,
+        })
     }
 
     /// The text, borrowed.

@@ -2,10 +2,10 @@
 use Rattle.std.proofs.Common.{◌≡◌, ℕ, ◌+◌, ◌<◌, ◌≤◌, Bool, true, false, ◌&&◌, ◌||◌, cond, List, [], ◌++◌, length, drop, get_or, map, refl, sym, subst, ap, ◌∙◌, append_assoc}
 use Rattle.std.specs.Prelude.{Option, Some, None, is_some}
 use Rattle.std.proofs.lemmas.List.{append-nil}
-use Rattle.alta_query.specs.Shape.{Shape, Shapes, more, none, shapes_of}
+use Rattle.alta_machine.specs.Shape.{Shape, Shapes, more, none, shapes_of}
 use Rattle.alta_query.specs.View.{shape}
 use Rattle.alta_query.specs.declared.query.Query.{Query}
-use Rattle.alta_query.specs.declared.test.Test.{Test}
+use Rattle.alta_machine.specs.declared.test.Test.{Test}
 use Rattle.alta_compile.specs.Conjoined.{word_in, word_against, listed, words_in, words_against, are_words, is_some_word, conjunction_in, each_word}
 use Rattle.alta_compile.specs.declared.asked.Conjunction.{Conjunction}
 use Rattle.alta_compile.proofs.Gathered.{drop-next, drop-none}

@@ -5,13 +5,14 @@ use Rattle.std.proofs.lemmas.Bool.{cases_lt}
 use Rattle.std.proofs.lemmas.List.{append-nil}
 use Rattle.std.proofs.lemmas.List.Elements.{All-nil, All-cons, All-append, Contains-append_left, Contains-append_right}
 use Rattle.alta_docread.specs.Solutions.{IsHeld}
-use Rattle.alta_query.specs.Patterns.{Bound, neighbours, near_pattern}
-use Rattle.alta_query.specs.declared.test.Test.{Test}
-use Rattle.alta_solver.specs.Inequality.{Inequality, IsNamed}
-use Rattle.alta_solver.specs.declared.form.Form.{Form}
-use Rattle.alta_solver.specs.declared.form.Form.TheVariants.{LocLoc, PrevLoc}
+use Rattle.alta_machine.specs.Patterns.{Bound, neighbours, near_pattern}
+use Rattle.alta_machine.specs.declared.test.Test.{Test}
+use Rattle.alta_codec.specs.Inequality.{Inequality, upper, lower}
+use Rattle.alta_solver.specs.Bounds.{IsNamed}
+use Rattle.alta_codec.specs.declared.form.Form.{Form}
+use Rattle.alta_codec.specs.declared.form.Form.TheVariants.{LocLoc, PrevLoc}
 use Rattle.alta_compile.specs.Drafted.{placed}
-use Rattle.alta_compile.specs.PlanOf.{upper, lower, held}
+use Rattle.alta_machine.specs.PlanOf.{held}
 
 abbrev row : Form → ℕ → ℕ → ℕ → ℕ → Inequality
 row form i j plus minus = record { form = form; i = i; j = j; plus = plus; minus = minus }

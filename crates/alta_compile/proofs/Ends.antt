@@ -10,7 +10,8 @@ use Rattle.alta_docread.specs.KeptLaws.{less-has, less-rises, common-has, common
 use Rattle.alta_docread.specs.SolutionLaws.{found-leads, found-rises}
 use Rattle.alta_docread.specs.TreeLaws.{union-all-rises}
 use Rattle.alta_compile.specs.Space.{Placed, IsSpace, document_end, list_of, ends_of}
-use Rattle.alta_compile.specs.Tree.{Tree, found, all_of, any_of, without, Trees, no_more, also, plan_list, plan_lists}
+use Rattle.alta_machine.specs.Plans.{Tree, found, all_of, any_of, without, Trees, no_more, also}
+use Rattle.alta_compile.specs.Listing.{plan_list, plan_lists}
 use Rattle.alta_compile.proofs.Spaces.{list-rises}
 
 common_none : (z : ℕ) → Contains (common []) z → ⊥

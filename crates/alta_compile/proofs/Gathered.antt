@@ -5,16 +5,17 @@ use Rattle.std.proofs.lemmas.Bool.Decides.{nat_tests}
 use Rattle.std.proofs.Math.Seq.{drop-cons}
 use Rattle.std.proofs.lemmas.List.{append-nil}
 use Rattle.std.proofs.lemmas.List.Elements.{All-nil, All-cons}
-use Rattle.alta_query.specs.Patterns.{Bound, Pattern, pattern_of, numbers_in}
-use Rattle.alta_query.specs.Shape.{Shape, Shapes, atom, all, any, negated, more, shapes_of}
+use Rattle.alta_machine.specs.Patterns.{Bound, Pattern, pattern_of, numbers_in}
+use Rattle.alta_machine.specs.Shape.{Shape, Shapes, atom, all, any, negated, more, shapes_of}
 use Rattle.alta_query.specs.View.{shape}
 use Rattle.alta_query.specs.declared.query.Query.{Query}
-use Rattle.alta_query.specs.declared.test.Test.{Test}
-use Rattle.alta_solver.specs.Inequality.{Inequality, IsNamed}
+use Rattle.alta_machine.specs.declared.test.Test.{Test}
+use Rattle.alta_codec.specs.Inequality.{Inequality}
+use Rattle.alta_solver.specs.Bounds.{IsNamed}
 use Rattle.alta_compile.specs.Drafted.{placed, IsAdded, IsDraftOf, is_atom, AddsMember}
-use Rattle.alta_compile.specs.Joined.{shifted, joint_pattern}
-use Rattle.alta_compile.specs.PlanOf.{held, between, found_of, atom_plan, with_pattern, with_value, atoms_in, all_plan, plan_of, plans_of, others_of}
-use Rattle.alta_compile.specs.Tree.{FoundTree, Tree, found, all_of, Trees, no_more, also, trees_of}
+use Rattle.alta_machine.specs.Joined.{shifted, joint_pattern}
+use Rattle.alta_machine.specs.PlanOf.{held, between, found_of, atom_plan, with_pattern, with_value, atoms_in, all_plan, plan_of, plans_of, others_of}
+use Rattle.alta_machine.specs.Plans.{FoundTree, Tree, found, all_of, Trees, no_more, also, trees_of}
 use Rattle.alta_compile.specs.View.{tree}
 use Rattle.alta_compile.specs.declared.draft.Draft.{Draft}
 use Rattle.alta_compile.specs.declared.plan.Plan.{Plan}

@@ -2,10 +2,10 @@
 use Rattle.std.proofs.Common.{◌≡◌, ℕ, zero, suc, ◌+◌, ◌<◌, ◌≤◌, Bool, true, false, List, [], ◌∷◌, ◌++◌, length, map, get_or, refl, sym, subst, ap, arith}
 use Rattle.std.specs.Prelude.{◌↔◌, All}
 use Rattle.std.proofs.lemmas.List.Elements.{All-nil, All-cons, All-head, All-tail}
-use Rattle.alta_query.specs.Patterns.{Bound, Pattern, AreMet, IsKept, Satisfies, neighbours, before_end, title_end, titled, phrase_pattern, lone_pattern, pattern_of}
-use Rattle.alta_query.specs.Shape.{Atom, lone, near, Lone, words, prefix, name, value}
-use Rattle.alta_query.specs.declared.test.Test.{Test}
-use Rattle.alta_compile.specs.Joined.{shifted, joint_pattern, SatisfiesEach}
+use Rattle.alta_machine.specs.Patterns.{Bound, Pattern, AreMet, IsKept, Satisfies, neighbours, before_end, title_end, titled, phrase_pattern, lone_pattern, pattern_of}
+use Rattle.alta_machine.specs.Shape.{Atom, lone, near, Lone, words, prefix, name, value}
+use Rattle.alta_machine.specs.declared.test.Test.{Test}
+use Rattle.alta_machine.specs.Joined.{shifted, joint_pattern, SatisfiesEach}
 
 abbrev Cells : Type 0
 Cells = List (List (List ℕ))

@@ -4,8 +4,8 @@ use Rattle.std.specs.Prelude.{codes}
 use Rattle.std.specs.Fmt.{decimal}
 use Rattle.std.proofs.Math.Seq.{take-append_seam}
 use Rattle.std.proofs.lemmas.List.{length-map, length-append, append-nil, at_drop_more, at_drop_all}
-use Rattle.alta_compile.specs.Explained.{count, deeper, explained_each}
-use Rattle.alta_compile.specs.Tree.{Tree, trees_of}
+use Rattle.alta_machine.specs.Explained.{count, deeper, explained_each}
+use Rattle.alta_machine.specs.Plans.{Tree, trees_of}
 use Rattle.alta_compile.specs.View.{tree}
 use Rattle.alta_compile.specs.declared.plan.Plan.{Plan}
 

@@ -2,15 +2,16 @@
 use Rattle.std.proofs.Common.{◌⊎◌, ⊎_elim, inl, inr, ℕ, length, List, [], ◌∷◌, map, sym, subst, Option, Some, None}
 use Rattle.std.specs.Prelude.{Contains, ◌↔◌, MatchOption}
 use Rattle.alta_docread.specs.KeptLaws.{less-has}
-use Rattle.alta_query.specs.Patterns.{Pattern, Satisfies, SatisfiesOne, pattern_of, numbers_in, range_pattern, value_patterns}
-use Rattle.alta_query.specs.Shape.{Atom, Shape, Shapes, atom, all, any, negated, none, more}
-use Rattle.alta_query.specs.Matches.{Matches, AllMatch, AnyMatches}
-use Rattle.alta_range.specs.Covers.{cover_of}
-use Rattle.alta_range.specs.declared.range.Range.{Range}
+use Rattle.alta_machine.specs.Patterns.{Pattern, Satisfies, SatisfiesOne, pattern_of, numbers_in, range_pattern, value_patterns}
+use Rattle.alta_machine.specs.Shape.{Atom, Shape, Shapes, atom, all, any, negated, none, more}
+use Rattle.alta_machine.specs.Matches.{Matches, AllMatch, AnyMatches}
+use Rattle.alta_machine.specs.Covers.{cover_of}
+use Rattle.alta_machine.specs.declared.range.Range.{Range}
 use Rattle.alta_compile.specs.Space.{Placed, IsSpace, end_of, ends_of}
-use Rattle.alta_compile.specs.Joined.{joint_pattern, SatisfiesEach}
-use Rattle.alta_compile.specs.Tree.{Tree, found, all_of, any_of, without, Trees, no_more, also, trees_of, plan_list, plan_lists}
-use Rattle.alta_compile.specs.PlanOf.{found_of, range_plan, either_of, atom_plan, with_pattern, with_value, atoms_in, all_plan, plan_of, plans_of, others_of}
+use Rattle.alta_machine.specs.Joined.{joint_pattern, SatisfiesEach}
+use Rattle.alta_machine.specs.Plans.{Tree, found, all_of, any_of, without, Trees, no_more, also, trees_of}
+use Rattle.alta_compile.specs.Listing.{plan_list, plan_lists}
+use Rattle.alta_machine.specs.PlanOf.{found_of, range_plan, either_of, atom_plan, with_pattern, with_value, atoms_in, all_plan, plan_of, plans_of, others_of}
 use Rattle.alta_compile.proofs.Joins.{AreNamed, EachNamed, joined_satisfies, joined_named, pattern_named}
 use Rattle.alta_compile.proofs.Parts.{common-both, union-nil, union-both, common-one}
 use Rattle.alta_compile.proofs.Spaces.{Has, end-in}

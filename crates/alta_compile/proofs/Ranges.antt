@@ -1,9 +1,9 @@
 -- Plans of ranges, one after the other.
 use Rattle.std.proofs.Common.{◌≡◌, ℕ, ◌+◌, ◌<◌, ◌≤◌, List, [], ◌∷◌, ◌++◌, length, drop, get_or, map, refl, sym, ap, ◌∙◌, arith}
 use Rattle.std.proofs.lemmas.List.{append_assoc, append-nil, at_drop_more, at_drop_all, map-append}
-use Rattle.alta_range.specs.declared.range.Range.{Range}
-use Rattle.alta_compile.specs.PlanOf.{either_of, range_plan}
-use Rattle.alta_compile.specs.Tree.{any_of, trees_of, Tree}
+use Rattle.alta_machine.specs.declared.range.Range.{Range}
+use Rattle.alta_machine.specs.PlanOf.{either_of, range_plan}
+use Rattle.alta_machine.specs.Plans.{any_of, trees_of, Tree}
 use Rattle.alta_compile.specs.View.{tree}
 use Rattle.alta_compile.specs.declared.plan.Plan.{Plan}
 

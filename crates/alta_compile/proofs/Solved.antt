@@ -5,14 +5,14 @@ use Rattle.std.proofs.lemmas.Bool.{cases_lt}
 use Rattle.std.proofs.lemmas.List.{length-map}
 use Rattle.std.proofs.lemmas.List.Elements.{All-nil, All-cons, All-head, All-tail}
 use Rattle.alta_codec.specs.Rising.{IsPlace, pred_of}
-use Rattle.alta_query.specs.Patterns.{Bound, Pattern, AreMet, Satisfies}
-use Rattle.alta_query.specs.declared.test.Test.{Test}
-use Rattle.alta_solver.specs.Inequality.{Inequality}
+use Rattle.alta_machine.specs.Patterns.{Bound, Pattern, AreMet, Satisfies}
+use Rattle.alta_machine.specs.declared.test.Test.{Test}
+use Rattle.alta_codec.specs.Inequality.{Inequality, upper, lower}
 use Rattle.alta_solver.specs.Solution.{list_at, MeetsBound, IsSolution}
 use Rattle.alta_docread.specs.Solutions.{found_list, Leads}
 use Rattle.alta_docread.specs.SolutionLaws.{found-leads, leads-found}
 use Rattle.alta_compile.specs.Space.{Placed, end_of, list_of, ends_of, IsSpace}
-use Rattle.alta_compile.specs.PlanOf.{upper, lower, held, between, found_of}
+use Rattle.alta_machine.specs.PlanOf.{held, between, found_of}
 use Rattle.alta_compile.proofs.Joins.{AreKept, AreNamed, Meets, meets_satisfies}
 use Rattle.alta_compile.proofs.Spaces.{Has, HasAt, at_met, met_at, apart_one, at_within, has-list, end-in, before, within}
 

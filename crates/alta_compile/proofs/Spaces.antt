@@ -7,8 +7,8 @@ use Rattle.alta_codec.specs.Rising.{IsRising, pred_of}
 use Rattle.alta_codec.proofs.Places.{Contains-head, Contains-tail, Contains-cases, not-Contains-nil, pred_of-place, pred_of-below, pred_of-greatest}
 use Rattle.alta_compound.specs.Unions.{RisesAbove, rising_from_above}
 use Rattle.alta_docread.specs.KeptLaws.{true_or_false}
-use Rattle.alta_query.specs.Patterns.{meets, IsMet}
-use Rattle.alta_query.specs.declared.test.Test.{Test}
+use Rattle.alta_machine.specs.Patterns.{meets, IsMet}
+use Rattle.alta_machine.specs.declared.test.Test.{Test}
 use Rattle.alta_compile.specs.Space.{Placed, past, end_of, AreApart, document_end, locations, list_of, ends_of, IsSpace}
 
 -- the document is one of the space, by recursion

@@ -11,21 +11,21 @@ use Rattle.std.proofs.lemmas.Nat.{mod_below, from_be_bytes-to_be_bytes_4}
 use Rattle.std.proofs.Math.Pow.{pow_mono}
 use Rattle.std.proofs.lemmas.Str.{IsUtf8-append, IsUtf8-from_ascii, IsUtf8-nil}
 use Rattle.std.proofs.lemmas.Str.Ascii.{IsAscii-from_all}
-use Rattle.alta_query.specs.Patterns.{Pattern, pattern_of, numbers_in, range_test}
-use Rattle.alta_query.specs.Shape.{Shape, Shapes, atom, all, any, negated, none, more}
+use Rattle.alta_machine.specs.Patterns.{Pattern, pattern_of, numbers_in, range_test}
+use Rattle.alta_machine.specs.Shape.{Shape, Shapes, atom, all, any, negated, none, more}
 use Rattle.alta_query.specs.Texts.{HasTextTerm, HasTextTerms, HaveTextTerms}
-use Rattle.alta_query.specs.declared.test.Test.{Test}
-use Rattle.alta_query.specs.declared.test.Test.TheVariants.{Is, Begins}
-use Rattle.alta_range.specs.Covers.{IsRange, cover_of}
-use Rattle.alta_range.specs.Terms.{term_bytes}
-use Rattle.alta_range.specs.declared.range.Range.{Range}
-use Rattle.alta_solver.specs.Inequality.{Inequality}
-use Rattle.alta_solver.specs.declared.form.Form.{Form}
-use Rattle.alta_solver.specs.declared.form.Form.TheVariants.{LocLoc, PrevLoc, LocPrev, PrevPrev}
-use Rattle.alta_compile.specs.Explained.{low_letter, high_letter, constant, bound_line, bound_lines, is_range_term, range_text, test_text, tests_text, count, deeper, explained, explained_each}
-use Rattle.alta_compile.specs.Joined.{joint_pattern}
-use Rattle.alta_compile.specs.PlanOf.{range_plan, either_of, atom_plan, with_pattern, with_value, plan_of, plans_of, others_of, atoms_in, all_plan}
-use Rattle.alta_compile.specs.Tree.{Tree, found, all_of, any_of, without, Trees, no_more, also, trees_of}
+use Rattle.alta_machine.specs.declared.test.Test.{Test}
+use Rattle.alta_machine.specs.declared.test.Test.TheVariants.{Is, Begins}
+use Rattle.alta_machine.specs.Covers.{IsRange, cover_of}
+use Rattle.alta_machine.specs.Terms.{term_bytes}
+use Rattle.alta_machine.specs.declared.range.Range.{Range}
+use Rattle.alta_codec.specs.Inequality.{Inequality}
+use Rattle.alta_codec.specs.declared.form.Form.{Form}
+use Rattle.alta_codec.specs.declared.form.Form.TheVariants.{LocLoc, PrevLoc, LocPrev, PrevPrev}
+use Rattle.alta_machine.specs.Explained.{low_letter, high_letter, constant, bound_line, bound_lines, is_range_term, range_text, test_text, tests_text, count, deeper, explained, explained_each}
+use Rattle.alta_machine.specs.Joined.{joint_pattern}
+use Rattle.alta_machine.specs.PlanOf.{range_plan, either_of, atom_plan, with_pattern, with_value, plan_of, plans_of, others_of, atoms_in, all_plan}
+use Rattle.alta_machine.specs.Plans.{Tree, found, all_of, any_of, without, Trees, no_more, also, trees_of}
 
 -- a number in digits is ASCII
 glyph_low : (d : ℕ) → d < 10 → digit_glyph false d < 128

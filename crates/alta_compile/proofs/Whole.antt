@@ -2,16 +2,16 @@
 use Rattle.std.proofs.Common.{ℕ, ◌^◌, ◌<◌, ◌≤◌, List, [], ◌∷◌, ◌++◌, length, map, subst, sym, arith, length-append, Option, Some, None}
 use Rattle.std.specs.Prelude.{All, MatchOption}
 use Rattle.std.proofs.lemmas.List.Elements.{All-nil, All-cons, All-head, All-tail, All-push}
-use Rattle.alta_query.specs.Grammar.{IsUnary, alone, two_sides, behind_not, in_parens, IsAnd, first_unary, beside_and, behind_and, IsOr, first_and, behind_or, Reads}
-use Rattle.alta_query.specs.Matches.{HasOrderedValues, HaveOrderedValues}
-use Rattle.alta_query.specs.Patterns.{Pattern, pattern_of, numbers_in}
-use Rattle.alta_query.specs.Shape.{Shape, Shapes, atom, all, any, negated, none, more, shapes_of, all_of as all_shape, any_of as any_shape}
-use Rattle.alta_query.specs.Token.{Token}
-use Rattle.alta_compile.specs.PlanOf.{range_plan, either_of, atom_plan, with_value, plan_of, plans_of, others_of, atoms_in, all_plan}
-use Rattle.alta_range.specs.Covers.{Covers, cover_of}
-use Rattle.alta_range.specs.declared.range.Range.{Range}
-use Rattle.alta_range.proofs.Made.{cover_covers}
-use Rattle.alta_compile.specs.Tree.{Trees, no_more, also, trees_of}
+use Rattle.alta_machine.specs.Grammar.{IsUnary, alone, two_sides, behind_not, in_parens, IsAnd, first_unary, beside_and, behind_and, IsOr, first_and, behind_or, Reads}
+use Rattle.alta_machine.specs.Matches.{HasOrderedValues, HaveOrderedValues}
+use Rattle.alta_machine.specs.Patterns.{Pattern, pattern_of, numbers_in}
+use Rattle.alta_machine.specs.Shape.{Shape, Shapes, atom, all, any, negated, none, more, shapes_of, all_of as all_shape, any_of as any_shape}
+use Rattle.alta_machine.specs.Token.{Token}
+use Rattle.alta_machine.specs.PlanOf.{range_plan, either_of, atom_plan, with_value, plan_of, plans_of, others_of, atoms_in, all_plan}
+use Rattle.alta_machine.specs.Covers.{Covers, cover_of}
+use Rattle.alta_machine.specs.declared.range.Range.{Range}
+use Rattle.alta_machine.proofs.Made.{cover_covers}
+use Rattle.alta_machine.specs.Plans.{Trees, no_more, also, trees_of}
 use Rattle.alta_compile.specs.Whole.{IsWhole, AreWhole}
 
 -- each And and each Or has a member

@@ -1,10 +1,10 @@
 -- What it is to add a pattern to a draft, and which members of an and are atoms, but for values.
 use Rattle.std.specs.Prelude.{◌≡◌, ℕ, Bool, true, false, ◌++◌, map, length, is_none, MatchOption}
-use Rattle.alta_query.specs.Patterns.{Bound, Pattern, pattern_of, numbers_in}
-use Rattle.alta_query.specs.Shape.{Atom, Shape, atom, all, any, negated}
-use Rattle.alta_solver.specs.Inequality.{Inequality}
-use Rattle.alta_compile.specs.Joined.{shifted}
-use Rattle.alta_compile.specs.PlanOf.{between}
+use Rattle.alta_machine.specs.Patterns.{Bound, Pattern, pattern_of, numbers_in}
+use Rattle.alta_machine.specs.Shape.{Atom, Shape, atom, all, any, negated}
+use Rattle.alta_codec.specs.Inequality.{Inequality}
+use Rattle.alta_machine.specs.Joined.{shifted}
+use Rattle.alta_machine.specs.PlanOf.{between}
 use Rattle.alta_compile.specs.declared.draft.Draft.{Draft}
 
 -- a bound between places behind n others, as one between variables

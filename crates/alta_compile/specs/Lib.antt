@@ -1,9 +1,6 @@
 pub mod Conjoined
 pub mod Drafted
-pub mod Explained
-pub mod Joined
-pub mod PlanOf
 pub mod Space
-pub mod Tree
 pub mod View
 pub mod Whole
+pub mod Listing

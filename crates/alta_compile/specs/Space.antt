@@ -1,10 +1,10 @@
 -- Spaces of documents, and the locations in them whose cells meet a test.
 use Rattle.std.specs.Prelude.{◌≡◌, ◌↔◌, ℕ, ◌+◌, ◌-◌, ◌<◌, ◌≤◌, cond, List, [], ◌∷◌, ◌++◌, length, Contains}
 use Rattle.alta_codec.specs.declared.location.TheConstants.{TOP}
-use Rattle.alta_meta.specs.declared.kinds.TheConstants.{DOCUMENT_END}
-use Rattle.alta_query.specs.Patterns.{meets, IsMet}
-use Rattle.alta_query.specs.declared.test.Test.{Test}
-use Rattle.alta_query.specs.declared.test.Test.TheVariants.{Is}
+use Rattle.alta_machine.specs.declared.kinds.TheConstants.{DOCUMENT_END}
+use Rattle.alta_machine.specs.Patterns.{meets, IsMet}
+use Rattle.alta_machine.specs.declared.test.Test.{Test}
+use Rattle.alta_machine.specs.declared.test.Test.TheVariants.{Is}
 
 -- a document in a space: the location of its first cell, and its cells
 pub record Placed : Type 0 where

@@ -1,5 +1,5 @@
 -- The tree of a plan.
-use Rattle.alta_compile.specs.Tree.{Tree, found, all_of, any_of, without, trees_of}
+use Rattle.alta_machine.specs.Plans.{Tree, found, all_of, any_of, without, trees_of}
 use Rattle.alta_compile.specs.declared.plan.Plan.{Plan, fold-Plan}
 use Rattle.alta_compile.specs.declared.plan.Plan.TheOpen.{Plan-F}
 

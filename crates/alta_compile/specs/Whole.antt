@@ -1,5 +1,5 @@
 -- Plans in which nothing is empty.
-use Rattle.alta_compile.specs.Tree.{Tree, found, all_of, any_of, without, Trees, no_more, also}
+use Rattle.alta_machine.specs.Plans.{Tree, found, all_of, any_of, without, Trees, no_more, also}
 
 -- there is a part
 abbrev pub HasPart : Trees → Type 0

@@ -1,5 +1,5 @@
 // The words that a conjunction asks for.
-use alta_query::Tests;
+use alta_machine::Tests;
 
 /// The words of a conjunction, one at least, and the words that it is against.
 #[derive(Drop)]

@@ -1,17 +1,18 @@
 // From query to plan.
 ghost use Rattle.std.specs.Prelude.{◌≡◌, ◌↔◌, List, [], ◌∷◌, map, IfOk, OnOk, All, Contains};
-ghost use Rattle.alta_query.specs.Matches.{IsWellFormed, Matches};
-ghost use Rattle.alta_query.specs.Patterns.{pattern_of, numbers_in, phrase_pattern, range_pattern};
-ghost use Rattle.alta_query.specs.Shape.{all, shapes_of};
+ghost use Rattle.alta_machine.specs.Matches.{IsWellFormed, Matches};
+ghost use Rattle.alta_machine.specs.Patterns.{pattern_of, numbers_in, phrase_pattern, range_pattern};
+ghost use Rattle.alta_machine.specs.Shape.{all, shapes_of};
 ghost use Rattle.alta_query.specs.View.{shape, atom_view};
-ghost use Rattle.alta_query.specs.declared.test.Test.TheVariants.{Is};
-ghost use Rattle.alta_range.specs.Covers.{IsRange, cover_of};
+ghost use Rattle.alta_machine.specs.declared.test.Test.TheVariants.{Is};
+ghost use Rattle.alta_machine.specs.Covers.{IsRange, cover_of};
 ghost use Rattle.alta_compile.specs.Drafted.{AddsAtom, AddsMember, IsDraftOf, is_atom};
-ghost use Rattle.alta_compile.specs.Joined.{joint_pattern};
-ghost use Rattle.alta_compile.specs.PlanOf.{plan_of, plans_of, others_of, atoms_in, found_of, atom_plan, either_of, range_plan};
+ghost use Rattle.alta_machine.specs.Joined.{joint_pattern};
+ghost use Rattle.alta_machine.specs.PlanOf.{plan_of, plans_of, others_of, atoms_in, found_of, atom_plan, either_of, range_plan};
 ghost use Rattle.alta_compile.specs.Space.{Placed, IsSpace, end_of};
-ghost use Rattle.alta_compile.specs.Tree as spec;
-ghost use Rattle.alta_compile.specs.Tree.{plan_list, trees_of};
+ghost use Rattle.alta_machine.specs.Plans as spec;
+ghost use Rattle.alta_compile.specs.Listing.{plan_list};
+ghost use Rattle.alta_machine.specs.Plans.{trees_of};
 ghost use Rattle.alta_compile.specs.View.{tree};
 ghost use Rattle.alta_compile.specs.Whole.{IsWhole};
 
@@ -19,8 +20,8 @@ use crate::draft::Draft;
 use crate::laws::{a_plan_is_whole, finds_what_matches};
 use crate::plan::{FoundPlan, Plan, Plans};
 use alta_codec::Bytes;
+use alta_machine::{Range, cover, range_term};
 use alta_query::{Atom, Query};
-use alta_range::{Range, cover, range_term};
 use std::alloc::{AllocError, Global};
 
 /// The plan of a query: an atom is a Found of its own, the atoms of an And are one Found together, an Or is an AnyOf of

@@ -1,12 +1,13 @@
 // Queries that are conjunctions of words and negated words, alternatives of words, a word in titles, or a stem.
 ghost use Rattle.std.specs.Prelude.{◌≡◌, ◌||◌, [], ◌∷◌, ◌++◌, cond, is_some, map, IfOk, OnOk};
 ghost use Rattle.std.specs.Option.{option_copied};
-ghost use Rattle.alta_query.specs.Shape.{shapes_of};
+ghost use Rattle.alta_machine.specs.Shape.{shapes_of};
 ghost use Rattle.alta_query.specs.View.{shape, atom_view};
 ghost use Rattle.alta_compile.specs.Conjoined.{atom_word, word_in, word_against, listed, only, is_some_word, conjunction_in, conjunction_of, each_word, is_either, atom_titled, titled_word, atom_stem, stem_in};
 
 use crate::asked::Conjunction;
-use alta_query::{Atom, Query, Test, Tests};
+use alta_machine::{Test, Tests};
+use alta_query::{Atom, Query};
 use std::alloc::{AllocError, Global};
 use std::slice;
 

@@ -1,19 +1,21 @@
 // What a list of atoms asks for, gathered atom by atom.
 ghost use Rattle.std.specs.Prelude.{◌≡◌, ℕ, suc, ◌+◌, ◌<◌, ◌≤◌, List, [], ◌∷◌, ◌++◌, map, length, IfOk, OnOk};
 ghost use Rattle.alta_docread.specs.Solutions.{IsHeld};
-ghost use Rattle.alta_query.specs.Patterns.{neighbours, before_end, title_end, near_pattern, phrase_pattern, titled, pattern_of};
+ghost use Rattle.alta_machine.specs.Patterns.{neighbours, before_end, title_end, near_pattern, phrase_pattern, titled, pattern_of};
 ghost use Rattle.alta_query.specs.View.{atom_view};
-ghost use Rattle.alta_query.specs.declared.test.Test.TheVariants.{Is};
-ghost use Rattle.alta_solver.specs.Inequality.{IsNamed};
-ghost use Rattle.alta_solver.specs.declared.form.Form.TheVariants.{LocLoc};
+ghost use Rattle.alta_machine.specs.declared.test.Test.TheVariants.{Is};
+ghost use Rattle.alta_solver.specs.Bounds.{IsNamed};
+ghost use Rattle.alta_codec.specs.declared.form.Form.TheVariants.{LocLoc};
 ghost use Rattle.alta_compile.specs.Drafted.{IsAdded, placed};
-ghost use Rattle.alta_compile.specs.PlanOf.{upper, lower, held};
+ghost use Rattle.alta_codec.specs.Inequality.{upper, lower};
+ghost use Rattle.alta_machine.specs.PlanOf.{held};
 
 use crate::plan::FoundPlan;
-use alta_codec::Bytes;
-use alta_meta::kinds::{NAME, TITLE_END, term};
-use alta_query::{Atom, Test, Tests};
-use alta_solver::{Bound, Form, System};
+use alta_codec::{Bytes, Form};
+use alta_machine::kinds::{NAME, TITLE_END, term};
+use alta_machine::{Test, Tests};
+use alta_query::Atom;
+use alta_solver::{Bound, System};
 use std::alloc::{AllocError, Global};
 use std::slice;
 

@@ -5,15 +5,15 @@ ghost use Rattle.std.specs.Int.{w32, from_be_bytes};
 ghost use Rattle.std.specs.List.{starts_with};
 ghost use Rattle.std.specs.Str.{IsUtf8};
 ghost use Rattle.std.specs.Str.Lossy.{utf8_lossy};
-ghost use Rattle.alta_compile.specs.Explained as spec;
-ghost use Rattle.alta_compile.specs.Explained.{explained, explained_each, tests_text, test_text, term_text, range_text, deeper};
-ghost use Rattle.alta_compile.specs.Tree.{trees_of, found, all_of, any_of, without};
+ghost use Rattle.alta_machine.specs.Explained as spec;
+ghost use Rattle.alta_machine.specs.Explained.{explained, explained_each, tests_text, test_text, term_text, range_text, deeper};
+ghost use Rattle.alta_machine.specs.Plans.{trees_of, found, all_of, any_of, without};
 ghost use Rattle.alta_compile.specs.View.{tree};
 
 use crate::plan::{FoundPlan, Plan};
-use alta_codec::Text;
-use alta_query::Test;
-use alta_solver::{Bound, Form};
+use alta_codec::{Form, Text};
+use alta_machine::Test;
+use alta_solver::Bound;
 use itoa::Buffer;
 use std::alloc::{AllocError, Global};
 

@@ -1,9 +1,9 @@
 // Plans.
 ghost use Rattle.std.specs.Prelude.{◌≡◌, suc, length};
 ghost use Rattle.alta_docread.specs.Solutions.{IsHeld};
-ghost use Rattle.alta_solver.specs.Inequality.{IsNamed};
+ghost use Rattle.alta_solver.specs.Bounds.{IsNamed};
 
-use alta_query::Tests;
+use alta_machine::Tests;
 use alta_solver::System;
 use std::marker::Model;
 
@@ -19,8 +19,8 @@ pub struct FoundPlan {
 impl Model for FoundPlan {
     ghost use Rattle.std.specs.Prelude.{suc, length};
     ghost use Rattle.alta_docread.specs.Solutions.{IsHeld};
-    ghost use Rattle.alta_solver.specs.Inequality.{IsNamed};
-    ghost use Rattle.alta_compile.specs.Tree.{FoundTree};
+    ghost use Rattle.alta_solver.specs.Bounds.{IsNamed};
+    ghost use Rattle.alta_machine.specs.Plans.{FoundTree};
 
     ghost Value = { FoundTree };
 

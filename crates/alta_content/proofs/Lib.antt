@@ -14,3 +14,5 @@ pub mod Rises
 pub mod Searches
 pub mod SideBySide
 pub mod Walks
+pub mod Behind
+pub mod Levels

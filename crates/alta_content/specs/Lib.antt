@@ -9,3 +9,4 @@ pub mod Rows
 pub mod Runs
 pub mod Spans
 pub mod TermList
+pub mod All

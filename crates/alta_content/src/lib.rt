@@ -1,22 +1,29 @@
 //! What a level has: its document rows, and for each term the rising list of the locations that hold it; and what several
 //! contents make up, without the documents that are deleted.
+//! The rows of documents, shared by level, and found by where a document ends.
 #![tactic(auto)]
 
+mod all;
 mod content;
 mod document;
 mod laws;
 mod level;
 mod packing;
+mod row_runs;
 mod rows;
 mod runs;
 mod spans;
 mod term_lists;
+mod walk;
 
+pub use all::AllRows;
 pub use content::Content;
 pub use document::DocRow;
 pub use laws::joins_keep_contents;
 pub use level::{LevelRows, ends_of};
+pub use row_runs::RowRuns;
 pub use rows::DocRows;
 pub use runs::{Runs, runs_of};
 pub use spans::{Span, keep_locations, keep_rows, put_locations, spans_of};
 pub use term_lists::TermLists;
+pub use walk::RowWalk;

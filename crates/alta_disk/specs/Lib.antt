@@ -9,3 +9,4 @@ pub mod Memory
 pub mod Parts
 pub mod Untold
 pub mod Writes
+pub mod Answers

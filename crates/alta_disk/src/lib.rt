@@ -3,18 +3,22 @@
 
 mod disk;
 mod event;
+mod fault;
 mod file;
 mod fuse;
 mod laws;
 mod memory;
+mod parts;
 mod rebuilt;
 mod synced;
 mod written;
 
 pub use alta_codec::Failed;
 pub use disk::Disk;
+pub use fault::LoadFault;
 pub use file::FileDisk;
 pub use fuse::FuseDisk;
 pub use laws::images_keep_the_firm_bytes;
 pub use memory::MemoryDisk;
+pub use parts::read_part;
 pub use synced::{write_in_order, write_synced};

@@ -8,7 +8,7 @@ use Rattle.std.proofs.lemmas.List.Elements.{All-head, All-tail}
 use Rattle.alta_codec.specs.Rising.{count_from}
 use Rattle.alta_codec.proofs.Places.{count_from-mono}
 use Rattle.alta_compound.specs.Same.{count_from-append, count_from-nil}
-use Rattle.alta_solver.specs.Inequality.{Inequality}
+use Rattle.alta_codec.specs.Inequality.{Inequality}
 use Rattle.alta_solver.specs.Solution.{IsSolution}
 use Rattle.alta_docread.specs.Solutions.{IsHeld}
 use Rattle.alta_docread.specs.SolutionLaws.{solution_below}

@@ -7,7 +7,7 @@ use Rattle.alta_codec.specs.declared.location.TheConstants.{TOP}
 use Rattle.alta_codec.specs.Rising.{first_from}
 use Rattle.alta_compound.specs.Same.{in_union}
 use Rattle.alta_compound.specs.Union.{union_of, least_of}
-use Rattle.alta_solver.specs.Inequality.{Inequality}
+use Rattle.alta_codec.specs.Inequality.{Inequality}
 use Rattle.alta_solver.specs.Solution.{list_at}
 use Rattle.alta_solver.proofs.Raised.{first_from-le_place}
 use Rattle.alta_docread.specs.Kept.{less, common}

@@ -6,7 +6,7 @@ use Rattle.std.proofs.lemmas.List.{get_or-set_same}
 use Rattle.alta_codec.specs.declared.location.TheConstants.{TOP}
 use Rattle.alta_codec.specs.Rising.{IsRising, first_from, count_from}
 use Rattle.alta_codec.proofs.Places.{first_from-above, first_from-is, first_from-le_top}
-use Rattle.alta_solver.specs.Inequality.{Inequality}
+use Rattle.alta_codec.specs.Inequality.{Inequality}
 use Rattle.alta_solver.specs.Solution.{list_at, IsSolution, IsAtLeast, IsLeast}
 use Rattle.alta_solver.proofs.Raised.{set_at_least, first_from-le_place}
 use Rattle.alta_docread.specs.Solutions.{found_list, IsHeld, IsReadyFrom, Walk, IsWalking, IsSoundWalk, IsWalked}

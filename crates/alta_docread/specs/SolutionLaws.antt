@@ -8,8 +8,8 @@ use Rattle.std.proofs.lemmas.Bool.{cases_lt}
 use Rattle.alta_codec.specs.declared.location.TheConstants.{TOP}
 use Rattle.alta_codec.specs.Rising.{IsRising, IsPlace, pred_of}
 use Rattle.alta_codec.proofs.Places.{Contains-head, Contains-tail, Contains-cases, not-Contains-nil, pred_of-greatest}
-use Rattle.alta_solver.specs.Inequality.{Inequality}
-use Rattle.alta_solver.specs.declared.form.Form.TheVariants.{LocLoc, PrevLoc}
+use Rattle.alta_codec.specs.Inequality.{Inequality}
+use Rattle.alta_codec.specs.declared.form.Form.TheVariants.{LocLoc, PrevLoc}
 use Rattle.alta_solver.specs.Solution.{low_side, high_side, list_at, MeetsBound, IsSolution}
 use Rattle.alta_docread.specs.KeptLaws.{true_or_false, filter-has, filter-keeps, filter-rises}
 use Rattle.alta_docread.specs.Solutions.{some_row, keeps_all, leads, found_list, Leads, IsHeld, Walk, walk_list, IsSoundWalk}

@@ -3,8 +3,8 @@ use Rattle.std.specs.Prelude.{◌≡◌, ◌⊎◌, ℕ, ◌+◌, ◌<◌, ◌�
 use Rattle.std.specs.List.{concat, filter, list_all, list_any}
 use Rattle.alta_codec.specs.declared.location.TheConstants.{TOP}
 use Rattle.alta_codec.specs.Rising.{IsRising, first_from, count_from}
-use Rattle.alta_solver.specs.Inequality.{Inequality}
-use Rattle.alta_solver.specs.declared.form.Form.TheVariants.{LocLoc, PrevLoc}
+use Rattle.alta_codec.specs.Inequality.{Inequality}
+use Rattle.alta_codec.specs.declared.form.Form.TheVariants.{LocLoc, PrevLoc}
 use Rattle.alta_solver.specs.Solution.{low_side, high_side, list_at, IsSolution, IsAtLeast}
 
 -- whether the test passes some row of one place of each list, or TOP

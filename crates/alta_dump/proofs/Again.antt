@@ -4,19 +4,19 @@ use Rattle.std.specs.Prelude.{IsSome}
 use Rattle.std.specs.List.{All}
 use Rattle.std.proofs.lemmas.Bool.{eqb-false}
 use Rattle.std.proofs.lemmas.List.Elements.{All-head, All-tail}
-use Rattle.alta_meta.specs.Cells.{cell_holds, cell_begins}
-use Rattle.alta_meta.specs.States.{name_of}
-use Rattle.alta_meta.specs.declared.document.Document.{Document}
-use Rattle.alta_meta.specs.declared.kinds.TheConstants.{WORD, WRITTEN, NAME, TITLE_END}
-use Rattle.alta_model.specs.Deciding.{answers, is_match}
-use Rattle.alta_query.specs.Shape.{Shape}
-use Rattle.alta_query.specs.declared.test.Test.{Test}
-use Rattle.alta_query.specs.declared.test.Test.TheVariants.{Is, Begins}
+use Rattle.alta_machine.specs.Cells.{cell_holds, cell_begins}
+use Rattle.alta_machine.specs.States.{name_of}
+use Rattle.alta_machine.specs.declared.document.Document.{Document}
+use Rattle.alta_machine.specs.declared.kinds.TheConstants.{WORD, WRITTEN, NAME, TITLE_END}
+use Rattle.alta_machine.specs.Deciding.{answers, is_match}
+use Rattle.alta_machine.specs.Shape.{Shape}
+use Rattle.alta_machine.specs.declared.test.Test.{Test}
+use Rattle.alta_machine.specs.declared.test.Test.TheVariants.{Is, Begins}
 use Rattle.alta_dump.specs.Asked.{HasTests, IsForFolding, AsksForFoldings}
-use Rattle.alta_dump.specs.Dumps.{added_from}
+use Rattle.alta_machine.specs.Dumps.{added_from}
 use Rattle.alta_dump.specs.Names.{HasItsName}
-use Rattle.alta_dump.specs.Lines.{title_text, body_text, cells_again, line_of, IsLineOf}
-use Rattle.alta_dump.specs.Plain.{of_kind, ends_title}
+use Rattle.alta_machine.specs.DumpLines.{title_text, body_text, cells_again, line_of, IsLineOf}
+use Rattle.alta_machine.specs.Plain.{of_kind, ends_title}
 use Rattle.alta_dump.proofs.Decided.{has_some}
 use Rattle.alta_dump.proofs.OfKind.{holds_same, begins_same}
 use Rattle.alta_dump.proofs.Named.{added_has_its_name, same_names}

@@ -6,20 +6,20 @@ use Rattle.std.specs.Str.{bytes_eq}
 use Rattle.std.proofs.lemmas.List.Elements.{All-nil, All-cons, All-head, All-tail, All-push}
 use Rattle.alta_codec.specs.Decimal.{is_count, value_of}
 use Rattle.alta_codec.specs.Name.{is_name}
-use Rattle.alta_meta.specs.declared.kinds.TheConstants.{WORD, WRITTEN, NAME, TITLE_END}
-use Rattle.alta_query.specs.Grammar.{IsUnary, alone, two_sides, behind_not, in_parens, IsAnd, first_unary, beside_and, behind_and, IsOr, first_and, behind_or, Reads}
-use Rattle.alta_query.specs.Patterns.{Pattern, lone_numbers, lone_pattern, phrase_pattern, range_test, titled, title_end, test_of}
-use Rattle.alta_range.specs.Covers.{cover_of}
-use Rattle.alta_range.specs.Numbers.{number_in}
-use Rattle.alta_range.specs.Terms.{term_bytes}
-use Rattle.alta_range.specs.declared.range.Range.{Range}
-use Rattle.alta_query.specs.Shape.{Lone, words, prefix, name, value, Side, Shape, shapes_of, all_of, any_of}
-use Rattle.alta_query.specs.Spots.{is_blank, is_solid, is_quote, is_run, words_token, prefix_token, plain_token, name_token, near_token, is_undotted, ordered, value_token, run_token, quoted_token, is_quoted_title, first_token, first_len, spots_from, spots}
-use Rattle.alta_query.specs.Token.{Token, open_paren, close_paren, and_word, or_word, not_word, near_word, operand, faulty, side_of, at, tokens_of}
-use Rattle.alta_query.specs.Words.{has_words, tests_of, is_stem, stem_test, word_term, word_test, name_test}
-use Rattle.alta_query.specs.declared.fault.Cause.TheVariants as cause
-use Rattle.alta_query.specs.declared.test.Test.{Test}
-use Rattle.alta_query.specs.declared.test.Test.TheVariants.{Is, Begins}
+use Rattle.alta_machine.specs.declared.kinds.TheConstants.{WORD, WRITTEN, NAME, TITLE_END}
+use Rattle.alta_machine.specs.Grammar.{IsUnary, alone, two_sides, behind_not, in_parens, IsAnd, first_unary, beside_and, behind_and, IsOr, first_and, behind_or, Reads}
+use Rattle.alta_machine.specs.Patterns.{Pattern, lone_numbers, lone_pattern, phrase_pattern, range_test, titled, title_end, test_of}
+use Rattle.alta_machine.specs.Covers.{cover_of}
+use Rattle.alta_machine.specs.Numbers.{number_in}
+use Rattle.alta_machine.specs.Terms.{term_bytes}
+use Rattle.alta_machine.specs.declared.range.Range.{Range}
+use Rattle.alta_machine.specs.Shape.{Lone, words, prefix, name, value, Side, Shape, shapes_of, all_of, any_of}
+use Rattle.alta_machine.specs.Spots.{is_blank, is_solid, is_quote, is_run, words_token, prefix_token, plain_token, name_token, near_token, is_undotted, ordered, value_token, run_token, quoted_token, is_quoted_title, first_token, first_len, spots_from, spots}
+use Rattle.alta_machine.specs.Token.{Token, open_paren, close_paren, and_word, or_word, not_word, near_word, operand, faulty, side_of, at, tokens_of}
+use Rattle.alta_machine.specs.Words.{has_words, tests_of, is_stem, stem_test, word_term, word_test, name_test}
+use Rattle.alta_machine.specs.declared.cause.Cause.TheVariants as cause
+use Rattle.alta_machine.specs.declared.test.Test.{Test}
+use Rattle.alta_machine.specs.declared.test.Test.TheVariants.{Is, Begins}
 use Rattle.alta_text.specs.Words.{words_of, folded_of}
 use Rattle.alta_dump.specs.Asked.{HasTests, HaveTests, tests_among}
 

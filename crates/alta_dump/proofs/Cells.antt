@@ -14,8 +14,8 @@ use Rattle.alta_gather.proofs.Marking.{contains_has, has_contains}
 use Rattle.alta_memlevel.specs.Added.{Added, IsSpace, list_of}
 use Rattle.alta_memlevel.proofs.One.{holds_has}
 use Rattle.alta_memlevel.proofs.Prefixes.{filter_rises}
-use Rattle.alta_meta.specs.Cells.{cell_holds}
-use Rattle.alta_query.specs.declared.test.Test.TheVariants.{Is}
+use Rattle.alta_machine.specs.Cells.{cell_holds}
+use Rattle.alta_machine.specs.declared.test.Test.TheVariants.{Is}
 use Rattle.alta_search.proofs.NewestAnswers.{added-apart}
 use Rattle.alta_search.proofs.NewestLists.{lists-same, placed_of, space_of}
 use Rattle.alta_dump.specs.Seen.{AreFoldings, is_held}

@@ -3,9 +3,9 @@ use Rattle.std.proofs.Common.{◌≡◌, ℕ, zero, suc, ◌+◌, ◌<◌, ◌�
 use Rattle.std.specs.Prelude.{◌&&◌, nat_eq}
 use Rattle.std.proofs.lemmas.Bool.{and_parts, and_left, false_from_ne_true, false≢true}
 use Rattle.alta_gather.specs.declared.held.Held.{Held}
-use Rattle.alta_meta.specs.declared.kinds.TheConstants.{WORD}
-use Rattle.alta_dump.specs.Lines.{is_alike, are_alike}
-use Rattle.alta_dump.specs.Plain.{ends_document, of_kind}
+use Rattle.alta_machine.specs.declared.kinds.TheConstants.{WORD}
+use Rattle.alta_machine.specs.DumpLines.{is_alike, are_alike}
+use Rattle.alta_machine.specs.Plain.{ends_document, of_kind}
 use Rattle.alta_dump.specs.Seen.{AreFoldings, AreFolded, EndAtLast}
 
 pub folded_long : (terms : List (List ℕ)) (words : List Held) (cells : List (List (List ℕ))) → AreFolded terms words cells → length words ≡ length cells

@@ -1,11 +1,10 @@
 -- The lists of terms, one term more at a time.
 use Rattle.std.proofs.Common.{◌≡◌, ℕ, ◌+◌, ◌<◌, ◌≤◌, List, [], length, map, take, get_or, ap, subst, ◌∙◌, arith}
-use Rattle.std.specs.List.{concat}
+use Rattle.std.specs.List.{concat, All}
 use Rattle.std.proofs.lemmas.List.{get_or-map, length-map}
 use Rattle.std.proofs.lemmas.List.Elements.{All-get_or}
 use Rattle.std.proofs.lemmas.List.Sums.{sum_by-take-le, sum_by_more}
 use Rattle.alta_codec.specs.Rising.{IsRising}
-use Rattle.std.specs.List.{All}
 use Rattle.alta_search.specs.Lists.{IsCut, count_lists, count_locations, term_lists}
 use Rattle.alta_search.specs.declared.lists.TermLists.{TermLists}
 

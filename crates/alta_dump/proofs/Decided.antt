@@ -9,11 +9,11 @@ use Rattle.std.proofs.lemmas.List.Elements.{All-nil, All-cons, All-head, All-tai
 use Rattle.std.proofs.lemmas.Slice.Eq.{bytes_eq-Decides}
 use Rattle.std.proofs.lemmas.Str.{IsUtf8-from_is_utf8, is_utf8-from_IsUtf8}
 use Rattle.alta_codec.specs.Bytes.{has_byte}
-use Rattle.alta_meta.specs.declared.document.Document.{Document}
-use Rattle.alta_meta.specs.declared.kinds.TheConstants.{WORD}
-use Rattle.alta_dump.specs.Lines.{title_text, cells_again, add_line, IsLineOf, are_same, agree, is_alike, are_alike, has_line, line_of}
-use Rattle.alta_dump.specs.Plain.{of_kind, rest_of, ends_title, ends_document, HasOneWord, IsPlain, has_one_word, is_plain}
-use Rattle.alta_model.specs.declared.line.TheConstants.{LINE_LIMIT}
+use Rattle.alta_machine.specs.declared.document.Document.{Document}
+use Rattle.alta_machine.specs.declared.kinds.TheConstants.{WORD}
+use Rattle.alta_machine.specs.DumpLines.{title_text, cells_again, add_line, IsLineOf, are_same, agree, is_alike, are_alike, has_line, line_of}
+use Rattle.alta_machine.specs.Plain.{of_kind, rest_of, ends_title, ends_document, HasOneWord, IsPlain, has_one_word, is_plain}
+use Rattle.alta_machine.specs.declared.line.TheConstants.{LINE_LIMIT}
 
 -- ---- plain documents
 

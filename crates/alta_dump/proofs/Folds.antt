@@ -5,13 +5,13 @@ use Rattle.std.specs.List.{All, list_any, starts_with}
 use Rattle.std.specs.Str.{bytes_eq}
 use Rattle.std.proofs.lemmas.Bool.{and_from, eqb-true, eq-eqb, false≢true, or_left}
 use Rattle.std.proofs.lemmas.List.Elements.{All-nil, All-cons, All-head, All-append, filter_passes}
-use Rattle.alta_meta.specs.Cells.{cell_holds, cell_begins, numbered, word_cell, cells_of}
-use Rattle.alta_meta.specs.declared.kinds.TheConstants.{WORD, WRITTEN, NAME, START, TITLE_END, DOCUMENT_END, WORD_LIMIT}
-use Rattle.alta_meta.proofs.Ranges.{numbered_all}
-use Rattle.alta_range.specs.Numbers.{number_in}
+use Rattle.alta_machine.specs.Cells.{cell_holds, cell_begins, numbered, word_cell, cells_of}
+use Rattle.alta_machine.specs.declared.kinds.TheConstants.{WORD, WRITTEN, NAME, START, TITLE_END, DOCUMENT_END, WORD_LIMIT}
+use Rattle.alta_machine.proofs.Ranges.{numbered_all}
+use Rattle.alta_machine.specs.Numbers.{number_in}
 use Rattle.alta_text.specs.Words.{words_of}
-use Rattle.alta_dump.specs.Lines.{are_same}
-use Rattle.alta_dump.specs.Plain.{is_kind, of_kind}
+use Rattle.alta_machine.specs.DumpLines.{are_same}
+use Rattle.alta_machine.specs.Plain.{is_kind, of_kind}
 use Rattle.alta_dump.specs.Seen.{HasFewFoldings}
 use Rattle.alta_dump.proofs.OfKind.{holds_among, begins_among, none_of_kind}
 

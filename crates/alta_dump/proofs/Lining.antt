@@ -12,10 +12,10 @@ use Rattle.alta_content.specs.declared.document.DocRow.{DocRow}
 use Rattle.alta_gather.specs.declared.held.Held.{Held}
 use Rattle.alta_memlevel.specs.Added.{Added}
 use Rattle.alta_memlevel.specs.Documents.{document_in}
-use Rattle.alta_meta.specs.declared.document.Document.{Document}
+use Rattle.alta_machine.specs.declared.document.Document.{Document}
 use Rattle.alta_search.specs.Told.{no_row}
-use Rattle.alta_dump.specs.Dumps.{count_lines, line_or_skipped, lines_for}
-use Rattle.alta_dump.specs.Lines.{line_of}
+use Rattle.alta_machine.specs.Dumps.{count_lines, line_or_skipped, lines_for}
+use Rattle.alta_machine.specs.DumpLines.{line_of}
 use Rattle.alta_dump.specs.Seen.{AreSeen, IsRowSeen}
 use Rattle.alta_dump.specs.Shown.{places_of, row_in}
 use Rattle.alta_dump.proofs.Places.{places_more}

@@ -3,12 +3,12 @@ use Rattle.std.proofs.Common.{◌≡◌, ℕ, List, [], ◌∷◌, ◌++◌, len
 use Rattle.std.specs.Prelude.{◌&&◌, ◌||◌, not}
 use Rattle.std.specs.List.{All, list_any, range_with_len}
 use Rattle.std.proofs.lemmas.List.Elements.{All-nil, All-cons, All-head, All-tail}
-use Rattle.alta_model.specs.Deciding.{is_answered, is_satisfied, is_value_match, is_match, all_match, any_matches}
-use Rattle.alta_query.specs.Patterns.{Bound, Pattern, meets, numbers_in, pattern_of, range_pattern, range_test}
-use Rattle.alta_query.specs.Shape.{Shape, Shapes, atom, all, any, negated, none, more}
-use Rattle.alta_query.specs.declared.test.Test.{Test}
-use Rattle.alta_range.specs.Covers.{cover_of}
-use Rattle.alta_range.specs.declared.range.Range.{Range}
+use Rattle.alta_machine.specs.Deciding.{is_answered, is_satisfied, is_value_match, is_match, all_match, any_matches}
+use Rattle.alta_machine.specs.Patterns.{Bound, Pattern, meets, numbers_in, pattern_of, range_pattern, range_test}
+use Rattle.alta_machine.specs.Shape.{Shape, Shapes, atom, all, any, negated, none, more}
+use Rattle.alta_machine.specs.declared.test.Test.{Test}
+use Rattle.alta_machine.specs.Covers.{cover_of}
+use Rattle.alta_machine.specs.declared.range.Range.{Range}
 use Rattle.alta_dump.specs.Asked.{HasTests, HaveTests, tests_among}
 
 -- the test is met at the same places of both

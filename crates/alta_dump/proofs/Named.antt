@@ -4,13 +4,13 @@ use Rattle.std.specs.Prelude.{◌||◌, nat_lt, length, if◌then◌else◌, Opt
 use Rattle.std.specs.List.{All}
 use Rattle.std.specs.Str.{bytes_eq}
 use Rattle.std.proofs.lemmas.List.Elements.{All-nil, All-cons, All-head, All-tail, All-append}
-use Rattle.alta_meta.specs.Cells.{numbered, word_cell, cells_of}
-use Rattle.alta_meta.specs.declared.kinds.TheConstants.{WORD, WRITTEN, NAME, TITLE_END, DOCUMENT_END, WORD_LIMIT}
-use Rattle.alta_meta.proofs.Ranges.{numbered_all}
-use Rattle.alta_range.specs.Numbers.{number_in}
+use Rattle.alta_machine.specs.Cells.{numbered, word_cell, cells_of}
+use Rattle.alta_machine.specs.declared.kinds.TheConstants.{WORD, WRITTEN, NAME, TITLE_END, DOCUMENT_END, WORD_LIMIT}
+use Rattle.alta_machine.proofs.Ranges.{numbered_all}
+use Rattle.alta_machine.specs.Numbers.{number_in}
 use Rattle.alta_text.specs.Words.{words_of}
 use Rattle.alta_dump.specs.Names.{HasItsName}
-use Rattle.alta_dump.specs.Plain.{is_kind, of_kind}
+use Rattle.alta_machine.specs.Plain.{is_kind, of_kind}
 use Rattle.alta_dump.proofs.OfKind.{none_of_kind}
 
 abbrev NoName : List (List ℕ) → Type 0

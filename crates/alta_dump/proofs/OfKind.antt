@@ -4,8 +4,8 @@ use Rattle.std.specs.Prelude.{◌||◌, nat_eq}
 use Rattle.std.specs.List.{AllByRecursion, list_any, starts_with}
 use Rattle.std.specs.Str.{bytes_eq}
 use Rattle.std.proofs.lemmas.Bool.{and_left, eqb-false, ne_eqb}
-use Rattle.alta_meta.specs.Cells.{cell_holds, cell_begins}
-use Rattle.alta_dump.specs.Plain.{is_kind, of_kind}
+use Rattle.alta_machine.specs.Cells.{cell_holds, cell_begins}
+use Rattle.alta_machine.specs.Plain.{is_kind, of_kind}
 
 -- a test that no term of another kind passes
 abbrev IsOfKind : ℕ → (List ℕ → Bool) → Type 0

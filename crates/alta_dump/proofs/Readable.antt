@@ -9,14 +9,14 @@ use Rattle.std.proofs.lemmas.Str.{IsUtf8-append, IsUtf8-from_ascii, IsUtf8-nil}
 use Rattle.std.proofs.lemmas.Str.Ascii.{IsAscii-from_all}
 use Rattle.alta_codec.specs.Bytes.{has_byte}
 use Rattle.alta_codec.specs.Name.{IsGraphic, IsName}
-use Rattle.alta_meta.specs.declared.document.Document.{Document}
-use Rattle.alta_meta.specs.declared.kinds.TheConstants.{WORD}
-use Rattle.alta_model.specs.Command.{adds}
-use Rattle.alta_model.specs.Lines.{asks, reading_of}
+use Rattle.alta_machine.specs.declared.document.Document.{Document}
+use Rattle.alta_machine.specs.declared.kinds.TheConstants.{WORD}
+use Rattle.alta_machine.specs.Command.{adds}
+use Rattle.alta_machine.specs.Lines.{asks, reading_of}
 use Rattle.alta_model.proofs.Readings.{asked}
 use Rattle.alta_query.proofs.Texts.{term_text}
-use Rattle.alta_dump.specs.Lines.{IsLineOf, add_line, body_text, line_of, text_of, title_text, too_long, word_among, word_in}
-use Rattle.alta_dump.specs.Plain.{HasOneWord, ends_title, of_kind, rest_of}
+use Rattle.alta_machine.specs.DumpLines.{IsLineOf, add_line, body_text, line_of, text_of, title_text, too_long, word_among, word_in}
+use Rattle.alta_machine.specs.Plain.{HasOneWord, ends_title, of_kind, rest_of}
 use Rattle.alta_dump.proofs.Decided.{line_decided}
 
 -- ---- text

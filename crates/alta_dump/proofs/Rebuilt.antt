@@ -9,14 +9,14 @@ use Rattle.std.proofs.lemmas.List.Sums.{fails_before_first, passes_at_first, sum
 use Rattle.alta_codec.specs.Bytes.{has_byte}
 use Rattle.alta_gather.specs.declared.held.Held.{Held}
 use Rattle.alta_gather.specs.declared.held.Held.TheVariants.{Never, Once, Often}
-use Rattle.alta_meta.specs.Cells.{cells_of}
-use Rattle.alta_meta.specs.declared.document.Document.{Document}
-use Rattle.alta_meta.specs.declared.kinds.TheConstants.{WORD}
-use Rattle.alta_dump.specs.Lines.{word_among, word_in, title_text, body_text, cells_again, add_line, are_alike, has_line, line_of}
-use Rattle.alta_dump.specs.Plain.{of_kind, rest_of, ends_title, has_one_word, is_plain}
+use Rattle.alta_machine.specs.Cells.{cells_of}
+use Rattle.alta_machine.specs.declared.document.Document.{Document}
+use Rattle.alta_machine.specs.declared.kinds.TheConstants.{WORD}
+use Rattle.alta_machine.specs.DumpLines.{word_among, word_in, title_text, body_text, cells_again, add_line, are_alike, has_line, line_of}
+use Rattle.alta_machine.specs.Plain.{of_kind, rest_of, ends_title, has_one_word, is_plain}
 use Rattle.alta_dump.specs.Seen.{is_held, AreFoldings, AreFolded, word_at, is_word, text_seen, IsTitlePlace}
-use Rattle.alta_model.specs.Command.{adds, spelled}
-use Rattle.alta_model.specs.declared.line.TheConstants.{LINE_LIMIT}
+use Rattle.alta_machine.specs.Command.{adds, spelled}
+use Rattle.alta_machine.specs.declared.line.TheConstants.{LINE_LIMIT}
 
 and_true : (b : Bool) → (b && true) ≡ b
 and_true true = refl

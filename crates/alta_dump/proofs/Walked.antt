@@ -13,11 +13,11 @@ use Rattle.alta_gather.specs.Holding.{held_in}
 use Rattle.alta_gather.specs.declared.held.Held.{Held}
 use Rattle.alta_memlevel.specs.Added.{Added, IsInSpace, IsSpace, list_of, live_of}
 use Rattle.alta_memlevel.proofs.One.{holds_has}
-use Rattle.alta_meta.specs.Cells.{cell_holds}
-use Rattle.alta_meta.specs.declared.document.Document.{Document}
-use Rattle.alta_meta.specs.declared.kinds.TheConstants.{WORD, TITLE_END}
-use Rattle.alta_query.specs.declared.test.Test.{Test}
-use Rattle.alta_query.specs.declared.test.Test.TheVariants.{Is, Begins}
+use Rattle.alta_machine.specs.Cells.{cell_holds}
+use Rattle.alta_machine.specs.declared.document.Document.{Document}
+use Rattle.alta_machine.specs.declared.kinds.TheConstants.{WORD, TITLE_END}
+use Rattle.alta_machine.specs.declared.test.Test.{Test}
+use Rattle.alta_machine.specs.declared.test.Test.TheVariants.{Is, Begins}
 use Rattle.alta_search.specs.Lists.{AreKeys, TermKey, key_of, term_in, term_lists}
 use Rattle.alta_search.specs.Met.{MeetTest}
 use Rattle.alta_search.specs.Newest.{term_meets}
@@ -25,7 +25,7 @@ use Rattle.alta_search.specs.Shown.{IsKept, ShowsDocuments}
 use Rattle.alta_search.specs.View.{View}
 use Rattle.alta_search.specs.declared.lists.TermLists.{TermLists}
 use Rattle.alta_search.proofs.NewestLists.{placed_of, space_of}
-use Rattle.alta_dump.specs.Plain.{ends_document, ends_title, is_kind, of_kind}
+use Rattle.alta_machine.specs.Plain.{ends_document, ends_title, is_kind, of_kind}
 use Rattle.alta_dump.specs.Seen.{AreFolded, AreFoldings, EndAtLast, IsRowSeen, is_held, terms_of}
 use Rattle.alta_dump.proofs.Cells.{held_terms, is_in, list_tells, tells_foldings, tells_one}
 use Rattle.alta_dump.proofs.Folds.{begins_kind}

@@ -18,10 +18,10 @@ use Rattle.alta_gather.specs.Holding.{held_in}
 use Rattle.alta_gather.specs.declared.held.Held.{Held}
 use Rattle.alta_memlevel.specs.Added.{Added, IsInSpace, IsSpace, list_of, live_of}
 use Rattle.alta_memlevel.specs.Documents.{document_in}
-use Rattle.alta_meta.specs.declared.document.Document.{Document}
-use Rattle.alta_meta.specs.declared.kinds.TheConstants.{DOCUMENT_END, TITLE_END, WORD}
-use Rattle.alta_query.specs.declared.test.Test.{Test}
-use Rattle.alta_query.specs.declared.test.Test.TheVariants.{Is, Begins}
+use Rattle.alta_machine.specs.declared.document.Document.{Document}
+use Rattle.alta_machine.specs.declared.kinds.TheConstants.{DOCUMENT_END, TITLE_END, WORD}
+use Rattle.alta_machine.specs.declared.test.Test.{Test}
+use Rattle.alta_machine.specs.declared.test.Test.TheVariants.{Is, Begins}
 use Rattle.alta_search.specs.Answers.{answers_in}
 use Rattle.alta_search.specs.Lists.{AreKeys, IsCut, count_lists, count_locations, key_of, term_lists}
 use Rattle.alta_search.specs.Met.{MeetTest}
@@ -31,7 +31,7 @@ use Rattle.alta_search.specs.Shown.{IsKept, ShowsDocuments}
 use Rattle.alta_search.specs.Told.{rows_at}
 use Rattle.alta_search.specs.View.{View}
 use Rattle.alta_search.specs.declared.lists.TermLists.{TermLists}
-use Rattle.alta_dump.specs.Dumps.{dumped}
+use Rattle.alta_machine.specs.Dumps.{dumped}
 use Rattle.alta_dump.specs.Seen.{IsRowSeen, terms_of}
 use Rattle.alta_dump.specs.Shown.{dump_tests, places_of, row_in}
 use Rattle.alta_dump.proofs.Cells.{is_in}

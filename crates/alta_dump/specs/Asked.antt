@@ -1,13 +1,13 @@
 -- Queries that ask for folded words, names and the ends of titles, and neither for a word as it was written nor for a number's range.
 use Rattle.std.specs.Prelude.{◌≡◌, ℕ, false, List, map, Option, Some, None}
 use Rattle.std.specs.List.{All}
-use Rattle.alta_meta.specs.declared.kinds.TheConstants.{WRITTEN}
-use Rattle.alta_query.specs.Patterns.{pattern_of, numbers_in, range_test}
-use Rattle.alta_range.specs.Covers.{cover_of}
-use Rattle.alta_query.specs.Shape.{Shape, Shapes, atom, all, any, negated, none, more}
-use Rattle.alta_query.specs.declared.test.Test.{Test}
-use Rattle.alta_query.specs.declared.test.Test.TheVariants.{Is, Begins}
-use Rattle.alta_dump.specs.Plain.{is_kind}
+use Rattle.alta_machine.specs.declared.kinds.TheConstants.{WRITTEN}
+use Rattle.alta_machine.specs.Patterns.{pattern_of, numbers_in, range_test}
+use Rattle.alta_machine.specs.Covers.{cover_of}
+use Rattle.alta_machine.specs.Shape.{Shape, Shapes, atom, all, any, negated, none, more}
+use Rattle.alta_machine.specs.declared.test.Test.{Test}
+use Rattle.alta_machine.specs.declared.test.Test.TheVariants.{Is, Begins}
+use Rattle.alta_machine.specs.Plain.{is_kind}
 
 -- the tests of an atom: those of its pattern, and those of the ranges of a value
 abbrev pub tests_among : List Test → Option (ℕ × ℕ) → List Test

@@ -1,14 +1,14 @@
 -- What the add lines of a dump keep of a state.
 use Rattle.std.specs.Prelude.{◌≡◌, map, IsSome}
 use Rattle.std.specs.List.{All}
-use Rattle.alta_meta.specs.States.{name_of}
-use Rattle.alta_meta.specs.declared.document.State.{State}
-use Rattle.alta_model.specs.Deciding.{answers}
-use Rattle.alta_query.specs.Matches.{IsWellFormed}
-use Rattle.alta_query.specs.Shape.{Shape}
+use Rattle.alta_machine.specs.States.{name_of}
+use Rattle.alta_machine.specs.declared.document.State.{State}
+use Rattle.alta_machine.specs.Deciding.{answers}
+use Rattle.alta_machine.specs.Matches.{IsWellFormed}
+use Rattle.alta_machine.specs.Shape.{Shape}
 use Rattle.alta_dump.specs.Asked.{AsksForFoldings}
-use Rattle.alta_dump.specs.Dumps.{restored}
-use Rattle.alta_dump.specs.Lines.{line_of}
+use Rattle.alta_machine.specs.Dumps.{restored}
+use Rattle.alta_machine.specs.DumpLines.{line_of}
 use Rattle.alta_dump.specs.Names.{HasItsName}
 
 -- no document is skipped, and each has its own name alone

@@ -1,6 +1,3 @@
-pub mod Plain
-pub mod Lines
-pub mod Dumps
 pub mod Names
 pub mod Asked
 pub mod Laws

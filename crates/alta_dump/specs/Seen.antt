@@ -7,11 +7,11 @@ use Rattle.alta_content.specs.Cells.{locations_from}
 use Rattle.alta_gather.specs.declared.held.Held.{Held}
 use Rattle.alta_gather.specs.declared.held.Held.TheVariants.{Never, Once, Often}
 use Rattle.alta_memlevel.specs.Added.{Added}
-use Rattle.alta_meta.specs.declared.document.Document.{Document}
-use Rattle.alta_meta.specs.declared.kinds.TheConstants.{WORD}
+use Rattle.alta_machine.specs.declared.document.Document.{Document}
+use Rattle.alta_machine.specs.declared.kinds.TheConstants.{WORD}
 use Rattle.alta_search.specs.declared.lists.TermLists.{TermLists}
-use Rattle.alta_dump.specs.Lines.{too_long}
-use Rattle.alta_dump.specs.Plain.{of_kind, rest_of, ends_title, ends_document, is_plain}
+use Rattle.alta_machine.specs.DumpLines.{too_long}
+use Rattle.alta_machine.specs.Plain.{of_kind, rest_of, ends_title, ends_document, is_plain}
 
 -- the terms, each with an index
 abbrev pub terms_of : List TermLists → List (List ℕ)

@@ -4,9 +4,9 @@ use Rattle.std.specs.List.{flat_map}
 use Rattle.alta_content.specs.Cells.{locations_from}
 use Rattle.alta_content.specs.declared.document.DocRow.{DocRow}
 use Rattle.alta_memlevel.specs.Added.{Added}
-use Rattle.alta_meta.specs.declared.kinds.TheConstants.{WORD, TITLE_END, DOCUMENT_END}
-use Rattle.alta_query.specs.declared.test.Test.{Test}
-use Rattle.alta_query.specs.declared.test.Test.TheVariants.{Is, Begins}
+use Rattle.alta_machine.specs.declared.kinds.TheConstants.{WORD, TITLE_END, DOCUMENT_END}
+use Rattle.alta_machine.specs.declared.test.Test.{Test}
+use Rattle.alta_machine.specs.declared.test.Test.TheVariants.{Is, Begins}
 
 -- the lists of the ends of documents and of titles, and of all folded words
 abbrev pub dump_tests : List Test

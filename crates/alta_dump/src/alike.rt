@@ -2,16 +2,16 @@
 ghost use Rattle.std.specs.Prelude.{◌≡◌, ℕ, ◌+◌, ◌<◌, List, true, nat_eq, length, All, IfOk};
 ghost use Rattle.std.specs.List.{list_all};
 ghost use Rattle.alta_codec.specs.Name.{IsName};
-ghost use Rattle.alta_dump.specs.Lines as lines;
-ghost use Rattle.alta_dump.specs.Plain.{ends_document, ends_title, of_kind};
+ghost use Rattle.alta_machine.specs.DumpLines as lines;
+ghost use Rattle.alta_machine.specs.Plain.{ends_document, ends_title, of_kind};
 ghost use Rattle.alta_dump.specs.Seen.{AreFoldings, AreSeen, HasFewFoldings, is_held, is_word, terms_of};
-ghost use Rattle.alta_meta.specs.Cells.{cells_of};
-ghost use Rattle.alta_meta.specs.declared.kinds.TheConstants.{WORD as word_kind};
+ghost use Rattle.alta_machine.specs.Cells.{cells_of};
+ghost use Rattle.alta_machine.specs.declared.kinds.TheConstants.{WORD as word_kind};
 
 use crate::texts::term_at;
 use alta_gather::Held;
-use alta_meta::kinds::{DOCUMENT_END, TITLE_END, WORD};
-use alta_meta::{Cell, MetaFault, cells};
+use alta_machine::kinds::{DOCUMENT_END, TITLE_END, WORD};
+use alta_machine::{Cell, MetaFault, cells};
 use alta_search::TermLists;
 use std::alloc::{AllocError, Global};
 

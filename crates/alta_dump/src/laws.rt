@@ -2,12 +2,12 @@
 ghost use Rattle.std.specs.Prelude.{◌≡◌, ◌↔◌, List, ℕ, Some};
 ghost use Rattle.alta_codec.specs.Name.{IsName};
 ghost use Rattle.alta_dump.specs.Laws.{AnswersAgain};
-ghost use Rattle.alta_dump.specs.Lines.{IsLineOf, body_text, line_of, title_text};
+ghost use Rattle.alta_machine.specs.DumpLines.{IsLineOf, body_text, line_of, title_text};
 ghost use Rattle.alta_dump.specs.Names.{HasItsName};
-ghost use Rattle.alta_meta.specs.Cells.{cells_of};
-ghost use Rattle.alta_meta.specs.declared.document.Document.{Document};
-ghost use Rattle.alta_model.specs.Command.{adds};
-ghost use Rattle.alta_model.specs.Lines.{asks, reading_of};
+ghost use Rattle.alta_machine.specs.Cells.{cells_of};
+ghost use Rattle.alta_machine.specs.declared.document.Document.{Document};
+ghost use Rattle.alta_machine.specs.Command.{adds};
+ghost use Rattle.alta_machine.specs.Lines.{asks, reading_of};
 
 /// A document has a line exactly where one adds it again: the document is plain, and as many cells with the same folded
 /// words, title's end and document's end come of its line, which is short enough and has no tab in its title.

@@ -4,8 +4,8 @@ ghost use Rattle.alta_dump.specs.Shown.{dump_tests};
 ghost use Rattle.alta_search.specs.Order.{used};
 
 use alta_codec::Bytes;
-use alta_meta::kinds::{DOCUMENT_END, TITLE_END, WORD};
-use alta_query::Test;
+use alta_machine::Test;
+use alta_machine::kinds::{DOCUMENT_END, TITLE_END, WORD};
 use alta_search::Loading;
 use std::alloc::{AllocError, Global};
 

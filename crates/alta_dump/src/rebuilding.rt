@@ -3,17 +3,17 @@ ghost use Rattle.std.specs.Prelude.{◌≡◌, ℕ, ◌+◌, ◌<◌, List, true
 ghost use Rattle.std.specs.Option.{option_map};
 ghost use Rattle.alta_codec.specs.Bytes.{has_byte};
 ghost use Rattle.alta_codec.specs.Name.{IsName};
-ghost use Rattle.alta_dump.specs.Lines.{body_text, line_of, title_text};
-ghost use Rattle.alta_dump.specs.Plain.{ends_title, is_plain};
+ghost use Rattle.alta_machine.specs.DumpLines.{body_text, line_of, title_text};
+ghost use Rattle.alta_machine.specs.Plain.{ends_title, is_plain};
 ghost use Rattle.alta_dump.specs.Seen.{AreFolded, AreSeen, IsRebuiltFrom, IsTitlePlace, is_held, terms_of};
-ghost use Rattle.alta_meta.specs.declared.document.Document.{Document};
-ghost use Rattle.alta_model.specs.Command.{adds, spelled};
-ghost use Rattle.alta_model.specs.declared.line.TheConstants.{LINE_LIMIT as line_limit};
+ghost use Rattle.alta_machine.specs.declared.document.Document.{Document};
+ghost use Rattle.alta_machine.specs.Command.{adds, spelled};
+ghost use Rattle.alta_machine.specs.declared.line.TheConstants.{LINE_LIMIT as line_limit};
 
 use crate::alike::{comes_again, is_place};
 use crate::texts::{are_words, text};
 use alta_gather::Held;
-use alta_model::LINE_LIMIT;
+use alta_machine::LINE_LIMIT;
 use alta_search::TermLists;
 use std::alloc::{AllocError, Global};
 

@@ -2,7 +2,7 @@
 ghost use Rattle.std.specs.Prelude.{◌≡◌, ◌∷◌, ◌++◌, [], true, false, get_or, if◌then◌else◌, MatchOption, IfOk, OnOk, string_bytes};
 ghost use Rattle.std.specs.List.{list_all};
 ghost use Rattle.std.specs.Str.{is_utf8};
-ghost use Rattle.alta_dump.specs.Plain.{rest_of};
+ghost use Rattle.alta_machine.specs.Plain.{rest_of};
 ghost use Rattle.alta_dump.specs.Seen.{is_word, terms_of, text_seen, word_at};
 
 use alta_gather::Held;

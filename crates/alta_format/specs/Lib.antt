@@ -1,4 +1,2 @@
 pub mod Format
 pub mod Gives
-pub mod FormatLaws
-pub mod EntryLaws

@@ -10,11 +10,11 @@ use Rattle.alta_content.specs.declared.document.DocRow.{DocRow}
 use Rattle.alta_codec.specs.declared.extent.Extent.{Extent}
 use Rattle.alta_disk.specs.Disk.{DiskState, IsLawful}
 use Rattle.alta_disk.specs.Parts.{part}
-use Rattle.alta_images.specs.Broken.{IsBrokenIn, IsFaultAmong}
-use Rattle.alta_images.specs.Opened.{bytes_at, tables_at, extent_of}
+use Rattle.alta_meaning.specs.Broken.{IsBrokenIn, IsFaultAmong}
+use Rattle.alta_meaning.specs.Opened.{bytes_at, tables_at, extent_of}
 use Rattle.std.specs.Prelude.{Result, IfOk}
-use Rattle.alta_joins.specs.Answers.{IfDamaged}
-use Rattle.alta_joins.specs.declared.fault.JoinFault.{JoinFault}
+use Rattle.alta_disk.specs.Answers.{IfDamaged}
+use Rattle.alta_disk.specs.declared.fault.LoadFault.{LoadFault}
 use Rattle.alta_joins.proofs.FaultLaws.{damaged_goes, damaged_of, ok_goes, only_of}
 use Rattle.alta_joins.proofs.LevelRuns.{TellsOne}
 use Rattle.alta_joins.specs.Contents.{IsContentOf, IsSegmentOn, StandsOn}
@@ -133,7 +133,7 @@ broken_in level image tail p read fault =
 -- ---- what a call that reads the bytes behind the tables tells of the level
 
 module _ (level : Tables) (image : List ℕ) (are : AreBytes image) (stands : StandsOn image level) (tail : List ℕ) (read : tail ≡ part (data_place level) (data_bytes level.terms) image)
-    (result : Result Content JoinFault) (found : IfOk result (λ content. IsSegment (tables_bytes level.documents level.terms ++ tail) content))
+    (result : Result Content LoadFault) (found : IfOk result (λ content. IsSegment (tables_bytes level.documents level.terms ++ tail) content))
     (first : IfDamaged result (IsFaultInLists level.documents level.terms tail (data_place level))) where
   pub tells_one : ((c d : Content) → IsSegmentOn image level c → IsSegmentOn image level d → c ≡ d) → ((c : Content) (p : ℕ) → IsSegmentOn image level c → IsDamageOn image level p → ⊥)
       → ((p q : ℕ) → IsDamageOn image level p → IsDamageOn image level q → p ≡ q) → TellsOne {X = Content} (λ x. x) image level result
@@ -153,7 +153,7 @@ module _ (level : Tables) (image : List ℕ) (are : AreBytes image) (stands : St
 -- the same of a disk
 module _ (tells : Type 0) (a : DiskState) (lawful : IsLawful tells a) (level : Tables) (stands : tells → StandsOn a.content level) (extent : Extent) (place : extent.place ≡ data_place level)
     (size : extent.bytes ≡ data_bytes level.terms) (below : extent.place + extent.bytes < 2 ^ 64) (bytes : List ℕ) (read : tells → bytes ≡ bytes_at extent a.content)
-    (result : Result Content JoinFault) (found : IfOk result (λ content. IsSegment (tables_bytes level.documents level.terms ++ bytes) content))
+    (result : Result Content LoadFault) (found : IfOk result (λ content. IsSegment (tables_bytes level.documents level.terms ++ bytes) content))
     (first : IfDamaged result (IsFaultInLists level.documents level.terms bytes (data_place level))) where
   told_bytes : tells → AreBytes a.content
   told_bytes told = lawful.bytes a.clock a.content (lawful.counts_now a.clock a.content (omega arith) (lawful.present told))

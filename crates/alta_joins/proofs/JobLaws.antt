@@ -6,7 +6,7 @@ use Rattle.std.proofs.lemmas.Bool.{leb-true, le-leb, false≢true}
 use Rattle.std.proofs.lemmas.List.{drop-drop}
 use Rattle.alta_content.specs.declared.content.Content.{Content}
 use Rattle.alta_content.specs.Joining.{joined, joined_in, terms_in}
-use Rattle.alta_images.specs.Work.{Job}
+use Rattle.alta_meaning.specs.Work.{Job}
 use Rattle.alta_joins.specs.Jobs.{IsMerging, begun_job, moved_by}
 use Rattle.alta_joins.proofs.RowSteps.{drop-all}
 use Rattle.alta_merge.specs.Merging.{Merging}

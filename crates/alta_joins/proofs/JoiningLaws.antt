@@ -10,16 +10,17 @@ use Rattle.alta_content.specs.Parts.{IsPart}
 use Rattle.alta_content.specs.Rows.{ends_among, live_rows}
 use Rattle.alta_content.specs.declared.content.Content.{Content}
 use Rattle.alta_content.specs.declared.document.DocRow.{DocRow}
-use Rattle.alta_images.specs.Holding.{Holding, IsHeld, IsJob}
-use Rattle.alta_images.specs.Levels.{Level}
-use Rattle.alta_images.specs.Opened.{Opened, IsOpened, bytes_at, extent_of}
-use Rattle.alta_images.specs.Standing.{AreLevels, tables_by}
-use Rattle.alta_images.specs.Views.{View}
-use Rattle.alta_images.specs.Work.{gone as gone_from, is_gone, newest, level_rows}
-use Rattle.alta_images.specs.Working.{IsJoin, documents_in, oldest_contents, rows_of}
-use Rattle.alta_images.proofs.KeptStates.{gone_are}
-use Rattle.alta_images.proofs.KnownLaws.{all_both, all_weaker}
-use Rattle.alta_images.proofs.OneState.{one_are}
+use Rattle.alta_meaning.specs.Holding.{Holding, IsHeld, IsJob}
+use Rattle.alta_meaning.specs.Levels.{Level}
+use Rattle.alta_meaning.specs.Opened.{Opened, IsOpened, bytes_at, extent_of}
+use Rattle.alta_meaning.specs.Standing.{AreLevels, tables_by}
+use Rattle.alta_meaning.specs.Views.{View}
+use Rattle.alta_meaning.specs.Work.{gone as gone_from, is_gone, newest, level_rows}
+use Rattle.alta_meaning.specs.Working.{IsJoin, documents_in, oldest_contents}
+use Rattle.alta_content.specs.Joining.{rows_in, joined_in, terms_in}
+use Rattle.alta_meaning.proofs.KeptStates.{gone_are}
+use Rattle.alta_meaning.proofs.KnownLaws.{all_both, all_weaker}
+use Rattle.alta_meaning.proofs.OneState.{one_are}
 use Rattle.alta_joins.proofs.KeptLaws.{held_is_spaced, joins_keep}
 use Rattle.alta_joins.proofs.OpenedLaws.{opened_extents}
 use Rattle.alta_joins.specs.Contents.{level_with}
@@ -29,7 +30,6 @@ use Rattle.alta_memlevel.specs.Added.{Added}
 use Rattle.alta_merge.specs.Merging.{Merging}
 use Rattle.alta_table.specs.Tables.{Tables}
 use Rattle.alta_content.proofs.Elements.{all_left}
-use Rattle.alta_content.specs.Joining.{joined_in, terms_in}
 use Rattle.alta_content.proofs.Kept.{join_is_part}
 
 -- ---- lists of two and more
@@ -69,7 +69,7 @@ module _ (levels : List Tables) (gone : List ℕ) (merging : Merging) (joining :
   abbrev pub both_rows : List DocRow
   both_rows = joining.job.older.documents ++ joining.job.newer.documents
 
-  rows_are : rows_of (joining.job.older ∷ joining.job.newer ∷ []) ≡ both_rows
+  rows_are : rows_in (joining.job.older ∷ joining.job.newer ∷ []) ≡ both_rows
   rows_are = ap (λ (rows : List DocRow). joining.job.older.documents ++ rows) (append-nil joining.job.newer.documents)
 
   table_rows_are : both_rows ≡ joining.older.documents ++ joining.newer.documents
@@ -91,7 +91,7 @@ module _ (levels : List Tables) (gone : List ℕ) (merging : Merging) (joining :
   joining_join view oldest gone_is =
       let dead = joining.job.dead in
       let both = joining.job.older ∷ joining.job.newer ∷ [] in
-      let all : DeadAreGone dead (gone_from view) (rows_of both) =
+      let all : DeadAreGone dead (gone_from view) (rows_in both) =
       subst (λ (rows : List DocRow). DeadAreGone dead (gone_from view) rows) (sym rows_are) (subst (λ (ends : List ℕ). DeadAreGone dead ends both_rows) gone_is joining.dead) in
       subst (λ (contents : List Content). IsJoin view contents merging.whole) (sym oldest)
       (record {

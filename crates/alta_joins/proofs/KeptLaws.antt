@@ -15,21 +15,21 @@ use Rattle.alta_content.specs.declared.document.DocRow.{DocRow}
 use Rattle.alta_content.proofs.Documents.{states_kept}
 use Rattle.alta_content.proofs.Folds.{join_of_join}
 use Rattle.alta_content.proofs.Kept.{join_may_join}
-use Rattle.alta_images.specs.Entries.{AllowsAll, after_entry}
-use Rattle.alta_images.specs.Holding.{Holding, IsHeld, IsSpaced, IsWell}
-use Rattle.alta_images.specs.Known.{Known, replayed}
-use Rattle.alta_images.specs.Levels.{Level, document_of}
-use Rattle.alta_images.specs.Opened.{Opened, IsNamed, bytes_at, journal_of}
-use Rattle.alta_images.specs.Ordered.{RowsPrecede}
-use Rattle.alta_images.specs.Standing.{AreLevels, view_of}
-use Rattle.alta_images.specs.Views.{View, rooted}
-use Rattle.alta_images.specs.Work.{added_at, added_from, newest, level_rows}
-use Rattle.alta_images.specs.Working.{AreJoins, JoinsKeep, all_contents, documents_in, oldest_contents}
-use Rattle.alta_images.proofs.KeptStates.{added_behind, added_high, contents_of, rows_by_levels}
-use Rattle.alta_images.proofs.KnownLaws.{all_both, all_weaker, allows_replayed}
-use Rattle.alta_images.proofs.MergeLaws.{joins_are}
-use Rattle.alta_images.proofs.OrderLaws.{rooted_known}
-use Rattle.alta_images.proofs.SpacedLaws.{held_spaced}
+use Rattle.alta_meaning.specs.Entries.{AllowsAll, after_entry}
+use Rattle.alta_meaning.specs.Holding.{Holding, IsHeld, IsSpaced, IsWell}
+use Rattle.alta_meaning.specs.Known.{Known, replayed}
+use Rattle.alta_meaning.specs.Levels.{Level, document_of}
+use Rattle.alta_meaning.specs.Opened.{Opened, IsNamed, bytes_at, journal_of}
+use Rattle.alta_meaning.specs.Ordered.{RowsPrecede}
+use Rattle.alta_meaning.specs.Standing.{AreLevels, view_of}
+use Rattle.alta_meaning.specs.Views.{View, rooted}
+use Rattle.alta_meaning.specs.Work.{added_at, added_from, newest, level_rows}
+use Rattle.alta_meaning.specs.Working.{AreJoins, JoinsKeep, all_contents, documents_in, oldest_contents}
+use Rattle.alta_meaning.proofs.KeptStates.{added_behind, added_high, contents_of, rows_by_levels}
+use Rattle.alta_meaning.proofs.KnownLaws.{all_both, all_weaker, allows_replayed}
+use Rattle.alta_meaning.proofs.MergeLaws.{joins_are}
+use Rattle.alta_meaning.proofs.OrderLaws.{rooted_known}
+use Rattle.alta_meaning.proofs.SpacedLaws.{held_spaced}
 use Rattle.alta_joins.proofs.SpaceLaws.{rise_front, rising_join}
 use Rattle.alta_journal.specs.Entry.{KeepTexts, MayBeRecorded}
 use Rattle.alta_journal.specs.Placed.{placed}
@@ -42,9 +42,9 @@ use Rattle.alta_memlevel.proofs.Behind.{may_join_behind}
 use Rattle.alta_memlevel.proofs.Cells.{cells_few, cells_long}
 use Rattle.alta_memlevel.proofs.Live.{live_joined}
 use Rattle.alta_memlevel.proofs.One as one
-use Rattle.alta_meta.specs.Cells.{cells_of}
-use Rattle.alta_meta.specs.declared.document.Document.{Document}
-use Rattle.alta_meta.specs.declared.document.State.{State}
+use Rattle.alta_machine.specs.Cells.{cells_of}
+use Rattle.alta_machine.specs.declared.document.Document.{Document}
+use Rattle.alta_machine.specs.declared.document.State.{State}
 use Rattle.alta_root.specs.Root.{IsSound}
 use Rattle.alta_root.proofs.Frames.{counts_sound}
 

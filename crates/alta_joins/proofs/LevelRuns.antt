@@ -9,15 +9,15 @@ use Rattle.std.specs.List.{sum_by}
 use Rattle.alta_content.specs.declared.content.Content.{Content}
 use Rattle.alta_disk.specs.Calls.{Reads}
 use Rattle.alta_disk.specs.Disk.{DiskState, IsLawful}
-use Rattle.alta_images.specs.Broken.{IsBrokenAmong, IsBrokenIn}
+use Rattle.alta_meaning.specs.Broken.{IsBrokenAmong, IsBrokenIn}
 use Rattle.alta_joins.proofs.FaultLaws.{fault_goes}
-use Rattle.alta_joins.specs.Answers.{IfDamaged, IsDamaged, IsFound}
+use Rattle.alta_disk.specs.Answers.{IfDamaged, IsDamaged, IsFound}
 use Rattle.alta_joins.specs.Contents.{AreContentsOf, AreSegmentsOn, IsContentOf, IsSegmentOn, data_size}
 use Rattle.alta_joins.specs.Damages.{IsDamageOn, IsFirstDamage, Tells}
-use Rattle.alta_joins.specs.declared.fault.JoinFault.{JoinFault}
-use Rattle.alta_joins.specs.declared.fault.JoinFault.TheVariants as faults
+use Rattle.alta_disk.specs.declared.fault.LoadFault.{LoadFault}
+use Rattle.alta_disk.specs.declared.fault.LoadFault.TheVariants as faults
 use Rattle.alta_table.specs.Tables.{Tables}
-use Rattle.alta_images.proofs.DiskReads.{reads_then, reads_within, reads_none}
+use Rattle.alta_meaning.proofs.DiskReads.{reads_then, reads_within, reads_none}
 
 -- ---- one level more
 
@@ -74,7 +74,7 @@ pub told_none : (image : List ℕ) → Tells {X = List Content} (λ x. x) image 
 told_none image = record { segments = tt; only = λ contents are. sym (none_behind image contents are); first = tt; damaged = λ p damage. damage }
 
 -- what a call tells of one level
-pub record TellsOne {X : Type 0} (view : X → Content) (image : List ℕ) (level : Tables) (result : Result X JoinFault) : Type 0 where
+pub record TellsOne {X : Type 0} (view : X → Content) (image : List ℕ) (level : Tables) (result : Result X LoadFault) : Type 0 where
   pub segment : IfOk result (λ x. IsSegmentOn image level (view x))
   pub only : (content : Content) → IsSegmentOn image level content → IsFound view result content
   pub first : IfDamaged result (IsDamageOn image level)
@@ -100,7 +100,7 @@ told_more image before contents level content told one = record {
 
 -- the call ends with a fault of one level, before the rest
 module _ (image : List ℕ) (before : List Tables) (contents : List Content) (level : Tables) (rest : List Tables) (told : Tells {X = List Content} (λ x. x) image before (Ok contents)) where
-  pub told_ended : {X : Type 0} (view : X → List Content) (e : JoinFault) → TellsOne {X = Content} (λ x. x) image level (Err e) → Tells view image (before ++ level ∷ rest) (Err e)
+  pub told_ended : {X : Type 0} (view : X → List Content) (e : LoadFault) → TellsOne {X = Content} (λ x. x) image level (Err e) → Tells view image (before ++ level ∷ rest) (Err e)
   told_ended view faults.Disk one = record { segments = tt; only = λ others are. tt; first = tt; damaged = λ p damage. tt }
   told_ended view faults.Memory one = record { segments = tt; only = λ others are. tt; first = tt; damaged = λ p damage. tt }
   told_ended view (faults.Damaged q) one = record {
@@ -163,12 +163,12 @@ module _ (tells : Type 0) (levels : List Tables) (i : ℕ) (level : Tables) (ins
   run_cost = reads_within tells (sum_by data_size (take i levels) + data_size level) (sum_by data_size levels) old new one_cost so_far
 
   -- it ends with a fault of this level
-  pub run_ended : {X : Type 0} (view : X → List Content) (e : JoinFault) → tells → (tells → TellsOne {X = Content} (λ x. x) mid.content level (Err e)) → Tells view old.content levels (Err e)
+  pub run_ended : {X : Type 0} (view : X → List Content) (e : LoadFault) → tells → (tells → TellsOne {X = Content} (λ x. x) mid.content level (Err e)) → Tells view old.content levels (Err e)
   run_ended view e t one =
       subst (λ (ls : List Tables). Tells view old.content ls (Err e)) (sym levels_split)
       (told_ended old.content (take i levels) contents level (drop (i + 1) levels) (run.told t) view e (subst (λ (image : List ℕ). TellsOne {X = Content} (λ x. x) image level (Err e)) (run.reads.content t) (one t)))
 
-  pub run_broken : (X : Type 0) (e : JoinFault) → tells → (tells → IfDamaged {X = Content} (Err e) (IsBrokenIn level mid.content)) → IfDamaged {X = X} (Err e) (IsBrokenAmong levels old.content)
+  pub run_broken : (X : Type 0) (e : LoadFault) → tells → (tells → IfDamaged {X = Content} (Err e) (IsBrokenIn level mid.content)) → IfDamaged {X = X} (Err e) (IsBrokenAmong levels old.content)
   run_broken X e t one =
       fault_goes Content X e (IsBrokenIn level mid.content) (IsBrokenAmong levels old.content)
       (λ p broken. record {

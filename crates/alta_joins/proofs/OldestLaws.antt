@@ -16,8 +16,8 @@ use Rattle.alta_content.specs.Rows.{AreDocuments, AreDocumentsBehind, Before, be
 use Rattle.alta_content.specs.declared.content.Content.{Content}
 use Rattle.alta_content.specs.TermList.{TermList}
 use Rattle.alta_content.specs.declared.document.DocRow.{DocRow}
-use Rattle.alta_images.specs.Opened.{table_rows}
-use Rattle.alta_images.specs.Working.{rows_of}
+use Rattle.alta_meaning.specs.Opened.{table_rows}
+use Rattle.alta_content.specs.Joining.{rows_in, in_order, joined_in, terms_in, with_term, parts_of}
 use Rattle.alta_joins.proofs.KeptLaws.{live_may_join, live_same}
 use Rattle.alta_joins.proofs.SpaceLaws.{content_rows, contents_join}
 use Rattle.alta_joins.specs.Contents.{AreContentsOf, AreSegmentsOn, IsContentOf}
@@ -31,7 +31,6 @@ use Rattle.alta_memlevel.proofs.One as one
 use Rattle.alta_merge.specs.Merging.{Merging}
 use Rattle.alta_table.specs.Tables.{Tables}
 use Rattle.alta_content.proofs.Elements.{all_left}
-use Rattle.alta_content.specs.Joining.{in_order, joined_in, terms_in, with_term, parts_of}
 
 -- ---- damage
 
@@ -149,5 +148,5 @@ pub merged_rows : (levels : List Tables) (contents : List Content) (gone : List 
     → (joined_in (contents ++ newest ∷ []) gone).documents ≡ live_rows gone (table_rows levels ++ newest.documents)
 merged_rows levels contents gone newest are =
     ap (live_rows gone)
-    (flat_map-append (λ (c : Content). c.documents) contents (newest ∷ []) ∙ ap (λ (rows : List DocRow). rows ++ rows_of (newest ∷ [])) (content_rows levels contents are)
+    (flat_map-append (λ (c : Content). c.documents) contents (newest ∷ []) ∙ ap (λ (rows : List DocRow). rows ++ rows_in (newest ∷ [])) (content_rows levels contents are)
     ∙ ap (λ (rows : List DocRow). table_rows levels ++ rows) (append-nil newest.documents))

@@ -7,10 +7,10 @@ use Rattle.alta_codec.proofs.ByteLaws.{AreBytes-drop, AreBytes-take}
 use Rattle.alta_codec.specs.Bytes.{AreBytes}
 use Rattle.alta_codec.specs.declared.extent.Extent.{Extent}
 use Rattle.alta_content.specs.declared.content.Content.{Content}
-use Rattle.alta_images.specs.Broken.{HasLevels}
-use Rattle.alta_images.specs.Levels.{Level}
-use Rattle.alta_images.specs.Opened.{Opened, IsOpened, bytes_at, tables_at, extent_of}
-use Rattle.alta_images.specs.Standing.{AreLevels, tables_by}
+use Rattle.alta_meaning.specs.Broken.{HasLevels}
+use Rattle.alta_meaning.specs.Levels.{Level}
+use Rattle.alta_meaning.specs.Opened.{Opened, IsOpened, bytes_at, tables_at, extent_of}
+use Rattle.alta_meaning.specs.Standing.{AreLevels, tables_by}
 use Rattle.alta_joins.specs.Contents.{AreContentsOf, AreSegmentsOn, StandsOn, level_with, levels_with}
 use Rattle.alta_level.specs.Segments.{IsSegment}
 use Rattle.alta_root.specs.Root.{AreExtents}
@@ -20,7 +20,7 @@ use Rattle.alta_root.proofs.Frames.{counts_sound}
 use Rattle.alta_table.specs.Tables.{AreTables, Tables}
 use Rattle.alta_table.proofs.FrontLaws.{whole_has_parts}
 use Rattle.alta_table.proofs.TableLaws.{tables_are}
-use Rattle.alta_images.proofs.ReadLaws.{AreRead, was_read}
+use Rattle.alta_meaning.proofs.ReadLaws.{AreRead, was_read}
 
 -- ---- they stand on the image
 

@@ -9,8 +9,8 @@ use Rattle.alta_content.specs.declared.content.Content.{Content}
 use Rattle.alta_content.specs.declared.document.DocRow.{DocRow}
 use Rattle.alta_codec.specs.Name.{IsName}
 use Rattle.alta_codec.specs.declared.location.TheConstants.{TOP}
-use Rattle.alta_images.specs.Opened.{table_rows}
-use Rattle.alta_images.specs.Ordered.{Precedes, RowsPrecede}
+use Rattle.alta_meaning.specs.Opened.{table_rows}
+use Rattle.alta_meaning.specs.Ordered.{Precedes, RowsPrecede}
 use Rattle.alta_joins.specs.Contents.{AreContentsOf}
 use Rattle.alta_table.specs.Tables.{Tables}
 use Rattle.alta_content.proofs.Elements.{all_left}

@@ -2,9 +2,9 @@
 use Rattle.std.specs.Prelude.{◌≡◌, ℕ, ◌+◌, ◌≤◌, List, [], ◌∷◌, length, slice_index, slice_index_or, Ok}
 use Rattle.alta_content.specs.Lists.{IsContent}
 use Rattle.alta_content.specs.declared.content.Content.{Content}
-use Rattle.alta_images.specs.Levels.{Level}
-use Rattle.alta_images.specs.Opened.{bytes_at, tables_at, extent_of}
-use Rattle.alta_images.specs.Standing.{tables_by}
+use Rattle.alta_meaning.specs.Levels.{Level}
+use Rattle.alta_meaning.specs.Opened.{bytes_at, tables_at, extent_of}
+use Rattle.alta_meaning.specs.Standing.{tables_by}
 use Rattle.alta_level.specs.Segments.{IsSegment}
 use Rattle.alta_table.specs.Tables.{Tables, total_of}
 use Rattle.alta_table.specs.Terms.{counts_of, data_bytes, streams_of, summaries_of, terms_of}

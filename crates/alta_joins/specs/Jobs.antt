@@ -5,7 +5,7 @@ use Rattle.alta_content.specs.Parts.{MayJoin}
 use Rattle.alta_content.specs.Rows.{ends_among}
 use Rattle.alta_content.specs.declared.content.Content.{Content}
 use Rattle.alta_content.specs.declared.document.DocRow.{DocRow}
-use Rattle.alta_images.specs.Work.{Job, whole_of}
+use Rattle.alta_meaning.specs.Work.{Job, whole_of}
 use Rattle.alta_joins.specs.Contents.{AreSegmentsOn, IsContentOf}
 use Rattle.alta_merge.specs.Merging.{Merging}
 use Rattle.alta_table.specs.Tables.{Tables}

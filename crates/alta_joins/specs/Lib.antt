@@ -1,4 +1,3 @@
-pub mod Answers
 pub mod Contents
 pub mod Damages
 pub mod Jobs

@@ -2,7 +2,7 @@
 use Rattle.std.specs.Prelude.{◌≡◌, ◌≤◌, ℕ, List}
 use Rattle.std.specs.List.{All}
 use Rattle.alta_content.specs.declared.content.Content.{Content}
-use Rattle.alta_images.specs.Opened.{table_rows}
+use Rattle.alta_meaning.specs.Opened.{table_rows}
 use Rattle.alta_memlevel.specs.Added.{Added, live_of}
 use Rattle.alta_memlevel.specs.Documents.{AreAdded, IsBefore, content_of}
 use Rattle.alta_table.specs.Tables.{Tables}

@@ -2,8 +2,8 @@
 ghost use Rattle.std.specs.Prelude.{◌≡◌, ◌+◌, ◌<◌, ◌∷◌, ℕ, [], length, nat_le, IfOk, OnOk, OnErr, IsTrue};
 ghost use Rattle.alta_content.specs.Parts.{MayJoin};
 ghost use Rattle.alta_content.specs.declared.content.Content.{Content};
-ghost use Rattle.alta_images.specs.Work as work;
-ghost use Rattle.alta_images.specs.Work.{whole_of};
+ghost use Rattle.alta_meaning.specs.Work as work;
+ghost use Rattle.alta_meaning.specs.Work.{whole_of};
 ghost use Rattle.alta_joins.specs.Jobs.{IsMerging, begun_job, moved_by};
 ghost use Rattle.alta_content.specs.Joining.{joined_in, terms_in};
 

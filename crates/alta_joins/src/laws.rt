@@ -1,22 +1,22 @@
 // Laws of levels that are read, and of their joins. The functions have nothing to run: their contracts are the laws.
 ghost use Rattle.std.specs.Prelude.{◌≡◌, ℕ, ◌+◌, ◌<◌, ◌≤◌, List, [], ◌∷◌, ◌++◌, All, Some, length, map, take};
 ghost use Rattle.alta_codec.specs.Bytes.{AreBytes};
-ghost use Rattle.alta_content.specs.Joining.{joined_in, terms_in};
+ghost use Rattle.alta_content.specs.Joining.{joined_in, terms_in, rows_in};
 ghost use Rattle.alta_content.specs.Lists.{IsContent};
 ghost use Rattle.alta_content.specs.Parts.{IsPart, MayJoin};
 ghost use Rattle.alta_content.specs.Rows.{AreDocuments, live_rows};
 ghost use Rattle.alta_content.specs.declared.content.Content.{Content};
 ghost use Rattle.alta_content.specs.TermList.{TermList};
 ghost use Rattle.alta_content.specs.declared.document.DocRow.{DocRow};
-ghost use Rattle.alta_images.specs.Broken.{HasLevels};
-ghost use Rattle.alta_images.specs.Holding.{Holding, IsHeld, IsJobOf, IsSpaced, IsWell};
-ghost use Rattle.alta_images.specs.Levels.{Level, document_of};
-ghost use Rattle.alta_images.specs.Opened.{Opened, IsOpened, bytes_at, table_rows, extent_of};
-ghost use Rattle.alta_images.specs.Ordered.{AreBelow, RowsPrecede};
-ghost use Rattle.alta_images.specs.Standing.{AreLevels, tables_by};
-ghost use Rattle.alta_images.specs.Views.{View};
-ghost use Rattle.alta_images.specs.Work.{gone as gone_from, newest};
-ghost use Rattle.alta_images.specs.Working.{AreJoins, IsJoin, JoinsKeep, all_contents, oldest_contents, rows_of};
+ghost use Rattle.alta_meaning.specs.Broken.{HasLevels};
+ghost use Rattle.alta_meaning.specs.Holding.{Holding, IsHeld, IsJobOf, IsSpaced, IsWell};
+ghost use Rattle.alta_meaning.specs.Levels.{Level, document_of};
+ghost use Rattle.alta_meaning.specs.Opened.{Opened, IsOpened, bytes_at, table_rows, extent_of};
+ghost use Rattle.alta_meaning.specs.Ordered.{AreBelow, RowsPrecede};
+ghost use Rattle.alta_meaning.specs.Standing.{AreLevels, tables_by};
+ghost use Rattle.alta_meaning.specs.Views.{View};
+ghost use Rattle.alta_meaning.specs.Work.{gone as gone_from, newest};
+ghost use Rattle.alta_meaning.specs.Working.{AreJoins, IsJoin, JoinsKeep, all_contents, oldest_contents};
 ghost use Rattle.alta_joins.specs.Contents.{AreContentsOf, AreSegmentsOn, StandsOn, levels_with};
 ghost use Rattle.alta_joins.specs.Jobs.{AreJoinedOn, DeadAreGone, IsJoining, IsMerging, moved_by};
 ghost use Rattle.alta_memlevel.specs.Added.{Added, HasContent, IsSpace, live_of};
@@ -42,7 +42,7 @@ pub fn read_levels_are_opened()
 /// Contents of tables whose rows rise may be joined, and so may the content of documents that stand behind them.
 pub fn read_contents_may_join()
     ensures levels { (levels : List Tables) → (contents : List Content) → AreContentsOf levels contents → AreDocuments (table_rows levels) → MayJoin contents }
-    ensures rows { (levels : List Tables) → (contents : List Content) → AreContentsOf levels contents → rows_of contents ≡ table_rows levels }
+    ensures rows { (levels : List Tables) → (contents : List Content) → AreContentsOf levels contents → rows_in contents ≡ table_rows levels }
     ensures beside { (levels : List Tables) → (contents : List Content) → (number location : ℕ) → (added : List Added) → (content : Content) → AreContentsOf levels contents → AreDocuments (table_rows levels)
         → 1 ≤ number → 1 ≤ location → All (IsBefore number location) (table_rows levels) → AreAdded number location added → HasContent added content → MayJoin (contents ++ content ∷ []) }
 {}
@@ -52,9 +52,9 @@ pub fn read_contents_may_join()
 pub fn joins_are_levels()
     ensures part { (contents : List Content) → (dead : List ℕ) → MayJoin contents → IsPart (joined_in contents dead) }
     ensures level { (contents : List Content) → (dead : List ℕ) → MayJoin contents → 0 < length (joined_in contents dead).documents → IsContent (joined_in contents dead) }
-    ensures rows { (contents : List Content) → (dead : List ℕ) → (joined_in contents dead).documents ≡ live_rows dead (rows_of contents) }
-    ensures rise { (contents : List Content) → (dead : List ℕ) → RowsPrecede (rows_of contents) → RowsPrecede (joined_in contents dead).documents }
-    ensures below { (root : Root) → (contents : List Content) → (dead : List ℕ) → AreBelow root (rows_of contents) → AreBelow root (joined_in contents dead).documents }
+    ensures rows { (contents : List Content) → (dead : List ℕ) → (joined_in contents dead).documents ≡ live_rows dead (rows_in contents) }
+    ensures rise { (contents : List Content) → (dead : List ℕ) → RowsPrecede (rows_in contents) → RowsPrecede (joined_in contents dead).documents }
+    ensures below { (root : Root) → (contents : List Content) → (dead : List ℕ) → AreBelow root (rows_in contents) → AreBelow root (joined_in contents dead).documents }
 {}
 
 /// Joins of contents that may be joined keep documents. In place of some that stand beside each other their join may be joined with the

@@ -4,25 +4,23 @@ ghost use Rattle.alta_codec.specs.Faults.{Rose};
 ghost use Rattle.alta_content.specs.declared.content.Content.{Content};
 ghost use Rattle.alta_disk.specs.Calls.{Reads};
 ghost use Rattle.alta_disk.specs.Disk.{DiskState};
-ghost use Rattle.alta_images.specs.Broken.{IsBrokenIn};
-ghost use Rattle.alta_images.specs.Opened.{bytes_at};
-ghost use Rattle.alta_joins.specs.Answers.{IfDamaged, IsDamaged, IsFound};
+ghost use Rattle.alta_meaning.specs.Broken.{IsBrokenIn};
+ghost use Rattle.alta_disk.specs.Answers.{IfDamaged, IsDamaged, IsFound};
 ghost use Rattle.alta_joins.specs.Contents.{IsContentOf, IsSegmentOn, StandsOn, row_at};
 ghost use Rattle.alta_joins.specs.Damages.{IsDamageOn};
-ghost use Rattle.alta_joins.specs.declared.fault.JoinFault.TheVariants.{Disk as DiskFault, Memory};
+ghost use Rattle.alta_disk.specs.declared.fault.LoadFault.TheVariants.{Disk as DiskFault, Memory};
 ghost use Rattle.alta_level.specs.Damage.{AreListsOf, IsFaultInLists, data_place, stored_at};
 ghost use Rattle.alta_level.specs.Segments.{IsSegment};
 ghost use Rattle.alta_level.specs.Stored.{IsListFault, IsListOf, stored_of};
 ghost use Rattle.alta_table.specs.Tables.{tables_bytes};
 ghost use Rattle.alta_table.specs.Terms.{data_bytes};
 
-use crate::fault::JoinFault;
 use alta_codec::{Extent, Loc};
 use alta_content::{Content, DocRows, TermLists};
-use alta_disk::Disk;
+use alta_disk::{Disk, LoadFault, read_part};
 use alta_level::{StoredList, read_list, segments_read_back};
-use alta_table::{LevelFault, Table};
-use std::alloc::{AllocError, Global};
+use alta_table::{LevelFault, OpenLevel};
+use std::alloc::Global;
 
 /// Reads the content of a level. Its streams and summaries stand one behind the other, and are read by one read of the disk. The
 /// rows are those of the tables that were opened, and are copied. Each list is tested as [`alta_level::read_list`] tests it, and
@@ -32,7 +30,11 @@ use std::alloc::{AllocError, Global};
 ///
 /// `Damaged` exactly where a list of the level has a fault, at the place of the first fault of the first list that has one. `Disk`
 /// where the read failed. `Memory` where there was no memory.
-pub fn read_level<D: Disk>(alloc: Global, disk: &mut D, level: &Table) -> Result<Content, JoinFault>
+pub fn read_level<D: Disk>(
+    alloc: Global,
+    disk: &mut D,
+    level: &OpenLevel,
+) -> Result<Content, LoadFault>
     requires { D.tells → StandsOn (D.state disk.old).content level.now }
     // What is read is the content of the segment that stands there, and if there is one it is read.
     ensures segment { D.tells → IfOk result (IsSegmentOn (D.state disk.old).content level.now) }
@@ -49,12 +51,12 @@ pub fn read_level<D: Disk>(alloc: Global, disk: &mut D, level: &Table) -> Result
 {
     segments_read_back();
     let extent = data_extent(level)?;
-    let bytes = read_part(alloc, disk, extent)?;
+    let bytes = read_part(alloc, disk, extent.place, extent.bytes)?;
     content_in(alloc, level, &bytes, extent.place)
 }
 
 // Where the streams and summaries of a level stand.
-fn data_extent(level: &Table) -> Result<Extent, JoinFault>
+fn data_extent(level: &OpenLevel) -> Result<Extent, LoadFault>
     ensures place { IfOk result (λ extent. extent.place ≡ data_place level.now) }
     ensures bytes { IfOk result (λ extent. extent.bytes ≡ data_bytes level.now.terms) }
     ensures below { IfOk result (λ extent. extent.place + extent.bytes < 2 ^ 64) }
@@ -66,7 +68,7 @@ fn data_extent(level: &Table) -> Result<Extent, JoinFault>
     let (_stream, last) = level.stream_place(level.terms() - 1);
     // A level lies within its disk, so there is always such an end.
     let Some(end) = last.place.checked_add(last.bytes) else {
-        return Err(JoinFault::Memory);
+        return Err(LoadFault::Memory);
     };
     Ok(Extent {
         place: first.place,
@@ -74,29 +76,13 @@ fn data_extent(level: &Table) -> Result<Extent, JoinFault>
     })
 }
 
-// The bytes of an extent.
-fn read_part<D: Disk>(alloc: Global, disk: &mut D, extent: Extent) -> Result<Vec<u8>, JoinFault>
-    requires { D.tells → extent.place + extent.bytes ≤ length (D.state disk.old).content }
-    ensures read { D.tells → IfOk result (λ bytes. bytes.items ≡ bytes_at extent (D.state disk.old).content) }
-    ensures long { IfOk result (λ bytes. length bytes.items ≡ extent.bytes) }
-    ensures undamaged { IfDamaged result (λ place. ⊥) }
-    ensures cause { result ≡ Err DiskFault → Rose (D.state disk.old).faults (D.state disk.new).faults }
-    ensures reads { Reads D.tells extent.bytes (D.state disk.old) (D.state disk.new) }
-{
-    let mut bytes = zeros(alloc, extent.bytes as usize)?;
-    disk.read(extent.place, &mut bytes)?;
-    Ok(bytes)
-}
-
-// A buffer of this length.
-fn zeros(alloc: Global, n: usize) -> Result<Vec<u8>, AllocError>
-    ensures { IfOk result (λ v. length v.items ≡ n) }
-{
-    Ok(vec![in alloc; 0u8; n]?)
-}
-
 // The content of a level, whose lists stand in these bytes behind its tables.
-fn content_in(alloc: Global, level: &Table, bytes: &[u8], place: u64) -> Result<Content, JoinFault>
+fn content_in(
+    alloc: Global,
+    level: &OpenLevel,
+    bytes: &[u8],
+    place: u64,
+) -> Result<Content, LoadFault>
     requires long { length bytes.now ≡ data_bytes level.now.terms }
     requires place { place ≡ data_place level.now }
     requires below { place + length bytes.now < 2 ^ 64 }
@@ -117,7 +103,12 @@ fn content_in(alloc: Global, level: &Table, bytes: &[u8], place: u64) -> Result<
 }
 
 // The lists of all rows, whose streams and summaries stand one behind the other. No list takes memory of its own.
-fn lists_in(alloc: Global, level: &Table, bytes: &[u8], place: u64) -> Result<TermLists, JoinFault>
+fn lists_in(
+    alloc: Global,
+    level: &OpenLevel,
+    bytes: &[u8],
+    place: u64,
+) -> Result<TermLists, LoadFault>
     requires whole { data_bytes level.now.terms ≤ length bytes.now }
     requires below { place + length bytes.now < 2 ^ 64 }
     ensures found { IfOk result (AreListsOf level.now.documents level.now.terms bytes.now place) }
@@ -156,11 +147,11 @@ fn put_row(
     lists: &mut TermLists,
     locations: &mut Vec<Loc>,
     places: &mut Vec<u64>,
-    level: &Table,
+    level: &OpenLevel,
     row: usize,
     bytes: &[u8],
     place: u64,
-) -> Result<(), JoinFault>
+) -> Result<(), LoadFault>
     requires row { row < length level.now.terms }
     requires whole { (row_at level.now row).stream + (row_at level.now row).summary ≤ length bytes.now }
     requires below { place + length bytes.now < 2 ^ 64 }
@@ -175,13 +166,13 @@ fn put_row(
             lists.put(list.term, locations)?;
             Ok(())
         }
-        Err(LevelFault::Damaged(place)) => Err(JoinFault::Damaged(place)),
-        Err(LevelFault::Memory) => Err(JoinFault::Memory),
+        Err(LevelFault::Damaged(place)) => Err(LoadFault::Damaged(place)),
+        Err(LevelFault::Memory) => Err(LoadFault::Memory),
     }
 }
 
 // The list of a row, as it stands at the front of these bytes.
-fn stored<'a>(level: &'a Table, row: usize, bytes: &'a [u8], place: u64) -> StoredList<'a>
+fn stored<'a>(level: &'a OpenLevel, row: usize, bytes: &'a [u8], place: u64) -> StoredList<'a>
     requires row { row < length level.now.terms }
     requires whole { (row_at level.now row).stream + (row_at level.now row).summary ≤ length bytes.now }
     requires below { place + length bytes.now < 2 ^ 64 }

@@ -6,18 +6,17 @@ ghost use Rattle.alta_content.specs.Parts.{MayJoin};
 ghost use Rattle.alta_content.specs.Rows.{AreDocuments};
 ghost use Rattle.alta_disk.specs.Calls.{Reads};
 ghost use Rattle.alta_disk.specs.Disk.{DiskState};
-ghost use Rattle.alta_images.specs.Broken.{IsBrokenAmong};
-ghost use Rattle.alta_images.specs.Opened.{table_rows};
-ghost use Rattle.alta_joins.specs.Answers.{IfDamaged};
+ghost use Rattle.alta_meaning.specs.Broken.{IsBrokenAmong};
+ghost use Rattle.alta_meaning.specs.Opened.{table_rows};
+ghost use Rattle.alta_disk.specs.Answers.{IfDamaged};
 ghost use Rattle.alta_joins.specs.Contents.{AreContentsOf, StandsOn, data_size};
 ghost use Rattle.alta_joins.specs.Damages.{Tells};
-ghost use Rattle.alta_joins.specs.declared.fault.JoinFault.TheVariants.{Disk as DiskFault};
+ghost use Rattle.alta_disk.specs.declared.fault.LoadFault.TheVariants.{Disk as DiskFault};
 
-use crate::fault::JoinFault;
 use crate::level::read_level;
 use alta_content::Content;
-use alta_disk::Disk;
-use alta_table::Table;
+use alta_disk::{Disk, LoadFault};
+use alta_table::OpenLevel;
 use std::alloc::Global;
 
 /// Reads the contents of levels, one after the other, each as [`read_level`] reads one.
@@ -28,8 +27,8 @@ use std::alloc::Global;
 pub fn read_levels<D: Disk>(
     alloc: Global,
     disk: &mut D,
-    levels: &[Table],
-) -> Result<Vec<Content>, JoinFault>
+    levels: &[OpenLevel],
+) -> Result<Vec<Content>, LoadFault>
     requires { D.tells → All (StandsOn (D.state disk.old).content) levels.now }
     // The contents are those of the segments that stand there, or the damage is the first.
     ensures tells { D.tells → Tells (λ contents. contents.items) (D.state disk.old).content levels.now result }
@@ -47,7 +46,7 @@ pub fn read_levels<D: Disk>(
             Err(fault) => return Err(fault),
             Ok(content) => {
                 let Ok(()) = contents.push(content) else {
-                    return Err(JoinFault::Memory);
+                    return Err(LoadFault::Memory);
                 };
             }
         }

@@ -1,7 +1,6 @@
 //! Levels read whole from the disk, and joined to one content: at once, or in slices.
 #![tactic(auto)]
 
-mod fault;
 mod joining;
 mod laws;
 mod level;
@@ -9,7 +8,6 @@ mod levels;
 mod oldest;
 
 pub use alta_merge::Job;
-pub use fault::JoinFault;
 pub use joining::{begin_job, finish_job, join_levels, run_job, step_job};
 pub use laws::{
     joins_are_levels, joins_go_on, joins_keep_documents, read_contents_may_join,

@@ -7,26 +7,25 @@ ghost use Rattle.alta_content.specs.Rows.{AreDocuments, live_rows};
 ghost use Rattle.alta_content.specs.declared.content.Content.{Content};
 ghost use Rattle.alta_disk.specs.Calls.{Reads};
 ghost use Rattle.alta_disk.specs.Disk.{DiskState};
-ghost use Rattle.alta_images.specs.Broken.{IsBrokenAmong};
-ghost use Rattle.alta_images.specs.Opened.{table_rows};
-ghost use Rattle.alta_joins.specs.Answers.{IfDamaged};
+ghost use Rattle.alta_meaning.specs.Broken.{IsBrokenAmong};
+ghost use Rattle.alta_meaning.specs.Opened.{table_rows};
+ghost use Rattle.alta_disk.specs.Answers.{IfDamaged};
 ghost use Rattle.alta_joins.specs.Contents.{AreContentsOf, AreSegmentsOn, StandsOn, data_size};
 ghost use Rattle.alta_joins.specs.Damages.{FindsDamage};
 ghost use Rattle.alta_joins.specs.Jobs.{AreJoinedOn, IsBegun, IsJoining};
 ghost use Rattle.alta_joins.specs.Newest.{IsNewest};
-ghost use Rattle.alta_joins.specs.declared.fault.JoinFault.TheVariants.{Disk as DiskFault};
+ghost use Rattle.alta_disk.specs.declared.fault.LoadFault.TheVariants.{Disk as DiskFault};
 ghost use Rattle.alta_memlevel.specs.Added.{Added};
 ghost use Rattle.alta_content.specs.Joining.{joined_in};
 ghost use Rattle.alta_memlevel.specs.Documents.{content_of};
 
-use crate::fault::JoinFault;
 use crate::joining::{begin_job, join_levels};
 use crate::levels::read_levels;
 use alta_codec::Loc;
 use alta_content::Content;
-use alta_disk::Disk;
+use alta_disk::{Disk, LoadFault};
 use alta_merge::Job;
-use alta_table::Table;
+use alta_table::OpenLevel;
 use std::alloc::Global;
 
 /// Reads the two oldest of these levels, and begins their join without what is gone.
@@ -37,9 +36,9 @@ use std::alloc::Global;
 pub fn begin_oldest<D: Disk>(
     alloc: Global,
     disk: &mut D,
-    levels: &[Table],
+    levels: &[OpenLevel],
     gone: &[Loc],
-) -> Result<Job, JoinFault>
+) -> Result<Job, LoadFault>
     requires two { 2 ≤ length levels.now }
     requires stands { D.tells → All (StandsOn (D.state disk.old).content) levels.now }
     requires documents { AreDocuments (table_rows levels.now) }
@@ -63,10 +62,10 @@ pub fn begin_oldest<D: Disk>(
 pub fn merge_levels<D: Disk>(
     alloc: Global,
     disk: &mut D,
-    levels: &[Table],
+    levels: &[OpenLevel],
     newest: Content,
     gone: &[Loc],
-) -> Result<Content, JoinFault>
+) -> Result<Content, LoadFault>
     requires stands { D.tells → All (StandsOn (D.state disk.old).content) levels.now }
     requires documents { AreDocuments (table_rows levels.now) }
     requires newest { (added : List Added) × IsNewest levels.now gone.now added newest }

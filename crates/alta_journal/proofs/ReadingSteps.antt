@@ -14,9 +14,9 @@ use Rattle.alta_journal.specs.Record.{record_of}
 use Rattle.alta_journal.specs.declared.entry.Entry.{Entry}
 use Rattle.alta_journal.specs.declared.placed.Placed.{Placed}
 use Rattle.alta_journal.specs.declared.places.TheConstants.{GATE_OPEN, HEAD_BYTES}
-use Rattle.alta_journal.specs.declared.replaying.OpenFault.TheVariants as faults
-use Rattle.alta_journal.specs.declared.replaying.OpenFault.{OpenFault}
-use Rattle.alta_journal.specs.OpenFault.{IsNoDamage}
+use Rattle.alta_disk.specs.declared.fault.LoadFault.TheVariants as faults
+use Rattle.alta_disk.specs.declared.fault.LoadFault.{LoadFault}
+use Rattle.alta_disk.specs.Answers.{IsNoDamage}
 use Rattle.alta_journal.proofs.ReadingLaws.{Small, small_take, small_drop, entry_is, entry_back}
 use Rattle.alta_journal.proofs.Spelling.{four_long, record_long, four-of_four}
 use Rattle.alta_journal.proofs.Steps.{take_sum, begins_more}
@@ -146,7 +146,7 @@ same_replay version start tail q found entries image (ys, found_is, ends) other 
     (found_is ∙ ap (λ (l : List Entry). placed start l) same.1, same.0)
 
 -- no damage where the half is sound
-pub no_damage : (version start q : ℕ) (entries : List Entry) (image : List ℕ) → EndsAt version start q entries image → (fault : OpenFault) → ((place : ℕ) → fault ≡ faults.Damaged place → HasBrokenHalf version start place image)
+pub no_damage : (version start q : ℕ) (entries : List Entry) (image : List ℕ) → EndsAt version start q entries image → (fault : LoadFault) → ((place : ℕ) → fault ≡ faults.Damaged place → HasBrokenHalf version start place image)
     → IsNoDamage fault
 no_damage version start q entries image ends (faults.Damaged place) damaged = not_both version start q place entries image ends (damaged place refl)
 no_damage version start q entries image ends faults.Disk damaged = tt

@@ -1,7 +1,6 @@
 pub mod Entry
 pub mod Found
 pub mod Journal
-pub mod OpenFault
 pub mod Placed
 pub mod Places
 pub mod Reading

@@ -82,7 +82,7 @@ pub fn append<D: Disk>(disk: &mut D, tail: &mut Tail, ready: &Ready) -> Result<(
 /// # Errors
 ///
 /// `Failed` where a call of the disk failed. A stop may then leave the gate open or closed.
-pub fn format<D: Disk>(disk: &mut D, half: Half) -> Result<Tail, Failed>
+pub fn close_half<D: Disk>(disk: &mut D, half: Half) -> Result<Tail, Failed>
     requires size { D.tells → HEAD_BYTES ≤ length (D.state disk.old).content }
     requires limit { HEAD_BYTES ≤ (D.state disk.old).limit }
     ensures written { D.tells → OnOk result (Holds (D.state disk.old).content (start_of half) (GATE_CLOSED ∷ []) (D.state disk.new).content) }

@@ -115,7 +115,11 @@ fn texts_from(alloc: Global, fields: &[u8]) -> Result<Option<(Text, Text, Text)>
     let Some(body) = line(body) else {
         return Ok(None);
     };
-    Ok(Some((text(alloc, name)?, text(alloc, title)?, text(alloc, body)?)))
+    Ok(Some((
+        Text::of(alloc, name)?,
+        Text::of(alloc, title)?,
+        Text::of(alloc, body)?,
+    )))
 }
 
 // Whether three texts are not too long together.
@@ -126,13 +130,6 @@ fn are_short(name: &[u8], title: &[u8], body: &[u8]) -> bool
     name.len() <= limit
         && title.len() <= limit - name.len()
         && body.len() <= limit - name.len() - title.len()
-}
-
-// An owned copy of a text.
-fn text(alloc: Global, text: &str) -> Result<Text, AllocError>
-    ensures { IfOk result (λ t. t ≡ text.now) }
-{
-    Ok(Text::from_string(String::from_str(alloc, text)?))
 }
 
 // The bytes as text, where they are a name.

@@ -12,7 +12,7 @@ mod preparing;
 mod record;
 mod replaying;
 
-pub use appending::{JournalFault, append, format};
+pub use appending::{JournalFault, append, close_half};
 pub use entry::Entry;
 pub use half::{Half, Tail};
 pub use laws::{a_half_is_read_in_one_way, a_half_is_read_or_broken};
@@ -22,4 +22,4 @@ pub use places::{
 };
 pub use preparing::{is_old, ready};
 pub use record::Ready;
-pub use replaying::{OpenFault, replay};
+pub use replaying::replay;

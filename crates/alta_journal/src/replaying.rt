@@ -3,10 +3,10 @@ ghost use Rattle.std.specs.Prelude.{◌≡◌, ◌⊎◌, ◌≢◌, ℕ, ◌+�
 ghost use Rattle.alta_codec.specs.Faults.{Rose};
 ghost use Rattle.alta_disk.specs.Disk.{DiskState, Same, Passes};
 ghost use Rattle.alta_disk.specs.Parts.{part};
-ghost use Rattle.alta_journal.specs.declared.replaying.OpenFault.TheVariants.{Memory, Disk as DiskFault};
+ghost use Rattle.alta_disk.specs.declared.fault.LoadFault.TheVariants.{Memory, Disk as DiskFault};
 ghost use Rattle.alta_journal.specs.Entry.{MayBeRecorded};
 ghost use Rattle.alta_journal.specs.Journal.{EndsAt, HasBrokenHalf, HasBrokenRecord};
-ghost use Rattle.alta_journal.specs.OpenFault.{IsNoDamage};
+ghost use Rattle.alta_disk.specs.Answers.{IsNoDamage};
 ghost use Rattle.alta_journal.specs.declared.entry.Entry.{Entry};
 ghost use Rattle.alta_journal.specs.Placed.{placed, IsReplay, IsReading};
 ghost use Rattle.alta_journal.specs.Places.{start_of, half_at, HasClosedGate};
@@ -16,45 +16,9 @@ ghost use Rattle.alta_journal.specs.declared.places.TheConstants.{HEAD_BYTES};
 use crate::fields::entry_from;
 use crate::places::{GATE_OPEN, HALF_BYTES};
 use crate::{Half, Placed, Tail};
-use alta_codec::Failed;
-use alta_disk::Disk;
-use std::alloc::{AllocError, AllocFailed, Global};
-
-/// Why a half was not read.
-#[derive(Clone, Copy, Debug, PartialEq, Eq)]
-pub enum OpenFault {
-    /// A call of the disk failed.
-    Disk,
-    /// There was no memory.
-    Memory,
-    /// A record breaks a rule. The place on the disk is that behind its gate where its length leaves no room in the
-    /// half for the next gate, and else that of its payload.
-    Damaged(u64),
-}
-
-impl From<Failed> for OpenFault {
-    ghost from_gives = { λ _ e. e ≡ DiskFault };
-
-    fn from(_: Failed) -> Self {
-        OpenFault::Disk
-    }
-}
-
-impl From<AllocError> for OpenFault {
-    ghost from_gives = { λ _ e. e ≡ Memory };
-
-    fn from(_: AllocError) -> Self {
-        OpenFault::Memory
-    }
-}
-
-impl<T: Drop> From<AllocFailed<T>> for OpenFault {
-    ghost from_gives = { λ _ e. e ≡ Memory };
-
-    fn from(_: AllocFailed<T>) -> Self {
-        OpenFault::Memory
-    }
-}
+use alta_codec::zeros;
+use alta_disk::{Disk, LoadFault};
+use std::alloc::Global;
 
 /// Reads the entries of a half, each with the place of its record's gate, and the half's tail, the first closed gate. Each entry
 /// keeps the rules of a record under a root of this version, which is 1 or 2.
@@ -69,24 +33,24 @@ pub fn replay<D: Disk>(
     disk: &mut D,
     half: Half,
     version: u8,
-) -> Result<(Vec<Placed>, Tail), OpenFault>
+) -> Result<(Vec<Placed>, Tail), LoadFault>
     requires size { D.tells → HEAD_BYTES ≤ length (D.state disk.old).content }
     requires version { (1 ≤ version) × (version ≤ 2) }
 
     ensures read { D.tells → IfOk result (λ r. IsReplay version (start_of half) r.0.items r.1.place (D.state disk.old).content) }
     ensures half { IfOk result (λ r. r.1.half ≡ half) }
     ensures rules { IfOk result (λ r. All (λ p. MayBeRecorded version p.entry) r.0.items) }
-    ensures damaged { D.tells → IfErr result (λ e. (place : ℕ) → e ≡ OpenFault.Damaged place → HasBrokenHalf version (start_of half) place (D.state disk.old).content) }
+    ensures damaged { D.tells → IfErr result (λ e. (place : ℕ) → e ≡ LoadFault.Damaged place → HasBrokenHalf version (start_of half) place (D.state disk.old).content) }
 
     // What the half says decides the answer, but for a fault of the disk and want of memory.
     ensures sound { D.tells → (tail : ℕ) → (entries : List Entry) → EndsAt version (start_of half) tail entries (D.state disk.old).content
         → MatchResult result (λ r. (r.0.items ≡ placed (start_of half) entries) × (r.1.place ≡ tail)) IsNoDamage }
     ensures broken { D.tells → (place : ℕ) → HasBrokenHalf version (start_of half) place (D.state disk.old).content
-        → MatchResult result (λ _. ⊥) (λ e. (other : ℕ) → e ≡ OpenFault.Damaged other → other ≡ place) }
+        → MatchResult result (λ _. ⊥) (λ e. (other : ℕ) → e ≡ LoadFault.Damaged other → other ≡ place) }
 
     ensures content { D.tells → (D.state disk.new).content ≡ (D.state disk.old).content }
     ensures images { Passes Same (D.state disk.old) (D.state disk.new) }
-    ensures cause { result ≡ Err OpenFault.Disk → Rose (D.state disk.old).faults (D.state disk.new).faults }
+    ensures cause { result ≡ Err LoadFault.Disk → Rose (D.state disk.old).faults (D.state disk.new).faults }
     ensures faults { (D.state disk.old).faults ≤ (D.state disk.new).faults }
     ensures taken { ((D.state disk.old).taken ≤ (D.state disk.new).taken) × ((D.state disk.new).taken ≤ (D.state disk.old).taken + HALF_BYTES) }
     ensures limit { (D.state disk.new).limit ≡ (D.state disk.old).limit }
@@ -96,14 +60,14 @@ pub fn replay<D: Disk>(
 }
 
 // The bytes of a half.
-fn read_half<D: Disk>(alloc: Global, disk: &mut D, half: Half) -> Result<Vec<u8>, OpenFault>
+fn read_half<D: Disk>(alloc: Global, disk: &mut D, half: Half) -> Result<Vec<u8>, LoadFault>
     requires { D.tells → HEAD_BYTES ≤ length (D.state disk.old).content }
     ensures bytes { D.tells → IfOk result (λ v. v.items ≡ half_at (start_of half) (D.state disk.old).content) }
     ensures length { IfOk result (λ v. length v.items ≡ HALF_BYTES) }
     ensures damaged { IfErr result (λ e. (e ≡ DiskFault) ⊎ (e ≡ Memory)) }
     ensures content { D.tells → (D.state disk.new).content ≡ (D.state disk.old).content }
     ensures images { Passes Same (D.state disk.old) (D.state disk.new) }
-    ensures cause { result ≡ Err OpenFault.Disk → Rose (D.state disk.old).faults (D.state disk.new).faults }
+    ensures cause { result ≡ Err LoadFault.Disk → Rose (D.state disk.old).faults (D.state disk.new).faults }
     ensures faults { (D.state disk.old).faults ≤ (D.state disk.new).faults }
     ensures taken { ((D.state disk.old).taken ≤ (D.state disk.new).taken) × ((D.state disk.new).taken ≤ (D.state disk.old).taken + HALF_BYTES) }
     ensures limit { (D.state disk.new).limit ≡ (D.state disk.old).limit }
@@ -113,25 +77,18 @@ fn read_half<D: Disk>(alloc: Global, disk: &mut D, half: Half) -> Result<Vec<u8>
     Ok(bytes)
 }
 
-// A buffer of this length. In the caller no list of a million zeros stands.
-fn zeros(alloc: Global, n: usize) -> Result<Vec<u8>, AllocError>
-    ensures { IfOk result (λ v. length v.items ≡ n) }
-{
-    Ok(vec![in alloc; 0u8; n]?)
-}
-
 // The entries in the bytes of a half.
 fn read_records(
     alloc: Global,
     half: Half,
     version: u8,
     bytes: &[u8],
-) -> Result<(Vec<Placed>, Tail), OpenFault>
+) -> Result<(Vec<Placed>, Tail), LoadFault>
     requires { length bytes.now ≡ HALF_BYTES }
     ensures read { IfOk result (λ r. (start_of half ≤ r.1.place) × IsReading version (start_of half) r.0.items (r.1.place - start_of half) bytes.now × HasClosedGate (r.1.place - start_of half) bytes.now) }
     ensures half { IfOk result (λ r. r.1.half ≡ half) }
     ensures rules { IfOk result (λ r. All (λ p. MayBeRecorded version p.entry) r.0.items) }
-    ensures damaged { IfErr result (λ e. (place : ℕ) → e ≡ OpenFault.Damaged place → (start_of half ≤ place) × HasBrokenRecord version (place - start_of half) bytes.now) }
+    ensures damaged { IfErr result (λ e. (place : ℕ) → e ≡ LoadFault.Damaged place → (start_of half ≤ place) × HasBrokenRecord version (place - start_of half) bytes.now) }
     ensures disk { IfErr result (λ e. e ≢ DiskFault) }
 {
     let start = half.start();
@@ -139,10 +96,10 @@ fn read_records(
     let mut at = 0usize;
     while bytes[at] == GATE_OPEN {
         let Some(payload) = payload_of(&bytes[at..]) else {
-            return Err(OpenFault::Damaged(start + at as u64 + 1));
+            return Err(LoadFault::Damaged(start + at as u64 + 1));
         };
         let Some(entry) = entry_from(alloc, version, payload)? else {
-            return Err(OpenFault::Damaged(start + at as u64 + 5));
+            return Err(LoadFault::Damaged(start + at as u64 + 5));
         };
         entries.push(Placed {
             place: start + at as u64,

@@ -8,7 +8,7 @@ use Rattle.alta_codec.specs.Rising.{IsRising, IsPlace, first_from, pred_of}
 use Rattle.alta_codec.proofs.Places.{first_from-above, first_from-least, first_from-place, pred_of-below, pred_of-mono}
 use Rattle.alta_compound.specs.Unions.{pred_same}
 use Rattle.alta_lead.specs.Followed.{ends_followed}
-use Rattle.alta_lead.specs.FollowedLaws.{followed-answers}
+use Rattle.alta_lead.proofs.FollowedLaws.{followed-answers}
 use Rattle.alta_lead.specs.Moves.{AreAhead, IsMoved, AreMoved}
 use Rattle.alta_lead.specs.Tallying.{IsLedTo}
 use Rattle.alta_lead.proofs.Moving.{all_still, all_moved_then, all_moved_more}

@@ -7,3 +7,5 @@ pub mod Leading
 pub mod Moving
 pub mod Rounding
 pub mod Tallying
+pub mod AnyLaws
+pub mod FollowedLaws

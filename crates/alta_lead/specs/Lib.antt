@@ -1,6 +1,4 @@
-pub mod AnyLaws
 pub mod Followed
-pub mod FollowedLaws
 pub mod Having
 pub mod HavingLaws
 pub mod Moves

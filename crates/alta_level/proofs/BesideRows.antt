@@ -3,7 +3,7 @@ use Rattle.std.proofs.Common.{◌≡◌, ⊎_elim, inr, ℕ, ◌-◌, ◌*◌, �
 use Rattle.std.proofs.lemmas.Bool.{cases_lt}
 use Rattle.alta_postings.specs.Deltas.{Spells, HasPlaces, decoded_list}
 use Rattle.alta_postings.proofs.Reading.{spelling_reads}
-use Rattle.alta_summary.specs.Table.{IsSummary}
+use Rattle.alta_postings.specs.Table.{IsSummary}
 use Rattle.alta_words.specs.Fault.{Agrees, IsFirstDifferent}
 use Rattle.alta_words.specs.Word.{IsPosting}
 use Rattle.alta_level.specs.Decoded.{AreRowsOf, IsFirstOther}

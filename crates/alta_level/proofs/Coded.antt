@@ -10,9 +10,9 @@ use Rattle.alta_codec.specs.Numbers.{number_bytes}
 use Rattle.alta_codec.specs.Rising.{IsRising}
 use Rattle.alta_postings.specs.Deltas.{Spells, stream_bytes, decoded_list}
 use Rattle.alta_postings.proofs.Reading.{spelling_reads}
-use Rattle.alta_summary.specs.declared.summary.Row.{Row}
-use Rattle.alta_summary.specs.Table.{field_at, groups_of, last_row, firsts_of, lasts_of, places_of, kept_of, IsSummary, AreRows, HasRowValues, HasGroupFields, IsTableOf}
-use Rattle.alta_summary.proofs.Growing.{table_is}
+use Rattle.alta_postings.specs.declared.summary.Row.{Row}
+use Rattle.alta_postings.specs.Table.{field_at, groups_of, last_row, firsts_of, lasts_of, places_of, kept_of, IsSummary, AreRows, HasRowValues, HasGroupFields, IsTableOf}
+use Rattle.alta_postings.proofs.Growing.{table_is}
 use Rattle.alta_words.specs.declared.checking.PostingFault.{PostingFault}
 use Rattle.alta_words.specs.Word.{IsPosting, IsRowOf}
 use Rattle.alta_level.specs.declared.walking.Walked.{Walked}

@@ -7,10 +7,10 @@ use Rattle.alta_codec.proofs.Numerals.{AreBytes}
 use Rattle.alta_postings.specs.declared.fault.StreamFault.{StreamFault}
 use Rattle.alta_postings.specs.Deltas.{Spells, stream_bytes, first_fault, decoded_list}
 use Rattle.alta_postings.proofs.Reading.{reading_spells}
-use Rattle.alta_summary.specs.Table.{field_at, fields_of, last_row, HasRows, Keeps, IsSummary, IsFault}
+use Rattle.alta_postings.specs.Table.{field_at, fields_of, last_row, HasRows, Keeps, IsSummary, IsFault}
 use Rattle.alta_content.specs.declared.document.DocRow.{DocRow}
 use Rattle.alta_table.specs.declared.term.TermRow.{TermRow}
-use Rattle.alta_format.specs.FormatLaws.{done, failed}
+use Rattle.alta_format.proofs.FormatLaws.{done, failed}
 use Rattle.alta_table.specs.Tables.{Tables, AreTables, IsDamage, tables_bytes, tables_of}
 use Rattle.alta_table.specs.Terms.{data_of}
 use Rattle.alta_words.specs.Fault.{Agrees, IsFirstDifferent}

@@ -10,7 +10,7 @@ use Rattle.alta_postings.specs.declared.fault.StreamCause.TheVariants.{Zero, Top
 use Rattle.alta_postings.specs.declared.fault.StreamFault.{StreamFault}
 use Rattle.alta_postings.specs.Deltas.{cause_of, fault_at, number_fault, fault_from, first_fault, decoded_list}
 use Rattle.alta_postings.proofs.Reading.{spelling_reads, no_list}
-use Rattle.alta_summary.specs.Table.{IsSummary, IsFault, IsFirstBroken}
+use Rattle.alta_postings.specs.Table.{IsSummary, IsFault, IsFirstBroken}
 use Rattle.alta_content.specs.declared.document.DocRow.{DocRow}
 use Rattle.alta_words.specs.declared.checking.PostingFault.{PostingFault}
 use Rattle.alta_words.specs.declared.checking.PostingFault.TheVariants as wrong

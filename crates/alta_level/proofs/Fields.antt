@@ -7,7 +7,7 @@ use Rattle.std.proofs.lemmas.Bool.{cases_lt}
 use Rattle.std.proofs.lemmas.List.{drop-drop, get_or-drop, get_or-take, get_or_past, length-take, take-append-drop}
 use Rattle.std.proofs.lemmas.Nat.{from_be_bytes-to_be_bytes_8, be_bytes_8}
 use Rattle.alta_codec.proofs.Numerals.{AreBytes}
-use Rattle.alta_summary.specs.Table.{field_at}
+use Rattle.alta_postings.specs.Table.{field_at}
 
 abbrev pub fields_bytes : List ℕ → List ℕ
 fields_bytes fields = flat_map (to_be_bytes w64) fields

@@ -1,7 +1,7 @@
 -- A segment is of one content, a damaged one has one first fault, and no bytes are both.
 use Rattle.std.proofs.Common.{◌≡◌, inl, inr, ℕ, ◌+◌, ◌^◌, ◌<◌, List, [], ◌∷◌, length, drop, sym, subst, ap, ◌∙◌, arith, length-drop}
 use Rattle.std.proofs.lemmas.List.{length-take}
-use Rattle.alta_format.specs.FormatLaws.{done, failed}
+use Rattle.alta_format.proofs.FormatLaws.{done, failed}
 use Rattle.alta_content.specs.declared.document.DocRow.{DocRow}
 use Rattle.alta_table.specs.declared.term.TermRow.{TermRow}
 use Rattle.alta_table.specs.Tables.{Tables, AreTables, IsDamage, tables_bytes, tables_of}

@@ -5,7 +5,7 @@ use Rattle.std.proofs.lemmas.List.FromFn.{map-range_with_len_more}
 use Rattle.std.proofs.lemmas.List.{get_or-append-add}
 use Rattle.alta_codec.proofs.Numerals.{AreBytes}
 use Rattle.alta_postings.specs.Deltas.{HasPlaces}
-use Rattle.alta_summary.specs.declared.summary.Row.{Row}
+use Rattle.alta_postings.specs.declared.summary.Row.{Row}
 use Rattle.alta_level.specs.Coded.{block_of, blocks_of}
 
 row_ext : (row : Row) (first last place : ℕ) → row.first ≡ first → row.last ≡ last → row.place ≡ place → row ≡ record { first = first; last = last; place = place }

@@ -4,8 +4,8 @@ use Rattle.std.specs.Prelude.{flat_map}
 use Rattle.std.proofs.lemmas.Bool.{cases_lt}
 use Rattle.std.proofs.lemmas.List.{get_or-append-add}
 use Rattle.std.proofs.lemmas.List.FromFn.{length-map-range_with_len, get_or-map-range_with_len}
-use Rattle.alta_summary.specs.declared.summary.Row.{Row}
-use Rattle.alta_summary.specs.Table.{groups_of, fields_of, last_row, firsts_of, lasts_of, places_of}
+use Rattle.alta_postings.specs.declared.summary.Row.{Row}
+use Rattle.alta_postings.specs.Table.{groups_of, fields_of, last_row, firsts_of, lasts_of, places_of}
 use Rattle.alta_level.specs.Coded.{row_fields, group_fields, table_fields}
 
 -- ---- the fields of rows, by their number

@@ -3,7 +3,7 @@ use Rattle.std.proofs.Common.{◌≡◌, ℕ, List, ap, Result, Ok, Err}
 use Rattle.std.specs.Prelude.{nat_lt, if◌then◌else◌, ◌+◌, ◌-◌}
 use Rattle.std.specs.List.{list_any}
 use Rattle.alta_format.specs.Format.{◌>>=◌, part}
-use Rattle.alta_format.specs.FormatLaws.{failed}
+use Rattle.alta_format.proofs.FormatLaws.{failed}
 use Rattle.alta_table.specs.declared.fault.LevelFault.{LevelFault}
 use Rattle.alta_table.specs.declared.fault.LevelFault.TheVariants as faults
 use Rattle.alta_table.specs.declared.sizes.Head.{Head}

@@ -4,8 +4,8 @@ use Rattle.std.specs.Int.{w64, to_be_bytes}
 use Rattle.std.specs.List.{range_with_len}
 use Rattle.alta_codec.specs.Rising.{IsRising}
 use Rattle.alta_postings.specs.Deltas.{stream_bytes}
-use Rattle.alta_summary.specs.declared.summary.Row.{Row}
-use Rattle.alta_summary.specs.Table.{groups_of, last_row, lasts_of}
+use Rattle.alta_postings.specs.declared.summary.Row.{Row}
+use Rattle.alta_postings.specs.Table.{groups_of, last_row, lasts_of}
 
 -- block i of a list: its first and its last location, and the place of its first number in the stream
 abbrev pub block_of : List ℕ → ℕ → Row

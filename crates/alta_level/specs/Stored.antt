@@ -3,7 +3,7 @@ use Rattle.std.specs.Prelude.{◌≡◌, ℕ, ◌+◌, ◌*◌, ◌<◌, List, l
 use Rattle.alta_codec.specs.Rising.{IsRising}
 use Rattle.alta_postings.specs.declared.fault.StreamCause.{StreamCause}
 use Rattle.alta_postings.specs.Deltas.{Spells, fault_at, first_fault, decoded_list}
-use Rattle.alta_summary.specs.Table.{IsFault}
+use Rattle.alta_postings.specs.Table.{IsFault}
 use Rattle.alta_words.specs.Fault.{IsFirstDifferent}
 use Rattle.alta_words.specs.Word.{IsPosting}
 use Rattle.alta_content.specs.declared.document.DocRow.{DocRow}

@@ -8,8 +8,7 @@ ghost use Rattle.alta_postings.specs.Deltas.{fault_from};
 use crate::ranges::ranges_from;
 use alta_codec::Loc;
 use alta_content::Runs;
-use alta_postings::{BlockSpan, StreamFault, fill_block, scan_block};
-use alta_summary::Summary;
+use alta_postings::{BlockSpan, StreamFault, Summary, fill_block, scan_block};
 use alta_words::Compared;
 use arrayvec::ArrayVec;
 

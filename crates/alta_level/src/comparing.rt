@@ -7,7 +7,7 @@ ghost use Rattle.alta_level.specs.Coded.{IsCoded};
 ghost use Rattle.alta_level.specs.Decoded.{AreRowsOf, IsFirstOther};
 
 use alta_codec::Loc;
-use alta_summary::Summary;
+use alta_postings::Summary;
 use alta_words::PostingFault;
 
 // Whether a row has these values.

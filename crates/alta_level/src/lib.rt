@@ -19,7 +19,7 @@ mod walking;
 mod writing;
 
 pub use alta_content::{Content, DocRow, DocRows, TermLists};
-pub use alta_table::{Head, LevelFault, Table, head};
+pub use alta_table::{Head, LevelFault, OpenLevel, head};
 pub use building::build;
 pub use checking::{check_list, read_list};
 pub use laws::segments_read_back;

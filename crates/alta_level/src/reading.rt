@@ -14,12 +14,12 @@ use crate::laws::segments_read_back;
 use crate::stored::StoredList;
 use alta_codec::Loc;
 use alta_content::{Content, DocRows, LevelRows, TermLists};
-use alta_table::{LevelFault, Table, head, tables_in_front, tables_read_back};
+use alta_table::{LevelFault, OpenLevel, head, tables_in_front, tables_read_back};
 use std::alloc::Global;
 use std::rc::Rc;
 
 // The tables of a segment, and how many bytes they have.
-fn tables_at(alloc: Global, bytes: &[u8], place: u64) -> Result<(Table, usize), LevelFault>
+fn tables_at(alloc: Global, bytes: &[u8], place: u64) -> Result<(OpenLevel, usize), LevelFault>
     requires { place + length bytes.now < 2 ^ 64 }
     ensures found { IfOk result (λ x. AreTables bytes.now place (length bytes.now) x.0) }
     ensures len { IfOk result (λ x. x.1 ≡ length (tables_bytes x.0.documents x.0.terms)) }
@@ -33,7 +33,7 @@ fn tables_at(alloc: Global, bytes: &[u8], place: u64) -> Result<(Table, usize), 
         Ok(head) => {
             let len = (32 + head.document_bytes + head.term_bytes) as usize;
             let (front, _lists) = bytes.split_at(len);
-            match Table::open(alloc, front, place, total) {
+            match OpenLevel::open(alloc, front, place, total) {
                 Ok(table) => Ok((table, len)),
                 Err(fault) => Err(fault),
             }
@@ -43,7 +43,7 @@ fn tables_at(alloc: Global, bytes: &[u8], place: u64) -> Result<(Table, usize), 
 
 // The list of a row, whose stream begins the bytes, which begin at a place, and what stands behind its summary.
 fn list_at<'a>(
-    table: &'a Table,
+    table: &'a OpenLevel,
     row: usize,
     bytes: &'a [u8],
     place: u64,
@@ -95,7 +95,7 @@ fn put_list(
 // The lists of all rows, whose streams and summaries stand one behind the other. No list takes memory of its own.
 fn lists_at(
     alloc: Global,
-    table: &Table,
+    table: &OpenLevel,
     streams: &[u8],
     place: u64,
     documents: &LevelRows,
@@ -126,7 +126,7 @@ fn lists_at(
 // The content of a segment whose tables were read: they are its first bytes, so many.
 fn content_of(
     alloc: Global,
-    table: Table,
+    table: OpenLevel,
     len: usize,
     bytes: &[u8],
     place: u64,

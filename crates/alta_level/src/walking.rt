@@ -12,8 +12,7 @@ ghost use Rattle.alta_words.specs.Word.{HasBounds, IsPosting};
 use crate::blocks::next_block;
 use crate::ranges::{are_all_ends, are_all_held, ends_after, first_at};
 use alta_content::{LevelRows, Runs};
-use alta_postings::fill_block;
-use alta_summary::Summary;
+use alta_postings::{Summary, fill_block};
 use alta_words::{Bounds, Compared, PostingFault, check, summary_fault};
 use arrayvec::ArrayVec;
 

@@ -5,8 +5,7 @@ ghost use Rattle.alta_postings.specs.Deltas.{stream_bytes, HasPlaces};
 ghost use Rattle.alta_level.specs.Coded.{blocks_of, summary_bytes};
 
 use alta_codec::Loc;
-use alta_postings::put_stream;
-use alta_summary::{Row, build};
+use alta_postings::{Row, build, put_stream};
 use std::alloc::{AllocError, Global};
 
 /// How many bytes the stream and the summary of a list have.

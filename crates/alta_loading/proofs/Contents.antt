@@ -14,10 +14,10 @@ use Rattle.alta_content.specs.TermList.{TermList}
 use Rattle.alta_content.specs.declared.document.DocRow.{DocRow}
 use Rattle.alta_content.proofs.Order.{itself, same_term}
 use Rattle.alta_disk.specs.Parts.{part}
-use Rattle.alta_images.specs.Levels.{Level}
-use Rattle.alta_images.specs.Opened.{bytes_at}
-use Rattle.alta_images.specs.Standing.{tables_by}
-use Rattle.alta_images.proofs.Tests.{by_test}
+use Rattle.alta_meaning.specs.Levels.{Level}
+use Rattle.alta_meaning.specs.Opened.{bytes_at}
+use Rattle.alta_meaning.specs.Standing.{tables_by}
+use Rattle.alta_meaning.proofs.Tests.{by_test}
 use Rattle.alta_level.specs.Damage.{AreListsOf, stored_at}
 use Rattle.alta_level.specs.Segments.{IsSegment, list_bytes, row_of, rows_of, segment_bytes}
 use Rattle.alta_level.specs.Stored.{IsListOf, Stored}

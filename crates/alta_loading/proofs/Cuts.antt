@@ -18,8 +18,8 @@ use Rattle.alta_content.specs.declared.document.DocRow.{DocRow}
 use Rattle.alta_content.proofs.Elements.{all_right, among_at}
 use Rattle.alta_content.proofs.Order.{in_order_sorted}
 use Rattle.alta_content.proofs.Ranges.{among, any_append, in_range, in_row, in_rows}
-use Rattle.alta_images.specs.Opened.{table_rows}
-use Rattle.alta_images.specs.Ordered.{Precedes, RowsPrecede}
+use Rattle.alta_meaning.specs.Opened.{table_rows}
+use Rattle.alta_meaning.specs.Ordered.{Precedes, RowsPrecede}
 use Rattle.alta_loading.specs.Lists.{KeepsRow}
 use Rattle.alta_loading.specs.Loads.{KeepRows, Load, load_at, loads_from, number_of, row_from}
 use Rattle.alta_loading.specs.Met.{all_terms, keys_met, terms_met}
@@ -29,7 +29,7 @@ use Rattle.alta_memlevel.specs.Added.{Added, HasContent}
 use Rattle.alta_memlevel.proofs.Contents.{list_of_rises}
 use Rattle.alta_memlevel.proofs.Prefixes.{filter_rises}
 use Rattle.alta_memlevel.proofs.Read.{list_within}
-use Rattle.alta_query.specs.declared.test.Test.{Test}
+use Rattle.alta_machine.specs.declared.test.Test.{Test}
 use Rattle.alta_search.specs.Lists.{AreKeys, IsCut, TermKey, term_in, test_in, test_keys}
 use Rattle.alta_search.specs.Met.{MeetTest, MeetsTest}
 use Rattle.alta_search.specs.Newest.{term_meets}

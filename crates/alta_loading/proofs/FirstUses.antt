@@ -10,8 +10,8 @@ use Rattle.std.proofs.Math.Seq.{drop-cons}
 use Rattle.alta_compile.specs.Space.{document_end}
 use Rattle.alta_content.proofs.Order.{itself, same_term}
 use Rattle.alta_loading.specs.Met.{each_once, first_uses}
-use Rattle.alta_query.specs.declared.test.Test.{Test}
-use Rattle.alta_query.specs.declared.test.Test.TheVariants.{Is, Begins}
+use Rattle.alta_machine.specs.declared.test.Test.{Test}
+use Rattle.alta_machine.specs.declared.test.Test.TheVariants.{Is, Begins}
 use Rattle.alta_search.specs.Order.{ComeInOrder, IsOrder, Order, used}
 use Rattle.alta_search.specs.Tops.{same_test}
 

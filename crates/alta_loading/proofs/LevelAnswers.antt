@@ -7,15 +7,15 @@ use Rattle.std.proofs.lemmas.List.{get_or-map, length-map, map-append}
 use Rattle.std.proofs.lemmas.List.Elements.{filter-append}
 use Rattle.alta_compile.specs.Space.{Placed}
 use Rattle.alta_compile.specs.Space as space
-use Rattle.alta_compile.specs.PlanOf.{plan_of}
-use Rattle.alta_compile.specs.Tree.{plan_list}
+use Rattle.alta_machine.specs.PlanOf.{plan_of}
+use Rattle.alta_compile.specs.Listing.{plan_list}
 use Rattle.alta_content.specs.Rows.{end_of, ends_among}
 use Rattle.alta_content.specs.TermList.{TermList}
 use Rattle.alta_content.specs.declared.document.DocRow.{DocRow}
 use Rattle.alta_content.proofs.Order.{iff_same}
-use Rattle.alta_images.specs.Levels.{Level, document_of, documents_of, live_rows}
-use Rattle.alta_images.specs.Ordered.{RowsPrecede}
-use Rattle.alta_images.specs.Standing.{tables_by}
+use Rattle.alta_meaning.specs.Levels.{Level, document_of, documents_of, live_rows}
+use Rattle.alta_meaning.specs.Ordered.{RowsPrecede}
+use Rattle.alta_meaning.specs.Standing.{tables_by}
 use Rattle.alta_loading.specs.Snapshots.{all_rows, loaded_view}
 use Rattle.alta_loading.proofs.LevelRanks.{all_short, answers_are, cells_found, is_left, numbers_differ}
 use Rattle.alta_loading.proofs.LevelEnds.{whole_space}
@@ -24,13 +24,14 @@ use Rattle.alta_loading.proofs.ReadOff.{added_in, among_contains, contains_among
 use Rattle.alta_memlevel.specs.Added.{Added, IsInSpace, IsSpace, live_of}
 use Rattle.alta_memlevel.specs.Added as mem
 use Rattle.alta_memlevel.specs.Documents.{HasDocuments, document_in}
-use Rattle.alta_meta.specs.declared.document.Document.{Document}
-use Rattle.alta_model.specs.Deciding.{answers, is_match}
-use Rattle.alta_query.specs.Matches.{Matches}
-use Rattle.alta_query.specs.Shape.{Shape}
-use Rattle.alta_query.specs.declared.test.Test.{Test}
+use Rattle.alta_machine.specs.declared.document.Document.{Document}
+use Rattle.alta_machine.specs.Deciding.{answers, is_match}
+use Rattle.alta_machine.specs.Matches.{Matches}
+use Rattle.alta_machine.specs.Shape.{Shape}
+use Rattle.alta_machine.specs.declared.test.Test.{Test}
 use Rattle.alta_search.specs.Answers.{answers_in, is_answer}
-use Rattle.alta_search.specs.Documents.{AreToCome, told}
+use Rattle.alta_search.specs.Documents.{AreToCome}
+use Rattle.alta_machine.specs.Searching.{told}
 use Rattle.alta_search.specs.Readers.{Each}
 use Rattle.alta_search.specs.Told.{answer_of}
 use Rattle.alta_search.specs.Tops.{AreToRank, number_of, document_of as document_of_row}

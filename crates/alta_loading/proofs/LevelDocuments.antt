@@ -17,9 +17,9 @@ use Rattle.alta_content.proofs.Contents.{lists_rise}
 use Rattle.alta_content.proofs.Order.{Sorted, has, has_in_order}
 use Rattle.alta_content.proofs.Ranges.{among}
 use Rattle.alta_content.specs.Joining.{in_order}
-use Rattle.alta_images.specs.Levels.{Level, cell_at, documents_of, locations_from}
-use Rattle.alta_images.specs.Ordered.{RowsPrecede}
-use Rattle.alta_images.specs.Standing.{tables_by}
+use Rattle.alta_meaning.specs.Levels.{Level, cell_at, documents_of, locations_from}
+use Rattle.alta_meaning.specs.Ordered.{RowsPrecede}
+use Rattle.alta_meaning.specs.Standing.{tables_by}
 use Rattle.alta_loading.specs.Met.{all_terms, keys_met, lists_met, terms_met}
 use Rattle.alta_loading.specs.Snapshots.{all_rows, loaded_view}
 use Rattle.alta_loading.specs.Terms.{lists_of_term, term_key}
@@ -32,10 +32,10 @@ use Rattle.alta_memlevel.specs.Added.{Added}
 use Rattle.alta_memlevel.specs.Added as mem
 use Rattle.alta_memlevel.specs.Documents.{HasDocuments, IsMade, document_in}
 use Rattle.alta_memlevel.proofs.Cells.{IsGood, cells_good}
-use Rattle.alta_meta.specs.Cells.{cells_of}
-use Rattle.alta_meta.specs.declared.document.Document.{Document}
-use Rattle.alta_query.specs.Patterns.{IsMet}
-use Rattle.alta_query.specs.declared.test.Test.{Test}
+use Rattle.alta_machine.specs.Cells.{cells_of}
+use Rattle.alta_machine.specs.declared.document.Document.{Document}
+use Rattle.alta_machine.specs.Patterns.{IsMet}
+use Rattle.alta_machine.specs.declared.test.Test.{Test}
 use Rattle.alta_search.specs.Lists.{TermKey, term_in}
 use Rattle.alta_search.specs.Newest.{term_meets}
 use Rattle.alta_search.specs.Shown.{AreTermsOf, IsKept, ShowsDocuments}

@@ -15,14 +15,14 @@ use Rattle.alta_content.specs.TermList.{TermList}
 use Rattle.alta_content.specs.declared.document.DocRow.{DocRow}
 use Rattle.alta_content.proofs.Contents.{lists_rise, rows_rise}
 use Rattle.alta_content.proofs.Order.{itself, same_term}
-use Rattle.alta_images.specs.Levels.{Level, cell_at}
-use Rattle.alta_images.proofs.KnownLaws.{all_both}
+use Rattle.alta_meaning.specs.Levels.{Level, cell_at}
+use Rattle.alta_meaning.proofs.KnownLaws.{all_both}
 use Rattle.alta_loading.proofs.LevelSpaces.{IsWritten, of_levels}
 use Rattle.alta_loading.proofs.ReadOff.{added_in, among_contains, cell_meets, cell_met, cells_long, contains_among, has_row, met_cell, read_off}
 use Rattle.alta_memlevel.specs.Added.{Added}
 use Rattle.alta_memlevel.specs.Added as mem
 use Rattle.alta_memlevel.specs.Documents.{AreMade}
-use Rattle.alta_query.specs.Patterns.{IsMet}
+use Rattle.alta_machine.specs.Patterns.{IsMet}
 use Rattle.alta_search.proofs.NewestAnswers.{added-apart, added-space}
 use Rattle.alta_search.proofs.NewestLists.{placed_of, space_of}
 

@@ -10,14 +10,14 @@ use Rattle.alta_content.specs.Rows.{AreDocumentsBehind, Before, behind_row, end_
 use Rattle.alta_content.specs.Cells.{cell_at}
 use Rattle.alta_content.specs.TermList.{TermList}
 use Rattle.alta_content.specs.declared.document.DocRow.{DocRow}
-use Rattle.alta_images.specs.Levels.{Level}
+use Rattle.alta_meaning.specs.Levels.{Level}
 use Rattle.alta_loading.proofs.LevelSpaces.{IsWritten, of_levels, rows_added}
 use Rattle.alta_loading.proofs.ReadOff.{added_in, cells_long, read_off}
 use Rattle.alta_memlevel.specs.Added.{Added, IsSpace, live_of}
 use Rattle.alta_memlevel.specs.Documents.{AreMade, IsMade, document_in}
-use Rattle.alta_meta.specs.declared.document.Document.{Document}
-use Rattle.alta_model.specs.Deciding.{answers, is_match}
-use Rattle.alta_query.specs.Shape.{Shape}
+use Rattle.alta_machine.specs.declared.document.Document.{Document}
+use Rattle.alta_machine.specs.Deciding.{answers, is_match}
+use Rattle.alta_machine.specs.Shape.{Shape}
 use Rattle.alta_search.specs.Tops.{IsShort, cells_from, number_of}
 use Rattle.alta_search.proofs.NewestLists.{placed_of, space_of}
 

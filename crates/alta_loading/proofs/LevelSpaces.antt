@@ -1,7 +1,7 @@
 -- The documents of levels and the newest ones as one space, and the lists of tests in it.
 use Rattle.std.proofs.Common.{◌≡◌, ⊎_elim, ℕ, false, cond, List, [], ◌∷◌, ◌++◌, map, refl, sym, ap, subst, ◌∙◌, append-nil, append_assoc}
 use Rattle.std.specs.Prelude.{All, flat_map}
-use Rattle.std.specs.List.{concat}
+use Rattle.std.specs.List.{concat, filter}
 use Rattle.std.specs.Str.{bytes_eq}
 use Rattle.std.proofs.lemmas.Bool.{cases_Bool, or_parts}
 use Rattle.std.proofs.lemmas.List.{map-append}
@@ -18,10 +18,10 @@ use Rattle.alta_content.specs.declared.document.DocRow.{DocRow}
 use Rattle.alta_content.proofs.Contents.{rows_rise}
 use Rattle.alta_content.proofs.Elements.{all_left}
 use Rattle.alta_content.proofs.Order.{has, has_append, has_in_order}
-use Rattle.alta_images.specs.Levels.{Level}
-use Rattle.alta_images.specs.Opened.{bytes_at, table_rows}
-use Rattle.alta_images.specs.Ordered.{Precedes, RowsPrecede}
-use Rattle.alta_images.specs.Standing.{tables_by}
+use Rattle.alta_meaning.specs.Levels.{Level}
+use Rattle.alta_meaning.specs.Opened.{bytes_at, table_rows}
+use Rattle.alta_meaning.specs.Ordered.{Precedes, RowsPrecede}
+use Rattle.alta_meaning.specs.Standing.{tables_by}
 use Rattle.alta_level.specs.Segments.{IsSegment, rows_of}
 use Rattle.alta_loading.specs.Contents.{lists_in}
 use Rattle.alta_loading.specs.Loads.{list_at, loads_from}
@@ -34,10 +34,9 @@ use Rattle.alta_loading.proofs.ReadOff.{added_in, documents_each, list_read_off,
 use Rattle.alta_memlevel.specs.Added.{Added, HasContent, IsInSpace, IsSpace, places_of}
 use Rattle.alta_memlevel.specs.Added as mem
 use Rattle.alta_memlevel.proofs.One.{listed, listed_at, listed_terms}
-use Rattle.alta_query.specs.declared.test.Test.{Test}
+use Rattle.alta_machine.specs.declared.test.Test.{Test}
 use Rattle.alta_search.specs.Lists.{test_list}
 use Rattle.alta_search.specs.Newest.{newest_list, term_meets}
-use Rattle.std.specs.List.{filter}
 use Rattle.alta_search.proofs.NewestAnswers.{added-apart}
 use Rattle.alta_search.proofs.NewestLists.{newest-list, space_of}
 use Rattle.alta_table.specs.Tables.{Tables}

@@ -5,8 +5,8 @@ use Rattle.std.proofs.lemmas.List.Elements.{All-nil}
 use Rattle.alta_compile.specs.Space.{document_end}
 use Rattle.alta_content.specs.declared.content.Content.{Content}
 use Rattle.alta_content.specs.declared.document.DocRow.{DocRow}
-use Rattle.alta_images.specs.Levels.{Level}
-use Rattle.alta_images.specs.Standing.{tables_by}
+use Rattle.alta_meaning.specs.Levels.{Level}
+use Rattle.alta_meaning.specs.Standing.{tables_by}
 use Rattle.alta_loading.specs.Loads.{IsWhole, loads_from}
 use Rattle.alta_loading.specs.Met.{each_once, keys_met, lists_met, loads_met, loads_of_tests, terms_met}
 use Rattle.alta_loading.specs.Snapshots.{all_rows, loaded_view}
@@ -15,7 +15,7 @@ use Rattle.alta_loading.proofs.Contents.{levels_loaded}
 use Rattle.alta_loading.proofs.FirstUses.{once_used}
 use Rattle.alta_loading.proofs.LevelSpaces.{IsWritten}
 use Rattle.alta_loading.proofs.Runs.{all_join}
-use Rattle.alta_query.specs.declared.test.Test.{Test}
+use Rattle.alta_machine.specs.declared.test.Test.{Test}
 use Rattle.alta_search.specs.Lists.{TermKey, keys_at, lists_at, test_at, test_in, test_keys, test_lists}
 use Rattle.alta_search.specs.Order.{IsOrder, Order, used}
 use Rattle.alta_search.specs.View.{View}

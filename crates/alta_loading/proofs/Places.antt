@@ -5,7 +5,7 @@ use Rattle.std.proofs.lemmas.List.{drop-drop, drop-take, take-take}
 use Rattle.std.proofs.lemmas.List.Sums.{sum_by-cons}
 use Rattle.alta_content.specs.declared.document.DocRow.{DocRow}
 use Rattle.alta_disk.specs.Parts.{part}
-use Rattle.alta_images.specs.Broken.{IsFaultAmong, IsBrokenIn}
+use Rattle.alta_meaning.specs.Broken.{IsFaultAmong, IsBrokenIn}
 use Rattle.alta_level.specs.Damage.{data_place, stored_at}
 use Rattle.alta_level.specs.Stored.{Stored, IsListFault}
 use Rattle.alta_loading.specs.Lists.{stored_in}

@@ -5,7 +5,7 @@ use Rattle.std.specs.List.{filter}
 use Rattle.std.specs.Str.{bytes_eq}
 use Rattle.std.proofs.lemmas.Bool.{true≢false}
 use Rattle.alta_content.proofs.Order.{itself, same_term}
-use Rattle.alta_images.proofs.Tests.{by_test, filter_drop, filter_keep}
+use Rattle.alta_meaning.proofs.Tests.{by_test, filter_drop, filter_keep}
 use Rattle.alta_loading.specs.Met.{is_among}
 
 abbrev Terms : Type 0

@@ -20,15 +20,15 @@ use Rattle.alta_content.proofs.Contents.{lists_rise, rows_rise}
 use Rattle.alta_content.proofs.Elements.{among_at}
 use Rattle.alta_content.proofs.Order.{After, has, none_of, same_term}
 use Rattle.alta_content.proofs.Ranges.{among, in_range, in_row, in_rows}
-use Rattle.alta_images.specs.Levels.{cell_at, document_of, locations_from}
-use Rattle.alta_images.specs.Ordered.{Precedes, RowsPrecede}
+use Rattle.alta_meaning.specs.Levels.{cell_at, document_of, locations_from}
+use Rattle.alta_meaning.specs.Ordered.{Precedes, RowsPrecede}
 use Rattle.alta_loading.proofs.Cuts.{LiesIn, lies_at}
 use Rattle.alta_memlevel.specs.Added.{Added, IsInSpace}
 use Rattle.alta_memlevel.specs.Added as mem
 use Rattle.alta_memlevel.proofs.One.{holds_has}
-use Rattle.alta_query.specs.Patterns.{meets}
-use Rattle.alta_query.specs.declared.test.Test.{Test}
-use Rattle.alta_query.specs.declared.test.Test.TheVariants.{Is}
+use Rattle.alta_machine.specs.Patterns.{meets}
+use Rattle.alta_machine.specs.declared.test.Test.{Test}
+use Rattle.alta_machine.specs.declared.test.Test.TheVariants.{Is}
 use Rattle.alta_search.proofs.NewestAnswers.{added-apart}
 use Rattle.alta_search.proofs.NewestLists.{lists-same, placed_of, space_of}
 use Rattle.alta_search.proofs.Rising.{one_rising}

@@ -4,7 +4,7 @@ use Rattle.std.specs.Prelude.{Option, Some, None, MatchOption, slice_get}
 use Rattle.std.specs.Str.{bytes_eq}
 use Rattle.alta_codec.specs.Order.{Precedes}
 use Rattle.alta_content.proofs.Order.{itself, less_differs, less_on, same_term}
-use Rattle.alta_images.proofs.Tests.{by_test}
+use Rattle.alta_meaning.proofs.Tests.{by_test}
 use Rattle.alta_level.specs.Stored.{Stored}
 use Rattle.alta_loading.specs.Lists.{stored_as}
 use Rattle.alta_loading.specs.Loads.{row_from}

@@ -8,12 +8,12 @@ use Rattle.alta_disk.specs.Calls.{Reads}
 use Rattle.alta_disk.specs.Disk.{DiskState, Same}
 use Rattle.alta_disk.proofs.Moments.{passes_same}
 use Rattle.alta_level.specs.Stored.{IsListFault, IsListOf}
-use Rattle.alta_loading.specs.Answers.{IfDamaged, IsDamaged, IsFound}
+use Rattle.alta_disk.specs.Answers.{IfDamaged, IsDamaged, IsFound}
 use Rattle.alta_loading.specs.Loads.{IsFirstFault, IsWhole, KeepRows, Load, Tells, list_at, load_in, load_size, load_sizes, loads_from, number_of, stored_by}
 use Rattle.alta_table.specs.Tables.{Tables}
 use Rattle.alta_words.specs.declared.posting.Posting.{Posting}
-use Rattle.alta_loading.specs.declared.fault.LoadFault.{LoadFault}
-use Rattle.alta_loading.specs.declared.fault.LoadFault.TheVariants as faults
+use Rattle.alta_disk.specs.declared.fault.LoadFault.{LoadFault}
+use Rattle.alta_disk.specs.declared.fault.LoadFault.TheVariants as faults
 
 -- ---- faults and whole lists of two runs
 

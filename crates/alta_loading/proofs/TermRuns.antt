@@ -10,7 +10,7 @@ use Rattle.alta_disk.specs.Disk.{DiskState}
 use Rattle.alta_loading.proofs.Runs.{reads_most, reads_none, reads_then, tells_ended, tells_none, tells_then}
 use Rattle.alta_loading.specs.Loads.{Load, Tells, load_size, load_sizes, loads_from}
 use Rattle.alta_loading.specs.Terms.{KeepTerm, KeepTerms, lists_of_term, loads_of, term_key}
-use Rattle.alta_loading.specs.declared.fault.LoadFault.{LoadFault}
+use Rattle.alta_disk.specs.declared.fault.LoadFault.{LoadFault}
 use Rattle.alta_search.specs.Lists.{TermKey}
 use Rattle.alta_table.specs.Tables.{Tables}
 

@@ -18,7 +18,7 @@ use Rattle.alta_content.specs.TermList.{TermList}
 use Rattle.alta_content.proofs.Order.{Sorted, has, has_append, has_head, has_in_order, has_more, iff_same, in_order_sorted, one_list, same_term}
 use Rattle.alta_loading.specs.Met.{is_among}
 use Rattle.alta_memlevel.proofs.Prefixes.{filter_rises}
-use Rattle.alta_query.specs.declared.test.Test.TheVariants.{Is}
+use Rattle.alta_machine.specs.declared.test.Test.TheVariants.{Is}
 use Rattle.alta_search.specs.Newest.{term_meets}
 
 -- ---- what is among terms

@@ -11,8 +11,8 @@ use Rattle.alta_disk.specs.Disk.{DiskState}
 use Rattle.alta_loading.proofs.Runs.{reads_most, reads_none, reads_then, tells_ended, tells_none, tells_then}
 use Rattle.alta_loading.specs.Loads.{Load, Tells, load_size, load_sizes}
 use Rattle.alta_loading.specs.Met.{keys_met, lists_met, loads_met, loads_of_tests}
-use Rattle.alta_loading.specs.declared.fault.LoadFault.{LoadFault}
-use Rattle.alta_query.specs.declared.test.Test.{Test}
+use Rattle.alta_disk.specs.declared.fault.LoadFault.{LoadFault}
+use Rattle.alta_machine.specs.declared.test.Test.{Test}
 use Rattle.alta_search.specs.Lists.{IsCut, TermKey}
 use Rattle.alta_table.specs.Tables.{Tables}
 

@@ -11,7 +11,7 @@ use Rattle.alta_content.specs.Lists.{AreInRanges, end_term, terms_of}
 use Rattle.alta_content.specs.Rows.{AreDocuments, ends_of, start}
 use Rattle.alta_content.specs.declared.content.Content.{Content}
 use Rattle.alta_content.specs.declared.document.DocRow.{DocRow}
-use Rattle.alta_images.proofs.Tests.{by_test}
+use Rattle.alta_meaning.proofs.Tests.{by_test}
 use Rattle.alta_level.proofs.Faults.{list_or_fault}
 use Rattle.alta_level.proofs.Walks.{ends_many, ordered}
 use Rattle.alta_loading.specs.Loads.{IsWhole, Load, Tells, list_at, load_at, load_in, loads_from, row_from, stored_by}
@@ -24,7 +24,7 @@ use Rattle.alta_loading.proofs.PrefixRows.{found_is}
 use Rattle.alta_loading.proofs.RowOf.{no_row, row_found}
 use Rattle.alta_loading.proofs.Runs.{all_back, all_front}
 use Rattle.alta_loading.proofs.TermSets.{any_parts, one_met}
-use Rattle.alta_query.specs.declared.test.Test.{Test}
+use Rattle.alta_machine.specs.declared.test.Test.{Test}
 use Rattle.alta_search.specs.Newest.{term_meets}
 use Rattle.alta_table.specs.Tables.{Tables}
 use Rattle.alta_table.specs.Terms.{AreTerms, terms_of as row_terms}

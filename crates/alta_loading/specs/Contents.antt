@@ -2,7 +2,7 @@
 use Rattle.std.specs.Prelude.{◌≡◌, ℕ, List, map, flat_map, All}
 use Rattle.alta_content.specs.Lists.{locations_of}
 use Rattle.alta_content.specs.declared.content.Content.{Content}
-use Rattle.alta_images.specs.Levels.{Level}
+use Rattle.alta_meaning.specs.Levels.{Level}
 use Rattle.alta_loading.specs.Loads.{IsWhole, Load, list_at}
 use Rattle.alta_loading.specs.Terms.{if_some}
 

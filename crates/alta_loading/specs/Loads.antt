@@ -3,9 +3,9 @@ use Rattle.std.specs.Prelude.{◌⊎◌, ℕ, ◌+◌, if◌then◌else◌, List
 use Rattle.std.specs.List.{sum_by}
 use Rattle.std.specs.Str.{bytes_eq}
 use Rattle.alta_level.specs.Stored.{Stored, IsListFault, IsListOf}
-use Rattle.alta_loading.specs.Answers.{IfDamaged, IsDamaged}
+use Rattle.alta_disk.specs.Answers.{IfDamaged, IsDamaged}
 use Rattle.alta_loading.specs.Lists.{KeepsRow, stored_in, stream_size, summary_size}
-use Rattle.alta_loading.specs.declared.fault.LoadFault.{LoadFault}
+use Rattle.alta_disk.specs.declared.fault.LoadFault.{LoadFault}
 use Rattle.alta_postings.specs.Deltas.{decoded_list}
 use Rattle.alta_table.specs.Tables.{Tables}
 use Rattle.alta_table.specs.declared.term.TermRow.{TermRow}

@@ -7,7 +7,7 @@ use Rattle.alta_content.specs.Lists as content
 use Rattle.alta_content.specs.declared.content.Content.{Content}
 use Rattle.alta_loading.specs.Loads.{Load}
 use Rattle.alta_loading.specs.Terms.{lists_of_term, loads_of, term_key}
-use Rattle.alta_query.specs.declared.test.Test.{Test}
+use Rattle.alta_machine.specs.declared.test.Test.{Test}
 use Rattle.alta_search.specs.Lists.{TermKey}
 use Rattle.alta_search.specs.Newest.{term_meets}
 use Rattle.alta_search.specs.Tops.{same_test}

@@ -1,7 +1,6 @@
 //! The lists of a plan's tests, loaded from levels on the disk.
 #![tactic(auto)]
 
-mod fault;
 mod laws;
 mod list;
 mod loading;
@@ -12,7 +11,6 @@ mod snapshot;
 mod term;
 mod terms;
 
-pub use fault::LoadFault;
 pub use laws::{
     levels_and_newest_documents_answer, levels_and_newest_documents_are_ranked,
     levels_and_newest_documents_are_shown, loaded_lists_are_those_of_the_content,

@@ -4,19 +4,19 @@ ghost use Rattle.alta_codec.specs.Faults.{Rose};
 ghost use Rattle.alta_content.specs.Rows.{AreDocuments};
 ghost use Rattle.alta_disk.specs.Calls.{Reads};
 ghost use Rattle.alta_disk.specs.Disk.{DiskState};
-ghost use Rattle.alta_images.specs.Broken.{IsBrokenIn};
+ghost use Rattle.alta_meaning.specs.Broken.{IsBrokenIn};
 ghost use Rattle.alta_level.specs.Stored.{IsListFault, IsListOf, stored_of};
-ghost use Rattle.alta_loading.specs.Answers.{IfDamaged, IsDamaged, IsFound};
+ghost use Rattle.alta_disk.specs.Answers.{IfDamaged, IsDamaged, IsFound};
 ghost use Rattle.alta_loading.specs.Lists.{KeepsRow, LiesWithin, stored_as, stored_in, stream_size, summary_size};
-ghost use Rattle.alta_loading.specs.declared.fault.LoadFault.TheVariants.{Disk as DiskFault};
+ghost use Rattle.alta_disk.specs.declared.fault.LoadFault.TheVariants.{Disk as DiskFault};
 ghost use Rattle.alta_table.specs.Places.{stream_place};
 
-use crate::fault::LoadFault;
-use alta_disk::Disk;
+use alta_codec::zeros;
+use alta_disk::{Disk, LoadFault};
 use alta_level::{StoredList, check_list};
-use alta_table::{LevelFault, Table};
+use alta_table::{LevelFault, OpenLevel};
 use alta_words::Posting;
-use std::alloc::{AllocError, Global};
+use std::alloc::Global;
 
 /// Loads the list of a term of a level, by the row of the term. Stream and summary stand one behind the other, and are
 /// read by one read of the disk. The list is tested as [`alta_level::check_list`] tests it, against its own rules, the row
@@ -29,7 +29,7 @@ use std::alloc::{AllocError, Global};
 pub fn load_list<D: Disk>(
     alloc: Global,
     disk: &mut D,
-    table: &Table,
+    table: &OpenLevel,
     row: usize,
 ) -> Result<Posting, LoadFault>
     requires row { row < length table.now.terms }
@@ -55,7 +55,7 @@ pub fn load_list<D: Disk>(
 fn read_bytes<D: Disk>(
     alloc: Global,
     disk: &mut D,
-    table: &Table,
+    table: &OpenLevel,
     row: usize,
 ) -> Result<(Vec<u8>, Vec<u8>), LoadFault>
     requires row { row < length table.now.terms }
@@ -78,16 +78,9 @@ fn read_bytes<D: Disk>(
     Ok((bytes, behind))
 }
 
-// A buffer of this length.
-fn zeros(alloc: Global, n: usize) -> Result<Vec<u8>, AllocError>
-    ensures { IfOk result (λ v. length v.items ≡ n) }
-{
-    Ok(vec![in alloc; 0u8; n]?)
-}
-
 // The list of a row, of these bytes, or its first fault.
 fn checked(
-    table: &Table,
+    table: &OpenLevel,
     row: usize,
     stream: Vec<u8>,
     summary: Vec<u8>,
@@ -111,7 +104,12 @@ fn checked(
 }
 
 // The list of a row, of these bytes.
-fn stored<'a>(table: &'a Table, row: usize, stream: &'a [u8], summary: &'a [u8]) -> StoredList<'a>
+fn stored<'a>(
+    table: &'a OpenLevel,
+    row: usize,
+    stream: &'a [u8],
+    summary: &'a [u8],
+) -> StoredList<'a>
     requires { row < length table.now.terms }
     ensures { stored_of result ≡ stored_as table.now row stream.now summary.now }
 {

@@ -3,25 +3,24 @@ ghost use Rattle.std.specs.Prelude.{◌≡◌, map, All, Err, IfOk};
 ghost use Rattle.alta_codec.specs.Faults.{Rose};
 ghost use Rattle.alta_disk.specs.Calls.{Reads};
 ghost use Rattle.alta_disk.specs.Disk.{DiskState};
-ghost use Rattle.alta_images.specs.Ordered.{RowsPrecede};
+ghost use Rattle.alta_meaning.specs.Ordered.{RowsPrecede};
 ghost use Rattle.alta_loading.specs.Lists.{LiesWithin};
 ghost use Rattle.alta_loading.specs.Loads.{Tells, load_sizes};
 ghost use Rattle.alta_loading.specs.Met.{keys_met, lists_met, loads_met, loads_of_tests};
 ghost use Rattle.alta_loading.specs.Snapshots.{all_rows};
 ghost use Rattle.alta_loading.specs.Tested.{AreEndsWhole};
-ghost use Rattle.alta_loading.specs.declared.fault.LoadFault.TheVariants.{Disk as DiskFault};
+ghost use Rattle.alta_disk.specs.declared.fault.LoadFault.TheVariants.{Disk as DiskFault};
 ghost use Rattle.alta_search.specs.Lists.{IsCut, test_in, test_keys, test_lists};
 ghost use Rattle.alta_search.specs.Newest.{HasAdded};
 
-use crate::fault::LoadFault;
 use crate::mark::Ends;
 use crate::meeting::terms_met;
 use crate::terms::load_terms;
-use alta_disk::Disk;
+use alta_disk::{Disk, LoadFault};
+use alta_machine::Test;
 use alta_memlevel::MemLevel;
-use alta_query::Test;
 use alta_search::TestLists;
-use alta_table::Table;
+use alta_table::OpenLevel;
 use std::alloc::Global;
 
 /// Loads the lists of a test: those of each term that meets it, in collating order of the terms, as [`crate::load_terms`] loads them.
@@ -32,7 +31,7 @@ use std::alloc::Global;
 pub fn load_test<D: Disk>(
     alloc: Global,
     disk: &mut D,
-    levels: &[Table],
+    levels: &[OpenLevel],
     ends: Ends,
     newest: &MemLevel,
     test: Test,
@@ -65,7 +64,7 @@ pub fn load_test<D: Disk>(
 pub fn load_tests<D: Disk>(
     alloc: Global,
     disk: &mut D,
-    levels: &[Table],
+    levels: &[OpenLevel],
     ends: Ends,
     newest: &MemLevel,
     order: Vec<Test>,

@@ -11,16 +11,16 @@ ghost use Rattle.alta_loading.specs.Met.{all_terms, is_among, level_terms, level
 ghost use Rattle.alta_search.specs.Newest.{HasAdded, term_meets};
 
 use alta_codec::Bytes;
+use alta_machine::Test;
 use alta_memlevel::MemLevel;
-use alta_query::Test;
-use alta_table::Table;
+use alta_table::OpenLevel;
 use std::alloc::{AllocError, Global};
 
 /// The terms of levels and of the newest documents that meet a test, in collating order, each once. A term in full is looked
 /// up by halves in each level, and of a prefix only the terms that begin so are visited. Fails for want of memory alone.
 pub fn terms_met(
     alloc: Global,
-    levels: &[Table],
+    levels: &[OpenLevel],
     newest: &MemLevel,
     test: &Test,
 ) -> Result<Vec<Bytes>, AllocError>
@@ -36,7 +36,7 @@ pub fn terms_met(
 // The term alone, or none where no level and no newest document has it.
 fn look_up(
     alloc: Global,
-    levels: &[Table],
+    levels: &[OpenLevel],
     newest: &MemLevel,
     term: &Bytes,
 ) -> Result<Vec<Bytes>, AllocError>
@@ -52,7 +52,7 @@ fn look_up(
 }
 
 // Whether a level or a newest document has the term.
-fn is_there(levels: &[Table], newest: &MemLevel, term: &[u8]) -> bool
+fn is_there(levels: &[OpenLevel], newest: &MemLevel, term: &[u8]) -> bool
     requires { HasAdded newest.now }
     ensures { result ≡ is_among term.now (all_terms levels.now newest.now.content) }
 {
@@ -63,14 +63,14 @@ fn is_there(levels: &[Table], newest: &MemLevel, term: &[u8]) -> bool
 }
 
 // Whether a level has the term.
-fn in_levels(levels: &[Table], term: &[u8]) -> bool
+fn in_levels(levels: &[OpenLevel], term: &[u8]) -> bool
     ensures { result ≡ list_any (λ level. is_among term.now (level_terms level)) levels.now }
 {
     levels.iter().any(|level| in_level(level, term))
 }
 
 // Whether this level has the term.
-fn in_level(level: &Table, term: &[u8]) -> bool
+fn in_level(level: &OpenLevel, term: &[u8]) -> bool
     ensures { result ≡ is_among term.now (level_terms level.now) }
 {
     match level.find(term) {
@@ -82,7 +82,7 @@ fn in_level(level: &Table, term: &[u8]) -> bool
 // The terms that begin so.
 fn begin_so(
     alloc: Global,
-    levels: &[Table],
+    levels: &[OpenLevel],
     newest: &MemLevel,
     start: &Bytes,
 ) -> Result<Vec<Bytes>, AllocError>
@@ -97,7 +97,7 @@ fn begin_so(
 // The terms that begin so of the newest documents, and behind them those of each level.
 fn gather(
     alloc: Global,
-    levels: &[Table],
+    levels: &[OpenLevel],
     newest: &MemLevel,
     start: &Bytes,
 ) -> Result<Vec<Bytes>, AllocError>
@@ -115,7 +115,7 @@ fn gather(
 fn put_prefixed(
     alloc: Global,
     all: &mut Vec<Bytes>,
-    level: &Table,
+    level: &OpenLevel,
     start: &Bytes,
 ) -> Result<(), AllocError>
     ensures { OnOk result (all.new.items ≡ all.old.items ++ level_terms_met (Test.Begins start.now) level.now) }
@@ -128,7 +128,7 @@ fn put_prefixed(
 }
 
 // The term of a row, in memory of its own.
-fn copy_term(alloc: Global, level: &Table, row: usize) -> Result<Bytes, AllocError>
+fn copy_term(alloc: Global, level: &OpenLevel, row: usize) -> Result<Bytes, AllocError>
     requires { row < length level.now.terms }
     ensures { IfOk result (λ term. slice_get (level_terms level.now) row ≡ Some term) }
 {

@@ -4,13 +4,13 @@ ghost use Rattle.std.specs.declared.cmp.Ordering.TheVariants.{Less};
 ghost use Rattle.alta_loading.specs.Met.{level_terms};
 ghost use Rattle.alta_loading.specs.Near.{order_to};
 
-use alta_table::Table;
+use alta_table::OpenLevel;
 use std::cmp::Ordering;
 
 /// The row of a term in a level, None exactly where it is not there. It looks at the place `near` first, and leaves there the place
 /// behind the row, or that at which the term would stand. So along rising terms, among which are those of all rows between, a look-up
 /// compares one row or two. With any other place it looks by halves.
-pub fn find_near(level: &Table, term: &[u8], near: &mut usize) -> Option<usize>
+pub fn find_near(level: &OpenLevel, term: &[u8], near: &mut usize) -> Option<usize>
     ensures { MatchOption result ((i : ℕ) → slice_get (level_terms level.now) i ≡ Some term.now → ⊥) (λ i. slice_get (level_terms level.now) i ≡ Some term.now) }
 {
     // This call tells that the terms rise.
@@ -27,7 +27,7 @@ pub fn find_near(level: &Table, term: &[u8], near: &mut usize) -> Option<usize>
 }
 
 // How the term of a row stands to another. Behind the last row stands what is greater than any.
-fn order_at(level: &Table, term: &[u8], place: usize) -> Ordering
+fn order_at(level: &OpenLevel, term: &[u8], place: usize) -> Ordering
     ensures { result ≡ order_to term.now (slice_get (level_terms level.now) place) }
 {
     if place < level.terms() {
@@ -38,7 +38,7 @@ fn order_at(level: &Table, term: &[u8], place: usize) -> Ordering
 }
 
 // Whether the row before a place has a lower term than another, or the place is the first.
-fn is_behind(level: &Table, term: &[u8], place: usize) -> bool
+fn is_behind(level: &OpenLevel, term: &[u8], place: usize) -> bool
     ensures { IsTrue result → (place ≡ 0) ⊎ (order_to term.now (slice_get (level_terms level.now) (place - 1)) ≡ Less) }
 {
     match place.checked_sub(1) {
@@ -48,7 +48,7 @@ fn is_behind(level: &Table, term: &[u8], place: usize) -> bool
 }
 
 // The row of a term, looked for by halves, and the same place behind.
-fn find_anew(level: &Table, term: &[u8], near: &mut usize) -> Option<usize>
+fn find_anew(level: &OpenLevel, term: &[u8], near: &mut usize) -> Option<usize>
     ensures { MatchOption result ((i : ℕ) → slice_get (level_terms level.now) i ≡ Some term.now → ⊥) (λ i. slice_get (level_terms level.now) i ≡ Some term.now) }
 {
     match level.find(term) {

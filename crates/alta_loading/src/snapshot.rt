@@ -2,28 +2,28 @@
 ghost use Rattle.std.specs.Prelude.{◌≡◌, ◌⊎◌, ◌↔◌, ◌∷◌, ◌++◌, ℕ, List, flat_map, map, All, Contains, Err, IfOk, IsTrue, OnOk};
 ghost use Rattle.alta_codec.specs.Faults.{Rose};
 ghost use Rattle.alta_codec.specs.Rising.{IsRising};
-ghost use Rattle.alta_compile.specs.PlanOf.{plan_of};
+ghost use Rattle.alta_machine.specs.PlanOf.{plan_of};
 ghost use Rattle.alta_compile.specs.Space.{document_end};
 ghost use Rattle.alta_compile.specs.View.{tree};
 ghost use Rattle.alta_disk.specs.Calls.{Reads};
 ghost use Rattle.alta_disk.specs.Disk.{DiskState};
-ghost use Rattle.alta_images.specs.Levels.{Level, documents_of};
-ghost use Rattle.alta_images.specs.Opened.{bytes_at};
-ghost use Rattle.alta_images.specs.Ordered.{RowsPrecede};
-ghost use Rattle.alta_images.specs.Standing.{tables_by};
+ghost use Rattle.alta_meaning.specs.Levels.{Level, documents_of};
+ghost use Rattle.alta_meaning.specs.Opened.{bytes_at};
+ghost use Rattle.alta_meaning.specs.Ordered.{RowsPrecede};
+ghost use Rattle.alta_meaning.specs.Standing.{tables_by};
 ghost use Rattle.alta_level.specs.Segments.{IsSegment};
-ghost use Rattle.alta_loading.specs.Answers.{IfDamaged};
+ghost use Rattle.alta_disk.specs.Answers.{IfDamaged};
 ghost use Rattle.alta_loading.specs.Lists.{LiesWithin};
 ghost use Rattle.alta_loading.specs.Loads.{Tells, load_sizes};
 ghost use Rattle.alta_loading.specs.Met.{each_once, loads_of_tests};
 ghost use Rattle.alta_loading.specs.Snapshots.{all_rows, loaded_view};
 ghost use Rattle.alta_loading.specs.Tested.{AreEndsWhole};
-ghost use Rattle.alta_loading.specs.declared.fault.LoadFault.TheVariants.{Disk as DiskFault};
+ghost use Rattle.alta_disk.specs.declared.fault.LoadFault.TheVariants.{Disk as DiskFault};
 ghost use Rattle.alta_memlevel.specs.Documents.{HasDocuments};
-ghost use Rattle.alta_meta.specs.declared.document.Document.{Document};
-ghost use Rattle.alta_model.specs.Deciding.{answers};
-ghost use Rattle.alta_query.specs.Shape.{Shape};
-ghost use Rattle.alta_query.specs.declared.test.Test.{Test};
+ghost use Rattle.alta_machine.specs.declared.document.Document.{Document};
+ghost use Rattle.alta_machine.specs.Deciding.{answers};
+ghost use Rattle.alta_machine.specs.Shape.{Shape};
+ghost use Rattle.alta_machine.specs.declared.test.Test.{Test};
 ghost use Rattle.alta_search.specs.Documents.{AreToCome};
 ghost use Rattle.alta_search.specs.Newest.{HasAdded};
 ghost use Rattle.alta_search.specs.Order.{used};
@@ -31,7 +31,6 @@ ghost use Rattle.alta_search.specs.Plans.{tests_of};
 ghost use Rattle.alta_search.specs.Shown.{ShowsDocuments};
 ghost use Rattle.alta_search.specs.Tops.{AreToRank};
 
-use crate::fault::LoadFault;
 use crate::laws::{
     levels_and_newest_documents_answer, levels_and_newest_documents_are_ranked,
     levels_and_newest_documents_are_shown,
@@ -40,13 +39,13 @@ use crate::loading::load_tests;
 use crate::mark::Ends;
 use alta_codec::Loc;
 use alta_compile::Plan;
-use alta_disk::Disk;
+use alta_content::AllRows;
+use alta_disk::{Disk, LoadFault};
 use alta_level::is_end_term;
+use alta_machine::Test;
 use alta_memlevel::MemLevel;
-use alta_query::Test;
-use alta_rows::AllRows;
 use alta_search::{Loading, Snapshot, loading_order};
-use alta_table::Table;
+use alta_table::OpenLevel;
 use std::alloc::Global;
 
 /// Loads what the search for a plan needs: of each test of the plan the lists of the terms that meet it, from the levels, the
@@ -62,7 +61,7 @@ pub fn load_snapshot<D: Disk>(
     alloc: Global,
     disk: &mut D,
     plan: &Plan,
-    levels: &[Table],
+    levels: &[OpenLevel],
     newest: &MemLevel,
     rows: AllRows,
     gone: &[Loc],
@@ -102,7 +101,7 @@ pub fn load_ordered<D: Disk>(
     alloc: Global,
     disk: &mut D,
     order: Loading,
-    levels: &[Table],
+    levels: &[OpenLevel],
     ends: &mut Ends,
     newest: &MemLevel,
     rows: AllRows,

@@ -6,22 +6,21 @@ ghost use Rattle.alta_disk.specs.Calls.{Reads};
 ghost use Rattle.alta_disk.specs.Disk.{DiskState};
 ghost use Rattle.alta_loading.specs.Lists.{KeepsRow, LiesWithin, stream_size};
 ghost use Rattle.alta_loading.specs.Loads.{KeepRows, Load, Tells, list_at, load_at, load_in, load_size, load_sizes, loads_from, number_of, row_from};
-ghost use Rattle.alta_loading.specs.declared.fault.LoadFault.TheVariants.{Disk as DiskFault};
+ghost use Rattle.alta_disk.specs.declared.fault.LoadFault.TheVariants.{Disk as DiskFault};
 ghost use Rattle.alta_loading.specs.Terms.{KeepTerm, if_some, lists_of_term, number_if_some, term_key};
 ghost use Rattle.alta_loading.specs.Tested.{AreEndsWhole, IsAllEnds};
 ghost use Rattle.alta_search.specs.Lists.{key_of, level_in, level_list, stored_list, term_lists};
 ghost use Rattle.alta_table.specs.Tables.{Tables};
 
-use crate::fault::LoadFault;
 use crate::list::load_list;
 use crate::mark::Ends;
 use crate::near::find_near;
 use alta_codec::{Bytes, Loc};
-use alta_disk::Disk;
+use alta_disk::{Disk, LoadFault};
 use alta_level::is_end_term;
 use alta_memlevel::MemLevel;
 use alta_search::{LevelList, Stored, TermLists};
-use alta_table::Table;
+use alta_table::OpenLevel;
 use alta_words::Posting;
 use std::alloc::{AllocError, Global};
 
@@ -36,7 +35,7 @@ use std::alloc::{AllocError, Global};
 pub fn load_term<D: Disk>(
     alloc: Global,
     disk: &mut D,
-    levels: &[Table],
+    levels: &[OpenLevel],
     ends: Ends,
     newest: &MemLevel,
     term: Bytes,
@@ -63,7 +62,7 @@ pub fn load_term<D: Disk>(
 pub fn load_term_near<D: Disk>(
     alloc: Global,
     disk: &mut D,
-    levels: &[Table],
+    levels: &[OpenLevel],
     ends: Ends,
     newest: &MemLevel,
     term: Bytes,
@@ -121,7 +120,7 @@ fn with_newest(
 pub fn load_coded<D: Disk>(
     alloc: Global,
     disk: &mut D,
-    levels: &[Table],
+    levels: &[OpenLevel],
     ends: Ends,
     term: &[u8],
 ) -> Result<Vec<LevelList>, LoadFault>
@@ -145,7 +144,7 @@ pub fn load_coded<D: Disk>(
 fn load_coded_near<D: Disk>(
     alloc: Global,
     disk: &mut D,
-    levels: &[Table],
+    levels: &[OpenLevel],
     ends: Ends,
     term: &[u8],
     nears: &mut [usize],
@@ -184,7 +183,7 @@ fn load_next<D: Disk>(
     disk: &mut D,
     lists: &mut Vec<LevelList>,
     number: u64,
-    level: &Table,
+    level: &OpenLevel,
     ends: Ends,
     term: &[u8],
     nears: &mut [usize],
@@ -211,7 +210,7 @@ fn load_next<D: Disk>(
 }
 
 // The row of a term in the level of this number, near the place of the number, where there is one.
-fn row_of(level: &Table, term: &[u8], number: u64, nears: &mut [usize]) -> Option<usize>
+fn row_of(level: &OpenLevel, term: &[u8], number: u64, nears: &mut [usize]) -> Option<usize>
     ensures row { result ≡ row_from 0 level.now.terms term.now }
     ensures within { MatchOption result (Unit {0}) (λ row. row < length level.now.terms) }
 {
@@ -228,7 +227,7 @@ fn load_row<D: Disk>(
     alloc: Global,
     disk: &mut D,
     number: u64,
-    level: &Table,
+    level: &OpenLevel,
     ends: Ends,
     row: usize,
 ) -> Result<LevelList, LoadFault>
@@ -257,7 +256,7 @@ fn load_row<D: Disk>(
 
 // Whether nothing has to be read of a row: its list is that of all ends, which was tested, and the row counts as many as there are
 // documents.
-fn is_tested(ends: Ends, level: &Table, row: usize) -> bool
+fn is_tested(ends: Ends, level: &OpenLevel, row: usize) -> bool
     requires { row < length level.now.terms }
     ensures ends { IsTrue result → (image : List ℕ) → AreEndsWhole ends image (level.now ∷ []) → IsAllEnds image (record { number = 0; level = level.now; row = row }) }
     ensures kept { IsTrue result → KeepsRow level.now row (ends_of level.now.documents) }
@@ -272,7 +271,7 @@ fn is_tested(ends: Ends, level: &Table, row: usize) -> bool
 }
 
 // Whether a row is that of all ends, and counts as many as there are documents.
-fn counts_all_ends(level: &Table, row: usize) -> bool
+fn counts_all_ends(level: &OpenLevel, row: usize) -> bool
     requires { row < length level.now.terms }
     ensures ends { IsTrue result → (image : List ℕ) → AreEndsWhole Ends.Tested image (level.now ∷ []) → IsAllEnds image (record { number = 0; level = level.now; row = row }) }
     ensures kept { IsTrue result → KeepsRow level.now row (ends_of level.now.documents) }
@@ -284,7 +283,7 @@ fn counts_all_ends(level: &Table, row: usize) -> bool
 }
 
 // The list of all ends of a level, as its rows have them.
-fn all_ends(number: u64, level: &Table) -> Result<LevelList, AllocError>
+fn all_ends(number: u64, level: &OpenLevel) -> Result<LevelList, AllocError>
     ensures number { IfOk result (λ list. level_in list ≡ number) }
     ensures list { IfOk result (λ list. level_list list ≡ ends_of level.now.documents) }
 {
@@ -297,7 +296,7 @@ fn all_ends(number: u64, level: &Table) -> Result<LevelList, AllocError>
 
 // The list of a row as it is kept: where it is that of the ends of documents, as the level's rows have them in a plain form, and else as
 // it is coded.
-fn held(level: &Table, row: usize, posting: Posting) -> Result<Stored, AllocError>
+fn held(level: &OpenLevel, row: usize, posting: Posting) -> Result<Stored, AllocError>
     requires row { row < length level.now.terms }
     requires keeps { KeepsRow level.now row posting }
     ensures { IfOk result (λ stored. stored_list stored ≡ posting) }

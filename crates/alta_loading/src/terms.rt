@@ -7,17 +7,16 @@ ghost use Rattle.alta_loading.specs.Lists.{LiesWithin};
 ghost use Rattle.alta_loading.specs.Loads.{Tells, load_sizes};
 ghost use Rattle.alta_loading.specs.Terms.{KeepTerms, lists_of_term, loads_of, term_key};
 ghost use Rattle.alta_loading.specs.Tested.{AreEndsWhole};
-ghost use Rattle.alta_loading.specs.declared.fault.LoadFault.TheVariants.{Disk as DiskFault};
+ghost use Rattle.alta_disk.specs.declared.fault.LoadFault.TheVariants.{Disk as DiskFault};
 ghost use Rattle.alta_search.specs.Lists.{key_of, term_lists};
 
-use crate::fault::LoadFault;
 use crate::mark::Ends;
 use crate::term::load_term_near;
 use alta_codec::Bytes;
-use alta_disk::Disk;
+use alta_disk::{Disk, LoadFault};
 use alta_memlevel::MemLevel;
 use alta_search::TermLists;
-use alta_table::Table;
+use alta_table::OpenLevel;
 use std::alloc::Global;
 
 /// Loads the lists of each of these terms, one term after the other, as [`crate::load_term`] loads those of one. Each is looked up in
@@ -29,7 +28,7 @@ use std::alloc::Global;
 pub fn load_terms<D: Disk>(
     alloc: Global,
     disk: &mut D,
-    levels: &[Table],
+    levels: &[OpenLevel],
     ends: Ends,
     newest: &MemLevel,
     terms: Vec<Bytes>,

@@ -16,9 +16,9 @@ use Rattle.alta_codec.specs.Order.{Precedes}
 use Rattle.alta_content.specs.Lists.{end_term, is_kind}
 use Rattle.alta_text.specs.Words.{folded_of, words_of}
 use Rattle.alta_memlevel.specs.Added.{places_of}
-use Rattle.alta_meta.specs.Cells.{cell_holds, cells_of, numbered, word_cell}
-use Rattle.alta_meta.proofs.Ranges.{numbered_all, numbered_none, numbered_sorted}
-use Rattle.alta_range.specs.Numbers.{number_in}
+use Rattle.alta_machine.specs.Cells.{cell_holds, cells_of, numbered, word_cell}
+use Rattle.alta_machine.proofs.Ranges.{numbered_all, numbered_none, numbered_sorted}
+use Rattle.alta_machine.specs.Numbers.{number_in}
 use Rattle.alta_content.proofs.Order.{Sorted}
 
 -- a term of a level: not empty, of a kind, and at most 129 bytes

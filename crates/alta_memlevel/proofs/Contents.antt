@@ -16,7 +16,7 @@ use Rattle.alta_content.specs.declared.content.Content.{Content}
 use Rattle.alta_content.specs.declared.document.DocRow.{DocRow}
 use Rattle.alta_content.specs.Lists.{locations_of, terms_of}
 use Rattle.alta_content.specs.Rows.{end_of}
-use Rattle.alta_meta.specs.Cells.{cell_holds}
+use Rattle.alta_machine.specs.Cells.{cell_holds}
 use Rattle.alta_memlevel.specs.Added.{Added, places_of, list_of, IsInSpace, IsSpace, HasContent}
 use Rattle.alta_memlevel.proofs.One.{listed_at, listed_some, listed_terms}
 use Rattle.alta_memlevel.specs.Lists.{Entries, Numbers, keys_in, list_in, term_lists}

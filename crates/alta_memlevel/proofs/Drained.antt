@@ -12,7 +12,7 @@ use Rattle.alta_content.specs.Lists.{locations_of, terms_of}
 use Rattle.alta_content.specs.Rows.{RowsRise, end_of, ends_among}
 use Rattle.alta_content.specs.Spans.{is_within, deleted_spans, outside_of, lists_outside}
 use Rattle.alta_content.proofs.Outside.{Tells, spans_tell, rows_outside, locations_outside, some_outside, sorted_outside, own_locations}
-use Rattle.alta_meta.specs.Cells.{cell_holds}
+use Rattle.alta_machine.specs.Cells.{cell_holds}
 use Rattle.alta_memlevel.specs.Added.{Added, places_of, list_of, IsSpace, HasContent, live_of}
 use Rattle.alta_memlevel.proofs.Contents.{list_of_rises}
 

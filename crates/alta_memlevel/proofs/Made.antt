@@ -4,10 +4,9 @@ use Rattle.std.specs.List.{All}
 use Rattle.std.proofs.lemmas.List.Elements.{All-weaker}
 use Rattle.alta_content.specs.declared.content.Content.{Content}
 use Rattle.alta_memlevel.specs.Added.{Added, HasContent, live_of}
-use Rattle.alta_memlevel.specs.Documents.{document_of}
+use Rattle.alta_memlevel.specs.Documents.{document_of, AreMade, IsMade, document_in}
 use Rattle.alta_content.specs.Rows.{live_rows}
 use Rattle.alta_content.proofs.Order.{Sorted}
-use Rattle.alta_memlevel.specs.Documents.{AreMade, IsMade, document_in}
 use Rattle.alta_memlevel.proofs.Cells.{IsGood, cells_good}
 use Rattle.alta_memlevel.proofs.Read.{documents_back, live_back}
 

@@ -10,7 +10,7 @@ use Rattle.alta_content.specs.TermList.{TermList}
 use Rattle.alta_content.specs.Joining.{in_order}
 use Rattle.alta_content.specs.Lists.{TermsRise, locations_of, terms_of}
 use Rattle.alta_memlevel.specs.Added.{Added, HasContent, IsSpace, list_of, places_of}
-use Rattle.alta_meta.specs.Cells.{cell_holds}
+use Rattle.alta_machine.specs.Cells.{cell_holds}
 use Rattle.alta_content.proofs.Order.{Sorted, has, has_append, has_head, has_in_order, has_more, in_order_sorted, same_term}
 use Rattle.alta_content.proofs.Folds.{HasSome, same_lists}
 use Rattle.alta_memlevel.specs.Documents.{content_of, terms_added}

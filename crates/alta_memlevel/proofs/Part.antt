@@ -19,7 +19,7 @@ use Rattle.alta_content.specs.declared.content.Content.{Content}
 use Rattle.alta_content.specs.TermList.{TermList}
 use Rattle.alta_memlevel.specs.Added.{Added, HasContent, IsSpace, list_of, places_of}
 use Rattle.alta_memlevel.proofs.Contents.{list_of_rises}
-use Rattle.alta_meta.specs.Cells.{cells_of}
+use Rattle.alta_machine.specs.Cells.{cells_of}
 use Rattle.alta_content.proofs.Order.{After, by_order, cmp}
 use Rattle.alta_content.proofs.Elements.{among_at}
 use Rattle.alta_content.proofs.Folds.{HasSome}

@@ -11,14 +11,13 @@ use Rattle.alta_content.specs.Cells.{cell_at, locations_from}
 use Rattle.alta_content.specs.Lists.{TermsRise, locations_of}
 use Rattle.alta_content.specs.Rows.{RowsRise, end_of, ends_among, live_rows}
 use Rattle.alta_memlevel.specs.Added.{Added, HasContent, IsSpace, list_of, live_of, places_of}
-use Rattle.alta_meta.specs.Cells.{cell_holds}
-use Rattle.alta_meta.specs.declared.document.Document.{Document}
-use Rattle.alta_memlevel.specs.Documents.{document_of}
+use Rattle.alta_machine.specs.Cells.{cell_holds}
+use Rattle.alta_machine.specs.declared.document.Document.{Document}
+use Rattle.alta_memlevel.specs.Documents.{document_of, document_in}
 use Rattle.alta_content.proofs.Documents.{same_cell}
 use Rattle.alta_content.proofs.Elements.{among_head}
 use Rattle.alta_content.proofs.Order.{Sorted, has}
 use Rattle.alta_content.proofs.Ranges.{among, any_append, in_row, in_row_from, in_rows, ranges_apart}
-use Rattle.alta_memlevel.specs.Documents.{document_in}
 use Rattle.alta_memlevel.proofs.One.{holds_has, listed, listed_at, listed_terms}
 
 -- a row of each document

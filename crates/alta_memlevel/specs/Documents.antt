@@ -10,8 +10,8 @@ use Rattle.alta_content.specs.declared.document.DocRow.{DocRow}
 use Rattle.alta_content.specs.Cells.{cells_at}
 use Rattle.alta_content.specs.Joining.{in_order}
 use Rattle.alta_content.specs.Rows.{end_of}
-use Rattle.alta_meta.specs.Cells.{cells_of}
-use Rattle.alta_meta.specs.declared.document.Document.{Document}
+use Rattle.alta_machine.specs.Cells.{cells_of}
+use Rattle.alta_machine.specs.declared.document.Document.{Document}
 use Rattle.alta_memlevel.specs.Added.{Added, HasContent, IsSpace, LevelView, list_of, live_of}
 
 -- a document of a name, a title and a body: its cells are theirs, not too many, and its number is from 1 to below TOP

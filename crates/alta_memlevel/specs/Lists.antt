@@ -6,7 +6,7 @@ use Rattle.std.specs.Str.{bytes_eq}
 use Rattle.std.specs.List.{All, IsDistinct}
 use Rattle.alta_content.specs.Joining.{in_order}
 use Rattle.alta_content.specs.TermList.{TermList}
-use Rattle.alta_meta.specs.Cells.{cell_holds}
+use Rattle.alta_machine.specs.Cells.{cell_holds}
 use Rattle.std.specs.declared.alloc.Global.{Global}
 
 -- a term's bytes, and a list of locations, as they are kept

@@ -9,15 +9,14 @@ ghost use Rattle.alta_codec.specs.declared.location.TheConstants.{TOP};
 ghost use Rattle.alta_content.specs.Lists.{locations_of, terms_of};
 ghost use Rattle.alta_content.specs.Rows.{end_of};
 ghost use Rattle.alta_memlevel.specs.Added.{Added, HasContent, live_of};
-ghost use Rattle.alta_rows.specs.All.{rows_of_levels, shared_rows};
+ghost use Rattle.alta_content.specs.All.{rows_of_levels, shared_rows};
 
 use crate::copying::copy_lists;
 use crate::lists::{Lists, list_of, put_cells};
 use crate::terms::terms_from;
 use alta_codec::{Bytes, Loc};
-use alta_content::{Content, DocRow, DocRows, LevelRows, keep_rows, spans_of};
-use alta_meta::Cell;
-use alta_rows::{AllRows, RowRuns};
+use alta_content::{AllRows, Content, DocRow, DocRows, LevelRows, RowRuns, keep_rows, spans_of};
+use alta_machine::Cell;
 use std::alloc::{AllocError, Global};
 use std::collections::HashMap;
 use std::marker::Model;

@@ -2,12 +2,12 @@
 ghost use Rattle.std.specs.Prelude.{◌≡◌, List, ℕ, ◌+◌, ◌<◌, ◌≤◌, ◌++◌, ◌∷◌, [], cond, length, take, slice_index_or, OnOk};
 ghost use Rattle.std.specs.Str.{bytes_eq};
 ghost use Rattle.alta_codec.specs.declared.location.TheConstants.{TOP};
-ghost use Rattle.alta_meta.specs.Cells.{cell_holds};
+ghost use Rattle.alta_machine.specs.Cells.{cell_holds};
 ghost use Rattle.alta_memlevel.specs.Added.{places_of};
 ghost use Rattle.alta_memlevel.specs.Lists.{list_in, IsIndex, AddsOnce};
 
 use alta_codec::Loc;
-use alta_meta::Cell;
+use alta_machine::Cell;
 use std::alloc::{AllocError, Global};
 use std::collections::HashMap;
 

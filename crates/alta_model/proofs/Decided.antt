@@ -5,11 +5,11 @@ use Rattle.std.specs.List.{All, list_all, list_any, range_with_len}
 use Rattle.std.proofs.lemmas.Bool.{false≢true, cases_lt, or_cases, leb-true}
 use Rattle.std.proofs.lemmas.Bool.Decides.{nat_tests}
 use Rattle.std.proofs.lemmas.List.Elements.{All-nil, All-cons, All-head, All-tail}
-use Rattle.alta_query.specs.Matches.{Matches, AllMatch, AnyMatches}
-use Rattle.alta_query.specs.Patterns.{Bound, Pattern, IsMet, AreMet, IsKept, IsAnswer, Satisfies, SatisfiesOne, meets, pattern_of, numbers_in, value_patterns}
-use Rattle.alta_query.specs.Shape.{Shape, Shapes, atom, all, any, negated, none, more}
-use Rattle.alta_query.specs.declared.test.Test.{Test}
-use Rattle.alta_model.specs.Deciding.{is_kept, is_answered, is_satisfied, is_value_match, is_match, all_match, any_matches}
+use Rattle.alta_machine.specs.Matches.{Matches, AllMatch, AnyMatches}
+use Rattle.alta_machine.specs.Patterns.{Bound, Pattern, IsMet, AreMet, IsKept, IsAnswer, Satisfies, SatisfiesOne, meets, pattern_of, numbers_in, value_patterns}
+use Rattle.alta_machine.specs.Shape.{Shape, Shapes, atom, all, any, negated, none, more}
+use Rattle.alta_machine.specs.declared.test.Test.{Test}
+use Rattle.alta_machine.specs.Deciding.{is_kept, is_answered, is_satisfied, is_value_match, is_match, all_match, any_matches}
 use Rattle.alta_model.proofs.Counts.{both}
 
 and_true : (a b : Bool) → a ≡ true → b ≡ true → (a && b) ≡ true

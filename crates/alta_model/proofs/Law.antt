@@ -10,9 +10,9 @@ use Rattle.std.proofs.lemmas.Bool.{false≢true}
 use Rattle.std.proofs.lemmas.Bool.Decides.{nat_tests}
 use Rattle.std.proofs.lemmas.Slice.Eq.{bytes_eq-Decides}
 use Rattle.alta_codec.specs.Bytes.{has_byte}
-use Rattle.alta_model.specs.Command.{Command, Reads, IsCount, IsFine, spelled, is_tab, adds, deletes, searches, counts, explains, opens, fetches, closes, ranks, flushes, merges, steps, asks_stats, dumps}
-use Rattle.alta_model.specs.Faults.{is_space}
-use Rattle.alta_model.specs.Reading.{parted, command_in, in_parts, alone, with_rest, add_of, text_of, number_of, fetch_of, top_of, count_of, top_count_of, with_name, with_body, with_cursor, with_count, with_query}
+use Rattle.alta_machine.specs.Command.{Command, Reads, IsCount, IsFine, spelled, is_tab, adds, deletes, searches, counts, explains, opens, fetches, closes, ranks, flushes, merges, steps, asks_stats, dumps}
+use Rattle.alta_machine.specs.LineFaults.{is_space}
+use Rattle.alta_machine.specs.Reading.{parted, command_in, in_parts, alone, with_rest, add_of, text_of, number_of, fetch_of, top_of, count_of, top_count_of, with_name, with_body, with_cursor, with_count, with_query}
 use Rattle.alta_model.proofs.Counts.{some_inj, none_is_not, count_reads, count_spelled, top_count_reads, top_count_spelled, counted_digits, both}
 
 lt_true : (m n : ℕ) → m < n → nat_lt m n ≡ true

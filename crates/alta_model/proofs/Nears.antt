@@ -5,8 +5,8 @@ use Rattle.std.specs.List.{All}
 use Rattle.std.proofs.lemmas.Bool.{leb-true, false≢true}
 use Rattle.std.proofs.lemmas.List.Elements.{All-nil, All-cons, All-head, All-tail}
 use Rattle.alta_model.specs.Near.{is_close, IsLast, AreApart}
-use Rattle.alta_query.specs.Patterns.{Bound, IsKept, Satisfies, meets, near_pattern}
-use Rattle.alta_query.specs.declared.test.Test.{Test}
+use Rattle.alta_machine.specs.Patterns.{Bound, IsKept, Satisfies, meets, near_pattern}
+use Rattle.alta_machine.specs.declared.test.Test.{Test}
 use Rattle.alta_model.proofs.Counts.{both}
 
 -- one cell further

@@ -6,9 +6,9 @@ use Rattle.std.proofs.lemmas.Bool.{false≢true, cases_lt, or_cases}
 use Rattle.std.proofs.lemmas.Bool.Decides.{nat_tests}
 use Rattle.std.proofs.lemmas.List.{drop_all}
 use Rattle.std.proofs.lemmas.List.Elements.{All-nil, All-cons, All-head, All-tail}
-use Rattle.alta_query.specs.Patterns.{Bound, IsMet, AreMet, IsKept, Satisfies, meets, neighbours, phrase_pattern}
+use Rattle.alta_machine.specs.Patterns.{Bound, IsMet, AreMet, IsKept, Satisfies, meets, neighbours, phrase_pattern}
 use Rattle.alta_model.specs.Phrase.{fits, has_phrase}
-use Rattle.alta_query.specs.declared.test.Test.{Test}
+use Rattle.alta_machine.specs.declared.test.Test.{Test}
 use Rattle.alta_model.proofs.Counts.{both}
 
 -- the tests are met from this place on

@@ -5,13 +5,13 @@ use Rattle.std.specs.Str.{IsUtf8, is_utf8}
 use Rattle.std.proofs.lemmas.Bool.{false≢true}
 use Rattle.std.proofs.lemmas.Bool.Decides.{nat_tests}
 use Rattle.std.proofs.lemmas.Str.{IsUtf8-from_is_utf8, is_utf8-from_IsUtf8}
-use Rattle.alta_model.specs.declared.line.TheConstants.{LINE_LIMIT}
-use Rattle.alta_model.specs.Command.{Command, Reads, adds}
-use Rattle.alta_model.specs.Faults.{IsText, IsRefused, is_verb, word_of}
-use Rattle.alta_model.specs.Lines.{Reading, asks, refuses, asks_or_refuses, reading_of}
-use Rattle.alta_model.specs.Reading.{command_in}
-use Rattle.alta_model.specs.declared.line.LineFault.{LineFault}
-use Rattle.alta_model.specs.declared.line.LineFault.TheVariants.{TooLong, NotUtf8, Unknown, Bad}
+use Rattle.alta_machine.specs.declared.line.TheConstants.{LINE_LIMIT}
+use Rattle.alta_machine.specs.Command.{Command, Reads, adds}
+use Rattle.alta_machine.specs.LineFaults.{IsText, IsRefused, is_verb, word_of}
+use Rattle.alta_machine.specs.Lines.{Reading, asks, refuses, asks_or_refuses, reading_of}
+use Rattle.alta_machine.specs.Reading.{command_in}
+use Rattle.alta_machine.specs.declared.line.LineFault.{LineFault}
+use Rattle.alta_machine.specs.declared.line.LineFault.TheVariants.{TooLong, NotUtf8, Unknown, Bad}
 use Rattle.alta_model.proofs.Law.{reading_reads, reads_reading}
 use Rattle.alta_model.proofs.Refusals.{not_refused, refusal, only_refusal}
 

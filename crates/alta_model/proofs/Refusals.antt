@@ -2,13 +2,13 @@
 use Rattle.std.proofs.Common.{◌≡◌, ℕ, List, refl, ap, sym, subst, ◌∙◌, arith, Bool, true, false}
 use Rattle.std.specs.Prelude.{if◌then◌else◌, Option, None, Result, Ok, Err, option_map}
 use Rattle.std.proofs.lemmas.Bool.{false≢true}
-use Rattle.alta_model.specs.Command.{Command, Reads, spelled, adds, deletes, searches, counts, explains, opens, fetches, closes, ranks, flushes, merges, steps, asks_stats, dumps}
-use Rattle.alta_model.specs.Faults.{IsText, IsRefused, is_verb, word_of}
-use Rattle.alta_model.specs.Reading.{command_in}
+use Rattle.alta_machine.specs.Command.{Command, Reads, spelled, adds, deletes, searches, counts, explains, opens, fetches, closes, ranks, flushes, merges, steps, asks_stats, dumps}
+use Rattle.alta_machine.specs.LineFaults.{IsText, IsRefused, is_verb, word_of}
+use Rattle.alta_machine.specs.Reading.{command_in}
 use Rattle.alta_model.specs.Seen.{command_of}
 use Rattle.alta_model.specs.declared.line.Line.{Line}
-use Rattle.alta_model.specs.declared.line.LineFault.{LineFault}
-use Rattle.alta_model.specs.declared.line.LineFault.TheVariants.{TooLong, NotUtf8, Unknown, Bad}
+use Rattle.alta_machine.specs.declared.line.LineFault.{LineFault}
+use Rattle.alta_machine.specs.declared.line.LineFault.TheVariants.{TooLong, NotUtf8, Unknown, Bad}
 use Rattle.alta_model.proofs.Counts.{none_is_not}
 use Rattle.alta_model.proofs.Law.{reads_reading}
 

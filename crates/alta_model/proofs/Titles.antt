@@ -5,9 +5,9 @@ use Rattle.std.specs.List.{All}
 use Rattle.std.proofs.lemmas.Bool.{cases_lt}
 use Rattle.std.proofs.lemmas.List.Elements.{All-nil, All-cons, All-head, All-tail, All-append}
 use Rattle.alta_model.specs.Near.{IsLast}
-use Rattle.alta_query.specs.Patterns.{Bound, IsMet, AreMet, IsKept, Satisfies, meets, neighbours, phrase_pattern, title_end, before_end, in_title}
+use Rattle.alta_machine.specs.Patterns.{Bound, IsMet, AreMet, IsKept, Satisfies, meets, neighbours, phrase_pattern, title_end, before_end, in_title}
 use Rattle.alta_model.specs.Phrase.{has_phrase}
-use Rattle.alta_query.specs.declared.test.Test.{Test}
+use Rattle.alta_machine.specs.declared.test.Test.{Test}
 use Rattle.alta_model.proofs.Phrases.{StandsAt, run, run_kept, front_is, has_stands, stands_has}
 
 -- cells before a place

@@ -1,7 +1,7 @@
 -- The last places of two tests, step by step. No public clause cites it.
 use Rattle.std.specs.Prelude.{ℕ, ◌+◌, ◌≤◌, ◌<◌, Bool, false, ◌&&◌, nat_le, List, Option, Some, None}
-use Rattle.alta_query.specs.Patterns.{IsMet}
-use Rattle.alta_query.specs.declared.test.Test.{Test}
+use Rattle.alta_machine.specs.Patterns.{IsMet}
+use Rattle.alta_machine.specs.declared.test.Test.{Test}
 
 abbrev pub is_close : Option ℕ → Option ℕ → ℕ → Bool
 is_close None right distance = false

@@ -1,7 +1,7 @@
 -- A phrase at a place, step by step. No public clause cites it.
 use Rattle.std.specs.Prelude.{ℕ, Bool, true, false, ◌&&◌, ◌||◌, List, [], ◌∷◌}
-use Rattle.alta_query.specs.Patterns.{meets}
-use Rattle.alta_query.specs.declared.test.Test.{Test}
+use Rattle.alta_machine.specs.Patterns.{meets}
+use Rattle.alta_machine.specs.declared.test.Test.{Test}
 
 -- the first cells meet the tests
 abbrev pub fits : List Test → List (List (List ℕ)) → Bool

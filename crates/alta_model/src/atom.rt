@@ -2,18 +2,17 @@
 ghost use Rattle.std.specs.Prelude.{◌≡◌, ◌↔◌, ◌∷◌, [], ◌≤◌, length, map, take, All, IsTrue};
 ghost use Rattle.alta_model.specs.Near.{IsLast};
 ghost use Rattle.alta_model.specs.Phrase.{has_phrase};
-ghost use Rattle.alta_query.specs.Patterns.{AtomMatches, Satisfies, SatisfiesOne, in_title, phrase_pattern, range_pattern, title_end, titled, value_patterns};
+ghost use Rattle.alta_machine.specs.Patterns.{AtomMatches, Satisfies, SatisfiesOne, in_title, phrase_pattern, range_pattern, title_end, titled, value_patterns};
 ghost use Rattle.alta_query.specs.View.{atom_view};
-ghost use Rattle.alta_query.specs.Words.{name_test};
-ghost use Rattle.alta_query.specs.declared.test.Test.TheVariants.{Is};
-ghost use Rattle.alta_range.specs.Covers.{IsRange};
+ghost use Rattle.alta_machine.specs.Words.{name_test};
+ghost use Rattle.alta_machine.specs.declared.test.Test.TheVariants.{Is};
+ghost use Rattle.alta_machine.specs.Covers.{IsRange};
 
 use crate::near::{holds_near, later};
 use crate::phrase::has_phrase;
-use alta_meta::Cell;
-use alta_meta::kinds::{NAME, TITLE_END};
-use alta_query::{Atom, Test};
-use alta_range::{Range, cover, range_term};
+use alta_machine::kinds::{NAME, TITLE_END};
+use alta_machine::{Cell, Range, Test, cover, range_term};
+use alta_query::Atom;
 use std::slice::from_ref;
 
 /// Whether some cells answer the pattern of the atom, or one of the patterns of a value.

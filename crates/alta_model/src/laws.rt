@@ -1,12 +1,12 @@
 // What the definitions promise by themselves.
 ghost use Rattle.std.specs.Prelude.{◌≡◌, ◌↔◌, List, ℕ, true};
-ghost use Rattle.alta_model.specs.Command.{Command, Reads};
-ghost use Rattle.alta_model.specs.Deciding.{is_match};
-ghost use Rattle.alta_model.specs.Faults.{IsRefused, IsText};
-ghost use Rattle.alta_model.specs.Lines.{Reading, asks, refuses, reading_of};
-ghost use Rattle.alta_model.specs.declared.line.LineFault.{LineFault};
-ghost use Rattle.alta_query.specs.Matches.{Matches};
-ghost use Rattle.alta_query.specs.Shape.{Shape};
+ghost use Rattle.alta_machine.specs.Command.{Command, Reads};
+ghost use Rattle.alta_machine.specs.Deciding.{is_match};
+ghost use Rattle.alta_machine.specs.LineFaults.{IsRefused, IsText};
+ghost use Rattle.alta_machine.specs.Lines.{Reading, asks, refuses, reading_of};
+ghost use Rattle.alta_machine.specs.declared.line.LineFault.{LineFault};
+ghost use Rattle.alta_machine.specs.Matches.{Matches};
+ghost use Rattle.alta_machine.specs.Shape.{Shape};
 
 /// A line asks for a command exactly where it is a text that spells the command, and it is refused exactly for the
 /// first of the four causes that applies.

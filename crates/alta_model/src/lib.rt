@@ -10,5 +10,5 @@ mod near;
 mod phrase;
 
 pub use laws::{a_line_is_read_one_way, a_match_is_decided};
-pub use line::{LINE_LIMIT, Line, LineFault, read_line};
+pub use line::{Line, read_line};
 pub use matching::matches;

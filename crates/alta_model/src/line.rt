@@ -2,17 +2,15 @@
 ghost use Rattle.std.specs.Prelude.{◌≡◌, ◌↔◌, option_map, take, drop, IfOk, OnOk, Err, if◌then◌else◌};
 ghost use Rattle.std.specs.List.{list_any};
 ghost use Rattle.std.specs.Str.{IsUtf8, bytes_eq};
-ghost use Rattle.alta_model.specs.Command.{Command, Reads, is_tab};
-ghost use Rattle.alta_model.specs.Faults.{IsRefused, IsText, is_space, is_verb, verbs, word_of};
-ghost use Rattle.alta_model.specs.Reading.{command_in, parted, alone, with_rest, add_of, text_of, number_of, fetch_of, top_of, count_of, top_count_of};
-ghost use Rattle.alta_model.specs.Lines.{reading_of, reading_in};
-ghost use Rattle.alta_model.specs.Seen.{command_of};
+ghost use Rattle.alta_machine.specs.Command.{Command, Reads, is_tab};
+ghost use Rattle.alta_machine.specs.LineFaults.{IsRefused, IsText, is_space, is_verb, verbs, word_of};
+ghost use Rattle.alta_machine.specs.Reading.{command_in, parted, alone, with_rest, add_of, text_of, number_of, fetch_of, top_of, count_of, top_count_of};
+ghost use Rattle.alta_machine.specs.Lines.{reading_of};
+ghost use Rattle.alta_model.specs.Seen.{reading_in, command_of};
 
 use alta_codec::read_count;
+use alta_machine::{LINE_LIMIT, LineFault};
 use simdutf8::compat::from_utf8;
-
-/// How many bytes a line may have, without its newline.
-pub const LINE_LIMIT: usize = 262_143;
 
 /// What a line asks for, with its parts as they stand in the line.
 #[derive(Clone, Copy, Debug, Drop)]
@@ -55,15 +53,6 @@ pub enum Line<'a> {
     },
     Stats,
     Dump,
-}
-
-/// Why a line is refused.
-#[derive(Clone, Copy, Debug, Drop)]
-pub enum LineFault {
-    TooLong,
-    NotUtf8,
-    Unknown,
-    Bad,
 }
 
 /// Reads a line, without its newline, as a command. The parts that a command names are borrowed from the line. It takes
@@ -150,7 +139,7 @@ fn works(word: &str) -> bool
     word == "flush" || word == "merge" || word == "step" || word == "stats" || word == "dump"
 }
 
-#[tactic(auto, unfolding(crate::specs::Reading::command_in, crate::specs::Reading::parted))]
+#[tactic(auto, unfolding(alta_machine::specs::Reading::command_in, alta_machine::specs::Reading::parted))]
 fn command(text: &str) -> Option<Line<'_>>
     ensures { option_map command_of result ≡ command_in text.now }
 {
@@ -160,7 +149,7 @@ fn command(text: &str) -> Option<Line<'_>>
     }
 }
 
-#[tactic(auto, unfolding(crate::specs::Reading::alone))]
+#[tactic(auto, unfolding(alta_machine::specs::Reading::alone))]
 fn command_alone(word: &str) -> Option<Line<'_>>
     ensures { option_map command_of result ≡ alone word.now }
 {
@@ -179,7 +168,7 @@ fn command_alone(word: &str) -> Option<Line<'_>>
     None
 }
 
-#[tactic(auto, unfolding(crate::specs::Reading::with_rest))]
+#[tactic(auto, unfolding(alta_machine::specs::Reading::with_rest))]
 fn command_with<'a>(word: &str, rest: &'a str) -> Option<Line<'a>>
     ensures { option_map command_of result ≡ with_rest word.now rest.now }
 {
@@ -192,7 +181,7 @@ fn command_with<'a>(word: &str, rest: &'a str) -> Option<Line<'a>>
     }
 }
 
-#[tactic(auto, unfolding(crate::specs::Reading::add_of, crate::specs::Reading::parted))]
+#[tactic(auto, unfolding(alta_machine::specs::Reading::add_of, alta_machine::specs::Reading::parted))]
 fn document(rest: &str) -> Option<Line<'_>>
     ensures { option_map command_of result ≡ add_of rest.now }
 {
@@ -201,7 +190,7 @@ fn document(rest: &str) -> Option<Line<'_>>
     Some(Line::Add { name, title, body })
 }
 
-#[tactic(auto, unfolding(crate::specs::Reading::text_of))]
+#[tactic(auto, unfolding(alta_machine::specs::Reading::text_of))]
 fn about_text<'a>(word: &str, rest: &'a str) -> Option<Line<'a>>
     ensures { option_map command_of result ≡ text_of word.now rest.now }
 {
@@ -223,7 +212,7 @@ fn about_text<'a>(word: &str, rest: &'a str) -> Option<Line<'a>>
     None
 }
 
-#[tactic(auto, unfolding(crate::specs::Reading::number_of))]
+#[tactic(auto, unfolding(alta_machine::specs::Reading::number_of))]
 fn about_numbers<'a>(word: &str, rest: &'a str) -> Option<Line<'a>>
     ensures { option_map command_of result ≡ number_of word.now rest.now }
 {
@@ -244,7 +233,7 @@ fn about_numbers<'a>(word: &str, rest: &'a str) -> Option<Line<'a>>
     None
 }
 
-#[tactic(auto, unfolding(crate::specs::Reading::fetch_of, crate::specs::Reading::parted))]
+#[tactic(auto, unfolding(alta_machine::specs::Reading::fetch_of, alta_machine::specs::Reading::parted))]
 fn fetch(rest: &str) -> Option<Line<'_>>
     ensures { option_map command_of result ≡ fetch_of rest.now }
 {
@@ -254,7 +243,7 @@ fn fetch(rest: &str) -> Option<Line<'_>>
     Some(Line::Fetch { cursor, count })
 }
 
-#[tactic(auto, unfolding(crate::specs::Reading::top_of, crate::specs::Reading::parted))]
+#[tactic(auto, unfolding(alta_machine::specs::Reading::top_of, alta_machine::specs::Reading::parted))]
 fn top(rest: &str) -> Option<Line<'_>>
     ensures { option_map command_of result ≡ top_of rest.now }
 {
@@ -264,7 +253,7 @@ fn top(rest: &str) -> Option<Line<'_>>
 }
 
 // The count from 1 to 1,000,000 that the text spells.
-#[tactic(auto, unfolding(crate::specs::Reading::count_of))]
+#[tactic(auto, unfolding(alta_machine::specs::Reading::count_of))]
 fn count(text: &[u8]) -> Option<u64>
     ensures { result ≡ count_of text.now }
 {
@@ -272,7 +261,7 @@ fn count(text: &[u8]) -> Option<u64>
 }
 
 // The count from 1 to 1,000 that the text spells.
-#[tactic(auto, unfolding(crate::specs::Reading::top_count_of))]
+#[tactic(auto, unfolding(alta_machine::specs::Reading::top_count_of))]
 fn top_count(text: &[u8]) -> Option<u64>
     ensures { result ≡ top_count_of text.now }
 {

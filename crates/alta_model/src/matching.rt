@@ -1,11 +1,11 @@
 // Which documents match a query.
 ghost use Rattle.std.specs.Prelude.{◌≡◌, ◌↔◌, IsTrue};
-ghost use Rattle.alta_model.specs.Deciding.{is_match};
-ghost use Rattle.alta_query.specs.Matches.{Matches};
+ghost use Rattle.alta_machine.specs.Deciding.{is_match};
+ghost use Rattle.alta_machine.specs.Matches.{Matches};
 ghost use Rattle.alta_query.specs.View.{shape};
 
 use crate::atom::atom_matches;
-use alta_meta::{Cell, Document};
+use alta_machine::{Cell, Document};
 use alta_query::Query;
 
 /// Whether a document matches a query: an atom by its pattern of tests and bounds, a value by one of its patterns, And, Or and

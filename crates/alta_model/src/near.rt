@@ -1,11 +1,10 @@
 // Two tests that are met near each other.
 ghost use Rattle.std.specs.Prelude.{◌≡◌, ◌↔◌, IsTrue, Some, if◌then◌else◌};
 ghost use Rattle.alta_model.specs.Near.{is_close};
-ghost use Rattle.alta_query.specs.Patterns.{Satisfies, near_pattern};
+ghost use Rattle.alta_machine.specs.Patterns.{Satisfies, near_pattern};
 
 use crate::phrase::is_met;
-use alta_meta::Cell;
-use alta_query::Test;
+use alta_machine::{Cell, Test};
 
 /// Whether two cells that meet the tests stand within the distance.
 pub fn holds_near(left: &Test, distance: u16, right: &Test, cells: &[Cell]) -> bool

@@ -1,10 +1,9 @@
 // Phrases: one test behind the other.
 ghost use Rattle.std.specs.Prelude.{◌≡◌, ◌≤◌, length, drop};
 ghost use Rattle.alta_model.specs.Phrase.{fits, has_phrase};
-ghost use Rattle.alta_query.specs.Patterns.{meets};
+ghost use Rattle.alta_machine.specs.Patterns.{meets};
 
-use alta_meta::Cell;
-use alta_query::Test;
+use alta_machine::{Cell, Test};
 
 /// Whether neighbouring cells meet the tests, in order.
 pub fn has_phrase(tests: &[Test], cells: &[Cell]) -> bool

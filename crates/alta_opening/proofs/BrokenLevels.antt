@@ -5,12 +5,12 @@ use Rattle.alta_root.specs.Slots.{Counts}
 use Rattle.alta_root.specs.declared.root.Root.{Root}
 use Rattle.alta_root.specs.declared.slot.Slot.{Slot}
 use Rattle.alta_table.specs.Tables.{Tables}
-use Rattle.alta_images.specs.Broken.{ComesTo, IsBrokenAt, in_tables, out_of_order, in_names}
-use Rattle.alta_images.specs.Chain.{◌>>=◌}
-use Rattle.alta_images.specs.Known.{Named}
-use Rattle.alta_images.specs.Opened.{are_in_order, deleted_in, levels_from, levels_in, names_in, tables_at, with_level}
-use Rattle.alta_images.proofs.Existence.{level_found}
-use Rattle.alta_images.proofs.Steps.{levels_append, not_failed, one_failure}
+use Rattle.alta_meaning.specs.Broken.{ComesTo, IsBrokenAt, in_tables, out_of_order, in_names}
+use Rattle.alta_meaning.specs.Chain.{◌>>=◌}
+use Rattle.alta_meaning.specs.Known.{Named}
+use Rattle.alta_meaning.specs.Opened.{are_in_order, deleted_in, levels_from, levels_in, names_in, tables_at, with_level}
+use Rattle.alta_meaning.proofs.Existence.{level_found}
+use Rattle.alta_meaning.proofs.Steps.{levels_append, not_failed, one_failure}
 
 module _ (image : List ℕ) (slot : Slot) (root : Root) (counts : Counts slot root image) (deleted : List ℕ) (list : deleted_in root image ≡ Ok deleted) (place : ℕ) where
   -- from these levels on the level of this extent, or one behind it, breaks a rule at the place

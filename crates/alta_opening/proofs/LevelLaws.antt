@@ -6,27 +6,26 @@ use Rattle.std.proofs.lemmas.List.{get_or_default, take-append-drop, take_more}
 use Rattle.std.proofs.lemmas.List.Sums.{sum_by_more, sum_by_more_le}
 use Rattle.std.specs.List.{sum_by, list_all}
 use Rattle.std.proofs.lemmas.List.Elements.{All-nil, All-append}
-use Rattle.alta_content.specs.Rows.{end_of}
+use Rattle.alta_content.specs.Rows.{end_of, AreDocuments, AreDocumentsBehind, start}
 use Rattle.alta_content.specs.declared.document.DocRow.{DocRow}
-use Rattle.alta_images.specs.Ordered.{AreBelow, IsOrdered}
+use Rattle.alta_meaning.specs.Ordered.{AreBelow, IsOrdered}
 use Rattle.alta_codec.specs.declared.extent.Extent.{Extent}
-use Rattle.alta_content.specs.Rows.{AreDocuments, AreDocumentsBehind, start}
-use Rattle.alta_images.specs.Known.{Named}
-use Rattle.alta_images.specs.Opened.{are_in_order, comes_behind, is_below, known_at, levels_from, live_in, names_in, table_rows, tables_at, with_level}
-use Rattle.alta_images.proofs.KnownLaws.{all_weaker}
-use Rattle.alta_images.proofs.OrderLaws.{all_from, level_ordered, live_append, rows_more}
-use Rattle.alta_images.proofs.Steps.{levels_append}
+use Rattle.alta_meaning.specs.Known.{Named}
+use Rattle.alta_meaning.specs.Opened.{are_in_order, comes_behind, is_below, known_at, levels_from, live_in, names_in, table_rows, tables_at, with_level}
+use Rattle.alta_meaning.proofs.KnownLaws.{all_weaker}
+use Rattle.alta_meaning.proofs.OrderLaws.{all_from, level_ordered, live_append, rows_more}
+use Rattle.alta_meaning.proofs.Steps.{levels_append}
 use Rattle.alta_root.specs.declared.root.Root.{Root}
 use Rattle.alta_table.specs.Tables.{Tables}
-use Rattle.alta_opening.specs.Names.{AreNames}
+use Rattle.alta_meaning.specs.Names.{AreNames}
 use Rattle.alta_opening.specs.Reached.{HasReached}
 use Rattle.alta_opening.specs.Rows.{behind_rows, left_by}
 use Rattle.alta_opening.specs.Steps.{Answers, admitted}
-use Rattle.alta_opening.specs.declared.fault.OpeningFault.{OpeningFault}
-use Rattle.alta_opening.specs.declared.fault.OpeningFault.TheVariants as faults
+use Rattle.alta_disk.specs.declared.fault.LoadFault.{LoadFault}
+use Rattle.alta_disk.specs.declared.fault.LoadFault.TheVariants as faults
 use Rattle.alta_opening.specs.declared.levels.Levels.{Levels}
 use Rattle.alta_opening.proofs.RowLaws.{behind_any, behind_append, order_extends, rows_append}
-use Rattle.alta_images.proofs.Tests.{and_left, and_right, below_from}
+use Rattle.alta_meaning.proofs.Tests.{and_left, and_right, below_from}
 
 -- a row lies below the next number and location of the root
 abbrev IsBelow : Root → DocRow → Type 0
@@ -99,7 +98,7 @@ module _ (root : Root) (deleted image : List ℕ) (extents : List Extent) (i : �
       ∙ levels_append root deleted image [] (take i extents) (extent ∷ drop (i + 1) extents) ∙ (rw so_far rw fails refl)
 
 -- an answer that is an error
-pub error_answers : {X Y : Type 0} (view : X → Y) (fault : OpeningFault) (found : Result Y ℕ) → ((place : ℕ) → fault ≡ faults.Damaged place → found ≡ Err place) → Answers view (Err fault) found
+pub error_answers : {X Y : Type 0} (view : X → Y) (fault : LoadFault) (found : Result Y ℕ) → ((place : ℕ) → fault ≡ faults.Damaged place → found ≡ Err place) → Answers view (Err fault) found
 error_answers view faults.Disk found damaged = tt
 error_answers view faults.Memory found damaged = tt
 error_answers view (faults.Damaged place) found damaged = damaged place refl

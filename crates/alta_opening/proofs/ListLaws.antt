@@ -3,8 +3,8 @@ use Rattle.std.proofs.Common.{◌≡◌, ℕ, List, [], take, drop, ap, Ok, arit
 use Rattle.alta_codec.specs.Rising.{IsRising}
 use Rattle.alta_postings.specs.Deltas.{Spells, first_fault, decoded_list, stream_bytes}
 use Rattle.alta_postings.proofs.Reading.{spelling_reads}
-use Rattle.alta_images.specs.Opened.{deleted_in, list_at}
-use Rattle.alta_images.proofs.WrittenLaws.{list_read}
+use Rattle.alta_meaning.specs.Opened.{deleted_in, list_at}
+use Rattle.alta_meaning.proofs.WrittenLaws.{list_read}
 use Rattle.alta_root.specs.declared.root.Root.{Root}
 
 -- bytes that spell a list

@@ -9,14 +9,15 @@ use Rattle.std.proofs.lemmas.Bool.{false≢true}
 use Rattle.std.proofs.lemmas.List.{append-nil, take_more}
 use Rattle.alta_content.specs.Rows.{ends_among}
 use Rattle.alta_content.specs.declared.document.DocRow.{DocRow}
-use Rattle.alta_images.specs.Known.{Named, is_taken, named}
-use Rattle.alta_images.specs.Opened.{live_in, names_from}
-use Rattle.alta_images.proofs.NameLaws.{bytes_eq-swap}
-use Rattle.alta_images.proofs.OrderLaws.{live_append, live_drop, live_keep}
-use Rattle.alta_images.proofs.Tests.{by_test, bytes_from}
+use Rattle.alta_meaning.specs.Known.{Named, is_taken, named}
+use Rattle.alta_meaning.specs.Opened.{live_in, names_from}
+use Rattle.alta_meaning.proofs.NameLaws.{bytes_eq-swap}
+use Rattle.alta_meaning.proofs.OrderLaws.{live_append, live_drop, live_keep}
+use Rattle.alta_meaning.proofs.Tests.{by_test, bytes_from}
 use Rattle.alta_table.specs.Places.{name_place}
 use Rattle.alta_table.specs.Tables.{Tables}
-use Rattle.alta_opening.specs.Names.{AreNames, NameMap, may_join, number_of}
+use Rattle.alta_meaning.specs.Names.{AreNames, NameMap, number_of}
+use Rattle.alta_opening.specs.Names.{may_join}
 
 -- ---- a name among live documents
 

@@ -10,8 +10,8 @@ use Rattle.alta_root.specs.declared.root.Root.{Root}
 use Rattle.alta_root.specs.declared.slot.Slot.{Slot}
 use Rattle.alta_root.proofs.Frames.{counts_sound}
 use Rattle.alta_opening.specs.Steps.{Fails, LiesWithin}
-use Rattle.alta_opening.specs.declared.fault.OpeningFault.{OpeningFault}
-use Rattle.alta_opening.specs.declared.fault.OpeningFault.TheVariants as faults
+use Rattle.alta_disk.specs.declared.fault.LoadFault.{LoadFault}
+use Rattle.alta_disk.specs.declared.fault.LoadFault.TheVariants as faults
 
 -- the deletion list lies on the disk
 pub list_within : (root : Root) (image : List ℕ) (limit : ℕ) → (slot : Slot) × Counts slot root image → length image ≤ limit → LiesWithin root.deletions (length image) limit
@@ -35,5 +35,5 @@ pub levels_within : (root : Root) (image : List ℕ) (limit : ℕ) → (slot : S
 levels_within root image limit (slot, counts) fits = extents_fit (length image) limit (root.deletions ∷ []) root.levels.items (counts_sound slot root image counts).levels fits
 
 -- an answer of damage is what was found
-pub fault_found : {Y : Type 0} (fault : OpeningFault) (found : Result Y ℕ) (place : ℕ) → Fails fault found → fault ≡ faults.Damaged place → found ≡ Err place
-fault_found fault found place fails is = subst (λ (f : OpeningFault). Fails f found) is fails
+pub fault_found : {Y : Type 0} (fault : LoadFault) (found : Result Y ℕ) (place : ℕ) → Fails fault found → fault ≡ faults.Damaged place → found ≡ Err place
+fault_found fault found place fails is = subst (λ (f : LoadFault). Fails f found) is fails

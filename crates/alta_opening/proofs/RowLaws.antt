@@ -6,8 +6,8 @@ use Rattle.std.proofs.lemmas.Bool.{lt-ltb, false≢true}
 use Rattle.std.proofs.lemmas.List.Elements.{All-nil, All-cons, All-head, All-tail}
 use Rattle.alta_content.specs.Rows.{AreDocuments, AreDocumentsBehind, Before, IsPlaced, behind_row, end_of, start}
 use Rattle.alta_content.specs.declared.document.DocRow.{DocRow}
-use Rattle.alta_images.specs.Opened.{are_in_order, comes_behind, is_below, table_rows}
-use Rattle.alta_images.proofs.Tests.{by_test, and_left, and_right, below_from, and_both}
+use Rattle.alta_meaning.specs.Opened.{are_in_order, comes_behind, is_below, table_rows}
+use Rattle.alta_meaning.proofs.Tests.{by_test, and_left, and_right, below_from, and_both}
 use Rattle.alta_root.specs.declared.root.Root.{Root}
 use Rattle.alta_table.specs.Tables.{Tables}
 use Rattle.alta_opening.specs.Rows.{behind_rows, leaves_room, lies_behind}

@@ -3,8 +3,8 @@ use Rattle.std.proofs.Common.{◌≡◌, ℕ, ◌+◌, ◌≤◌, List, ◌++◌
 use Rattle.std.proofs.lemmas.List.{drop-drop, take-take}
 use Rattle.alta_codec.specs.declared.extent.Extent.{Extent}
 use Rattle.alta_disk.specs.Parts.{part}
-use Rattle.alta_images.specs.Opened.{bytes_at, tables_at}
-use Rattle.alta_images.proofs.Steps.{one_value}
+use Rattle.alta_meaning.specs.Opened.{bytes_at, tables_at}
+use Rattle.alta_meaning.proofs.Steps.{one_value}
 use Rattle.alta_journal.proofs.Steps.{take_sum}
 use Rattle.alta_table.specs.Answers.{AlwaysAnswers, Answers as TableAnswers}
 use Rattle.alta_table.specs.Tables.{Tables, read_head, tables_of}

@@ -2,7 +2,7 @@
 use Rattle.std.specs.Prelude.{ℕ, ◌+◌, List, Result, Ok, Err}
 use Rattle.std.specs.List.{sum_by}
 use Rattle.alta_codec.specs.declared.extent.Extent.{Extent}
-use Rattle.alta_images.specs.Opened.{bytes_at}
+use Rattle.alta_meaning.specs.Opened.{bytes_at}
 use Rattle.alta_root.specs.declared.root.Root.{Root}
 use Rattle.alta_table.specs.Tables.{read_head}
 use Rattle.alta_table.specs.declared.sizes.Head.{Head}

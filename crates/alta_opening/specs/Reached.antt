@@ -1,10 +1,10 @@
 -- What is kept of the levels that were opened so far.
 use Rattle.std.specs.Prelude.{◌≡◌, ℕ, List}
 use Rattle.alta_content.specs.Rows.{AreDocuments, start}
-use Rattle.alta_images.specs.Opened.{known_at, live_in, table_rows}
-use Rattle.alta_images.specs.Ordered.{AreBelow, IsOrdered}
+use Rattle.alta_meaning.specs.Opened.{known_at, live_in, table_rows}
+use Rattle.alta_meaning.specs.Ordered.{AreBelow, IsOrdered}
 use Rattle.alta_root.specs.declared.root.Root.{Root}
-use Rattle.alta_opening.specs.Names.{AreNames}
+use Rattle.alta_meaning.specs.Names.{AreNames}
 use Rattle.alta_opening.specs.Rows.{behind_rows, left_by}
 use Rattle.alta_opening.specs.declared.levels.Levels.{Levels}
 

@@ -3,12 +3,12 @@ ghost use Rattle.std.specs.Prelude.{◌≡◌, ◌++◌, ◌≤◌, ℕ, List, d
 ghost use Rattle.alta_codec.specs.Rising.{IsRising};
 ghost use Rattle.alta_content.specs.Rows.{AreDocuments, AreDocumentsBehind, Before};
 ghost use Rattle.alta_content.specs.declared.document.DocRow.{DocRow};
-ghost use Rattle.alta_images.specs.Opened.{have_ends, table_rows};
+ghost use Rattle.alta_meaning.specs.Opened.{have_ends, table_rows};
 ghost use Rattle.alta_opening.specs.Rows.{are_ends};
 
 use alta_codec::Loc;
 use alta_content::DocRow;
-use alta_table::Table;
+use alta_table::OpenLevel;
 
 // How many of the deleted ends lie before the rows or are theirs, where `from` lie before the rows; None where one of the others is
 // no row's and lies before one of them. The two lists are walked side by side.
@@ -39,7 +39,7 @@ fn passed(rows: &[DocRow], deleted: &[Loc], from: usize) -> Option<usize>
 }
 
 /// Whether each deleted end is the end of a row of a level: one walk over both.
-pub(crate) fn have_all(levels: &[Table], deleted: &[Loc]) -> bool
+pub(crate) fn have_all(levels: &[OpenLevel], deleted: &[Loc]) -> bool
     requires rising { IsRising deleted.now }
     requires rows { AreDocuments (table_rows levels.now) }
     ensures { result ≡ have_ends levels.now deleted.now }

@@ -5,29 +5,28 @@ ghost use Rattle.alta_codec.specs.Faults.{Rose};
 ghost use Rattle.alta_codec.specs.Rising.{IsRising};
 ghost use Rattle.alta_disk.specs.Calls.{Reads};
 ghost use Rattle.alta_disk.specs.Disk.{DiskState};
-ghost use Rattle.alta_images.specs.Opened.{levels_in, with_level, extent_of};
+ghost use Rattle.alta_meaning.specs.Opened.{levels_in, with_level, extent_of};
 ghost use Rattle.alta_opening.specs.Costs.{level_bytes};
 ghost use Rattle.alta_opening.specs.Reached.{HasReached};
 ghost use Rattle.alta_opening.specs.Steps.{Answers, LiesWithin, admitted};
 ghost use Rattle.alta_root.specs.declared.places.TheConstants.{LEVEL_BYTES};
-ghost use Rattle.alta_opening.specs.declared.fault.OpeningFault.TheVariants.{Damaged, Disk as DiskFault};
+ghost use Rattle.alta_disk.specs.declared.fault.LoadFault.TheVariants.{Damaged, Disk as DiskFault};
 
-use crate::OpeningFault;
 use crate::list::ends_within;
 use crate::names::note_names;
 use crate::order::{Last, are_placed, last_of};
 use crate::tables::read_tables;
 use alta_codec::{Extent, Loc};
-use alta_disk::Disk;
+use alta_disk::{Disk, LoadFault};
 use alta_root::{LEVEL_BYTES, Root};
-use alta_table::Table;
+use alta_table::OpenLevel;
 use std::alloc::Global;
 use std::collections::HashMap;
 
 /// The levels that were opened so far, their last row, and the names of their live documents.
 #[derive(Drop)]
 pub(crate) struct Levels {
-    pub(crate) levels: Vec<Table>,
+    pub(crate) levels: Vec<OpenLevel>,
     pub(crate) last: Last,
     pub(crate) names: HashMap<String, u64>,
 }
@@ -51,8 +50,8 @@ fn admit(
     deleted: &[Loc],
     found: &mut Levels,
     extent: Extent,
-    level: Table,
-) -> Result<(), OpeningFault>
+    level: OpenLevel,
+) -> Result<(), LoadFault>
     requires reached { HasReached root.now deleted.now found.old }
     requires rising { IsRising deleted.now }
     ensures reached { OnOk result (HasReached root.now deleted.now found.new) }
@@ -63,7 +62,7 @@ fn admit(
 {
     let rows = level.documents();
     if !are_placed(root, found.last, rows) {
-        return Err(OpeningFault::Damaged(extent.place));
+        return Err(LoadFault::Damaged(extent.place));
     }
     let last = last_of(rows);
     note_names(alloc, &mut found.names, deleted, &level)?;
@@ -82,7 +81,7 @@ fn add_level<D: Disk>(
     limit: u64,
     found: &mut Levels,
     extent: Extent,
-) -> Result<(), OpeningFault>
+) -> Result<(), LoadFault>
     requires reached { HasReached root.now deleted.now found.old }
     requires rising { IsRising deleted.now }
     requires long { D.tells → LEVEL_BYTES ≤ extent.bytes }
@@ -96,7 +95,7 @@ fn add_level<D: Disk>(
     ensures taken { D.tells → (D.state disk.new).taken ≤ (D.state disk.old).taken + level_bytes (D.state disk.old).content extent }
 {
     if extent.bytes < LEVEL_BYTES || !ends_within(extent, limit) {
-        return Err(OpeningFault::Damaged(extent.place));
+        return Err(LoadFault::Damaged(extent.place));
     }
     let level = read_tables(alloc, disk, extent)?;
     admit(alloc, root, deleted, found, extent, level)
@@ -109,7 +108,7 @@ pub(crate) fn read_levels<D: Disk>(
     root: &Root,
     deleted: &[Loc],
     limit: u64,
-) -> Result<Levels, OpeningFault>
+) -> Result<Levels, LoadFault>
     requires rising { IsRising deleted.now }
     requires inside { D.tells → All (λ extent. (LEVEL_BYTES ≤ extent.bytes) × LiesWithin extent (length (D.state disk.old).content) limit) root.now.levels.items }
     ensures reached { IfOk result (HasReached root.now deleted.now) }

@@ -3,7 +3,6 @@
 #![tactic(auto)]
 
 mod ends;
-mod fault;
 mod levels;
 mod list;
 mod names;
@@ -12,5 +11,4 @@ mod order;
 mod reading;
 mod tables;
 
-pub use fault::OpeningFault;
 pub use opening::{OpenLevels, open_levels};

@@ -4,15 +4,13 @@ ghost use Rattle.alta_codec.specs.Faults.{Rose};
 ghost use Rattle.alta_codec.specs.Rising.{IsRising};
 ghost use Rattle.alta_disk.specs.Calls.{Reads};
 ghost use Rattle.alta_disk.specs.Disk.{DiskState};
-ghost use Rattle.alta_images.specs.Opened.{deleted_in, list_at};
+ghost use Rattle.alta_meaning.specs.Opened.{deleted_in, list_at};
 ghost use Rattle.alta_postings.specs.Deltas.{first_fault};
 ghost use Rattle.alta_opening.specs.Steps.{Answers, LiesWithin};
-ghost use Rattle.alta_opening.specs.declared.fault.OpeningFault.TheVariants.{Disk as DiskFault};
+ghost use Rattle.alta_disk.specs.declared.fault.LoadFault.TheVariants.{Disk as DiskFault};
 
-use crate::OpeningFault;
-use crate::reading::read_part;
 use alta_codec::{Extent, Loc};
-use alta_disk::Disk;
+use alta_disk::{Disk, LoadFault, read_part};
 use alta_postings::Stream;
 use alta_root::Root;
 use std::alloc::Global;
@@ -31,7 +29,7 @@ pub(crate) fn read_list<D: Disk>(
     disk: &mut D,
     root: &Root,
     limit: u64,
-) -> Result<Vec<Loc>, OpeningFault>
+) -> Result<Vec<Loc>, LoadFault>
     requires { D.tells → LiesWithin root.now.deletions (length (D.state disk.old).content) limit }
     ensures exact { D.tells → Answers (λ ends. ends.items) result (deleted_in root.now (D.state disk.old).content) }
     ensures rising { IfOk result (λ ends. IsRising ends.items) }
@@ -40,7 +38,7 @@ pub(crate) fn read_list<D: Disk>(
 {
     let extent = root.deletions;
     if !ends_within(extent, limit) {
-        return Err(OpeningFault::Damaged(extent.place));
+        return Err(LoadFault::Damaged(extent.place));
     }
     if extent.bytes == 0 {
         return Ok(Vec::new(alloc));
@@ -50,7 +48,7 @@ pub(crate) fn read_list<D: Disk>(
 }
 
 // The list that the bytes at a place of the disk spell.
-fn ends_in(alloc: Global, bytes: &[u8], place: u64) -> Result<Vec<Loc>, OpeningFault>
+fn ends_in(alloc: Global, bytes: &[u8], place: u64) -> Result<Vec<Loc>, LoadFault>
     requires { place + length bytes.now < 2 ^ 64 }
     ensures exact { Answers (λ ends. ends.items) result (list_at place bytes.now (first_fault bytes.now)) }
     ensures rising { IfOk result (λ ends. IsRising ends.items) }
@@ -58,6 +56,6 @@ fn ends_in(alloc: Global, bytes: &[u8], place: u64) -> Result<Vec<Loc>, OpeningF
 {
     match Stream::open(bytes) {
         Ok(stream) => Ok(stream.locations(alloc)?),
-        Err(fault) => Err(OpeningFault::Damaged(place + fault.place as u64)),
+        Err(fault) => Err(LoadFault::Damaged(place + fault.place as u64)),
     }
 }

@@ -5,15 +5,16 @@ ghost use Rattle.std.specs.Prelude.{◌≡◌, ◌≢◌, ◌++◌, ◌∷◌, [
 ghost use Rattle.std.specs.Str.{bytes_eq};
 ghost use Rattle.alta_codec.specs.Rising.{IsRising};
 ghost use Rattle.alta_content.specs.Rows.{IsPlaced, ends_among};
-ghost use Rattle.alta_images.specs.Known.{Named, is_taken};
-ghost use Rattle.alta_images.specs.Opened.{live_in, names_from};
-ghost use Rattle.alta_opening.specs.Names.{AreNames, may_join};
-ghost use Rattle.alta_opening.specs.declared.fault.OpeningFault.TheVariants.{Damaged, Disk as DiskFault};
+ghost use Rattle.alta_meaning.specs.Known.{Named, is_taken};
+ghost use Rattle.alta_meaning.specs.Opened.{live_in, names_from};
+ghost use Rattle.alta_meaning.specs.Names.{AreNames};
+ghost use Rattle.alta_opening.specs.Names.{may_join};
+ghost use Rattle.alta_disk.specs.declared.fault.LoadFault.TheVariants.{Damaged, Disk as DiskFault};
 
-use crate::OpeningFault;
 use alta_codec::Loc;
 use alta_content::DocRow;
-use alta_table::Table;
+use alta_disk::LoadFault;
+use alta_table::OpenLevel;
 use std::alloc::{AllocError, Global};
 use std::collections::HashMap;
 
@@ -74,8 +75,8 @@ pub(crate) fn note_names(
     alloc: Global,
     names: &mut HashMap<String, u64>,
     deleted: &[Loc],
-    level: &Table,
-) -> Result<(), OpeningFault>
+    level: &OpenLevel,
+) -> Result<(), LoadFault>
     requires { IsRising deleted.now }
     ensures found { (live : List Named) → AreNames names.old live → OnOk result (names_from deleted.now level.now live 0 level.now.documents ≡ Ok (live ++ live_in deleted.now level.now.documents)) }
     ensures names { (live : List Named) → AreNames names.old live → OnOk result (AreNames names.new (live ++ live_in deleted.now level.now.documents)) }
@@ -86,7 +87,7 @@ pub(crate) fn note_names(
     make_room(names, rows.len())?;
     for (i, row) in rows.iter().enumerate() {
         if !join(alloc, names, deleted, row)? {
-            return Err(OpeningFault::Damaged(level.name_place(i)));
+            return Err(LoadFault::Damaged(level.name_place(i)));
         }
     }
     Ok(())

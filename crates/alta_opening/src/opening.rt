@@ -5,23 +5,22 @@ ghost use Rattle.alta_codec.specs.Rising.{IsRising};
 ghost use Rattle.alta_content.specs.Rows.{AreDocuments};
 ghost use Rattle.alta_disk.specs.Calls.{Reads};
 ghost use Rattle.alta_disk.specs.Disk.{DiskState};
-ghost use Rattle.alta_images.specs.Broken.{HasLevels, IsBrokenAt};
-ghost use Rattle.alta_images.specs.Opened.{Opened, IsOpened, have_ends, known_at, live_in, table_rows, extent_of};
-ghost use Rattle.alta_images.specs.Ordered.{AreBelow, IsOrdered};
+ghost use Rattle.alta_meaning.specs.Broken.{HasLevels, IsBrokenAt};
+ghost use Rattle.alta_meaning.specs.Opened.{Opened, IsOpened, have_ends, known_at, live_in, table_rows, extent_of};
+ghost use Rattle.alta_meaning.specs.Ordered.{AreBelow, IsOrdered};
 ghost use Rattle.alta_root.specs.Slots.{Counts};
 ghost use Rattle.alta_root.specs.declared.slot.Slot.{Slot};
 ghost use Rattle.alta_opening.specs.Costs.{named_bytes, whole_bytes};
-ghost use Rattle.alta_opening.specs.Names.{AreNames};
-ghost use Rattle.alta_opening.specs.declared.fault.OpeningFault.TheVariants.{Damaged, Disk as DiskFault};
+ghost use Rattle.alta_meaning.specs.Names.{AreNames};
+ghost use Rattle.alta_disk.specs.declared.fault.LoadFault.TheVariants.{Damaged, Disk as DiskFault};
 
-use crate::OpeningFault;
 use crate::ends::have_all;
 use crate::levels::read_levels;
 use crate::list::read_list;
 use alta_codec::Loc;
-use alta_disk::Disk;
+use alta_disk::{Disk, LoadFault};
 use alta_root::Root;
-use alta_table::Table;
+use alta_table::OpenLevel;
 use std::alloc::Global;
 use std::collections::HashMap;
 
@@ -31,7 +30,7 @@ pub struct OpenLevels {
     /// The ends of the deleted documents, rising.
     pub deleted: Vec<Loc>,
     /// Head and tables of each level, the oldest first.
-    pub levels: Vec<Table>,
+    pub levels: Vec<OpenLevel>,
     /// The numbers of the levels' live documents by their names.
     pub names: HashMap<String, u64>,
 }
@@ -52,7 +51,7 @@ pub fn open_levels<D: Disk>(
     alloc: Global,
     disk: &mut D,
     root: &Root,
-) -> Result<OpenLevels, OpeningFault>
+) -> Result<OpenLevels, LoadFault>
     requires { D.tells → (slot : Slot) × Counts slot root.now (D.state disk.old).content }
     ensures levels { D.tells → (slot : Slot) → Counts slot root.now (D.state disk.old).content
         → IfOk result (λ found. HasLevels slot root.now found.deleted.items found.levels.items (D.state disk.old).content) }
@@ -80,7 +79,7 @@ pub fn open_levels<D: Disk>(
         Err(fault) => return Err(fault),
     };
     if !have_all(&found.levels, &deleted) {
-        return Err(OpeningFault::Damaged(root.deletions.place));
+        return Err(LoadFault::Damaged(root.deletions.place));
     }
     Ok(OpenLevels {
         deleted,

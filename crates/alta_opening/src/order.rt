@@ -1,7 +1,7 @@
 // The order of a level behind those before it.
 ghost use Rattle.std.specs.Prelude.{◌≡◌, ◌<◌, length, List};
 ghost use Rattle.alta_content.specs.Rows.{AreDocuments, start};
-ghost use Rattle.alta_images.specs.Opened.{are_in_order, table_rows};
+ghost use Rattle.alta_meaning.specs.Opened.{are_in_order, table_rows};
 ghost use Rattle.alta_table.specs.Tables.{Tables};
 ghost use Rattle.alta_opening.specs.Rows.{behind_rows, left_by, leaves_room, lies_behind};
 

@@ -4,39 +4,12 @@ ghost use Rattle.alta_codec.specs.Faults.{Rose, HasCause};
 ghost use Rattle.alta_disk.specs.Calls.{Reads};
 ghost use Rattle.alta_disk.specs.Disk.{DiskState};
 ghost use Rattle.alta_disk.specs.Parts.{part};
-ghost use Rattle.alta_opening.specs.Steps.{IsOutside};
-ghost use Rattle.alta_opening.specs.declared.fault.OpeningFault.TheVariants.{Disk as DiskFault};
+ghost use Rattle.alta_disk.specs.Answers.{IsOutside};
+ghost use Rattle.alta_disk.specs.declared.fault.LoadFault.TheVariants.{Disk as DiskFault};
 
-use crate::OpeningFault;
 use alta_codec::Failed;
-use alta_disk::Disk;
-use std::alloc::{AllocError, Global};
-
-/// So many bytes at a place.
-pub(crate) fn read_part<D: Disk>(
-    alloc: Global,
-    disk: &mut D,
-    place: u64,
-    bytes: u64,
-) -> Result<Vec<u8>, OpeningFault>
-    requires { D.tells → place + bytes ≤ length (D.state disk.old).content }
-    ensures read { D.tells → IfOk result (λ v. v.items ≡ part place bytes (D.state disk.old).content) }
-    ensures long { IfOk result (λ v. length v.items ≡ bytes) }
-    ensures only { IfErr result IsOutside }
-    ensures cause { result ≡ Err DiskFault → Rose (D.state disk.old).faults (D.state disk.new).faults }
-    ensures reads { Reads D.tells bytes (D.state disk.old) (D.state disk.new) }
-{
-    let mut part = zeros(alloc, bytes as usize)?;
-    disk.read(place, &mut part)?;
-    Ok(part)
-}
-
-/// A buffer of this length. In the caller no long list of zeros stands.
-pub(crate) fn zeros(alloc: Global, n: usize) -> Result<Vec<u8>, AllocError>
-    ensures { IfOk result (λ v. length v.items ≡ n) }
-{
-    Ok(vec![in alloc; 0u8; n]?)
-}
+use alta_disk::{Disk, LoadFault};
+use std::alloc::Global;
 
 /// These bytes, and behind them those at a place of the disk.
 pub(crate) fn read_behind<D: Disk>(
@@ -45,7 +18,7 @@ pub(crate) fn read_behind<D: Disk>(
     front: &[u8],
     place: u64,
     bytes: u64,
-) -> Result<Vec<u8>, OpeningFault>
+) -> Result<Vec<u8>, LoadFault>
     requires inside { D.tells → place + bytes ≤ length (D.state disk.old).content }
     requires fits { length front.now + bytes < 2 ^ 64 }
     ensures read { D.tells → IfOk result (λ v. v.items ≡ front.now ++ part place bytes (D.state disk.old).content) }

@@ -3,28 +3,27 @@ ghost use Rattle.std.specs.Prelude.{◌≡◌, ◌+◌, ◌<◌, ◌≤◌, ◌^
 ghost use Rattle.alta_codec.specs.Faults.{Rose};
 ghost use Rattle.alta_disk.specs.Calls.{Reads};
 ghost use Rattle.alta_disk.specs.Disk.{DiskState};
-ghost use Rattle.alta_images.specs.Opened.{tables_at, extent_of};
+ghost use Rattle.alta_meaning.specs.Opened.{tables_at, extent_of};
 ghost use Rattle.alta_opening.specs.Costs.{level_bytes};
 ghost use Rattle.alta_opening.specs.Steps.{Answers, outer};
-ghost use Rattle.alta_opening.specs.declared.fault.OpeningFault.TheVariants.{Disk as DiskFault};
+ghost use Rattle.alta_disk.specs.declared.fault.LoadFault.TheVariants.{Disk as DiskFault};
 
-use crate::OpeningFault;
 use crate::reading::read_behind;
 use alta_codec::Extent;
-use alta_disk::Disk;
-use alta_table::{LevelFault, Table, head};
+use alta_disk::{Disk, LoadFault};
+use alta_table::{LevelFault, OpenLevel, head};
 use std::alloc::Global;
 
 // The bytes of a head.
 const HEAD: usize = 32;
 
 // The same fault of opening.
-fn outer(fault: LevelFault) -> OpeningFault
+fn outer(fault: LevelFault) -> LoadFault
     ensures { result ≡ outer fault }
 {
     match fault {
-        LevelFault::Damaged(place) => OpeningFault::Damaged(place),
-        LevelFault::Memory => OpeningFault::Memory,
+        LevelFault::Damaged(place) => LoadFault::Damaged(place),
+        LevelFault::Memory => LoadFault::Memory,
     }
 }
 
@@ -34,7 +33,7 @@ pub(crate) fn read_tables<D: Disk>(
     alloc: Global,
     disk: &mut D,
     extent: Extent,
-) -> Result<Table, OpeningFault>
+) -> Result<OpenLevel, LoadFault>
     requires long { 32 ≤ extent.bytes }
     requires below { extent.place + extent.bytes < 2 ^ 64 }
     requires inside { D.tells → extent.place + extent.bytes ≤ length (D.state disk.old).content }
@@ -52,7 +51,7 @@ pub(crate) fn read_tables<D: Disk>(
     };
     let behind = sizes.document_bytes + sizes.term_bytes;
     let bytes = read_behind(alloc, disk, &front, extent.place + HEAD as u64, behind)?;
-    match Table::open(alloc, &bytes, extent.place, extent.bytes) {
+    match OpenLevel::open(alloc, &bytes, extent.place, extent.bytes) {
         Ok(table) => Ok(table),
         Err(fault) => Err(outer(fault)),
     }

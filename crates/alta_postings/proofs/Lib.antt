@@ -4,3 +4,5 @@ pub mod Reading
 pub mod Short
 pub mod Filling
 pub mod Tally
+pub mod Growing
+pub mod Lasts

@@ -1,18 +1,26 @@
 //! Rising lists of locations as bytes: the first location, then each difference from the one before, in blocks of 64.
+//! The summary of a stream: a row for each block of 64 locations, and above the rows the last location of each 64 of
+//! them.
 #![tactic(auto)]
 
 mod block;
+mod building;
 mod coding;
 mod fault;
+mod field;
 mod lanes;
 mod places;
 mod runs;
+mod search;
 mod step;
 mod stream;
+mod summary;
 
 pub use block::{BlockSpan, fill_block, scan_block};
+pub use building::build;
 pub use coding::{Coded, encode, mark, put_stream};
 pub use fault::{StreamCause, StreamFault};
 pub use places::Places;
 pub use step::read_location;
 pub use stream::Stream;
+pub use summary::{Row, Summary, SummaryFault};

@@ -1,10 +1,10 @@
 -- The canonical tokens of a query that some tokens spell spell it too.
 use Rattle.std.proofs.Common.{◌≡◌, ℕ, suc, ◌+◌, List, [], ◌∷◌, ◌++◌, refl, sym, ap, ◌∙◌, subst, Some, true, false, arith}
 use Rattle.std.proofs.lemmas.List.{append_assoc, append-nil}
-use Rattle.alta_query.specs.Shape.{Side, word, stem, Lone, words, prefix, name, value, Atom, lone, near, Shape, Shapes, atom, all, any, negated, none, more, shapes_of, all_of, any_of}
-use Rattle.alta_query.specs.Token.{Token, close_paren, and_word, or_word, operand, side_of, weight, total_weight}
-use Rattle.alta_query.specs.Grammar.{IsUnary, alone, two_sides, behind_not, in_parens, IsAnd, first_unary, beside_and, behind_and, IsOr, first_and, behind_or, Reads}
-use Rattle.alta_query.specs.Canon.{is_any, is_compound, parens_if, of_side, canon, canon_all, canon_any, canon_behind_or}
+use Rattle.alta_machine.specs.Shape.{Side, word, stem, Lone, words, prefix, name, value, Atom, lone, near, Shape, Shapes, atom, all, any, negated, none, more, shapes_of, all_of, any_of}
+use Rattle.alta_machine.specs.Token.{Token, close_paren, and_word, or_word, operand, side_of, weight, total_weight}
+use Rattle.alta_machine.specs.Grammar.{IsUnary, alone, two_sides, behind_not, in_parens, IsAnd, first_unary, beside_and, behind_and, IsOr, first_and, behind_or, Reads}
+use Rattle.alta_machine.specs.Canon.{is_any, is_compound, parens_if, of_side, canon, canon_all, canon_any, canon_behind_or}
 use Rattle.alta_query.proofs.Complete.{total_weight-append}
 
 -- one more may be open

@@ -3,7 +3,7 @@ use Rattle.std.proofs.Common.{◌≡◌, ℕ, List, length, ◌∙◌, sym}
 use Rattle.std.proofs.lemmas.List.{length-map}
 use Rattle.unicode_segmentation.specs.Word.{words}
 use Rattle.alta_text.specs.Words.{folded_of, words_of}
-use Rattle.alta_query.specs.Words.{tests_of, word_test}
+use Rattle.alta_machine.specs.Words.{tests_of, word_test}
 
 pub words_tests : (text : List ℕ) → length (words text) ≡ length (tests_of text)
 unfolding tests_of

@@ -9,7 +9,7 @@ use Rattle.std.proofs.Math.Seq.{take-append_seam}
 use Rattle.std.proofs.lemmas.List.Sums.{prefix_len_stops}
 use Rattle.std.proofs.lemmas.Slice.Eq.{starts_is, bytes_eq-Decides}
 use Rattle.std.proofs.lemmas.Str.{IsCharBoundary-from_rest, IsCharBoundary-after_ascii, IsCharBoundary-before_ascii, IsCharBoundary-end, IsCharBoundary-from_take}
-use Rattle.alta_query.specs.Spots.{is_run, is_solid, is_quote, is_undotted}
+use Rattle.alta_machine.specs.Spots.{is_run, is_solid, is_quote, is_undotted}
 
 stop_boundary : (p : ℕ → Bool) → ((b : ℕ) → p b ≡ false → b < 128) → (text : List ℕ) (n : ℕ) → n ≡ prefix_len p text → n ≤ length text → IsCharBoundary text n
 stop_boundary p low text n e within =

@@ -4,13 +4,13 @@ use Rattle.std.specs.Prelude.{nat_eq, not, OnOk}
 use Rattle.std.specs.Result.{IsErr, IsErrAnd}
 use Rattle.std.proofs.lemmas.List.{map-append}
 use Rattle.alta_query.specs.Answer.{Gives, IsMemory}
-use Rattle.alta_query.specs.Faults.{Fault, fault, any_open, has}
+use Rattle.alta_machine.specs.QueryFaults.{Fault, fault, any_open, has}
 use Rattle.alta_query.specs.Kept.{frames_of}
-use Rattle.alta_query.specs.Machine as machine
-use Rattle.alta_query.specs.Machine.{State, marks, or_fault, whole, close}
-use Rattle.alta_query.specs.Shape.{Shape, all_of, any_of}
+use Rattle.alta_machine.specs.Parser as machine
+use Rattle.alta_machine.specs.Parser.{State, marks, or_fault, whole, close}
+use Rattle.alta_machine.specs.Shape.{Shape, all_of, any_of}
 use Rattle.alta_query.specs.View.{shape}
-use Rattle.alta_query.specs.declared.fault.Cause.{Cause}
+use Rattle.alta_machine.specs.declared.cause.Cause.{Cause}
 use Rattle.alta_query.specs.declared.fault.QueryFault.{QueryFault}
 use Rattle.alta_query.specs.declared.machine.Frame.{Frame}
 use Rattle.alta_query.specs.declared.query.Query.{Query}

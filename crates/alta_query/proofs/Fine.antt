@@ -8,20 +8,20 @@ use Rattle.std.proofs.lemmas.Bool.{leb-true}
 use Rattle.std.proofs.lemmas.Bool.Decides.{nat_tests, Decides-eqb}
 use Rattle.std.proofs.lemmas.Slice.Eq.{starts_is, bytes_eq-Decides}
 use Rattle.std.proofs.lemmas.List.{length-append, take-append-drop}
-use Rattle.alta_query.specs.Words.{has_words, tests_of, is_stem}
-use Rattle.alta_query.specs.Shape.{Side, word, stem, Lone, words, prefix, name, value, Atom, lone, near, Shape, Shapes, atom, all, any, negated, none, more, shapes_of, all_of, any_of}
-use Rattle.alta_query.specs.Token.{Token, open_paren, close_paren, and_word, or_word, not_word, near_word, operand, faulty, Spot, at, tokens_of, side_of}
+use Rattle.alta_machine.specs.Words.{has_words, tests_of, is_stem}
+use Rattle.alta_machine.specs.Shape.{Side, word, stem, Lone, words, prefix, name, value, Atom, lone, near, Shape, Shapes, atom, all, any, negated, none, more, shapes_of, all_of, any_of}
+use Rattle.alta_machine.specs.Token.{Token, open_paren, close_paren, and_word, or_word, not_word, near_word, operand, faulty, Spot, at, tokens_of, side_of}
 use Rattle.alta_codec.specs.Decimal.{value_of}
 use Rattle.alta_codec.specs.Name.{is_name}
-use Rattle.alta_range.specs.Numbers.{number_in}
-use Rattle.alta_range.proofs.Numerals.{are_read}
-use Rattle.alta_query.specs.Spots.{is_blank, is_solid, is_quote, is_run, first_token, first_len, run_token, plain_token, prefix_token, words_token, name_token, near_token, is_undotted, ordered, dotted, value_token, quoted_token, is_quoted_title, spots_from, spots}
-use Rattle.alta_query.specs.Grammar.{IsUnary, alone, two_sides, behind_not, in_parens, IsAnd, first_unary, beside_and, behind_and, IsOr, first_and, behind_or, Reads}
-use Rattle.alta_query.specs.Canon.{is_any, is_compound, parens_if, of_side, atom_tokens, canon, canon_all, canon_any, canon_behind_or}
-use Rattle.alta_query.specs.Spelling.{title_text, spelled, with_tokens, canonical}
+use Rattle.alta_machine.specs.Numbers.{number_in}
+use Rattle.alta_machine.proofs.Numerals.{are_read}
+use Rattle.alta_machine.specs.Spots.{is_blank, is_solid, is_quote, is_run, first_token, first_len, run_token, plain_token, prefix_token, words_token, name_token, near_token, is_undotted, ordered, dotted, value_token, quoted_token, is_quoted_title, spots_from, spots}
+use Rattle.alta_machine.specs.Grammar.{IsUnary, alone, two_sides, behind_not, in_parens, IsAnd, first_unary, beside_and, behind_and, IsOr, first_and, behind_or, Reads}
+use Rattle.alta_machine.specs.Canon.{is_any, is_compound, parens_if, of_side, atom_tokens, canon, canon_all, canon_any, canon_behind_or}
+use Rattle.alta_machine.specs.Spelling.{title_text, spelled, with_tokens, canonical}
 use Rattle.alta_query.proofs.Reread.{Spells, AllSpell, no_tokens, token_and, cut_written, open_spells, close_spells, or_spells, not_spells}
 use Rattle.alta_query.proofs.Quoted.{no_quote, both, words_spell}
-use Rattle.alta_query.specs.Matches.{HasOrderedValues, HaveOrderedValues}
+use Rattle.alta_machine.specs.Matches.{HasOrderedValues, HaveOrderedValues}
 use Rattle.alta_query.proofs.Unquoted.{all_weaker, run_spells, name_spells, near_spells, value_spells}
 use Rattle.alta_query.proofs.Canonical.{canon_reads}
 

@@ -3,8 +3,8 @@ use Rattle.std.proofs.Common.{◌≡◌, ℕ, ◌+◌, ◌<◌, List, [], ◌∷
 use Rattle.std.specs.Prelude.{nat_eq, ◌==◌, if◌then◌else◌, codes}
 use Rattle.std.specs.List.{prefix_len, take_while, starts_with}
 use Rattle.std.proofs.lemmas.Bool.Decides.{nat_tests}
-use Rattle.alta_query.specs.Spots.{is_blank, is_quote, is_solid, is_run, first_token, first_len, quoted_token, quoted_len, name_token, run_token, is_quoted_title}
-use Rattle.alta_query.specs.Token.{Token, open_paren, close_paren}
+use Rattle.alta_machine.specs.Spots.{is_blank, is_quote, is_solid, is_run, first_token, first_len, quoted_token, quoted_len, name_token, run_token, is_quoted_title}
+use Rattle.alta_machine.specs.Token.{Token, open_paren, close_paren}
 
 pub if_no : {A : Type 0} (b : Bool) (x y : A) → b ≡ false → (if b then x else y) ≡ y
 if_no true x y h = absurd (cc)

@@ -2,10 +2,10 @@
 use Rattle.std.proofs.Common.{ℕ, ◌≤◌, List, [], ◌∷◌, ◌++◌, length, sym, subst, arith, length-append}
 use Rattle.std.specs.List.{All}
 use Rattle.std.proofs.lemmas.List.Elements.{All-nil, All-cons, All-head, All-tail, All-push}
-use Rattle.alta_query.specs.Shape.{Shape, shapes_of, all_of, any_of}
-use Rattle.alta_query.specs.Token.{Token}
-use Rattle.alta_query.specs.Grammar.{IsUnary, alone, two_sides, behind_not, in_parens, IsAnd, first_unary, beside_and, behind_and, IsOr, first_and, behind_or, Reads}
-use Rattle.alta_query.specs.Matches.{HasMembers, HaveMembers}
+use Rattle.alta_machine.specs.Shape.{Shape, shapes_of, all_of, any_of}
+use Rattle.alta_machine.specs.Token.{Token}
+use Rattle.alta_machine.specs.Grammar.{IsUnary, alone, two_sides, behind_not, in_parens, IsAnd, first_unary, beside_and, behind_and, IsOr, first_and, behind_or, Reads}
+use Rattle.alta_machine.specs.Matches.{HasMembers, HaveMembers}
 
 -- some queries, each of which has members
 record AreSome (qs : List Shape) : Type 0 where

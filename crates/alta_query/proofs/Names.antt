@@ -1,13 +1,12 @@
 -- What is a name is tested.
 use Rattle.std.proofs.Common.{◌≡◌, ℕ, List, refl, Bool, true, false}
 use Rattle.std.specs.Prelude.{◌↔◌, IsTrue}
-use Rattle.alta_codec.specs.Name.{IsName}
+use Rattle.alta_codec.specs.Name.{IsName, is_name}
 use Rattle.alta_codec.proofs.NameLaws.{is_name-Decides}
-use Rattle.alta_codec.specs.Name.{is_name}
-use Rattle.alta_query.specs.Spots.{name_token}
-use Rattle.alta_query.specs.Token.{operand, faulty}
-use Rattle.alta_query.specs.Shape.{name}
-use Rattle.alta_query.specs.declared.fault.Cause.TheVariants as cause
+use Rattle.alta_machine.specs.Spots.{name_token}
+use Rattle.alta_machine.specs.Token.{operand, faulty}
+use Rattle.alta_machine.specs.Shape.{name}
+use Rattle.alta_machine.specs.declared.cause.Cause.TheVariants as cause
 
 pub name_is : (text : List ℕ) (r : Bool) → IsTrue r ↔ IsName text → r ≡ true → operand (name text) ≡ name_token text
 unfolding name_token

@@ -3,16 +3,15 @@ use Rattle.std.proofs.Common.{◌≡◌, ℕ, zero, suc, ◌+◌, ◌-◌, ◌�
 use Rattle.std.proofs.lemmas.List.{drop-drop, length-drop, get_or-drop, at_drop_all}
 use Rattle.std.proofs.Math.Seq.{drop-cons}
 use Rattle.std.proofs.lemmas.Bool.Decides.{nat_tests}
-use Rattle.alta_query.specs.Shape.{Shape}
-use Rattle.alta_query.specs.Token.{Token, Spot, at, weight}
-use Rattle.alta_query.specs.Spots.{is_blank, first_token, first_len, spots_from, spots}
-use Rattle.alta_query.specs.Faults.{Fault, fault}
-use Rattle.alta_query.specs.Machine.{State, step, run, or_fault, cause_in}
-use Rattle.alta_query.specs.declared.fault.Cause.{Cause}
-use Rattle.alta_query.specs.declared.fault.Cause.TheVariants.{Empty}
+use Rattle.alta_machine.specs.Shape.{Shape}
+use Rattle.alta_machine.specs.Token.{Token, Spot, at, weight}
+use Rattle.alta_machine.specs.Spots.{is_blank, first_token, first_len, spots_from, spots}
+use Rattle.alta_machine.specs.QueryFaults.{Fault, fault}
+use Rattle.alta_machine.specs.Parser.{State, step, run, or_fault, cause_in}
+use Rattle.alta_machine.specs.declared.cause.Cause.{Cause}
+use Rattle.alta_machine.specs.declared.cause.Cause.TheVariants.{Empty}
 use Rattle.alta_query.proofs.Seen.{run_seen, seen_token}
-use Rattle.alta_query.proofs.Sound.{many_none}
-use Rattle.alta_query.proofs.Sound.{step_words}
+use Rattle.alta_query.proofs.Sound.{many_none, step_words}
 
 spots_skip : (k p : ℕ) (bs : List ℕ) → spots_from p k bs ≡ spots_from (p + k) 0 (drop k bs)
 spots_skip zero p bs = ap (λ n. spots_from n 0 bs) (omega arith)

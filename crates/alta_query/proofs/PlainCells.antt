@@ -10,27 +10,27 @@ use Rattle.std.proofs.lemmas.Slice.Eq.{bytes_eq-Decides}
 use Rattle.std.proofs.lemmas.Str.{IsUtf8-past_char, encode_ascii}
 use Rattle.std.specs.Int.{w32, to_be_bytes}
 use Rattle.alta_codec.specs.Decimal.{is_count, value_of}
-use Rattle.alta_meta.specs.Cells.{cells_of, numbered, word_cell}
-use Rattle.alta_meta.specs.declared.kinds.TheConstants.{WORD, WRITTEN, TITLE_END, DOCUMENT_END}
-use Rattle.alta_query.specs.Matches.{AllMatch, AnyMatches, Matches}
-use Rattle.alta_query.specs.Patterns.{AreMet, AtomMatches, IsMet, Pattern, Satisfies, SatisfiesOne, lone_pattern, meets, numbers_in, pattern_of, phrase_pattern, test_of, title_end, titled, value_patterns}
-use Rattle.alta_query.specs.Shape.{Side, word, stem, Lone, words, prefix, name, value, Atom, lone, near, Shape, Shapes, atom, all, any, negated, none, more}
-use Rattle.alta_query.specs.Spelling.{spelled}
-use Rattle.alta_query.specs.Spots.{is_undotted, near_token, ordered, plain_token, prefix_token, run_token, value_token, words_token}
+use Rattle.alta_machine.specs.Cells.{cells_of, numbered, word_cell}
+use Rattle.alta_machine.specs.declared.kinds.TheConstants.{WORD, WRITTEN, TITLE_END, DOCUMENT_END}
+use Rattle.alta_machine.specs.Matches.{AllMatch, AnyMatches, Matches}
+use Rattle.alta_machine.specs.Patterns.{AreMet, AtomMatches, IsMet, Pattern, Satisfies, SatisfiesOne, lone_pattern, meets, numbers_in, pattern_of, phrase_pattern, test_of, title_end, titled, value_patterns}
+use Rattle.alta_machine.specs.Shape.{Side, word, stem, Lone, words, prefix, name, value, Atom, lone, near, Shape, Shapes, atom, all, any, negated, none, more}
+use Rattle.alta_machine.specs.Spelling.{spelled}
+use Rattle.alta_machine.specs.Spots.{is_undotted, near_token, ordered, plain_token, prefix_token, run_token, value_token, words_token}
 use Rattle.alta_query.specs.Texts.{AsksForText, HasTextTerm, HasTextTerms, HaveTextTerms}
-use Rattle.alta_query.specs.Token.{Token, open_paren, close_paren, and_word, or_word, not_word, near_word, operand, faulty}
+use Rattle.alta_machine.specs.Token.{Token, open_paren, close_paren, and_word, or_word, not_word, near_word, operand, faulty}
 use Rattle.alta_query.specs.Values.{HasNoValue, HaveNoValue, SeesNoRanges, plain_cell, plain_cells_of}
-use Rattle.alta_query.specs.Words.{has_words, is_only, is_stem, name_test, stem_test, tests_of, word_term, word_test}
-use Rattle.alta_query.specs.declared.fault.Cause.TheVariants as cause
-use Rattle.alta_query.specs.declared.test.Test.{Test}
-use Rattle.alta_query.specs.declared.test.Test.TheVariants.{Is, Begins}
+use Rattle.alta_machine.specs.Words.{has_words, is_only, is_stem, name_test, stem_test, tests_of, word_term, word_test}
+use Rattle.alta_machine.specs.declared.cause.Cause.TheVariants as cause
+use Rattle.alta_machine.specs.declared.test.Test.{Test}
+use Rattle.alta_machine.specs.declared.test.Test.TheVariants.{Is, Begins}
 use Rattle.alta_query.proofs.Fine.{AreFineShapes, IsFineAtom, IsFineLone, IsFineShape, IsFineSide, read_fine}
 use Rattle.alta_query.proofs.Quoted.{both}
 use Rattle.alta_query.proofs.TextTokens.{read_text}
 use Rattle.alta_query.proofs.TextWords.{if_has}
-use Rattle.alta_range.specs.Numbers.{number_in}
-use Rattle.alta_range.specs.Terms.{range_terms, term_bytes, terms_from}
-use Rattle.alta_range.proofs.TermLaws.{are_apart, text_low}
+use Rattle.alta_machine.specs.Numbers.{number_in}
+use Rattle.alta_machine.specs.Terms.{range_terms, term_bytes, terms_from}
+use Rattle.alta_machine.proofs.TermLaws.{are_apart, text_low}
 use Rattle.alta_text.specs.Words.{folded_of, words_of}
 
 abbrev Cells : Type 0

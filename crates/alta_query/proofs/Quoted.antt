@@ -5,11 +5,11 @@ use Rattle.std.specs.List.{list_all, position_or_len}
 use Rattle.std.proofs.lemmas.List.{append_assoc, length-append}
 use Rattle.std.proofs.Math.Seq.{take-append_seam}
 use Rattle.std.proofs.lemmas.Bool.{lt-ltb}
-use Rattle.alta_query.specs.Words.{has_words, tests_of}
-use Rattle.alta_query.specs.Shape.{words}
-use Rattle.alta_query.specs.Token.{operand}
-use Rattle.alta_query.specs.Spots.{is_quote, first_token, first_len, words_token, quoted_token, quoted_len, is_quoted_title}
-use Rattle.alta_query.specs.Spelling.{spelled}
+use Rattle.alta_machine.specs.Words.{has_words, tests_of}
+use Rattle.alta_machine.specs.Shape.{words}
+use Rattle.alta_machine.specs.Token.{operand}
+use Rattle.alta_machine.specs.Spots.{is_quote, first_token, first_len, words_token, quoted_token, quoted_len, is_quoted_title}
+use Rattle.alta_machine.specs.Spelling.{spelled}
 use Rattle.alta_query.proofs.Reread.{Spells}
 
 abbrev pub no_quote : List ℕ → Bool

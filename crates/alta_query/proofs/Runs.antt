@@ -3,8 +3,8 @@ use Rattle.std.proofs.Common.{◌≡◌, ℕ, List, drop, sym, ◌∙◌, true, 
 use Rattle.std.specs.Prelude.{nat_eq, if◌then◌else◌, codes}
 use Rattle.std.specs.List.{starts_with}
 use Rattle.std.specs.Str.{bytes_eq}
-use Rattle.alta_query.specs.Spots.{run_token, near_token, value_token, plain_token}
-use Rattle.alta_query.specs.Token.{and_word, or_word, not_word}
+use Rattle.alta_machine.specs.Spots.{run_token, near_token, value_token, plain_token}
+use Rattle.alta_machine.specs.Token.{and_word, or_word, not_word}
 use Rattle.alta_query.proofs.Firsts.{if_no, if_yes}
 
 -- no AND, OR and NOT

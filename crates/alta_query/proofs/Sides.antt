@@ -1,10 +1,10 @@
 -- A text of one word is a side.
 use Rattle.std.proofs.Common.{◌≡◌, ℕ, List, [], ◌∷◌, length, refl, ◌∙◌, false, Some, None, get_or, arith}
-use Rattle.alta_query.specs.Words.{tests_of, first_test}
-use Rattle.alta_query.specs.Shape.{word, words}
-use Rattle.alta_query.specs.Token.{side_of}
-use Rattle.alta_query.specs.declared.test.Test.{Test}
-use Rattle.alta_query.specs.declared.test.Test.TheVariants.{Is}
+use Rattle.alta_machine.specs.Words.{tests_of, first_test}
+use Rattle.alta_machine.specs.Shape.{word, words}
+use Rattle.alta_machine.specs.Token.{side_of}
+use Rattle.alta_machine.specs.declared.test.Test.{Test}
+use Rattle.alta_machine.specs.declared.test.Test.TheVariants.{Is}
 
 only_side : (text : List ℕ) (tests : List Test) → length tests ≡ 1 → Some (word text (get_or tests 0 (Is []))) ≡ side_of (words false text tests)
 only_side text [] one = absurd (omega (arith, one))

@@ -3,9 +3,9 @@ use Rattle.std.proofs.Common.{◌≡◌, ℕ, ◌≤◌, ◌<◌, List, [], ◌�
 use Rattle.std.specs.Str.{bytes_eq}
 use Rattle.alta_text.specs.Words.{pair_of}
 use Rattle.alta_text.specs.declared.word.Word.{Word}
-use Rattle.alta_query.specs.Shape.{all, any, shapes_of, all_of, any_of}
+use Rattle.alta_machine.specs.Shape.{all, any, shapes_of, all_of, any_of}
 use Rattle.alta_query.specs.View.{shape}
-use Rattle.alta_query.specs.Words.{is_only, is_short}
+use Rattle.alta_machine.specs.Words.{is_only, is_short}
 use Rattle.alta_query.specs.declared.query.Query.{Query}
 
 -- the members of an and or an or, where there is one and where there is not

@@ -9,15 +9,15 @@ use Rattle.std.proofs.lemmas.List.Sums.{prefix_len-le-length}
 use Rattle.std.proofs.lemmas.Str.{IsUtf8-drop, IsUtf8-take, IsUtf8-nil, IsCharBoundary-end, IsCharBoundary-from_rest}
 use Rattle.alta_codec.specs.Decimal.{is_count, value_of}
 use Rattle.alta_codec.specs.Name.{is_name}
-use Rattle.alta_range.specs.Numbers.{number_in}
-use Rattle.alta_query.specs.Grammar.{IsUnary, alone, two_sides, behind_not, in_parens, IsAnd, first_unary, beside_and, behind_and, IsOr, first_and, behind_or, Reads}
-use Rattle.alta_query.specs.Patterns.{phrase_pattern, test_of}
-use Rattle.alta_query.specs.Shape.{Lone, words, prefix, name, value, lone, Side, Shape, all_of}
-use Rattle.alta_query.specs.Spots.{is_blank, is_solid, is_quote, is_run, words_token, prefix_token, plain_token, name_token, near_token, is_undotted, ordered, value_token, run_token, quoted_token, quoted_len, is_quoted_title, first_token, first_len, spots_from, spots}
+use Rattle.alta_machine.specs.Numbers.{number_in}
+use Rattle.alta_machine.specs.Grammar.{IsUnary, alone, two_sides, behind_not, in_parens, IsAnd, first_unary, beside_and, behind_and, IsOr, first_and, behind_or, Reads}
+use Rattle.alta_machine.specs.Patterns.{phrase_pattern, test_of}
+use Rattle.alta_machine.specs.Shape.{Lone, words, prefix, name, value, lone, Side, Shape, all_of}
+use Rattle.alta_machine.specs.Spots.{is_blank, is_solid, is_quote, is_run, words_token, prefix_token, plain_token, name_token, near_token, is_undotted, ordered, value_token, run_token, quoted_token, quoted_len, is_quoted_title, first_token, first_len, spots_from, spots}
 use Rattle.alta_query.specs.Texts.{HasTextTerm, AsksForText, HasTextTerms}
-use Rattle.alta_query.specs.Token.{Token, open_paren, close_paren, and_word, or_word, not_word, near_word, operand, faulty, side_of, at, tokens_of}
-use Rattle.alta_query.specs.Words.{has_words, tests_of, is_stem, stem_test}
-use Rattle.alta_query.specs.declared.fault.Cause.TheVariants as cause
+use Rattle.alta_machine.specs.Token.{Token, open_paren, close_paren, and_word, or_word, not_word, near_word, operand, faulty, side_of, at, tokens_of}
+use Rattle.alta_machine.specs.Words.{has_words, tests_of, is_stem, stem_test}
+use Rattle.alta_machine.specs.declared.cause.Cause.TheVariants as cause
 use Rattle.alta_text.specs.Words.{folded_of}
 use Rattle.alta_query.proofs.Cuts.{run_boundary, solid_boundary, quote_boundary, quote_past, head_boundary, star_boundary, first_boundary}
 use Rattle.alta_query.proofs.Places.{blank_low}

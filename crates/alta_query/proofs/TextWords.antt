@@ -6,9 +6,9 @@ use Rattle.std.specs.Str.{IsUtf8, all_scalars, bytes_eq, chars}
 use Rattle.std.proofs.lemmas.List.Elements.{All-nil, All-cons, All-head, All-tail, All-map, All-weaker, All-filter}
 use Rattle.std.proofs.lemmas.Slice.Eq.{bytes_eq-Decides}
 use Rattle.std.proofs.lemmas.Str.{scalars-chars}
-use Rattle.alta_meta.specs.declared.kinds.TheConstants.{WORD, WRITTEN}
+use Rattle.alta_machine.specs.declared.kinds.TheConstants.{WORD, WRITTEN}
 use Rattle.alta_query.specs.Texts.{HasTextTerm}
-use Rattle.alta_query.specs.Words.{word_term, word_test, tests_of}
+use Rattle.alta_machine.specs.Words.{word_term, word_test, tests_of}
 use Rattle.alta_query.proofs.Texts.{term_text}
 use Rattle.alta_text.specs.Words.{folded_of}
 use Rattle.unicode_segmentation.specs.Segments.{Rule, prepend, cut, segments, has_alphanumeric}

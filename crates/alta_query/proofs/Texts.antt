@@ -5,19 +5,19 @@ use Rattle.std.specs.Str.{IsUtf8}
 use Rattle.std.proofs.lemmas.List.Elements.{All-nil, All-cons, All-push, All-tail}
 use Rattle.std.proofs.lemmas.Str.{IsUtf8-append, IsUtf8-from_ascii, IsUtf8-nil}
 use Rattle.std.proofs.lemmas.Str.Ascii.{IsAscii-from_all}
-use Rattle.alta_meta.specs.declared.kinds.TheConstants.{NAME, TITLE_END}
+use Rattle.alta_machine.specs.declared.kinds.TheConstants.{NAME, TITLE_END}
 use Rattle.alta_query.specs.Answer.{Gives}
-use Rattle.alta_query.specs.Faults.{Mode, expects, has, beside, behind_near, end_cause}
-use Rattle.alta_query.specs.Machine.{Frame, not_frame, paren_frame, State, start, wrapped, unwrapped, give, whole, close, put, put_last, operand_step, step, run, or_fault, marks}
-use Rattle.alta_query.specs.Patterns.{Pattern, titled, title_end, phrase_pattern}
-use Rattle.alta_query.specs.Shape.{Lone, prefix, Atom, lone, Shape, atom, all, any, negated, shapes_of, all_of, any_of}
+use Rattle.alta_machine.specs.QueryFaults.{Mode, expects, has, beside, behind_near, end_cause}
+use Rattle.alta_machine.specs.Parser.{Frame, not_frame, paren_frame, State, start, wrapped, unwrapped, give, whole, close, put, put_last, operand_step, step, run, or_fault, marks}
+use Rattle.alta_machine.specs.Patterns.{Pattern, titled, title_end, phrase_pattern}
+use Rattle.alta_machine.specs.Shape.{Lone, prefix, Atom, lone, Shape, atom, all, any, negated, shapes_of, all_of, any_of}
 use Rattle.alta_query.specs.Texts.{HasTextTerm, AsksForText, HasTextTerms, HaveTextTerms, IsTextFrame, IsTextState, made_of, AddsText}
-use Rattle.alta_query.specs.Token.{Token, open_paren, close_paren, and_word, or_word, not_word, near_word, operand, faulty}
-use Rattle.alta_query.specs.Words.{name_test}
-use Rattle.alta_query.specs.declared.fault.Cause.{Cause}
+use Rattle.alta_machine.specs.Token.{Token, open_paren, close_paren, and_word, or_word, not_word, near_word, operand, faulty}
+use Rattle.alta_machine.specs.Words.{name_test}
+use Rattle.alta_machine.specs.declared.cause.Cause.{Cause}
 use Rattle.alta_query.specs.declared.fault.QueryFault.{QueryFault}
 use Rattle.alta_query.specs.declared.query.Query.{Query}
-use Rattle.alta_query.specs.declared.test.Test.{Test}
+use Rattle.alta_machine.specs.declared.test.Test.{Test}
 use Rattle.alta_query.specs.View.{shape}
 
 one_byte : (b : ℕ) → b < 128 → IsUtf8 (b ∷ [])

@@ -11,14 +11,14 @@ use Rattle.std.specs.Cmp.Lexicographic.{pointwise}
 use Rattle.std.proofs.lemmas.Bool.{le-leb, leb-true}
 use Rattle.std.proofs.lemmas.Bool.Decides.{nat_tests}
 use Rattle.std.proofs.Math.Seq.{take-append_seam}
-use Rattle.alta_query.specs.Shape.{name, value}
-use Rattle.alta_query.specs.Token.{Token, operand, near_word}
+use Rattle.alta_machine.specs.Shape.{name, value}
+use Rattle.alta_machine.specs.Token.{Token, operand, near_word}
 use Rattle.alta_codec.specs.Decimal.{value_of}
 use Rattle.alta_codec.specs.Name.{is_graphic, is_name}
-use Rattle.alta_range.specs.Numbers.{number_in}
-use Rattle.alta_range.proofs.Numerals.{are_read}
-use Rattle.alta_query.specs.Spots.{is_blank, is_solid, is_quote, is_run, first_token, first_len, run_token, name_token, near_token, is_undotted, ordered, dotted, value_token, is_quoted_title}
-use Rattle.alta_query.specs.Spelling.{spelled}
+use Rattle.alta_machine.specs.Numbers.{number_in}
+use Rattle.alta_machine.proofs.Numerals.{are_read}
+use Rattle.alta_machine.specs.Spots.{is_blank, is_solid, is_quote, is_run, first_token, first_len, run_token, name_token, near_token, is_undotted, ordered, dotted, value_token, is_quoted_title}
+use Rattle.alta_machine.specs.Spelling.{spelled}
 use Rattle.alta_query.proofs.Reread.{IsEnd, Spells}
 use Rattle.alta_query.proofs.Quoted.{both}
 

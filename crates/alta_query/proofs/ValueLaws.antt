@@ -12,22 +12,22 @@ use Rattle.std.proofs.lemmas.List.Elements.{All-nil, All-cons, All-append, All-h
 use Rattle.std.proofs.lemmas.List.Folds.{list_any-append, list_any_at, Any-from_list_any, list_any-from_Any}
 use Rattle.std.proofs.lemmas.Slice.Eq.{bytes_eq-Decides}
 use Rattle.std.proofs.lemmas.Str.Ascii.{IsAscii-from_all, lowercase_is}
-use Rattle.alta_meta.specs.Cells.{cell_holds, cells_of, numbered, word_cell}
-use Rattle.alta_meta.specs.declared.kinds.TheConstants.{WORD, WRITTEN, NAME, START, TITLE_END, DOCUMENT_END}
-use Rattle.alta_query.specs.Patterns.{IsKept, Satisfies, SatisfiesOne, range_pattern}
+use Rattle.alta_machine.specs.Cells.{cell_holds, cells_of, numbered, word_cell}
+use Rattle.alta_machine.specs.declared.kinds.TheConstants.{WORD, WRITTEN, NAME, START, TITLE_END, DOCUMENT_END}
+use Rattle.alta_machine.specs.Patterns.{IsKept, Satisfies, SatisfiesOne, range_pattern}
 use Rattle.alta_query.specs.Values.{IsValue, FindsNumbers}
 use Rattle.alta_query.proofs.Quoted.{both}
 use Rattle.alta_query.proofs.TextWords.{words_text}
 use Rattle.alta_query.proofs.Unquoted.{digits_of}
-use Rattle.alta_range.specs.Covers.{cover_of}
-use Rattle.alta_range.specs.Laws.{IsOnce}
-use Rattle.alta_range.specs.Numbers.{number_in}
-use Rattle.alta_range.specs.Terms.{Shares, term_bytes, terms_from, range_terms}
-use Rattle.alta_range.specs.declared.range.Range.{Range}
-use Rattle.alta_range.proofs.Made.{cover_covers}
-use Rattle.alta_range.proofs.Numerals.{are_read}
-use Rattle.alta_range.proofs.Once.{is_cover}
-use Rattle.alta_range.proofs.TermLaws.{text_low}
+use Rattle.alta_machine.specs.Covers.{cover_of}
+use Rattle.alta_machine.specs.RangeLaws.{IsOnce}
+use Rattle.alta_machine.specs.Numbers.{number_in}
+use Rattle.alta_machine.specs.Terms.{Shares, term_bytes, terms_from, range_terms}
+use Rattle.alta_machine.specs.declared.range.Range.{Range}
+use Rattle.alta_machine.proofs.Made.{cover_covers}
+use Rattle.alta_machine.proofs.Numerals.{are_read}
+use Rattle.alta_machine.proofs.Once.{is_cover}
+use Rattle.alta_machine.proofs.TermLaws.{text_low}
 use Rattle.alta_text.specs.Words.{folded_of}
 use Rattle.alta_text.proofs.Foldings.{folded_of-ascii}
 use Rattle.unicode_segmentation.specs.Word.{words}

@@ -1,7 +1,7 @@
 -- The token that a piece of the text is.
-use Rattle.alta_query.specs.Shape as spec
-use Rattle.alta_query.specs.Words.{tests_of, stem_test, first_test}
-use Rattle.alta_query.specs.Token.{Token, open_paren, close_paren, and_word, or_word, not_word, near_word, operand, faulty}
+use Rattle.alta_machine.specs.Shape as spec
+use Rattle.alta_machine.specs.Words.{tests_of, stem_test, first_test}
+use Rattle.alta_machine.specs.Token.{Token, open_paren, close_paren, and_word, or_word, not_word, near_word, operand, faulty}
 use Rattle.alta_query.specs.declared.scan.Lent as lent
 use Rattle.alta_query.specs.declared.scan.Lent.TheVariants.{Words, Prefix, Name, Value}
 use Rattle.alta_query.specs.declared.scan.LentSide as lent_side

@@ -1,13 +1,13 @@
 -- Queries whose terms are text.
 use Rattle.std.specs.List.{All}
 use Rattle.std.specs.Str.{IsUtf8}
-use Rattle.alta_query.specs.Faults.{Mode, expects, has, beside, behind_near}
-use Rattle.alta_query.specs.Machine.{Frame, not_frame, paren_frame, State, near_atom}
-use Rattle.alta_query.specs.Patterns.{pattern_of}
-use Rattle.alta_query.specs.Shape.{Lone, Atom, lone, Shape, Shapes, atom, all, any, negated, none, more}
-use Rattle.alta_query.specs.Token.{Token, open_paren, close_paren, and_word, or_word, not_word, near_word, operand, faulty, side_of}
-use Rattle.alta_query.specs.declared.test.Test.{Test}
-use Rattle.alta_query.specs.declared.test.Test.TheVariants.{Is, Begins}
+use Rattle.alta_machine.specs.QueryFaults.{Mode, expects, has, beside, behind_near}
+use Rattle.alta_machine.specs.Parser.{Frame, not_frame, paren_frame, State, near_atom}
+use Rattle.alta_machine.specs.Patterns.{pattern_of}
+use Rattle.alta_machine.specs.Shape.{Lone, Atom, lone, Shape, Shapes, atom, all, any, negated, none, more}
+use Rattle.alta_machine.specs.Token.{Token, open_paren, close_paren, and_word, or_word, not_word, near_word, operand, faulty, side_of}
+use Rattle.alta_machine.specs.declared.test.Test.{Test}
+use Rattle.alta_machine.specs.declared.test.Test.TheVariants.{Is, Begins}
 
 -- the term of the test is UTF-8
 abbrev pub HasTextTerm : Test → Type 0

@@ -1,12 +1,12 @@
 -- Which documents have a number, and what queries without values see of numbers.
 use Rattle.std.specs.Prelude.{◌≡◌, ◌↔◌, ℕ, ◌^◌, ◌≤◌, ◌<◌, ◌||◌, nat_lt, if◌then◌else◌, List, [], ◌∷◌, ◌++◌, length, map, None, Some, Any}
 use Rattle.std.specs.Str.{IsUtf8, bytes_eq}
-use Rattle.alta_meta.specs.Cells.{cells_of}
-use Rattle.alta_meta.specs.declared.kinds.TheConstants.{WORD, WRITTEN, NAME, START, TITLE_END, DOCUMENT_END, WORD_LIMIT}
-use Rattle.alta_query.specs.Matches.{IsWellFormed, Matches}
-use Rattle.alta_query.specs.Patterns.{numbers_in}
-use Rattle.alta_query.specs.Shape.{value, lone, Shape, Shapes, atom, all, any, negated, none, more}
-use Rattle.alta_range.specs.Numbers.{number_in}
+use Rattle.alta_machine.specs.Cells.{cells_of}
+use Rattle.alta_machine.specs.declared.kinds.TheConstants.{WORD, WRITTEN, NAME, START, TITLE_END, DOCUMENT_END, WORD_LIMIT}
+use Rattle.alta_machine.specs.Matches.{IsWellFormed, Matches}
+use Rattle.alta_machine.specs.Patterns.{numbers_in}
+use Rattle.alta_machine.specs.Shape.{value, lone, Shape, Shapes, atom, all, any, negated, none, more}
+use Rattle.alta_machine.specs.Numbers.{number_in}
 use Rattle.alta_text.specs.Words.{words_of}
 use Rattle.unicode_segmentation.specs.Word.{words}
 

@@ -1,6 +1,6 @@
 -- The shape of a query.
-use Rattle.alta_query.specs.Shape as spec
-use Rattle.alta_query.specs.Shape.{Shape, atom, all, any, negated, shapes_of}
+use Rattle.alta_machine.specs.Shape as spec
+use Rattle.alta_machine.specs.Shape.{Shape, atom, all, any, negated, shapes_of}
 use Rattle.alta_query.specs.declared.query.Side.{Side}
 use Rattle.alta_query.specs.declared.query.Side.TheVariants as side
 use Rattle.alta_query.specs.declared.query.Atom as declared_atom

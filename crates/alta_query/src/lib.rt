@@ -8,10 +8,9 @@ mod printing;
 mod query;
 mod reading;
 mod scan;
-mod test;
 mod word;
 
-pub use fault::{Cause, QueryFault};
+pub use fault::QueryFault;
 pub use laws::{a_query_without_values_sees_no_ranges, a_value_finds_numbers};
 pub use printing::{print, reads_back};
 pub use query::{Atom, Queries, Query, Side};
@@ -19,4 +18,3 @@ pub use reading::{
     a_query_asks_for_text, a_query_has_members, a_query_has_ordered_values,
     a_query_is_read_one_way, one_or_other, parse,
 };
-pub use test::{Test, Tests};

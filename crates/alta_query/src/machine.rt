@@ -3,22 +3,23 @@
 ghost use Rattle.std.specs.Prelude.{◌≡◌, ℕ, List, [], None, ◌+◌, ◌≤◌, map, IfSome, IfNone, IfOk, OnOk, option_map};
 ghost use Rattle.std.specs.Str.{IsUtf8};
 ghost use Rattle.alta_query.specs.View.{shape, atom_view, side_view};
-ghost use Rattle.alta_query.specs.Shape.{Shape, lone, near, negated, all_of, any_of};
-ghost use Rattle.alta_query.specs.Token.{open_paren, close_paren, side_of, atom_weight};
+ghost use Rattle.alta_machine.specs.Shape.{Shape, lone, near, negated, all_of, any_of};
+ghost use Rattle.alta_machine.specs.Token.{open_paren, close_paren, side_of, atom_weight};
 ghost use Rattle.alta_query.specs.Pieces.{token_of, atom_in, side_in};
-ghost use Rattle.alta_query.specs.Machine.{give, step, operand_step, start, run, cause_in, wrapped, unwrapped, whole, close, put, put_last};
+ghost use Rattle.alta_machine.specs.Parser.{give, step, operand_step, start, run, cause_in, wrapped, unwrapped, whole, close, put, put_last};
 ghost use Rattle.alta_query.specs.Answer.{Gives};
-ghost use Rattle.alta_query.specs.Faults as faults;
-ghost use Rattle.alta_query.specs.Faults.{has, Mark, any_open};
+ghost use Rattle.alta_machine.specs.QueryFaults as faults;
+ghost use Rattle.alta_machine.specs.QueryFaults.{has, Mark, any_open};
 ghost use Rattle.alta_query.specs.Kept.{mode_of, state_of, frames_of};
-ghost use Rattle.alta_query.specs.Patterns.{test_of};
+ghost use Rattle.alta_machine.specs.Patterns.{test_of};
 ghost use Rattle.alta_query.specs.Texts.{HasTextTerm, AsksForText, AddsText, made_of};
 
-use crate::fault::{Cause, QueryFault};
+use crate::fault::QueryFault;
 use crate::query::{Atom, Query, Side};
 use crate::scan::{Kind, Lent, LentSide};
 use crate::word::{first_test, stem_test, tests_of};
 use alta_codec::Text;
+use alta_machine::Cause;
 use std::alloc::{AllocError, Global};
 use std::mem;
 
@@ -252,7 +253,7 @@ fn copied(alloc: Global, text: &str) -> Result<Text, AllocError>
     ensures copy { IfOk result (λ t. t ≡ text.now) }
     ensures text { IfOk result IsUtf8 }
 {
-    Ok(Text::from_string(String::from_str(alloc, text)?))
+    Ok(Text::of(alloc, text)?)
 }
 
 fn near(alloc: Global, left: LentSide, distance: u16, right: LentSide) -> Result<Atom, AllocError>

@@ -1,13 +1,13 @@
 // From query to text.
 
 ghost use Rattle.std.specs.Prelude.{◌≡◌, ℕ, List, ◌++◌, string_bytes, IfOk, OnOk};
-ghost use Rattle.alta_query.specs.Shape.{Shape, value};
-ghost use Rattle.alta_query.specs.Grammar.{Reads};
-ghost use Rattle.alta_query.specs.Spots.{spots};
+ghost use Rattle.alta_machine.specs.Shape.{Shape, value};
+ghost use Rattle.alta_machine.specs.Grammar.{Reads};
+ghost use Rattle.alta_machine.specs.Spots.{spots};
 ghost use Rattle.alta_query.specs.View.{shape, atom_view, side_view};
-ghost use Rattle.alta_query.specs.Token.{operand, near_word, tokens_of};
-ghost use Rattle.alta_query.specs.Canon.{canon, or_between, parens_if, is_any, is_compound, atom_tokens, of_side};
-ghost use Rattle.alta_query.specs.Spelling.{quoted, title_text, spaced, spelled, with_tokens, canonical};
+ghost use Rattle.alta_machine.specs.Token.{operand, near_word, tokens_of};
+ghost use Rattle.alta_machine.specs.Canon.{canon, or_between, parens_if, is_any, is_compound, atom_tokens, of_side};
+ghost use Rattle.alta_machine.specs.Spelling.{quoted, title_text, spaced, spelled, with_tokens, canonical};
 
 use crate::query::{Atom, Query, Side};
 use alta_codec::Text;
@@ -16,7 +16,7 @@ use std::alloc::{AllocError, Global};
 /// The canonical spelling of a query: its tokens with one space between them, words in quotes, no word AND, and
 /// parentheses round an And or an Or in an And or under a NOT, and round an Or in an Or. Fails for want of memory alone.
 /// The time is linear in the spelling.
-#[tactic(auto, unfolding(crate::specs::Spelling::canonical))]
+#[tactic(auto, unfolding(alta_machine::specs::Spelling::canonical))]
 pub fn print(alloc: Global, query: &Query) -> Result<Text, AllocError>
     ensures { IfOk result (λ t. t ≡ canonical (shape query.now)) }
 {

@@ -1,10 +1,10 @@
 // Queries.
 ghost use Rattle.std.specs.Prelude.{◌≡◌};
-ghost use Rattle.alta_query.specs.Patterns.{test_of, numbers_in};
+ghost use Rattle.alta_machine.specs.Patterns.{test_of, numbers_in};
 ghost use Rattle.alta_query.specs.View.{side_view, atom_view};
 
-use crate::test::{Test, Tests};
 use alta_codec::Text;
+use alta_machine::{Test, Tests};
 
 /// A side of a NEAR. In a query that was read its test is that of its text.
 #[derive(Drop)]

@@ -1,23 +1,24 @@
 // From text to query.
 
 ghost use Rattle.std.specs.Prelude.{◌≡◌, ◌⊎◌, ◌↔◌, ℕ, List, length, Some, Ok, Err, IfOk, IfErr, MatchResult};
-ghost use Rattle.alta_query.specs.Shape.{Shape};
+ghost use Rattle.alta_machine.specs.Shape.{Shape};
 ghost use Rattle.alta_query.specs.View.{shape};
-ghost use Rattle.alta_query.specs.Grammar.{Reads};
-ghost use Rattle.alta_query.specs.Faults.{Fault, fault_of};
+ghost use Rattle.alta_machine.specs.Grammar.{Reads};
+ghost use Rattle.alta_machine.specs.QueryFaults.{Fault, fault_of};
 ghost use Rattle.alta_query.specs.Laws.{IsDecided};
-ghost use Rattle.alta_query.specs.Spots.{spots};
-ghost use Rattle.alta_query.specs.Token.{tokens_of};
-ghost use Rattle.alta_query.specs.Machine.{parse_of};
-ghost use Rattle.alta_query.specs.Reading.{query_of};
+ghost use Rattle.alta_machine.specs.Spots.{spots};
+ghost use Rattle.alta_machine.specs.Token.{tokens_of};
+ghost use Rattle.alta_machine.specs.Parser.{parse_of};
+ghost use Rattle.alta_machine.specs.Queries.{query_of};
 ghost use Rattle.alta_query.specs.Answer.{Gives, IsMemory, fault_in};
-ghost use Rattle.alta_query.specs.Matches.{IsWellFormed, HasMembers, HasOrderedValues};
+ghost use Rattle.alta_machine.specs.Matches.{IsWellFormed, HasMembers, HasOrderedValues};
 ghost use Rattle.alta_query.specs.Texts.{HasTextTerms};
 
-use crate::fault::{Cause, QueryFault};
+use crate::fault::QueryFault;
 use crate::machine::Machine;
 use crate::query::Query;
 use crate::scan::{blank, first_piece};
+use alta_machine::Cause;
 use std::alloc::Global;
 
 /// One pass over the text.

@@ -2,14 +2,13 @@
 ghost use Rattle.std.specs.Prelude.{◌≡◌, ℕ, ◌+◌, ◌-◌, ◌<◌, ◌≤◌, length, take, drop, true, false, get_or, codes, nat_eq, option_map, IsTrue, IfOk};
 ghost use Rattle.std.specs.List.{prefix_len, take_while, position_or_len, starts_with, ends_with};
 ghost use Rattle.std.specs.Str.{IsCharBoundary};
-ghost use Rattle.alta_query.specs.Token.{side_of, atom_weight};
-ghost use Rattle.alta_query.specs.Spots.{is_blank, is_solid, is_quote, is_run, first_token, first_len, run_token, plain_token, prefix_token, words_token, name_token, near_token, quoted_token, quoted_len, value_token, ordered, is_undotted};
+ghost use Rattle.alta_machine.specs.Token.{side_of, atom_weight};
+ghost use Rattle.alta_machine.specs.Spots.{is_blank, is_solid, is_quote, is_run, first_token, first_len, run_token, plain_token, prefix_token, words_token, name_token, near_token, quoted_token, quoted_len, value_token, ordered, is_undotted};
 ghost use Rattle.alta_query.specs.Pieces.{token_of, atom_in, side_in};
 
-use crate::fault::Cause;
 use crate::word::{count_words, has_short_words, is_whole_word};
 use alta_codec::{name_ok, read_count};
-use alta_range::number;
+use alta_machine::{Cause, number};
 use std::alloc::{AllocError, Global};
 
 /// An operand of one token, whose text is lent.
@@ -82,7 +81,7 @@ pub fn blank(b: u8) -> bool
 }
 
 /// The token at the front of the text, which is no blank. Fails for want of memory alone.
-#[tactic(auto, unfolding(crate::specs::Spots::is_quoted_title), using(crate::proofs::Cuts::laws))]
+#[tactic(auto, unfolding(alta_machine::specs::Spots::is_quoted_title), using(crate::proofs::Cuts::laws))]
 pub fn first_piece(alloc: Global, rest: &str) -> Result<Piece<'_>, AllocError>
     requires some { 0 < length rest.now }
     requires solid { is_blank (get_or rest.now 0 0) ≡ false }
@@ -163,7 +162,7 @@ fn starred(text: &str) -> bool
 }
 
 /// A quoted piece, behind its first quote.
-#[tactic(auto, unfolding(crate::specs::Spots::quoted_token, crate::specs::Spots::quoted_len), using(crate::proofs::Cuts::laws))]
+#[tactic(auto, unfolding(alta_machine::specs::Spots::quoted_token, alta_machine::specs::Spots::quoted_len), using(crate::proofs::Cuts::laws))]
 fn quoted(alloc: Global, title: bool, rest: &str) -> Result<Piece<'_>, AllocError>
     ensures token { IfOk result (λ piece. token_of piece.kind ≡ quoted_token title rest.now) }
     ensures len { IfOk result (λ piece. piece.len ≡ quoted_len rest.now) }
@@ -260,7 +259,7 @@ fn solid_end(rest: &[u8]) -> usize
 }
 
 /// What a run is.
-#[tactic(auto, unfolding(crate::specs::Spots::run_token))]
+#[tactic(auto, unfolding(alta_machine::specs::Spots::run_token))]
 fn run(alloc: Global, text: &str) -> Result<Kind<'_>, AllocError>
     ensures { IfOk result (λ kind. token_of kind ≡ run_token text.now) }
 {
@@ -282,7 +281,7 @@ fn run(alloc: Global, text: &str) -> Result<Kind<'_>, AllocError>
 }
 
 /// A prefix or words.
-#[tactic(auto, unfolding(crate::specs::Spots::plain_token))]
+#[tactic(auto, unfolding(alta_machine::specs::Spots::plain_token))]
 fn plain(alloc: Global, title: bool, text: &str) -> Result<Kind<'_>, AllocError>
     ensures { IfOk result (λ kind. token_of kind ≡ plain_token title text.now) }
 {
@@ -294,7 +293,7 @@ fn plain(alloc: Global, title: bool, text: &str) -> Result<Kind<'_>, AllocError>
 }
 
 /// A prefix.
-#[tactic(auto, unfolding(crate::specs::Spots::prefix_token))]
+#[tactic(auto, unfolding(alta_machine::specs::Spots::prefix_token))]
 fn prefix(alloc: Global, title: bool, stem: &str) -> Result<Kind<'_>, AllocError>
     ensures { IfOk result (λ kind. token_of kind ≡ prefix_token title stem.now) }
 {
@@ -306,7 +305,7 @@ fn prefix(alloc: Global, title: bool, stem: &str) -> Result<Kind<'_>, AllocError
 }
 
 /// The words of a text.
-#[tactic(auto, unfolding(crate::specs::Spots::words_token))]
+#[tactic(auto, unfolding(alta_machine::specs::Spots::words_token))]
 fn words(alloc: Global, title: bool, text: &str) -> Result<Kind<'_>, AllocError>
     ensures { IfOk result (λ kind. token_of kind ≡ words_token title text.now) }
 {
@@ -329,7 +328,7 @@ fn named(name: &str) -> Kind<'_>
 }
 
 /// The numbers from one to another.
-#[tactic(auto, unfolding(crate::specs::Spots::value_token))]
+#[tactic(auto, unfolding(alta_machine::specs::Spots::value_token))]
 fn value(text: &str) -> Kind<'_>
     ensures { token_of result ≡ value_token text.now }
 {
@@ -375,7 +374,7 @@ fn undotted_end(rest: &[u8]) -> usize
 }
 
 /// The distance of a NEAR.
-#[tactic(auto, unfolding(crate::specs::Spots::near_token, alta_codec::specs::Decimal::count_in))]
+#[tactic(auto, unfolding(alta_machine::specs::Spots::near_token, alta_codec::specs::Decimal::count_in))]
 fn near(digits: &[u8]) -> Kind<'_>
     ensures { token_of result ≡ near_token digits.now }
 {

@@ -4,18 +4,18 @@ ghost use Rattle.std.specs.List.{All};
 ghost use Rattle.std.specs.Str.{chars, IsUtf8};
 ghost use Rattle.alta_text.specs.Words.{words_of, pair_of, folded_of};
 ghost use Rattle.alta_query.specs.Texts.{HasTextTerm};
-ghost use Rattle.alta_query.specs.Words as spec;
-ghost use Rattle.alta_query.specs.Words.{has_words, is_stem};
+ghost use Rattle.alta_machine.specs.Words as spec;
+ghost use Rattle.alta_machine.specs.Words.{has_words, is_stem};
 
-use crate::test::{Test, Tests};
 use alta_codec::Bytes;
-use alta_meta::kinds::{WORD, WORD_LIMIT, WRITTEN, term};
+use alta_machine::kinds::{WORD, WORD_LIMIT, WRITTEN, term};
+use alta_machine::{Test, Tests};
 use alta_text::{Word, folded, words};
 use std::alloc::{AllocError, Global};
 use unicode_segmentation::UnicodeSegmentation;
 
 /// How many words the text has.
-#[tactic(auto, unfolding(crate::specs::Words::tests_of))]
+#[tactic(auto, unfolding(alta_machine::specs::Words::tests_of))]
 pub fn count_words(text: &str) -> usize
     ensures { result ≡ length (spec.tests_of text.now) }
 {
@@ -23,7 +23,7 @@ pub fn count_words(text: &str) -> usize
 }
 
 /// Whether the text has words, and none that is too long.
-#[tactic(auto, unfolding(crate::specs::Words::has_words))]
+#[tactic(auto, unfolding(alta_machine::specs::Words::has_words))]
 pub fn has_short_words(alloc: Global, text: &str) -> Result<bool, AllocError>
     ensures { IfOk result (λ b. b ≡ has_words text.now) }
 {
@@ -51,7 +51,7 @@ fn is_short(word: &Word) -> bool
 }
 
 /// Whether the stem is one whole word of two characters at least, and not too long.
-#[tactic(auto, unfolding(crate::specs::Words::is_stem))]
+#[tactic(auto, unfolding(alta_machine::specs::Words::is_stem))]
 pub fn is_whole_word(alloc: Global, stem: &str) -> Result<bool, AllocError>
     ensures { IfOk result (λ b. b ≡ is_stem stem.now) }
 {
@@ -77,7 +77,7 @@ fn is_only(found: &[Word], text: &str) -> bool
 }
 
 /// The term that the cells of a word have: that of its folding where it is written so, else that of its spelling.
-#[tactic(auto, unfolding(crate::specs::Words::word_term))]
+#[tactic(auto, unfolding(alta_machine::specs::Words::word_term))]
 fn word_term(alloc: Global, written: &str, folded: &str) -> Result<Bytes, AllocError>
     ensures term { IfOk result (λ t. t ≡ spec.word_term (written.now, folded.now)) }
     ensures text { IfOk result IsUtf8 }
@@ -99,7 +99,7 @@ fn text_term(alloc: Global, kind: u8, rest: &str) -> Result<Bytes, AllocError>
 }
 
 /// The tests of a text, one for each word.
-#[tactic(auto, unfolding(crate::specs::Words::tests_of))]
+#[tactic(auto, unfolding(alta_machine::specs::Words::tests_of))]
 pub fn tests_of(alloc: Global, text: &str) -> Result<Tests, AllocError>
     ensures tests { IfOk result (λ tests. tests ≡ spec.tests_of text.now) }
     ensures text { IfOk result (All HasTextTerm) }
@@ -131,7 +131,7 @@ fn word_test(alloc: Global, word: &Word) -> Result<Test, AllocError>
 }
 
 /// The test of a text that has one word.
-#[tactic(auto, unfolding(crate::specs::Words::tests_of))]
+#[tactic(auto, unfolding(alta_machine::specs::Words::tests_of))]
 pub fn first_test(alloc: Global, text: &str) -> Result<Test, AllocError>
     ensures test { IfOk result (λ test. test ≡ spec.first_test text.now) }
     ensures text { IfOk result HasTextTerm }

@@ -6,11 +6,11 @@ use Rattle.std.proofs.lemmas.Bool.{cases_lt}
 use Rattle.std.proofs.lemmas.List.Sums.{sum_by-cons}
 use Rattle.alta_codec.proofs.Places.{Contains-head, Contains-tail, Contains-cases, not-Contains-nil}
 use Rattle.alta_compound.specs.Unions.{RisesAbove, above_from_rising}
-use Rattle.alta_query.specs.Patterns.{meets, title_end}
-use Rattle.alta_query.specs.declared.test.Test.{Test}
-use Rattle.alta_rank.specs.Cells.{weight, use_score, score_of}
+use Rattle.alta_machine.specs.Patterns.{meets, title_end}
+use Rattle.alta_machine.specs.declared.test.Test.{Test}
+use Rattle.alta_machine.specs.Scores.{weight, use_score, score_of}
 use Rattle.alta_rank.specs.Locations.{ends_behind, list_score, range_score, IsListIn, AreListsIn}
-use Rattle.alta_rank.specs.declared.usage.Use.{Use}
+use Rattle.alta_machine.specs.declared.usage.Use.{Use}
 use Rattle.alta_rank.proofs.Counting.{within, within-past, within-skip, within-step}
 use Rattle.alta_rank.proofs.Scores.{range-cons}
 

@@ -2,11 +2,11 @@
 use Rattle.std.proofs.Common.{◌≡◌, ℕ, ◌+◌, ◌≤◌, true, false, List, [], ◌∷◌, ◌++◌, length, refl, sym, subst, arith, length-append}
 use Rattle.std.specs.Prelude.{Some}
 use Rattle.std.proofs.lemmas.List.{length-map}
-use Rattle.alta_query.specs.Shape.{Side, Lone, words, prefix, name, value, lone, Shape, shapes_of, all_of, any_of}
-use Rattle.alta_query.specs.Token.{Token, close_paren, and_word, or_word, operand, side_of, weight, total_weight}
-use Rattle.alta_query.specs.Grammar.{IsUnary, alone, two_sides, behind_not, in_parens, IsAnd, first_unary, beside_and, behind_and, IsOr, first_and, behind_or, Reads}
+use Rattle.alta_machine.specs.Shape.{Side, Lone, words, prefix, name, value, lone, Shape, shapes_of, all_of, any_of}
+use Rattle.alta_machine.specs.Token.{Token, close_paren, and_word, or_word, operand, side_of, weight, total_weight}
+use Rattle.alta_machine.specs.Grammar.{IsUnary, alone, two_sides, behind_not, in_parens, IsAnd, first_unary, beside_and, behind_and, IsOr, first_and, behind_or, Reads}
 use Rattle.alta_query.proofs.Complete.{total_weight-append}
-use Rattle.alta_rank.specs.Uses.{use_of, atom_uses, uses_of, uses_in}
+use Rattle.alta_machine.specs.Uses.{use_of, atom_uses, uses_of, uses_in}
 
 -- how many uses some queries have
 abbrev count_in : List Shape → ℕ

@@ -12,8 +12,8 @@ use Rattle.std.proofs.lemmas.List.Elements.{All-contains, Contains-append_cases}
 use Rattle.std.proofs.lemmas.List.Sorted.{ranks_by, sorted_far, Contains-permutation, IsPermutation-refl, IsPermutation-sym, IsPermutation-trans, IsPermutation-cons, IsPermutation-append_left, IsPermutation-append_right, IsPermutation-middle, IsPermutation-to_front, length_permutation, sum_by-IsPermutation}
 use Rattle.std.proofs.lemmas.List.Sums.{sum_by-cons}
 use Rattle.alta_rank.specs.Kept.{Replaces, left_out, taken_in, Keeps, joined, replaced, IsBest}
-use Rattle.alta_rank.specs.Ranked.{by_rank, number_of, placed, ranked}
-use Rattle.alta_rank.specs.declared.scored.Scored.{Scored}
+use Rattle.alta_machine.specs.Ranked.{by_rank, number_of, placed, ranked}
+use Rattle.alta_machine.specs.declared.scored.Scored.{Scored}
 
 -- whether the first comes before the second
 abbrev pub lt : Scored → Scored → Bool

@@ -1,14 +1,14 @@
 -- The definitions at two documents: `Red Fox` with the body `the quick red fox`, and `Fox` with the body `quick brown dog`.
 use Rattle.std.proofs.Common.{◌≡◌, ℕ, true, false, List, [], ◌∷◌, refl}
 use Rattle.std.specs.Prelude.{codes}
-use Rattle.alta_query.specs.Shape.{words, lone, atom, all, negated, shapes_of}
-use Rattle.alta_query.specs.declared.test.Test.TheVariants.{Is}
-use Rattle.alta_rank.specs.Cells.{use_score, score_of}
+use Rattle.alta_machine.specs.Shape.{words, lone, atom, all, negated, shapes_of}
+use Rattle.alta_machine.specs.declared.test.Test.TheVariants.{Is}
+use Rattle.alta_machine.specs.Scores.{use_score, score_of}
 use Rattle.alta_rank.specs.Locations.{range_score}
-use Rattle.alta_rank.specs.Ranked.{placed, ranked}
-use Rattle.alta_rank.specs.Uses.{use_of, uses_of}
-use Rattle.alta_rank.specs.declared.scored.Scored.{Scored}
-use Rattle.alta_rank.specs.declared.usage.Use.{Use}
+use Rattle.alta_machine.specs.Ranked.{placed, ranked}
+use Rattle.alta_machine.specs.Uses.{use_of, uses_of}
+use Rattle.alta_machine.specs.declared.scored.Scored.{Scored}
+use Rattle.alta_machine.specs.declared.usage.Use.{Use}
 
 abbrev red_fox : List (List (List ℕ))
 red_fox =

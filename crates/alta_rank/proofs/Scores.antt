@@ -9,10 +9,10 @@ use Rattle.std.proofs.lemmas.List.Sums.{sum_by-cons}
 use Rattle.alta_codec.specs.declared.location.TheConstants.{TOP}
 use Rattle.alta_codec.specs.Rising.{IsRising, IsPlace, first_from, pred_of}
 use Rattle.alta_compound.specs.Unions.{above_from_rising}
-use Rattle.alta_rank.specs.Cells.{weight}
+use Rattle.alta_machine.specs.Scores.{weight}
 use Rattle.alta_rank.specs.Counted.{counted, counted_each}
 use Rattle.alta_rank.specs.Locations.{ends_behind, list_score, range_score}
-use Rattle.alta_rank.specs.declared.usage.Use.{Use}
+use Rattle.alta_machine.specs.declared.usage.Use.{Use}
 use Rattle.alta_rank.proofs.Counting.{within, within-past, within-first, within-step, within-bound}
 
 -- what each location counts

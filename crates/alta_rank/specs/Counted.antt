@@ -2,8 +2,8 @@
 use Rattle.std.specs.Prelude.{ℕ, ◌<◌, ◌≤◌, Bool, ◌&&◌, nat_lt, nat_le, List, filter, drop, sum_by, All}
 use Rattle.std.specs.List.{zip}
 use Rattle.alta_codec.specs.Rising.{pred_of}
-use Rattle.alta_rank.specs.Cells.{weight}
-use Rattle.alta_rank.specs.declared.usage.Use.{Use}
+use Rattle.alta_machine.specs.Scores.{weight}
+use Rattle.alta_machine.specs.declared.usage.Use.{Use}
 
 -- what the locations of a list count from `first` to `end`
 unfoldable pub counted : Bool → ℕ → ℕ → List ℕ → ℕ → ℕ

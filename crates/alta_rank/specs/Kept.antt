@@ -2,8 +2,8 @@
 use Rattle.std.specs.Prelude.{◌≡◌, ℕ, ◌<◌, ◌≤◌, min, List, ◌∷◌, ◌++◌, length, All, Contains, true, false}
 use Rattle.std.specs.List.Sorted.{IsPermutation}
 use Rattle.std.specs.Ordering.{is_lt}
-use Rattle.alta_rank.specs.Ranked.{by_rank}
-use Rattle.alta_rank.specs.declared.scored.Scored.{Scored}
+use Rattle.alta_machine.specs.Ranked.{by_rank}
+use Rattle.alta_machine.specs.declared.scored.Scored.{Scored}
 
 -- The answer comes before none of the best, which stay; or it takes the place of the last of them, which it comes before.
 pub data Replaces (old : List Scored) (answer : Scored) (new : List Scored) : Type 0 where

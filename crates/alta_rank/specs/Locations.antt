@@ -2,10 +2,10 @@
 use Rattle.std.specs.Prelude.{◌≡◌, ◌↔◌, ℕ, ◌+◌, ◌<◌, Bool, true, ◌&&◌, nat_lt, nat_le, List, [], ◌∷◌, length, slice_index_or, filter, sum_by, Contains}
 use Rattle.std.specs.List.{list_any, zip}
 use Rattle.alta_codec.specs.Rising.{IsRising}
-use Rattle.alta_query.specs.Patterns.{meets}
-use Rattle.alta_query.specs.declared.test.Test.{Test}
-use Rattle.alta_rank.specs.Cells.{weight}
-use Rattle.alta_rank.specs.declared.usage.Use.{Use}
+use Rattle.alta_machine.specs.Patterns.{meets}
+use Rattle.alta_machine.specs.declared.test.Test.{Test}
+use Rattle.alta_machine.specs.Scores.{weight}
+use Rattle.alta_machine.specs.declared.usage.Use.{Use}
 
 -- whether a title ends behind the location, at `end` at most
 abbrev pub ends_behind : List ℕ → ℕ → ℕ → Bool

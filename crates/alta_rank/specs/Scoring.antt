@@ -1,7 +1,7 @@
 -- What a scorer is: a reader of the list of each use, one of the places where titles end, and the last end asked.
 use Rattle.std.specs.Prelude.{◌≡◌, ℕ, ◌+◌, ◌≤◌, List, length, All, sum_by}
 use Rattle.alta_codec.specs.Rising.{pred_of}
-use Rattle.alta_rank.specs.declared.usage.Use.{Use}
+use Rattle.alta_machine.specs.declared.usage.Use.{Use}
 
 pub record Scoring (R : Type 0) : Type 0 where
   pub readers : List R

@@ -2,10 +2,10 @@
 ghost use Rattle.std.specs.BinaryHeap.{IsHeap, heap_items};
 ghost use Rattle.std.specs.Prelude.{◌≡◌, ◌≢◌, ◌∷◌, ◌++◌, ℕ, [], List, take, map, false, OnOk, AllPairs};
 ghost use Rattle.alta_rank.specs.Kept.{IsBest, Keeps, Replaces};
-ghost use Rattle.alta_rank.specs.Ranked.{by_rank, ranked, number_of};
-ghost use Rattle.alta_rank.specs.declared.scored.Scored.{Scored};
+ghost use Rattle.alta_machine.specs.Ranked.{by_rank, ranked, number_of};
+ghost use Rattle.alta_machine.specs.declared.scored.Scored.{Scored};
 
-use crate::scored::Scored;
+use alta_machine::Scored;
 use std::alloc::{AllocError, Global};
 use std::collections::BinaryHeap;
 use std::marker::Model;
@@ -21,7 +21,7 @@ pub struct Best {
 impl Model for Best {
     ghost use Rattle.std.specs.BinaryHeap.{IsHeap, heap_items};
     ghost use Rattle.alta_rank.specs.Kept.{KeptOf};
-    ghost use Rattle.alta_rank.specs.Ranked.{by_rank};
+    ghost use Rattle.alta_machine.specs.Ranked.{by_rank};
 
     ghost Value = { KeptOf };
 

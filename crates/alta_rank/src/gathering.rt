@@ -1,12 +1,12 @@
 // From query to uses.
 ghost use Rattle.std.specs.Prelude.{◌≡◌, ◌∷◌, ◌++◌, [], false, map, IfOk, OnOk};
 ghost use Rattle.alta_query.specs.View.{shape, atom_view};
-ghost use Rattle.alta_query.specs.Words.{name_test};
-ghost use Rattle.alta_rank.specs.Uses.{use_of, atom_uses, uses_of};
+ghost use Rattle.alta_machine.specs.Words.{name_test};
+ghost use Rattle.alta_machine.specs.Uses.{use_of, atom_uses, uses_of};
 
-use crate::usage::{Use, Uses};
-use alta_meta::kinds::{NAME, term};
-use alta_query::{Atom, Query, Test};
+use alta_machine::kinds::{NAME, term};
+use alta_machine::{Test, Use, Uses};
+use alta_query::{Atom, Query};
 use std::alloc::{AllocError, Global};
 use std::slice::from_ref;
 

@@ -1,15 +1,15 @@
 // What the definitions promise by themselves. Each function is a law, and has nothing to run.
 ghost use Rattle.std.specs.Prelude.{◌≡◌, ℕ, ◌+◌, ◌-◌, ◌<◌, ◌≤◌, List, length};
 ghost use Rattle.std.specs.List.Sorted.{IsPermutation, IsSorted};
-ghost use Rattle.alta_query.specs.Matches.{IsWellFormed};
-ghost use Rattle.alta_query.specs.Patterns.{title_end};
-ghost use Rattle.alta_query.specs.Shape.{Shape};
-ghost use Rattle.alta_rank.specs.Cells.{score_of};
+ghost use Rattle.alta_machine.specs.Matches.{IsWellFormed};
+ghost use Rattle.alta_machine.specs.Patterns.{title_end};
+ghost use Rattle.alta_machine.specs.Shape.{Shape};
+ghost use Rattle.alta_machine.specs.Scores.{score_of};
 ghost use Rattle.alta_rank.specs.Locations.{range_score, IsListIn, AreListsIn};
-ghost use Rattle.alta_rank.specs.Ranked.{by_rank, ranked};
-ghost use Rattle.alta_rank.specs.Uses.{uses_of};
-ghost use Rattle.alta_rank.specs.declared.scored.Scored.{Scored};
-ghost use Rattle.alta_rank.specs.declared.usage.Use.{Use};
+ghost use Rattle.alta_machine.specs.Ranked.{by_rank, ranked};
+ghost use Rattle.alta_machine.specs.Uses.{uses_of};
+ghost use Rattle.alta_machine.specs.declared.scored.Scored.{Scored};
+ghost use Rattle.alta_machine.specs.declared.usage.Use.{Use};
 
 /// The score of a document's range is the score of its cells: where the document begins at `first`, and in its range the
 /// list of each use has the locations of the cells that meet its test, and `titles` those of the cells where titles end.

@@ -5,15 +5,11 @@ mod best;
 mod gathering;
 mod laws;
 mod ranking;
-mod scored;
 mod scorer;
 mod scoring;
-mod usage;
 
 pub use best::Best;
 pub use gathering::uses;
 pub use laws::{a_query_has_few_uses, a_ranking_is_sorted, a_score_is_of_the_cells};
 pub use ranking::first;
-pub use scored::{Scored, ScoredList};
 pub use scorer::Scorer;
-pub use usage::{Use, Uses};

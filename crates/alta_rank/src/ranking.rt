@@ -1,9 +1,9 @@
 // The first answers by score.
 ghost use Rattle.std.specs.Prelude.{◌≡◌, ◌≢◌, take, map, IfOk, AllPairs};
-ghost use Rattle.alta_rank.specs.Ranked.{ranked, number_of};
+ghost use Rattle.alta_machine.specs.Ranked.{ranked, number_of};
 
 use crate::best::Best;
-use crate::scored::Scored;
+use alta_machine::Scored;
 use std::alloc::{AllocError, Global};
 
 /// The first `count` of these answers, by falling score and then by rising number, all of them where there are no more.

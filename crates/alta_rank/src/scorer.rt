@@ -6,8 +6,8 @@ ghost use Rattle.alta_rank.specs.Locations.{range_score};
 ghost use Rattle.alta_rank.specs.Scoring.{left_of};
 
 use crate::scoring::{last_to, score_each};
-use crate::usage::Uses;
 use alta_codec::{Loc, Steps};
+use alta_machine::Uses;
 use alta_reader::BackReader;
 use std::marker::Model;
 use std::sync::ledger::Ledger;

@@ -2,11 +2,11 @@
 ghost use Rattle.std.specs.Prelude.{◌≡◌, ◌+◌, ◌^◌, ◌<◌, ◌≤◌, [], map, length, slice_index_or, All, sum_by};
 ghost use Rattle.alta_codec.specs.Rising.{first_from, pred_of};
 ghost use Rattle.alta_codec.specs.declared.location.TheConstants.{TOP};
-ghost use Rattle.alta_rank.specs.Cells as cells;
+ghost use Rattle.alta_machine.specs.Scores as cells;
 ghost use Rattle.alta_rank.specs.Counted.{AreBehind, counted, counted_each};
 
-use crate::usage::Use;
 use alta_codec::{Loc, Steps};
+use alta_machine::Use;
 use alta_reader::BackReader;
 use std::sync::ledger::Ledger;
 

@@ -3,14 +3,14 @@ use Rattle.std.proofs.Common.{◌≡◌, ℕ, ◌≤◌, List, length, map, take
 use Rattle.std.specs.Prelude.{Some}
 use Rattle.alta_codec.specs.Bytes.{AreBytes}
 use Rattle.alta_content.specs.declared.content.Content.{Content}
-use Rattle.alta_images.proofs.SpacedLaws.{held_spaced}
-use Rattle.alta_images.specs.Holding.{Holding, IsHeld, IsSpaced}
-use Rattle.alta_images.specs.Levels.{Level}
-use Rattle.alta_images.specs.Opened.{Opened, IsOpened}
-use Rattle.alta_images.specs.Standing.{view_of}
-use Rattle.alta_images.specs.Views.{View}
-use Rattle.alta_images.specs.Work.{Job, gone, job_of, newest, newest_content, oldest_joined, whole_of}
-use Rattle.alta_images.specs.Working.{AreJoins, IsJoin, all_contents}
+use Rattle.alta_meaning.proofs.SpacedLaws.{held_spaced}
+use Rattle.alta_meaning.specs.Holding.{Holding, IsHeld, IsSpaced}
+use Rattle.alta_meaning.specs.Levels.{Level}
+use Rattle.alta_meaning.specs.Opened.{Opened, IsOpened}
+use Rattle.alta_meaning.specs.Standing.{view_of}
+use Rattle.alta_meaning.specs.Views.{View}
+use Rattle.alta_meaning.specs.Work.{Job, gone, job_of, newest, newest_content, oldest_joined, whole_of}
+use Rattle.alta_meaning.specs.Working.{AreJoins, IsJoin, all_contents}
 use Rattle.alta_memlevel.specs.Added.{IsSpace}
 use Rattle.alta_root.proofs.Frames.{counts_sound}
 use Rattle.alta_rewrite.specs.Rewrites.{AgreesWith, HaveRows, MayRewrite, MayRewriteOpened, Replaces, no_content}

@@ -10,18 +10,18 @@ use Rattle.alta_codec.specs.declared.extent.Extent.{Extent}
 use Rattle.alta_disk.proofs.Moments.{leaves_as, leaves_start}
 use Rattle.alta_disk.specs.Disk.{DiskState, IsLawful, LeavesOnly, Only, Passes}
 use Rattle.alta_disk.specs.Parts.{Touches}
-use Rattle.alta_images.proofs.SwitchLaws.{slot_spares}
-use Rattle.alta_images.proofs.Untouched.{IsSame, extents_same}
-use Rattle.alta_images.proofs.WrittenLaws.{held_stands}
-use Rattle.alta_images.specs.Chain.{◌>>=◌}
-use Rattle.alta_images.specs.Holding.{Holding}
-use Rattle.alta_images.specs.Levels.{Level}
-use Rattle.alta_images.specs.Opened.{Opened}
-use Rattle.alta_images.specs.Standing.{StandsFor, StandsForEither, tables_by, view_of}
-use Rattle.alta_images.specs.Views.{View, state_of}
-use Rattle.alta_images.specs.Work.{Job, coming}
-use Rattle.alta_images.specs.Working.{Full, switched}
-use Rattle.alta_meta.specs.declared.document.State.{State}
+use Rattle.alta_meaning.proofs.SwitchLaws.{slot_spares}
+use Rattle.alta_meaning.proofs.Untouched.{IsSame, extents_same}
+use Rattle.alta_meaning.proofs.WrittenLaws.{held_stands}
+use Rattle.alta_meaning.specs.Chain.{◌>>=◌}
+use Rattle.alta_meaning.specs.Holding.{Holding}
+use Rattle.alta_meaning.specs.Levels.{Level}
+use Rattle.alta_meaning.specs.Opened.{Opened}
+use Rattle.alta_meaning.specs.Standing.{StandsFor, StandsForEither, tables_by, view_of}
+use Rattle.alta_meaning.specs.Views.{View, state_of}
+use Rattle.alta_meaning.specs.Work.{Job, coming}
+use Rattle.alta_meaning.specs.Working.{Full, switched}
+use Rattle.alta_machine.specs.declared.document.State.{State}
 use Rattle.alta_root.proofs.Frames.{counts_sound}
 use Rattle.alta_root.proofs.SlotLaws.{one_counts}
 use Rattle.alta_root.specs.Places.{other}

@@ -9,14 +9,14 @@ use Rattle.alta_codec.specs.Bytes.{AreBytes}
 use Rattle.alta_codec.specs.declared.extent.Extent.{Extent}
 use Rattle.alta_disk.specs.Images.{end_of}
 use Rattle.alta_disk.specs.Parts.{Apart, Clear}
-use Rattle.alta_images.proofs.KeptStates.{unmap}
-use Rattle.alta_images.specs.Known.{known_of}
-use Rattle.alta_images.specs.Levels.{Level}
-use Rattle.alta_images.specs.Opened.{Opened, bytes_at, journal_of}
-use Rattle.alta_images.specs.Ordered.{IsOrdered}
-use Rattle.alta_images.specs.Standing.{view_of}
-use Rattle.alta_images.specs.Switching.{InPlace, IsPut, IsWritten}
-use Rattle.alta_images.specs.Views.{state_of}
+use Rattle.alta_meaning.proofs.KeptStates.{unmap}
+use Rattle.alta_meaning.specs.Known.{known_of}
+use Rattle.alta_meaning.specs.Levels.{Level}
+use Rattle.alta_meaning.specs.Opened.{Opened, bytes_at, journal_of}
+use Rattle.alta_meaning.specs.Ordered.{IsOrdered}
+use Rattle.alta_meaning.specs.Standing.{view_of}
+use Rattle.alta_meaning.specs.Switching.{InPlace, IsPut, IsWritten}
+use Rattle.alta_meaning.specs.Views.{state_of}
 use Rattle.alta_journal.specs.Journal.{EndsAt}
 use Rattle.alta_level.specs.Segments.{IsSegment}
 use Rattle.alta_postings.specs.Deltas.{Spells, stream_bytes}

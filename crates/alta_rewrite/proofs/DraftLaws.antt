@@ -4,8 +4,8 @@ use Rattle.std.specs.Prelude.{◌==◌, Option, Some, None}
 use Rattle.std.specs.List.{All}
 use Rattle.alta_codec.specs.declared.extent.Extent.{Extent}
 use Rattle.alta_content.specs.declared.document.DocRow.{DocRow}
-use Rattle.alta_images.specs.Opened.{table_rows, extent_of}
-use Rattle.alta_images.specs.Work.{anew, coming}
+use Rattle.alta_meaning.specs.Opened.{table_rows, extent_of}
+use Rattle.alta_meaning.specs.Work.{anew, coming}
 use Rattle.alta_root.specs.Gaps.{taken_by}
 use Rattle.alta_root.specs.Places.{other}
 use Rattle.alta_root.specs.Slots.{Counts}

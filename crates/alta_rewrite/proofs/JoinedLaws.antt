@@ -9,25 +9,25 @@ use Rattle.std.proofs.lemmas.List.Elements.{All-filter, All-head, All-tail, filt
 use Rattle.alta_content.specs.Rows.{end_of, ends_among}
 use Rattle.alta_content.specs.declared.content.Content.{Content}
 use Rattle.alta_content.specs.declared.document.DocRow.{DocRow}
-use Rattle.alta_images.proofs.InPlaceLaws.{all_low}
-use Rattle.alta_images.proofs.JoinLaws.{all_now, coming_rows, joined_left, merged_left, rise_now}
-use Rattle.alta_images.proofs.KeptStates.{AreGone, by_levels, gone_are, live_rows_are, rise_left, rows_append, rows_by_levels, stay_contents}
-use Rattle.alta_images.proofs.KnownLaws.{all_both, all_weaker}
-use Rattle.alta_images.proofs.PlaceLaws.{LiesBelow, cells_in}
-use Rattle.alta_images.proofs.Tests.{filter_drop, not_true}
-use Rattle.alta_images.proofs.WellLaws.{by_merged, by_terms}
-use Rattle.alta_images.specs.Holding.{Holding, IsSpaced, all_rows}
-use Rattle.alta_images.specs.Levels.{Level, live_rows}
-use Rattle.alta_images.specs.Ordered.{RowsPrecede}
-use Rattle.alta_images.specs.Views.{View, state_of}
-use Rattle.alta_images.specs.Work.{Coming, Job, coming, gone, gone_among, is_gone, is_merged, job_of, newest, newest_content, oldest_joined, level_rows, stays, whole_of}
-use Rattle.alta_images.specs.Working.{IsJoin, all_contents, content_to_come, documents_left, written, merged, moved, rows_of, stepped, switched}
+use Rattle.alta_meaning.proofs.InPlaceLaws.{all_low}
+use Rattle.alta_meaning.proofs.JoinLaws.{all_now, coming_rows, joined_left, merged_left, rise_now}
+use Rattle.alta_meaning.proofs.KeptStates.{AreGone, by_levels, gone_are, live_rows_are, rise_left, rows_append, rows_by_levels, stay_contents}
+use Rattle.alta_meaning.proofs.KnownLaws.{all_both, all_weaker}
+use Rattle.alta_meaning.proofs.PlaceLaws.{LiesBelow, cells_in}
+use Rattle.alta_meaning.proofs.Tests.{filter_drop, not_true}
+use Rattle.alta_meaning.proofs.WellLaws.{by_merged, by_terms}
+use Rattle.alta_meaning.specs.Holding.{Holding, IsSpaced, all_rows}
+use Rattle.alta_meaning.specs.Levels.{Level, live_rows}
+use Rattle.alta_meaning.specs.Ordered.{RowsPrecede}
+use Rattle.alta_meaning.specs.Views.{View, state_of}
+use Rattle.alta_meaning.specs.Work.{Coming, Job, coming, gone, gone_among, is_gone, is_merged, job_of, newest, newest_content, oldest_joined, level_rows, stays, whole_of}
+use Rattle.alta_meaning.specs.Working.{IsJoin, all_contents, content_to_come, documents_left, written, merged, moved, stepped, switched}
+use Rattle.alta_content.specs.Joining.{rows_in, joined_in, terms_in}
 use Rattle.alta_memlevel.specs.Added.{Added}
 use Rattle.alta_rewrite.specs.Rewrites.{AgreesWith, IsGiven, Replaces, contents_to_come, levels_to_come, no_content, rows_to_come}
 use Rattle.alta_rewrite.specs.declared.ends.Ends.{Ends}
 use Rattle.alta_rewrite.specs.declared.levels.NextLevels.{NextLevels}
 use Rattle.alta_content.proofs.Elements.{all_left, all_right}
-use Rattle.alta_content.specs.Joining.{joined_in, terms_in}
 use Rattle.alta_memlevel.specs.Documents.{content_of}
 
 -- ---- the levels to come
@@ -76,14 +76,14 @@ step_is limit held n job levels some ends is =
 -- ---- joins
 
 -- what a rewrite is given, of the levels that it makes
-given_by : (view : View) (levels : NextLevels) (ends : Ends) (next location : ℕ) (cs : List Content) → contents_to_come levels view ≡ cs → AgreesWith view levels ends next location → RowsPrecede (rows_of cs)
-    → All (LiesBelow (view.next + length (newest view)) (view.location + cells_in (newest view))) (rows_of cs) → documents_left view cs ≡ (state_of view).documents → IsGiven view levels ends next location
+given_by : (view : View) (levels : NextLevels) (ends : Ends) (next location : ℕ) (cs : List Content) → contents_to_come levels view ≡ cs → AgreesWith view levels ends next location → RowsPrecede (rows_in cs)
+    → All (LiesBelow (view.next + length (newest view)) (view.location + cells_in (newest view))) (rows_in cs) → documents_left view cs ≡ (state_of view).documents → IsGiven view levels ends next location
 given_by view levels ends next location cs are agrees rise below documents = record {
   agrees = agrees;
-  rise = subst (λ (xs : List Content). RowsPrecede (rows_of xs)) (sym are) rise;
+  rise = subst (λ (xs : List Content). RowsPrecede (rows_in xs)) (sym are) rise;
   below =
-      subst (λ (xs : List Content). All (λ (row : DocRow). (row.number < next) × (end_of row < location)) (rows_of xs)) (sym are)
-      (all_weaker (LiesBelow (view.next + length (newest view)) (view.location + cells_in (newest view))) (λ (row : DocRow). (row.number < next) × (end_of row < location)) (rows_of cs)
+      subst (λ (xs : List Content). All (λ (row : DocRow). (row.number < next) × (end_of row < location)) (rows_in xs)) (sym are)
+      (all_weaker (LiesBelow (view.next + length (newest view)) (view.location + cells_in (newest view))) (λ (row : DocRow). (row.number < next) × (end_of row < location)) (rows_in cs)
       (λ row low. (omega (arith, low.0, agrees.next_is), omega (arith, low.1, agrees.location_is))) below);
   documents = ap (documents_left view) are ∙ documents;
 }
@@ -108,7 +108,7 @@ module _ (view : View) (levels : NextLevels) (ends : Ends) (next location : ℕ)
   pub all_given : (c : Content) → IsSpaced view → 1 ≤ view.location → IsJoin view (all_contents view) c → Replaces levels (length view.levels) c no_content → AgreesWith view levels ends next location → IsGiven view levels ends next location
   all_given c spaced positive join is agrees =
       let P : DocRow → Type 0 = LiesBelow (view.next + length (newest view)) (view.location + cells_in (newest view)) in
-      let rows : rows_of (map content_to_come (coming c)) ≡ filter join.keeps (all_rows view) =
+      let rows : rows_in (map content_to_come (coming c)) ≡ filter join.keeps (all_rows view) =
       coming_rows c ∙ join.rows
       ∙ ap (filter join.keeps) (rows_append (map (λ (l : Level). l.content) view.levels) (content_of (newest view)) ∙ ap (λ (rs : List DocRow). rs ++ map (λ (a : Added). a.row) (newest view)) (rows_by_levels view.levels)) in
       given_by view levels ends next location (map content_to_come (coming c)) (ap (map content_to_come) (all_is levels c view is)) agrees
@@ -151,7 +151,7 @@ module _ (view : View) (spaced : IsSpaced view) where
   pub oldest_none : (n : ℕ) → gone_among view (joined_in (map (λ (l : Level). l.content) (take n view.levels)) (gone view)).documents ≡ []
   oldest_none n =
       let contents = map (λ (l : Level). l.content) (take n view.levels) in
-      live_none view (rows_of contents)
+      live_none view (rows_in contents)
       (subst (AreGone view (gone view)) (sym (rows_by_levels (take n view.levels)))
       (all_left IsKnown (level_rows (take n view.levels)) (level_rows (drop n view.levels))
       (subst (AreGone view (gone view))
@@ -160,25 +160,25 @@ module _ (view : View) (spaced : IsSpaced view) where
   -- a join of all without what is gone
   pub all_none : (levels : NextLevels) → Replaces levels (length view.levels) (joined_in (all_contents view) (gone view)) no_content → gone_among view (rows_to_come levels view) ≡ []
   all_none levels is =
-      let rows : rows_of (all_contents view) ≡ all_rows view =
+      let rows : rows_in (all_contents view) ≡ all_rows view =
       rows_append (map (λ (l : Level). l.content) view.levels) (content_of (newest view)) ∙ ap (λ (rs : List DocRow). rs ++ map (λ (a : Added). a.row) (newest view)) (rows_by_levels view.levels) in
-      ap (λ (cs : List Coming). gone_among view (rows_of (map content_to_come cs))) (all_is levels (joined_in (all_contents view) (gone view)) view is)
+      ap (λ (cs : List Coming). gone_among view (rows_in (map content_to_come cs))) (all_is levels (joined_in (all_contents view) (gone view)) view is)
       ∙ ap (gone_among view) (coming_rows (joined_in (all_contents view) (gone view)))
-      ∙ live_none view (rows_of (all_contents view)) (subst (AreGone view (gone view)) (sym rows) (gone_are view spaced))
+      ∙ live_none view (rows_in (all_contents view)) (subst (AreGone view (gone view)) (sym rows) (gone_are view spaced))
 
   pub gone_same : (levels : NextLevels) (n : ℕ) (c : Content) → Replaces levels n c (newest_content view) → gone_among view (rows_to_come levels view) ≡ gone_among view (c.documents ++ level_rows (drop n view.levels))
   gone_same levels n c is =
       let old = map stays (drop n view.levels) in
       let new = coming (newest_content view) in
       ap (gone_among view)
-      (ap (λ (cs : List Coming). rows_of (map content_to_come cs)) (oldest_is levels n c view is)
-      ∙ ap rows_of (map-append content_to_come (coming c ++ old) new)
+      (ap (λ (cs : List Coming). rows_in (map content_to_come cs)) (oldest_is levels n c view is)
+      ∙ ap rows_in (map-append content_to_come (coming c ++ old) new)
       ∙ flat_map-append (λ (x : Content). x.documents) (map content_to_come (coming c ++ old)) (map content_to_come new)
-      ∙ ap (λ (rows : List DocRow). rows ++ rows_of (map content_to_come new))
-      (ap rows_of (map-append content_to_come (coming c) old)
+      ∙ ap (λ (rows : List DocRow). rows ++ rows_in (map content_to_come new))
+      (ap rows_in (map-append content_to_come (coming c) old)
       ∙ flat_map-append (λ (x : Content). x.documents) (map content_to_come (coming c)) (map content_to_come old)
-      ∙ ap (λ (rows : List DocRow). rows ++ rows_of (map content_to_come old)) (coming_rows c)
-      ∙ ap (λ (rows : List DocRow). c.documents ++ rows) (ap rows_of (stay_contents (drop n view.levels)) ∙ rows_by_levels (drop n view.levels)))
+      ∙ ap (λ (rows : List DocRow). rows ++ rows_in (map content_to_come old)) (coming_rows c)
+      ∙ ap (λ (rows : List DocRow). c.documents ++ rows) (ap rows_in (stay_contents (drop n view.levels)) ∙ rows_by_levels (drop n view.levels)))
       ∙ ap (λ (rows : List DocRow). (c.documents ++ level_rows (drop n view.levels)) ++ rows) (coming_rows (newest_content view)))
       ∙ gone_append view (c.documents ++ level_rows (drop n view.levels)) (newest_content view).documents
       ∙ ap (λ (es : List ℕ). gone_among view (c.documents ++ level_rows (drop n view.levels)) ++ es) newest_none

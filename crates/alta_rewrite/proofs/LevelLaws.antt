@@ -6,10 +6,10 @@ use Rattle.alta_codec.specs.declared.extent.Extent.{Extent}
 use Rattle.alta_content.specs.Parts.{IsPart}
 use Rattle.alta_content.specs.declared.content.Content.{Content}
 use Rattle.alta_content.specs.declared.document.DocRow.{DocRow}
-use Rattle.alta_images.proofs.FullLaws.{placed_first}
-use Rattle.alta_images.proofs.Tests.{by_test, equal_from}
-use Rattle.alta_images.specs.Opened.{table_rows, extent_of}
-use Rattle.alta_images.specs.Work.{Coming, anew, coming}
+use Rattle.alta_meaning.proofs.FullLaws.{placed_first}
+use Rattle.alta_meaning.proofs.Tests.{by_test, equal_from}
+use Rattle.alta_meaning.specs.Opened.{table_rows, extent_of}
+use Rattle.alta_meaning.specs.Work.{Coming, anew, coming}
 use Rattle.alta_level.proofs.Spelled.{segment_tables}
 use Rattle.alta_level.specs.Segments.{IsSegment, segment_bytes}
 use Rattle.alta_rewrite.specs.Drafts.{segment_of, table_to_come}

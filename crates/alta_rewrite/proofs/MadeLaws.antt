@@ -4,7 +4,7 @@ use Rattle.std.specs.List.{All}
 use Rattle.std.proofs.lemmas.List.Elements.{All-cons, All-contains, All-head, All-map, All-nil, All-push, All-tail, All-weaker}
 use Rattle.alta_codec.specs.declared.extent.Extent.{Extent}
 use Rattle.alta_disk.specs.Images.{end_of}
-use Rattle.alta_images.specs.Working.{AllApart}
+use Rattle.alta_meaning.specs.Working.{AllApart}
 use Rattle.alta_root.proofs.Frames.{counts_sound}
 use Rattle.alta_root.proofs.NextRoot.{levels_inside}
 use Rattle.alta_root.specs.Places.{other}
@@ -18,7 +18,7 @@ use Rattle.alta_rewrite.proofs.PutLaws.{laid_behind}
 use Rattle.alta_rewrite.specs.Comes.{IsMade, IsPlaced}
 use Rattle.alta_rewrite.specs.Puts.{extents_in, ranges_in, AreLaid, MayPut}
 use Rattle.alta_rewrite.specs.declared.piece.Piece.{Piece}
-use Rattle.alta_images.proofs.ApartLaws.{swapped}
+use Rattle.alta_meaning.proofs.ApartLaws.{swapped}
 
 -- ---- levels that do not meet
 

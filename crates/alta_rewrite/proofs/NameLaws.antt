@@ -11,22 +11,22 @@ use Rattle.alta_codec.specs.Rising.{IsRising}
 use Rattle.alta_codec.specs.declared.extent.Extent.{Extent}
 use Rattle.alta_content.specs.Parts.{IsPart}
 use Rattle.alta_content.specs.declared.content.Content.{Content}
-use Rattle.alta_images.proofs.FullLaws.{placed_first, stream_some}
-use Rattle.alta_images.proofs.KeptStates.{unmap}
-use Rattle.alta_images.proofs.KnownLaws.{all_both, all_weaker}
-use Rattle.alta_images.proofs.Tests.{by_test, bytes_from}
-use Rattle.alta_images.proofs.WrittenLaws.{level_read, list_read}
-use Rattle.alta_images.specs.Holding.{Holding}
-use Rattle.alta_images.specs.Known.{known_of}
-use Rattle.alta_images.specs.Levels.{Level}
-use Rattle.alta_images.specs.Opened.{Opened, IsNamed, bytes_at, deleted_in, journal_of, known_at, list_at, tables_at}
-use Rattle.alta_images.specs.Ordered.{IsOrdered}
-use Rattle.alta_images.specs.Standing.{AreLevels, tables_by, view_of}
-use Rattle.alta_images.specs.Views.{View, state_of}
-use Rattle.alta_images.specs.Work.{Job, coming, newest}
+use Rattle.alta_meaning.proofs.FullLaws.{placed_first, stream_some}
+use Rattle.alta_meaning.proofs.KeptStates.{unmap}
+use Rattle.alta_meaning.proofs.KnownLaws.{all_both, all_weaker}
+use Rattle.alta_meaning.proofs.Tests.{by_test, bytes_from}
+use Rattle.alta_meaning.proofs.WrittenLaws.{level_read, list_read}
+use Rattle.alta_meaning.specs.Holding.{Holding}
+use Rattle.alta_meaning.specs.Known.{known_of}
+use Rattle.alta_meaning.specs.Levels.{Level}
+use Rattle.alta_meaning.specs.Opened.{Opened, IsNamed, bytes_at, deleted_in, journal_of, known_at, list_at, tables_at}
+use Rattle.alta_meaning.specs.Ordered.{IsOrdered}
+use Rattle.alta_meaning.specs.Standing.{AreLevels, tables_by, view_of}
+use Rattle.alta_meaning.specs.Views.{View, state_of}
+use Rattle.alta_meaning.specs.Work.{Job, coming, newest}
 use Rattle.alta_level.specs.Segments.{IsSegment}
 use Rattle.alta_memlevel.specs.Added.{Added}
-use Rattle.alta_meta.specs.declared.document.State.{State}
+use Rattle.alta_machine.specs.declared.document.State.{State}
 use Rattle.alta_postings.proofs.Reading.{reading_spells}
 use Rattle.alta_postings.specs.Deltas.{Spells, first_fault, decoded_list, stream_bytes}
 use Rattle.alta_postings.specs.declared.fault.StreamFault.{StreamFault}
@@ -53,10 +53,10 @@ use Rattle.alta_rewrite.proofs.DraftLaws.{draft_may, draft_places, draft_put}
 use Rattle.alta_rewrite.proofs.OpenedLaws.{come_of, come_ordered, come_place, opened_read, place, same_state, state_ordered, then}
 use Rattle.alta_rewrite.proofs.PieceLaws.{ArePut, IsThere}
 use Rattle.alta_rewrite.proofs.PlaceLaws.{ArePlaces, IsPlaceFor}
-use Rattle.alta_images.proofs.ReadLaws.{AreRead, read_again}
+use Rattle.alta_meaning.proofs.ReadLaws.{AreRead, read_again}
 use Rattle.alta_rewrite.proofs.RootLaws.{content_stands, has_segment}
 use Rattle.alta_rewrite.proofs.SwitchLaws.{new_levels}
-use Rattle.alta_images.proofs.WellLaws.{none_left}
+use Rattle.alta_meaning.proofs.WellLaws.{none_left}
 
 -- what is opened then, by what is opened before
 abbrev pub coming_at : Opened → NextLevels → Ends → ℕ → ℕ → Places → Opened

@@ -9,24 +9,24 @@ use Rattle.alta_codec.specs.Bytes.{AreBytes}
 use Rattle.alta_codec.specs.declared.extent.Extent.{Extent}
 use Rattle.alta_content.specs.declared.content.Content.{Content}
 use Rattle.alta_content.specs.declared.document.DocRow.{DocRow}
-use Rattle.alta_images.proofs.KeptStates.{IsSwitched, switch_keeps, switched_is}
-use Rattle.alta_images.proofs.KnownLaws.{allows_replayed, ordered_all}
-use Rattle.alta_images.proofs.OrderLaws.{HasDocuments, known_ordered, levels_named, rooted_known}
-use Rattle.alta_images.proofs.PlaceLaws.{gone_ends}
-use Rattle.alta_images.specs.Chain.{◌>>=◌}
-use Rattle.alta_images.specs.Entries.{AllowsAll}
-use Rattle.alta_images.specs.Holding.{Holding, taken_by_held}
-use Rattle.alta_images.specs.Known.{Known, known_of, replayed}
-use Rattle.alta_images.specs.Levels.{Level}
-use Rattle.alta_images.specs.Opened.{Opened, IsOpened, bytes_at, have_ends, journal_of, known_at, live_in, table_rows, tables_at}
-use Rattle.alta_images.specs.Ordered.{AreBelow, AreOrdered, IsOrdered, RowsPrecede}
-use Rattle.alta_images.specs.Standing.{tables_by, view_of}
-use Rattle.alta_images.specs.Switching.{InPlace}
-use Rattle.alta_images.specs.Views.{View, rooted, state_of}
-use Rattle.alta_images.specs.Work.{Job, gone_among, level_rows}
-use Rattle.alta_images.specs.Working.{switched}
+use Rattle.alta_meaning.proofs.KeptStates.{IsSwitched, switch_keeps, switched_is}
+use Rattle.alta_meaning.proofs.KnownLaws.{allows_replayed, ordered_all}
+use Rattle.alta_meaning.proofs.OrderLaws.{HasDocuments, known_ordered, levels_named, rooted_known}
+use Rattle.alta_meaning.proofs.PlaceLaws.{gone_ends}
+use Rattle.alta_meaning.specs.Chain.{◌>>=◌}
+use Rattle.alta_meaning.specs.Entries.{AllowsAll}
+use Rattle.alta_meaning.specs.Holding.{Holding, taken_by_held}
+use Rattle.alta_meaning.specs.Known.{Known, known_of, replayed}
+use Rattle.alta_meaning.specs.Levels.{Level}
+use Rattle.alta_meaning.specs.Opened.{Opened, IsOpened, bytes_at, have_ends, journal_of, known_at, live_in, table_rows, tables_at}
+use Rattle.alta_meaning.specs.Ordered.{AreBelow, AreOrdered, IsOrdered, RowsPrecede}
+use Rattle.alta_meaning.specs.Standing.{tables_by, view_of}
+use Rattle.alta_meaning.specs.Switching.{InPlace}
+use Rattle.alta_meaning.specs.Views.{View, rooted, state_of}
+use Rattle.alta_meaning.specs.Work.{Job, gone_among, level_rows}
+use Rattle.alta_meaning.specs.Working.{switched}
 use Rattle.alta_journal.specs.Placed.{placed as placed_entries}
-use Rattle.alta_meta.specs.declared.document.State.{State}
+use Rattle.alta_machine.specs.declared.document.State.{State}
 use Rattle.alta_root.proofs.Frames.{counts_sound}
 use Rattle.alta_root.specs.Root.{extents_of}
 use Rattle.alta_root.specs.declared.root.Root.{Root}
@@ -40,7 +40,7 @@ use Rattle.alta_rewrite.specs.declared.ends.Ends.{Ends}
 use Rattle.alta_rewrite.specs.declared.levels.NextLevels.{NextLevels}
 use Rattle.alta_rewrite.specs.declared.places.Places.{Places}
 use Rattle.alta_rewrite.proofs.SwitchLaws.{levels_then, new_levels, rows_placed, switch_is, switched_then, then_of}
-use Rattle.alta_images.proofs.ReadLaws.{AreRead, was_read}
+use Rattle.alta_meaning.proofs.ReadLaws.{AreRead, was_read}
 
 -- ---- tables that were read
 

@@ -2,11 +2,11 @@
 use Rattle.std.proofs.Common.{◌≡◌, ℕ, suc, zero, ◌+◌, ◌<◌, ◌^◌, Bool, false, cond, List, [], ◌++◌, refl, sym, ap, subst, ◌∙◌, arith, Result, Ok, Err}
 use Rattle.std.specs.Prelude.{◌==◌, IfSome, Option, Some, None}
 use Rattle.alta_codec.specs.declared.extent.Extent.{Extent}
-use Rattle.alta_images.proofs.FullLaws.{placed_first}
-use Rattle.alta_images.proofs.KeptStates.{err_ok, ok_is}
-use Rattle.alta_images.proofs.Tests.{by_test, equal_from}
-use Rattle.alta_images.specs.Chain.{◌>>=◌}
-use Rattle.alta_images.specs.Working.{Full, placed}
+use Rattle.alta_meaning.proofs.FullLaws.{placed_first}
+use Rattle.alta_meaning.proofs.KeptStates.{err_ok, ok_is}
+use Rattle.alta_meaning.proofs.Tests.{by_test, equal_from}
+use Rattle.alta_meaning.specs.Chain.{◌>>=◌}
+use Rattle.alta_meaning.specs.Working.{Full, placed}
 use Rattle.alta_root.specs.Gaps.{taken_by}
 use Rattle.alta_root.specs.declared.root.Root.{Root}
 use Rattle.alta_rewrite.specs.Places.{as_list, place_for, places_for}

@@ -9,11 +9,11 @@ use Rattle.alta_disk.specs.Parts.{Touches}
 use Rattle.alta_disk.specs.Writes.{length-holds}
 use Rattle.alta_disk.proofs.Moments.{passes_as}
 use Rattle.alta_disk.proofs.PartLaws.{touches_as, touches_then, touches_written}
-use Rattle.alta_images.proofs.KnownLaws.{all_both}
-use Rattle.alta_images.proofs.SwitchLaws.{gap_spares, gap_spares_slots, half_spares, half_spares_slots, journal_within}
-use Rattle.alta_images.proofs.Untouched.{counts_on}
-use Rattle.alta_images.specs.Opened.{half_of, journal_of}
-use Rattle.alta_images.specs.Switching.{Spares, SparesSlots}
+use Rattle.alta_meaning.proofs.KnownLaws.{all_both}
+use Rattle.alta_meaning.proofs.SwitchLaws.{gap_spares, gap_spares_slots, half_spares, half_spares_slots, journal_within}
+use Rattle.alta_meaning.proofs.Untouched.{counts_on}
+use Rattle.alta_meaning.specs.Opened.{half_of, journal_of}
+use Rattle.alta_meaning.specs.Switching.{Spares, SparesSlots}
 use Rattle.alta_journal.specs.Journal.{EndsAt}
 use Rattle.alta_journal.specs.Places.{start_of}
 use Rattle.alta_journal.specs.declared.half.Half.{Half}

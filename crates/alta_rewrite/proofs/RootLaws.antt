@@ -11,11 +11,11 @@ use Rattle.alta_content.specs.Lists.{IsContent}
 use Rattle.alta_content.specs.Parts.{IsPart}
 use Rattle.alta_content.specs.declared.document.DocRow.{DocRow}
 use Rattle.alta_content.specs.declared.content.Content.{Content}
-use Rattle.alta_images.proofs.FullLaws.{placed_first}
-use Rattle.alta_images.proofs.KnownLaws.{all_both}
-use Rattle.alta_images.proofs.Tests.{by_test, equal_from}
-use Rattle.alta_images.specs.Work.{Coming, anew, coming}
-use Rattle.alta_images.specs.Working.{placed, AllApart}
+use Rattle.alta_meaning.proofs.FullLaws.{placed_first}
+use Rattle.alta_meaning.proofs.KnownLaws.{all_both}
+use Rattle.alta_meaning.proofs.Tests.{by_test, equal_from}
+use Rattle.alta_meaning.specs.Work.{Coming, anew, coming}
+use Rattle.alta_meaning.specs.Working.{placed, AllApart}
 use Rattle.alta_level.specs.Segments.{list_bytes, rows_of, segment_bytes}
 use Rattle.alta_postings.specs.Deltas.{stream_bytes}
 use Rattle.alta_root.proofs.Frames.{counts_sound}
@@ -42,7 +42,7 @@ use Rattle.alta_rewrite.specs.declared.places.Places.{Places}
 use Rattle.alta_rewrite.proofs.PieceLaws.{ArePut, all_laid}
 use Rattle.alta_rewrite.proofs.PlaceLaws.{ArePlaces, IsPlaceFor}
 use Rattle.alta_content.proofs.Elements.{all_left, all_right}
-use Rattle.alta_images.proofs.ApartLaws.{swapped, apart_drop}
+use Rattle.alta_meaning.proofs.ApartLaws.{swapped, apart_drop}
 
 -- ---- extents that do not meet
 

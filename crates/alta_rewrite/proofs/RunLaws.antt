@@ -4,17 +4,17 @@ use Rattle.std.specs.Prelude.{OnOk}
 use Rattle.alta_disk.specs.Disk.{DiskState, Only, Passes, LeavesOnly, IsLawful}
 use Rattle.alta_disk.specs.Parts.{Touches}
 use Rattle.alta_disk.proofs.Moments.{leaves_from, passes_first, passes_next}
-use Rattle.alta_images.proofs.HeldLaws.{held_switched}
-use Rattle.alta_images.proofs.SpacedLaws.{written_stands}
-use Rattle.alta_images.proofs.SwitchLaws.{opened_switched, opened_switching, stands_switched, stands_switching}
-use Rattle.alta_images.proofs.Untouched.{opened_on, stands_on}
-use Rattle.alta_images.specs.Holding.{Holding, IsHeld}
-use Rattle.alta_images.specs.Levels.{Level}
-use Rattle.alta_images.specs.Opened.{Opened, IsOpened}
-use Rattle.alta_images.specs.Standing.{StandsFor, StandsForEither, view_of}
-use Rattle.alta_images.specs.Switching.{MayOpen, MayStand, Spares}
-use Rattle.alta_images.specs.Views.{state_of}
-use Rattle.alta_meta.specs.declared.document.State.{State}
+use Rattle.alta_meaning.proofs.HeldLaws.{held_switched}
+use Rattle.alta_meaning.proofs.SpacedLaws.{written_stands}
+use Rattle.alta_meaning.proofs.SwitchLaws.{opened_switched, opened_switching, stands_switched, stands_switching}
+use Rattle.alta_meaning.proofs.Untouched.{opened_on, stands_on}
+use Rattle.alta_meaning.specs.Holding.{Holding, IsHeld}
+use Rattle.alta_meaning.specs.Levels.{Level}
+use Rattle.alta_meaning.specs.Opened.{Opened, IsOpened}
+use Rattle.alta_meaning.specs.Standing.{StandsFor, StandsForEither, view_of}
+use Rattle.alta_meaning.specs.Switching.{MayOpen, MayStand, Spares}
+use Rattle.alta_meaning.specs.Views.{state_of}
+use Rattle.alta_machine.specs.declared.document.State.{State}
 use Rattle.alta_root.proofs.SlotLaws.{one_counts}
 use Rattle.alta_root.specs.Places.{other}
 use Rattle.alta_root.specs.Slots.{Counts}

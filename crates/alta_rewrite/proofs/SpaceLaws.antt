@@ -1,12 +1,12 @@
 -- What is opened is spaced.
 use Rattle.std.proofs.Common.{ℕ, ◌≤◌, List}
 use Rattle.alta_codec.specs.Bytes.{AreBytes}
-use Rattle.alta_images.proofs.SpacedLaws.{rows_spaced}
-use Rattle.alta_images.specs.Holding.{IsSpaced}
-use Rattle.alta_images.specs.Levels.{Level}
-use Rattle.alta_images.specs.Opened.{Opened, IsOpened}
-use Rattle.alta_images.specs.Standing.{view_of}
-use Rattle.alta_images.specs.Work.{newest}
+use Rattle.alta_meaning.proofs.SpacedLaws.{rows_spaced}
+use Rattle.alta_meaning.specs.Holding.{IsSpaced}
+use Rattle.alta_meaning.specs.Levels.{Level}
+use Rattle.alta_meaning.specs.Opened.{Opened, IsOpened}
+use Rattle.alta_meaning.specs.Standing.{view_of}
+use Rattle.alta_meaning.specs.Work.{newest}
 use Rattle.alta_memlevel.specs.Added.{IsSpace}
 use Rattle.alta_root.proofs.Frames.{counts_sound}
 use Rattle.alta_rewrite.specs.Rewrites.{HaveRows}

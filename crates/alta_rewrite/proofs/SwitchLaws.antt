@@ -6,13 +6,14 @@ use Rattle.std.proofs.lemmas.List.{append-nil}
 use Rattle.alta_codec.specs.declared.extent.Extent.{Extent}
 use Rattle.alta_content.specs.declared.content.Content.{Content}
 use Rattle.alta_content.specs.declared.document.DocRow.{DocRow}
-use Rattle.alta_images.proofs.KeptStates.{placed_contents, rows_by_levels}
-use Rattle.alta_images.proofs.Tests.{apart_test, by_test}
-use Rattle.alta_images.specs.Chain.{◌>>=◌}
-use Rattle.alta_images.specs.Holding.{Holding, taken_by_held}
-use Rattle.alta_images.specs.Levels.{Level}
-use Rattle.alta_images.specs.Work.{Coming, Job, anew, coming, gone_among, level_rows, stays}
-use Rattle.alta_images.specs.Working.{Full, Placed, content_to_come, held_then, in_front, placed, placed_levels, placed_list, rows_of, switched}
+use Rattle.alta_meaning.proofs.KeptStates.{placed_contents, rows_by_levels}
+use Rattle.alta_meaning.proofs.Tests.{apart_test, by_test}
+use Rattle.alta_meaning.specs.Chain.{◌>>=◌}
+use Rattle.alta_meaning.specs.Holding.{Holding, taken_by_held}
+use Rattle.alta_meaning.specs.Levels.{Level}
+use Rattle.alta_meaning.specs.Work.{Coming, Job, anew, coming, gone_among, level_rows, stays}
+use Rattle.alta_meaning.specs.Working.{Full, Placed, content_to_come, held_then, in_front, placed, placed_levels, placed_list, switched}
+use Rattle.alta_content.specs.Joining.{rows_in}
 use Rattle.alta_level.specs.Segments.{segment_bytes}
 use Rattle.alta_postings.specs.Deltas.{stream_bytes}
 use Rattle.alta_root.specs.Gaps.{taken_by}
@@ -26,7 +27,7 @@ use Rattle.alta_rewrite.specs.declared.levels.NextLevels.{NextLevels}
 use Rattle.alta_rewrite.specs.declared.places.Places.{Places}
 use Rattle.alta_rewrite.proofs.PlaceLaws.{by_bytes}
 use Rattle.alta_rewrite.proofs.RootLaws.{no_stream, segment_long}
-use Rattle.alta_images.proofs.FullLaws.{stream_some}
+use Rattle.alta_meaning.proofs.FullLaws.{stream_some}
 
 -- the level of a content at its place
 abbrev pub new_levels : Content → Option Extent → List Level
@@ -187,8 +188,8 @@ module _ (limit : ℕ) (held : Holding) (root : Root) (ends : Ends) (list_is : h
 -- ---- a switch
 
 -- the rows of levels that were placed are those to come
-pub placed_rows : (limit : ℕ) (taken : List Extent) (levels : List Coming) (rows : List DocRow) → rows ≡ rows_of (map content_to_come levels) → (now : Placed) → placed_levels limit taken levels ≡ Ok now → level_rows now.levels ≡ rows
-placed_rows limit taken levels rows are now is = sym (rows_by_levels now.levels) ∙ ap rows_of (placed_contents limit taken levels now is) ∙ sym are
+pub placed_rows : (limit : ℕ) (taken : List Extent) (levels : List Coming) (rows : List DocRow) → rows ≡ rows_in (map content_to_come levels) → (now : Placed) → placed_levels limit taken levels ≡ Ok now → level_rows now.levels ≡ rows
+placed_rows limit taken levels rows are now is = sym (rows_by_levels now.levels) ∙ ap rows_in (placed_contents limit taken levels now is) ∙ sym are
 
 module _ (limit : ℕ) (held : Holding) (root : Root) (levels : NextLevels) (ends : Ends) (job : Option Job) (taken_is : taken_by_held held ≡ extents_of root) (list_is : held.list ≡ root.deletions)
     (listed : ends.listed.now ≡ held.view.deleted) (deleted_is : ends.deleted.now ≡ gone_among held.view (rows_to_come levels held.view)) where

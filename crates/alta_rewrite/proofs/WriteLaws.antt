@@ -11,9 +11,9 @@ use Rattle.alta_disk.specs.Parts.{Apart, Clear, Touches}
 use Rattle.alta_disk.specs.Writes.{holds_torn, length-holds}
 use Rattle.alta_disk.proofs.Moments.{passes_then}
 use Rattle.alta_disk.proofs.PartLaws.{part_torn, part_written, touches_as, touches_then, touches_torn}
-use Rattle.alta_images.proofs.KeptStates.{unmap}
-use Rattle.alta_images.proofs.KnownLaws.{all_both}
-use Rattle.alta_images.specs.Opened.{bytes_at}
+use Rattle.alta_meaning.proofs.KeptStates.{unmap}
+use Rattle.alta_meaning.proofs.KnownLaws.{all_both}
+use Rattle.alta_meaning.specs.Opened.{bytes_at}
 use Rattle.alta_rewrite.specs.Puts.{extents_in, ranges_in, Fills, IsLaid, AreLaid, HasPiece, Writes}
 use Rattle.alta_rewrite.specs.declared.piece.Piece.{Piece}
 use Rattle.alta_content.proofs.Elements.{all_right}

@@ -1,13 +1,13 @@
 -- What a root that is put means.
 use Rattle.std.specs.Prelude.{◌≡◌, ◌⊎◌, List, ℕ}
-use Rattle.alta_images.specs.Known.{known_of}
-use Rattle.alta_images.specs.Levels.{Level}
-use Rattle.alta_images.specs.Opened.{Opened, IsNamed, IsOpened}
-use Rattle.alta_images.specs.Ordered.{IsOrdered}
-use Rattle.alta_images.specs.Standing.{view_of}
-use Rattle.alta_images.specs.Switching.{IsWritten}
-use Rattle.alta_images.specs.Views.{state_of}
-use Rattle.alta_meta.specs.declared.document.State.{State}
+use Rattle.alta_meaning.specs.Known.{known_of}
+use Rattle.alta_meaning.specs.Levels.{Level}
+use Rattle.alta_meaning.specs.Opened.{Opened, IsNamed, IsOpened}
+use Rattle.alta_meaning.specs.Ordered.{IsOrdered}
+use Rattle.alta_meaning.specs.Standing.{view_of}
+use Rattle.alta_meaning.specs.Switching.{IsWritten}
+use Rattle.alta_meaning.specs.Views.{state_of}
+use Rattle.alta_machine.specs.declared.document.State.{State}
 use Rattle.alta_root.specs.declared.root.Root.{Root}
 use Rattle.alta_root.specs.declared.slot.Slot.{Slot}
 use Rattle.alta_rewrite.specs.Puts.{Puts}

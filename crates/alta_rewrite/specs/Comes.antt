@@ -2,10 +2,10 @@
 use Rattle.std.specs.Prelude.{◌≡◌, ◌⊎◌, ◌≤◌, ◌+◌, ◌-◌, ◌*◌, Contains, List, [], ℕ, length, map}
 use Rattle.std.specs.List.{All}
 use Rattle.alta_codec.specs.declared.extent.Extent.{Extent}
-use Rattle.alta_images.specs.Levels.{Level}
-use Rattle.alta_images.specs.Opened.{Opened, bytes_at, journal_of}
-use Rattle.alta_images.specs.Standing.{tables_by}
-use Rattle.alta_images.specs.Working.{AllApart}
+use Rattle.alta_meaning.specs.Levels.{Level}
+use Rattle.alta_meaning.specs.Opened.{Opened, bytes_at, journal_of}
+use Rattle.alta_meaning.specs.Standing.{tables_by}
+use Rattle.alta_meaning.specs.Working.{AllApart}
 use Rattle.alta_level.specs.Segments.{IsSegment}
 use Rattle.alta_postings.specs.Deltas.{Spells}
 use Rattle.alta_root.specs.Root.{extents_of, next_sequence, no_extent}

@@ -1,8 +1,8 @@
 -- Where what is written anew is to stand.
 use Rattle.std.specs.Prelude.{◌≡◌, ◌==◌, ℕ, cond, List, [], ◌∷◌, ◌++◌, Option, Some, None, Result, Ok, Err}
 use Rattle.alta_codec.specs.declared.extent.Extent.{Extent}
-use Rattle.alta_images.specs.Chain.{◌>>=◌}
-use Rattle.alta_images.specs.Working.{Full, placed}
+use Rattle.alta_meaning.specs.Chain.{◌>>=◌}
+use Rattle.alta_meaning.specs.Working.{Full, placed}
 use Rattle.alta_root.specs.Gaps.{taken_by}
 use Rattle.alta_root.specs.declared.root.Root.{Root}
 use Rattle.alta_rewrite.specs.declared.fault.RewriteFault.{RewriteFault}

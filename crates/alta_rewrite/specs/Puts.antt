@@ -5,7 +5,7 @@ use Rattle.alta_codec.specs.Bytes.{AreBytes}
 use Rattle.alta_codec.specs.declared.extent.Extent.{Extent}
 use Rattle.alta_disk.specs.Images.{end_of}
 use Rattle.alta_disk.specs.Parts.{Touches}
-use Rattle.alta_images.specs.Opened.{bytes_at, journal_of}
+use Rattle.alta_meaning.specs.Opened.{bytes_at, journal_of}
 use Rattle.alta_journal.specs.Journal.{EndsAt}
 use Rattle.alta_root.specs.Gaps.{IsGap}
 use Rattle.alta_root.specs.Places.{other}

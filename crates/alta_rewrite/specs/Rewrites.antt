@@ -4,14 +4,15 @@ use Rattle.std.specs.List.{All, sum_by}
 use Rattle.alta_content.specs.Rows.{end_of}
 use Rattle.alta_content.specs.declared.content.Content.{Content}
 use Rattle.alta_content.specs.declared.document.DocRow.{DocRow}
-use Rattle.alta_images.specs.Holding.{Holding, IsHeld}
-use Rattle.alta_images.specs.Levels.{Level}
-use Rattle.alta_images.specs.Opened.{Opened, IsOpened, journal_of}
-use Rattle.alta_images.specs.Ordered.{RowsPrecede}
-use Rattle.alta_images.specs.Standing.{tables_by, view_of}
-use Rattle.alta_images.specs.Views.{View, state_of}
-use Rattle.alta_images.specs.Work.{Coming, Job, coming, gone_among, newest, stays}
-use Rattle.alta_images.specs.Working.{content_to_come, documents_left, rows_of, switched}
+use Rattle.alta_meaning.specs.Holding.{Holding, IsHeld}
+use Rattle.alta_meaning.specs.Levels.{Level}
+use Rattle.alta_meaning.specs.Opened.{Opened, IsOpened, journal_of}
+use Rattle.alta_meaning.specs.Ordered.{RowsPrecede}
+use Rattle.alta_meaning.specs.Standing.{tables_by, view_of}
+use Rattle.alta_meaning.specs.Views.{View, state_of}
+use Rattle.alta_meaning.specs.Work.{Coming, Job, coming, gone_among, newest, stays}
+use Rattle.alta_meaning.specs.Working.{content_to_come, documents_left, switched}
+use Rattle.alta_content.specs.Joining.{rows_in}
 use Rattle.alta_memlevel.specs.Added.{Added}
 use Rattle.alta_root.specs.Places.{other}
 use Rattle.alta_root.specs.Slots.{Counts}
@@ -33,7 +34,7 @@ abbrev pub contents_to_come : NextLevels → View → List Content
 contents_to_come levels view = map content_to_come (levels_to_come levels view)
 
 abbrev pub rows_to_come : NextLevels → View → List DocRow
-rows_to_come levels view = rows_of (contents_to_come levels view)
+rows_to_come levels view = rows_in (contents_to_come levels view)
 
 -- The ends, the number and the location of a rewrite are those of a view: the ends that are deleted, those of the levels to come that are
 -- gone, and what stands behind the newest documents.

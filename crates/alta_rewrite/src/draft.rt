@@ -4,7 +4,7 @@ ghost use Rattle.std.specs.Str.{bytes_eq};
 ghost use Rattle.alta_codec.specs.Rising.{IsRising};
 ghost use Rattle.alta_content.specs.Parts.{IsPart};
 ghost use Rattle.alta_content.specs.declared.content.Content.{Content};
-ghost use Rattle.alta_images.specs.Work.{coming};
+ghost use Rattle.alta_meaning.specs.Work.{coming};
 ghost use Rattle.alta_level.specs.Segments.{IsSegment};
 ghost use Rattle.alta_rewrite.specs.Drafts.{Drafts, extents_to_come, list_of, list_to_come, pairs_in, pieces_of, root_to_come, segment_of, table_to_come};
 ghost use Rattle.alta_rewrite.specs.Places.{as_list};
@@ -14,7 +14,7 @@ use crate::places::{Places, find_places};
 use crate::{Ends, NextLevels, RewriteFault};
 use alta_codec::{Bytes, DocNumber, Extent, Loc};
 use alta_content::Content;
-use alta_level::{LevelFault, Table, build, head};
+use alta_level::{LevelFault, OpenLevel, build, head};
 use alta_postings::encode;
 use alta_root::{Root, VERSION};
 use arrayvec::ArrayVec;
@@ -33,8 +33,8 @@ pub(crate) struct Draft {
     /// The root to come.
     pub(crate) root: Root,
     /// The tables of the new levels.
-    pub(crate) oldest_level: Option<Table>,
-    pub(crate) newest_level: Option<Table>,
+    pub(crate) oldest_level: Option<OpenLevel>,
+    pub(crate) newest_level: Option<OpenLevel>,
 }
 
 // ---- bytes
@@ -130,7 +130,7 @@ fn next_root(
 // ---- the levels
 
 // The tables of a segment, which stands at a place.
-fn open_segment(alloc: Global, segment: &[u8], extent: Extent) -> Result<Table, AllocError>
+fn open_segment(alloc: Global, segment: &[u8], extent: Extent) -> Result<OpenLevel, AllocError>
     requires segment { (content : Content) × IsSegment segment.now content }
     requires bytes { extent.bytes ≡ length segment.now }
     requires below { extent.place + extent.bytes < 2 ^ 64 }
@@ -141,7 +141,7 @@ fn open_segment(alloc: Global, segment: &[u8], extent: Extent) -> Result<Table, 
     };
     let front = 32 + found.document_bytes + found.term_bytes;
     let (tables, _lists) = segment.split_at(front as usize);
-    match Table::open(alloc, tables, extent.place, extent.bytes) {
+    match OpenLevel::open(alloc, tables, extent.place, extent.bytes) {
         Ok(table) => Ok(table),
         Err(LevelFault::Memory) => Err(AllocError),
         Err(LevelFault::Damaged(_)) => unreachable!(),
@@ -153,7 +153,7 @@ fn open_level(
     alloc: Global,
     segment: &[u8],
     place: Option<Extent>,
-) -> Result<Option<Table>, AllocError>
+) -> Result<Option<OpenLevel>, AllocError>
     requires segment { IfSome place (λ _. (content : Content) × IsSegment segment.now content) }
     requires bytes { IfSome place (λ extent. extent.bytes ≡ length segment.now) }
     requires below { IfSome place (λ extent. extent.place + extent.bytes < 2 ^ 64) }

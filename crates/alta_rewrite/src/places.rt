@@ -5,7 +5,7 @@ ghost use Rattle.alta_rewrite.specs.Places.{Gives, as_list, place_for, places_fo
 
 use crate::RewriteFault;
 use alta_codec::Extent;
-use alta_root::{Root, gap, place};
+use alta_root::{Root, first_gap, greatest_gap};
 
 /// The places of two levels and of a deletion list, where they are written.
 #[derive(Clone, Copy)]
@@ -27,11 +27,11 @@ fn first_place(
     if bytes == 0 {
         return Ok(None);
     }
-    match place(root, extra, bytes, limit) {
+    match first_gap(root, extra, bytes, limit) {
         Some(place) => Ok(Some(Extent { place, bytes })),
         None => Err(RewriteFault::Full {
             need: bytes,
-            gap: gap(root, extra, limit),
+            gap: greatest_gap(root, extra, limit),
         }),
     }
 }

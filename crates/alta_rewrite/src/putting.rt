@@ -6,12 +6,12 @@ ghost use Rattle.alta_codec.specs.declared.extent.Extent.{Extent};
 ghost use Rattle.alta_disk.specs.Calls.{Costs};
 ghost use Rattle.alta_disk.specs.Disk.{DiskState, LeavesOnly, Only, Passes};
 ghost use Rattle.alta_disk.specs.Parts.{Touches};
-ghost use Rattle.alta_images.specs.Holding.{Holding, IsHeld};
-ghost use Rattle.alta_images.specs.Levels.{Level};
-ghost use Rattle.alta_images.specs.Opened.{Opened, IsOpened, half_of};
-ghost use Rattle.alta_images.specs.Standing.{StandsFor, StandsForEither, view_of};
-ghost use Rattle.alta_images.specs.Views.{state_of};
-ghost use Rattle.alta_meta.specs.declared.document.State.{State};
+ghost use Rattle.alta_meaning.specs.Holding.{Holding, IsHeld};
+ghost use Rattle.alta_meaning.specs.Levels.{Level};
+ghost use Rattle.alta_meaning.specs.Opened.{Opened, IsOpened, half_of};
+ghost use Rattle.alta_meaning.specs.Standing.{StandsFor, StandsForEither, view_of};
+ghost use Rattle.alta_meaning.specs.Views.{state_of};
+ghost use Rattle.alta_machine.specs.declared.document.State.{State};
 ghost use Rattle.alta_root.specs.Switches.{Switched};
 ghost use Rattle.alta_root.specs.declared.places.TheConstants.{HEAD_BYTES};
 ghost use Rattle.alta_rewrite.specs.Brings.{Brings, IsOpenedEither, Names};
@@ -19,7 +19,7 @@ ghost use Rattle.alta_rewrite.specs.Puts.{AreLaid, Fills, MayPut, Puts, Putting,
 
 use crate::piece::Piece;
 use alta_disk::{Disk, Failed};
-use alta_journal::{Half, format};
+use alta_journal::{Half, close_half};
 use alta_root::{Root, Slot, switch};
 
 /// Writes pieces into gaps beside what the root that counts names, and makes `root` the one that counts, in the slot that does
@@ -84,7 +84,7 @@ fn put<D: Disk>(disk: &mut D, slot: Slot, pieces: &[Piece<'_>]) -> Result<(), Fa
     ensures costs { Costs 0 (D.state disk.old) (D.state disk.new) }
 {
     write_pieces(disk, pieces)?;
-    format(disk, half(slot))?;
+    close_half(disk, half(slot))?;
     Ok(())
 }
 

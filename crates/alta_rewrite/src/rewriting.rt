@@ -6,13 +6,13 @@ ghost use Rattle.alta_codec.specs.declared.extent.Extent.{Extent};
 ghost use Rattle.alta_content.specs.Parts.{IsPart};
 ghost use Rattle.alta_disk.specs.Calls.{Costs};
 ghost use Rattle.alta_disk.specs.Disk.{DiskState, LeavesOnly, Only, Passes};
-ghost use Rattle.alta_images.specs.Holding.{Holding};
-ghost use Rattle.alta_images.specs.Levels.{Level};
-ghost use Rattle.alta_images.specs.Opened.{Opened, bytes_at, table_rows, extent_of};
-ghost use Rattle.alta_images.specs.Standing.{StandsFor};
-ghost use Rattle.alta_images.specs.Views.{state_of};
-ghost use Rattle.alta_images.specs.Work.{Job, coming};
-ghost use Rattle.alta_images.specs.Working.{switched};
+ghost use Rattle.alta_meaning.specs.Holding.{Holding};
+ghost use Rattle.alta_meaning.specs.Levels.{Level};
+ghost use Rattle.alta_meaning.specs.Opened.{Opened, bytes_at, table_rows, extent_of};
+ghost use Rattle.alta_meaning.specs.Standing.{StandsFor};
+ghost use Rattle.alta_meaning.specs.Views.{state_of};
+ghost use Rattle.alta_meaning.specs.Work.{Job, coming};
+ghost use Rattle.alta_meaning.specs.Working.{switched};
 ghost use Rattle.alta_root.specs.Places.{other};
 ghost use Rattle.alta_root.specs.Slots.{Counts};
 ghost use Rattle.alta_root.specs.declared.places.TheConstants.{DOCUMENT_CELLS, HEAD_BYTES, LAST_NEXT, VERSION};
@@ -25,7 +25,7 @@ use crate::putting::put_root;
 use crate::{Ends, NextLevels, RewriteFault};
 use alta_codec::{DocNumber, Loc};
 use alta_disk::Disk;
-use alta_level::Table;
+use alta_level::OpenLevel;
 use alta_root::{Root, Slot};
 use std::alloc::Global;
 
@@ -37,9 +37,9 @@ pub struct Rewritten {
     /// Its root.
     pub root: Root,
     /// The tables of the level in front of those that stay, where there is one.
-    pub oldest: Option<Table>,
+    pub oldest: Option<OpenLevel>,
     /// The tables of the level behind them, where there is one.
-    pub newest: Option<Table>,
+    pub newest: Option<OpenLevel>,
 }
 
 /// Writes the levels that come anew, and the deletion list where it has changed, and makes a root the one that counts that names

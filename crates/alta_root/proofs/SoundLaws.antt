@@ -7,7 +7,7 @@ use Rattle.std.proofs.lemmas.List.{append-nil}
 use Rattle.std.proofs.lemmas.List.Elements.{All-nil, All-cons}
 use Rattle.alta_codec.specs.declared.extent.Extent.{Extent}
 use Rattle.alta_format.specs.Format.{Format, ends, number_field, text_field, byte, wide, read, placed}
-use Rattle.alta_format.specs.FormatLaws.{ok_is, number_kept, text_kept, number_passes, text_passes}
+use Rattle.alta_format.proofs.FormatLaws.{ok_is, number_kept, text_kept, number_passes, text_passes}
 use Rattle.alta_root.specs.Root.{extents_of, no_extent, AreApart, IsExtent, AreExtents, IsSound, extent_in, are_apart, is_extent, is_list, is_version, is_next_number, is_next_location, with_level, levels_format, root_format}
 use Rattle.alta_root.specs.Slots.{root_in}
 use Rattle.alta_root.specs.declared.places.TheConstants.{HEAD_BYTES, VERSION, LEVELS, LEVEL_BYTES, LAST_NEXT, DOCUMENT_CELLS}

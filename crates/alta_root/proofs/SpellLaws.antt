@@ -10,7 +10,7 @@ use Rattle.std.proofs.lemmas.List.Elements.{All-nil, All-cons, All-head, All-tai
 use Rattle.std.proofs.lemmas.Nat.{be_bytes_8, from_be_bytes-to_be_bytes_8}
 use Rattle.alta_codec.specs.declared.extent.Extent.{Extent}
 use Rattle.alta_format.specs.Format.{HasText, Spells, AreBytes}
-use Rattle.alta_format.specs.FormatLaws.{AreBytes-take, AreBytes-drop, AreBytes-rest, part_found, part_reads}
+use Rattle.alta_format.proofs.FormatLaws.{AreBytes-take, AreBytes-drop, AreBytes-rest, part_found, part_reads}
 use Rattle.alta_root.specs.Slots.{root_in}
 use Rattle.alta_root.specs.Root.{extents_of, no_extent, AreApart, IsExtent, AreExtents, IsWord, IsSound, number_in, extent_in, are_apart, is_extent, is_list, with_level, levels_format, root_format, wide_bytes, extent_bytes, fields_of, body_of}
 use Rattle.alta_root.specs.declared.places.TheConstants.{HEAD_BYTES, BODY_BYTES, FIELDS_BYTES, VERSION, LEVELS, LEVEL_BYTES, LAST_NEXT, DOCUMENT_CELLS}

@@ -15,7 +15,7 @@ use alta_codec::Extent;
 ///
 /// From the head on it steps over what it meets, each extent once at most: for `n` extents at most `n + 1` places are
 /// compared with each of them, 306 comparisons where nothing is named beside a root.
-pub fn place(root: &Root, extra: &[Extent], bytes: u64, limit: u64) -> Option<u64>
+pub fn first_gap(root: &Root, extra: &[Extent], bytes: u64, limit: u64) -> Option<u64>
     ensures some { IfSome result (λ at. IsFirstGap (taken_by root.now extra.now) bytes limit at) }
     ensures none { IfNone result ((at : ℕ) → IsGap (taken_by root.now extra.now) bytes limit at → ⊥) }
     ensures first { result ≡ first_gap (taken_by root.now extra.now) bytes limit }
@@ -30,11 +30,11 @@ pub fn place(root: &Root, extra: &[Extent], bytes: u64, limit: u64) -> Option<u6
     None
 }
 
-/// The most bytes that [`place`] finds a place for, 0 where it finds none. It takes no memory.
+/// The most bytes that [`first_gap`] finds a place for, 0 where it finds none. It takes no memory.
 ///
 /// The place behind the head and the one behind each of `n` extents are compared with each of them: at most 306
 /// comparisons where nothing is named beside a root.
-pub fn gap(root: &Root, extra: &[Extent], limit: u64) -> u64
+pub fn greatest_gap(root: &Root, extra: &[Extent], limit: u64) -> u64
     ensures longest { IsLongestGap (taken_by root.now extra.now) limit result }
     ensures greatest { result ≡ greatest_gap (taken_by root.now extra.now) limit }
 {

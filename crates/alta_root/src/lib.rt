@@ -13,7 +13,7 @@ mod spelling;
 mod switching;
 
 pub use fault::RootFault;
-pub use gaps::{gap, place};
+pub use gaps::{first_gap, greatest_gap};
 pub use laws::{
     a_root_counts_on, a_root_reads_back, an_image_says_one_thing,
     gaps_are_the_first_and_the_longest, slots_are_two,

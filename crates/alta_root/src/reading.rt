@@ -64,9 +64,9 @@ fn shown(first: &[u8], second: &[u8], size: u64) -> Result<Roots, RootFault>
     if size < HEAD_BYTES {
         return Err(RootFault::Damaged(size));
     }
-    match said(first, Slot::A, size) {
-        Ok(a) => match said(second, Slot::B, size) {
-            Ok(b) => chosen(a, b),
+    match read_slot(first, Slot::A, size) {
+        Ok(a) => match read_slot(second, Slot::B, size) {
+            Ok(b) => choose_root(a, b),
             Err(fault) => Err(fault),
         },
         Err(fault) => Err(fault),
@@ -74,7 +74,7 @@ fn shown(first: &[u8], second: &[u8], size: u64) -> Result<Roots, RootFault>
 }
 
 // What a slot says, None where it is closed.
-fn said(bytes: &[u8], slot: Slot, size: u64) -> Result<Option<Root>, RootFault>
+fn read_slot(bytes: &[u8], slot: Slot, size: u64) -> Result<Option<Root>, RootFault>
     requires { length bytes.now ≡ READ_BYTES }
     ensures says { (image : List ℕ) → bytes.now ≡ slot_bytes slot image → size ≡ length image → SaysIfOpen slot image result }
     ensures disk { result ≡ Err DiskFault → ⊥ }
@@ -90,7 +90,7 @@ fn said(bytes: &[u8], slot: Slot, size: u64) -> Result<Option<Root>, RootFault>
 }
 
 // Which of the roots that the slots say counts.
-fn chosen(a: Option<Root>, b: Option<Root>) -> Result<Roots, RootFault>
+fn choose_root(a: Option<Root>, b: Option<Root>) -> Result<Roots, RootFault>
     ensures { result ≡ chosen_of a b }
 {
     match (a, b) {
@@ -103,11 +103,11 @@ fn chosen(a: Option<Root>, b: Option<Root>) -> Result<Roots, RootFault>
             slot: Slot::B,
             root,
         }),
-        (Some(a), Some(b)) => later(a, b),
+        (Some(a), Some(b)) => choose_later(a, b),
     }
 }
 
-fn later(a: Root, b: Root) -> Result<Roots, RootFault>
+fn choose_later(a: Root, b: Root) -> Result<Roots, RootFault>
     ensures { result ≡ chosen_of (Some a) (Some b) }
 {
     if a.sequence == next(b.sequence) {

@@ -2,16 +2,16 @@
 use Rattle.std.proofs.Common.{ℕ, zero, suc, Bool, true, false, List, [], ◌∷◌, ◌++◌, map, refl, arith}
 use Rattle.std.specs.Prelude.{Contains, Option, Some, None}
 use Rattle.std.proofs.lemmas.List.Elements.{Contains-append_left, Contains-append_right}
-use Rattle.alta_compile.specs.Joined.{joint_pattern}
-use Rattle.alta_compile.specs.PlanOf.{plan_of, plans_of, atoms_in, others_of, all_plan, with_pattern, with_value, atom_plan}
+use Rattle.alta_machine.specs.Joined.{joint_pattern}
+use Rattle.alta_machine.specs.PlanOf.{plan_of, plans_of, atoms_in, others_of, all_plan, with_pattern, with_value, atom_plan}
 use Rattle.alta_compile.specs.Space.{document_end}
-use Rattle.alta_compile.specs.Tree.{Trees, no_more, also}
-use Rattle.alta_query.specs.Patterns.{Pattern, pattern_of, numbers_in, titled, phrase_pattern, test_of, title_end}
-use Rattle.alta_query.specs.Shape.{words, prefix, name, value, Atom, lone, near, Shape, Shapes, atom, all, any, negated, none, more}
-use Rattle.alta_query.specs.Words.{name_test}
-use Rattle.alta_query.specs.declared.test.Test.{Test}
-use Rattle.alta_rank.specs.Uses.{use_of, atom_uses, uses_of, uses_in}
-use Rattle.alta_rank.specs.declared.usage.Use.{Use}
+use Rattle.alta_machine.specs.Plans.{Trees, no_more, also}
+use Rattle.alta_machine.specs.Patterns.{Pattern, pattern_of, numbers_in, titled, phrase_pattern, test_of, title_end}
+use Rattle.alta_machine.specs.Shape.{words, prefix, name, value, Atom, lone, near, Shape, Shapes, atom, all, any, negated, none, more}
+use Rattle.alta_machine.specs.Words.{name_test}
+use Rattle.alta_machine.specs.declared.test.Test.{Test}
+use Rattle.alta_machine.specs.Uses.{use_of, atom_uses, uses_of, uses_in}
+use Rattle.alta_machine.specs.declared.usage.Use.{Use}
 use Rattle.alta_search.specs.Plans.{tests_of, tests_in}
 
 -- the test of each use is one of these

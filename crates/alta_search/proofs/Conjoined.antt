@@ -4,10 +4,11 @@ use Rattle.std.specs.Prelude.{◌↔◌, All, Contains, IfSome, Option, Some, No
 use Rattle.std.proofs.lemmas.List.Elements.{All-nil, All-cons, All-head, All-tail, All-append}
 use Rattle.alta_codec.specs.Rising.{IsRising, pred_of}
 use Rattle.alta_compile.specs.Conjoined.{atom_word, word_in, word_against, listed, words_in, words_against, are_words, is_some_word, conjunction_in, conjunction_of}
-use Rattle.alta_compile.specs.Joined.{joint_pattern}
-use Rattle.alta_compile.specs.PlanOf.{found_of, atom_plan, with_pattern, with_value, atoms_in, all_plan, plan_of, others_of}
+use Rattle.alta_machine.specs.Joined.{joint_pattern}
+use Rattle.alta_machine.specs.PlanOf.{found_of, atom_plan, with_pattern, with_value, atoms_in, all_plan, plan_of, others_of}
 use Rattle.alta_compile.specs.Space.{Placed, IsSpace, document_end, end_of, ends_of, list_of}
-use Rattle.alta_compile.specs.Tree.{Tree, found, Trees, no_more, also, plan_list}
+use Rattle.alta_machine.specs.Plans.{Tree, found, Trees, no_more, also}
+use Rattle.alta_compile.specs.Listing.{plan_list}
 use Rattle.alta_compile.specs.declared.asked.Conjunction.{Conjunction}
 use Rattle.alta_compile.proofs.Ends.{plan_rises, plan_ends}
 use Rattle.alta_compile.proofs.Meaning.{plan_matches}
@@ -15,12 +16,12 @@ use Rattle.alta_compile.proofs.Spaces.{Has, at_met, met_at, at_within, has-list,
 use Rattle.alta_docread.specs.KeptLaws.{true_or_false}
 use Rattle.alta_lead.specs.Having.{HasWithin, ends_having}
 use Rattle.alta_lead.specs.HavingLaws.{having-rises, having-answers}
-use Rattle.alta_query.specs.Matches.{Matches, AllMatch}
-use Rattle.alta_query.specs.Patterns.{IsMet, Satisfies, SatisfiesOne, pattern_of, phrase_pattern, value_patterns, numbers_in, IsKept}
-use Rattle.alta_query.specs.Patterns as pattern
-use Rattle.alta_query.specs.Shape.{words, prefix, name, value, Atom, lone, near, Shape, Shapes, atom, all, any, negated, none, more}
-use Rattle.alta_query.specs.declared.test.Test.{Test}
-use Rattle.alta_query.specs.declared.test.Test.TheVariants.{Is, Begins}
+use Rattle.alta_machine.specs.Matches.{Matches, AllMatch}
+use Rattle.alta_machine.specs.Patterns.{IsMet, Satisfies, SatisfiesOne, pattern_of, phrase_pattern, value_patterns, numbers_in, IsKept}
+use Rattle.alta_machine.specs.Patterns as pattern
+use Rattle.alta_machine.specs.Shape.{words, prefix, name, value, Atom, lone, near, Shape, Shapes, atom, all, any, negated, none, more}
+use Rattle.alta_machine.specs.declared.test.Test.{Test}
+use Rattle.alta_machine.specs.declared.test.Test.TheVariants.{Is, Begins}
 use Rattle.alta_search.specs.Conjoined.{tests_against, conjoined_tests}
 use Rattle.alta_search.specs.Leads.{IsConjunction}
 use Rattle.alta_search.specs.Met.{IsExact}

@@ -9,15 +9,16 @@ use Rattle.std.proofs.lemmas.List.Elements.{All-head, All-tail, All-filter}
 use Rattle.std.proofs.lemmas.List.Kept.{AllPairs-filter}
 use Rattle.alta_compile.specs.Space.{Placed}
 use Rattle.alta_compile.specs.View.{tree}
-use Rattle.alta_meta.specs.declared.document.Document.{Document}
+use Rattle.alta_machine.specs.declared.document.Document.{Document}
 use Rattle.alta_search.specs.Answers.{IsPage, coming}
-use Rattle.alta_search.specs.Documents.{told}
-use Rattle.alta_search.specs.Open.{OpenAnswers, AreLeft, AreNumbers, AreOpen, IsFetch, IsFetched, IsOpen, IsPageOf, is_taken, fetched, first_free, least_free, left_of, number_in, number_of, with_opened, with_fetched, without_cursor, work_of}
+use Rattle.alta_machine.specs.Searching.{told}
+use Rattle.alta_machine.specs.OpenAnswers.{OpenAnswers, is_taken, fetched, first_free, least_free, left_of, number_of, with_opened, with_fetched, without_cursor}
+use Rattle.alta_search.specs.Open.{AreLeft, AreNumbers, AreOpen, IsFetch, IsFetched, IsOpen, IsPageOf, number_in, work_of}
 use Rattle.alta_search.specs.Plans.{lists, locations}
 use Rattle.alta_search.specs.Told.{answer_of}
 use Rattle.alta_search.specs.View.{CursorView, Shows}
 use Rattle.alta_search.specs.declared.cursors.OpenCursor.{OpenCursor}
-use Rattle.alta_search.specs.declared.cursors.TheConstants.{CURSORS}
+use Rattle.alta_machine.specs.declared.cursors.TheConstants.{CURSORS}
 use Rattle.alta_search.specs.declared.page.Page.{Page}
 use Rattle.alta_search.proofs.CursorNumbers.{free_from_one, free_small, left_taken, taken_left, numbers_push}
 

@@ -4,8 +4,9 @@ use Rattle.std.specs.Prelude.{Some, None, IsSome, is_some, filter, ◌==◌}
 use Rattle.std.proofs.lemmas.Bool.{eqb-true, eq-eqb, ne_eqb, cases_eq, cases_lt, cases_Bool, both_ways, cond_both, cond-true, cond-false, or_cases, or_left, or_right}
 use Rattle.std.proofs.lemmas.List.Elements.{All-push}
 use Rattle.std.proofs.lemmas.List.Quantifiers.{all_pairs_push}
-use Rattle.alta_search.specs.Open.{OpenAnswers, AreNumbers, IsLeastFree, is_taken, first_free, least_free, left_of, number_of}
-use Rattle.alta_search.specs.declared.cursors.TheConstants.{CURSORS}
+use Rattle.alta_machine.specs.OpenAnswers.{OpenAnswers, IsLeastFree, is_taken, first_free, least_free, left_of, number_of}
+use Rattle.alta_search.specs.Open.{AreNumbers}
+use Rattle.alta_machine.specs.declared.cursors.TheConstants.{CURSORS}
 
 -- ---- numbers from 1 on that are all taken are no more than the list is long
 

@@ -6,18 +6,19 @@ use Rattle.std.proofs.lemmas.List.Elements.{All-nil, All-cons, All-head, All-tai
 use Rattle.std.proofs.lemmas.List.Sums.{sum_by-cons}
 use Rattle.alta_codec.specs.Rising.{IsRising, pred_of}
 use Rattle.alta_compile.specs.Conjoined.{atom_word, listed, words_in, is_some_word, conjunction_of, each_word, is_either, either_words}
-use Rattle.alta_compile.specs.PlanOf.{plan_of, plans_of}
+use Rattle.alta_machine.specs.PlanOf.{plan_of, plans_of}
 use Rattle.alta_compile.specs.Space.{Placed, IsSpace, document_end, ends_of, list_of}
-use Rattle.alta_compile.specs.Tree.{Tree, plan_list, plan_lists}
+use Rattle.alta_machine.specs.Plans.{Tree}
+use Rattle.alta_compile.specs.Listing.{plan_list, plan_lists}
 use Rattle.alta_compile.specs.declared.asked.Conjunction.{Conjunction}
 use Rattle.alta_compile.proofs.Spaces.{list-rises}
 use Rattle.alta_compound.specs.Union.{union, union_of}
 use Rattle.alta_compound.specs.Unions.{rising_from_above, above_from_rising, union-has, union-keeps, union-rises}
-use Rattle.alta_lead.specs.AnyLaws.{within_either, any-answers}
+use Rattle.alta_lead.proofs.AnyLaws.{within_either, any-answers}
 use Rattle.alta_lead.specs.Having.{HasWithin, HasAny, ends_having, ends_with_any}
 use Rattle.alta_lead.specs.HavingLaws.{having-rises, having-answers}
-use Rattle.alta_query.specs.Shape.{Atom, Shape, Shapes, atom, all, any, negated, none, more}
-use Rattle.alta_query.specs.declared.test.Test.{Test}
+use Rattle.alta_machine.specs.Shape.{Atom, Shape, Shapes, atom, all, any, negated, none, more}
+use Rattle.alta_machine.specs.declared.test.Test.{Test}
 use Rattle.alta_search.specs.Either.{either_tests, seconds, IsEither}
 use Rattle.alta_search.specs.Lists.{test_list}
 use Rattle.alta_search.specs.Met.{IsExact}

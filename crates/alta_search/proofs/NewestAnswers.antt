@@ -7,8 +7,8 @@ use Rattle.alta_codec.specs.declared.location.TheConstants.{TOP}
 use Rattle.alta_codec.proofs.Places.{Contains-head, Contains-cases, not-Contains-nil}
 use Rattle.alta_compile.specs.Space.{Placed, AreApart, IsSpace, document_end, list_of, past}
 use Rattle.alta_compile.specs.Space as space
-use Rattle.alta_compile.specs.Tree.{plan_list}
-use Rattle.alta_compile.specs.PlanOf.{plan_of}
+use Rattle.alta_compile.specs.Listing.{plan_list}
+use Rattle.alta_machine.specs.PlanOf.{plan_of}
 use Rattle.alta_compile.proofs.Spaces.{Has, HasAt, has_contains, list-has, has-list, at_met, met_at}
 use Rattle.alta_content.specs.Rows.{end_of, ends_among}
 use Rattle.alta_content.specs.declared.document.DocRow.{DocRow}
@@ -16,13 +16,13 @@ use Rattle.alta_memlevel.specs.Added.{Added, live_of, places_of}
 use Rattle.alta_memlevel.specs.Added as mem
 use Rattle.alta_memlevel.specs.Documents.{AreMade, IsMade, document_in}
 use Rattle.alta_memlevel.proofs.Cells.{end_places}
-use Rattle.alta_meta.specs.declared.document.Document.{Document}
-use Rattle.alta_model.specs.Deciding.{answers, is_match}
-use Rattle.alta_query.specs.Matches.{Matches}
-use Rattle.alta_query.specs.Patterns.{IsMet}
-use Rattle.alta_query.specs.Shape.{Shape}
+use Rattle.alta_machine.specs.declared.document.Document.{Document}
+use Rattle.alta_machine.specs.Deciding.{answers, is_match}
+use Rattle.alta_machine.specs.Matches.{Matches}
+use Rattle.alta_machine.specs.Patterns.{IsMet}
+use Rattle.alta_machine.specs.Shape.{Shape}
 use Rattle.alta_search.specs.Answers.{is_answer}
-use Rattle.alta_search.specs.Documents.{told}
+use Rattle.alta_machine.specs.Searching.{told}
 use Rattle.alta_search.specs.Told.{answer_of}
 use Rattle.alta_search.specs.View.{Shows, View}
 use Rattle.alta_search.proofs.NewestLists.{placed_of, space_of, lists-same}

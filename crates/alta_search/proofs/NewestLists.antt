@@ -17,10 +17,10 @@ use Rattle.alta_content.specs.TermList.{TermList}
 use Rattle.alta_docread.specs.KeptLaws.{true_or_false}
 use Rattle.alta_memlevel.specs.Added.{Added, places_of}
 use Rattle.alta_memlevel.specs.Added as mem
-use Rattle.alta_meta.specs.Cells.{cell_holds}
-use Rattle.alta_query.specs.Patterns.{meets}
-use Rattle.alta_query.specs.declared.test.Test.{Test}
-use Rattle.alta_query.specs.declared.test.Test.TheVariants.{Is, Begins}
+use Rattle.alta_machine.specs.Cells.{cell_holds}
+use Rattle.alta_machine.specs.Patterns.{meets}
+use Rattle.alta_machine.specs.declared.test.Test.{Test}
+use Rattle.alta_machine.specs.declared.test.Test.TheVariants.{Is, Begins}
 use Rattle.alta_search.specs.Lists.{test_list}
 use Rattle.alta_search.specs.Newest.{term_meets, terms_met, newest_list, newest_lists}
 

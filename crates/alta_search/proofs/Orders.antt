@@ -5,7 +5,7 @@ use Rattle.std.proofs.lemmas.List.{map_push, length-append, get_or_append_left, 
 use Rattle.std.proofs.lemmas.List.Elements.{All-push, All-cons, All-nil, All-head, All-tail}
 use Rattle.std.proofs.lemmas.List.Quantifiers.{all_pairs_push}
 use Rattle.alta_compile.specs.Space.{document_end}
-use Rattle.alta_query.specs.declared.test.Test.{Test}
+use Rattle.alta_machine.specs.declared.test.Test.{Test}
 use Rattle.alta_search.specs.Order.{Order, used, ComeInOrder, IsOrder}
 
 come_push : (next : ℕ) (uses : List ℕ) (last i : ℕ) → ComeInOrder next uses last → i ≤ last → ComeInOrder next (uses ++ i ∷ []) (max last (i + 1))

@@ -8,7 +8,7 @@ use Rattle.alta_content.specs.declared.document.DocRow.{DocRow}
 use Rattle.alta_rank.specs.Kept.{IsBest}
 use Rattle.alta_rank.specs.Locations.{range_score}
 use Rattle.alta_rank.specs.Scoring.{Scoring}
-use Rattle.alta_rank.specs.declared.scored.Scored.{Scored}
+use Rattle.alta_machine.specs.declared.scored.Scored.{Scored}
 use Rattle.alta_rank.proofs.Keeping.{best-none}
 use Rattle.alta_search.specs.Scoring.{AreScorable, HasScored, IsScorable, scored_by}
 use Rattle.alta_search.specs.Told.{no_row, rows_at}

@@ -10,7 +10,7 @@ use Rattle.std.proofs.Math.Nat.{mul_comm, add-mul}
 use Rattle.alta_compile.specs.Space.{Placed, document_end, ends_of, list_of}
 use Rattle.alta_compile.specs.declared.asked.Conjunction.{Conjunction}
 use Rattle.alta_lead.specs.Having.{ends_having}
-use Rattle.alta_query.specs.declared.test.Test.{Test}
+use Rattle.alta_machine.specs.declared.test.Test.{Test}
 use Rattle.alta_search.specs.Conjoined.{tests_against, conjoined_tests}
 use Rattle.alta_search.specs.Leads.{thirds, IsLeadOf, IsLedOver}
 use Rattle.alta_search.specs.Lists.{test_list, IsCut, count_lists, count_locations, count_below}

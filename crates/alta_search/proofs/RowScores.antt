@@ -4,24 +4,25 @@ use Rattle.std.specs.Prelude.{Contains, All, AllPairs, filter, if◌then◌else�
 use Rattle.std.proofs.lemmas.Bool.{true≢false}
 use Rattle.std.proofs.lemmas.List.Elements.{All-head, All-tail}
 use Rattle.alta_compile.specs.Space.{Placed, AreApart, IsSpace, end_of, list_of, past}
-use Rattle.alta_compile.specs.Tree.{Tree, plan_list}
+use Rattle.alta_machine.specs.Plans.{Tree}
+use Rattle.alta_compile.specs.Listing.{plan_list}
 use Rattle.alta_compile.proofs.Spaces.{Has, HasAt, apart_one, apart_two, at_met, at_within, list-has, has-list, list-rises, met_at}
 use Rattle.alta_content.specs.Rows as content
 use Rattle.alta_content.specs.declared.document.DocRow.{DocRow}
 use Rattle.alta_docread.specs.KeptLaws.{true_or_false}
-use Rattle.alta_meta.specs.declared.document.Document.{Document}
-use Rattle.alta_query.specs.Patterns.{meets, title_end}
-use Rattle.alta_query.specs.declared.test.Test.{Test}
-use Rattle.alta_rank.specs.Cells.{score_of}
+use Rattle.alta_machine.specs.declared.document.Document.{Document}
+use Rattle.alta_machine.specs.Patterns.{meets, title_end}
+use Rattle.alta_machine.specs.declared.test.Test.{Test}
+use Rattle.alta_machine.specs.Scores.{score_of, scored}
 use Rattle.alta_rank.specs.Locations.{range_score, IsListIn, AreListsIn}
-use Rattle.alta_rank.specs.Ranked as rank
+use Rattle.alta_machine.specs.Ranked as rank
 use Rattle.alta_rank.specs.Scoring.{Scoring}
-use Rattle.alta_rank.specs.declared.usage.Use.{Use}
+use Rattle.alta_machine.specs.declared.usage.Use.{Use}
 use Rattle.alta_search.specs.Answers.{coming, is_answer}
 use Rattle.alta_search.specs.Lists.{test_list}
 use Rattle.alta_search.specs.Readers.{Each}
 use Rattle.alta_search.specs.Scoring.{AreScorable, scored_by}
-use Rattle.alta_search.specs.Tops.{IsShort, cells_from, document_of, lists_for, number_of, same_test, scored, scoring_lists}
+use Rattle.alta_search.specs.Tops.{IsShort, cells_from, document_of, lists_for, number_of, same_test, scoring_lists}
 use Rattle.alta_search.specs.View.{IsRowOf, Shows, View}
 use Rattle.alta_search.specs.Words.{reader_list}
 use Rattle.alta_search.specs.declared.test_reader.TestReader.{TestReader}

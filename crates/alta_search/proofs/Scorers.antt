@@ -6,8 +6,8 @@ use Rattle.std.proofs.lemmas.List.{length-map}
 use Rattle.std.proofs.lemmas.List.Elements.{All-nil, All-cons, All-head, All-tail}
 use Rattle.alta_codec.specs.Rising.{IsRising}
 use Rattle.alta_docread.specs.KeptLaws.{true_or_false}
-use Rattle.alta_query.specs.declared.test.Test.{Test}
-use Rattle.alta_rank.specs.declared.usage.Use.{Use}
+use Rattle.alta_machine.specs.declared.test.Test.{Test}
+use Rattle.alta_machine.specs.declared.usage.Use.{Use}
 use Rattle.alta_search.specs.Lists.{IsCut, count_lists, lists_at, test_at}
 use Rattle.alta_search.specs.Plans.{lists}
 use Rattle.alta_search.specs.Readers.{Each, IsFresh}

@@ -5,7 +5,7 @@ use Rattle.std.proofs.lemmas.List.{take-map}
 use Rattle.std.proofs.lemmas.List.Elements.{All-nil, All-cons, All-head, All-tail}
 use Rattle.alta_compile.specs.Space.{Placed, list_of}
 use Rattle.alta_content.specs.declared.document.DocRow.{DocRow}
-use Rattle.alta_query.specs.declared.test.Test.{Test}
+use Rattle.alta_machine.specs.declared.test.Test.{Test}
 use Rattle.alta_search.specs.Lists.{AreKeys, IsCut, TermKey, keys_at, lists_at, test_at, test_list}
 use Rattle.alta_search.specs.declared.lists.TestLists.{TestLists}
 use Rattle.alta_search.specs.Met.{MeetTest}

@@ -7,8 +7,8 @@ use Rattle.std.proofs.lemmas.List.{length-map}
 use Rattle.std.proofs.lemmas.List.Elements.{All-nil, All-cons, All-head, All-tail}
 use Rattle.alta_compile.specs.Space.{document_end}
 use Rattle.alta_content.proofs.Order.{itself, less_differs, same_term}
-use Rattle.alta_query.specs.declared.test.Test.{Test}
-use Rattle.alta_query.specs.declared.test.Test.TheVariants.{Is, Begins}
+use Rattle.alta_machine.specs.declared.test.Test.{Test}
+use Rattle.alta_machine.specs.declared.test.Test.TheVariants.{Is, Begins}
 use Rattle.alta_search.specs.Lists.{TermKey, AreKeys, key_of, term_in, term_lists, test_at, keys_at, lists_at}
 use Rattle.alta_search.specs.Met.{MeetTest, MeetsTest, IsExact, IsSingle}
 use Rattle.alta_search.specs.Newest.{term_meets}

@@ -3,9 +3,10 @@ use Rattle.std.proofs.Common.{◌≡◌, true, false, List, [], ◌∷◌, refl,
 use Rattle.std.specs.Prelude.{◌↔◌, Contains, Some, None, MatchOption, is_some}
 use Rattle.alta_codec.specs.Rising.{IsRising}
 use Rattle.alta_compile.specs.Conjoined.{atom_stem, stem_in, conjunction_of}
-use Rattle.alta_compile.specs.PlanOf.{found_of, atom_plan, plan_of}
+use Rattle.alta_machine.specs.PlanOf.{found_of, atom_plan, plan_of}
 use Rattle.alta_compile.specs.Space.{Placed, IsSpace, document_end, end_of, ends_of, list_of}
-use Rattle.alta_compile.specs.Tree.{Tree, found, plan_list}
+use Rattle.alta_machine.specs.Plans.{Tree, found}
+use Rattle.alta_compile.specs.Listing.{plan_list}
 use Rattle.alta_compile.proofs.Ends.{plan_rises, plan_ends}
 use Rattle.alta_compile.proofs.Meaning.{plan_matches}
 use Rattle.alta_compile.proofs.Spaces.{Has, list-rises, end-in, end-is}
@@ -13,10 +14,10 @@ use Rattle.alta_compound.specs.Union.{union_of}
 use Rattle.alta_compound.specs.Unions.{above_from_rising}
 use Rattle.alta_lead.specs.Having.{ends_having, ends_with_any}
 use Rattle.alta_lead.specs.HavingLaws.{having-rises}
-use Rattle.alta_query.specs.Matches.{Matches}
-use Rattle.alta_query.specs.Patterns.{Satisfies, SatisfiesOne, pattern_of, phrase_pattern, value_patterns, numbers_in}
-use Rattle.alta_query.specs.Shape.{words, prefix, name, value, Atom, lone, near, Shape, atom, all, any, negated}
-use Rattle.alta_query.specs.declared.test.Test.{Test}
+use Rattle.alta_machine.specs.Matches.{Matches}
+use Rattle.alta_machine.specs.Patterns.{Satisfies, SatisfiesOne, pattern_of, phrase_pattern, value_patterns, numbers_in}
+use Rattle.alta_machine.specs.Shape.{words, prefix, name, value, Atom, lone, near, Shape, atom, all, any, negated}
+use Rattle.alta_machine.specs.declared.test.Test.{Test}
 use Rattle.alta_search.specs.Plans.{tests_of}
 use Rattle.alta_search.specs.Stems.{IsStem}
 use Rattle.alta_search.proofs.Conjoined.{some_is, HasWord, word_law}

@@ -8,7 +8,8 @@ use Rattle.alta_codec.specs.Rising.{IsRising, first_from}
 use Rattle.alta_codec.proofs.Places.{Contains-head, Contains-tail, not-Contains-nil, first_from-above, first_from-least}
 use Rattle.alta_compile.specs.Space.{Placed, AreApart}
 use Rattle.alta_compile.specs.Space as space
-use Rattle.alta_compile.specs.Tree.{Tree, plan_list}
+use Rattle.alta_machine.specs.Plans.{Tree}
+use Rattle.alta_compile.specs.Listing.{plan_list}
 use Rattle.alta_compile.proofs.Ends.{plan_ends}
 use Rattle.alta_compile.proofs.Spaces.{Has, apart_one, end-is}
 use Rattle.alta_compound.specs.Unions.{RisesAbove}
@@ -17,7 +18,7 @@ use Rattle.alta_docread.specs.KeptLaws.{true_or_false, has-Contains, Contains-ha
 use Rattle.alta_lead.proofs.Counting.{live_same, live_dead, live_one, live_past}
 use Rattle.alta_content.specs.Rows.{end_of, ends_of}
 use Rattle.alta_content.specs.declared.document.DocRow.{DocRow}
-use Rattle.alta_rows.proofs.Levels.{rising_fits}
+use Rattle.alta_content.proofs.Levels.{rising_fits}
 use Rattle.alta_search.specs.Answers.{answers_in, count_live}
 use Rattle.alta_search.specs.Readers.{Each}
 use Rattle.alta_search.specs.Told.{no_row}

@@ -4,20 +4,21 @@ use Rattle.std.specs.Prelude.{◌↔◌, All, Contains, Some, None, MatchOption,
 use Rattle.std.proofs.lemmas.List.Elements.{All-nil, All-cons, All-head}
 use Rattle.alta_codec.specs.Rising.{IsRising}
 use Rattle.alta_compile.specs.Conjoined.{atom_titled, titled_word, conjunction_of}
-use Rattle.alta_compile.specs.PlanOf.{found_of, atom_plan, plan_of}
+use Rattle.alta_machine.specs.PlanOf.{found_of, atom_plan, plan_of}
 use Rattle.alta_compile.specs.Space.{Placed, IsSpace, document_end, end_of, ends_of, list_of}
-use Rattle.alta_compile.specs.Tree.{Tree, found, plan_list}
+use Rattle.alta_machine.specs.Plans.{Tree, found}
+use Rattle.alta_compile.specs.Listing.{plan_list}
 use Rattle.alta_compile.proofs.Ends.{plan_rises, plan_ends}
 use Rattle.alta_compile.proofs.Meaning.{plan_matches}
 use Rattle.alta_compile.proofs.Spaces.{Has, at_met, met_at, at_within, has-list, list-rises, end-in, end-is, before, within}
 use Rattle.alta_lead.specs.Followed.{IsFollowed, ends_followed}
-use Rattle.alta_lead.specs.FollowedLaws.{followed-rises, followed-answers}
-use Rattle.alta_query.specs.Matches.{Matches}
-use Rattle.alta_query.specs.Patterns.{Bound, IsMet, Satisfies, SatisfiesOne, pattern_of, phrase_pattern, value_patterns, numbers_in, in_title, title_end, IsKept}
-use Rattle.alta_query.specs.Patterns as pattern
-use Rattle.alta_query.specs.Shape.{words, prefix, name, value, Atom, lone, near, Shape, atom, all, any, negated}
-use Rattle.alta_query.specs.declared.test.Test.{Test}
-use Rattle.alta_query.specs.declared.test.Test.TheVariants.{Is, Begins}
+use Rattle.alta_lead.proofs.FollowedLaws.{followed-rises, followed-answers}
+use Rattle.alta_machine.specs.Matches.{Matches}
+use Rattle.alta_machine.specs.Patterns.{Bound, IsMet, Satisfies, SatisfiesOne, pattern_of, phrase_pattern, value_patterns, numbers_in, in_title, title_end, IsKept}
+use Rattle.alta_machine.specs.Patterns as pattern
+use Rattle.alta_machine.specs.Shape.{words, prefix, name, value, Atom, lone, near, Shape, atom, all, any, negated}
+use Rattle.alta_machine.specs.declared.test.Test.{Test}
+use Rattle.alta_machine.specs.declared.test.Test.TheVariants.{Is, Begins}
 use Rattle.alta_search.specs.Met.{IsExact}
 use Rattle.alta_search.specs.Plans.{tests_of}
 use Rattle.alta_search.specs.Titled.{IsTitled}

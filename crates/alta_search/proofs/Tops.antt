@@ -2,23 +2,25 @@
 use Rattle.std.proofs.Common.{◌≡◌, ℕ, ◌+◌, ◌-◌, ◌≤◌, List, [], ◌∷◌, ◌++◌, map, take, length, get_or, sym, subst, ap, ◌∙◌, arith, length-append}
 use Rattle.std.proofs.lemmas.List.{length-map}
 use Rattle.std.proofs.Math.Seq.{take-append_seam}
-use Rattle.alta_compile.specs.PlanOf.{plan_of}
+use Rattle.alta_machine.specs.PlanOf.{plan_of}
 use Rattle.alta_compile.specs.Space.{list_of}
-use Rattle.alta_compile.specs.Tree.{Tree, plan_list}
-use Rattle.alta_meta.specs.declared.document.Document.{Document}
-use Rattle.alta_query.specs.Patterns.{title_end}
-use Rattle.alta_query.specs.Shape.{Shape}
-use Rattle.alta_query.specs.declared.test.Test.{Test}
+use Rattle.alta_machine.specs.Plans.{Tree}
+use Rattle.alta_compile.specs.Listing.{plan_list}
+use Rattle.alta_machine.specs.declared.document.Document.{Document}
+use Rattle.alta_machine.specs.Patterns.{title_end}
+use Rattle.alta_machine.specs.Shape.{Shape}
+use Rattle.alta_machine.specs.declared.test.Test.{Test}
 use Rattle.alta_rank.specs.Kept.{IsBest}
 use Rattle.alta_rank.specs.Scoring.{Scoring}
-use Rattle.alta_rank.specs.Uses.{uses_of}
-use Rattle.alta_rank.specs.declared.scored.Scored.{Scored}
+use Rattle.alta_machine.specs.Uses.{uses_of}
+use Rattle.alta_machine.specs.declared.scored.Scored.{Scored}
 use Rattle.alta_search.specs.Answers.{coming, is_answer}
 use Rattle.alta_search.specs.Lists.{count_lists, count_locations, test_list}
 use Rattle.alta_search.specs.Plans.{lists, locations, tests_of}
 use Rattle.alta_search.specs.Scoring.{AreScorable, IsScorerOf, last_lists, scored_by}
 use Rattle.alta_search.specs.Told.{rows_at}
-use Rattle.alta_search.specs.Tops.{AreToRank, document_of, scored}
+use Rattle.alta_search.specs.Tops.{AreToRank, document_of}
+use Rattle.alta_machine.specs.Scores.{scored}
 use Rattle.alta_search.specs.View.{View}
 use Rattle.alta_search.specs.Words.{reader_list}
 use Rattle.alta_search.specs.declared.test_reader.TestReader.{TestReader}

@@ -2,7 +2,7 @@
 use Rattle.std.specs.Prelude.{List, [], ◌∷◌, ◌++◌}
 use Rattle.alta_compile.specs.Space.{document_end}
 use Rattle.alta_compile.specs.declared.asked.Conjunction.{Conjunction}
-use Rattle.alta_query.specs.declared.test.Test.{Test}
+use Rattle.alta_machine.specs.declared.test.Test.{Test}
 
 -- three tests a negated word: the ends that are left, and the Found of the word
 abbrev pub tests_against : List Test → List Test

@@ -1,10 +1,10 @@
 -- The plan of an or of words: its tests, and the ends that it finds.
 use Rattle.std.specs.Prelude.{◌≡◌, List, [], ◌∷◌, map, All}
 use Rattle.alta_compile.specs.Space.{Placed, IsSpace, document_end, ends_of, list_of}
-use Rattle.alta_compile.specs.Tree as plan
-use Rattle.alta_compile.specs.Tree.{plan_list}
+use Rattle.alta_machine.specs.Plans as plan
+use Rattle.alta_compile.specs.Listing.{plan_list}
 use Rattle.alta_lead.specs.Having.{ends_with_any}
-use Rattle.alta_query.specs.declared.test.Test.{Test}
+use Rattle.alta_machine.specs.declared.test.Test.{Test}
 use Rattle.alta_search.specs.Met.{IsExact}
 use Rattle.alta_search.specs.Plans.{tests_of}
 

@@ -3,8 +3,8 @@ use Rattle.std.specs.Prelude.{◌≡◌, ◌⊎◌, ℕ, ◌+◌, ◌*◌, ◌<�
 use Rattle.std.specs.List.{concat}
 use Rattle.alta_codec.specs.Rising.{pred_of, first_from, count_from}
 use Rattle.alta_compile.specs.Space.{Placed, IsSpace, ends_of, list_of}
-use Rattle.alta_compile.specs.Tree as plan
-use Rattle.alta_compile.specs.Tree.{plan_list}
+use Rattle.alta_machine.specs.Plans as plan
+use Rattle.alta_compile.specs.Listing.{plan_list}
 use Rattle.alta_compile.specs.declared.asked.Conjunction.{Conjunction}
 use Rattle.alta_docread.specs.Tree.{IsAhead}
 use Rattle.alta_lead.specs.Having.{ends_having}

@@ -1,7 +1,7 @@
 -- Terms that meet a test, and tests that one term meets at most.
 use Rattle.std.specs.Prelude.{ℕ, ◌≤◌, IsTrue, List, length, All}
-use Rattle.alta_query.specs.declared.test.Test.{Test}
-use Rattle.alta_query.specs.declared.test.Test.TheVariants.{Is, Begins}
+use Rattle.alta_machine.specs.declared.test.Test.{Test}
+use Rattle.alta_machine.specs.declared.test.Test.TheVariants.{Is, Begins}
 use Rattle.alta_search.specs.Lists.{TermKey, term_in, test_in, test_keys}
 use Rattle.alta_search.specs.Newest.{term_meets}
 use Rattle.alta_search.specs.declared.lists.TestLists.{TestLists}

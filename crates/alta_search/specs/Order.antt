@@ -1,7 +1,7 @@
 -- The tests of a plan, each once, and their uses.
 use Rattle.std.specs.Prelude.{◌≡◌, ◌≢◌, ℕ, ◌+◌, ◌<◌, ◌≤◌, max, List, [], ◌∷◌, map, length, All, AllPairs, slice_index_or}
 use Rattle.alta_compile.specs.Space.{document_end}
-use Rattle.alta_query.specs.declared.test.Test.{Test}
+use Rattle.alta_machine.specs.declared.test.Test.{Test}
 
 -- tests, and the index of the test of each use
 pub record Order : Type 0 where

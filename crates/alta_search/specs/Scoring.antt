@@ -5,8 +5,8 @@ use Rattle.alta_content.specs.Rows.{end_of}
 use Rattle.alta_content.specs.declared.document.DocRow.{DocRow}
 use Rattle.alta_rank.specs.Locations.{range_score}
 use Rattle.alta_rank.specs.Scoring.{Scoring, left_of}
-use Rattle.alta_rank.specs.declared.scored.Scored.{Scored}
-use Rattle.alta_rank.specs.declared.usage.Use.{Use}
+use Rattle.alta_machine.specs.declared.scored.Scored.{Scored}
+use Rattle.alta_machine.specs.declared.usage.Use.{Use}
 use Rattle.alta_search.specs.Lists.{test_list, count_lists, count_locations}
 use Rattle.alta_search.specs.Plans.{lists, locations}
 use Rattle.alta_search.specs.Tops.{scoring_lists}

@@ -8,9 +8,9 @@ use Rattle.alta_codec.specs.Name.{IsName}
 use Rattle.alta_compile.specs.Space.{document_end}
 use Rattle.alta_memlevel.specs.Added.{Added, IsSpace, list_of, live_of}
 use Rattle.alta_memlevel.specs.Documents.{document_in}
-use Rattle.alta_meta.specs.declared.document.Document.{Document}
-use Rattle.alta_query.specs.Patterns.{IsMet}
-use Rattle.alta_query.specs.declared.test.Test.{Test}
+use Rattle.alta_machine.specs.declared.document.Document.{Document}
+use Rattle.alta_machine.specs.Patterns.{IsMet}
+use Rattle.alta_machine.specs.declared.test.Test.{Test}
 use Rattle.alta_search.specs.Lists.{TermKey, term_in}
 use Rattle.alta_search.specs.Newest.{term_meets}
 use Rattle.alta_search.specs.View.{View}

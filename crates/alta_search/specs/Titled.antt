@@ -1,11 +1,11 @@
 -- The plan of a word in titles: its tests, and the ends that it finds.
 use Rattle.std.specs.Prelude.{◌≡◌, List, [], ◌∷◌, All}
 use Rattle.alta_compile.specs.Space.{Placed, IsSpace, document_end, ends_of, list_of}
-use Rattle.alta_compile.specs.Tree as plan
-use Rattle.alta_compile.specs.Tree.{plan_list}
+use Rattle.alta_machine.specs.Plans as plan
+use Rattle.alta_compile.specs.Listing.{plan_list}
 use Rattle.alta_lead.specs.Followed.{ends_followed}
-use Rattle.alta_query.specs.Patterns.{title_end}
-use Rattle.alta_query.specs.declared.test.Test.{Test}
+use Rattle.alta_machine.specs.Patterns.{title_end}
+use Rattle.alta_machine.specs.declared.test.Test.{Test}
 use Rattle.alta_search.specs.Met.{IsExact}
 use Rattle.alta_search.specs.Plans.{tests_of}
 

@@ -1,11 +1,7 @@
--- What is told of a document, and rows by their indexes.
+-- What is told of a row, and rows by their indexes.
 use Rattle.std.specs.Prelude.{ℕ, List, [], map, slice_index_or}
 use Rattle.alta_content.specs.declared.document.DocRow.{DocRow}
-
--- a document's number and its name
-pub record AnswerRow : Type 0 where
-  pub number : ℕ
-  pub name : List ℕ
+use Rattle.alta_machine.specs.Searching.{AnswerRow}
 
 abbrev pub answer_of : DocRow → AnswerRow
 answer_of row = record { number = row.number; name = row.name }

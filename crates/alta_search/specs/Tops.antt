@@ -2,19 +2,19 @@
 use Rattle.std.specs.Prelude.{◌≡◌, ◌≢◌, ℕ, ◌+◌, ◌≤◌, nat_eq, cond, Bool, false, if◌then◌else◌, List, [], ◌∷◌, map, take, length, All, AllPairs}
 use Rattle.std.specs.Str.{bytes_eq}
 use Rattle.alta_compile.specs.Space.{Placed}
-use Rattle.alta_compile.specs.Tree.{Tree}
+use Rattle.alta_machine.specs.Plans.{Tree}
 use Rattle.alta_content.specs.declared.document.DocRow.{DocRow}
-use Rattle.alta_meta.specs.declared.document.Document.{Document}
-use Rattle.alta_query.specs.declared.test.Test.{Test}
-use Rattle.alta_query.specs.declared.test.Test.TheVariants.{Is, Begins}
-use Rattle.alta_rank.specs.Cells.{score_of}
-use Rattle.alta_rank.specs.Ranked.{ranked}
-use Rattle.alta_rank.specs.declared.scored.Scored.{Scored}
-use Rattle.alta_rank.specs.declared.usage.Use.{Use}
+use Rattle.alta_machine.specs.declared.document.Document.{Document}
+use Rattle.alta_machine.specs.declared.test.Test.{Test}
+use Rattle.alta_machine.specs.declared.test.Test.TheVariants.{Is, Begins}
+use Rattle.alta_machine.specs.Ranked.{ranked}
+use Rattle.alta_machine.specs.declared.scored.Scored.{Scored}
+use Rattle.alta_machine.specs.declared.usage.Use.{Use}
 use Rattle.alta_search.specs.Answers.{coming}
 use Rattle.alta_search.specs.Plans.{lists, locations}
 use Rattle.alta_search.specs.View.{View, Shows}
 use Rattle.alta_search.specs.declared.page.Top.{Top}
+use Rattle.alta_machine.specs.Scores.{scored}
 
 -- ---- documents with their cells
 
@@ -44,10 +44,6 @@ pub record AreToRank (plan : Tree) (v : View) (documents : List Document) : Type
   pub numbered : AllPairs ◌≢◌ (map number_of documents)
 
 -- ---- the best of them
-
--- a document with its score
-abbrev pub scored : List Use → Document → Scored
-scored uses d = record { number = d.number; name = d.name; score = score_of uses d.cells }
 
 -- the first `count` of the documents by score, and how many they are
 pub record AreBest (uses : List Use) (documents : List Document) (count : ℕ) (top : Top) : Type 0 where

@@ -1,19 +1,18 @@
 // The open cursors of a run.
 ghost use Rattle.std.specs.Prelude.{◌≡◌, ◌≢◌, ◌↔◌, ℕ, ◌+◌, ◌<◌, ◌≤◌, ◌==◌, false, List, [], map, length, drop, All, AllPairs, HoldsAt, IsTrue, IsSome, IfSome, IfNone, IfOk, OnOk, OnErr};
 ghost use Rattle.std.specs.List.{list_any};
-ghost use Rattle.alta_meta.specs.declared.document.Document.{Document};
-ghost use Rattle.alta_search.specs.Open.{OpenAnswers, AreLeft, AreOpen, IsPageOf, IsFetch, number_in, first_free, least_free, left_of, with_opened, without_cursor, work_of};
+ghost use Rattle.alta_machine.specs.declared.document.Document.{Document};
+ghost use Rattle.alta_machine.specs.OpenAnswers.{OpenAnswers, first_free, least_free, left_of, with_opened, without_cursor};
+ghost use Rattle.alta_search.specs.Open.{AreLeft, AreOpen, IsPageOf, IsFetch, number_in, work_of};
 ghost use Rattle.alta_search.specs.Plans.{lists, locations};
 
 use crate::cursor::Cursor;
 use crate::page::Page;
 use alta_codec::Steps;
+use alta_machine::CURSORS;
 use std::alloc::{AllocError, Global};
 use std::marker::Model;
 use std::sync::ledger::Ledger;
-
-/// How many cursors may be open at once.
-pub const CURSORS: usize = 64;
 
 /// An open cursor and its number.
 #[derive(Drop)]

@@ -1,15 +1,15 @@
 // The best answers of a query.
 ghost use Rattle.std.specs.Prelude.{◌≡◌, ℕ, ◌+◌, ◌<◌, ◌≤◌, ◌∷◌, ◌++◌, [], List, map, length, All, IfSome, IfOk, OnOk};
-ghost use Rattle.alta_compile.specs.PlanOf.{plan_of};
+ghost use Rattle.alta_machine.specs.PlanOf.{plan_of};
 ghost use Rattle.alta_compile.specs.Space.{Placed};
 ghost use Rattle.alta_compile.specs.View.{tree};
-ghost use Rattle.alta_meta.specs.declared.document.Document.{Document};
-ghost use Rattle.alta_query.specs.Matches.{IsWellFormed};
-ghost use Rattle.alta_query.specs.Patterns.{title_end};
+ghost use Rattle.alta_machine.specs.declared.document.Document.{Document};
+ghost use Rattle.alta_machine.specs.Matches.{IsWellFormed};
+ghost use Rattle.alta_machine.specs.Patterns.{title_end};
 ghost use Rattle.alta_query.specs.View.{shape};
 ghost use Rattle.alta_rank.specs.Kept.{IsBest};
-ghost use Rattle.alta_rank.specs.Uses.{uses_of};
-ghost use Rattle.alta_rank.specs.declared.scored.Scored.{Scored};
+ghost use Rattle.alta_machine.specs.Uses.{uses_of};
+ghost use Rattle.alta_machine.specs.declared.scored.Scored.{Scored};
 ghost use Rattle.alta_search.specs.Answers.{coming};
 ghost use Rattle.alta_search.specs.Leads.{IsConjunction};
 ghost use Rattle.alta_search.specs.Lists.{count_lists, count_locations};
@@ -27,12 +27,10 @@ use crate::snapshot::Snapshot;
 use crate::test_reader::TestReader;
 use alta_codec::{Steps, TOP};
 use alta_compile::{Conjunction, Plan};
-use alta_content::DocRow;
+use alta_content::{AllRows, DocRow};
+use alta_machine::{Scored, ScoredList};
 use alta_query::Query;
-use alta_rank::{
-    Best, Scored, ScoredList, Scorer, a_query_has_few_uses, a_score_is_of_the_cells, uses,
-};
-use alta_rows::AllRows;
+use alta_rank::{Best, Scorer, a_query_has_few_uses, a_score_is_of_the_cells, uses};
 use std::alloc::{AllocError, Global};
 use std::sync::ledger::Ledger;
 

@@ -3,7 +3,7 @@ ghost use Rattle.std.specs.Prelude.{◌≡◌, ◌↔◌, ◌+◌, ◌<◌, ◌�
 ghost use Rattle.alta_compile.specs.Space.{document_end};
 ghost use Rattle.alta_content.specs.Rows.{end_of};
 ghost use Rattle.alta_rank.specs.Locations.{range_score};
-ghost use Rattle.alta_rank.specs.declared.usage.Use.{Use};
+ghost use Rattle.alta_machine.specs.declared.usage.Use.{Use};
 ghost use Rattle.alta_search.specs.Lists.{IsCut, lists_at, test_at, count_lists, count_locations};
 ghost use Rattle.alta_search.specs.Plans.{lists, locations};
 ghost use Rattle.alta_search.specs.Scoring.{last_lists, IsScorerOf, HasScored, IsScorable};
@@ -17,9 +17,9 @@ use crate::section::Section;
 use crate::test_reader::TestReader;
 use alta_codec::{Steps, TOP};
 use alta_content::DocRow;
-use alta_meta::kinds::DOCUMENT_END;
-use alta_query::Test;
-use alta_rank::{Scorer, Use, Uses};
+use alta_machine::kinds::DOCUMENT_END;
+use alta_machine::{Test, Use, Uses};
+use alta_rank::Scorer;
 use std::alloc::{AllocError, Global};
 use std::sync::ledger::Ledger;
 

@@ -8,7 +8,7 @@ ghost use Rattle.alta_search.specs.View.{IsView};
 
 use crate::lists::TestLists;
 use alta_codec::Loc;
-use alta_rows::AllRows;
+use alta_content::AllRows;
 use std::marker::Model;
 
 /// The first uses of a snapshot, borrowed, with all its rows and deleted ends. Contracts see the snapshot of these uses alone.

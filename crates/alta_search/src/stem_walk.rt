@@ -3,7 +3,7 @@ ghost use Rattle.std.specs.Prelude.{◌≡◌, ◌+◌, ◌<◌, ◌≤◌, List
 ghost use Rattle.alta_codec.specs.Rising.{IsRising};
 ghost use Rattle.alta_compile.specs.Space.{Placed, document_end, ends_of, list_of};
 ghost use Rattle.alta_lead.specs.Having.{ends_with_any};
-ghost use Rattle.alta_query.specs.declared.test.Test.{Test};
+ghost use Rattle.alta_machine.specs.declared.test.Test.{Test};
 ghost use Rattle.alta_search.specs.Answers.{count_live};
 ghost use Rattle.alta_search.specs.Lists.{test_list, lists_at, IsCut};
 ghost use Rattle.alta_search.specs.Plans.{lists, locations};

@@ -7,14 +7,15 @@ use Rattle.std.proofs.lemmas.List.Elements.{All-nil, All-cons, All-head, All-tai
 use Rattle.alta_codec.specs.Name.{IsName}
 use Rattle.alta_codec.specs.Bytes.{Lacks}
 use Rattle.alta_disk.specs.Disk.{DiskState, LeavesOnly}
-use Rattle.alta_meta.specs.declared.document.State.{State}
-use Rattle.alta_model.specs.Command.{Reads, adds}
-use Rattle.alta_model.specs.Faults.{IsText}
+use Rattle.alta_machine.specs.declared.document.State.{State}
+use Rattle.alta_machine.specs.Command.{Reads, adds}
+use Rattle.alta_machine.specs.LineFaults.{IsText}
 use Rattle.alta_codec.proofs.NameLaws.{name_is, name_is_not}
-use Rattle.alta_session.specs.Machine.{adding, put_as, IsRefusal}
+use Rattle.alta_machine.specs.Machine.{adding, put_as, IsRefusal}
 use Rattle.alta_session.proofs.DeletingLaws.{not_numbered, numbered}
-use Rattle.alta_images.specs.Standing.{StandsForEither}
-use Rattle.alta_images.specs.States.{has_name, number_of, with_added, with_replaced, IsDocument}
+use Rattle.alta_meaning.specs.Standing.{StandsForEither}
+use Rattle.alta_machine.specs.Changes.{has_name, number_of, with_added, with_replaced}
+use Rattle.alta_meaning.specs.Entries.{IsDocument}
 
 -- what adding answers
 pub adding_bad : (name title body : List ℕ) (s : State) → (IsName name → ⊥) → adding name title body s ≡ (s, codes "! bad name\n")

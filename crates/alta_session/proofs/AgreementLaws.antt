@@ -1,14 +1,14 @@
 -- Laws of what a session means.
 use Rattle.std.proofs.Common.{◌≡◌, ℕ, List, [], subst, sym}
 use Rattle.alta_disk.specs.Disk.{DiskState}
-use Rattle.alta_meta.specs.declared.document.State.{State}
+use Rattle.alta_machine.specs.declared.document.State.{State}
 use Rattle.alta_search.specs.Open.{AreOpen}
 use Rattle.alta_search.specs.declared.cursors.OpenCursor.{OpenCursor}
 use Rattle.alta_session.specs.Agreement.{AgreesOn}
-use Rattle.alta_session.specs.Machine.{Machine, started_at, changed_by}
+use Rattle.alta_machine.specs.Machine.{Machine, started_at, changed_by}
 use Rattle.alta_session.specs.declared.session.Session.{Session}
 use Rattle.alta_store.specs.Agreement.{Agrees, Knows}
-use Rattle.alta_images.specs.Standing.{StandsFor}
+use Rattle.alta_meaning.specs.Standing.{StandsFor}
 use Rattle.alta_store.proofs.Agreements.{knows_of}
 
 -- where nothing was answered yet

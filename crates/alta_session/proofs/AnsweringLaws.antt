@@ -4,21 +4,23 @@ use Rattle.std.proofs.lemmas.Result.{IfOk-weaker}
 use Rattle.alta_disk.specs.Disk.{DiskState, LeavesOnly, IsLawful}
 use Rattle.alta_disk.proofs.Moments.{leaves_start}
 use Rattle.alta_loading.specs.declared.mark.Ends.{Ends}
-use Rattle.alta_meta.specs.declared.document.State.{State}
-use Rattle.alta_search.specs.Open.{AreOpen, OpenAnswers}
+use Rattle.alta_machine.specs.declared.document.State.{State}
+use Rattle.alta_search.specs.Open.{AreOpen}
+use Rattle.alta_machine.specs.OpenAnswers.{OpenAnswers}
 use Rattle.alta_search.specs.declared.cursors.OpenCursor.{OpenCursor}
 use Rattle.alta_session.specs.Agreement.{AgreesOn}
 use Rattle.alta_session.specs.Answering.{CanAnswer, IsReply, AnswersFrom, Answers}
-use Rattle.alta_session.specs.Cursors.{Turn, Turns}
-use Rattle.alta_session.specs.Machine.{Machine, changed_by, turned_by, IsRefusal}
+use Rattle.alta_machine.specs.Cursors.{Turn}
+use Rattle.alta_session.specs.Turns.{Turns}
+use Rattle.alta_machine.specs.Machine.{Machine, changed_by, turned_by, IsRefusal}
 use Rattle.alta_session.specs.Tasks.{IsBy, IsWorked, worked_where}
 use Rattle.alta_session.specs.declared.session.Session.{Session}
 use Rattle.alta_session.proofs.AgreementLaws.{agrees_changed, knows_state}
 use Rattle.alta_session.proofs.TaskLaws.{worked_none}
 use Rattle.alta_store.specs.Agreement.{Knows}
-use Rattle.alta_images.specs.Holding.{Holding}
-use Rattle.alta_images.specs.Standing.{StandsFor, StandsForEither}
-use Rattle.alta_images.specs.Work.{Task}
+use Rattle.alta_meaning.specs.Holding.{Holding}
+use Rattle.alta_meaning.specs.Standing.{StandsFor, StandsForEither}
+use Rattle.alta_meaning.specs.Work.{Task}
 use Rattle.alta_store.specs.declared.fault.StoreFault.{StoreFault}
 use Rattle.alta_store.specs.declared.fault.StoreFault.TheVariants.{Disk, Memory, Damaged, Full}
 use Rattle.alta_store.specs.declared.store.Store.{Store}

@@ -1,11 +1,11 @@
 -- Laws of what a line asks for.
 use Rattle.std.proofs.Common.{◌≡◌, ℕ, List, ap, sym, subst, ◌∙◌, None}
-use Rattle.alta_model.specs.Command.{adds, deletes}
-use Rattle.alta_model.specs.Lines.{asks, refuses, reading_of}
+use Rattle.alta_machine.specs.Command.{adds, deletes}
+use Rattle.alta_machine.specs.Lines.{asks, refuses, reading_of}
 use Rattle.alta_model.specs.Seen.{command_of}
 use Rattle.alta_model.specs.declared.line.Line.{Line}
-use Rattle.alta_model.specs.declared.line.LineFault.{LineFault}
-use Rattle.alta_session.specs.Machine.{Machine, step, obeyed, refusal, LooksIn, Looks, SearchesIn, Searches}
+use Rattle.alta_machine.specs.declared.line.LineFault.{LineFault}
+use Rattle.alta_machine.specs.Machine.{Machine, step, obeyed, refusal, LooksIn, Looks, SearchesIn, Searches}
 use Rattle.alta_session.specs.Tasks.{task_of}
 use Rattle.alta_session.proofs.MachineLaws.{step_reads}
 use Rattle.alta_session.proofs.TaskLaws.{task_reads}

@@ -5,27 +5,27 @@ use Rattle.std.specs.Fmt.{digits, digits_onto, digit_glyph}
 use Rattle.std.proofs.lemmas.Bool.{false≢true}
 use Rattle.std.proofs.lemmas.Bool.Decides.{nat_tests}
 use Rattle.std.proofs.lemmas.Result.{IfOk-weaker}
-use Rattle.alta_meta.specs.declared.document.Document.{Document}
-use Rattle.alta_model.specs.Deciding.{answers}
+use Rattle.alta_machine.specs.declared.document.Document.{Document}
+use Rattle.alta_machine.specs.Deciding.{answers}
 use Rattle.alta_query.specs.Answer.{IsMemory, fault_in}
-use Rattle.alta_query.specs.Faults.{Fault}
-use Rattle.alta_query.specs.Reading.{query_of}
-use Rattle.alta_query.specs.Shape.{Shape}
-use Rattle.alta_query.specs.declared.fault.Cause.TheVariants.{Memory as WantsMemory}
+use Rattle.alta_machine.specs.QueryFaults.{Fault}
+use Rattle.alta_machine.specs.Queries.{query_of}
+use Rattle.alta_machine.specs.Shape.{Shape}
+use Rattle.alta_machine.specs.declared.cause.Cause.TheVariants.{Memory as WantsMemory}
 use Rattle.alta_query.specs.declared.fault.QueryFault.{QueryFault}
-use Rattle.alta_rank.specs.declared.scored.Scored.{Scored}
-use Rattle.alta_search.specs.Open.{AreOpen, IsFetched, OpenAnswers, least_free, left_of, with_fetched, with_opened, without_cursor}
+use Rattle.alta_machine.specs.declared.scored.Scored.{Scored}
+use Rattle.alta_search.specs.Open.{AreOpen, IsFetched}
+use Rattle.alta_machine.specs.OpenAnswers.{OpenAnswers, least_free, left_of, with_fetched, with_opened, without_cursor}
 use Rattle.alta_search.specs.declared.cursors.OpenCursor.{OpenCursor}
-use Rattle.alta_search.specs.declared.cursors.TheConstants.{CURSORS}
+use Rattle.alta_machine.specs.declared.cursors.TheConstants.{CURSORS}
 use Rattle.alta_search.specs.declared.page.Page.{Page}
-use Rattle.alta_search.specs.Documents.{told}
-use Rattle.alta_search.specs.Told.{AnswerRow}
-use Rattle.alta_session.specs.Cursors.{Turns, opening, opened_by, opened_over, fetching, fetched_as, closing, closed_as, page_lines}
-use Rattle.alta_session.specs.Machine.{IsRefusal}
-use Rattle.alta_session.specs.Searching.{answer_lines, found_line, row_lines, score_line, score_lines, query_refusal}
+use Rattle.alta_machine.specs.Searching.{told, AnswerRow, answer_lines, found_line, row_lines, score_line, score_lines, query_refusal}
+use Rattle.alta_session.specs.Turns.{Turns}
+use Rattle.alta_machine.specs.Cursors.{opening, opened_by, opened_over, fetching, fetched_as, closing, closed_as, page_lines}
+use Rattle.alta_machine.specs.Machine.{IsRefusal}
 use Rattle.alta_session.proofs.SearchLaws.{refusal_some, some_behind}
 use Rattle.alta_store.specs.declared.fault.StoreFault.{StoreFault}
-use Rattle.alta_images.proofs.Tests.{apart_test}
+use Rattle.alta_meaning.proofs.Tests.{apart_test}
 
 -- ---- a reply has at least its newline
 either_some : (b : Bool) (xs ys : List ℕ) → 0 < length xs → 0 < length ys → 0 < length (cond b xs ys)

@@ -1,14 +1,14 @@
 -- Laws of damage that lines find, and of places that they want.
 use Rattle.std.proofs.Common.{◌≡◌, ◌⊎◌, ℕ, inl, inr, List, [], ◌∷◌, ◌++◌, length, map, ap, sym, subst, ◌∙◌, Result, Err}
 use Rattle.alta_disk.specs.Disk.{DiskState}
-use Rattle.alta_model.specs.Command.{Command, adds, deletes, searches, counts, explains, opens, fetches, closes, ranks, flushes, merges, steps, asks_stats, dumps}
-use Rattle.alta_model.specs.Lines.{Reading, asks, refuses, reading_of}
+use Rattle.alta_machine.specs.Command.{Command, adds, deletes, searches, counts, explains, opens, fetches, closes, ranks, flushes, merges, steps, asks_stats, dumps}
+use Rattle.alta_machine.specs.Lines.{Reading, asks, refuses, reading_of}
 use Rattle.alta_session.specs.Answering.{CanAnswer}
 use Rattle.alta_session.specs.Damage.{FindsDamage, SomeFindsDamage, SomeWantsPlace, WantsPlace}
 use Rattle.alta_session.specs.Joining.{Works}
 use Rattle.alta_session.specs.Keeping.{clip}
 use Rattle.alta_session.specs.Loading.{Loads, session_loads}
-use Rattle.alta_session.specs.Machine.{Searches, SearchesIn}
+use Rattle.alta_machine.specs.Machine.{Searches, SearchesIn}
 use Rattle.alta_session.specs.declared.session.Session.{Session}
 use Rattle.alta_session.proofs.MachineLaws.{reading_clip}
 use Rattle.alta_store.specs.declared.fault.StoreFault.{StoreFault}

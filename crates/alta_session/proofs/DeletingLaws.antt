@@ -4,15 +4,14 @@ use Rattle.std.specs.Prelude.{Option, Some, None, option_map}
 use Rattle.std.specs.List.{list_any, find}
 use Rattle.std.specs.Str.{bytes_eq}
 use Rattle.std.proofs.lemmas.Bool.{false≢true}
-use Rattle.alta_codec.specs.Name.{IsName}
+use Rattle.alta_codec.specs.Name.{IsName, is_name}
 use Rattle.alta_disk.specs.Disk.{DiskState, LeavesOnly}
-use Rattle.alta_meta.specs.declared.document.Document.{Document}
-use Rattle.alta_meta.specs.declared.document.State.{State}
-use Rattle.alta_codec.specs.Name.{is_name}
+use Rattle.alta_machine.specs.declared.document.Document.{Document}
+use Rattle.alta_machine.specs.declared.document.State.{State}
 use Rattle.alta_codec.proofs.NameLaws.{name_is, name_is_not}
-use Rattle.alta_session.specs.Machine.{deleted_as, deleting, stats_of, IsRefusal}
-use Rattle.alta_images.specs.Standing.{StandsForEither}
-use Rattle.alta_images.specs.States.{has_name, number_of, words_in, with_deleted}
+use Rattle.alta_machine.specs.Machine.{deleted_as, deleting, stats_of, IsRefusal}
+use Rattle.alta_meaning.specs.Standing.{StandsForEither}
+use Rattle.alta_machine.specs.Changes.{has_name, number_of, words_in, with_deleted}
 use Rattle.alta_session.proofs.SearchLaws.{some_behind}
 
 -- what is found, and what is left out, in a list

@@ -9,16 +9,16 @@ use Rattle.alta_console.specs.declared.event.Event.{Event}
 use Rattle.alta_console.proofs.GivingLaws.{gives_none}
 use Rattle.alta_disk.specs.Disk.{DiskState, IsLawful}
 use Rattle.alta_disk.proofs.Moments.{stands_only}
-use Rattle.alta_images.specs.Holding.{Holding}
-use Rattle.alta_images.specs.Standing.{StandsFor}
-use Rattle.alta_images.specs.States.{empty}
-use Rattle.alta_images.specs.Switching.{empty_held}
+use Rattle.alta_meaning.specs.Holding.{Holding}
+use Rattle.alta_meaning.specs.Standing.{StandsFor}
+use Rattle.alta_machine.specs.States.{empty_state}
+use Rattle.alta_meaning.specs.Switching.{empty_held}
 use Rattle.alta_root.specs.Slots.{HasNoRoot}
 use Rattle.alta_session.specs.Agreement.{AgreesOn}
 use Rattle.alta_session.specs.Demo.{Obeyed, StopsObeying, ReportsFrom, EndsDemo, Demonstrates}
 use Rattle.alta_session.specs.Fed.{Fed, FedFrom}
 use Rattle.alta_session.specs.Fullness.{IsFullOnly, IsInterrupted, IsFull}
-use Rattle.alta_session.specs.Machine.{Machine, started_at, machine_after, replies}
+use Rattle.alta_machine.specs.Machine.{Machine, started_at, machine_after, replies}
 use Rattle.alta_session.specs.Progress.{StopsWithin, StopsWithinFrom}
 use Rattle.alta_session.specs.Run.{KeepsDisk}
 use Rattle.alta_session.specs.Status.{EndsInit, EndsLine, StopsLine, IsOpened, IsUnmade, Completes, status_for}
@@ -155,9 +155,9 @@ line_not_exists status (inr (place, is)) other = cc
 
 -- no index was made
 init_reports : (tells : Type 0) (lines asked : List (List ℕ)) (d e : DiskState) (status : Status) → EndsInit status → status ≢ Done → (status ≡ Exists → HasNoRoot d.content → ⊥) → ((need gap : ℕ) → status ≡ Full need gap → d.limit < 2105344)
-    → HasNoRoot d.content → 2105344 ≤ d.limit → ReportsFrom d.limit empty_held (started_at empty) lines asked [] e status
+    → HasNoRoot d.content → 2105344 ≤ d.limit → ReportsFrom d.limit empty_held (started_at empty_state) lines asked [] e status
 init_reports tells lines asked d e status (inl done) not_done exists small none big = absurd (not_done done)
-init_reports tells lines asked d e status (inr (inl fault)) not_done exists small none big = reports_none d.limit empty_held (started_at empty) lines asked e status (inr (inl fault))
+init_reports tells lines asked d e status (inr (inl fault)) not_done exists small none big = reports_none d.limit empty_held (started_at empty_state) lines asked e status (inr (inl fault))
 init_reports tells lines asked d e status (inr (inr (inl there))) not_done exists small none big = absurd (exists there none)
 init_reports tells lines asked d e status (inr (inr (inr (need, gap, is)))) not_done exists small none big = absurd (omega (arith, small need gap is, big))
 
@@ -172,7 +172,7 @@ demo_unmade tells lines asked told d e status ends not_done exists found narrow 
   ends = inl ends;
   given = [];
   gave = gives_none told;
-  begins = λ tell. (concat (replies (machine_after (started_at empty) lines) asked), refl);
+  begins = λ tell. (concat (replies (machine_after (started_at empty_state) lines) asked), refl);
   opened = λ tell. init_opened status ends;
   exists = exists;
   found = found;
@@ -197,7 +197,7 @@ is_made tells d status done found small = record {
 
 -- it was made
 pub demo_made : (tells : Type 0) (lines asked : List (List ℕ)) (told told_now : Option (List Event)) (d e : DiskState) (given : List ℕ) (status : Status) → IsLawful tells e → IsMade tells d → EndsDemo status → status ≢ Exists → Gives told told_now given
-    → (tells → ReportsFrom d.limit empty_held (started_at empty) lines asked given e status) → ((need gap : ℕ) → tells → status ≡ Full need gap → IsFull e need gap) → Demonstrates tells lines asked told told_now d e status
+    → (tells → ReportsFrom d.limit empty_held (started_at empty_state) lines asked given e status) → ((need gap : ℕ) → tells → status ≡ Full need gap → IsFull e need gap) → Demonstrates tells lines asked told told_now d e status
 demo_made tells lines asked told told_now d e given status lawful made ends never gave reports narrow = record {
   ends = ends;
   given = given;
@@ -211,20 +211,20 @@ demo_made tells lines asked told told_now d e given status lawful made ends neve
   reports = λ tell none big. reports tell;
   narrow = λ need gap tell big is. narrow need gap tell is;
   stands = λ done.
-      stands_only tells e (StandsFor (machine_after (started_at empty) (lines ++ asked)).state) lawful (λ c here. ((reports (lawful.told c here)).levels done).1 c here) (λ tell. (reports tell).stands done);
+      stands_only tells e (StandsFor (machine_after (started_at empty_state) (lines ++ asked)).state) lawful (λ c here. ((reports (lawful.told c here)).levels done).1 c here) (λ tell. (reports tell).stands done);
 }
 
 -- the index was not opened
 pub demo_unopened : (tells : Type 0) (lines asked : List (List ℕ)) (told : Option (List Event)) (d e : DiskState) (status : Status) → IsLawful tells e → IsMade tells d → EndsDemo status → status ≢ Exists → (tells → IsInterrupted status) → ((need gap : ℕ) → status ≡ Full need gap → ⊥)
     → Demonstrates tells lines asked told told d e status
 demo_unopened tells lines asked told d e status lawful made ends never stopped not_full =
-    demo_made tells lines asked told told d e [] status lawful made ends never (gives_none told) (λ tell. reports_none d.limit empty_held (started_at empty) lines asked e status (stopped tell))
+    demo_made tells lines asked told told d e [] status lawful made ends never (gives_none told) (λ tell. reports_none d.limit empty_held (started_at empty_state) lines asked e status (stopped tell))
     (λ need gap tell is. absurd (not_full need gap is))
 
 -- What opening an index without documents says.
 pub record IsNew (tells : Type 0) (d e : DiskState) (session : Session) : Type 0 where
-  pub stands : tells → StandsFor empty e.content
-  pub agrees : tells → AgreesOn tells e session (started_at empty)
+  pub stands : tells → StandsFor empty_state e.content
+  pub agrees : tells → AgreesOn tells e session (started_at empty_state)
   pub held : tells → IsBy session e.content empty_held
   pub same_limit : e.limit ≡ d.limit
 
@@ -233,8 +233,8 @@ pub demo_early : (tells : Type 0) (lines asked : List (List ℕ)) (told : Option
 demo_early tells lines asked told d e f session status lawful made new stops ends narrow =
     demo_made tells lines asked told told d f [] status lawful made (inr (inl ends)) (line_not_exists status ends) (gives_none told)
     (λ tell.
-    subst (λ (limit : ℕ). ReportsFrom limit empty_held (started_at empty) lines asked [] f status) new.same_limit
-    (reports_early e f session empty_held (started_at empty) lines asked stops.given status (new.held tell) (stops.each (started_at empty) tell (new.agrees tell)) ends))
+    subst (λ (limit : ℕ). ReportsFrom limit empty_held (started_at empty_state) lines asked [] f status) new.same_limit
+    (reports_early e f session empty_held (started_at empty_state) lines asked stops.given status (new.held tell) (stops.each (started_at empty_state) tell (new.agrees tell)) ends))
     narrow
 
 pub demo_late : (tells : Type 0) (lines asked : List (List ℕ)) (told told_now : Option (List Event)) (d e f h : DiskState) (s0 s1 : Session) (status : Status) → IsLawful tells h → IsMade tells d → IsNew tells d e s0 → Obeyed tells e f s0 s1 lines → StopsWithin tells told told_now f h s1 asked status
@@ -242,9 +242,9 @@ pub demo_late : (tells : Type 0) (lines asked : List (List ℕ)) (told told_now 
 demo_late tells lines asked told told_now d e f h s0 s1 status lawful made new obeyed stops ends narrow =
     demo_made tells lines asked told told_now d h stops.given status lawful made (inr (inl ends)) (line_not_exists status ends) stops.gave
     (λ tell.
-    let fed : FedFrom tells e f s0 s1 lines obeyed.given (started_at empty) = obeyed.each (started_at empty) tell (new.agrees tell) in
-    subst (λ (limit : ℕ). ReportsFrom limit empty_held (started_at empty) lines asked stops.given h status) new.same_limit
-    (reports_late tells e f h s0 s1 empty_held (started_at empty) lines asked obeyed.given stops.given status (new.held tell) fed obeyed.same_limit (stops.each (machine_after (started_at empty) lines) tell fed.agrees) ends))
+    let fed : FedFrom tells e f s0 s1 lines obeyed.given (started_at empty_state) = obeyed.each (started_at empty_state) tell (new.agrees tell) in
+    subst (λ (limit : ℕ). ReportsFrom limit empty_held (started_at empty_state) lines asked stops.given h status) new.same_limit
+    (reports_late tells e f h s0 s1 empty_held (started_at empty_state) lines asked obeyed.given stops.given status (new.held tell) fed obeyed.same_limit (stops.each (machine_after (started_at empty_state) lines) tell fed.agrees) ends))
     narrow
 
 pub demo_done : (tells : Type 0) (lines asked : List (List ℕ)) (told told_now : Option (List Event)) (d e f h : DiskState) (s0 s1 s2 : Session) → IsLawful tells h → IsMade tells d → IsNew tells d e s0 → Obeyed tells e f s0 s1 lines → Fed tells told told_now f h s1 s2 asked
@@ -252,9 +252,9 @@ pub demo_done : (tells : Type 0) (lines asked : List (List ℕ)) (told told_now 
 demo_done tells lines asked told told_now d e f h s0 s1 s2 lawful made new obeyed later =
     demo_made tells lines asked told told_now d h later.given Done lawful made (inl (inl refl)) (λ is. cc) later.gave
     (λ tell.
-    let fed : FedFrom tells e f s0 s1 lines obeyed.given (started_at empty) = obeyed.each (started_at empty) tell (new.agrees tell) in
-    subst (λ (limit : ℕ). ReportsFrom limit empty_held (started_at empty) lines asked later.given h Done) new.same_limit
-    (reports_all tells e f h s0 s1 s2 empty_held (started_at empty) lines asked obeyed.given later.given tell (new.held tell) fed obeyed.same_limit (later.each (machine_after (started_at empty) lines) tell fed.agrees)))
+    let fed : FedFrom tells e f s0 s1 lines obeyed.given (started_at empty_state) = obeyed.each (started_at empty_state) tell (new.agrees tell) in
+    subst (λ (limit : ℕ). ReportsFrom limit empty_held (started_at empty_state) lines asked later.given h Done) new.same_limit
+    (reports_all tells e f h s0 s1 s2 empty_held (started_at empty_state) lines asked obeyed.given later.given tell (new.held tell) fed obeyed.same_limit (later.each (machine_after (started_at empty_state) lines) tell fed.agrees)))
     (λ need gap tell is. absurd cc)
 
 -- ---- statuses

@@ -7,14 +7,14 @@ use Rattle.alta_console.proofs.GivingLaws.{gives_on, gives_none}
 use Rattle.alta_console.proofs.ReplyLaws.{joined_append}
 use Rattle.alta_disk.specs.Disk.{DiskState, LeavesOnly, IsLawful, Each}
 use Rattle.alta_disk.proofs.Moments.{leaves_start, leaves_then, leaves_as}
-use Rattle.alta_images.specs.Holding.{Holding}
+use Rattle.alta_meaning.specs.Holding.{Holding}
 use Rattle.alta_session.specs.Agreement.{AgreesOn}
-use Rattle.alta_model.specs.Lines.{reading_of}
+use Rattle.alta_machine.specs.Lines.{reading_of}
 use Rattle.alta_session.specs.Damage.{FindsDamage, WantsPlace}
 use Rattle.alta_session.specs.Fed.{Fed, FedFrom}
 use Rattle.alta_session.specs.Fullness.{IsFullOnly}
 use Rattle.alta_session.specs.Keeping.{clip}
-use Rattle.alta_session.specs.Machine.{Machine, step, machine_after, replies}
+use Rattle.alta_machine.specs.Machine.{Machine, step, machine_after, replies}
 use Rattle.alta_session.specs.Progress.{StandsAfterSome, Progress, StopsWithin, StopsWithinFrom}
 use Rattle.alta_session.specs.Tasks.{IsBy, IsDone, IsOn, IsWorked, task_of, worked_lines, worked_where}
 use Rattle.alta_session.specs.Spending.{KeepsStore, Spends}
@@ -27,7 +27,7 @@ use Rattle.alta_session.proofs.GivenLaws.{given_behind, given_less, none_behind,
 use Rattle.alta_session.proofs.MachineLaws.{after_append, replies_append, replies_same, after_same, reply_some}
 use Rattle.alta_session.proofs.ProgressLaws.{some_none, some_either, some_on, some_more, some_clip, progress_none, progress_stop, progress_on, progress_more, progress_full, progress_clip}
 use Rattle.alta_session.proofs.TaskLaws.{lines_on, one_worked, worked_as, worked_on_image, worked_same}
-use Rattle.alta_images.specs.Standing.{StandsForEither}
+use Rattle.alta_meaning.specs.Standing.{StandsForEither}
 use Rattle.alta_store.proofs.Agreements.{images_stand}
 use Rattle.alta_session.proofs.SpendingLaws.{keeps_clip, keeps_on, spends_clip, spends_more, spends_none, spends_on}
 

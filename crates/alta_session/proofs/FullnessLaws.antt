@@ -5,11 +5,11 @@ use Rattle.std.proofs.lemmas.List.{take-append-le, take-append-drop}
 use Rattle.std.proofs.Math.Seq.{take-add, take-append-add}
 use Rattle.std.specs.List.{concat}
 use Rattle.alta_console.proofs.ReplyLaws.{joined_append}
-use Rattle.alta_images.specs.Holding.{Holding}
-use Rattle.alta_images.specs.Working.{Full as Place}
+use Rattle.alta_meaning.specs.Holding.{Holding}
+use Rattle.alta_meaning.specs.Working.{Full as Place}
 use Rattle.alta_session.specs.Fullness.{Overflows, IsFullOnly, IsInterrupted, IsFullExactly}
 use Rattle.alta_session.specs.Keeping.{clip}
-use Rattle.alta_session.specs.Machine.{Machine, machine_after, replies}
+use Rattle.alta_machine.specs.Machine.{Machine, machine_after, replies}
 use Rattle.alta_session.specs.Status.{StopsLine}
 use Rattle.alta_session.specs.Tasks.{worked_lines}
 use Rattle.alta_session.specs.declared.status.Status.{Status}

@@ -2,7 +2,7 @@
 use Rattle.std.proofs.Common.{◌≡◌, ℕ, ◌<◌, List, [], ◌∷◌, ◌++◌, length, refl, ap, sym, ◌∙◌, append-nil, length-append, arith}
 use Rattle.std.specs.List.{concat}
 use Rattle.alta_console.proofs.ReplyLaws.{joined_append}
-use Rattle.alta_session.specs.Machine.{Machine, step, machine_after, replies}
+use Rattle.alta_machine.specs.Machine.{Machine, step, machine_after, replies}
 use Rattle.alta_session.specs.Progress.{Progress}
 use Rattle.alta_session.proofs.MachineLaws.{replies_append, reply_some}
 use Rattle.alta_session.proofs.ProgressLaws.{progress_begins}

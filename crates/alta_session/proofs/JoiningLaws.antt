@@ -2,13 +2,13 @@
 use Rattle.std.proofs.Common.{◌≡◌, ℕ, List, Result, Ok, Err, refl, subst, sym}
 use Rattle.std.specs.Prelude.{IfErr, Option, Some}
 use Rattle.alta_disk.specs.Disk.{DiskState}
-use Rattle.alta_images.specs.Broken.{IsBrokenAmong}
-use Rattle.alta_images.specs.Opened.{Opened, IsOpened}
-use Rattle.alta_images.specs.Work.{Task}
-use Rattle.alta_meta.specs.declared.document.State.{State}
-use Rattle.alta_model.specs.Lines.{Reading}
+use Rattle.alta_meaning.specs.Broken.{IsBrokenAmong}
+use Rattle.alta_meaning.specs.Opened.{Opened, IsOpened}
+use Rattle.alta_meaning.specs.Work.{Task}
+use Rattle.alta_machine.specs.declared.document.State.{State}
+use Rattle.alta_machine.specs.Lines.{Reading}
 use Rattle.alta_session.specs.Joining.{IdlesIn, FindsNoPlace, Works, joins_where}
-use Rattle.alta_session.specs.Machine.{SearchesIn, started_at}
+use Rattle.alta_machine.specs.Machine.{SearchesIn, started_at}
 use Rattle.alta_session.specs.Tasks.{task_in}
 use Rattle.alta_store.specs.Agreement.{Knows}
 use Rattle.alta_store.specs.Calls.{Becomes, joined_by}

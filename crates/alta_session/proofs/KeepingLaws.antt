@@ -8,7 +8,7 @@ use Rattle.std.proofs.lemmas.List.Elements.{All-nil, All-cons, All-append, All-t
 use Rattle.alta_codec.specs.Bytes.{Lacks}
 use Rattle.alta_console.specs.Lines.{whole_from, begun_from, last_piece}
 use Rattle.alta_console.proofs.LineLaws.{take_take, take_grow, whole_from_take, begun_from_take, last_piece_take, whole_from_none, begun_from_none}
-use Rattle.alta_model.specs.declared.line.TheConstants.{LINE_LIMIT}
+use Rattle.alta_machine.specs.declared.line.TheConstants.{LINE_LIMIT}
 use Rattle.alta_session.specs.Keeping.{clip}
 use Rattle.memchr.specs.Find.{IsFirstByte, is_byte}
 

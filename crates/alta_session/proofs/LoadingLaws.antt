@@ -7,39 +7,39 @@ use Rattle.std.proofs.lemmas.Result.{IfOk-weaker}
 use Rattle.std.specs.Str.{bytes_eq}
 use Rattle.alta_catalog.specs.Knowing.{gone_of}
 use Rattle.alta_codec.specs.Faults.{Rose}
-use Rattle.alta_compile.specs.PlanOf.{plan_of}
+use Rattle.alta_machine.specs.PlanOf.{plan_of}
 use Rattle.alta_content.specs.declared.content.Content.{Content}
 use Rattle.alta_disk.specs.Calls.{Reads}
 use Rattle.alta_disk.specs.Disk.{DiskState, IsLawful}
 use Rattle.alta_disk.proofs.Moments.{only_same}
-use Rattle.alta_images.specs.Broken.{IsBrokenAmong}
-use Rattle.alta_loading.specs.Answers.{IfDamaged}
+use Rattle.alta_meaning.specs.Broken.{IsBrokenAmong}
+use Rattle.alta_disk.specs.Answers.{IfDamaged}
 use Rattle.alta_loading.specs.Loads.{Load, Tells, IsFirstFault, IsWhole, load_at, load_in, load_sizes, loads_from, row_from}
 use Rattle.alta_loading.specs.Met.{each_once, loads_met, loads_of_tests, terms_met}
 use Rattle.alta_loading.specs.Terms.{loads_of}
-use Rattle.alta_loading.specs.declared.fault.LoadFault.{LoadFault}
-use Rattle.alta_loading.specs.declared.fault.LoadFault.TheVariants.{Disk as LoadDisk, Memory as LoadMemory, Damaged as LoadDamaged}
+use Rattle.alta_disk.specs.declared.fault.LoadFault.{LoadFault}
+use Rattle.alta_disk.specs.declared.fault.LoadFault.TheVariants.{Disk as LoadDisk, Memory as LoadMemory, Damaged as LoadDamaged}
 use Rattle.alta_loading.specs.declared.mark.Ends.{Ends}
 use Rattle.alta_loading.proofs.Places.{fault_of_level}
 use Rattle.alta_loading.proofs.Runs.{reads_none, reads_most}
-use Rattle.alta_images.specs.Standing.{StandsFor}
-use Rattle.alta_meta.specs.declared.document.State.{State}
+use Rattle.alta_meaning.specs.Standing.{StandsFor}
+use Rattle.alta_machine.specs.declared.document.State.{State}
 use Rattle.alta_query.specs.Answer.{IsMemory, fault_in}
-use Rattle.alta_query.specs.Faults.{Fault}
-use Rattle.alta_query.specs.Reading.{query_of}
-use Rattle.alta_query.specs.Shape.{Shape}
-use Rattle.alta_query.specs.declared.fault.Cause.TheVariants.{Memory as WantsMemory}
+use Rattle.alta_machine.specs.QueryFaults.{Fault}
+use Rattle.alta_machine.specs.Queries.{query_of}
+use Rattle.alta_machine.specs.Shape.{Shape}
+use Rattle.alta_machine.specs.declared.cause.Cause.TheVariants.{Memory as WantsMemory}
 use Rattle.alta_query.specs.declared.fault.QueryFault.{QueryFault}
-use Rattle.alta_query.specs.declared.test.Test.{Test}
+use Rattle.alta_machine.specs.declared.test.Test.{Test}
 use Rattle.alta_search.specs.Plans.{tests_of}
 use Rattle.alta_search.specs.declared.cursors.OpenCursor.{OpenCursor}
-use Rattle.alta_search.specs.declared.cursors.TheConstants.{CURSORS}
-use Rattle.alta_session.specs.Loading.{KeepsMark, Loads, MarkHolds, Queries, loads_of_text, newest_in, of_load, open_loads, query_loads, ranked_loads_of_text, ranked_query_loads, search_loads, text_loads, top_loads, top_text_loads}
-use Rattle.alta_session.specs.Machine.{IsRefusal}
-use Rattle.alta_session.specs.Searching.{IsNoQuery}
+use Rattle.alta_machine.specs.declared.cursors.TheConstants.{CURSORS}
+use Rattle.alta_session.specs.Loading.{KeepsMark, Loads, MarkHolds, Queries, loads_of_text, newest_in, open_loads, query_loads, ranked_loads_of_text, ranked_query_loads, search_loads, text_loads, top_loads, top_text_loads}
+use Rattle.alta_store.specs.Answers.{of_load, IsOutside}
+use Rattle.alta_machine.specs.Machine.{IsRefusal}
+use Rattle.alta_machine.specs.Searching.{IsNoQuery}
 use Rattle.alta_session.proofs.StatusLaws.{ok_answers, err_answers}
 use Rattle.alta_store.specs.Agreement.{Agrees, GoesOnOver, KeepsOpened, levels_of}
-use Rattle.alta_store.specs.Answers.{IsOutside}
 use Rattle.alta_store.specs.declared.fault.StoreFault.{StoreFault}
 use Rattle.alta_store.specs.declared.fault.StoreFault.TheVariants.{Disk, Memory, Damaged}
 use Rattle.alta_store.specs.declared.store.Store.{Store}

@@ -4,16 +4,16 @@ use Rattle.std.proofs.lemmas.Grind.{common_steps}
 use Rattle.std.proofs.lemmas.List.{length-take, take_all, take-map}
 use Rattle.std.proofs.lemmas.Bool.{cases_lt}
 use Rattle.alta_codec.specs.Name.{is_name}
-use Rattle.alta_images.specs.States.{number_of}
-use Rattle.alta_meta.specs.declared.document.State.{State}
-use Rattle.alta_model.specs.Command.{Command, adds, deletes, searches, counts, explains, opens, fetches, closes, ranks, flushes, merges, steps, asks_stats, dumps}
-use Rattle.alta_model.specs.Lines.{Reading, asks, refuses, reading_of}
-use Rattle.alta_model.specs.declared.line.TheConstants.{LINE_LIMIT}
-use Rattle.alta_model.specs.declared.line.LineFault.{LineFault}
-use Rattle.alta_model.specs.declared.line.LineFault.TheVariants.{TooLong, NotUtf8, Unknown, Bad}
+use Rattle.alta_machine.specs.Changes.{number_of}
+use Rattle.alta_machine.specs.declared.document.State.{State}
+use Rattle.alta_machine.specs.Command.{Command, adds, deletes, searches, counts, explains, opens, fetches, closes, ranks, flushes, merges, steps, asks_stats, dumps}
+use Rattle.alta_machine.specs.Lines.{Reading, asks, refuses, reading_of}
+use Rattle.alta_machine.specs.declared.line.TheConstants.{LINE_LIMIT}
+use Rattle.alta_machine.specs.declared.line.LineFault.{LineFault}
+use Rattle.alta_machine.specs.declared.line.LineFault.TheVariants.{TooLong, NotUtf8, Unknown, Bad}
 use Rattle.alta_model.proofs.Readings.{reading_long}
 use Rattle.alta_session.specs.Keeping.{clip}
-use Rattle.alta_session.specs.Machine.{Machine, refusal, adding, put_as, obeyed, answered, step, machine_after, replies}
+use Rattle.alta_machine.specs.Machine.{Machine, refusal, adding, put_as, obeyed, answered, step, machine_after, replies}
 use Rattle.alta_session.proofs.CursorLaws.{opening_some, fetching_some, closing_some}
 use Rattle.alta_session.proofs.DeletingLaws.{deleting_some, if_some, stats_some}
 use Rattle.alta_session.proofs.DumpLaws.{dumped_some}

@@ -1,9 +1,9 @@
 -- Laws of calls of the store that do a task.
 use Rattle.std.proofs.Common.{◌≡◌, ◌⊎◌, ℕ, inl, inr, List, ap, sym, subst, ◌∙◌, Ok, Err}
 use Rattle.std.specs.Prelude.{Option, Some}
-use Rattle.alta_images.specs.Holding.{Holding}
-use Rattle.alta_images.specs.Work.{Task}
-use Rattle.alta_images.specs.Working.{worked}
+use Rattle.alta_meaning.specs.Holding.{Holding}
+use Rattle.alta_meaning.specs.Work.{Task}
+use Rattle.alta_meaning.specs.Working.{worked}
 use Rattle.alta_session.specs.Tasks.{IsWorked, worked_where}
 use Rattle.alta_store.specs.Answers.{IsOutside}
 use Rattle.alta_store.specs.Calls.{IsCause, IsNarrow, NoRefusal, RefusesAdd, RefusesReplace}

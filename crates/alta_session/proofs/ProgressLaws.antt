@@ -6,10 +6,10 @@ use Rattle.std.specs.List.{concat}
 use Rattle.alta_console.specs.Replies.{IsPrefix, IsAcked, IsPartOfFirst}
 use Rattle.alta_console.proofs.ReplyLaws.{joined_append, joined_parts, part_begins, acked_part}
 use Rattle.alta_session.specs.Keeping.{clip}
-use Rattle.alta_session.specs.Machine.{Machine, step, machine_after, replies}
+use Rattle.alta_machine.specs.Machine.{Machine, step, machine_after, replies}
 use Rattle.alta_session.specs.Progress.{StandsAfterSome, StandsAfter, Progress}
 use Rattle.alta_session.proofs.MachineLaws.{after_append, replies_append, length_replies, reply_some, replies_clip, after_take, length_same}
-use Rattle.alta_images.specs.Standing.{StandsFor, StandsForEither}
+use Rattle.alta_meaning.specs.Standing.{StandsFor, StandsForEither}
 
 -- an image that stands for the state after this many lines stands for one after some
 pub some_of : (answered : ℕ) (m : Machine) (lines : List (List ℕ)) (image : List ℕ) → StandsAfter answered m lines image → StandsAfterSome m lines image

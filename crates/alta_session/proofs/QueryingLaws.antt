@@ -4,28 +4,30 @@ use Rattle.std.specs.Prelude.{nat_le}
 use Rattle.std.proofs.lemmas.Bool.Decides.{nat_tests}
 use Rattle.alta_disk.specs.Disk.{DiskState, IsLawful, Same}
 use Rattle.alta_disk.proofs.Moments.{leaves_by}
-use Rattle.alta_images.specs.Standing.{StandsFor, StandsForEither}
-use Rattle.alta_images.specs.Work.{Task}
+use Rattle.alta_meaning.specs.Standing.{StandsFor, StandsForEither}
+use Rattle.alta_meaning.specs.Work.{Task}
 use Rattle.alta_loading.specs.Loads.{Load, load_sizes}
 use Rattle.alta_loading.specs.declared.mark.Ends.{Ends}
-use Rattle.alta_meta.specs.declared.document.Document.{Document}
-use Rattle.alta_meta.specs.declared.document.State.{State}
-use Rattle.alta_model.specs.Deciding.{answers}
-use Rattle.alta_query.specs.Faults.{Fault}
-use Rattle.alta_query.specs.Reading.{query_of}
-use Rattle.alta_query.specs.Shape.{Shape}
-use Rattle.alta_rank.specs.Ranked.{ranked}
-use Rattle.alta_rank.specs.Uses.{uses_of}
-use Rattle.alta_search.specs.Open.{AreOpen, OpenAnswers, least_free, with_opened}
-use Rattle.alta_search.specs.Tops.{scored}
+use Rattle.alta_machine.specs.declared.document.Document.{Document}
+use Rattle.alta_machine.specs.declared.document.State.{State}
+use Rattle.alta_machine.specs.Deciding.{answers}
+use Rattle.alta_machine.specs.QueryFaults.{Fault}
+use Rattle.alta_machine.specs.Queries.{query_of}
+use Rattle.alta_machine.specs.Shape.{Shape}
+use Rattle.alta_machine.specs.Ranked.{ranked}
+use Rattle.alta_machine.specs.Uses.{uses_of}
+use Rattle.alta_search.specs.Open.{AreOpen}
+use Rattle.alta_machine.specs.OpenAnswers.{OpenAnswers, least_free, with_opened}
+use Rattle.alta_machine.specs.Scores.{scored}
 use Rattle.alta_search.specs.declared.cursors.OpenCursor.{OpenCursor}
-use Rattle.alta_search.specs.declared.cursors.TheConstants.{CURSORS}
+use Rattle.alta_machine.specs.declared.cursors.TheConstants.{CURSORS}
 use Rattle.alta_search.proofs.CursorAnswers.{same_length}
 use Rattle.alta_session.specs.Answering.{Answers, CanAnswer}
-use Rattle.alta_session.specs.Cursors.{Turn, Turns, opening, opened_by}
+use Rattle.alta_machine.specs.Cursors.{Turn, opening, opened_by}
+use Rattle.alta_session.specs.Turns.{Turns}
 use Rattle.alta_session.specs.Loading.{KeepsMark, Queries}
-use Rattle.alta_session.specs.Machine.{IsRefusal, Machine, turned_by}
-use Rattle.alta_session.specs.Searching.{IsNoQuery, answer_lines, counted_by, counting, found_by, found_line, ranked_by, ranking, score_lines, searching}
+use Rattle.alta_machine.specs.Machine.{IsRefusal, Machine, turned_by}
+use Rattle.alta_machine.specs.Searching.{IsNoQuery, answer_lines, counted_by, counting, found_by, found_line, ranked_by, ranking, score_lines, searching}
 use Rattle.alta_session.specs.Tasks.{IsBy}
 use Rattle.alta_session.specs.declared.session.Session.{Session}
 use Rattle.alta_session.proofs.AnsweringLaws.{answers_by, if_so, ok_weaker, with_mark}

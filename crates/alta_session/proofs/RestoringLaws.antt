@@ -8,16 +8,16 @@ use Rattle.std.proofs.lemmas.List.Elements.{All-nil, All-cons, All-head, All-tai
 use Rattle.std.proofs.lemmas.List.Folds.{list_any-append}
 use Rattle.std.proofs.lemmas.Slice.Eq.{bytes_eq-Decides}
 use Rattle.alta_codec.specs.Name.{IsName}
-use Rattle.alta_dump.specs.Dumps.{added_from, restored}
-use Rattle.alta_dump.specs.Lines.{body_text, cells_again, line_of, title_text}
+use Rattle.alta_machine.specs.Dumps.{added_from, restored}
+use Rattle.alta_machine.specs.DumpLines.{body_text, cells_again, line_of, title_text}
 use Rattle.alta_dump.proofs.Readable.{line_asks}
-use Rattle.alta_images.specs.States.{empty, has_name, with_added}
-use Rattle.alta_meta.specs.States.{AllDiffer, name_of}
-use Rattle.alta_meta.specs.declared.document.Document.{Document}
-use Rattle.alta_meta.specs.declared.document.State.{State}
-use Rattle.alta_model.specs.Command.{adds}
-use Rattle.alta_model.specs.Lines.{asks}
-use Rattle.alta_session.specs.Machine.{Machine, machine_after, started_at, step}
+use Rattle.alta_machine.specs.States.{empty_state, AllDiffer, name_of}
+use Rattle.alta_machine.specs.Changes.{has_name, with_added}
+use Rattle.alta_machine.specs.declared.document.Document.{Document}
+use Rattle.alta_machine.specs.declared.document.State.{State}
+use Rattle.alta_machine.specs.Command.{adds}
+use Rattle.alta_machine.specs.Lines.{asks}
+use Rattle.alta_machine.specs.Machine.{Machine, machine_after, started_at, step}
 use Rattle.alta_session.specs.Restoring.{AreAddLines}
 use Rattle.alta_session.proofs.AddingLaws.{adding_added}
 use Rattle.alta_session.proofs.MachineLaws.{step_reads}
@@ -72,9 +72,9 @@ all_added (d ∷ ds) (line ∷ lines) s each named apart free room =
     ∙ parts (s.next + 1 + length ds) (s.next + length (d ∷ ds)) (t.documents ++ added_from (s.next + 1) ds) (s.documents ++ added_from s.next (d ∷ ds)) (omega arith)
     (append_assoc s.documents (record { number = s.next; name = d.name; cells = cells_again d } ∷ []) (added_from (s.next + 1) ds))
 
-pub lines_restore : (documents : List Document) (lines : List (List ℕ)) → AreAddLines documents lines → machine_after (started_at empty) lines ≡ started_at (restored documents)
+pub lines_restore : (documents : List Document) (lines : List (List ℕ)) → AreAddLines documents lines → machine_after (started_at empty_state) lines ≡ started_at (restored documents)
 lines_restore documents lines are =
-    all_added documents lines empty are.each are.named are.distinct (λ k d l. refl) (omega (arith, are.numbered))
+    all_added documents lines empty_state are.each are.named are.distinct (λ k d l. refl) (omega (arith, are.numbered))
     ∙ parts (1 + length documents) (length documents + 1) (added_from 1 documents) (added_from 1 documents) (omega arith) refl
 
 pub each_has_line : (documents : List Document) (lines : List (List ℕ)) → map line_of documents ≡ map Some lines → All (λ d. IsSome (line_of d)) documents

@@ -11,14 +11,14 @@ use Rattle.alta_console.proofs.LineLaws.{whole_from_append, begun_from_append}
 use Rattle.alta_console.proofs.ReplyLaws.{joined_append}
 use Rattle.alta_console.proofs.RunLaws.{given_takes_none, given_ends_none, given_takes_at, ended_append, takes_in, takes_later, within_all, open_lines, ended_lines, lines_past, taken_on}
 use Rattle.alta_disk.specs.Disk.{DiskState, LeavesOnly, IsLawful}
-use Rattle.alta_images.specs.Holding.{Holding}
+use Rattle.alta_meaning.specs.Holding.{Holding}
 use Rattle.alta_session.specs.Agreement.{AgreesOn}
 use Rattle.alta_session.specs.Damage.{SomeFindsDamage, SomeWantsPlace}
 use Rattle.alta_session.specs.Fed.{Fed, FedFrom}
 use Rattle.alta_session.specs.Fullness.{IsFullOnly, IsFullExactly}
 use Rattle.alta_session.specs.Going.{Goes, GoingFrom}
 use Rattle.alta_session.specs.Keeping.{clip}
-use Rattle.alta_session.specs.Machine.{Machine, machine_after, replies}
+use Rattle.alta_machine.specs.Machine.{Machine, machine_after, replies}
 use Rattle.alta_session.specs.Progress.{StandsAfterSome, Progress, StopsWithin, StopsWithinFrom}
 use Rattle.alta_session.specs.Run.{AnswersAll, AnswersInTime, Runs, RunsFrom}
 use Rattle.alta_session.specs.Status.{StopsLine, EndsLine}

@@ -14,8 +14,8 @@ use Rattle.alta_console.specs.declared.event.Event.{Event}
 use Rattle.alta_disk.specs.Disk.{DiskState, IsLawful}
 use Rattle.alta_make.specs.Script.{parity, add_with, add_line, delete_line, behind, adds, deletes, script, report}
 use Rattle.alta_make.proofs.Lines.{none-past, length-adds, length-deletes}
-use Rattle.alta_model.specs.Command.{IsCount}
-use Rattle.alta_model.specs.Reading.{count_of}
+use Rattle.alta_machine.specs.Command.{IsCount}
+use Rattle.alta_machine.specs.Reading.{count_of}
 use Rattle.alta_model.proofs.Counts.{both, chosen, none_is_not, count_reads, count_spelled, counted_digits}
 use Rattle.alta_session.specs.Demo.{AsksDemo}
 use Rattle.alta_session.specs.Fed.{Fed}

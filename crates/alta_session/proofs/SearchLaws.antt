@@ -3,31 +3,31 @@ use Rattle.std.proofs.Common.{Global, ◌≡◌, ◌⊎◌, ℕ, ◌<◌, List, 
 use Rattle.std.specs.Prelude.{String, string_bytes, Some, slice_get}
 use Rattle.std.proofs.lemmas.List.{length-map}
 use Rattle.std.specs.Str.{IsUtf8}
-use Rattle.alta_meta.specs.declared.document.Document.{Document}
+use Rattle.alta_machine.specs.declared.document.Document.{Document}
 use Rattle.alta_query.specs.Answer.{Gives, IsMemory, fault_in}
-use Rattle.alta_query.specs.Reading.{query_of}
-use Rattle.alta_query.specs.Faults.{Fault, fault}
-use Rattle.alta_query.specs.Shape.{Shape}
-use Rattle.alta_query.specs.Spelling.{canonical}
+use Rattle.alta_machine.specs.Queries.{query_of}
+use Rattle.alta_machine.specs.QueryFaults.{Fault, fault}
+use Rattle.alta_machine.specs.Shape.{Shape}
+use Rattle.alta_machine.specs.Spelling.{canonical}
 use Rattle.alta_query.specs.View.{shape}
-use Rattle.alta_query.specs.declared.fault.Cause.TheVariants.{Memory}
+use Rattle.alta_machine.specs.declared.cause.Cause.TheVariants.{Memory}
 use Rattle.alta_query.specs.declared.fault.QueryFault.{QueryFault}
 use Rattle.alta_query.specs.declared.query.Query.{Query}
-use Rattle.alta_model.specs.Deciding.{answers}
-use Rattle.alta_compile.specs.Explained.{explained}
-use Rattle.alta_compile.specs.PlanOf.{plan_of}
-use Rattle.alta_compile.specs.Tree.{Tree}
-use Rattle.alta_rank.specs.Ranked.{ranked}
-use Rattle.alta_rank.specs.Uses.{uses_of}
-use Rattle.alta_rank.specs.declared.scored.Scored.{Scored}
-use Rattle.alta_rank.specs.declared.usage.Use.{Use}
-use Rattle.alta_search.specs.Documents.{told}
+use Rattle.alta_machine.specs.Deciding.{answers}
+use Rattle.alta_machine.specs.Explained.{explained}
+use Rattle.alta_machine.specs.PlanOf.{plan_of}
+use Rattle.alta_machine.specs.Plans.{Tree}
+use Rattle.alta_machine.specs.Ranked.{ranked}
+use Rattle.alta_machine.specs.Uses.{uses_of}
+use Rattle.alta_machine.specs.declared.scored.Scored.{Scored}
+use Rattle.alta_machine.specs.declared.usage.Use.{Use}
+use Rattle.alta_machine.specs.Searching.{told, AnswerRow, answer_lines, row_lines, score_line, score_lines, cause_name, found_line, found_by, counted_by, ranked_by, explained_by, searching, counting, explaining, ranking, query_refusal}
 use Rattle.alta_content.specs.declared.document.DocRow.{DocRow}
-use Rattle.alta_search.specs.Told.{AnswerRow, answer_of}
-use Rattle.alta_search.specs.Tops.{AreBest, scored}
+use Rattle.alta_search.specs.Told.{answer_of}
+use Rattle.alta_search.specs.Tops.{AreBest}
+use Rattle.alta_machine.specs.Scores.{scored}
 use Rattle.alta_search.specs.declared.page.Top.{Top}
-use Rattle.alta_session.specs.Machine.{IsRefusal}
-use Rattle.alta_session.specs.Searching.{answer_lines, row_lines, score_line, score_lines, cause_name, found_line, found_by, counted_by, ranked_by, explained_by, searching, counting, explaining, ranking, query_refusal}
+use Rattle.alta_machine.specs.Machine.{IsRefusal}
 
 -- what was written is the reply
 pub is_written : {E F : Type 0} (text : Result (List ℕ) E) (reply : Result (String Global) F) (l : List ℕ)

@@ -8,12 +8,12 @@ use Rattle.alta_content.specs.declared.content.Content.{Content}
 use Rattle.alta_catalog.specs.Knowing.{newest_of}
 use Rattle.alta_disk.specs.Disk.{DiskState, Same, Only, Passes, LeavesOnly, IsLawful}
 use Rattle.alta_disk.proofs.Moments.{leaves_then, leaves_by}
-use Rattle.alta_meta.specs.declared.document.State.{State}
-use Rattle.alta_images.specs.Broken.{IsBrokenAt}
-use Rattle.alta_images.specs.Holding.{Holding, IsHeld, IsJobOf}
+use Rattle.alta_machine.specs.declared.document.State.{State}
+use Rattle.alta_meaning.specs.Broken.{IsBrokenAt}
+use Rattle.alta_meaning.specs.Holding.{Holding, IsHeld, IsJobOf}
 use Rattle.alta_session.specs.Agreement.{AgreesOn}
 use Rattle.alta_session.specs.Fullness.{IsFullExactly}
-use Rattle.alta_session.specs.Machine.{Machine, started_at}
+use Rattle.alta_machine.specs.Machine.{Machine, started_at}
 use Rattle.alta_session.specs.Progress.{StandsAfterSome}
 use Rattle.alta_session.specs.Loading.{newest_in}
 use Rattle.alta_session.specs.Run.{AnswersAll, KeepsAnswered, KeepsSince, Runs, RunsFrom, Serves, Keeps}
@@ -24,10 +24,10 @@ use Rattle.alta_session.specs.declared.status.Status.{Status}
 use Rattle.alta_session.specs.declared.status.Status.TheVariants.{Damaged, DiskFault, Done, Full, TooLong}
 use Rattle.alta_session.proofs.FullnessLaws.{full_exactly}
 use Rattle.alta_session.proofs.ProgressLaws.{some_none}
-use Rattle.alta_images.specs.Standing.{StandsFor, view_of}
-use Rattle.alta_images.specs.Work.{Job}
+use Rattle.alta_meaning.specs.Standing.{StandsFor, view_of}
+use Rattle.alta_meaning.specs.Work.{Job}
 use Rattle.alta_merge.specs.Merging.{Merging}
-use Rattle.alta_images.specs.Opened.{Opened, IsOpened}
+use Rattle.alta_meaning.specs.Opened.{Opened, IsOpened}
 use Rattle.alta_memlevel.proofs.One.{one_content}
 use Rattle.alta_root.specs.Slots.{Counts}
 use Rattle.alta_root.specs.declared.root.Root.{Root}

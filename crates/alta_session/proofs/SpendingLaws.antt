@@ -5,13 +5,14 @@ use Rattle.std.specs.List.{All}
 use Rattle.alta_content.specs.declared.content.Content.{Content}
 use Rattle.alta_disk.specs.Disk.{DiskState}
 use Rattle.alta_loading.specs.Loads.{load_sizes}
-use Rattle.alta_model.specs.Command.{Command, adds, deletes, searches, counts, explains, opens, fetches, closes, ranks, flushes, merges, steps, asks_stats, dumps}
-use Rattle.alta_model.specs.Lines.{Reading, asks, refuses, reading_of}
-use Rattle.alta_search.specs.Open.{AreOpen, OpenAnswers}
+use Rattle.alta_machine.specs.Command.{Command, adds, deletes, searches, counts, explains, opens, fetches, closes, ranks, flushes, merges, steps, asks_stats, dumps}
+use Rattle.alta_machine.specs.Lines.{Reading, asks, refuses, reading_of}
+use Rattle.alta_search.specs.Open.{AreOpen}
+use Rattle.alta_machine.specs.OpenAnswers.{OpenAnswers}
 use Rattle.alta_search.specs.declared.cursors.OpenCursor.{OpenCursor}
 use Rattle.alta_session.specs.Keeping.{clip}
 use Rattle.alta_session.specs.Loading.{Loads, line_loads, loads_in, newest_in, session_loads}
-use Rattle.alta_session.specs.Machine.{Looks, LooksIn, Machine, Searches, SearchesIn, step, machine_after}
+use Rattle.alta_machine.specs.Machine.{Looks, LooksIn, Machine, Searches, SearchesIn, step, machine_after}
 use Rattle.alta_session.specs.Spending.{KeepsStore, OnlyReads, ReadsIn, Spends, line_bytes, lines_bytes}
 use Rattle.alta_session.specs.declared.session.Session.{Session}
 use Rattle.alta_store.specs.Agreement.{levels_of}

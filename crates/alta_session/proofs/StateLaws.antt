@@ -1,14 +1,14 @@
 -- Laws of well-formed states.
 use Rattle.std.proofs.Common.{◌≡◌, ℕ, Bool, true, false, Option, Some, None, List, refl, nat_le, if◌then◌else◌}
-use Rattle.alta_meta.specs.States.{IsState}
-use Rattle.alta_meta.specs.declared.document.State.{State}
-use Rattle.alta_model.specs.Command.{Command, adds, deletes, searches, counts, explains, opens, fetches, closes, ranks, flushes, merges, steps, asks_stats, dumps}
-use Rattle.alta_model.specs.Lines.{Reading, asks, refuses, reading_of}
+use Rattle.alta_machine.specs.States.{IsState}
+use Rattle.alta_machine.specs.declared.document.State.{State}
+use Rattle.alta_machine.specs.Command.{Command, adds, deletes, searches, counts, explains, opens, fetches, closes, ranks, flushes, merges, steps, asks_stats, dumps}
+use Rattle.alta_machine.specs.Lines.{Reading, asks, refuses, reading_of}
 use Rattle.alta_codec.specs.Name.{is_name}
-use Rattle.alta_images.proofs.StateLaws.{added_state, deleted_state, replaced_state}
-use Rattle.alta_session.specs.Machine.{Machine, adding, put_as, deleted_as, deleting, obeyed, answered, step}
+use Rattle.alta_meaning.proofs.StateLaws.{added_state, deleted_state, replaced_state}
+use Rattle.alta_machine.specs.Machine.{Machine, adding, put_as, deleted_as, deleting, obeyed, answered, step}
 use Rattle.alta_session.proofs.DeletingLaws.{unnamed}
-use Rattle.alta_images.specs.States.{number_of as number_named}
+use Rattle.alta_machine.specs.Changes.{number_of as number_named}
 
 -- what a line makes of it
 if_state : (b : Bool) (x y : State × List ℕ) → (b ≡ true → IsState x.0) → (b ≡ false → IsState y.0) → IsState (if b then x else y).0

@@ -5,16 +5,16 @@ use Rattle.std.proofs.lemmas.Grind.{common_steps}
 use Rattle.std.proofs.lemmas.List.{take-map}
 use Rattle.alta_codec.specs.Name.{IsName, is_name}
 use Rattle.alta_codec.proofs.NameLaws.{name_is, name_is_not}
-use Rattle.alta_images.specs.Chain.{◌>>=◌}
-use Rattle.alta_images.specs.Holding.{Holding}
-use Rattle.alta_images.specs.States.{has_name, number_of}
-use Rattle.alta_images.specs.Work.{Task, enters}
-use Rattle.alta_images.specs.Working.{Full}
+use Rattle.alta_meaning.specs.Chain.{◌>>=◌}
+use Rattle.alta_meaning.specs.Holding.{Holding}
+use Rattle.alta_machine.specs.Changes.{has_name, number_of}
+use Rattle.alta_meaning.specs.Work.{Task, enters}
+use Rattle.alta_meaning.specs.Working.{Full}
 use Rattle.alta_journal.specs.declared.entry.Entry.TheVariants.{Add, Delete, Replace}
-use Rattle.alta_meta.specs.declared.document.State.{State}
-use Rattle.alta_model.specs.Lines.{Reading, reading_of}
+use Rattle.alta_machine.specs.declared.document.State.{State}
+use Rattle.alta_machine.specs.Lines.{Reading, reading_of}
 use Rattle.alta_session.specs.Keeping.{clip}
-use Rattle.alta_session.specs.Machine.{Machine, step, machine_after}
+use Rattle.alta_machine.specs.Machine.{Machine, step, machine_after}
 use Rattle.alta_session.specs.Tasks.{entry_for, task_of_add, task_of_delete, task_in, task_of, worked_where, worked_line, worked_lines, IsBy, IsOn, IsWorked}
 use Rattle.alta_session.specs.declared.session.Session.{Session}
 use Rattle.alta_session.proofs.DeletingLaws.{not_numbered}

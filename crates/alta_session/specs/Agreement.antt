@@ -2,10 +2,10 @@
 use Rattle.std.specs.Prelude.{◌≡◌, true}
 use Rattle.alta_disk.specs.Disk.{DiskState}
 use Rattle.alta_search.specs.Open.{AreOpen}
-use Rattle.alta_session.specs.Machine.{Machine}
+use Rattle.alta_machine.specs.Machine.{Machine}
 use Rattle.alta_session.specs.declared.session.Session.{Session}
 use Rattle.alta_store.specs.Agreement.{Agrees, is_sound}
-use Rattle.alta_images.specs.Standing.{StandsFor}
+use Rattle.alta_meaning.specs.Standing.{StandsFor}
 
 -- Session and disk agree on this machine: the store and its disk agree, the disk stands for the machine's state where it tells, and
 -- the cursors that are open have the answers to come that the machine's have.

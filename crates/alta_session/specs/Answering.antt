@@ -6,14 +6,14 @@ use Rattle.alta_journal.specs.declared.places.TheConstants.{HEAD_BYTES}
 use Rattle.alta_session.specs.Agreement.{AgreesOn, HasNotFailed}
 use Rattle.alta_session.specs.Fullness.{IsFull}
 use Rattle.alta_session.specs.Loading.{MarkHolds}
-use Rattle.alta_session.specs.Machine.{Machine, IsRefusal}
+use Rattle.alta_machine.specs.Machine.{Machine, IsRefusal}
 use Rattle.alta_session.specs.Tasks.{IsBy, IsWorked, worked_where}
 use Rattle.alta_session.specs.declared.session.Session.{Session}
 use Rattle.alta_store.specs.Agreement.{Agrees}
 use Rattle.alta_store.specs.Answers.{IsOutside}
-use Rattle.alta_images.specs.Holding.{Holding}
-use Rattle.alta_images.specs.Standing.{StandsForEither}
-use Rattle.alta_images.specs.Work.{Task}
+use Rattle.alta_meaning.specs.Holding.{Holding}
+use Rattle.alta_meaning.specs.Standing.{StandsForEither}
+use Rattle.alta_meaning.specs.Work.{Task}
 use Rattle.alta_store.specs.declared.fault.StoreFault.{StoreFault}
 use Rattle.alta_store.specs.declared.fault.StoreFault.TheVariants.{Disk, Memory, Damaged, Full}
 

@@ -1,16 +1,16 @@
 -- What a line asks for, as the code has it.
 use Rattle.std.specs.Prelude.{◌≡◌, List, ℕ, None, codes}
 use Rattle.alta_codec.specs.Name.{IsName}
-use Rattle.alta_dump.specs.Dumps.{dump_of}
-use Rattle.alta_model.specs.Command.{adds, deletes, searches, counts, explains, opens, fetches, closes, ranks, flushes, merges, steps, asks_stats, dumps}
-use Rattle.alta_model.specs.Lines.{asks, reading_of}
-use Rattle.alta_session.specs.Machine.{Machine, Searches, step, changed_by, turned_by, adding, deleting, stats_of}
-use Rattle.alta_session.specs.Cursors.{opening, fetching, closing}
+use Rattle.alta_machine.specs.Dumps.{dump_of}
+use Rattle.alta_machine.specs.Command.{adds, deletes, searches, counts, explains, opens, fetches, closes, ranks, flushes, merges, steps, asks_stats, dumps}
+use Rattle.alta_machine.specs.Lines.{asks, reading_of}
+use Rattle.alta_machine.specs.Machine.{Machine, Searches, step, changed_by, turned_by, adding, deleting, stats_of}
+use Rattle.alta_machine.specs.Cursors.{opening, fetching, closing}
 use Rattle.alta_session.specs.Tasks.{task_of}
 use Rattle.alta_session.specs.declared.session.Ask.{Ask}
-use Rattle.alta_session.specs.Searching.{searching, counting, explaining, ranking}
+use Rattle.alta_machine.specs.Searching.{searching, counting, explaining, ranking}
 use Rattle.alta_session.specs.declared.session.Ask.TheVariants.{Add, Delete, Search, Count, Explain, Open, Fetch, Close, Top, Flush, Merge, Step, Stats, Dump, Refused}
-use Rattle.alta_images.specs.States.{IsDocument}
+use Rattle.alta_meaning.specs.Entries.{IsDocument}
 
 -- the document that it adds or deletes, the query that it answers, the cursor that it opens, reads or closes, the query whose best answers it
 -- gives, a flush, a merge, a step, the counts, a dump, or the reply that refuses it

@@ -1,12 +1,12 @@
 -- Damage that lines find behind the opening, and places that they want.
 use Rattle.std.specs.Prelude.{◌⊎◌, ℕ, List, [], ◌∷◌}
-use Rattle.alta_images.specs.Broken.{IsBrokenAmong}
+use Rattle.alta_meaning.specs.Broken.{IsBrokenAmong}
 use Rattle.alta_loading.specs.Loads.{IsFirstFault}
-use Rattle.alta_meta.specs.declared.document.State.{State}
-use Rattle.alta_model.specs.Lines.{Reading, reading_of}
+use Rattle.alta_machine.specs.declared.document.State.{State}
+use Rattle.alta_machine.specs.Lines.{Reading, reading_of}
 use Rattle.alta_session.specs.Joining.{FindsNoPlace, joins_where}
 use Rattle.alta_session.specs.Loading.{loads_in, newest_in}
-use Rattle.alta_session.specs.Machine.{started_at}
+use Rattle.alta_machine.specs.Machine.{started_at}
 use Rattle.alta_session.specs.Tasks.{task_in}
 use Rattle.alta_store.specs.Agreement.{KeepsOpened, Knows, levels_of}
 use Rattle.alta_store.specs.declared.store.Store.{Store}

@@ -5,14 +5,14 @@ use Rattle.std.specs.List.{concat}
 use Rattle.alta_console.specs.Replies.{IsPrefix}
 use Rattle.alta_console.specs.declared.event.Event.{Event}
 use Rattle.alta_disk.specs.Disk.{DiskState, Stands}
-use Rattle.alta_images.specs.Holding.{Holding}
-use Rattle.alta_images.specs.Standing.{StandsFor}
-use Rattle.alta_images.specs.States.{empty}
-use Rattle.alta_images.specs.Switching.{empty_held}
+use Rattle.alta_meaning.specs.Holding.{Holding}
+use Rattle.alta_meaning.specs.Standing.{StandsFor}
+use Rattle.alta_machine.specs.States.{empty_state}
+use Rattle.alta_meaning.specs.Switching.{empty_held}
 use Rattle.alta_root.specs.Slots.{HasNoRoot}
 use Rattle.alta_session.specs.Fed.{Fed}
 use Rattle.alta_session.specs.Fullness.{Overflows, IsInterrupted, IsFull}
-use Rattle.alta_session.specs.Machine.{Machine, started_at, machine_after, replies}
+use Rattle.alta_machine.specs.Machine.{Machine, started_at, machine_after, replies}
 use Rattle.alta_session.specs.Progress.{StopsWithin}
 use Rattle.alta_session.specs.Run.{KeepsDisk}
 use Rattle.alta_session.specs.Status.{EndsInit, EndsLine, IsOpened, IsUnmade}
@@ -70,7 +70,7 @@ pub record Demonstrates (tells : Type 0) (lines asked : List (List ℕ)) (told t
   pub given : List ℕ
   pub gave : Gives told told_now given
   -- at every status
-  pub begins : tells → IsPrefix given (concat (replies (machine_after (started_at empty) lines) asked))
+  pub begins : tells → IsPrefix given (concat (replies (machine_after (started_at empty_state) lines) asked))
   pub opened : tells → IsOpened status
   -- where there is an index already, or the disk is too small for one
   pub exists : tells → status ≡ Exists → HasNoRoot disk.content → ⊥
@@ -79,6 +79,6 @@ pub record Demonstrates (tells : Type 0) (lines asked : List (List ℕ)) (told t
   pub unmade : (status ≡ Exists) ⊎ ((disk.limit < 2105344) × IsUnmade status) → KeepsDisk tells disk disk_now × (given ≡ [])
   -- where there is none, and the disk may have one: from what a new index holds on
   pub reports : tells → HasNoRoot disk.content → 2105344 ≤ disk.limit
-      → ReportsFrom disk.limit empty_held (started_at empty) lines asked given disk_now status
+      → ReportsFrom disk.limit empty_held (started_at empty_state) lines asked given disk_now status
   pub narrow : (need gap : ℕ) → tells → 2105344 ≤ disk.limit → status ≡ Full need gap → IsFull disk_now need gap
-  pub stands : status ≡ Done → Stands tells disk_now (StandsFor (machine_after (started_at empty) (lines ++ asked)).state)
+  pub stands : status ≡ Done → Stands tells disk_now (StandsFor (machine_after (started_at empty_state) (lines ++ asked)).state)

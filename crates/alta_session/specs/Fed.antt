@@ -4,9 +4,9 @@ use Rattle.alta_console.specs.Giving.{Gives}
 use Rattle.std.specs.List.{concat}
 use Rattle.alta_console.specs.declared.event.Event.{Event}
 use Rattle.alta_disk.specs.Disk.{DiskState, LeavesOnly}
-use Rattle.alta_images.specs.Holding.{Holding}
+use Rattle.alta_meaning.specs.Holding.{Holding}
 use Rattle.alta_session.specs.Agreement.{AgreesOn}
-use Rattle.alta_session.specs.Machine.{Machine, machine_after, replies}
+use Rattle.alta_machine.specs.Machine.{Machine, machine_after, replies}
 use Rattle.alta_session.specs.Progress.{StandsAfterSome}
 use Rattle.alta_session.specs.Spending.{KeepsStore, Spends}
 use Rattle.alta_session.specs.Tasks.{IsBy, IsWorked, worked_lines}

@@ -1,14 +1,15 @@
 -- A search over a store, call by call.
 use Rattle.std.specs.Prelude.{◌≡◌, ℕ, List, map}
-use Rattle.alta_compile.specs.PlanOf.{plan_of}
+use Rattle.alta_machine.specs.PlanOf.{plan_of}
 use Rattle.alta_compile.specs.Space.{Placed}
 use Rattle.alta_content.specs.declared.document.DocRow.{DocRow}
 use Rattle.alta_loading.specs.Snapshots.{loaded_view}
 use Rattle.alta_memlevel.specs.Added.{LevelView}
-use Rattle.alta_query.specs.Shape.{Shape}
+use Rattle.alta_machine.specs.Shape.{Shape}
 use Rattle.alta_search.specs.Answers.{coming}
 use Rattle.alta_search.specs.Plans.{tests_of}
-use Rattle.alta_search.specs.Told.{AnswerRow, answer_of}
+use Rattle.alta_machine.specs.Searching.{AnswerRow}
+use Rattle.alta_search.specs.Told.{answer_of}
 use Rattle.alta_search.specs.View.{Shows, View}
 use Rattle.alta_store.specs.Searched.{IsSearched}
 use Rattle.alta_store.specs.declared.store.Store.{Store}

@@ -2,8 +2,8 @@
 use Rattle.std.specs.Prelude.{◌≡◌, ◌⊎◌, ℕ, ◌+◌, ◌<◌, List, length, take, Ok, Err}
 use Rattle.std.specs.List.{concat}
 use Rattle.alta_disk.specs.Disk.{DiskState}
-use Rattle.alta_images.specs.Holding.{Holding}
-use Rattle.alta_session.specs.Machine.{Machine, replies}
+use Rattle.alta_meaning.specs.Holding.{Holding}
+use Rattle.alta_machine.specs.Machine.{Machine, replies}
 use Rattle.alta_session.specs.Tasks.{worked_lines}
 use Rattle.alta_session.specs.declared.status.Status.{Status}
 use Rattle.alta_session.specs.declared.status.Status.TheVariants.{DiskFault, GiveFault, Memory, Full}

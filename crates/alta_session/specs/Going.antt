@@ -5,10 +5,10 @@ use Rattle.std.specs.List.{concat}
 use Rattle.alta_console.specs.Transcript.{given_in, taken_in, has_ended, Grows, Consumes}
 use Rattle.alta_console.specs.declared.event.Event.{Event}
 use Rattle.alta_disk.specs.Disk.{DiskState, LeavesOnly}
-use Rattle.alta_images.specs.Holding.{Holding}
+use Rattle.alta_meaning.specs.Holding.{Holding}
 use Rattle.alta_session.specs.Agreement.{AgreesOn}
 use Rattle.alta_session.specs.Keeping.{clip}
-use Rattle.alta_session.specs.Machine.{Machine, machine_after, replies}
+use Rattle.alta_machine.specs.Machine.{Machine, machine_after, replies}
 use Rattle.alta_session.specs.Progress.{StandsAfterSome}
 use Rattle.alta_session.specs.Run.{AnswersInTime}
 use Rattle.alta_session.specs.Spending.{KeepsStore, Spends}

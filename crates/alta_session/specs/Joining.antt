@@ -1,13 +1,13 @@
 -- What a line does to levels: which it reads to join them, and where it does nothing.
 use Rattle.std.specs.Prelude.{◌≡◌, ◌<◌, ℕ, true, List, [], length, Option, Some, None, Result, Err, IfErr}
 use Rattle.alta_disk.specs.Disk.{DiskState}
-use Rattle.alta_images.specs.Broken.{IsBrokenAmong}
-use Rattle.alta_images.specs.Opened.{Opened, IsOpened}
-use Rattle.alta_images.specs.Work.{Task}
-use Rattle.alta_meta.specs.declared.document.State.{State}
-use Rattle.alta_model.specs.Command.{Command, adds, deletes, searches, counts, explains, opens, fetches, closes, ranks, flushes, merges, steps, asks_stats, dumps}
-use Rattle.alta_model.specs.Lines.{Reading, asks, refuses}
-use Rattle.alta_session.specs.Machine.{SearchesIn, started_at}
+use Rattle.alta_meaning.specs.Broken.{IsBrokenAmong}
+use Rattle.alta_meaning.specs.Opened.{Opened, IsOpened}
+use Rattle.alta_meaning.specs.Work.{Task}
+use Rattle.alta_machine.specs.declared.document.State.{State}
+use Rattle.alta_machine.specs.Command.{Command, adds, deletes, searches, counts, explains, opens, fetches, closes, ranks, flushes, merges, steps, asks_stats, dumps}
+use Rattle.alta_machine.specs.Lines.{Reading, asks, refuses}
+use Rattle.alta_machine.specs.Machine.{SearchesIn, started_at}
 use Rattle.alta_session.specs.Tasks.{task_in}
 use Rattle.alta_store.specs.Agreement.{HasNoEntry, Knows, levels_of}
 use Rattle.alta_store.specs.Calls.{Becomes, is_one, joined_by}

@@ -1,6 +1,6 @@
 -- What is kept of a line that has begun.
 use Rattle.std.specs.Prelude.{ℕ, ◌+◌, List, take}
-use Rattle.alta_model.specs.declared.line.TheConstants.{LINE_LIMIT}
+use Rattle.alta_machine.specs.declared.line.TheConstants.{LINE_LIMIT}
 
 -- one byte more than a line may have
 unfoldable pub clip : List ℕ → List ℕ

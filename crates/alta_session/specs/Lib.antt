@@ -1,7 +1,6 @@
 pub mod Agreement
 pub mod Answering
 pub mod Asking
-pub mod Cursors
 pub mod Damage
 pub mod Demo
 pub mod Ending
@@ -12,11 +11,10 @@ pub mod Going
 pub mod Joining
 pub mod Keeping
 pub mod Loading
-pub mod Machine
 pub mod Progress
 pub mod Restoring
 pub mod Run
-pub mod Searching
 pub mod Spending
 pub mod Status
 pub mod Tasks
+pub mod Turns

@@ -2,31 +2,29 @@
 use Rattle.std.specs.Prelude.{◌≡◌, ◌⊎◌, ℕ, nat_le, if◌then◌else◌, List, [], ◌∷◌, ◌++◌, length, All, Result, Ok, Err, IfOk, IfErr}
 use Rattle.alta_catalog.specs.Knowing.{memory_of}
 use Rattle.alta_codec.specs.Faults.{Rose}
-use Rattle.alta_compile.specs.PlanOf.{plan_of}
-use Rattle.alta_compile.specs.Tree.{Tree}
+use Rattle.alta_machine.specs.PlanOf.{plan_of}
+use Rattle.alta_machine.specs.Plans.{Tree}
 use Rattle.alta_content.specs.declared.content.Content.{Content}
 use Rattle.alta_disk.specs.Calls.{Reads}
 use Rattle.alta_disk.specs.Disk.{DiskState}
 use Rattle.alta_dump.specs.Shown.{dump_tests}
-use Rattle.alta_images.specs.Standing.{StandsFor}
+use Rattle.alta_meaning.specs.Standing.{StandsFor}
 use Rattle.alta_loading.specs.Loads.{Load, IsFirstFault, IsWhole, load_sizes}
 use Rattle.alta_loading.specs.Met.{each_once, loads_of_tests}
 use Rattle.alta_loading.specs.Tested.{AreEndsWhole}
-use Rattle.alta_loading.specs.declared.fault.LoadFault.{LoadFault}
-use Rattle.alta_loading.specs.declared.fault.LoadFault.TheVariants.{Disk as LoadDisk, Memory as LoadMemory, Damaged as LoadDamaged}
 use Rattle.alta_loading.specs.declared.mark.Ends.{Ends}
-use Rattle.alta_meta.specs.declared.document.State.{State}
-use Rattle.alta_model.specs.Command.{Command, adds, deletes, searches, counts, explains, opens, fetches, closes, ranks, flushes, merges, steps, asks_stats, dumps}
-use Rattle.alta_model.specs.Lines.{Reading, asks, refuses, reading_of}
-use Rattle.alta_query.specs.Faults.{Fault}
-use Rattle.alta_query.specs.Patterns.{title_end}
-use Rattle.alta_query.specs.Reading.{query_of}
-use Rattle.alta_query.specs.Shape.{Shape}
-use Rattle.alta_query.specs.declared.test.Test.{Test}
+use Rattle.alta_machine.specs.declared.document.State.{State}
+use Rattle.alta_machine.specs.Command.{Command, adds, deletes, searches, counts, explains, opens, fetches, closes, ranks, flushes, merges, steps, asks_stats, dumps}
+use Rattle.alta_machine.specs.Lines.{Reading, asks, refuses, reading_of}
+use Rattle.alta_machine.specs.QueryFaults.{Fault}
+use Rattle.alta_machine.specs.Patterns.{title_end}
+use Rattle.alta_machine.specs.Queries.{query_of}
+use Rattle.alta_machine.specs.Shape.{Shape}
+use Rattle.alta_machine.specs.declared.test.Test.{Test}
 use Rattle.alta_search.specs.Plans.{tests_of}
 use Rattle.alta_search.specs.declared.cursors.OpenCursor.{OpenCursor}
-use Rattle.alta_search.specs.declared.cursors.TheConstants.{CURSORS}
-use Rattle.alta_session.specs.Machine.{IsRefusal}
+use Rattle.alta_machine.specs.declared.cursors.TheConstants.{CURSORS}
+use Rattle.alta_machine.specs.Machine.{IsRefusal}
 use Rattle.alta_session.specs.declared.session.Session.{Session}
 use Rattle.alta_store.specs.Agreement.{Agrees, levels_of}
 use Rattle.alta_store.specs.Answers.{IsOutside, AnswersFault}
@@ -135,12 +133,6 @@ pub record KeepsMark (tells : Type 0) (disk_now : DiskState) (store : Store) (en
   pub refused : IfOk result (λ reply. IsRefusal reply → ends_now ≡ ends)
 
 -- ---- a call that loads
-
--- the fault of a search whose lists were not loaded
-abbrev pub of_load : LoadFault → StoreFault
-of_load LoadDisk = Disk
-of_load LoadMemory = Memory
-of_load (LoadDamaged place) = Damaged place
 
 -- It writes nothing, and reads no more than these lists have. It answers Ok only where they are whole, and damage exactly at the
 -- first fault among them; that yields to want of memory, and to a fault of the disk, which is counted.

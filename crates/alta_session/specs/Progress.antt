@@ -8,14 +8,14 @@ use Rattle.alta_disk.specs.Disk.{DiskState, LeavesOnly}
 use Rattle.alta_session.specs.Agreement.{AgreesOn}
 use Rattle.alta_session.specs.Damage.{SomeFindsDamage, SomeWantsPlace}
 use Rattle.alta_session.specs.Fullness.{IsFullOnly}
-use Rattle.alta_session.specs.Machine.{Machine, machine_after, replies}
+use Rattle.alta_machine.specs.Machine.{Machine, machine_after, replies}
 use Rattle.alta_session.specs.Spending.{Spends}
 use Rattle.alta_session.specs.Tasks.{IsBy, IsDone, worked_lines}
 use Rattle.alta_session.specs.declared.session.Session.{Session}
 use Rattle.alta_session.specs.declared.status.Status.{Status}
 use Rattle.alta_session.specs.declared.status.Status.TheVariants.{Damaged, Full}
-use Rattle.alta_images.specs.Holding.{Holding}
-use Rattle.alta_images.specs.Standing.{StandsFor}
+use Rattle.alta_meaning.specs.Holding.{Holding}
+use Rattle.alta_meaning.specs.Standing.{StandsFor}
 
 -- the image stands for the state after some of the lines, in order from the first
 pub record StandsAfterSome (start : Machine) (lines : List (List ℕ)) (image : List ℕ) : Type 0 where

@@ -7,20 +7,20 @@ use Rattle.alta_console.specs.Transcript.{given_in, taken_in, has_ended, lines_i
 use Rattle.alta_console.specs.declared.event.Event.{Event}
 use Rattle.alta_console.specs.declared.event.Event.TheVariants.{Taken}
 use Rattle.alta_disk.specs.Disk.{DiskState, Each, Only, Same, Stands, Passes, LeavesOnly}
-use Rattle.alta_meta.specs.declared.document.State.{State}
+use Rattle.alta_machine.specs.declared.document.State.{State}
 use Rattle.alta_session.specs.Agreement.{AgreesOn}
 use Rattle.alta_session.specs.Damage.{SomeFindsDamage, SomeWantsPlace}
 use Rattle.alta_session.specs.Fullness.{IsFullExactly}
-use Rattle.alta_session.specs.Machine.{Machine, started_at, replies}
+use Rattle.alta_machine.specs.Machine.{Machine, started_at, replies}
 use Rattle.alta_session.specs.Progress.{StandsAfterSome, StandsAfter}
 use Rattle.alta_session.specs.Spending.{OnlyReads, Spends, lines_bytes, newest_of_opened, opening_bytes}
 use Rattle.alta_session.specs.Tasks.{IsBy, IsDone, IsFirst, IsOn, IsWorked, worked_lines}
 use Rattle.alta_session.specs.declared.session.Session.{Session}
 use Rattle.alta_session.specs.declared.status.Status.{Status}
 use Rattle.alta_session.specs.declared.status.Status.TheVariants.{Done, TooLong, Damaged, DiskFault, Full}
-use Rattle.alta_images.specs.Broken.{IsBrokenAt}
-use Rattle.alta_images.specs.Holding.{Holding}
-use Rattle.alta_images.specs.Standing.{StandsFor}
+use Rattle.alta_meaning.specs.Broken.{IsBrokenAt}
+use Rattle.alta_meaning.specs.Holding.{Holding}
+use Rattle.alta_meaning.specs.Standing.{StandsFor}
 
 -- At each take, what was given so far is the replies to the whole lines taken so far.
 abbrev pub AnswersInTime : Machine → List Event → Type 0

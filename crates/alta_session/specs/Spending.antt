@@ -3,16 +3,16 @@ use Rattle.std.specs.Prelude.{ℕ, ◌+◌, ◌≤◌, ◌≡◌, List, [], ◌�
 use Rattle.alta_catalog.specs.Knowing.{newest_of}
 use Rattle.alta_content.specs.declared.content.Content.{Content}
 use Rattle.alta_disk.specs.Disk.{DiskState}
-use Rattle.alta_images.specs.Opened.{Opened}
+use Rattle.alta_meaning.specs.Opened.{Opened}
 use Rattle.alta_journal.specs.declared.places.TheConstants.{HALF_BYTES}
 use Rattle.alta_loading.specs.Loads.{load_sizes}
-use Rattle.alta_model.specs.Command.{Command, adds, deletes, searches, counts, explains, opens, fetches, closes, ranks, flushes, merges, steps, asks_stats, dumps}
-use Rattle.alta_model.specs.Lines.{Reading, asks, refuses, reading_of}
+use Rattle.alta_machine.specs.Command.{Command, adds, deletes, searches, counts, explains, opens, fetches, closes, ranks, flushes, merges, steps, asks_stats, dumps}
+use Rattle.alta_machine.specs.Lines.{Reading, asks, refuses, reading_of}
 use Rattle.alta_memlevel.specs.Documents.{content_of}
 use Rattle.alta_opening.specs.Costs.{named_bytes}
 use Rattle.alta_root.specs.declared.root.Root.{Root}
 use Rattle.alta_session.specs.Loading.{line_loads, newest_in}
-use Rattle.alta_session.specs.Machine.{Machine, step}
+use Rattle.alta_machine.specs.Machine.{Machine, step}
 use Rattle.alta_session.specs.declared.session.Session.{Session}
 use Rattle.alta_store.specs.Agreement.{levels_of}
 use Rattle.alta_table.specs.Tables.{Tables}

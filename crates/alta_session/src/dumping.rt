@@ -1,13 +1,13 @@
 // The dump of a store's documents.
 ghost use Rattle.std.specs.Prelude.{◌≡◌, ◌<◌, IfOk, IfErr};
 ghost use Rattle.alta_disk.specs.Disk.{DiskState};
-ghost use Rattle.alta_dump.specs.Dumps.{dump_of};
+ghost use Rattle.alta_machine.specs.Dumps.{dump_of};
 ghost use Rattle.alta_dump.specs.Shown.{dump_tests};
-ghost use Rattle.alta_images.specs.Standing.{StandsFor};
-ghost use Rattle.alta_meta.specs.declared.document.State.{State};
+ghost use Rattle.alta_meaning.specs.Standing.{StandsFor};
+ghost use Rattle.alta_machine.specs.declared.document.State.{State};
 ghost use Rattle.alta_search.specs.Shown.{ShowsDocuments};
 ghost use Rattle.alta_session.specs.Loading.{KeepsMark, MayLoad, Queries, order_loads};
-ghost use Rattle.alta_session.specs.Machine.{IsRefusal};
+ghost use Rattle.alta_machine.specs.Machine.{IsRefusal};
 
 use crate::searching::load;
 use alta_codec::{Steps, Text};

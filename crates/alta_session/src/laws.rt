@@ -2,20 +2,18 @@
 ghost use Rattle.std.specs.Prelude.{◌≡◌, ℕ, List, map, All};
 ghost use Rattle.alta_disk.specs.Disk.{DiskState};
 ghost use Rattle.alta_dump.specs.Asked.{AsksForFoldings};
-ghost use Rattle.alta_dump.specs.Dumps.{restored};
+ghost use Rattle.alta_machine.specs.Dumps.{restored};
 ghost use Rattle.alta_dump.specs.Laws.{AnswersAlike};
 ghost use Rattle.alta_dump.specs.Names.{HasItsName};
-ghost use Rattle.alta_images.specs.Standing.{StandsFor};
-ghost use Rattle.alta_images.specs.States.{empty};
-ghost use Rattle.alta_meta.specs.States.{IsState};
-ghost use Rattle.alta_meta.specs.declared.document.State.{State};
-ghost use Rattle.alta_model.specs.Deciding.{answers};
-ghost use Rattle.alta_query.specs.Matches.{IsWellFormed};
-ghost use Rattle.alta_query.specs.Shape.{Shape};
-ghost use Rattle.alta_search.specs.Documents.{told};
-ghost use Rattle.alta_search.specs.Told.{AnswerRow};
+ghost use Rattle.alta_meaning.specs.Standing.{StandsFor};
+ghost use Rattle.alta_machine.specs.States.{empty_state, IsState};
+ghost use Rattle.alta_machine.specs.declared.document.State.{State};
+ghost use Rattle.alta_machine.specs.Deciding.{answers};
+ghost use Rattle.alta_machine.specs.Matches.{IsWellFormed};
+ghost use Rattle.alta_machine.specs.Shape.{Shape};
+ghost use Rattle.alta_machine.specs.Searching.{told, AnswerRow};
 ghost use Rattle.alta_session.specs.Found.{AreFound};
-ghost use Rattle.alta_session.specs.Machine.{Machine, machine_after, started_at, step};
+ghost use Rattle.alta_machine.specs.Machine.{Machine, machine_after, started_at, step};
 ghost use Rattle.alta_session.specs.Restoring.{AreAddLines};
 ghost use Rattle.alta_store.specs.Agreement.{Agrees};
 
@@ -45,7 +43,7 @@ pub fn a_search_answers_what_matches<D: Disk>()
 /// and where each document has its own name as its only one, as each that was added has, this state answers a query for folded
 /// words by documents of the same names as the state that was dumped, in the same order.
 pub fn the_lines_of_a_dump_restore()
-    ensures state { (s : State) (lines : List (List ℕ)) → AreAddLines s.documents lines → machine_after (started_at empty) lines ≡ started_at (restored s.documents) }
+    ensures state { (s : State) (lines : List (List ℕ)) → AreAddLines s.documents lines → machine_after (started_at empty_state) lines ≡ started_at (restored s.documents) }
     ensures answers { (s : State) (lines : List (List ℕ)) (q : Shape) → AreAddLines s.documents lines → All HasItsName s.documents → IsWellFormed q → AsksForFoldings q
         → AnswersAlike s (machine_after (started_at empty) lines).state q }
 {

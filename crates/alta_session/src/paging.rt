@@ -1,22 +1,24 @@
 // The commands on cursors.
 ghost use Rattle.std.specs.Prelude.{◌≡◌, ◌⊎◌, ◌<◌, ◌≤◌, ◌++◌, [], ℕ, nat_le, List, length, codes, decimal, IfOk, IfErr, OnOk, string_bytes, if◌then◌else◌};
-ghost use Rattle.alta_compile.specs.PlanOf.{plan_of};
+ghost use Rattle.alta_machine.specs.PlanOf.{plan_of};
 ghost use Rattle.alta_disk.specs.Disk.{DiskState};
-ghost use Rattle.alta_images.specs.Standing.{StandsFor};
-ghost use Rattle.alta_meta.specs.declared.document.State.{State};
-ghost use Rattle.alta_model.specs.Deciding.{answers};
+ghost use Rattle.alta_meaning.specs.Standing.{StandsFor};
+ghost use Rattle.alta_machine.specs.declared.document.State.{State};
+ghost use Rattle.alta_machine.specs.Deciding.{answers};
 ghost use Rattle.alta_query.specs.View.{shape};
-ghost use Rattle.alta_search.specs.Open.{AreOpen, IsFetch, OpenAnswers, least_free, with_opened};
-ghost use Rattle.alta_search.specs.declared.cursors.TheConstants.{CURSORS};
+ghost use Rattle.alta_search.specs.Open.{AreOpen, IsFetch};
+ghost use Rattle.alta_machine.specs.OpenAnswers.{OpenAnswers, least_free, with_opened};
+ghost use Rattle.alta_machine.specs.declared.cursors.TheConstants.{CURSORS};
 ghost use Rattle.alta_session.specs.Answering.{IsReply};
-ghost use Rattle.alta_session.specs.Cursors.{Turns, closing, fetching, opened_over, opening};
+ghost use Rattle.alta_session.specs.Turns.{Turns};
+ghost use Rattle.alta_machine.specs.Cursors.{closing, fetching, opened_over, opening};
 ghost use Rattle.alta_session.specs.Loading.{KeepsMark, Loads, MarkHolds, MayLoad, Queries, open_loads, search_loads};
-ghost use Rattle.alta_session.specs.Machine.{IsRefusal};
-ghost use Rattle.alta_session.specs.Searching.{IsNoQuery, row_lines};
+ghost use Rattle.alta_machine.specs.Machine.{IsRefusal};
+ghost use Rattle.alta_machine.specs.Searching.{IsNoQuery, row_lines};
 ghost use Rattle.alta_store.specs.Answers.{IsOutside};
 
 use crate::replying::{put_answers, refused, text, written};
-use crate::searching::planned;
+use crate::searching::plan_and_load;
 use alta_codec::{Steps, Text};
 use alta_disk::Disk;
 use alta_loading::Ends;
@@ -95,7 +97,7 @@ fn put_cursor<D: Disk>(
     ensures loads { Loads D.tells (search_loads store.now (plan_of (shape query.now))) (D.state disk.old) (D.state disk.new) result }
     ensures mark { MarkHolds D.tells (D.state disk.new) store.now ends.new }
 {
-    let (plan, snapshot) = match planned(alloc, disk, store, ends, query) {
+    let (plan, snapshot) = match plan_and_load(alloc, disk, store, ends, query) {
         Ok(planned) => planned,
         Err(fault) => return Err(fault),
     };

@@ -3,11 +3,11 @@ ghost use Rattle.std.proofs.Common.{Global};
 ghost use Rattle.std.specs.Prelude.{◌≡◌, ◌++◌, ℕ, List, codes, decimal, String, string_bytes, Ok, IfOk, IfErr, OnOk};
 ghost use Rattle.alta_query.specs.Answer.{fault_in};
 ghost use Rattle.alta_session.specs.Answering.{IsReply};
-ghost use Rattle.alta_session.specs.Searching.{row_lines, score_lines, cause_name, found_line, query_refusal};
+ghost use Rattle.alta_machine.specs.Searching.{row_lines, score_lines, cause_name, found_line, query_refusal};
 
 use alta_codec::Text;
-use alta_query::{Cause, QueryFault};
-use alta_rank::Scored;
+use alta_machine::{Cause, Scored};
+use alta_query::QueryFault;
 use alta_search::Answers;
 use alta_store::StoreFault;
 use std::alloc::{AllocError, Global};

@@ -1,44 +1,45 @@
 // Queries over the documents of a store, answered by readers.
 ghost use Rattle.std.specs.Prelude.{◌≡◌, ◌∷◌, ◌++◌, ◌<◌, [], List, map, take, codes, length, string_bytes, Ok, IfOk, IfErr};
-ghost use Rattle.alta_compile.specs.Explained.{explained};
-ghost use Rattle.alta_compile.specs.PlanOf.{plan_of};
+ghost use Rattle.alta_machine.specs.Explained.{explained};
+ghost use Rattle.alta_machine.specs.PlanOf.{plan_of};
 ghost use Rattle.alta_compile.specs.Space.{Placed};
 ghost use Rattle.alta_compile.specs.View.{tree};
 ghost use Rattle.alta_disk.specs.Disk.{DiskState};
-ghost use Rattle.alta_images.specs.Standing.{StandsFor};
-ghost use Rattle.alta_meta.specs.declared.document.Document.{Document};
-ghost use Rattle.alta_meta.specs.declared.document.State.{State};
-ghost use Rattle.alta_model.specs.Deciding.{answers};
-ghost use Rattle.alta_query.specs.Matches.{IsWellFormed};
-ghost use Rattle.alta_query.specs.Shape.{Shape};
-ghost use Rattle.alta_query.specs.Spelling.{canonical};
+ghost use Rattle.alta_meaning.specs.Standing.{StandsFor};
+ghost use Rattle.alta_machine.specs.declared.document.Document.{Document};
+ghost use Rattle.alta_machine.specs.declared.document.State.{State};
+ghost use Rattle.alta_machine.specs.Deciding.{answers};
+ghost use Rattle.alta_machine.specs.Matches.{IsWellFormed};
+ghost use Rattle.alta_machine.specs.Shape.{Shape};
+ghost use Rattle.alta_machine.specs.Spelling.{canonical};
 ghost use Rattle.alta_query.specs.Texts.{HasTextTerms};
 ghost use Rattle.alta_query.specs.View.{shape};
-ghost use Rattle.alta_query.specs.Patterns.{title_end};
-ghost use Rattle.alta_rank.specs.Ranked.{ranked};
-ghost use Rattle.alta_rank.specs.Uses.{uses_of};
+ghost use Rattle.alta_machine.specs.Patterns.{title_end};
+ghost use Rattle.alta_machine.specs.Ranked.{ranked};
+ghost use Rattle.alta_machine.specs.Uses.{uses_of};
 ghost use Rattle.alta_search.specs.Answers.{coming};
 ghost use Rattle.alta_search.specs.Documents.{AreToCome};
 ghost use Rattle.alta_search.specs.Order.{used};
 ghost use Rattle.alta_search.specs.Plans.{tests_of};
 ghost use Rattle.alta_search.specs.Shown.{ShowsDocuments};
 ghost use Rattle.alta_search.specs.Told.{answer_of};
-ghost use Rattle.alta_search.specs.Tops.{AreBest, AreToRank, scored};
+ghost use Rattle.alta_search.specs.Tops.{AreBest, AreToRank};
+ghost use Rattle.alta_machine.specs.Scores.{scored};
 ghost use Rattle.alta_search.specs.View.{Shows};
 ghost use Rattle.alta_session.specs.Answering.{IsReply};
-ghost use Rattle.alta_session.specs.Loading.{KeepsMark, Loads, MarkHolds, MayLoad, Queries, order_loads, search_loads, text_loads, top_loads, top_text_loads, of_load};
-ghost use Rattle.alta_session.specs.Machine.{IsRefusal};
-ghost use Rattle.alta_session.specs.Searching.{IsNoQuery, answer_lines, score_lines, found_line, found_by, counted_by, ranked_by, searching, counting, explaining, ranking};
+ghost use Rattle.alta_session.specs.Loading.{KeepsMark, Loads, MarkHolds, MayLoad, Queries, order_loads, search_loads, text_loads, top_loads, top_text_loads};
 ghost use Rattle.alta_store.specs.Answers.{IsOutside};
+ghost use Rattle.alta_machine.specs.Machine.{IsRefusal};
+ghost use Rattle.alta_machine.specs.Searching.{IsNoQuery, answer_lines, score_lines, found_line, found_by, counted_by, ranked_by, searching, counting, explaining, ranking};
 
 use crate::replying::{put_answers, put_count, put_scores, refused, written};
 use alta_codec::{Steps, Text};
 use alta_compile::{Plan, a_plan_is_text, compile};
 use alta_disk::Disk;
-use alta_loading::{Ends, LoadFault, load_ordered};
+use alta_loading::{Ends, load_ordered};
 use alta_query::{Query, parse, print};
 use alta_search::{Loading, Page, Snapshot, Top, loading_order, ranking_order};
-use alta_store::{Sources, Store, StoreFault, a_search_sees_the_state};
+use alta_store::{Sources, Store, StoreFault, a_search_sees_the_state, load_fault};
 use std::alloc::{AllocError, Global};
 use std::marker::Brand;
 use std::sync::ledger::{Blank, Ledger};
@@ -61,7 +62,7 @@ pub(crate) fn search<D: Disk>(
         Ok(query) => query,
         Err(fault) => return refused(alloc, fault),
     };
-    let reply = listed(alloc, disk, store, ends, &query);
+    let reply = search_and_list(alloc, disk, store, ends, &query);
     drop(query);
     reply
 }
@@ -84,7 +85,7 @@ pub(crate) fn count<D: Disk>(
         Ok(query) => query,
         Err(fault) => return refused(alloc, fault),
     };
-    let reply = counted(alloc, disk, store, ends, &query);
+    let reply = search_and_count(alloc, disk, store, ends, &query);
     drop(query);
     reply
 }
@@ -109,7 +110,7 @@ pub(crate) fn rank<D: Disk>(
         Ok(query) => query,
         Err(fault) => return refused(alloc, fault),
     };
-    let reply = best_listed(alloc, disk, store, ends, count, &query);
+    let reply = search_and_rank(alloc, disk, store, ends, count, &query);
     drop(query);
     reply
 }
@@ -147,7 +148,7 @@ fn headed(alloc: Global, head: &str, lines: &str) -> Result<String, AllocError>
 }
 
 // The answers of a query, a line for each, and how many they are.
-fn listed<D: Disk>(
+fn search_and_list<D: Disk>(
     alloc: Global,
     disk: &mut D,
     store: &Store,
@@ -159,7 +160,7 @@ fn listed<D: Disk>(
     ensures queries { Queries D.tells D.state disk.old disk.new (search_loads store.now (plan_of (shape query.now))) ⊥ result }
     ensures mark { KeepsMark D.tells (D.state disk.new) store.now ends.old ends.new result }
 {
-    match planned(alloc, disk, store, ends, query) {
+    match plan_and_load(alloc, disk, store, ends, query) {
         Ok((plan, snapshot)) => {
             let reply = written(all_listed(alloc, &plan, query, &snapshot));
             drop(plan);
@@ -191,7 +192,7 @@ fn all_listed(
 }
 
 // How many answers a query has.
-fn counted<D: Disk>(
+fn search_and_count<D: Disk>(
     alloc: Global,
     disk: &mut D,
     store: &Store,
@@ -203,7 +204,7 @@ fn counted<D: Disk>(
     ensures queries { Queries D.tells D.state disk.old disk.new (search_loads store.now (plan_of (shape query.now))) ⊥ result }
     ensures mark { KeepsMark D.tells (D.state disk.new) store.now ends.old ends.new result }
 {
-    match planned(alloc, disk, store, ends, query) {
+    match plan_and_load(alloc, disk, store, ends, query) {
         Ok((plan, snapshot)) => {
             let reply = written(all_counted(alloc, &plan, query, &snapshot));
             drop(plan);
@@ -233,7 +234,7 @@ fn all_counted(
 }
 
 // The best answers of a query, a line for each, and how many answers there are.
-fn best_listed<D: Disk>(
+fn search_and_rank<D: Disk>(
     alloc: Global,
     disk: &mut D,
     store: &Store,
@@ -247,7 +248,7 @@ fn best_listed<D: Disk>(
     ensures queries { Queries D.tells D.state disk.old disk.new (top_loads store.now (plan_of (shape query.now))) ⊥ result }
     ensures mark { KeepsMark D.tells (D.state disk.new) store.now ends.old ends.new result }
 {
-    match planned_for_top(alloc, disk, store, ends, query) {
+    match plan_and_load_for_top(alloc, disk, store, ends, query) {
         Ok((plan, snapshot)) => {
             let reply = written(all_ranked(alloc, &plan, query, &snapshot, count));
             drop(plan);
@@ -287,7 +288,7 @@ fn all_ranked(
 ///
 /// `Damaged` at the first fault of the first list that has one, in the order of loading; never where the disk stands for a state.
 /// `Disk` where a read failed. `Memory` where there is no memory.
-pub(crate) fn planned<D: Disk>(
+pub(crate) fn plan_and_load<D: Disk>(
     alloc: Global,
     disk: &mut D,
     store: &Store,
@@ -318,8 +319,8 @@ pub(crate) fn planned<D: Disk>(
     }
 }
 
-// The plan of a query, and the snapshot of a store's documents for its best answers. Its faults are those of [`planned`].
-fn planned_for_top<D: Disk>(
+// The plan of a query, and the snapshot of a store's documents for its best answers. Its faults are those of [`plan_and_load`].
+fn plan_and_load_for_top<D: Disk>(
     alloc: Global,
     disk: &mut D,
     store: &Store,
@@ -382,17 +383,6 @@ pub(crate) fn load<D: Disk>(
     match load_ordered(alloc, disk, order, levels, ends, newest, rows, gone) {
         Ok(snapshot) => Ok(snapshot),
         Err(fault) => Err(load_fault(fault)),
-    }
-}
-
-// The fault of a search whose lists were not loaded.
-fn load_fault(fault: LoadFault) -> StoreFault
-    ensures { result ≡ of_load fault }
-{
-    match fault {
-        LoadFault::Disk => StoreFault::Disk,
-        LoadFault::Memory => StoreFault::Memory,
-        LoadFault::Damaged(place) => StoreFault::Damaged(place),
     }
 }
 

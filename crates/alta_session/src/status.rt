@@ -63,17 +63,17 @@ pub fn status_line(alloc: Global, status: &Status) -> Result<Text, AllocError>
     ensures { IfOk result (λ line. line ≡ line_of status.now) }
 {
     match status {
-        Status::Done => text(alloc, ""),
-        Status::Usage => text(alloc, "alta: usage: alta_cli PATH init | run | demo N"),
-        Status::DiskFault => text(alloc, "alta: disk fault"),
-        Status::TakeFault => text(alloc, "alta: input fault"),
-        Status::GiveFault => text(alloc, "alta: output fault"),
-        Status::Memory => text(alloc, "alta: out of memory"),
+        Status::Done => Text::of(alloc, ""),
+        Status::Usage => Text::of(alloc, "alta: usage: alta_cli PATH init | run | demo N"),
+        Status::DiskFault => Text::of(alloc, "alta: disk fault"),
+        Status::TakeFault => Text::of(alloc, "alta: input fault"),
+        Status::GiveFault => Text::of(alloc, "alta: output fault"),
+        Status::Memory => Text::of(alloc, "alta: out of memory"),
         Status::Damaged { place } => damaged_line(alloc, *place),
-        Status::NoRoot => text(alloc, "alta: no index"),
+        Status::NoRoot => Text::of(alloc, "alta: no index"),
         Status::Full { need, gap } => full_line(alloc, *need, *gap),
-        Status::TooLong => text(alloc, "alta: input too long"),
-        Status::Exists => text(alloc, "alta: index exists"),
+        Status::TooLong => Text::of(alloc, "alta: input too long"),
+        Status::Exists => Text::of(alloc, "alta: index exists"),
     }
 }
 
@@ -89,12 +89,6 @@ fn full_line(alloc: Global, need: u64, gap: u64) -> Result<Text, AllocError>
 {
     let line = format!(in alloc; "alta: full, need {need}, greatest gap {gap}")?;
     Ok(Text::from_string(line))
-}
-
-fn text(alloc: Global, line: &str) -> Result<Text, AllocError>
-    ensures { IfOk result (λ text. text ≡ line.now) }
-{
-    Ok(Text::from_string(String::from_str(alloc, line)?))
 }
 
 // The status of a run that a fault of the store ends.

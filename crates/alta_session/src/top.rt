@@ -2,17 +2,17 @@
 ghost use Rattle.std.specs.Prelude.{◌≡◌, ◌≢◌, ◌⊎◌, ◌↔◌, ◌^◌, ◌<◌, ◌≤◌, [], ◌∷◌, ℕ, true, codes, IsTrue, IfSome};
 ghost use Rattle.alta_codec.specs.Faults.{Rose};
 ghost use Rattle.alta_disk.specs.Disk.{DiskState, Stands};
-ghost use Rattle.alta_meta.specs.declared.document.State.{State};
+ghost use Rattle.alta_machine.specs.declared.document.State.{State};
 ghost use Rattle.alta_make.specs.Script.{script, report};
 ghost use Rattle.alta_session.specs.Demo.{AsksDemo, Demonstrates};
 ghost use Rattle.alta_session.specs.Run.{KeepsDisk, Serves};
 ghost use Rattle.alta_session.specs.Status.{IsOpened, IsUnmade, Completes, Yields, EndsInit};
 ghost use Rattle.alta_root.specs.Slots.{HasNoRoot};
-ghost use Rattle.alta_images.specs.Broken.{IsBrokenAt};
-ghost use Rattle.alta_images.specs.Holding.{IsHeld};
-ghost use Rattle.alta_images.specs.Standing.{StandsFor};
-ghost use Rattle.alta_images.specs.States.{empty};
-ghost use Rattle.alta_images.specs.Switching.{empty_held};
+ghost use Rattle.alta_meaning.specs.Broken.{IsBrokenAt};
+ghost use Rattle.alta_meaning.specs.Holding.{IsHeld};
+ghost use Rattle.alta_meaning.specs.Standing.{StandsFor};
+ghost use Rattle.alta_machine.specs.States.{empty_state};
+ghost use Rattle.alta_meaning.specs.Switching.{empty_held};
 ghost use Rattle.alta_store.specs.Calls.{IsNarrow};
 
 use crate::demo::{demo, demo_size};
@@ -20,7 +20,7 @@ use crate::{Status, serve};
 use alta_codec::Text;
 use alta_console::Console;
 use alta_disk::Disk;
-use alta_store::{format, has_index};
+use alta_store::{has_index, make_index};
 use std::alloc::Global;
 
 // The most bytes of input that a run reads.
@@ -51,7 +51,7 @@ pub fn alta<C: Console, D: Disk>(
         → (result ≡ Status.Usage) × (console.new ≡ console.old) × (disk.new ≡ disk.old) }
 
     ensures init { words.now ≡ codes "init" ∷ [] → EndsInit result × (console.new ≡ console.old) }
-    ensures made { words.now ≡ codes "init" ∷ [] → result ≡ Status.Done → Stands D.tells (D.state disk.new) (StandsFor empty) }
+    ensures made { words.now ≡ codes "init" ∷ [] → result ≡ Status.Done → Stands D.tells (D.state disk.new) (StandsFor empty_state) }
     ensures exists { D.tells → result ≡ Status.Exists → ¬ (HasNoRoot (D.state disk.old).content) }
     ensures found { words.now ≡ codes "init" ∷ [] → D.tells → ¬ (HasNoRoot (D.state disk.old).content) → (result ≡ Status.Exists) ⊎ (result ≡ Status.DiskFault) }
     ensures too_small { words.now ≡ codes "init" ∷ [] → (need gap : ℕ) → result ≡ Status.Full need gap → (need ≡ 2105344) × (gap ≡ (D.state disk.old).limit) × ((D.state disk.old).limit < 2105344) }
@@ -102,7 +102,7 @@ fn is_word(words: &[Text], word: &str) -> bool
 // Makes an index without documents.
 pub(crate) fn init<D: Disk>(disk: &mut D) -> Status
     ensures ends { EndsInit result }
-    ensures made { result ≡ Status.Done → Stands D.tells (D.state disk.new) (StandsFor empty) }
+    ensures made { result ≡ Status.Done → Stands D.tells (D.state disk.new) (StandsFor empty_state) }
     ensures holds { result ≡ Status.Done → Stands D.tells (D.state disk.new) (IsHeld empty_held) }
     ensures exists { D.tells → result ≡ Status.Exists → ¬ (HasNoRoot (D.state disk.old).content) }
     ensures found { D.tells → ¬ (HasNoRoot (D.state disk.old).content) → (result ≡ Status.Exists) ⊎ (result ≡ Status.DiskFault) }
@@ -125,7 +125,7 @@ pub(crate) fn init<D: Disk>(disk: &mut D) -> Status
             gap: limit,
         };
     }
-    match format(disk) {
+    match make_index(disk) {
         Ok(()) => Status::Done,
         Err(_) => Status::DiskFault,
     }

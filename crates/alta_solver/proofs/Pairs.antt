@@ -6,9 +6,10 @@ use Rattle.std.specs.Prelude.{slice_index}
 use Rattle.alta_codec.specs.declared.location.TheConstants.{TOP}
 use Rattle.alta_codec.specs.Rising.{first_from, pred_of}
 use Rattle.alta_codec.proofs.Places.{first_from-above, first_from-least, pred_of-below, pred_of-place}
-use Rattle.alta_solver.specs.declared.form.Form.TheVariants.{LocLoc, PrevLoc}
+use Rattle.alta_codec.specs.declared.form.Form.TheVariants.{LocLoc, PrevLoc}
 use Rattle.alta_solver.specs.declared.least.Outcome.TheVariants.{Moved}
-use Rattle.alta_solver.specs.Inequality.{Inequality, upper, lower, IsBehindBounds, IsNamed, IsPair}
+use Rattle.alta_codec.specs.Inequality.{Inequality, upper, lower}
+use Rattle.alta_solver.specs.Bounds.{IsBehindBounds, IsNamed, IsPair}
 use Rattle.alta_solver.specs.Repair.{IsRepaired}
 use Rattle.alta_solver.specs.Settling.{HoldFrom, IsTried}
 use Rattle.alta_solver.specs.Solution.{list_at, MeetsBound, IsRaised}

@@ -7,8 +7,8 @@ use Rattle.std.proofs.lemmas.List.Elements.{All-head, All-tail}
 use Rattle.alta_codec.specs.declared.location.TheConstants.{TOP}
 use Rattle.alta_codec.specs.Rising.{IsRising, IsPlace, first_from, pred_of}
 use Rattle.alta_codec.proofs.Places.{first_from-le_top, first_from-above, first_from-least, first_from-place, pred_of-below, pred_of-greatest, pred_of-place, pred_of-mono, pred_of-below_top, place-le_top}
-use Rattle.alta_solver.specs.declared.form.Form.{Form}
-use Rattle.alta_solver.specs.declared.form.Form.TheVariants.{LocLoc, PrevLoc, LocPrev, PrevPrev}
+use Rattle.alta_codec.specs.declared.form.Form.{Form}
+use Rattle.alta_codec.specs.declared.form.Form.TheVariants.{LocLoc, PrevLoc, LocPrev, PrevPrev}
 use Rattle.alta_solver.specs.Solution.{high_side, IsAtLeast, IsRaised}
 
 -- what holds of a list and a place of each reader holds at an index

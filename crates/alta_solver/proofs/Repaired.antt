@@ -2,9 +2,9 @@
 use Rattle.std.proofs.Common.{ℕ, ◌+◌, ◌<◌, ◌≤◌, true, false, List, length, refl, ap, arith}
 use Rattle.std.specs.Prelude.{slice_index}
 use Rattle.alta_codec.proofs.Places.{pred_of-mono}
-use Rattle.alta_solver.specs.Inequality.{Inequality}
-use Rattle.alta_solver.specs.declared.form.Form.{Form}
-use Rattle.alta_solver.specs.declared.form.Form.TheVariants.{LocLoc, PrevLoc, LocPrev, PrevPrev}
+use Rattle.alta_codec.specs.Inequality.{Inequality}
+use Rattle.alta_codec.specs.declared.form.Form.{Form}
+use Rattle.alta_codec.specs.declared.form.Form.TheVariants.{LocLoc, PrevLoc, LocPrev, PrevPrev}
 use Rattle.alta_solver.specs.declared.least.Outcome.TheVariants.{Moved, Stuck}
 use Rattle.alta_solver.specs.Solution.{list_at, low_side, high_side, MeetsBound, IsAtLeast, IsRaised}
 use Rattle.alta_solver.specs.Repair.{IsRepaired}

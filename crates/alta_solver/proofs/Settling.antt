@@ -6,7 +6,8 @@ use Rattle.alta_codec.specs.declared.location.TheConstants.{TOP}
 use Rattle.alta_codec.specs.Rising.{IsPlace}
 use Rattle.alta_solver.specs.declared.least.Outcome.{Outcome}
 use Rattle.alta_solver.specs.declared.least.Outcome.TheVariants.{Settled, Moved, Stuck}
-use Rattle.alta_solver.specs.Inequality.{Inequality, IsNamed}
+use Rattle.alta_codec.specs.Inequality.{Inequality}
+use Rattle.alta_solver.specs.Bounds.{IsNamed}
 use Rattle.alta_solver.specs.Solution.{list_at, low_side, MeetsBound, IsAtLeast, IsSolution, IsLeast}
 use Rattle.alta_solver.specs.Repair.{IsRepaired}
 use Rattle.alta_solver.specs.Settling.{HoldFrom, IsSettling, IsTried}

@@ -1,6 +1,6 @@
-pub mod Inequality
 pub mod Moves
 pub mod Repair
 pub mod Setting
 pub mod Settling
 pub mod Solution
+pub mod Bounds

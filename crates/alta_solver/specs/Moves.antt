@@ -1,6 +1,7 @@
 -- What moves keep of the readers, and what a test of bounds answers.
 use Rattle.std.specs.Prelude.{◌≡◌, ◌⊎◌, ℕ, ◌+◌, ◌<◌, ◌≤◌, List, map, length, All, sum_by, Option, IfSome}
-use Rattle.alta_solver.specs.Inequality.{Inequality, IsNamed}
+use Rattle.alta_codec.specs.Inequality.{Inequality}
+use Rattle.alta_solver.specs.Bounds.{IsNamed}
 use Rattle.alta_solver.specs.Settling.{IsTried}
 
 -- sound readers, which the bounds name

@@ -3,7 +3,7 @@ use Rattle.std.specs.Prelude.{◌≡◌, ◌≢◌, ℕ, List, length, slice_ind
 use Rattle.alta_codec.specs.Rising.{IsPlace}
 use Rattle.alta_solver.specs.declared.least.Outcome.{Outcome}
 use Rattle.alta_solver.specs.declared.least.Outcome.TheVariants.{Settled, Moved, Stuck}
-use Rattle.alta_solver.specs.Inequality.{Inequality}
+use Rattle.alta_codec.specs.Inequality.{Inequality}
 use Rattle.alta_solver.specs.Solution.{list_at, MeetsBound, IsAtLeast}
 
 -- No place went back, none passed places where the bound holds, and none but that of j moved. Settled: the bound holds and

@@ -1,6 +1,6 @@
 -- Going on towards the least solution, one test of a bound after another.
 use Rattle.std.specs.Prelude.{◌≡◌, ℕ, ◌<◌, ◌≤◌, List, length, slice_index_or, Option, None, IfSome}
-use Rattle.alta_solver.specs.Inequality.{Inequality}
+use Rattle.alta_codec.specs.Inequality.{Inequality}
 use Rattle.alta_solver.specs.Solution.{MeetsBound, IsAtLeast, IsSolution}
 
 -- the bounds from an index on hold

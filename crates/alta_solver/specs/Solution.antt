@@ -2,9 +2,9 @@
 use Rattle.std.specs.Prelude.{◌≡◌, ◌≢◌, ℕ, ◌+◌, ◌<◌, ◌≤◌, List, [], length, slice_index, slice_index_or, All, Bool, false, IsTrue}
 use Rattle.alta_codec.specs.declared.location.TheConstants.{TOP}
 use Rattle.alta_codec.specs.Rising.{IsPlace, pred_of}
-use Rattle.alta_solver.specs.Inequality.{Inequality}
-use Rattle.alta_solver.specs.declared.form.Form.{Form}
-use Rattle.alta_solver.specs.declared.form.Form.TheVariants.{LocLoc, PrevLoc, LocPrev, PrevPrev}
+use Rattle.alta_codec.specs.Inequality.{Inequality}
+use Rattle.alta_codec.specs.declared.form.Form.{Form}
+use Rattle.alta_codec.specs.declared.form.Form.TheVariants.{LocLoc, PrevLoc, LocPrev, PrevPrev}
 
 -- the side that is to be at most the other, at a place in its list
 abbrev pub low_side : Form → List ℕ → ℕ → ℕ

@@ -1,7 +1,7 @@
 // One bound between two readers.
 ghost use Rattle.std.specs.Prelude.{◌≡◌, ◌↔◌, ◌⊎◌, ◌≤◌, pos, negsuc, ◌+ℤ◌, ◌<ℤ◌, IsNone, IfSome};
 
-use crate::form::Form;
+use alta_codec::Form;
 use std::marker::Model;
 
 /// A bound: the location or previous location of reader `i` is at most that of reader `j`, plus a constant.
@@ -16,7 +16,7 @@ pub struct Bound {
 
 impl Model for Bound {
     ghost use Rattle.std.specs.Prelude.{◌≤◌};
-    ghost use Rattle.alta_solver.specs.Inequality.{Inequality};
+    ghost use Rattle.alta_codec.specs.Inequality.{Inequality};
 
     ghost Value = { Inequality };
 

@@ -3,14 +3,14 @@ ghost use Rattle.std.specs.Prelude.{◌≡◌, ◌≢◌, ◌↔◌, ℕ, ◌+�
 ghost use Rattle.alta_codec.specs.Rising.{IsRising, IsPlace, first_from, pred_of};
 ghost use Rattle.alta_codec.specs.declared.location.TheConstants.{TOP};
 ghost use Rattle.alta_solver.specs.Solution.{low_side, high_side, list_at, MeetsBound, IsSolution, IsAtLeast, IsLeast, IsRaised};
-ghost use Rattle.alta_solver.specs.Inequality.{Inequality, IsBetween, IsBehindBounds, IsPair, IsPaired};
+ghost use Rattle.alta_codec.specs.Inequality.{Inequality};
+ghost use Rattle.alta_solver.specs.Bounds.{IsBetween, IsBehindBounds, IsPair, IsPaired};
 ghost use Rattle.alta_solver.specs.Moves.{AreReady, AreKept, IsTested};
 ghost use Rattle.alta_solver.specs.Repair.{IsRepaired};
 ghost use Rattle.alta_solver.specs.Settling.{IsSettling};
 
 use crate::bound::Bound;
-use crate::form::Form;
-use alta_codec::{Loc, Steps, TOP};
+use alta_codec::{Form, Loc, Steps, TOP};
 use alta_reader::BackReader;
 use alta_reader::many::{place_at, prev_at, seek_at};
 use std::sync::ledger::Ledger;

@@ -2,12 +2,10 @@
 #![tactic(auto)]
 
 mod bound;
-mod form;
 mod least;
 mod solver;
 mod system;
 
 pub use bound::Bound;
-pub use form::Form;
 pub use solver::Solver;
 pub use system::System;

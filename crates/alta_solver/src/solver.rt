@@ -2,13 +2,13 @@
 ghost use Rattle.std.specs.Prelude.{◌≡◌, ◌↔◌, ℕ, ◌+◌, ◌*◌, ◌<◌, ◌≤◌, List, map, length, slice_index, slice_index_or, slice_set, All, sum_by, IsTrue, IsOk, IfOk, IfErr, false};
 ghost use Rattle.alta_codec.specs.Rising.{IsRising, first_from};
 ghost use Rattle.alta_solver.specs.Solution.{list_at, IsSolution, IsAtLeast, IsLeast};
-ghost use Rattle.alta_solver.specs.Inequality.{upper, lower, IsNamed, IsPair, IsPaired};
+ghost use Rattle.alta_codec.specs.Inequality.{upper, lower};
+ghost use Rattle.alta_solver.specs.Bounds.{IsNamed, IsPair, IsPaired};
 
 use crate::bound::Bound;
-use crate::form::Form;
 use crate::least;
 use crate::system::System;
-use alta_codec::{Loc, Steps, TOP};
+use alta_codec::{Form, Loc, Steps, TOP};
 use alta_reader::{BackReader, many};
 use std::marker::Model;
 use std::sync::ledger::Ledger;
@@ -74,7 +74,7 @@ pub struct Solver<R: BackReader> {
 
 impl<R: BackReader> Model for Solver<R> {
     ghost use Rattle.std.specs.Prelude.{ℕ, ◌<◌, List, length, All};
-    ghost use Rattle.alta_solver.specs.Inequality.{IsBehindBounds, IsNamed, IsPaired};
+    ghost use Rattle.alta_solver.specs.Bounds.{IsBehindBounds, IsNamed, IsPaired};
     ghost use Rattle.alta_solver.specs.Setting.{Setting};
 
     ghost Value = { Setting R };

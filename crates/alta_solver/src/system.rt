@@ -13,7 +13,7 @@ pub struct System {
 
 impl Model for System {
     ghost use Rattle.std.specs.Prelude.{List};
-    ghost use Rattle.alta_solver.specs.Inequality.{Inequality};
+    ghost use Rattle.alta_codec.specs.Inequality.{Inequality};
 
     ghost Value = { List Inequality };
 

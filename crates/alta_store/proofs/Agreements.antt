@@ -2,10 +2,10 @@
 use Rattle.std.proofs.Common.{List, ℕ, sym, subst}
 use Rattle.alta_catalog.proofs.MayLaws.{means_may}
 use Rattle.alta_disk.specs.Disk.{DiskState, IsLawful, Each, Only}
-use Rattle.alta_images.specs.Opened.{Opened, IsOpened}
-use Rattle.alta_images.specs.Standing.{StandsFor}
-use Rattle.alta_images.proofs.OneReading.{one_opened}
-use Rattle.alta_meta.specs.declared.document.State.{State}
+use Rattle.alta_meaning.specs.Opened.{Opened, IsOpened}
+use Rattle.alta_meaning.specs.Standing.{StandsFor}
+use Rattle.alta_meaning.proofs.OneReading.{one_opened}
+use Rattle.alta_machine.specs.declared.document.State.{State}
 use Rattle.alta_store.specs.Agreement.{Agrees, KeepsOpened, Keeps, Knows}
 use Rattle.alta_store.specs.declared.store.Store.{Store}
 

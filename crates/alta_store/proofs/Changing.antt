@@ -6,19 +6,19 @@ use Rattle.alta_codec.specs.Faults.{Rose}
 use Rattle.alta_disk.specs.Calls.{Costs}
 use Rattle.alta_disk.specs.Disk.{DiskState, IsLawful, LeavesOnly}
 use Rattle.alta_disk.proofs.Moments.{leaves_as, leaves_start, leaves_then}
-use Rattle.alta_images.specs.Chain.{◌>>=◌}
-use Rattle.alta_images.specs.Holding.{Holding}
-use Rattle.alta_images.specs.Opened.{Opened, IsOpened}
-use Rattle.alta_images.specs.Standing.{StandsFor, StandsForEither}
-use Rattle.alta_images.specs.Switching.{with_entry}
-use Rattle.alta_images.specs.Work.{enters, fits, needs_raise}
-use Rattle.alta_images.specs.Working.{Full, entered, flushed, worked, written}
-use Rattle.alta_images.proofs.KeptStates.{by_entries}
+use Rattle.alta_meaning.specs.Chain.{◌>>=◌}
+use Rattle.alta_meaning.specs.Holding.{Holding}
+use Rattle.alta_meaning.specs.Opened.{Opened, IsOpened}
+use Rattle.alta_meaning.specs.Standing.{StandsFor, StandsForEither}
+use Rattle.alta_meaning.specs.Switching.{with_entry}
+use Rattle.alta_meaning.specs.Work.{enters, fits, needs_raise}
+use Rattle.alta_meaning.specs.Working.{Full, entered, flushed, worked, written}
+use Rattle.alta_meaning.proofs.KeptStates.{by_entries}
 use Rattle.alta_joins.specs.Contents.{data_size}
 use Rattle.alta_joins.specs.Damages.{IsFirstDamage}
 use Rattle.alta_journal.specs.Entry.{KeepsRules}
 use Rattle.alta_journal.specs.declared.entry.Entry.{Entry}
-use Rattle.alta_meta.specs.declared.document.State.{State}
+use Rattle.alta_machine.specs.declared.document.State.{State}
 use Rattle.alta_store.specs.Agreement.{Agrees, Has, Keeps}
 use Rattle.alta_store.specs.Answers.{IsOutside}
 use Rattle.alta_store.specs.Calls.{BecomesEntered, Changes, FindsFirstDamage, GetsRoom, IsCause, NoRefusal, Obeys, joined_by, lacks_room}

@@ -13,22 +13,22 @@ use Rattle.alta_content.specs.declared.document.DocRow.{DocRow}
 use Rattle.alta_disk.specs.Calls.{Costs}
 use Rattle.alta_disk.specs.Disk.{DiskState, IsLawful, Only, Passes, Stands, LeavesOnly}
 use Rattle.alta_disk.proofs.Moments.{stands_only, leaves_from}
-use Rattle.alta_images.specs.Entries.{Allows, after_entries, after_entry}
-use Rattle.alta_images.specs.Holding.{Holding, IsHeld}
-use Rattle.alta_images.specs.Opened.{Opened, IsOpened, journal_of, table_rows, extent_of}
-use Rattle.alta_images.specs.Standing.{StandsFor, StandsForEither}
-use Rattle.alta_images.specs.States.{IsDocument, number_of, with_added, with_deleted, with_replaced, without}
-use Rattle.alta_images.specs.Switching.{MayAppend, with_entry}
-use Rattle.alta_images.specs.Views.{View}
-use Rattle.alta_images.specs.Work.{enters, fits, needs_raise}
-use Rattle.alta_images.specs.Working.{entered}
-use Rattle.alta_images.proofs.AppendLaws.{opened_appended, stands_appended, stands_appending}
-use Rattle.alta_images.proofs.Entering.{after_more}
-use Rattle.alta_images.proofs.HeldLaws.{held_appended}
-use Rattle.alta_images.proofs.SwitchLaws.{extents_clear}
-use Rattle.alta_images.proofs.Untouched.{IsSame, extents_same}
-use Rattle.alta_images.proofs.Tests.{equal_test}
-use Rattle.alta_images.proofs.WellLaws.{by_raise, by_room, work_well}
+use Rattle.alta_meaning.specs.Entries.{Allows, after_entries, after_entry, IsDocument}
+use Rattle.alta_meaning.specs.Holding.{Holding, IsHeld}
+use Rattle.alta_meaning.specs.Opened.{Opened, IsOpened, journal_of, table_rows, extent_of}
+use Rattle.alta_meaning.specs.Standing.{StandsFor, StandsForEither}
+use Rattle.alta_machine.specs.Changes.{number_of, with_added, with_deleted, with_replaced, without}
+use Rattle.alta_meaning.specs.Switching.{MayAppend, with_entry}
+use Rattle.alta_meaning.specs.Views.{View}
+use Rattle.alta_meaning.specs.Work.{enters, fits, needs_raise}
+use Rattle.alta_meaning.specs.Working.{entered}
+use Rattle.alta_meaning.proofs.AppendLaws.{opened_appended, stands_appended, stands_appending}
+use Rattle.alta_meaning.proofs.Entering.{after_more}
+use Rattle.alta_meaning.proofs.HeldLaws.{held_appended}
+use Rattle.alta_meaning.proofs.SwitchLaws.{extents_clear}
+use Rattle.alta_meaning.proofs.Untouched.{IsSame, extents_same}
+use Rattle.alta_meaning.proofs.Tests.{equal_test}
+use Rattle.alta_meaning.proofs.WellLaws.{by_raise, by_room, work_well}
 use Rattle.alta_joins.proofs.KeptLaws.{held_is_spaced}
 use Rattle.alta_journal.specs.declared.appending.JournalFault.{JournalFault}
 use Rattle.alta_journal.specs.declared.appending.JournalFault.TheVariants.{Disk as JournalDisk, Full as JournalFull}
@@ -41,7 +41,7 @@ use Rattle.alta_journal.specs.declared.entry.Entry.TheVariants.{Add, Delete, Rep
 use Rattle.alta_journal.specs.declared.half.Half.{Half}
 use Rattle.alta_journal.proofs.Frames.{appends_touch, ends_closed}
 use Rattle.alta_merge.specs.Merging.{Merging}
-use Rattle.alta_meta.specs.declared.document.State.{State}
+use Rattle.alta_machine.specs.declared.document.State.{State}
 use Rattle.alta_root.specs.Root.{extents_of}
 use Rattle.alta_root.specs.declared.root.Root.{Root}
 use Rattle.alta_root.proofs.Frames.{counts_sound}

@@ -8,15 +8,15 @@ use Rattle.alta_content.specs.declared.content.Content.{Content}
 use Rattle.alta_content.specs.declared.document.DocRow.{DocRow}
 use Rattle.alta_disk.specs.Calls.{Reads}
 use Rattle.alta_disk.specs.Disk.{DiskState, IsLawful}
-use Rattle.alta_images.specs.Holding.{Holding, IsHeld}
-use Rattle.alta_images.specs.Levels.{Level}
-use Rattle.alta_images.specs.Opened.{Opened, IsOpened}
-use Rattle.alta_images.specs.Standing.{view_of}
-use Rattle.alta_images.specs.Views.{View}
-use Rattle.alta_images.specs.Work.{Coming, Job, Task, newest_content, oldest_joined, steps, whole_of}
-use Rattle.alta_images.specs.Working.{IsJoin, oldest_contents, switched, worked, written}
-use Rattle.alta_images.proofs.Tests.{apart_test, equal_test}
-use Rattle.alta_images.proofs.WellLaws.{work_well, written_well}
+use Rattle.alta_meaning.specs.Holding.{Holding, IsHeld}
+use Rattle.alta_meaning.specs.Levels.{Level}
+use Rattle.alta_meaning.specs.Opened.{Opened, IsOpened}
+use Rattle.alta_meaning.specs.Standing.{view_of}
+use Rattle.alta_meaning.specs.Views.{View}
+use Rattle.alta_meaning.specs.Work.{Coming, Job, Task, newest_content, oldest_joined, steps, whole_of}
+use Rattle.alta_meaning.specs.Working.{IsJoin, oldest_contents, switched, worked, written}
+use Rattle.alta_meaning.proofs.Tests.{apart_test, equal_test}
+use Rattle.alta_meaning.proofs.WellLaws.{work_well, written_well}
 use Rattle.alta_joins.specs.Contents.{data_size}
 use Rattle.alta_joins.specs.Damages.{IsFirstDamage}
 use Rattle.alta_joins.specs.Jobs.{AreJoinedOn, IsMerging}

@@ -9,7 +9,7 @@ use Rattle.alta_disk.specs.Writes.{drop_less, holds_torn, length-holds}
 use Rattle.alta_disk.proofs.PartLaws.{part_torn, part_written}
 use Rattle.alta_journal.specs.declared.places.TheConstants.{START_A, HEAD_BYTES}
 use Rattle.alta_journal.proofs.HalfLaws.{half_long, half_byte}
-use Rattle.alta_images.specs.Switching.{empty_root, IsFormatted}
+use Rattle.alta_meaning.specs.Switching.{empty_root, IsFormatted}
 use Rattle.alta_root.specs.Places.{fields_at, gate_of}
 use Rattle.alta_root.specs.Root.{body_of, fields_of, wide_bytes}
 use Rattle.alta_root.specs.declared.slot.Slot.TheVariants.{A}

@@ -5,8 +5,8 @@ use Rattle.std.specs.List.{All}
 use Rattle.std.proofs.lemmas.List.Elements.{All-head, All-tail}
 use Rattle.alta_content.specs.Rows.{ends_among}
 use Rattle.alta_content.specs.declared.document.DocRow.{DocRow}
-use Rattle.alta_images.specs.Opened.{table_rows, extent_of}
-use Rattle.alta_images.proofs.Untouched.{IsSame}
+use Rattle.alta_meaning.specs.Opened.{table_rows, extent_of}
+use Rattle.alta_meaning.proofs.Untouched.{IsSame}
 use Rattle.alta_joins.specs.Jobs.{AreJoinedOn, DeadAreGone, IsBegun, IsJoining}
 use Rattle.alta_joins.proofs.JoiningLaws.{joining_more, joining_stays}
 use Rattle.alta_merge.specs.Merging.{Merging}

@@ -8,16 +8,16 @@ use Rattle.alta_catalog.proofs.MayLaws.{may_be}
 use Rattle.alta_codec.specs.Bytes.{AreBytes}
 use Rattle.alta_content.specs.declared.document.DocRow.{DocRow}
 use Rattle.alta_disk.specs.Disk.{DiskState, IsLawful}
-use Rattle.alta_images.specs.Holding.{Holding, IsHeld, IsJobOf, IsWell}
-use Rattle.alta_images.specs.Levels.{Level}
-use Rattle.alta_images.specs.Opened.{Opened, IsOpened, bytes_at, deleted_in, list_at, table_rows}
-use Rattle.alta_images.specs.Standing.{StandsFor, tables_by, view_of}
-use Rattle.alta_images.specs.Views.{View, state_of}
-use Rattle.alta_images.specs.Work.{Job, gone, level_rows}
-use Rattle.alta_images.proofs.WrittenLaws.{held_without}
+use Rattle.alta_meaning.specs.Holding.{Holding, IsHeld, IsJobOf, IsWell}
+use Rattle.alta_meaning.specs.Levels.{Level}
+use Rattle.alta_meaning.specs.Opened.{Opened, IsOpened, bytes_at, deleted_in, list_at, table_rows}
+use Rattle.alta_meaning.specs.Standing.{StandsFor, tables_by, view_of}
+use Rattle.alta_meaning.specs.Views.{View, state_of}
+use Rattle.alta_meaning.specs.Work.{Job, gone, level_rows}
+use Rattle.alta_meaning.proofs.WrittenLaws.{held_without}
 use Rattle.alta_joins.proofs.JoiningLaws.{joining_job}
 use Rattle.alta_merge.specs.Merging.{Merging}
-use Rattle.alta_meta.specs.declared.document.State.{State}
+use Rattle.alta_machine.specs.declared.document.State.{State}
 use Rattle.alta_postings.specs.Deltas.{first_fault, decoded_list, stream_bytes}
 use Rattle.alta_postings.specs.declared.fault.StreamFault.{StreamFault}
 use Rattle.alta_postings.proofs.Reading.{reading_spells}

@@ -7,16 +7,16 @@ use Rattle.alta_catalog.specs.Knowing.{gone_of, memory_of, newest_of}
 use Rattle.alta_content.specs.Rows.{live_rows}
 use Rattle.alta_content.specs.declared.document.DocRow.{DocRow}
 use Rattle.alta_disk.specs.Disk.{DiskState, IsLawful}
-use Rattle.alta_images.specs.Holding.{Holding, IsHeld}
-use Rattle.alta_images.specs.Levels.{Level}
-use Rattle.alta_images.specs.Opened.{Opened, IsOpened}
-use Rattle.alta_images.specs.Standing.{tables_by}
-use Rattle.alta_images.specs.Views.{View}
-use Rattle.alta_images.specs.Work.{Job, begun, enters, flushes, is_merged, job_of, merges, steps}
-use Rattle.alta_images.specs.Working.{moved, written}
-use Rattle.alta_images.proofs.KeptStates.{by_entries}
-use Rattle.alta_images.proofs.Tests.{by_test, equal_from, equal_test}
-use Rattle.alta_images.proofs.WellLaws.{by_merged}
+use Rattle.alta_meaning.specs.Holding.{Holding, IsHeld}
+use Rattle.alta_meaning.specs.Levels.{Level}
+use Rattle.alta_meaning.specs.Opened.{Opened, IsOpened}
+use Rattle.alta_meaning.specs.Standing.{tables_by}
+use Rattle.alta_meaning.specs.Views.{View}
+use Rattle.alta_meaning.specs.Work.{Job, begun, enters, flushes, is_merged, job_of, merges, steps}
+use Rattle.alta_meaning.specs.Working.{moved, written}
+use Rattle.alta_meaning.proofs.KeptStates.{by_entries}
+use Rattle.alta_meaning.proofs.Tests.{by_test, equal_from, equal_test}
+use Rattle.alta_meaning.proofs.WellLaws.{by_merged}
 use Rattle.alta_journal.specs.Places.{start_of}
 use Rattle.alta_journal.specs.declared.entry.Entry.{Entry}
 use Rattle.alta_memlevel.specs.Added.{Added}

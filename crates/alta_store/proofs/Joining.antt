@@ -8,27 +8,27 @@ use Rattle.alta_codec.specs.Faults.{Rose}
 use Rattle.alta_content.specs.declared.content.Content.{Content}
 use Rattle.alta_disk.specs.Disk.{DiskState, IsLawful}
 use Rattle.alta_disk.specs.Calls.{Reads}
-use Rattle.alta_images.specs.Broken.{IsBrokenAmong}
-use Rattle.alta_images.specs.Holding.{Holding, IsHeld, IsJob}
-use Rattle.alta_images.specs.Levels.{Level}
-use Rattle.alta_images.specs.Opened.{extent_of}
-use Rattle.alta_images.specs.Standing.{StandsFor}
-use Rattle.alta_images.specs.Views.{View}
-use Rattle.alta_images.specs.Work.{Coming, Job, begun, gone, job_of, oldest_joined, whole_of}
-use Rattle.alta_images.specs.Working.{IsJoin, oldest_contents, switched}
-use Rattle.alta_images.proofs.KeptStates.{switched_is}
-use Rattle.alta_joins.specs.Answers.{IfDamaged}
+use Rattle.alta_meaning.specs.Broken.{IsBrokenAmong}
+use Rattle.alta_meaning.specs.Holding.{Holding, IsHeld, IsJob}
+use Rattle.alta_meaning.specs.Levels.{Level}
+use Rattle.alta_meaning.specs.Opened.{extent_of}
+use Rattle.alta_meaning.specs.Standing.{StandsFor}
+use Rattle.alta_meaning.specs.Views.{View}
+use Rattle.alta_meaning.specs.Work.{Coming, Job, begun, gone, job_of, oldest_joined, whole_of}
+use Rattle.alta_meaning.specs.Working.{IsJoin, oldest_contents, switched}
+use Rattle.alta_meaning.proofs.KeptStates.{switched_is}
+use Rattle.alta_disk.specs.Answers.{IfDamaged}
 use Rattle.alta_joins.specs.Contents.{AreSegmentsOn, StandsOn, data_size}
 use Rattle.alta_joins.specs.Damages.{FindsDamage, IsFirstDamage}
 use Rattle.alta_joins.specs.Jobs.{AreJoinedOn, IsBegun, IsJoining, IsMerging}
-use Rattle.alta_joins.specs.declared.fault.JoinFault.{JoinFault}
-use Rattle.alta_joins.specs.declared.fault.JoinFault.TheVariants as join_faults
+use Rattle.alta_disk.specs.declared.fault.LoadFault.{LoadFault}
+use Rattle.alta_disk.specs.declared.fault.LoadFault.TheVariants as join_faults
 use Rattle.alta_joins.proofs.JoiningLaws.{joining_job, joining_join}
 use Rattle.alta_joins.proofs.OpenedLaws.{levels_segments, opened_stand}
 use Rattle.alta_merge.specs.Merging.{Merging}
-use Rattle.alta_meta.specs.declared.document.State.{State}
+use Rattle.alta_machine.specs.declared.document.State.{State}
 use Rattle.alta_store.specs.Agreement.{Agrees, GoesOnOver, Has, IsJobIn, MayGoOn, levels_of}
-use Rattle.alta_store.specs.Answers.{of_join}
+use Rattle.alta_store.specs.Answers.{of_load}
 use Rattle.alta_store.specs.Calls.{unless_read}
 use Rattle.alta_store.specs.Putting.{IsDrained, ReadsLevels}
 use Rattle.alta_store.specs.declared.fault.StoreFault.{StoreFault}
@@ -39,7 +39,7 @@ use Rattle.alta_store.proofs.GoingOn.{Begins, begins_as}
 use Rattle.alta_store.proofs.Holdings.{content_bytes, gone_held, has_of, levels_held}
 use Rattle.alta_table.specs.Tables.{Tables}
 use Rattle.alta_content.specs.Joining.{joined_in}
-use Rattle.alta_images.proofs.WellLaws.{one_job, no_job}
+use Rattle.alta_meaning.proofs.WellLaws.{one_job, no_job}
 
 -- ---- a join of a store's two oldest levels
 
@@ -246,8 +246,8 @@ memory_wanting {X} tells levels a b reads = record {
     not_disk : ◌≡◌ {A = Result X StoreFault} (Err faults.Memory) (Err faults.Disk) → ⊥
     not_disk e = absurd cc
 
-pub read_failed : {X : Type 0} (tells : Type 0) (levels : List Tables) (a b : DiskState) (fault : JoinFault) (other : StoreFault) → other ≡ of_join fault → (tells → FindsDamage {X = X} a.content levels (Err fault))
-    → (tells → IfDamaged {X = X} (Err fault) (IsBrokenAmong levels a.content)) → (◌≡◌ {A = Result X JoinFault} (Err fault) (Err join_faults.Disk) → Rose a.faults b.faults) → Reads tells (sum_by data_size levels) a b
+pub read_failed : {X : Type 0} (tells : Type 0) (levels : List Tables) (a b : DiskState) (fault : LoadFault) (other : StoreFault) → other ≡ of_load fault → (tells → FindsDamage {X = X} a.content levels (Err fault))
+    → (tells → IfDamaged {X = X} (Err fault) (IsBrokenAmong levels a.content)) → (◌≡◌ {A = Result X LoadFault} (Err fault) (Err join_faults.Disk) → Rose a.faults b.faults) → Reads tells (sum_by data_size levels) a b
     → ReadsLevels {T = X} tells levels a b (Err other)
 read_failed {X} tells levels a b fault other is finds broken cause reads = subst (λ (f : StoreFault). ReadsLevels {T = X} tells levels a b (Err f)) (sym is) (by_fault fault finds broken cause)
   where
@@ -263,8 +263,8 @@ read_failed {X} tells levels a b fault other is finds broken cause reads = subst
     damaged_disk : (p : ℕ) → faults.Damaged p ≡ faults.Disk → ⊥
     damaged_disk p e = absurd cc
 
-    by_fault : (f : JoinFault) → (tells → FindsDamage {X = X} a.content levels (Err f)) → (tells → IfDamaged {X = X} (Err f) (IsBrokenAmong levels a.content))
-        → (◌≡◌ {A = Result X JoinFault} (Err f) (Err join_faults.Disk) → Rose a.faults b.faults) → ReadsLevels {T = X} tells levels a b (Err (of_join f))
+    by_fault : (f : LoadFault) → (tells → FindsDamage {X = X} a.content levels (Err f)) → (tells → IfDamaged {X = X} (Err f) (IsBrokenAmong levels a.content))
+        → (◌≡◌ {A = Result X LoadFault} (Err f) (Err join_faults.Disk) → Rose a.faults b.faults) → ReadsLevels {T = X} tells levels a b (Err (of_load f))
     by_fault join_faults.Disk finds broken cause = record {
       damage = λ told. record {
         first = λ place e. absurd (disk_place place (same faults.Disk (faults.Damaged place) e));

@@ -3,12 +3,12 @@ use Rattle.std.proofs.Common.{◌≡◌, ◌⊎◌, inl, inr, ⊎_elim, ℕ, zer
 use Rattle.std.specs.Prelude.{◌==◌, Option, Some, None}
 use Rattle.std.proofs.lemmas.List.{append-nil}
 use Rattle.alta_codec.specs.declared.extent.Extent.{Extent}
-use Rattle.alta_images.specs.Chain.{◌>>=◌}
-use Rattle.alta_images.specs.Opened.{Opened, IsOpened}
-use Rattle.alta_images.specs.Views.{View}
-use Rattle.alta_images.specs.Working.{AreFirstGaps, Full, placed, placed_at}
-use Rattle.alta_images.proofs.FullLaws.{first_append, full_is, gap_short, ok_err, placed_first}
-use Rattle.alta_images.proofs.Tests.{by_test}
+use Rattle.alta_meaning.specs.Chain.{◌>>=◌}
+use Rattle.alta_meaning.specs.Opened.{Opened, IsOpened}
+use Rattle.alta_meaning.specs.Views.{View}
+use Rattle.alta_meaning.specs.Working.{AreFirstGaps, Full, placed, placed_at}
+use Rattle.alta_meaning.proofs.FullLaws.{first_append, full_is, gap_short, ok_err, placed_first}
+use Rattle.alta_meaning.proofs.Tests.{by_test}
 use Rattle.alta_rewrite.specs.Drafts.{list_of, segment_of}
 use Rattle.alta_rewrite.specs.Places.{as_list, place_for, places_for}
 use Rattle.alta_rewrite.specs.declared.levels.NextLevels.{NextLevels}

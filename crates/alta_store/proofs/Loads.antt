@@ -10,12 +10,12 @@ use Rattle.alta_catalog.specs.declared.fault.CatalogFault.{CatalogFault}
 use Rattle.alta_catalog.specs.declared.fault.CatalogFault.TheVariants.{Memory as CatalogMemory, Damaged as CatalogDamaged}
 use Rattle.alta_catalog.proofs.MayLaws.{may_start}
 use Rattle.alta_disk.specs.Disk.{DiskState, IsLawful, Only, Passes, Same}
-use Rattle.alta_images.specs.Broken.{HasLevels, IsBrokenAt, in_records, in_entries}
-use Rattle.alta_images.specs.Entries.{AllowsAll, after_entries, entries_in, IsRefusedAt}
-use Rattle.alta_images.specs.Known.{Known, known_of, replayed}
-use Rattle.alta_images.specs.Opened.{Opened, IsOpened, half_of, have_ends, journal_of, known_at, extent_of}
-use Rattle.alta_images.proofs.KnownLaws.{replayed_allows}
-use Rattle.alta_images.proofs.OneReading.{one_place, opened_unbroken, opened_rooted, broken_rooted}
+use Rattle.alta_meaning.specs.Broken.{HasLevels, IsBrokenAt, in_records, in_entries}
+use Rattle.alta_meaning.specs.Entries.{AllowsAll, after_entries, entries_in, IsRefusedAt}
+use Rattle.alta_meaning.specs.Known.{Known, known_of, replayed}
+use Rattle.alta_meaning.specs.Opened.{Opened, IsOpened, half_of, have_ends, journal_of, known_at, extent_of}
+use Rattle.alta_meaning.proofs.KnownLaws.{replayed_allows}
+use Rattle.alta_meaning.proofs.OneReading.{one_place, opened_unbroken, opened_rooted, broken_rooted}
 use Rattle.alta_journal.specs.Journal.{HasBrokenHalf}
 use Rattle.alta_journal.specs.Placed.{placed, IsReplay}
 use Rattle.alta_journal.specs.Places.{half_at}
@@ -23,12 +23,10 @@ use Rattle.alta_journal.specs.Record.{record_of}
 use Rattle.alta_journal.specs.declared.entry.Entry.{Entry}
 use Rattle.alta_journal.specs.declared.placed.Placed.{Placed}
 use Rattle.alta_journal.specs.declared.places.TheConstants.{HALF_BYTES, HEAD_BYTES}
-use Rattle.alta_journal.specs.declared.replaying.OpenFault.{OpenFault}
-use Rattle.alta_journal.specs.declared.replaying.OpenFault.TheVariants.{Disk as JournalDisk, Memory as JournalMemory, Damaged as JournalDamaged}
+use Rattle.alta_disk.specs.declared.fault.LoadFault.{LoadFault}
+use Rattle.alta_disk.specs.declared.fault.LoadFault.TheVariants.{Disk as JournalDisk, Memory as JournalMemory, Damaged as JournalDamaged, Disk as LevelsDisk, Memory as LevelsMemory, Damaged as LevelsDamaged}
 use Rattle.alta_journal.proofs.Frames.{ends_inside}
-use Rattle.alta_meta.specs.declared.document.State.{State}
-use Rattle.alta_opening.specs.declared.fault.OpeningFault.{OpeningFault}
-use Rattle.alta_opening.specs.declared.fault.OpeningFault.TheVariants.{Disk as LevelsDisk, Memory as LevelsMemory, Damaged as LevelsDamaged}
+use Rattle.alta_machine.specs.declared.document.State.{State}
 use Rattle.alta_root.specs.Slots.{HasNoRoot, Counts}
 use Rattle.alta_root.specs.declared.fault.RootFault.{RootFault}
 use Rattle.alta_root.specs.declared.fault.RootFault.TheVariants.{Disk as RootDisk, NoRoot as RootNone, Damaged as RootDamaged}
@@ -36,7 +34,7 @@ use Rattle.alta_root.specs.declared.root.Root.{Root}
 use Rattle.alta_root.specs.declared.slot.Slot.{Slot}
 use Rattle.alta_catalog.specs.Knowing.{Follows, KnowsBy}
 use Rattle.alta_store.specs.Agreement.{KeepsOpened, levels_of}
-use Rattle.alta_store.specs.Answers.{IsOutside, AnswersFault, of_catalog, of_levels, of_opening, of_root}
+use Rattle.alta_store.specs.Answers.{IsOutside, AnswersFault, of_catalog, of_load, of_root}
 use Rattle.alta_store.specs.declared.fault.StoreFault.{StoreFault}
 use Rattle.alta_store.specs.declared.fault.StoreFault.TheVariants.{NoRoot, Damaged, Disk}
 use Rattle.alta_store.specs.declared.store.Store.{Store}
@@ -125,18 +123,18 @@ module _ (content : List ℕ) (slot : Slot) (root : Root) (deleted : List ℕ) (
       in_entries slot root deleted levels entries tail place has ends_there ends
       (replays s starts (placed (journal_of slot) entries) (Err place) (subst (λ (ps : List Placed). replayed (known_of s) ps ≡ Err place) is (refused_is s found place refused)))
 
-is_damaged : OpenFault → StoreFault → Type 0
+is_damaged : LoadFault → StoreFault → Type 0
 is_damaged f (Damaged place) = f ≡ JournalDamaged place
 is_damaged f other = Unit {0}
 
-damaged_as : (f : OpenFault) → is_damaged f (of_opening f)
+damaged_as : (f : LoadFault) → is_damaged f (of_load f)
 unfolding is_damaged
 damaged_as JournalDisk = tt
 damaged_as JournalMemory = tt
 damaged_as (JournalDamaged place) = refl
 
 -- only a damaged journal is answered as damage
-pub of_damaged : (f : OpenFault) (place : ℕ) → of_opening f ≡ Damaged place → f ≡ JournalDamaged place
+pub of_damaged : (f : LoadFault) (place : ℕ) → of_load f ≡ Damaged place → f ≡ JournalDamaged place
 unfolding is_damaged
 of_damaged f place e = subst (is_damaged f) e (damaged_as f)
 
@@ -155,18 +153,18 @@ pub of_root_damaged : (f : RootFault) (place : ℕ) → of_root f ≡ Damaged pl
 unfolding is_root_damaged
 of_root_damaged f place e = subst (is_root_damaged f) e (root_damaged_as f)
 
-is_levels_damaged : OpeningFault → StoreFault → Type 0
+is_levels_damaged : LoadFault → StoreFault → Type 0
 is_levels_damaged f (Damaged place) = f ≡ LevelsDamaged place
 is_levels_damaged f other = Unit {0}
 
-levels_damaged_as : (f : OpeningFault) → is_levels_damaged f (of_levels f)
+levels_damaged_as : (f : LoadFault) → is_levels_damaged f (of_load f)
 unfolding is_levels_damaged
 levels_damaged_as LevelsDisk = tt
 levels_damaged_as LevelsMemory = tt
 levels_damaged_as (LevelsDamaged place) = refl
 
 -- only damaged levels are answered as damage
-pub of_levels_damaged : (f : OpeningFault) (place : ℕ) → of_levels f ≡ Damaged place → f ≡ LevelsDamaged place
+pub of_levels_damaged : (f : LoadFault) (place : ℕ) → of_load f ≡ Damaged place → f ≡ LevelsDamaged place
 unfolding is_levels_damaged
 of_levels_damaged f place e = subst (is_levels_damaged f) e (levels_damaged_as f)
 

@@ -5,12 +5,12 @@ use Rattle.alta_catalog.specs.Rows.{documents_left}
 use Rattle.alta_catalog.proofs.KnowingLaws.{named_some}
 use Rattle.alta_catalog.proofs.KnownLaws.{one_known}
 use Rattle.alta_catalog.proofs.Naming.{number_known}
-use Rattle.alta_images.specs.Entries.{Allows}
-use Rattle.alta_images.specs.Known.{Known, admits}
-use Rattle.alta_images.specs.States.{has_number, number_of, with_deleted, without}
-use Rattle.alta_images.proofs.KnownLaws.{admitted_from, allowed_from}
+use Rattle.alta_meaning.specs.Entries.{Allows}
+use Rattle.alta_meaning.specs.Known.{Known, admits}
+use Rattle.alta_machine.specs.Changes.{has_number, number_of, with_deleted, without}
+use Rattle.alta_meaning.proofs.KnownLaws.{admitted_from, allowed_from}
 use Rattle.alta_journal.specs.declared.entry.Entry.{Entry}
-use Rattle.alta_meta.specs.declared.document.State.{State}
+use Rattle.alta_machine.specs.declared.document.State.{State}
 use Rattle.alta_store.specs.Agreement.{Knows}
 use Rattle.alta_store.specs.declared.store.Store.{Store}
 

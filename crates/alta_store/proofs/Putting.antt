@@ -24,26 +24,27 @@ use Rattle.alta_content.proofs.Rises.{Contains-head, Contains-tail}
 use Rattle.alta_disk.specs.Calls.{Costs}
 use Rattle.alta_disk.proofs.Moments.{leaves_start, passes_start}
 use Rattle.alta_disk.specs.Disk.{DiskState, IsLawful, LeavesOnly, Only, Passes}
-use Rattle.alta_images.specs.Entries.{after_entries}
-use Rattle.alta_images.specs.Holding.{Holding, IsHeld}
-use Rattle.alta_images.specs.Levels.{Level}
-use Rattle.alta_images.specs.Opened.{Opened, IsOpened, half_of, journal_of, table_rows, extent_of}
-use Rattle.alta_images.proofs.WrittenLaws.{held_stands}
-use Rattle.alta_images.specs.Standing.{StandsFor, tables_by, view_of}
-use Rattle.alta_images.specs.Views.{View, state_of}
-use Rattle.alta_images.specs.Work.{Job, coming, gone_among, newest, level_rows, stays}
-use Rattle.alta_images.specs.Working.{content_to_come, rows_of as content_rows, switched}
-use Rattle.alta_images.proofs.JoinLaws.{coming_rows}
-use Rattle.alta_images.proofs.KeptStates.{rows_by_levels, stay_contents}
-use Rattle.alta_images.proofs.Tests.{by_test, filter_drop, filter_keep}
-use Rattle.alta_images.proofs.Untouched.{IsSame}
+use Rattle.alta_meaning.specs.Entries.{after_entries}
+use Rattle.alta_meaning.specs.Holding.{Holding, IsHeld}
+use Rattle.alta_meaning.specs.Levels.{Level}
+use Rattle.alta_meaning.specs.Opened.{Opened, IsOpened, half_of, journal_of, table_rows, extent_of}
+use Rattle.alta_meaning.proofs.WrittenLaws.{held_stands}
+use Rattle.alta_meaning.specs.Standing.{StandsFor, tables_by, view_of}
+use Rattle.alta_meaning.specs.Views.{View, state_of}
+use Rattle.alta_meaning.specs.Work.{Job, coming, gone_among, newest, level_rows, stays}
+use Rattle.alta_meaning.specs.Working.{content_to_come, switched}
+use Rattle.alta_content.specs.Joining.{rows_in as content_rows}
+use Rattle.alta_meaning.proofs.JoinLaws.{coming_rows}
+use Rattle.alta_meaning.proofs.KeptStates.{rows_by_levels, stay_contents}
+use Rattle.alta_meaning.proofs.Tests.{by_test, filter_drop, filter_keep}
+use Rattle.alta_meaning.proofs.Untouched.{IsSame}
 use Rattle.alta_joins.specs.Jobs.{DeadAreGone}
 use Rattle.alta_journal.specs.declared.entry.Entry.{Entry}
 use Rattle.alta_memlevel.specs.Added.{Added, HasContent}
 use Rattle.alta_memlevel.specs.Documents.{IsBefore}
 use Rattle.alta_merge.specs.Merging.{Merging}
-use Rattle.alta_meta.specs.declared.document.Document.{Document}
-use Rattle.alta_meta.specs.declared.document.State.{State}
+use Rattle.alta_machine.specs.declared.document.Document.{Document}
+use Rattle.alta_machine.specs.declared.document.State.{State}
 use Rattle.alta_rewrite.specs.Drafts.{rewrite_places}
 use Rattle.alta_rewrite.specs.Rewrites.{AgreesWith, HaveRows, IsRewritten, IsRewrittenOpened, MayRewrite, MayRewriteOpened, levels_to_come, rows_to_come, tables_in}
 use Rattle.alta_rewrite.specs.declared.ends.Ends.{Ends}
@@ -52,7 +53,7 @@ use Rattle.alta_rewrite.specs.declared.fault.RewriteFault.TheVariants as rewrite
 use Rattle.alta_rewrite.specs.declared.levels.NextLevels.{NextLevels}
 use Rattle.alta_rewrite.specs.declared.rewriting.Rewritten.{Rewritten}
 use Rattle.alta_root.specs.declared.root.Root.{Root}
-use Rattle.alta_rows.specs.All.{rows_of_levels}
+use Rattle.alta_content.specs.All.{rows_of_levels}
 use Rattle.alta_store.specs.Agreement.{Agrees, GoesOnOver, IsIntact, Keeps, Knows, MayGoOn, levels_of}
 use Rattle.alta_store.specs.Answers.{IsOutside, of_rewrite}
 use Rattle.alta_store.specs.Putting.{IsGivenBy, IsPut, MayPut, Puts, rows_of}

@@ -2,8 +2,8 @@
 use Rattle.std.proofs.Common.{◌≡◌, ◌⊎◌, inl, inr, ℕ, List, refl, sym, subst, true, false, ◌↔◌}
 use Rattle.std.specs.Prelude.{Result, Ok, Err}
 use Rattle.std.proofs.lemmas.Bool.{false≢true}
-use Rattle.alta_images.specs.Broken.{IsBrokenAt, in_slots}
-use Rattle.alta_images.proofs.OneReading.{broken_rooted}
+use Rattle.alta_meaning.specs.Broken.{IsBrokenAt, in_slots}
+use Rattle.alta_meaning.proofs.OneReading.{broken_rooted}
 use Rattle.alta_root.specs.Slots.{Counts, HasNoRoot, Shows}
 use Rattle.alta_root.specs.declared.fault.RootFault.{RootFault}
 use Rattle.alta_root.specs.declared.fault.RootFault.TheVariants as faults

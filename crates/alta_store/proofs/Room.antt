@@ -4,9 +4,9 @@ use Rattle.std.specs.Prelude.{◌==◌, ◌||◌, nat_le, not, OnOk, Result, Ok,
 use Rattle.std.specs.List.{flat_map}
 use Rattle.std.proofs.lemmas.Bool.{cases_lt, false≢true}
 use Rattle.std.proofs.lemmas.List.{length-take-le}
-use Rattle.alta_images.specs.Opened.{Opened, IsOpened, journal_of}
-use Rattle.alta_images.specs.Work.{fits, needs_raise}
-use Rattle.alta_images.proofs.Tests.{and_both, apart_test, by_test, equal_from, equal_test, or_both, or_neither}
+use Rattle.alta_meaning.specs.Opened.{Opened, IsOpened, journal_of}
+use Rattle.alta_meaning.specs.Work.{fits, needs_raise}
+use Rattle.alta_meaning.proofs.Tests.{and_both, apart_test, by_test, equal_from, equal_test, or_both, or_neither}
 use Rattle.alta_journal.specs.Entry.{IsTyped, KeepsRules, MayBeRecorded, is_old}
 use Rattle.alta_journal.specs.Journal.{EndsAt}
 use Rattle.alta_journal.specs.Places.{half_at, start_of}

@@ -12,10 +12,10 @@ use Rattle.alta_codec.specs.declared.extent.Extent.{Extent}
 use Rattle.alta_content.specs.Rows.{AreDocuments, end_of, ends_among, live_rows, start}
 use Rattle.alta_content.specs.declared.content.Content.{Content}
 use Rattle.alta_content.specs.declared.document.DocRow.{DocRow}
-use Rattle.alta_images.specs.Levels.{Level}
-use Rattle.alta_images.specs.Opened.{Opened, table_rows, extent_of}
-use Rattle.alta_images.specs.Ordered.{Precedes, RowsPrecede}
-use Rattle.alta_images.proofs.KeptStates.{map_filter}
+use Rattle.alta_meaning.specs.Levels.{Level}
+use Rattle.alta_meaning.specs.Opened.{Opened, table_rows, extent_of}
+use Rattle.alta_meaning.specs.Ordered.{Precedes, RowsPrecede}
+use Rattle.alta_meaning.proofs.KeptStates.{map_filter}
 use Rattle.alta_joins.specs.Jobs.{IsJoining}
 use Rattle.alta_joins.proofs.SpaceLaws.{IsRow, each_row, part_rows, rows_documents}
 use Rattle.alta_memlevel.specs.Added.{Added, HasContent, live_of}

@@ -7,12 +7,12 @@ use Rattle.alta_catalog.proofs.KnowingLaws.{parts_are}
 use Rattle.alta_catalog.proofs.MayLaws.{levels_left, means_by, whole_of}
 use Rattle.alta_content.specs.declared.document.DocRow.{DocRow}
 use Rattle.alta_disk.specs.Disk.{DiskState}
-use Rattle.alta_images.specs.Levels.{documents_of}
-use Rattle.alta_images.specs.Standing.{StandsFor}
+use Rattle.alta_meaning.specs.Levels.{documents_of}
+use Rattle.alta_meaning.specs.Standing.{StandsFor}
 use Rattle.alta_memlevel.specs.Added.{Added, LevelView}
 use Rattle.alta_memlevel.specs.Documents.{HasDocuments}
-use Rattle.alta_meta.specs.declared.document.Document.{Document}
-use Rattle.alta_meta.specs.declared.document.State.{State}
+use Rattle.alta_machine.specs.declared.document.Document.{Document}
+use Rattle.alta_machine.specs.declared.document.State.{State}
 use Rattle.alta_opening.proofs.OpeningLaws.{IsFit, levels_within}
 use Rattle.alta_codec.specs.declared.extent.Extent.{Extent}
 use Rattle.alta_store.specs.Agreement.{Agrees, levels_of}
@@ -20,7 +20,7 @@ use Rattle.alta_store.specs.Searched.{FindsDocuments, IsSearched}
 use Rattle.alta_store.specs.declared.store.Store.{Store}
 use Rattle.alta_store.proofs.Agreements.{kept, opened_of}
 use Rattle.alta_table.specs.Tables.{Tables, total_of}
-use Rattle.alta_images.specs.Opened.{extent_of}
+use Rattle.alta_meaning.specs.Opened.{extent_of}
 
 pub finds : (tells : Type 0) (disk : DiskState) (store : Store) → Agrees tells disk store → (s : State) → tells → StandsFor s disk.content
     → (levels : List Tables) (newest : LevelView) (gone : List ℕ) (rows : List DocRow) → IsSearched store levels newest gone rows → FindsDocuments levels newest gone s disk.content

@@ -2,17 +2,17 @@
 use Rattle.std.proofs.Common.{◌≡◌, ℕ, ◌+◌, ◌≤◌, true, List, length, sym, ◌∙◌, ap, subst}
 use Rattle.alta_catalog.specs.Rows.{MayBe, MayStart}
 use Rattle.alta_catalog.proofs.StartLaws.{live_named}
-use Rattle.alta_images.specs.Entries.{Allows, AllowsAll}
-use Rattle.alta_images.specs.Known.{Known, Named, admits, known_of, replayed}
-use Rattle.alta_images.specs.Opened.{Opened, IsOpened, journal_of, known_at, live_in}
-use Rattle.alta_images.specs.Switching.{MayAppend}
-use Rattle.alta_images.proofs.KnownLaws.{admitted_from, allows_replayed}
+use Rattle.alta_meaning.specs.Entries.{Allows, AllowsAll}
+use Rattle.alta_meaning.specs.Known.{Known, Named, admits, known_of, replayed}
+use Rattle.alta_meaning.specs.Opened.{Opened, IsOpened, journal_of, known_at, live_in}
+use Rattle.alta_meaning.specs.Switching.{MayAppend}
+use Rattle.alta_meaning.proofs.KnownLaws.{admitted_from, allows_replayed}
 use Rattle.alta_journal.specs.Entry.{MayBeRecorded}
 use Rattle.alta_journal.specs.Placed.{placed}
 use Rattle.alta_journal.specs.Record.{body_of}
 use Rattle.alta_journal.specs.declared.entry.Entry.{Entry}
 use Rattle.alta_journal.specs.declared.places.TheConstants.{HALF_BYTES}
-use Rattle.alta_meta.specs.declared.document.State.{State}
+use Rattle.alta_machine.specs.declared.document.State.{State}
 use Rattle.alta_root.specs.declared.root.Root.{Root}
 use Rattle.alta_table.specs.Tables.{Tables}
 

@@ -11,15 +11,15 @@ use Rattle.alta_content.specs.declared.document.DocRow.{DocRow}
 use Rattle.alta_disk.specs.Calls.{Reads}
 use Rattle.alta_disk.specs.Disk.{DiskState, IsLawful}
 use Rattle.alta_disk.proofs.Moments.{leaves_start}
-use Rattle.alta_images.specs.Holding.{Holding}
-use Rattle.alta_images.specs.Opened.{Opened, IsOpened, table_rows}
-use Rattle.alta_images.specs.Standing.{StandsForEither}
-use Rattle.alta_images.specs.Work.{Job, merges, steps}
-use Rattle.alta_images.specs.Working.{moved, worked}
-use Rattle.alta_images.proofs.KeptStates.{added_behind, added_high}
-use Rattle.alta_images.proofs.KnownLaws.{all_both}
-use Rattle.alta_images.proofs.Tests.{by_test}
-use Rattle.alta_images.proofs.WellLaws.{by_terms, work_well}
+use Rattle.alta_meaning.specs.Holding.{Holding}
+use Rattle.alta_meaning.specs.Opened.{Opened, IsOpened, table_rows}
+use Rattle.alta_meaning.specs.Standing.{StandsForEither}
+use Rattle.alta_meaning.specs.Work.{Job, merges, steps}
+use Rattle.alta_meaning.specs.Working.{moved, worked}
+use Rattle.alta_meaning.proofs.KeptStates.{added_behind, added_high}
+use Rattle.alta_meaning.proofs.KnownLaws.{all_both}
+use Rattle.alta_meaning.proofs.Tests.{by_test}
+use Rattle.alta_meaning.proofs.WellLaws.{by_terms, work_well}
 use Rattle.alta_joins.specs.Contents.{AreContentsOf, AreSegmentsOn, data_size}
 use Rattle.alta_joins.specs.Damages.{IsFirstDamage}
 use Rattle.alta_joins.specs.Jobs.{AreJoinedOn, IsMerging, moved_by}

@@ -12,14 +12,14 @@ use Rattle.alta_content.specs.Rows.{ends_among, live_rows}
 use Rattle.alta_content.specs.declared.content.Content.{Content}
 use Rattle.alta_content.specs.declared.document.DocRow.{DocRow}
 use Rattle.alta_disk.specs.Disk.{DiskState, IsLawful}
-use Rattle.alta_images.specs.Holding.{Holding, IsHeld, IsSpaced}
-use Rattle.alta_images.specs.Levels.{Level}
-use Rattle.alta_images.specs.Opened.{Opened, IsOpened, table_rows, extent_of}
-use Rattle.alta_images.specs.Standing.{AreLevels, view_of}
-use Rattle.alta_images.specs.Views.{View}
-use Rattle.alta_images.specs.Work.{anew, coming, gone, newest, newest_content, level_rows}
-use Rattle.alta_images.specs.Working.{IsJoin, all_contents, oldest_contents}
-use Rattle.alta_images.proofs.OneState.{one_are}
+use Rattle.alta_meaning.specs.Holding.{Holding, IsHeld, IsSpaced}
+use Rattle.alta_meaning.specs.Levels.{Level}
+use Rattle.alta_meaning.specs.Opened.{Opened, IsOpened, table_rows, extent_of}
+use Rattle.alta_meaning.specs.Standing.{AreLevels, view_of}
+use Rattle.alta_meaning.specs.Views.{View}
+use Rattle.alta_meaning.specs.Work.{anew, coming, gone, newest, newest_content, level_rows}
+use Rattle.alta_meaning.specs.Working.{IsJoin, all_contents, oldest_contents}
+use Rattle.alta_meaning.proofs.OneState.{one_are}
 use Rattle.alta_joins.specs.Contents.{AreContentsOf, AreSegmentsOn, level_with, levels_with}
 use Rattle.alta_joins.specs.Jobs.{IsJoining}
 use Rattle.alta_joins.proofs.JoiningLaws.{joining_join, joining_part, joining_rows}

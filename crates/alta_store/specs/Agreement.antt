@@ -4,15 +4,15 @@ use Rattle.std.specs.List.{All}
 use Rattle.alta_content.specs.Rows.{AreDocuments, end_of}
 use Rattle.alta_content.specs.declared.document.DocRow.{DocRow}
 use Rattle.alta_disk.specs.Disk.{DiskState, Only}
-use Rattle.alta_images.specs.Holding.{Holding, IsHeld, IsWell}
-use Rattle.alta_images.specs.Opened.{Opened, IsOpened, half_of, table_rows, extent_of}
-use Rattle.alta_images.specs.Work.{Job}
+use Rattle.alta_meaning.specs.Holding.{Holding, IsHeld, IsWell}
+use Rattle.alta_meaning.specs.Opened.{Opened, IsOpened, half_of, table_rows, extent_of}
+use Rattle.alta_meaning.specs.Work.{Job}
 use Rattle.alta_joins.specs.Jobs.{AreJoinedOn, IsJoining, IsMerging}
 use Rattle.alta_journal.specs.Places.{left_behind, start_of}
 use Rattle.alta_journal.specs.declared.entry.Entry.{Entry}
 use Rattle.alta_journal.specs.declared.places.TheConstants.{HEAD_BYTES}
 use Rattle.alta_merge.specs.Merging.{Merging}
-use Rattle.alta_meta.specs.declared.document.State.{State}
+use Rattle.alta_machine.specs.declared.document.State.{State}
 use Rattle.alta_catalog.specs.Knowing.{Follows, Knows as CatalogKnows, KnowsBy, gone_of, levels_of as levels_in}
 use Rattle.alta_catalog.specs.Rows.{MayBe}
 use Rattle.alta_table.specs.Tables.{Tables}

@@ -8,24 +8,24 @@ use Rattle.alta_content.specs.Rows.{live_rows}
 use Rattle.alta_content.specs.declared.content.Content.{Content}
 use Rattle.alta_disk.specs.Calls.{Costs}
 use Rattle.alta_disk.specs.Disk.{DiskState, LeavesOnly}
-use Rattle.alta_images.specs.Broken.{IsBrokenAmong}
-use Rattle.alta_images.specs.Chain.{◌>>=◌}
-use Rattle.alta_images.specs.Holding.{Holding}
-use Rattle.alta_images.specs.Levels.{Level}
-use Rattle.alta_images.specs.Opened.{Opened, IsOpened}
-use Rattle.alta_images.specs.Standing.{StandsFor, StandsForEither, view_of}
-use Rattle.alta_images.specs.Switching.{with_entry}
-use Rattle.alta_images.specs.Entries.{after_entry}
-use Rattle.alta_images.specs.Views.{View}
-use Rattle.alta_images.specs.Work.{Task, enters, fits, flushes, gone, merges, needs_raise, newest_content, steps}
-use Rattle.alta_images.specs.Working.{AreFirstGaps, Full, IsJoin, all_contents, entered, worked, written}
+use Rattle.alta_meaning.specs.Broken.{IsBrokenAmong}
+use Rattle.alta_meaning.specs.Chain.{◌>>=◌}
+use Rattle.alta_meaning.specs.Holding.{Holding}
+use Rattle.alta_meaning.specs.Levels.{Level}
+use Rattle.alta_meaning.specs.Opened.{Opened, IsOpened}
+use Rattle.alta_meaning.specs.Standing.{StandsFor, StandsForEither, view_of}
+use Rattle.alta_meaning.specs.Switching.{with_entry}
+use Rattle.alta_meaning.specs.Entries.{after_entry}
+use Rattle.alta_meaning.specs.Views.{View}
+use Rattle.alta_meaning.specs.Work.{Task, enters, fits, flushes, gone, merges, needs_raise, newest_content, steps}
+use Rattle.alta_meaning.specs.Working.{AreFirstGaps, Full, IsJoin, all_contents, entered, worked, written}
 use Rattle.alta_joins.specs.Contents.{data_size}
 use Rattle.alta_joins.specs.Damages.{IsFirstDamage}
 use Rattle.alta_journal.specs.Places.{start_of}
 use Rattle.alta_journal.specs.Record.{body_of}
 use Rattle.alta_journal.specs.declared.entry.Entry.{Entry}
 use Rattle.alta_merge.specs.Merging.{Merging}
-use Rattle.alta_meta.specs.declared.document.State.{State}
+use Rattle.alta_machine.specs.declared.document.State.{State}
 use Rattle.alta_rewrite.specs.Drafts.{rewrite_places}
 use Rattle.alta_rewrite.specs.Rewrites.{HaveRows, IsComing, IsGiven, Replaces, no_content}
 use Rattle.alta_rewrite.specs.declared.ends.Ends.{Ends}

@@ -2,8 +2,8 @@
 use Rattle.std.specs.Prelude.{◌≡◌, ◌⊎◌, ◌+◌, ◌≤◌, ℕ, Result, Err, OnOk, IfErr}
 use Rattle.alta_codec.specs.Faults.{Rose}
 use Rattle.alta_disk.specs.Disk.{DiskState, Passes, Same}
-use Rattle.alta_images.specs.Broken.{IsBrokenAt}
-use Rattle.alta_images.specs.Opened.{IsOpened, Opened}
+use Rattle.alta_meaning.specs.Broken.{IsBrokenAt}
+use Rattle.alta_meaning.specs.Opened.{IsOpened, Opened}
 use Rattle.alta_journal.specs.declared.places.TheConstants.{HALF_BYTES, HEAD_BYTES}
 use Rattle.alta_opening.specs.Costs.{named_bytes}
 use Rattle.alta_root.specs.Slots.{Counts, HasNoRoot}

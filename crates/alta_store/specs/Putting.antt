@@ -10,15 +10,15 @@ use Rattle.alta_content.specs.declared.content.Content.{Content}
 use Rattle.alta_content.specs.declared.document.DocRow.{DocRow}
 use Rattle.alta_disk.specs.Calls.{Costs, Reads}
 use Rattle.alta_disk.specs.Disk.{DiskState, LeavesOnly, Passes}
-use Rattle.alta_images.specs.Holding.{Holding, IsHeld}
-use Rattle.alta_images.specs.Levels.{Level}
-use Rattle.alta_images.specs.Opened.{Opened, IsOpened, table_rows}
-use Rattle.alta_images.specs.Standing.{StandsFor, view_of}
-use Rattle.alta_images.specs.Views.{View, state_of}
-use Rattle.alta_images.specs.Work.{Job, coming}
-use Rattle.alta_images.specs.Working.{Full, switched}
+use Rattle.alta_meaning.specs.Holding.{Holding, IsHeld}
+use Rattle.alta_meaning.specs.Levels.{Level}
+use Rattle.alta_meaning.specs.Opened.{Opened, IsOpened, table_rows}
+use Rattle.alta_meaning.specs.Standing.{StandsFor, view_of}
+use Rattle.alta_meaning.specs.Views.{View, state_of}
+use Rattle.alta_meaning.specs.Work.{Job, coming}
+use Rattle.alta_meaning.specs.Working.{Full, switched}
 use Rattle.alta_joins.specs.Contents.{AreSegmentsOn, data_size}
-use Rattle.alta_meta.specs.declared.document.State.{State}
+use Rattle.alta_machine.specs.declared.document.State.{State}
 use Rattle.alta_rewrite.specs.Rewrites.{AgreesWith, HaveRows, IsGiven, levels_to_come}
 use Rattle.alta_rewrite.specs.declared.ends.Ends.{Ends}
 use Rattle.alta_rewrite.specs.declared.levels.NextLevels.{NextLevels}

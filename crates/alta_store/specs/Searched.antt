@@ -4,15 +4,15 @@ use Rattle.std.specs.List.{All, flat_map}
 use Rattle.alta_catalog.specs.Knowing.{gone_of as gone_in, memory_of as memory_in}
 use Rattle.alta_codec.specs.Rising.{IsRising}
 use Rattle.alta_content.specs.declared.document.DocRow.{DocRow}
-use Rattle.alta_images.specs.Levels.{Level, documents_of}
-use Rattle.alta_images.specs.Opened.{bytes_at, table_rows}
-use Rattle.alta_images.specs.Ordered.{RowsPrecede}
-use Rattle.alta_images.specs.Standing.{tables_by}
+use Rattle.alta_meaning.specs.Levels.{Level, documents_of}
+use Rattle.alta_meaning.specs.Opened.{bytes_at, table_rows}
+use Rattle.alta_meaning.specs.Ordered.{RowsPrecede}
+use Rattle.alta_meaning.specs.Standing.{tables_by}
 use Rattle.alta_level.specs.Segments.{IsSegment}
 use Rattle.alta_memlevel.specs.Added.{Added, HasContent, LevelView}
 use Rattle.alta_memlevel.specs.Documents.{HasDocuments}
-use Rattle.alta_meta.specs.declared.document.Document.{Document}
-use Rattle.alta_meta.specs.declared.document.State.{State}
+use Rattle.alta_machine.specs.declared.document.Document.{Document}
+use Rattle.alta_machine.specs.declared.document.State.{State}
 use Rattle.alta_store.specs.Agreement.{levels_of}
 use Rattle.alta_store.specs.declared.store.Store.{Store}
 use Rattle.alta_table.specs.Tables.{Tables}

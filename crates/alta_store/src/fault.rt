@@ -1,11 +1,9 @@
 // Why a call of the store was not done.
 ghost use Rattle.std.specs.Prelude.{◌≡◌};
-ghost use Rattle.alta_store.specs.Answers.{of_catalog, of_join, of_levels, of_opening, of_rewrite, of_root};
+ghost use Rattle.alta_store.specs.Answers.{of_catalog, of_load, of_rewrite, of_root};
 
 use alta_catalog::CatalogFault;
-use alta_joins::JoinFault;
-use alta_journal::OpenFault;
-use alta_opening::OpeningFault;
+use alta_disk::LoadFault;
 use alta_rewrite::RewriteFault;
 use alta_root::RootFault;
 use thiserror::Error;
@@ -39,25 +37,14 @@ pub enum StoreFault {
     Numbers,
 }
 
-// The fault of an opening whose journal was not read.
-pub(crate) fn opening_fault(fault: OpenFault) -> StoreFault
-    ensures { result ≡ of_opening fault }
+/// The fault of a call for which something was not read from the disk.
+pub fn load_fault(fault: LoadFault) -> StoreFault
+    ensures { result ≡ of_load fault }
 {
     match fault {
-        OpenFault::Disk => StoreFault::Disk,
-        OpenFault::Memory => StoreFault::Memory,
-        OpenFault::Damaged(place) => StoreFault::Damaged(place),
-    }
-}
-
-// The fault of an opening whose levels were not read.
-pub(crate) fn levels_fault(fault: OpeningFault) -> StoreFault
-    ensures { result ≡ of_levels fault }
-{
-    match fault {
-        OpeningFault::Disk => StoreFault::Disk,
-        OpeningFault::Memory => StoreFault::Memory,
-        OpeningFault::Damaged(place) => StoreFault::Damaged(place),
+        LoadFault::Disk => StoreFault::Disk,
+        LoadFault::Memory => StoreFault::Memory,
+        LoadFault::Damaged(place) => StoreFault::Damaged(place),
     }
 }
 
@@ -79,17 +66,6 @@ pub(crate) fn root_fault(fault: RootFault) -> StoreFault
         RootFault::Disk => StoreFault::Disk,
         RootFault::NoRoot => StoreFault::NoRoot,
         RootFault::Damaged(place) => StoreFault::Damaged(place),
-    }
-}
-
-// The fault of levels that were not read.
-pub(crate) fn join_fault(fault: JoinFault) -> StoreFault
-    ensures { result ≡ of_join fault }
-{
-    match fault {
-        JoinFault::Disk => StoreFault::Disk,
-        JoinFault::Memory => StoreFault::Memory,
-        JoinFault::Damaged(place) => StoreFault::Damaged(place),
     }
 }
 

@@ -3,12 +3,12 @@ ghost use Rattle.std.specs.Prelude.{◌≡◌, ◌≤◌, ◌+◌, ◌++◌, ◌
 ghost use Rattle.alta_codec.specs.Faults.{HasCause};
 ghost use Rattle.alta_disk.specs.Disk.{DiskState, Same, Passes, Stands};
 ghost use Rattle.alta_journal.specs.declared.places.TheConstants.{HEAD_BYTES};
-ghost use Rattle.alta_images.specs.Holding.{IsHeld};
-ghost use Rattle.alta_images.specs.Opened.{IsOpened};
-ghost use Rattle.alta_images.specs.Standing.{StandsFor};
-ghost use Rattle.alta_images.specs.Switching.{empty_held, empty_opened};
+ghost use Rattle.alta_meaning.specs.Holding.{IsHeld};
+ghost use Rattle.alta_meaning.specs.Opened.{IsOpened};
+ghost use Rattle.alta_meaning.specs.Standing.{StandsFor};
+ghost use Rattle.alta_meaning.specs.Switching.{empty_held, empty_opened};
 ghost use Rattle.alta_store.specs.Clearing.{AreZero, IsClear, empty_head};
-ghost use Rattle.alta_images.specs.States.{empty};
+ghost use Rattle.alta_machine.specs.States.{empty_state};
 
 use alta_codec::Failed;
 use alta_disk::{Disk, write_synced};
@@ -30,9 +30,9 @@ const EMPTY_FIELDS: [u8; 39] = [
 /// # Errors
 ///
 /// `Failed` where a call of the disk failed. Then nothing is promised of what the disk holds.
-pub fn format<D: Disk>(disk: &mut D) -> Result<(), Failed>
+pub fn make_index<D: Disk>(disk: &mut D) -> Result<(), Failed>
     requires { HEAD_BYTES ≤ (D.state disk.old).limit }
-    ensures formatted { OnOk result (Stands D.tells (D.state disk.new) (StandsFor empty)) }
+    ensures formatted { OnOk result (Stands D.tells (D.state disk.new) (StandsFor empty_state)) }
     ensures opened { OnOk result (Stands D.tells (D.state disk.new) (IsOpened empty_opened)) }
     ensures holds { OnOk result (Stands D.tells (D.state disk.new) (IsHeld empty_held)) }
     // The bytes to the journal's end are these, and those behind it stay.

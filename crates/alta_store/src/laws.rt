@@ -3,9 +3,9 @@ ghost use Rattle.std.specs.Prelude.{◌≡◌, ◌+◌, ◌≤◌, ℕ, List, le
 ghost use Rattle.std.specs.List.{All};
 ghost use Rattle.alta_content.specs.declared.document.DocRow.{DocRow};
 ghost use Rattle.alta_disk.specs.Disk.{DiskState};
-ghost use Rattle.alta_images.specs.Standing.{StandsFor};
+ghost use Rattle.alta_meaning.specs.Standing.{StandsFor};
 ghost use Rattle.alta_memlevel.specs.Added.{LevelView};
-ghost use Rattle.alta_meta.specs.declared.document.State.{State};
+ghost use Rattle.alta_machine.specs.declared.document.State.{State};
 ghost use Rattle.alta_store.specs.Agreement.{Agrees, Knows, levels_of};
 ghost use Rattle.alta_store.specs.Searched.{FindsDocuments, IsSearched};
 ghost use Rattle.alta_store.specs.declared.store.Store.{Store};

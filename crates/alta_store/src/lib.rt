@@ -8,8 +8,8 @@ mod opening;
 mod store;
 
 pub use alta_catalog::{NameRow, Names};
-pub use fault::StoreFault;
-pub use formatting::format;
+pub use fault::{StoreFault, load_fault};
+pub use formatting::make_index;
 pub use laws::a_search_sees_the_state;
 pub use opening::has_index;
 pub use store::{Sources, Store};

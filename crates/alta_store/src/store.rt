@@ -1,7 +1,8 @@
 // The store.
-ghost use Rattle.std.specs.Prelude.{◌≡◌, ◌==◌, ◌⊎◌, ◌↔◌, ◌++◌, ◌+◌, ◌-◌, ◌<◌, ◌≤◌, ℕ, List, true, false, length, take, Result, Ok, Err, Some, None, IfOk, IfErr, OnOk, OnErr, IsErr, IsTrue, HoldsAt, MatchOption, All};
+ghost use Rattle.std.specs.Prelude.{◌≡◌, ◌==◌, ◌⊎◌, ◌↔◌, ◌+◌, ◌-◌, ◌<◌, ◌≤◌, ℕ, List, true, false, length, take, Result, Ok, Err, Some, None, IfOk, IfErr, OnOk, OnErr, IsErr, IsTrue, HoldsAt, MatchOption, All};
 ghost use Rattle.alta_catalog.specs.Knowing.{Follows, KnowsBy, gone_of, levels_of as levels_in, memory_of};
-ghost use Rattle.alta_catalog.specs.Names.{AreNames, AreNamesOf};
+ghost use Rattle.alta_meaning.specs.Names.{AreNames};
+ghost use Rattle.alta_catalog.specs.Names.{AreNamesOf};
 ghost use Rattle.alta_catalog.specs.Rows.{MayStart};
 ghost use Rattle.alta_catalog.specs.declared.fault.CatalogFault.TheVariants.{Memory as NoMemory, Damaged as DamagedEntry};
 ghost use Rattle.alta_codec.specs.Faults.{Rose};
@@ -9,12 +10,12 @@ ghost use Rattle.alta_codec.specs.Rising.{IsRising};
 ghost use Rattle.alta_content.specs.Parts.{IsPart};
 ghost use Rattle.alta_content.specs.Rows.{AreDocuments};
 ghost use Rattle.alta_disk.specs.Disk.{DiskState, Same, Only, Passes};
-ghost use Rattle.alta_images.specs.Broken.{IsBrokenAt};
-ghost use Rattle.alta_images.specs.Entries.{Allows, AllowsAll, IsRefusedAt, after_entries, entries_in};
-ghost use Rattle.alta_images.specs.Opened.{Opened, IsOpened, half_of, have_ends, journal_of, known_at, live_in, table_rows};
-ghost use Rattle.alta_images.specs.Ordered.{AreBelow, IsOrdered};
-ghost use Rattle.alta_images.specs.States.{has_name, has_number, number_of, words_in, with_added, with_deleted, with_replaced, IsDocument};
-ghost use Rattle.alta_images.specs.Work.{enters, flushes, merges, steps};
+ghost use Rattle.alta_meaning.specs.Broken.{IsBrokenAt};
+ghost use Rattle.alta_meaning.specs.Entries.{Allows, AllowsAll, IsRefusedAt, after_entries, entries_in, IsDocument};
+ghost use Rattle.alta_meaning.specs.Opened.{Opened, IsOpened, half_of, have_ends, journal_of, known_at, live_in, table_rows};
+ghost use Rattle.alta_meaning.specs.Ordered.{AreBelow, IsOrdered};
+ghost use Rattle.alta_machine.specs.Changes.{has_name, has_number, number_of, words_in, with_added, with_deleted, with_replaced};
+ghost use Rattle.alta_meaning.specs.Work.{enters, flushes, merges, steps};
 ghost use Rattle.alta_joins.specs.Contents.{StandsOn};
 ghost use Rattle.alta_joins.specs.Jobs.{AreJoinedOn, IsBegun, IsJoining};
 ghost use Rattle.alta_journal.specs.Entry.{IsTyped, KeepsRules, MayBeRecorded};
@@ -26,7 +27,7 @@ ghost use Rattle.alta_journal.specs.declared.places.TheConstants.{HALF_BYTES, HE
 ghost use Rattle.alta_memlevel.specs.Added.{Added, HasContent, live_of};
 ghost use Rattle.alta_memlevel.specs.Documents.{AreMade, content_of};
 ghost use Rattle.alta_merge.specs.Merging.{Merging};
-ghost use Rattle.alta_meta.specs.declared.document.State.{State};
+ghost use Rattle.alta_machine.specs.declared.document.State.{State};
 ghost use Rattle.alta_opening.specs.Costs.{named_bytes};
 ghost use Rattle.alta_rewrite.specs.Rewrites.{no_content};
 ghost use Rattle.alta_root.specs.Root.{IsSound};
@@ -43,12 +44,10 @@ ghost use Rattle.alta_store.specs.Searched.{IsSearched};
 ghost use Rattle.alta_store.specs.declared.fault.StoreFault.TheVariants.{Disk as DiskFault, Memory as MemoryFault, NoRoot, Damaged, Taken, Missing, Numbers};
 
 use crate::StoreFault;
-use crate::fault::{
-    catalog_fault, join_fault, levels_fault, opening_fault, rewrite_fault, root_fault,
-};
+use crate::fault::{catalog_fault, load_fault, rewrite_fault, root_fault};
 use alta_catalog::{Catalog, CatalogFault, Names, apply_entries, apply_entry, what_is_gone};
 use alta_codec::{Loc, Text};
-use alta_content::{Content, DocRows, TermLists};
+use alta_content::{AllRows, Content, DocRows, TermLists};
 use alta_disk::Disk;
 use alta_joins::{Job, begin_oldest, finish_job, merge_levels, run_job, step_job};
 use alta_journal::{
@@ -58,8 +57,7 @@ use alta_memlevel::{MemLevel, drained_documents_are_kept};
 use alta_opening::{OpenLevels, open_levels};
 use alta_rewrite::{Ends, NextLevels, rewrite};
 use alta_root::{Root, Slot, read_roots};
-use alta_rows::AllRows;
-use alta_table::Table;
+use alta_table::OpenLevel;
 use std::alloc::{AllocError, Global};
 use std::collections::HashMap;
 
@@ -85,7 +83,7 @@ pub struct Store {
 /// rising, and the rows of levels and newest documents.
 #[derive(Drop)]
 pub struct Sources<'a> {
-    pub levels: &'a [Table],
+    pub levels: &'a [OpenLevel],
     pub newest: &'a MemLevel,
     pub gone: &'a [Loc],
     pub rows: AllRows,
@@ -589,7 +587,7 @@ impl Store {
         let gone = self.catalog.gone();
         let oldest = match merge_levels(self.alloc, disk, levels, newest, gone) {
             Ok(oldest) => oldest,
-            Err(fault) => return Err(join_fault(fault)),
+            Err(fault) => return Err(load_fault(fault)),
         };
         let nothing = no_content(self.alloc);
         let levels = NextLevels {
@@ -673,7 +671,7 @@ impl Store {
         }
         match begin_oldest(self.alloc, disk, self.catalog.levels(), self.catalog.gone()) {
             Ok(job) => Ok(job),
-            Err(fault) => Err(join_fault(fault)),
+            Err(fault) => Err(load_fault(fault)),
         }
     }
 
@@ -772,9 +770,9 @@ fn entry_of_add(alloc: Global, name: &str, title: &str, body: &str) -> Result<En
     ensures { IfOk result (λ entry. entry ≡ Add name.now title.now body.now) }
 {
     Ok(Entry::Add {
-        name: text_of(alloc, name)?,
-        title: text_of(alloc, title)?,
-        body: text_of(alloc, body)?,
+        name: Text::of(alloc, name)?,
+        title: Text::of(alloc, title)?,
+        body: Text::of(alloc, body)?,
     })
 }
 
@@ -790,16 +788,10 @@ fn entry_of_replace(
 {
     Ok(Entry::Replace {
         number,
-        name: text_of(alloc, name)?,
-        title: text_of(alloc, title)?,
-        body: text_of(alloc, body)?,
+        name: Text::of(alloc, name)?,
+        title: Text::of(alloc, title)?,
+        body: Text::of(alloc, body)?,
     })
-}
-
-fn text_of(alloc: Global, text: &str) -> Result<Text, AllocError>
-    ensures { IfOk result (λ t. t ≡ text.now) }
-{
-    Ok(Text::from_string(String::from_str(alloc, text)?))
 }
 
 // The half of the journal that a root in this slot uses.
@@ -836,7 +828,7 @@ fn load<D: Disk>(alloc: Global, disk: &mut D) -> Result<Store, StoreFault>
     };
     let opened = match open_levels(alloc, disk, &roots.root) {
         Ok(opened) => opened,
-        Err(fault) => return Err(levels_fault(fault)),
+        Err(fault) => return Err(load_fault(fault)),
     };
     let OpenLevels {
         deleted: listed,
@@ -846,7 +838,7 @@ fn load<D: Disk>(alloc: Global, disk: &mut D) -> Result<Store, StoreFault>
     let version = roots.root.version;
     let (found, tail) = match replay(alloc, disk, half_of(roots.slot), version) {
         Ok(read) => read,
-        Err(fault) => return Err(opening_fault(fault)),
+        Err(fault) => return Err(load_fault(fault)),
     };
     match catalog_of(alloc, &roots.root, levels, &listed, names, &found) {
         Ok(catalog) => Ok(Store {
@@ -867,7 +859,7 @@ fn load<D: Disk>(alloc: Global, disk: &mut D) -> Result<Store, StoreFault>
 fn catalog_of(
     alloc: Global,
     root: &Root,
-    levels: Vec<Table>,
+    levels: Vec<OpenLevel>,
     deleted: &[Loc],
     names: HashMap<String, u64>,
     found: &[Placed],

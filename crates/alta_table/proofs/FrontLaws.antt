@@ -2,7 +2,7 @@
 use Rattle.std.proofs.Common.{◌≡◌, ℕ, ◌+◌, ◌-◌, ◌<◌, ◌≤◌, ◌^◌, min, List, ◌++◌, length, take, drop, Ok, sym, ap, ◌∙◌, arith}
 use Rattle.std.proofs.lemmas.List.{take-take, drop-take}
 use Rattle.alta_format.specs.Format.{AreBytes, part}
-use Rattle.alta_format.specs.FormatLaws.{done, AreBytes-take, part_found, part_spelled}
+use Rattle.alta_format.proofs.FormatLaws.{done, AreBytes-take, part_found, part_spelled}
 use Rattle.alta_content.specs.declared.document.DocRow.{DocRow}
 use Rattle.alta_table.specs.declared.sizes.Head.{Head}
 use Rattle.alta_table.specs.declared.term.TermRow.{TermRow}

@@ -1,7 +1,7 @@
 -- From what a definition finds to what a call that opens a part promises.
 use Rattle.std.proofs.Common.{◌≡◌, ℕ, Result, Ok, Err, sym, ◌∙◌}
 use Rattle.std.specs.Prelude.{IfOk}
-use Rattle.alta_format.specs.FormatLaws.{done, failed, ok_is, err_is, ok_err}
+use Rattle.alta_format.proofs.FormatLaws.{done, failed, ok_is, err_is, ok_err}
 use Rattle.alta_table.specs.declared.fault.LevelFault.{LevelFault}
 use Rattle.alta_table.specs.declared.fault.LevelFault.TheVariants as faults
 use Rattle.alta_table.specs.Answers.{AlwaysAnswers, Answers, IsFound, IsDamaged, IfDamaged}

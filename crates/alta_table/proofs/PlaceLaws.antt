@@ -5,8 +5,8 @@ use Rattle.std.proofs.lemmas.List.{get_or_default}
 use Rattle.std.proofs.lemmas.List.Sums.{sum_by-cons, sum_by_push, sum_by_more, sum_by-take-le}
 use Rattle.std.specs.List.{sum_by}
 use Rattle.alta_format.specs.Format.{AreBytes, read, entries_bytes, state_behind}
-use Rattle.alta_format.specs.FormatLaws.{AreBytes-rest, read_spells}
-use Rattle.alta_format.specs.EntryLaws.{entries_bytes-push, state_behind-push}
+use Rattle.alta_format.proofs.FormatLaws.{AreBytes-rest, read_spells}
+use Rattle.alta_format.proofs.EntryLaws.{entries_bytes-push, state_behind-push}
 use Rattle.alta_codec.specs.declared.extent.Extent.{Extent}
 use Rattle.alta_content.specs.declared.document.DocRow.{DocRow}
 use Rattle.alta_table.specs.declared.term.TermRow.{TermRow}

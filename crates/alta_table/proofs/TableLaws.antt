@@ -4,8 +4,8 @@ use Rattle.std.specs.Int.{w64, to_be_bytes}
 use Rattle.std.proofs.lemmas.Bool.{ltb-true, lt-ltb, leb-true, le-leb}
 use Rattle.std.proofs.lemmas.List.{take_at, drop_at, take-append-drop, length-append, length-take, length-drop, nil_from_length, append-nil}
 use Rattle.alta_format.specs.Format.{AreBytes, Spells, entries_bytes, state_behind}
-use Rattle.alta_format.specs.FormatLaws.{done}
-use Rattle.alta_format.specs.EntryLaws.{repeated_spelled, repeated_spells}
+use Rattle.alta_format.proofs.FormatLaws.{done}
+use Rattle.alta_format.proofs.EntryLaws.{repeated_spelled, repeated_spells}
 use Rattle.alta_content.specs.declared.document.DocRow.{DocRow}
 use Rattle.alta_table.specs.declared.sizes.Head.{Head}
 use Rattle.alta_table.specs.declared.term.TermRow.{TermRow}

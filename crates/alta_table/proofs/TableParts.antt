@@ -3,7 +3,7 @@ use Rattle.std.proofs.Common.{◌≡◌, ◌⊎◌, ⊎_elim, inl, inr, ℕ, ◌
 use Rattle.std.specs.List.{list_any}
 use Rattle.std.proofs.lemmas.Bool.{lt-ltb, ltb-true, ltb-false}
 use Rattle.alta_format.specs.Format.{◌>>=◌, AreBytes, part}
-use Rattle.alta_format.specs.FormatLaws.{done, failed, ok_is, err_is, if_yes, if_no, tested, AreBytes-take, AreBytes-drop, part_found, part_spelled, part_first, part_broken}
+use Rattle.alta_format.proofs.FormatLaws.{done, failed, ok_is, err_is, if_yes, if_no, tested, AreBytes-take, AreBytes-drop, part_found, part_spelled, part_first, part_broken}
 use Rattle.alta_content.specs.declared.document.DocRow.{DocRow}
 use Rattle.alta_table.specs.declared.sizes.Head.{Head}
 use Rattle.alta_table.specs.declared.term.TermRow.{TermRow}

@@ -95,7 +95,7 @@ fn row_at(
     let Some(name) = graphic_text(name) else {
         return Err(ReadFault::Broken(behind_len.len()));
     };
-    let name = Text::from_string(String::from_str(alloc, name)?);
+    let name = Text::of(alloc, name)?;
     Ok((
         DocRow {
             number: number + more,

@@ -23,6 +23,6 @@ pub use fault::LevelFault;
 pub use heading::head;
 pub use laws::{tables_in_front, tables_read_back};
 pub use sizes::Head;
-pub use table::Table;
+pub use table::OpenLevel;
 pub use term::TermRow;
 pub use writers::{put_documents, put_head, put_term};

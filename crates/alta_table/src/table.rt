@@ -26,11 +26,11 @@ use std::rc::Rc;
 
 /// Head, documents and terms of a segment. Contracts see the segment's place on the disk and the rows.
 #[derive(Drop)]
-pub struct Table {
+pub struct OpenLevel {
     parts: Parts,
 }
 
-impl Model for Table {
+impl Model for OpenLevel {
     ghost use Rattle.alta_table.specs.Tables.{Tables};
     ghost use Rattle.alta_table.specs.Places.{AreParts, tables_in};
 
@@ -131,24 +131,29 @@ fn opened(alloc: Global, bytes: &[u8], place: u64, total: u64) -> Result<Parts, 
     })
 }
 
-fn table_of(alloc: Global, bytes: &[u8], place: u64, total: u64) -> Result<Table, LevelFault>
+fn table_of(alloc: Global, bytes: &[u8], place: u64, total: u64) -> Result<OpenLevel, LevelFault>
     requires below { place + total < 2 ^ 64 }
     requires whole { (h : Head) → read_head bytes.now place total ≡ Ok h → length bytes.now ≡ 32 + h.document_bytes + h.term_bytes }
     ensures { Answers (λ x. x) result (tables_of bytes.now place total) }
 {
     match opened(alloc, bytes, place, total) {
-        Ok(parts) => Ok(Table { parts }),
+        Ok(parts) => Ok(OpenLevel { parts }),
         Err(fault) => Err(fault),
     }
 }
 
-impl Table {
+impl OpenLevel {
     /// Reads head, documents and terms of a segment of `total` bytes that begins at a place of the disk. `bytes` holds
     /// exactly these, as [`head`] gives their lengths. `Damaged` has the place of the first field that breaks a rule:
     /// of the head, then of the documents, then of the terms, then the first byte behind the last stream and summary,
     /// and last the head's number of terms where the term `D` is missing. It makes one pass over the bytes, and takes
     /// memory in proportion to them.
-    pub fn open(alloc: Global, bytes: &[u8], place: u64, total: u64) -> Result<Table, LevelFault>
+    pub fn open(
+        alloc: Global,
+        bytes: &[u8],
+        place: u64,
+        total: u64,
+    ) -> Result<OpenLevel, LevelFault>
         requires below { place + total < 2 ^ 64 }
         requires whole { (h : Head) → read_head bytes.now place total ≡ Ok h → length bytes.now ≡ 32 + h.document_bytes + h.term_bytes }
         // What is read is spelled so.
@@ -184,7 +189,7 @@ impl Table {
         &self.parts.documents
     }
 
-    /// The documents, as [`rows`](Table::rows) gives them, and the terms, each in memory of its own. Fails for want of memory alone.
+    /// The documents, as [`rows`](OpenLevel::rows) gives them, and the terms, each in memory of its own. Fails for want of memory alone.
     pub fn into_rows(self, alloc: Global) -> Result<(Rc<LevelRows>, Vec<TermRow>), AllocError>
         ensures documents { IfOk result (λ x. x.0.value ≡ self.documents) }
         ensures terms { IfOk result (λ x. x.1.items ≡ self.terms) }

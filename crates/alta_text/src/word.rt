@@ -43,7 +43,7 @@ fn word_at(alloc: Global, start: usize, written: &str) -> Result<Word, AllocErro
     Ok(Word {
         start,
         end: start + written.len(),
-        written: Text::from_string(String::from_str(alloc, written)?),
+        written: Text::of(alloc, written)?,
         folded: Text::from_string(folded(alloc, written)?),
     })
 }

@@ -7,7 +7,7 @@ use Rattle.alta_codec.specs.Rising.{IsRising, first_from, pred_of, count_from}
 use Rattle.alta_codec.proofs.ByIndex.{first_from-at, next_at, within_at, at_place, at_le, pred_of-at, pred_of-at_start, below_up_to}
 use Rattle.alta_codec.proofs.Places.{move_falls, count_from-all}
 use Rattle.alta_postings.specs.Deltas.{IsBehind, IsNextOf, decoded_list, stream_bytes}
-use Rattle.alta_summary.specs.Table.{field_at}
+use Rattle.alta_postings.specs.Table.{field_at}
 use Rattle.alta_words.specs.declared.standing.Standing.{Standing}
 use Rattle.alta_words.specs.Word.{IsPosting, IsOnWay, ReachesTo, StandsAt}
 

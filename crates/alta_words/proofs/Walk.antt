@@ -6,7 +6,7 @@ use Rattle.std.proofs.lemmas.List.{get_or-drop, drop-drop}
 use Rattle.alta_codec.proofs.Numerals.{AreBytes}
 use Rattle.alta_postings.specs.Deltas.{stream_bytes, fault_at, list_from, first_fault, decoded_list, IsBlockRead}
 use Rattle.alta_postings.proofs.Reading.{fault_end, list_end, reading_spells, no_list, place_is}
-use Rattle.alta_summary.specs.Table.{HasRows, IsSummary, IsFault}
+use Rattle.alta_postings.specs.Table.{HasRows, IsSummary, IsFault}
 use Rattle.alta_words.specs.declared.checking.PostingFault.{PostingFault}
 use Rattle.alta_words.specs.declared.checking.PostingFault.TheVariants as wrong
 use Rattle.alta_words.specs.Compared.{IsSameTo, IsWalked}

@@ -2,7 +2,7 @@
 use Rattle.std.specs.Prelude.{◌≡◌, ◌⊎◌, ℕ, ◌+◌, ◌*◌, ◌<◌, List, length, Some}
 use Rattle.alta_postings.specs.declared.fault.StreamCause.{StreamCause}
 use Rattle.alta_postings.specs.Deltas.{Spells, fault_at, first_fault, decoded_list}
-use Rattle.alta_summary.specs.Table.{field_at, IsSummary, IsFault}
+use Rattle.alta_postings.specs.Table.{field_at, IsSummary, IsFault}
 use Rattle.alta_words.specs.declared.checking.PostingFault.{PostingFault}
 use Rattle.alta_words.specs.declared.checking.PostingFault.TheVariants as wrong
 use Rattle.alta_words.specs.Word.{IsRowOf}

@@ -2,7 +2,7 @@
 use Rattle.std.specs.Prelude.{◌≡◌, ℕ, ◌+◌, ◌-◌, ◌*◌, ◌/◌, ◌<◌, ◌≤◌, min, List, ◌∷◌, length, take, slice_index, slice_index_or}
 use Rattle.alta_codec.specs.declared.location.TheConstants.{TOP}
 use Rattle.alta_postings.specs.Deltas.{Spells, stream_bytes, decoded_list, IsBehind}
-use Rattle.alta_summary.specs.Table.{field_at, IsSummary}
+use Rattle.alta_postings.specs.Table.{field_at, IsSummary}
 use Rattle.alta_words.specs.declared.standing.Standing.{Standing}
 
 -- row i of the summary is block i of the list

@@ -1,13 +1,12 @@
 // Whether a stream and a summary belong together, in one pass over each.
 ghost use Rattle.std.specs.Prelude.{IfOk, IfErr};
 ghost use Rattle.alta_postings.specs.Deltas.{decoded_list};
-ghost use Rattle.alta_summary.specs.Table.{IsFault};
+ghost use Rattle.alta_postings.specs.Table.{IsFault};
 ghost use Rattle.alta_words.specs.Fault.{IsPostingFault};
 ghost use Rattle.alta_words.specs.Word.{IsPosting, HasBounds};
 
 use crate::compared::Compared;
-use alta_postings::{Stream, scan_block};
-use alta_summary::Summary;
+use alta_postings::{Stream, Summary, scan_block};
 
 /// Why a stream and a summary do not belong together.
 #[derive(Clone, Copy, Debug, PartialEq, Eq, Drop)]

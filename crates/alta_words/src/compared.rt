@@ -6,8 +6,7 @@ ghost use Rattle.alta_words.specs.Fault.{IsPostingFault, IsSameAfter, AreAllSame
 ghost use Rattle.alta_words.specs.Word.{IsPosting, HasBounds};
 
 use crate::checking::{Bounds, PostingFault};
-use alta_postings::BlockSpan;
-use alta_summary::Summary;
+use alta_postings::{BlockSpan, Summary};
 
 /// How far a stream was read, block by block, beside the rows of its summary. Whoever reads it may look at the locations
 /// of each block meanwhile.

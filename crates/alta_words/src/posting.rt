@@ -9,9 +9,8 @@ ghost use Rattle.alta_words.specs.Word.{IsPosting, HasBounds};
 use crate::checking::{Bounds, PostingFault, check};
 use crate::word::WordReader;
 use alta_codec::{Steps, TOP};
-use alta_postings::Stream;
+use alta_postings::{Stream, Summary};
 use alta_reader::Reader;
-use alta_summary::Summary;
 use std::marker::Model;
 use std::sync::ledger::Ledger;
 

@@ -3,15 +3,14 @@ ghost use Rattle.std.specs.Prelude.{◌≡◌, refl, ℕ, ◌+◌, ◌*◌, ◌<
 ghost use Rattle.alta_codec.specs.Rising.{first_from, pred_of, count_from};
 ghost use Rattle.alta_codec.specs.declared.location.TheConstants.{TOP};
 ghost use Rattle.alta_postings.specs.Deltas.{IsBehind, decoded_list};
-ghost use Rattle.alta_summary.specs.Table.{field_at};
+ghost use Rattle.alta_postings.specs.Table.{field_at};
 ghost use Rattle.alta_words.specs.Held.{IsSoundWord, word_list, word_place, word_rises, word_stands};
 ghost use Rattle.alta_words.specs.Word.{IsPosting, StandsAt, ReachesTo};
 
 use crate::standing::{Standing, behind, first, first_at};
 use alta_codec::{Loc, Steps, TOP};
-use alta_postings::Stream;
+use alta_postings::{Stream, Summary};
 use alta_reader::{BackReader, Reader};
-use alta_summary::Summary;
 use std::sync::ledger::Ledger;
 
 /// A reader of a coded list, whose bytes it borrows. It keeps where it stands, the row of the summary that it looked at last

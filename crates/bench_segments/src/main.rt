@@ -6,7 +6,7 @@
 
 ghost use Rattle.std.specs.Prelude.{◌≤◌, length};
 
-use alta_level::{LevelFault, Table, build, head, read_content};
+use alta_level::{LevelFault, OpenLevel, build, head, read_content};
 use std::alloc::{AllocError, Global};
 use std::process::ExitCode;
 use std::{env, fs, io};
@@ -43,7 +43,7 @@ fn open(alloc: Global, tables: &[u8], total: u64) -> Result<u64, AllocError>
 {
     match head(tables, START, total) {
         Ok(head) if 32 + head.document_bytes + head.term_bytes == tables.len() as u64 => {
-            match undamaged(Table::open(alloc, tables, START, total))? {
+            match undamaged(OpenLevel::open(alloc, tables, START, total))? {
                 Some(table) => Ok((table.documents().len() as u64).wrapping_add(head.terms)),
                 None => Ok(0),
             }

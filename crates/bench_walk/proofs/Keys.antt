@@ -16,7 +16,7 @@ use Rattle.alta_content.specs.Rows.{end_of}
 use Rattle.alta_content.specs.declared.document.DocRow.{DocRow}
 use Rattle.alta_compound.specs.Unions.{RisesAbove, rising_from_above, above_from_rising}
 use Rattle.alta_search.specs.Lists.{TermKey, IsCut, AreKeys, key_of, term_in, term_lists}
-use Rattle.alta_query.specs.declared.test.Test.{Test}
+use Rattle.alta_machine.specs.declared.test.Test.{Test}
 use Rattle.alta_search.specs.Met.{MeetTest}
 use Rattle.alta_search.specs.Newest.{term_meets}
 use Rattle.alta_search.specs.declared.lists.TermLists.{TermLists}

@@ -5,8 +5,7 @@ ghost use Rattle.alta_codec.specs.declared.location.TheConstants.{TOP};
 ghost use Rattle.alta_content.specs.Rows.{end_of, ends_of};
 
 use alta_codec::{Loc, TOP, Text};
-use alta_content::{DocRow, LevelRows};
-use alta_rows::AllRows;
+use alta_content::{AllRows, DocRow, LevelRows};
 use std::alloc::{AllocError, Global};
 use std::rc::Rc;
 
@@ -37,7 +36,7 @@ fn row(alloc: Global, number: u64, first: Loc, line: &str) -> Result<DocRow, All
         number,
         first,
         cells,
-        name: Text::from_string(String::from_str(alloc, name)?),
+        name: Text::of(alloc, name)?,
     })
 }
 

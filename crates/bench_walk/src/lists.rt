@@ -10,8 +10,8 @@ ghost use Rattle.alta_search.specs.Newest.{term_meets};
 
 use alta_codec::Bytes;
 use alta_content::LevelRows;
-use alta_meta::kinds::DOCUMENT_END;
-use alta_query::Test;
+use alta_machine::Test;
+use alta_machine::kinds::DOCUMENT_END;
 use alta_search::{LevelList, Stored, TermLists, TestLists};
 use alta_words::Posting;
 use std::alloc::{AllocError, Global};

@@ -1,6 +1,6 @@
 // A query asked again and again.
 ghost use Rattle.std.specs.Prelude.{◌≡◌, ◌<◌};
-ghost use Rattle.alta_compile.specs.PlanOf.{plan_of};
+ghost use Rattle.alta_machine.specs.PlanOf.{plan_of};
 ghost use Rattle.alta_compile.specs.View.{tree};
 ghost use Rattle.alta_query.specs.View.{shape};
 ghost use Rattle.alta_search.specs.Plans.{tests_of};

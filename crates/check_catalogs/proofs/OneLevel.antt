@@ -11,10 +11,10 @@ use Rattle.std.proofs.lemmas.List.Elements.{All-cons, All-nil}
 use Rattle.alta_content.specs.Rows.{AreDocuments, IsPlaced, RowsRise, end_of}
 use Rattle.alta_content.specs.declared.document.DocRow.{DocRow}
 use Rattle.alta_content.proofs.Contents.{rows_rise}
-use Rattle.alta_images.specs.Opened.{live_in, table_rows}
-use Rattle.alta_images.proofs.NameLaws.{bytes_eq-swap}
+use Rattle.alta_meaning.specs.Opened.{live_in, table_rows}
+use Rattle.alta_meaning.proofs.NameLaws.{bytes_eq-swap}
 use Rattle.alta_table.specs.Tables.{Tables}
-use Rattle.alta_catalog.specs.Names.{AreNames, NameMap}
+use Rattle.alta_meaning.specs.Names.{AreNames, NameMap}
 
 none_known : (names : NameMap) → IsEmpty names → (q : List ℕ) → get_by_text names q ≡ None
 none_known names empty q = ap (λ (es : List (String Global × ℕ)). lookup (λ (k : String Global). bytes_eq q (string_bytes k)) es) empty

@@ -1,7 +1,7 @@
 // Worked rows, and each call once.
 use crate::newest::numbers_of;
+use alta_catalog::Deletions;
 use alta_codec::{Loc, TOP};
-use alta_deletions::Deletions;
 use std::alloc::Global;
 use std::process::Abort;
 use std::test::Fail;

@@ -6,7 +6,7 @@ ghost use Rattle.std.specs.Str.{bytes_eq};
 ghost use Rattle.alta_content.specs.Rows.{AreDocuments};
 ghost use Rattle.alta_journal.specs.Entry.{MayBeRecorded};
 ghost use Rattle.alta_journal.specs.declared.entry.Entry.TheVariants.{Delete};
-ghost use Rattle.alta_meta.specs.declared.document.State.{State};
+ghost use Rattle.alta_machine.specs.declared.document.State.{State};
 ghost use Rattle.alta_root.specs.Root.{IsSound};
 ghost use Rattle.alta_catalog.specs.Knowing.{Knows, levels_of};
 ghost use Rattle.alta_catalog.specs.Replacing.{IsPrepared};
@@ -14,9 +14,9 @@ ghost use Rattle.alta_catalog.specs.Replacing.{IsPrepared};
 use alta_catalog::*;
 use alta_codec::{Extent, Text, name_ok};
 use alta_journal::{Entry, Placed};
-use alta_meta::MetaFault;
+use alta_machine::MetaFault;
 use alta_root::{Root, VERSION};
-use alta_table::{LevelFault, Table, head, tables_in_front};
+use alta_table::{LevelFault, OpenLevel, head, tables_in_front};
 use arrayvec::ArrayVec;
 use std::alloc::{AllocError, Global};
 use std::collections::HashMap;
@@ -42,7 +42,7 @@ fn root() -> Root
 }
 
 // A level of so many bytes at the place 1,000.
-fn level(alloc: Global, bytes: &[u8], total: u64) -> Result<Table, LevelFault>
+fn level(alloc: Global, bytes: &[u8], total: u64) -> Result<OpenLevel, LevelFault>
     requires { total < 1000 }
     ensures { IfOk result (λ table. AreDocuments table.documents) }
 {
@@ -52,11 +52,11 @@ fn level(alloc: Global, bytes: &[u8], total: u64) -> Result<Table, LevelFault>
     if bytes.len() < len {
         return Err(LevelFault::Memory);
     }
-    Table::open(alloc, &bytes[..len], 1000, total)
+    OpenLevel::open(alloc, &bytes[..len], 1000, total)
 }
 
 // The same document as a level behind others: with the number 4, at the locations 28 to 36.
-fn later_level(alloc: Global) -> Result<Table, LevelFault>
+fn later_level(alloc: Global) -> Result<OpenLevel, LevelFault>
     ensures { IfOk result (λ table. AreDocuments table.documents) }
 {
     let mut bytes = Vec::from_slice(alloc, LEVEL).or(Err(LevelFault::Memory))?;
@@ -83,7 +83,7 @@ fn note(
 }
 
 // The catalog of a level with one document, which lies below the root.
-fn catalog_of(alloc: Global, root: &Root, level: Table) -> Result<Option<Catalog>, AllocError>
+fn catalog_of(alloc: Global, root: &Root, level: OpenLevel) -> Result<Option<Catalog>, AllocError>
     requires sound { (size : ℕ) × IsSound size root.now }
     requires stand { AreDocuments level.documents }
     ensures { IfOk result (λ found. IfSome found (λ c. (s : State) × Knows c s)) }
@@ -199,7 +199,10 @@ fn has_a_alone(alloc: Global, catalog: &Catalog) -> Result<bool, AllocError> {
 }
 
 // Prepares the level with one document to come behind that of the catalog, where it stands behind it.
-fn prepare_behind(catalog: &Catalog, table: &Table) -> Result<Option<PreparedLevels>, AllocError>
+fn prepare_behind(
+    catalog: &Catalog,
+    table: &OpenLevel,
+) -> Result<Option<PreparedLevels>, AllocError>
     requires { AreDocuments table.now.documents }
     ensures { IfOk result (λ found. IfSome found (IsPrepared catalog.now [] 0 table.now.documents)) }
 {
@@ -219,7 +222,7 @@ fn prepare_behind(catalog: &Catalog, table: &Table) -> Result<Option<PreparedLev
 }
 
 // Prepares the level to come in place of all levels.
-fn prepare_instead(catalog: &Catalog, table: &Table) -> Result<PreparedLevels, AllocError>
+fn prepare_instead(catalog: &Catalog, table: &OpenLevel) -> Result<PreparedLevels, AllocError>
     requires { AreDocuments table.now.documents }
     ensures { IfOk result (IsPrepared catalog.now table.now.documents (length (levels_of catalog.now)) []) }
 {
@@ -329,7 +332,7 @@ fn replace_at(
     }
     let entry = Entry::Replace {
         number,
-        name: Text::from_string(String::from_str(alloc, name)?),
+        name: Text::of(alloc, name)?,
         title: Text::from_string(String::new(alloc)),
         body: Text::from_string(String::new(alloc)),
     };

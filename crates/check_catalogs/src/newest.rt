@@ -3,8 +3,8 @@ ghost use Rattle.std.specs.Prelude.{◌≡◌, length, IfOk, IsTrue};
 
 use alta_codec::Text;
 use alta_content::{Content, DocRow, TermLists};
+use alta_machine::{Cell, cells};
 use alta_memlevel::MemLevel;
-use alta_meta::{Cell, cells};
 use std::alloc::{AllocError, Global};
 use std::process::Abort;
 use std::test::Fail;
@@ -22,7 +22,7 @@ fn row(alloc: Global, number: u64, first: u64, cells: u64, name: &str) -> Result
     ensures first { IfOk result (λ row. row.first ≡ first) }
     ensures cells { IfOk result (λ row. row.cells ≡ cells) }
 {
-    let name = Text::from_string(String::from_str(alloc, name)?);
+    let name = Text::of(alloc, name)?;
     Ok(DocRow {
         number,
         first,

@@ -10,7 +10,7 @@ fn row(alloc: Global, number: u64, first: u64) -> Result<DocRow, AllocError> {
         number,
         first,
         cells: 3,
-        name: Text::from_string(String::from_str(alloc, "fox")?),
+        name: Text::of(alloc, "fox")?,
     })
 }
 

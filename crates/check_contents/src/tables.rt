@@ -19,7 +19,7 @@ const SEGMENT: [u8; 126] = [
 ];
 
 // As a caller opens a segment at place 1,000: the head first, then as many bytes as it says.
-fn open(alloc: Global, bytes: &[u8], total: u64) -> Result<Table, LevelFault>
+fn open(alloc: Global, bytes: &[u8], total: u64) -> Result<OpenLevel, LevelFault>
     requires { total < 1000 }
     ensures { IfOk result (λ table. AreDocuments table.documents) }
 {
@@ -29,7 +29,7 @@ fn open(alloc: Global, bytes: &[u8], total: u64) -> Result<Table, LevelFault>
     if bytes.len() < len {
         return Err(LevelFault::Memory);
     }
-    Table::open(alloc, &bytes[..len], 1000, total)
+    OpenLevel::open(alloc, &bytes[..len], 1000, total)
 }
 
 // Where the segment is damaged if one byte is changed, counted from its place.
@@ -41,7 +41,7 @@ fn damage(alloc: Global, at: usize, byte: u8) -> Option<u64> {
     place_of(open(alloc, &bytes, 126))
 }
 
-fn place_of(opened: Result<Table, LevelFault>) -> Option<u64> {
+fn place_of(opened: Result<OpenLevel, LevelFault>) -> Option<u64> {
     match opened {
         Err(LevelFault::Damaged(place)) => place.checked_sub(1000),
         Ok(_) | Err(LevelFault::Memory) => None,

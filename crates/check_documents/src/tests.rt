@@ -5,12 +5,12 @@ ghost use Rattle.alta_docread.specs.Solutions.{IsUpper, IsLower};
 ghost use Rattle.alta_docread.specs.Tree.{IsUnmoved};
 ghost use Rattle.alta_docread.specs.View.{tree_of};
 
-use alta_codec::{Steps, TOP};
+use alta_codec::{Form, Steps, TOP};
 use alta_compound::EndReader;
 use alta_docread::{DocReader, Found, Node, Without};
 use alta_lead::LeadReader;
 use alta_reader::{BackReader, Reader};
-use alta_solver::{Bound, Form, Solver, System};
+use alta_solver::{Bound, Solver, System};
 use alta_words::PlainReader;
 use std::alloc::{AllocError, Global};
 use std::marker::Brand;

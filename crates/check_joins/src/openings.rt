@@ -1,6 +1,6 @@
 // Disks with levels and a deletion list: what is opened, and the first broken place.
-use alta_disk::MemoryDisk;
-use alta_opening::{OpeningFault, open_levels};
+use alta_disk::{LoadFault, MemoryDisk};
+use alta_opening::open_levels;
 use alta_root::read_roots;
 use std::alloc::{AllocError, Global};
 use std::process::Abort;
@@ -132,7 +132,7 @@ fn image_in(alloc: Global, text: &str) -> Result<Vec<u8>, Fail> {
 }
 
 // What is opened of an image on a disk whose calls with these numbers, from 1, fail.
-fn open(alloc: Global, image: Vec<u8>, fail: Vec<u64>) -> Result<Opened, OpeningFault> {
+fn open(alloc: Global, image: Vec<u8>, fail: Vec<u64>) -> Result<Opened, LoadFault> {
     let limit = image.len() as u64;
     let mut disk = MemoryDisk::new(alloc, image, limit, fail);
     match read_roots(&mut disk) {
@@ -145,7 +145,7 @@ fn open(alloc: Global, image: Vec<u8>, fail: Vec<u64>) -> Result<Opened, Opening
                 found.names.get("b").copied(),
             ))
         }
-        Err(_) => Err(OpeningFault::Damaged(0)),
+        Err(_) => Err(LoadFault::Damaged(0)),
     }
 }
 
@@ -171,9 +171,9 @@ fn answer(alloc: Global, text: &str, fail: Vec<u64>) -> Result<String, Fail> {
             let (a, b) = (a.unwrap_or(0), b.unwrap_or(0));
             Ok(format!(in alloc; "{levels} {deleted} {a} {b}")?)
         }
-        Err(OpeningFault::Damaged(place)) => Ok(place_name(alloc, place)?),
-        Err(OpeningFault::Disk) => Ok(String::from_str(alloc, "failed")?),
-        Err(OpeningFault::Memory) => Err("no memory".into()),
+        Err(LoadFault::Damaged(place)) => Ok(place_name(alloc, place)?),
+        Err(LoadFault::Disk) => Ok(String::from_str(alloc, "failed")?),
+        Err(LoadFault::Memory) => Err("no memory".into()),
     }
 }
 

@@ -3,15 +3,15 @@ ghost use Rattle.std.specs.Prelude.{◌≤◌, All, IfOk};
 ghost use Rattle.alta_content.specs.Parts.{IsPart, MayJoin};
 ghost use Rattle.alta_content.specs.Rows.{AreDocuments};
 ghost use Rattle.alta_disk.specs.Memory.{memory_state};
-ghost use Rattle.alta_images.specs.Opened.{table_rows};
-ghost use Rattle.alta_images.specs.Ordered.{AreBelow};
+ghost use Rattle.alta_meaning.specs.Opened.{table_rows};
+ghost use Rattle.alta_meaning.specs.Ordered.{AreBelow};
 ghost use Rattle.alta_joins.specs.Contents.{StandsOn};
 
 use alta_content::{Content, DocRows, TermLists};
-use alta_disk::MemoryDisk;
+use alta_disk::{LoadFault, MemoryDisk};
 use alta_joins::{
-    Job, JoinFault, begin_oldest, finish_job, join_levels, joins_are_levels, joins_go_on,
-    merge_levels, read_levels, read_levels_are_opened, step_job,
+    Job, begin_oldest, finish_job, join_levels, joins_are_levels, joins_go_on, merge_levels,
+    read_levels, read_levels_are_opened, step_job,
 };
 use alta_level::build;
 use alta_opening::{OpenLevels, open_levels};
@@ -77,7 +77,7 @@ struct Opening {
 }
 
 // A disk whose calls with these numbers, from 1, fail.
-fn opened(alloc: Global, image: Vec<u8>, fail: Vec<u64>) -> Result<Opening, JoinFault>
+fn opened(alloc: Global, image: Vec<u8>, fail: Vec<u64>) -> Result<Opening, LoadFault>
     ensures stand { IfOk result (λ o. All (StandsOn (memory_state o.disk).content) o.found.levels.items) }
     ensures documents { IfOk result (λ o. AreDocuments (table_rows o.found.levels.items)) }
     ensures below { IfOk result (λ o. AreBelow o.root (table_rows o.found.levels.items)) }
@@ -87,7 +87,7 @@ fn opened(alloc: Global, image: Vec<u8>, fail: Vec<u64>) -> Result<Opening, Join
     let limit = image.len() as u64;
     let mut disk = MemoryDisk::new(alloc, image, limit, fail);
     let Ok(roots) = read_roots(&mut disk) else {
-        return Err(JoinFault::Damaged(0));
+        return Err(LoadFault::Damaged(0));
     };
     match open_levels(alloc, &mut disk, &roots.root) {
         Ok(found) => Ok(Opening {
@@ -95,19 +95,19 @@ fn opened(alloc: Global, image: Vec<u8>, fail: Vec<u64>) -> Result<Opening, Join
             root: roots.root,
             found,
         }),
-        Err(_fault) => Err(JoinFault::Damaged(1)),
+        Err(_fault) => Err(LoadFault::Damaged(1)),
     }
 }
 
 // The contents of both levels.
-fn read(alloc: Global, image: Vec<u8>, fail: Vec<u64>) -> Result<Vec<Content>, JoinFault>
+fn read(alloc: Global, image: Vec<u8>, fail: Vec<u64>) -> Result<Vec<Content>, LoadFault>
     ensures { IfOk result (λ contents. MayJoin contents.items) }
 {
     let mut opening = opened(alloc, image, fail)?;
     read_levels(alloc, &mut opening.disk, &opening.found.levels)
 }
 
-fn count(alloc: Global, changes: &[(usize, u8)], fail: Vec<u64>) -> Result<usize, JoinFault> {
+fn count(alloc: Global, changes: &[(usize, u8)], fail: Vec<u64>) -> Result<usize, LoadFault> {
     let image = image_of(alloc, changes)?;
     let contents = read(alloc, image, fail)?;
     Ok(contents.len())
@@ -124,7 +124,7 @@ fn segment(alloc: Global, content: Content) -> Result<Vec<u8>, AllocError>
 }
 
 // The segment of both levels, without what is dead.
-fn joined(alloc: Global, dead: &[u64]) -> Result<Vec<u8>, JoinFault> {
+fn joined(alloc: Global, dead: &[u64]) -> Result<Vec<u8>, LoadFault> {
     joins_are_levels();
     let image = image_of(alloc, &[])?;
     let contents = read(alloc, image, Vec::new(alloc))?;
@@ -133,20 +133,20 @@ fn joined(alloc: Global, dead: &[u64]) -> Result<Vec<u8>, JoinFault> {
 }
 
 // The join of both levels as it begins, without what is dead.
-fn begun(alloc: Global, dead: &[u64]) -> Result<Job, JoinFault>
+fn begun(alloc: Global, dead: &[u64]) -> Result<Job, LoadFault>
     ensures { IfOk result (λ job. IsPart job.whole) }
 {
     joins_go_on();
     let image = image_of(alloc, &[])?;
     let mut opening = opened(alloc, image, Vec::new(alloc))?;
     if opening.found.levels.len() < 2 {
-        return Err(JoinFault::Damaged(2));
+        return Err(LoadFault::Damaged(2));
     }
     Ok(begin_oldest(alloc, &mut opening.disk, &opening.found.levels, dead)?)
 }
 
 // The same in steps of one term, and in how many.
-fn stepped(alloc: Global, dead: &[u64]) -> Result<(Vec<u8>, u64), JoinFault> {
+fn stepped(alloc: Global, dead: &[u64]) -> Result<(Vec<u8>, u64), LoadFault> {
     let mut job = begun(alloc, dead)?;
     for steps in 1..100u64 {
         if step_job(&mut job, 1)? {
@@ -154,11 +154,11 @@ fn stepped(alloc: Global, dead: &[u64]) -> Result<(Vec<u8>, u64), JoinFault> {
             return Ok((segment(alloc, content)?, steps));
         }
     }
-    Err(JoinFault::Damaged(3))
+    Err(LoadFault::Damaged(3))
 }
 
 // The segment of all levels merged, with no documents behind them.
-fn merged(alloc: Global, dead: &[u64]) -> Result<Vec<u8>, JoinFault> {
+fn merged(alloc: Global, dead: &[u64]) -> Result<Vec<u8>, LoadFault> {
     let image = image_of(alloc, &[])?;
     let mut opening = opened(alloc, image, Vec::new(alloc))?;
     let newest = Content {
@@ -181,17 +181,17 @@ pub(crate) fn levels_are_read_up_to_the_first_fault(
 ) -> Result<(), Fail> {
     let first = FIRST as u64;
     let second = SECOND as u64;
-    let rows: [(&[(usize, u8)], Result<usize, JoinFault>); 5] = [
+    let rows: [(&[(usize, u8)], Result<usize, LoadFault>); 5] = [
         (&[], Ok(2)),
         // The first number of the first stream.
-        (&[(FIRST + 114, 0)], Err(JoinFault::Damaged(first + 114))),
+        (&[(FIRST + 114, 0)], Err(LoadFault::Damaged(first + 114))),
         // A location outside of the document.
-        (&[(FIRST + 117, 10)], Err(JoinFault::Damaged(first + 117))),
+        (&[(FIRST + 117, 10)], Err(LoadFault::Damaged(first + 117))),
         // The last stream of the second level.
-        (&[(SECOND + 65, 0)], Err(JoinFault::Damaged(second + 65))),
+        (&[(SECOND + 65, 0)], Err(LoadFault::Damaged(second + 65))),
         (
             &[(SECOND + 65, 0), (FIRST + 125, 0)],
-            Err(JoinFault::Damaged(first + 125)),
+            Err(LoadFault::Damaged(first + 125)),
         ),
     ];
     for (changes, want) in rows {
@@ -205,7 +205,7 @@ pub(crate) fn each_read_may_fail(rt: &impl Abort, alloc: Global) -> Result<(), F
     for call in 8..11u64 {
         let fail = vec![in alloc; call]?;
         let want = if call < 10 {
-            Err(JoinFault::Disk)
+            Err(LoadFault::Disk)
         } else {
             Ok(2)
         };

@@ -4,10 +4,10 @@ ghost use Rattle.alta_loading.specs.Lists.{LiesWithin};
 ghost use Rattle.alta_table.specs.Tables.{total_of};
 
 use alta_codec::Bytes;
-use alta_disk::MemoryDisk;
+use alta_disk::{LoadFault, MemoryDisk};
 use alta_loading::*;
 use alta_memlevel::MemLevel;
-use alta_table::{LevelFault, Table, head, tables_in_front, tables_read_back};
+use alta_table::{LevelFault, OpenLevel, head, tables_in_front, tables_read_back};
 use std::alloc::{AllocError, Global};
 use std::process::Abort;
 use std::test::Fail;
@@ -30,7 +30,7 @@ fn fault_of(fault: LevelFault) -> LoadFault {
 }
 
 // The tables of a segment at a place.
-fn table_of(alloc: Global, segment: &[u8], place: u64) -> Result<Table, LoadFault>
+fn table_of(alloc: Global, segment: &[u8], place: u64) -> Result<OpenLevel, LoadFault>
     requires { place + length segment.now < 2 ^ 64 }
     ensures { IfOk result (λ t. t.place + total_of t.documents t.terms ≡ place + length segment.now) }
 {
@@ -42,7 +42,7 @@ fn table_of(alloc: Global, segment: &[u8], place: u64) -> Result<Table, LoadFaul
         Ok(head) => {
             let len = (32 + head.document_bytes + head.term_bytes) as usize;
             let (front, _lists) = segment.split_at(len);
-            match Table::open(alloc, front, place, total) {
+            match OpenLevel::open(alloc, front, place, total) {
                 Ok(table) => Ok(table),
                 Err(fault) => Err(fault_of(fault)),
             }
@@ -51,7 +51,7 @@ fn table_of(alloc: Global, segment: &[u8], place: u64) -> Result<Table, LoadFaul
 }
 
 // The tables of two segments, one behind the other.
-pub(crate) fn tables_of(alloc: Global, old: &[u8], new: &[u8]) -> Result<Vec<Table>, LoadFault>
+pub(crate) fn tables_of(alloc: Global, old: &[u8], new: &[u8]) -> Result<Vec<OpenLevel>, LoadFault>
     requires { length old.now + length new.now < 1000 }
     ensures { IfOk result (λ levels. (image : List ℕ) → length image ≡ length old.now + length new.now → All (λ level. LiesWithin level image) levels.items) }
 {

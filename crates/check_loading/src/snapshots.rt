@@ -4,7 +4,7 @@ ghost use Rattle.alta_codec.specs.Rising.{IsRising};
 ghost use Rattle.alta_compile.specs.View.{tree};
 ghost use Rattle.alta_compound.specs.Unions.{RisesAbove};
 ghost use Rattle.alta_content.specs.Rows.{end_of};
-ghost use Rattle.alta_images.specs.Ordered.{RowsPrecede};
+ghost use Rattle.alta_meaning.specs.Ordered.{RowsPrecede};
 ghost use Rattle.alta_loading.specs.Lists.{LiesWithin};
 ghost use Rattle.alta_loading.specs.Snapshots.{all_rows};
 ghost use Rattle.alta_search.specs.Newest.{HasAdded};
@@ -13,15 +13,14 @@ ghost use Rattle.alta_search.specs.Plans.{tests_of};
 use crate::lists::{changes_of, image_of, tables_of};
 use alta_codec::{Bytes, Loc, Steps, TOP, Text};
 use alta_compile::{Plan, compile};
-use alta_content::{DocRow, LevelRows};
-use alta_disk::MemoryDisk;
+use alta_content::{AllRows, DocRow, LevelRows};
+use alta_disk::{LoadFault, MemoryDisk};
 use alta_loading::*;
+use alta_machine::{Test, cells};
 use alta_memlevel::MemLevel;
-use alta_meta::cells;
-use alta_query::{Query, Test, parse};
-use alta_rows::AllRows;
+use alta_query::{Query, parse};
 use alta_search::{Page, Snapshot, search};
-use alta_table::Table;
+use alta_table::OpenLevel;
 use std::alloc::{AllocError, Global};
 use std::marker::Brand;
 use std::process::Abort;
@@ -53,7 +52,7 @@ fn newest(alloc: Global) -> Result<MemLevel, Fail>
         number: 3,
         first: 17,
         cells: 9,
-        name: Text::from_string(String::from_str(alloc, "c")?),
+        name: Text::of(alloc, "c")?,
     };
     let mut level = MemLevel::new(alloc);
     level.add(row, &cells)?;
@@ -93,7 +92,11 @@ fn put_newest(all: &mut Vec<DocRow>, newest: &MemLevel) -> Result<(), AllocError
 }
 
 // The rows of levels, and behind them those of the newest documents.
-fn rows_of(alloc: Global, levels: &[Table], newest: &MemLevel) -> Result<Vec<DocRow>, AllocError>
+fn rows_of(
+    alloc: Global,
+    levels: &[OpenLevel],
+    newest: &MemLevel,
+) -> Result<Vec<DocRow>, AllocError>
     ensures { IfOk result (λ rows. rows.items ≡ all_rows levels.now newest.now.content) }
 {
     let mut all = Vec::new(alloc);
@@ -151,7 +154,7 @@ fn deleted() -> &'static [Loc]
 }
 
 // The tables of both segments.
-fn levels(alloc: Global) -> Result<Vec<Table>, Fail>
+fn levels(alloc: Global) -> Result<Vec<OpenLevel>, Fail>
     ensures { IfOk result (λ levels. (image : List ℕ) → length image ≡ 243 → All (λ level. LiesWithin level image) levels.items) }
 {
     match tables_of(alloc, OLD, NEW) {

@@ -15,7 +15,7 @@ pub(crate) fn owned_bytes_and_text_come_back(rt: &impl Abort, alloc: Global) -> 
         let copy = bytes.copy()?;
         assert_eq!(rt; bytes.as_slice(), text.as_bytes());
         assert_eq!(rt; copy.into_vec().as_slice(), text.as_bytes());
-        let owned = Text::from_string(String::from_str(alloc, text)?);
+        let owned = Text::of(alloc, text)?;
         assert_eq!(rt; owned.as_str(), text);
         assert_eq!(rt; owned.copy()?.as_str(), text);
     }

@@ -1,5 +1,5 @@
 // Worked rows, and small numbers against a plain listing.
-use alta_range::{LEVELS, Range, cover, number, range_term, term};
+use alta_machine::{LEVELS, Range, cover, number, range_term, term};
 use std::alloc::Global;
 use std::process::Abort;
 use std::test::Fail;

@@ -2,8 +2,7 @@
 ghost use Rattle.std.specs.Prelude.{◌≡◌, ◌+◌, ◌<◌, length, IfOk};
 
 use alta_codec::Text;
-use alta_content::DocRow;
-use alta_rows::RowRuns;
+use alta_content::{DocRow, RowRuns};
 use std::alloc::{AllocError, Global};
 use std::process::Abort;
 use std::test::Fail;
@@ -13,7 +12,7 @@ fn row(alloc: Global, place: u64) -> Result<DocRow, AllocError>
     ensures first { IfOk result (λ row. row.first ≡ place) }
     ensures cells { IfOk result (λ row. row.cells ≡ 1) }
 {
-    let name = Text::from_string(String::from_str(alloc, "a")?);
+    let name = Text::of(alloc, "a")?;
     Ok(DocRow {
         number: place,
         first: place,

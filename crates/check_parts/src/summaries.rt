@@ -2,7 +2,7 @@
 ghost use Rattle.std.specs.Prelude.{◌≡◌};
 
 use crate::spelling::number;
-use alta_summary::{Row, Summary, build};
+use alta_postings::{Row, Summary, build};
 use std::alloc::Global;
 use std::process::Abort;
 use std::test::Fail;

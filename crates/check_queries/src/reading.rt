@@ -1,9 +1,9 @@
 // What is read of a text, in words.
 use alta_codec::Text;
 use alta_compile::{Conjunction, compile, conjunction, explain};
-use alta_meta::{Cell, Cells, Document, MetaFault, cells};
+use alta_machine::{Cause, Cell, Cells, Document, MetaFault, Test, cells};
 use alta_model::{matches, read_line};
-use alta_query::{Cause, Query, QueryFault, Test, parse, print};
+use alta_query::{Query, QueryFault, parse, print};
 use alta_text::{folded, put_folded, words};
 use std::alloc::{AllocError, Global};
 use std::test::Fail;
@@ -169,7 +169,7 @@ fn document(alloc: Global, name: &str, title: &str, body: &str) -> Result<Docume
     match cells(alloc, name, title, body) {
         Ok(all) => Ok(Document {
             number: 1,
-            name: Text::from_string(String::from_str(alloc, name)?),
+            name: Text::of(alloc, name)?,
             cells: Cells::from_vec(all),
         }),
         Err(_) => Err(Fail::new("no cells")),

@@ -6,9 +6,9 @@ use crate::rows::{
     CELLS, CONJUNCTIONS, DOCUMENTS, FOLDED, LIMITS, LINES, MATCHES, PLANS, QUERIES, WORDS,
 };
 use alta_codec::{Bytes, Text};
-use alta_meta::{Cell, Cells, Document, Documents, State, kinds};
+use alta_machine::{Cell, Cells, Document, Documents, State, Test, Tests, kinds};
 use alta_model::read_line;
-use alta_query::{Atom, Query, Side, Test, Tests, a_query_has_members, parse};
+use alta_query::{Atom, Query, Side, a_query_has_members, parse};
 use alta_text::words;
 use std::alloc::{AllocError, Global};
 use std::process::Abort;
@@ -228,7 +228,7 @@ pub(crate) fn lists_grow_and_come_back(rt: &impl Abort, alloc: Global) -> Result
     assert!(rt; again.as_slice().len() == 1);
     state.documents.push(Document {
         number: 1,
-        name: Text::from_string(String::from_str(alloc, "a")?),
+        name: Text::of(alloc, "a")?,
         cells: again,
     })?;
     let number = state.documents.get(0).map(|document| document.number);

@@ -1,10 +1,11 @@
 // Worked rows of uses and of the first answers.
 ghost use Rattle.std.specs.Prelude.{◌≡◌, [], ◌∷◌, map, IfOk};
-ghost use Rattle.alta_rank.specs.Ranked.{number_of};
+ghost use Rattle.alta_machine.specs.Ranked.{number_of};
 
 use alta_codec::Text;
-use alta_query::{Test, parse};
-use alta_rank::{Scored, Use, first, uses};
+use alta_machine::{Scored, Test, Use};
+use alta_query::parse;
+use alta_rank::{first, uses};
 use std::alloc::{AllocError, Global};
 use std::process::Abort;
 use std::test::Fail;
@@ -55,7 +56,7 @@ pub(crate) fn uses_of_queries(rt: &impl Abort, alloc: Global) -> Result<(), Fail
 fn answer(alloc: Global, number: u64, score: u64) -> Result<Scored, AllocError>
     ensures { IfOk result (λ a. a.number ≡ number) }
 {
-    let name = Text::from_string(String::from_str(alloc, "d")?);
+    let name = Text::of(alloc, "d")?;
     Ok(Scored {
         number,
         name,

@@ -5,8 +5,9 @@ ghost use Rattle.alta_codec.specs.Rising.{IsRising, first_from};
 
 use alta_codec::Steps;
 use alta_compound::AnyReader;
+use alta_machine::Uses;
 use alta_query::parse;
-use alta_rank::{Scorer, Uses, uses};
+use alta_rank::{Scorer, uses};
 use alta_reader::{BackReader, Reader};
 use alta_words::PlainReader;
 use std::alloc::Global;

@@ -1,5 +1,5 @@
 // The least solution by a plain search over all pairs of places.
-use alta_solver::Form;
+use alta_codec::Form;
 
 /// The greatest element below `x`, 0 where there is none.
 fn before(list: &[i64], x: i64) -> i64 {

@@ -4,10 +4,10 @@ ghost use Rattle.alta_codec.specs.Rising.{IsRising};
 
 use crate::counted::Counted;
 use crate::search::least;
-use alta_codec::{Steps, TOP};
+use alta_codec::{Form, Steps, TOP};
 use alta_compound::{AnyReader, EndReader};
 use alta_reader::{BackReader, Reader};
-use alta_solver::{Bound, Form, Solver, System};
+use alta_solver::{Bound, Solver, System};
 use alta_words::PlainReader;
 use std::alloc::{AllocError, Global};
 use std::cell::Cell;

@@ -1,25 +1,23 @@
 // Open cursors over three documents, of which each is an answer.
 ghost use Rattle.std.specs.Prelude.{◌≡◌, ◌<◌, [], ◌∷◌, length, IfOk};
 ghost use Rattle.alta_codec.specs.Rising.{IsRising};
-ghost use Rattle.alta_compile.specs.PlanOf.{plan_of};
+ghost use Rattle.alta_machine.specs.PlanOf.{plan_of};
 ghost use Rattle.alta_compile.specs.Space.{document_end};
 ghost use Rattle.alta_compile.specs.View.{tree};
 ghost use Rattle.alta_content.specs.Rows.{ends_of};
 ghost use Rattle.alta_search.specs.Lists.{test_in, test_lists, test_keys, IsCut, AreKeys};
 ghost use Rattle.alta_search.specs.Met.{MeetsTest};
 ghost use Rattle.alta_search.specs.Plans.{tests_of};
-ghost use Rattle.alta_query.specs.Shape.{any, negated, none};
+ghost use Rattle.alta_machine.specs.Shape.{any, negated, none};
 ghost use Rattle.alta_query.specs.View.{shape};
 
 use alta_codec::{Bytes, Loc, Steps, Text};
 use alta_compile::{Plan, compile};
-use alta_content::{DocRow, LevelRows};
-use alta_meta::kinds::DOCUMENT_END;
-use alta_query::{Query, Test};
-use alta_rows::AllRows;
-use alta_search::{
-    CURSORS, Cursor, Cursors, LevelList, Page, Snapshot, Stored, TermLists, TestLists,
-};
+use alta_content::{AllRows, DocRow, LevelRows};
+use alta_machine::kinds::DOCUMENT_END;
+use alta_machine::{CURSORS, Test};
+use alta_query::Query;
+use alta_search::{Cursor, Cursors, LevelList, Page, Snapshot, Stored, TermLists, TestLists};
 use std::alloc::{AllocError, Global};
 use std::marker::Brand;
 use std::process::Abort;
@@ -78,7 +76,7 @@ fn row(alloc: Global, number: u64, first: Loc, name: &str) -> Result<DocRow, All
         number,
         first,
         cells: 2,
-        name: Text::from_string(String::from_str(alloc, name)?),
+        name: Text::of(alloc, name)?,
     })
 }
 

@@ -1,11 +1,11 @@
 // How many steps searches for conjunctions of words add, in figures.
 ghost use Rattle.std.specs.Prelude.{◌≡◌, ◌+◌, ◌≤◌, [], ◌∷◌, List, length, Some};
 ghost use Rattle.alta_compile.specs.Conjoined.{conjunction_of};
-ghost use Rattle.alta_compile.specs.PlanOf.{plan_of};
+ghost use Rattle.alta_machine.specs.PlanOf.{plan_of};
 ghost use Rattle.alta_compile.specs.Space.{Placed, list_of};
 ghost use Rattle.alta_compile.specs.View.{tree};
 ghost use Rattle.alta_query.specs.View.{shape};
-ghost use Rattle.alta_query.specs.declared.test.Test.{Test};
+ghost use Rattle.alta_machine.specs.declared.test.Test.{Test};
 ghost use Rattle.alta_search.specs.Plans.{tests_of, lists};
 ghost use Rattle.alta_search.specs.View.{Shows};
 

@@ -5,7 +5,7 @@ use crate::figures::{one_without_another, rare_and_common};
 use crate::worked::{deleted, many, snapshot};
 use alta_codec::{Steps, Text};
 use alta_compile::compile;
-use alta_meta::{Cells, Document, cells};
+use alta_machine::{Cells, Document, cells};
 use alta_model::matches;
 use alta_query::{Query, parse};
 use alta_search::{Cursor, Page, count, search};
@@ -20,7 +20,7 @@ fn document(alloc: Global, name: &str, title: &str, body: &str) -> Result<Docume
     match cells(alloc, name, title, body) {
         Ok(all) => Ok(Document {
             number: 1,
-            name: Text::from_string(String::from_str(alloc, name)?),
+            name: Text::of(alloc, name)?,
             cells: Cells::from_vec(all),
         }),
         Err(_) => Err(Fail::new("no cells")),

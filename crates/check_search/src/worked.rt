@@ -7,7 +7,7 @@ ghost use Rattle.alta_codec.specs.Order.{Precedes};
 ghost use Rattle.alta_codec.specs.Rising.{IsRising};
 ghost use Rattle.alta_compile.specs.View.{tree};
 ghost use Rattle.alta_content.specs.Rows.{end_of, ends_of};
-ghost use Rattle.alta_query.specs.Patterns.{title_end};
+ghost use Rattle.alta_machine.specs.Patterns.{title_end};
 ghost use Rattle.alta_search.specs.Lists.{stored_list, term_lists, key_of, test_in, test_lists, test_keys, IsCut, AreKeys};
 ghost use Rattle.alta_search.specs.Met.{MeetTest, MeetsTest};
 ghost use Rattle.alta_search.specs.Newest.{term_meets};
@@ -15,10 +15,9 @@ ghost use Rattle.alta_search.specs.Plans.{tests_of};
 
 use alta_codec::{Bytes, Loc, Text};
 use alta_compile::Plan;
-use alta_content::{DocRow, LevelRows};
+use alta_content::{AllRows, DocRow, LevelRows};
+use alta_machine::Test;
 use alta_postings::encode;
-use alta_query::Test;
-use alta_rows::AllRows;
 use alta_search::{
     LevelList, Snapshot, Stored, TermLists, TestLists, loading_order, ranking_order,
 };
@@ -263,7 +262,7 @@ fn document(
         number,
         first,
         cells,
-        name: Text::from_string(String::from_str(alloc, name)?),
+        name: Text::of(alloc, name)?,
     })
 }
 

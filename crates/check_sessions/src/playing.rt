@@ -29,7 +29,7 @@ pub(crate) const LIMIT: u64 = 1 << 40;
 fn words_of(alloc: Global, text: &str) -> Result<Vec<Text>, AllocError> {
     let mut words = Vec::new(alloc);
     for word in text.split('|') {
-        words.push(Text::from_string(String::from_str(alloc, word)?))?;
+        words.push(Text::of(alloc, word)?)?;
     }
     Ok(words)
 }

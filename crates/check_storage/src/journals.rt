@@ -1,14 +1,14 @@
 // The bytes of records, damage with its places, the end of a half, and what each stop leaves.
-ghost use Rattle.std.specs.Prelude.{◌≡◌, ◌+◌, ◌≤◌, length, IfOk, IsTrue};
+ghost use Rattle.std.specs.Prelude.{◌+◌, ◌≤◌, length, IsTrue};
 ghost use Rattle.alta_journal.specs.Entry.{KeepTexts, KeepsRules, Lacks};
 ghost use Rattle.alta_journal.specs.declared.places.TheConstants.{TEXTS_BYTES};
 
 use crate::images::{BLUE, LONGEST, RED_FOX, put, put_bytes};
-use alta_codec::{Text, name_ok};
-use alta_disk::MemoryDisk;
+use alta_codec::{Text, name_ok, zeros};
+use alta_disk::{LoadFault, MemoryDisk};
 use alta_journal::{
-    Entry, GATE_OPEN, HALF_BYTES, HEAD_BYTES, Half, JournalFault, OpenFault, Tail,
-    a_half_is_read_in_one_way, a_half_is_read_or_broken, append, format, is_old, ready, replay,
+    Entry, GATE_OPEN, HALF_BYTES, HEAD_BYTES, Half, JournalFault, Tail, a_half_is_read_in_one_way,
+    a_half_is_read_or_broken, append, close_half, is_old, ready, replay,
 };
 use std::alloc::{AllocError, Global};
 use std::process::Abort;
@@ -63,16 +63,10 @@ fn are_short(name: &[u8], title: &[u8], body: &[u8]) -> bool
 // An add of these fields.
 fn add(alloc: Global, name: &str, title: &str, body: &str) -> Result<Entry, AllocError> {
     Ok(Entry::Add {
-        name: Text::from_string(String::from_str(alloc, name)?),
-        title: Text::from_string(String::from_str(alloc, title)?),
-        body: Text::from_string(String::from_str(alloc, body)?),
+        name: Text::of(alloc, name)?,
+        title: Text::of(alloc, title)?,
+        body: Text::of(alloc, body)?,
     })
-}
-
-fn zeros(alloc: Global, n: usize) -> Result<Vec<u8>, AllocError>
-    ensures { IfOk result (λ v. length v.items ≡ n) }
-{
-    Ok(vec![in alloc; 0u8; n]?)
 }
 
 // Fifteen of the longest records of version 1, one behind the other in half A. Bodies are of zeros.
@@ -101,12 +95,12 @@ fn replayed(
     image: Vec<u8>,
     half: Half,
     version: u8,
-) -> Result<(usize, u64), OpenFault>
+) -> Result<(usize, u64), LoadFault>
     requires { (1 ≤ version) × (version ≤ 2) }
 {
     let limit = image.len() as u64;
     if limit < HEAD_BYTES {
-        return Err(OpenFault::Memory);
+        return Err(LoadFault::Memory);
     }
     let mut disk = MemoryDisk::new(alloc, image, limit, Vec::new(alloc));
     match replay(alloc, &mut disk, half, version) {
@@ -125,7 +119,7 @@ fn answer(alloc: Global, image: Vec<u8>, half: &str) -> Result<String, AllocErro
     };
     match found {
         Ok((entries, place)) => format!(in alloc; "{entries} {place}"),
-        Err(OpenFault::Damaged(place)) => format!(in alloc; "damaged {place}"),
+        Err(LoadFault::Damaged(place)) => format!(in alloc; "damaged {place}"),
         Err(fault) => format!(in alloc; "{fault:?}"),
     }
 }
@@ -241,7 +235,7 @@ fn written(alloc: Global, half: Half, entry: &Entry) -> Result<(u64, u64, Vec<u8
 {
     let content = zeros(alloc, HEAD_BYTES as usize)?;
     let mut disk = MemoryDisk::new(alloc, content, HEAD_BYTES, Vec::new(alloc));
-    let Ok(mut tail) = format(&mut disk, half) else {
+    let Ok(mut tail) = close_half(&mut disk, half) else {
         return Err("no format".into());
     };
     let before = tail.place;
@@ -280,9 +274,9 @@ fn are_written(alloc: Global) -> Result<bool, Fail> {
     let red_fox = add(alloc, "a", "Red Fox", "the quick red fox")?;
     let blue = Entry::Replace {
         number: 1,
-        name: Text::from_string(String::from_str(alloc, "a")?),
-        title: Text::from_string(String::from_str(alloc, "")?),
-        body: Text::from_string(String::from_str(alloc, "blue")?),
+        name: Text::of(alloc, "a")?,
+        title: Text::of(alloc, "")?,
+        body: Text::of(alloc, "blue")?,
     };
     if !keeps_rules(&red_fox) || !keeps_rules(&blue) {
         return Ok(false);
@@ -345,7 +339,7 @@ fn entries_left(
     let _ = fail.push(call);
     let content = zeros(alloc, HEAD_BYTES as usize)?;
     let mut disk = MemoryDisk::new(alloc, content, HEAD_BYTES, fail);
-    let mut tail = format(&mut disk, Half::B).expect(rt, "a format");
+    let mut tail = close_half(&mut disk, Half::B).expect(rt, "a format");
     let first = ready(alloc, &Entry::Delete { number: 1 })?;
     append(&mut disk, &mut tail, &first).expect(rt, "an append");
     let second = ready(alloc, &Entry::Delete { number: 2 })?;

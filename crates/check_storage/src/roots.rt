@@ -10,8 +10,8 @@ use alta_codec::{Extent, Failed};
 use alta_disk::MemoryDisk;
 use alta_root::{
     HEAD_BYTES, Root, RootFault, Roots, Slot, VERSION, a_root_counts_on, a_root_reads_back,
-    an_image_says_one_thing, gap, gaps_are_the_first_and_the_longest, place, read_roots,
-    slots_are_two, switch,
+    an_image_says_one_thing, first_gap, gaps_are_the_first_and_the_longest, greatest_gap,
+    read_roots, slots_are_two, switch,
 };
 use arrayvec::ArrayVec;
 use std::alloc::{AllocError, Global};
@@ -159,8 +159,8 @@ fn placed(
     limit: u64,
 ) -> Result<String, AllocError> {
     let limit = HEAD_BYTES.wrapping_add(limit);
-    let longest = gap(root, extra, limit);
-    match place(root, extra, bytes, limit) {
+    let longest = greatest_gap(root, extra, limit);
+    match first_gap(root, extra, bytes, limit) {
         Some(place) => format!(in alloc; "{} {longest}", place.wrapping_sub(HEAD_BYTES)),
         None => format!(in alloc; "none {longest}"),
     }
@@ -211,8 +211,8 @@ pub(crate) fn bytes_are_placed_in_the_first_gap(
     }
     // A limit inside the head.
     let root = root_with(NONE, &[]);
-    assert_eq!(rt; place(&root, &[], 0, 2_105_343), None);
-    assert_eq!(rt; gap(&root, &[], 2_105_343), 0);
+    assert_eq!(rt; first_gap(&root, &[], 0, 2_105_343), None);
+    assert_eq!(rt; greatest_gap(&root, &[], 2_105_343), 0);
     Ok(())
 }
 

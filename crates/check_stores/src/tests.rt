@@ -7,7 +7,7 @@ ghost use Rattle.alta_store.specs.Agreement.{Agrees, CanAdd, is_sound};
 
 use alta_codec::name_ok;
 use alta_disk::{Disk, FuseDisk, MemoryDisk};
-use alta_store::{Names, Store, StoreFault, format};
+use alta_store::{Names, Store, StoreFault, make_index};
 use std::alloc::Global;
 use std::process::Abort;
 use std::test::Fail;
@@ -46,7 +46,7 @@ type Numbers = (u64, u64);
 // The content of a disk that was just formatted.
 pub(crate) fn formatted(alloc: Global) -> Result<Vec<u8>, Fail> {
     let mut disk = MemoryDisk::new(alloc, Vec::new(alloc), LIMIT, Vec::new(alloc));
-    format(&mut disk).or(Err("the disk failed"))?;
+    make_index(&mut disk).or(Err("the disk failed"))?;
     Ok(disk.image(alloc, 0)?)
 }
 

@@ -6,10 +6,10 @@ A module is written CRATE.FILE. All names are those of before the moves.
 MACHINE = "alta_machine"
 
 # Crates that become others. alta_meta and alta_range become one.
-CRATES = {"alta_meta": MACHINE, "alta_range": MACHINE, "alta_images": "alta_meaning"}
+CRATES = {"alta_meta": MACHINE, "alta_range": MACHINE, "alta_images": "alta_meaning", "alta_rows": "alta_content", "alta_summary": "alta_postings", "alta_deletions": "alta_catalog"}
 
 # Those of which the register of docs/ARCHITECTURE.md has a row too many then, and the rows that change.
-FOLDED = ("alta_range",)
+FOLDED = ("alta_range", "alta_rows", "alta_summary", "alta_deletions")
 ROWS = {
     "alta_meta": f"| {MACHINE} | the abstract machine: documents as lists of cells, queries and what they match, commands, replies; ranges of numbers | memory |",
 }

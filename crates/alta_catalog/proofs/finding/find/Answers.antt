@@ -1,7 +1,7 @@
 use Rattle.std.proofs.Common.{◌++◌, sym, arith}
 use Rattle.std.proofs.lemmas.List.Elements.{Contains-append_left}
 use Rattle.std.proofs.lemmas.Option.{get_or_from_slice_get}
-use Rattle.alta_images.specs.Opened.{table_rows}
+use Rattle.alta_meaning.specs.Opened.{table_rows}
 use Rattle.alta_catalog.specs.Finding.{AreOther}
 use Rattle.alta_catalog.proofs.FindingLaws.{found_at, if_none, if_some, none_at, others_both}
 use Rattle.alta_catalog.proofs.finding.find.Goals as goal

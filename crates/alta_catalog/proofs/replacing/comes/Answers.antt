@@ -1,5 +1,5 @@
 use Rattle.std.proofs.Common.{◌++◌}
-use Rattle.alta_images.specs.Opened.{table_rows}
+use Rattle.alta_meaning.specs.Opened.{table_rows}
 use Rattle.alta_catalog.proofs.ComingLaws.{rise_behind, rise_front}
 use Rattle.alta_catalog.proofs.replacing.comes.Goals as goal
 

@@ -1,5 +1,5 @@
 use Rattle.std.proofs.Common.{◌≡◌, false, take}
-use Rattle.alta_images.specs.Opened.{table_rows}
+use Rattle.alta_meaning.specs.Opened.{table_rows}
 use Rattle.alta_catalog.specs.Replacing.{is_end}
 use Rattle.alta_catalog.proofs.replacing.ends_in_level.Given as goal
 

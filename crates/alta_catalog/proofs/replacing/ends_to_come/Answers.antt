@@ -2,7 +2,7 @@ use Rattle.std.proofs.Common.{◌++◌, ◌∙◌, ap, subst, sym, take_all}
 use Rattle.std.specs.List.{filter}
 use Rattle.alta_codec.specs.Rising.{IsRising}
 use Rattle.alta_content.proofs.Rises.{filter-rises}
-use Rattle.alta_images.specs.Opened.{table_rows}
+use Rattle.alta_meaning.specs.Opened.{table_rows}
 use Rattle.alta_catalog.specs.Replacing.{is_end}
 use Rattle.alta_catalog.proofs.ComingLaws.{ends_coming}
 use Rattle.alta_catalog.proofs.replacing.ends_to_come.Goals as goal

@@ -1,6 +1,6 @@
 use Rattle.std.proofs.Common.{◌≡◌, ◌<◌, arith, false, refl, rules}
 use Rattle.std.proofs.lemmas.Bool.{false≢true}
-use Rattle.alta_images.specs.States.{has_name}
+use Rattle.alta_machine.specs.Changes.{has_name}
 use Rattle.alta_catalog.proofs.replaying.add.Goals as goal
 
 pub returns-then-not-has_room-clause-refused : goal.returns-then-not-has_room-clause-refused

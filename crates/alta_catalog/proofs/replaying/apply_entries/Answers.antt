@@ -1,6 +1,6 @@
 use Rattle.std.proofs.Common.{◌<◌, ◌++◌, List, refl, sym, subst, ◌∙◌, take_all, arith}
 use Rattle.std.proofs.lemmas.List.{append-nil}
-use Rattle.alta_images.specs.Entries.{AllowsAll, after_entries, entries_in}
+use Rattle.alta_meaning.specs.Entries.{AllowsAll, after_entries, entries_in}
 use Rattle.alta_catalog.specs.Knowing.{Follows, KnowsBy}
 use Rattle.alta_journal.specs.declared.placed.Placed.{Placed}
 use Rattle.alta_catalog.proofs.EntryLaws.{applied_step, follows_step, refused_step, same_place}

@@ -1,6 +1,6 @@
 use Rattle.std.proofs.Common.{◌≡◌, ◌++◌, List, take}
-use Rattle.alta_meta.specs.declared.document.State.{State}
-use Rattle.alta_images.specs.Entries.{AllowsAll, after_entries, entries_in}
+use Rattle.alta_machine.specs.declared.document.State.{State}
+use Rattle.alta_meaning.specs.Entries.{AllowsAll, after_entries, entries_in}
 use Rattle.alta_journal.specs.declared.entry.Entry.{Entry}
 use Rattle.alta_root.specs.declared.root.Root.{Root}
 use Rattle.alta_catalog.specs.Knowing.{Follows, Knows, KnowsBy, levels_of}

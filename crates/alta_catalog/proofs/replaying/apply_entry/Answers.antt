@@ -1,11 +1,11 @@
 use Rattle.std.proofs.Common.{◌≡◌, ◌++◌, ◌∷◌, [], List, ℕ, Bool, true, ap, subst, sym, ◌∙◌, Result, Ok, Err}
 use Rattle.std.specs.Prelude.{IfOk}
-use Rattle.alta_images.specs.Entries.{Allows, after_entry}
+use Rattle.alta_meaning.specs.Entries.{Allows, after_entry}
 use Rattle.alta_journal.specs.declared.entry.Entry.{Entry}
 use Rattle.alta_journal.specs.declared.entry.Entry.TheVariants.{Add, Replace}
 use Rattle.alta_content.specs.Rows.{ends_among}
 use Rattle.alta_content.specs.declared.document.DocRow.{DocRow}
-use Rattle.alta_meta.specs.declared.build.MetaFault.{MetaFault}
+use Rattle.alta_machine.specs.declared.build.MetaFault.{MetaFault}
 use Rattle.alta_catalog.specs.Knowing.{Follows, KnowsBy, gone_of}
 use Rattle.alta_catalog.specs.declared.catalog.Catalog.{Catalog}
 use Rattle.alta_catalog.proofs.replaying.apply_entry.Goals as goal

@@ -1,9 +1,9 @@
 use Rattle.std.proofs.Common.{◌≡◌, ◌<◌, ℕ, List, true, refl, sym, subst, ◌∙◌, arith}
 use Rattle.std.proofs.lemmas.Bool.{false≢true}
-use Rattle.alta_images.proofs.KeptStates.{by_number}
-use Rattle.alta_images.proofs.OrderLaws.{is_state}
-use Rattle.alta_images.proofs.StateLaws.{named_free}
-use Rattle.alta_images.specs.States.{has_named, without}
+use Rattle.alta_meaning.proofs.KeptStates.{by_number}
+use Rattle.alta_meaning.proofs.OrderLaws.{is_state}
+use Rattle.alta_meaning.proofs.StateLaws.{named_free}
+use Rattle.alta_machine.specs.Changes.{has_named, without}
 use Rattle.alta_content.specs.Rows.{ends_among}
 use Rattle.alta_catalog.proofs.FollowLaws.{follows_replaced}
 use Rattle.alta_catalog.proofs.replaying.replace.Goals as goal

@@ -1,6 +1,6 @@
 use Rattle.std.proofs.Common.{◌≡◌, map, take}
 use Rattle.alta_catalog.specs.Knowing.{documents_of}
-use Rattle.alta_rows.specs.All.{shared_rows}
+use Rattle.alta_content.specs.All.{shared_rows}
 use Rattle.alta_catalog.proofs.sharing.share_rows.Given as goal
 
 abbrev pub invariant-loop-level : goal.invariant-loop-level

@@ -1,5 +1,5 @@
 use Rattle.std.proofs.Common.{◌≡◌, ◌++◌, map}
-use Rattle.alta_rows.specs.All.{rows_of_levels, shared_rows}
+use Rattle.alta_content.specs.All.{rows_of_levels, shared_rows}
 use Rattle.alta_catalog.proofs.sharing.with_runs.Given as goal
 
 abbrev pub invariant-loop-run : goal.invariant-loop-run

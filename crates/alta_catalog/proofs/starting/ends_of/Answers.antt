@@ -1,5 +1,5 @@
 use Rattle.std.proofs.Common.{◌∙◌, ap, refl}
-use Rattle.alta_deletions.specs.Ends.{with_end}
+use Rattle.alta_catalog.specs.Ends.{with_end}
 use Rattle.alta_catalog.proofs.RisingLaws.{end_next}
 use Rattle.alta_catalog.proofs.starting.ends_of.Goals as goal
 

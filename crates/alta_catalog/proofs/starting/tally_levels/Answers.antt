@@ -1,7 +1,7 @@
 use Rattle.std.proofs.Common.{◌++◌, List, ap, arith, subst, sym, take}
 use Rattle.alta_content.specs.Rows.{AreDocuments}
 use Rattle.alta_content.specs.declared.document.DocRow.{DocRow}
-use Rattle.alta_images.specs.Opened.{table_rows}
+use Rattle.alta_meaning.specs.Opened.{table_rows}
 use Rattle.alta_catalog.specs.Counting.{IsTally, cells_in}
 use Rattle.alta_catalog.proofs.FindingLaws.{rows_taken}
 use Rattle.alta_catalog.proofs.TallyLaws.{level_cells, tally_level}

@@ -1,5 +1,5 @@
 use Rattle.std.proofs.Common.{◌+◌, ◌≤◌, drop, take}
-use Rattle.alta_images.specs.Opened.{table_rows}
+use Rattle.alta_meaning.specs.Opened.{table_rows}
 use Rattle.alta_catalog.specs.Counting.{IsTally, cells_in}
 use Rattle.alta_catalog.proofs.starting.tally_levels.Given as goal
 

@@ -1,7 +1,7 @@
 use Rattle.std.proofs.Common.{◌≡◌, ◌+◌, drop, map, sym, ap, subst, ◌∙◌}
-use Rattle.alta_query.specs.Shape.{shapes_of}
+use Rattle.alta_machine.specs.Shape.{shapes_of}
 use Rattle.alta_query.specs.View.{shape}
-use Rattle.alta_compile.specs.PlanOf.{plans_of, others_of}
+use Rattle.alta_machine.specs.PlanOf.{plans_of, others_of}
 use Rattle.alta_compile.proofs.Gathered.{each_step, each_end, other_step, atom_step, others_end, trees_then}
 use Rattle.alta_compile.specs.View.{tree}
 use Rattle.alta_compile.proofs.compiling.+compiling.Goals.{plan_others-then-not-is_one_atom+in_ok-other+in_ok-push, plan_others-else-not-is_one_atom}

@@ -1,7 +1,7 @@
 use Rattle.std.proofs.Common.{◌≡◌, drop, map}
-use Rattle.alta_query.specs.Shape.{shapes_of}
+use Rattle.alta_machine.specs.Shape.{shapes_of}
 use Rattle.alta_query.specs.View.{shape}
-use Rattle.alta_compile.specs.PlanOf.{plans_of, others_of}
+use Rattle.alta_machine.specs.PlanOf.{plans_of, others_of}
 use Rattle.alta_compile.specs.View.{tree}
 use Rattle.alta_compile.proofs.Gathered.{trees_then}
 use Rattle.alta_compile.proofs.compiling.+compiling.Given as goal

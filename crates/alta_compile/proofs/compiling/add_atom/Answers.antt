@@ -1,6 +1,6 @@
 use Rattle.std.proofs.Common.{◌≡◌, ℕ, Option, refl, subst}
 use Rattle.std.specs.Prelude.{MatchOption, OnOk}
-use Rattle.alta_query.specs.Patterns.{pattern_of}
+use Rattle.alta_machine.specs.Patterns.{pattern_of}
 use Rattle.alta_query.specs.View.{atom_view}
 use Rattle.alta_compile.specs.Drafted.{IsAdded}
 use Rattle.alta_compile.proofs.compiling.add_atom.Goals as goal

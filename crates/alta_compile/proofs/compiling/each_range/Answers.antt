@@ -1,5 +1,5 @@
 use Rattle.std.proofs.Common.{ap, ◌∙◌}
-use Rattle.alta_compile.specs.Tree.{found}
+use Rattle.alta_machine.specs.Plans.{found}
 use Rattle.alta_compile.proofs.Ranges.{range_more, ranges_done}
 use Rattle.alta_compile.proofs.compiling.each_range.Goals as goal
 

@@ -1,5 +1,5 @@
 use Rattle.std.proofs.Common.{◌≡◌, ◌++◌, drop, map}
-use Rattle.alta_compile.specs.PlanOf.{range_plan}
+use Rattle.alta_machine.specs.PlanOf.{range_plan}
 use Rattle.alta_compile.specs.View.{tree}
 use Rattle.alta_compile.proofs.compiling.each_range.Given as goal
 

@@ -1,8 +1,8 @@
 use Rattle.std.proofs.Common.{map, sym}
-use Rattle.alta_query.specs.Shape.{shapes_of}
+use Rattle.alta_machine.specs.Shape.{shapes_of}
 use Rattle.alta_query.specs.View.{shape}
-use Rattle.alta_compile.specs.Joined.{joint_pattern}
-use Rattle.alta_compile.specs.PlanOf.{atoms_in}
+use Rattle.alta_machine.specs.Joined.{joint_pattern}
+use Rattle.alta_machine.specs.PlanOf.{atoms_in}
 use Rattle.alta_compile.proofs.Gathered.{gathered_start, gathered_step, gathered_end}
 use Rattle.alta_compile.proofs.compiling.gather.Goals as goal
 

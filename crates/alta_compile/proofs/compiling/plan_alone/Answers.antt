@@ -1,8 +1,8 @@
 use Rattle.std.proofs.Common.{◌≡◌, ℕ, Option, subst}
 use Rattle.std.specs.Prelude.{IfOk}
-use Rattle.alta_query.specs.Patterns.{pattern_of}
+use Rattle.alta_machine.specs.Patterns.{pattern_of}
 use Rattle.alta_query.specs.View.{atom_view}
-use Rattle.alta_compile.specs.PlanOf.{atom_plan}
+use Rattle.alta_machine.specs.PlanOf.{atom_plan}
 use Rattle.alta_compile.specs.View.{tree}
 use Rattle.alta_compile.proofs.compiling.plan_alone.Goals as goal
 

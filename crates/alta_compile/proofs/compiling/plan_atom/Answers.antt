@@ -1,4 +1,4 @@
-use Rattle.alta_query.specs.Patterns.{pattern_of}
+use Rattle.alta_machine.specs.Patterns.{pattern_of}
 use Rattle.alta_query.specs.View.{atom_view}
 use Rattle.alta_compile.proofs.Gathered.{draft_first, draft_named}
 use Rattle.alta_compile.proofs.Joins.{pattern_named}

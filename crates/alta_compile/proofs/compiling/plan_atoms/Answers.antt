@@ -1,8 +1,8 @@
 use Rattle.std.proofs.Common.{map}
-use Rattle.alta_query.specs.Shape.{shapes_of}
+use Rattle.alta_machine.specs.Shape.{shapes_of}
 use Rattle.alta_query.specs.View.{shape}
-use Rattle.alta_compile.specs.Joined.{joint_pattern}
-use Rattle.alta_compile.specs.PlanOf.{atoms_in}
+use Rattle.alta_machine.specs.Joined.{joint_pattern}
+use Rattle.alta_machine.specs.PlanOf.{atoms_in}
 use Rattle.alta_compile.proofs.Gathered.{draft_named}
 use Rattle.alta_compile.proofs.Joins.{joined_named}
 use Rattle.alta_compile.proofs.Meaning.{atoms_named}

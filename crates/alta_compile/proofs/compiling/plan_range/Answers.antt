@@ -1,8 +1,8 @@
 use Rattle.std.proofs.Common.{◌≡◌, ℕ, List, [], ◌∷◌, subst, ◌∙◌}
 use Rattle.std.specs.Prelude.{IfOk}
-use Rattle.alta_query.specs.Patterns.{phrase_pattern}
-use Rattle.alta_query.specs.declared.test.Test.TheVariants.{Is}
-use Rattle.alta_compile.specs.PlanOf.{found_of}
+use Rattle.alta_machine.specs.Patterns.{phrase_pattern}
+use Rattle.alta_machine.specs.declared.test.Test.TheVariants.{Is}
+use Rattle.alta_machine.specs.PlanOf.{found_of}
 use Rattle.alta_compile.proofs.compiling.plan_range.Goals as goal
 
 pub returns : goal.returns

@@ -1,7 +1,7 @@
 use Rattle.std.proofs.Common.{◌≡◌, ◌∷◌, ◌<◌, length, map, arith, sym, ap, ◌∙◌}
 use Rattle.std.proofs.lemmas.List.{length-map}
 use Rattle.alta_query.specs.View.{shape}
-use Rattle.alta_compile.specs.Tree.{all_of, also, trees_of}
+use Rattle.alta_machine.specs.Plans.{all_of, also, trees_of}
 use Rattle.alta_compile.specs.View.{tree}
 use Rattle.alta_compile.proofs.Gathered.{others_alone, atoms_and_others, some_items}
 use Rattle.alta_compile.proofs.compiling.with_atoms.Goals as goal

@@ -1,5 +1,5 @@
 use Rattle.std.proofs.Common.{map, sym, ◌∙◌}
-use Rattle.alta_query.specs.Shape.{shapes_of}
+use Rattle.alta_machine.specs.Shape.{shapes_of}
 use Rattle.alta_query.specs.View.{shape}
 use Rattle.alta_compile.specs.Conjoined.{each_word}
 use Rattle.alta_compile.proofs.Collected.{asking_step, asking_stops, asking_ends}

@@ -1,5 +1,5 @@
 use Rattle.std.proofs.Common.{map, sym, ◌∙◌}
-use Rattle.alta_query.specs.Shape.{shapes_of}
+use Rattle.alta_machine.specs.Shape.{shapes_of}
 use Rattle.alta_query.specs.View.{shape}
 use Rattle.alta_compile.proofs.Collected.{conjoining_step, conjoining_stops, conjoining_ends}
 use Rattle.alta_compile.proofs.conjoining.gather.Goals as goal

@@ -1,5 +1,5 @@
 use Rattle.std.proofs.Common.{drop, map}
-use Rattle.alta_query.specs.Shape.{shapes_of}
+use Rattle.alta_machine.specs.Shape.{shapes_of}
 use Rattle.alta_query.specs.View.{shape}
 use Rattle.alta_compile.proofs.Collected.{IsConjoining}
 use Rattle.alta_compile.proofs.conjoining.gather.Given as goal

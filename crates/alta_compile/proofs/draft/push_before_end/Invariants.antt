@@ -1,5 +1,5 @@
 use Rattle.std.proofs.Common.{◌≡◌, ◌++◌, map}
-use Rattle.alta_query.specs.Patterns.{before_end}
+use Rattle.alta_machine.specs.Patterns.{before_end}
 use Rattle.alta_compile.specs.Drafted.{placed}
 use Rattle.alta_compile.proofs.draft.push_before_end.Given as goal
 

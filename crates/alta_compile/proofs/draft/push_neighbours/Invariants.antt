@@ -1,5 +1,5 @@
 use Rattle.std.proofs.Common.{◌≡◌, ◌++◌, ◌≤◌, ℕ, suc, map, drop}
-use Rattle.alta_query.specs.Patterns.{neighbours}
+use Rattle.alta_machine.specs.Patterns.{neighbours}
 use Rattle.alta_compile.specs.Drafted.{placed}
 use Rattle.alta_compile.proofs.draft.push_neighbours.Given as goal
 

@@ -1,7 +1,7 @@
 use Rattle.std.proofs.Common.{length, map, refl, ◌∙◌}
 use Rattle.std.specs.Prelude.{codes}
-use Rattle.alta_compile.specs.Explained.{deeper, explained, explained_each}
-use Rattle.alta_compile.specs.Tree.{trees_of}
+use Rattle.alta_machine.specs.Explained.{deeper, explained, explained_each}
+use Rattle.alta_machine.specs.Plans.{trees_of}
 use Rattle.alta_compile.specs.View.{tree}
 use Rattle.alta_compile.proofs.Lines.{head_and_parts, more_lines, all_lines, three_pieces, cut_back}
 use Rattle.alta_compile.proofs.explaining.+explaining.Goals as goal

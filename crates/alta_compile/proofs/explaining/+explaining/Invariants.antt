@@ -1,6 +1,6 @@
 use Rattle.std.proofs.Common.{◌≡◌, ◌++◌, drop, map}
-use Rattle.alta_compile.specs.Explained.{explained_each, deeper}
-use Rattle.alta_compile.specs.Tree.{trees_of}
+use Rattle.alta_machine.specs.Explained.{explained_each, deeper}
+use Rattle.alta_machine.specs.Plans.{trees_of}
 use Rattle.alta_compile.specs.View.{tree}
 use Rattle.alta_compile.proofs.explaining.+explaining.Given as goal
 

@@ -1,7 +1,7 @@
 use Rattle.std.proofs.Common.{◌++◌}
 use Rattle.std.specs.Prelude.{codes}
 use Rattle.std.specs.Fmt.{decimal}
-use Rattle.alta_compile.specs.Explained.{low_letter, high_letter, constant}
+use Rattle.alta_machine.specs.Explained.{low_letter, high_letter, constant}
 use Rattle.alta_compile.proofs.Lines.{two_pieces}
 use Rattle.alta_compile.proofs.explaining.put_bound.Goals as goal
 

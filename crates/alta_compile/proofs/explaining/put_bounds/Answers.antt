@@ -1,6 +1,6 @@
 use Rattle.std.proofs.Common.{◌++◌, refl}
 use Rattle.std.specs.Prelude.{codes}
-use Rattle.alta_compile.specs.Explained.{bound_line, bound_lines, deeper}
+use Rattle.alta_machine.specs.Explained.{bound_line, bound_lines, deeper}
 use Rattle.alta_compile.proofs.Lines.{more_lines, all_lines, three_pieces}
 use Rattle.alta_compile.proofs.explaining.put_bounds.Goals as goal
 

@@ -1,5 +1,5 @@
 use Rattle.std.proofs.Common.{◌≡◌, ◌++◌, drop}
-use Rattle.alta_compile.specs.Explained.{bound_lines, deeper}
+use Rattle.alta_machine.specs.Explained.{bound_lines, deeper}
 use Rattle.alta_compile.proofs.explaining.put_bounds.Given as goal
 
 abbrev pub invariant-loop-bound : goal.invariant-loop-bound

@@ -1,6 +1,6 @@
 use Rattle.std.proofs.Common.{◌++◌, refl}
 use Rattle.std.specs.Prelude.{codes}
-use Rattle.alta_compile.specs.Explained.{test_text, tests_text}
+use Rattle.alta_machine.specs.Explained.{test_text, tests_text}
 use Rattle.alta_compile.proofs.Lines.{more_lines, all_lines, two_pieces}
 use Rattle.alta_compile.proofs.explaining.put_tests.Goals as goal
 

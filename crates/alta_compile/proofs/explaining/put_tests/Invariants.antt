@@ -1,5 +1,5 @@
 use Rattle.std.proofs.Common.{◌≡◌, ◌++◌, drop}
-use Rattle.alta_compile.specs.Explained.{tests_text}
+use Rattle.alta_machine.specs.Explained.{tests_text}
 use Rattle.alta_compile.proofs.explaining.put_tests.Given as goal
 
 abbrev pub invariant-loop-test : goal.invariant-loop-test

@@ -1,6 +1,6 @@
 use Rattle.std.proofs.Common.{sym, subst}
-use Rattle.alta_query.specs.Matches.{Matches}
-use Rattle.alta_query.specs.Shape.{value, lone, atom}
+use Rattle.alta_machine.specs.Matches.{Matches}
+use Rattle.alta_machine.specs.Shape.{value, lone, atom}
 use Rattle.alta_query.proofs.ValueLaws.{finds_numbers}
 use Rattle.alta_compile.proofs.Meaning.{plan_matches}
 use Rattle.alta_compile.proofs.Spaces.{has_contains}

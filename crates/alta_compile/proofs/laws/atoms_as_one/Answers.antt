@@ -1,6 +1,6 @@
 use Rattle.alta_compile.proofs.Meaning.{atoms_law, each_named}
 use Rattle.std.proofs.Common.{map}
-use Rattle.alta_query.specs.Patterns.{pattern_of}
+use Rattle.alta_machine.specs.Patterns.{pattern_of}
 use Rattle.alta_compile.proofs.Spaces.{has_contains}
 use Rattle.alta_compile.proofs.laws.atoms_as_one.Goals as goal
 

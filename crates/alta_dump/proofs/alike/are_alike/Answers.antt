@@ -1,6 +1,6 @@
 use Rattle.std.proofs.Common.{◌≡◌, ◌<◌, List, ℕ, [], true, false, length, get_or, subst, arith}
-use Rattle.alta_dump.specs.Lines.{is_alike, are_alike}
-use Rattle.alta_dump.specs.Plain.{ends_title}
+use Rattle.alta_machine.specs.DumpLines.{is_alike, are_alike}
+use Rattle.alta_machine.specs.Plain.{ends_title}
 use Rattle.alta_dump.specs.Seen.{is_held, terms_of}
 use Rattle.alta_dump.proofs.Cellwise.{folded_long, not_as_many, folded_at, same_at, last_is, alike_next, alike_none}
 use Rattle.alta_dump.proofs.alike.are_alike.Goals as goal

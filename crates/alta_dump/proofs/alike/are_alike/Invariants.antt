@@ -1,6 +1,6 @@
 use Rattle.std.proofs.Common.{◌≡◌, ℕ, List, drop, true}
 use Rattle.std.specs.List.{list_all}
-use Rattle.alta_dump.specs.Lines.{are_alike}
+use Rattle.alta_machine.specs.DumpLines.{are_alike}
 use Rattle.alta_dump.specs.Seen.{AreSeen, is_word, terms_of}
 use Rattle.alta_dump.proofs.alike.are_alike.Given as goal
 

@@ -1,12 +1,12 @@
 use Rattle.std.proofs.Common.{ℕ, List, get_or, [], sym, ap, subst, ◌∙◌}
 use Rattle.std.specs.Prelude.{not}
-use Rattle.alta_dump.specs.Lines.{are_same}
-use Rattle.alta_dump.specs.Plain.{of_kind}
+use Rattle.alta_machine.specs.DumpLines.{are_same}
+use Rattle.alta_machine.specs.Plain.{of_kind}
 use Rattle.alta_dump.specs.Seen.{AreFoldings, terms_of}
 use Rattle.alta_dump.proofs.Folds.{none_folded, one_folded, two_folded}
 use Rattle.alta_gather.specs.declared.held.Held.{Held}
-use Rattle.alta_meta.specs.Cells.{cell_holds}
-use Rattle.alta_meta.specs.declared.kinds.TheConstants.{WORD}
+use Rattle.alta_machine.specs.Cells.{cell_holds}
+use Rattle.alta_machine.specs.declared.kinds.TheConstants.{WORD}
 use Rattle.alta_dump.proofs.alike.has_foldings.Goals as goal
 
 pub returns-in-Never : goal.returns-in-Never

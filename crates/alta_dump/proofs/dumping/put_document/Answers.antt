@@ -1,8 +1,8 @@
 use Rattle.std.proofs.Common.{◌≡◌, ◌++◌, cond, Global, List, ℕ, Option, append_assoc, get_or, ap, sym, subst, ◌∙◌, arith}
 use Rattle.std.specs.Prelude.{IfSome, Some, None, String, codes, decimal, is_some, string_bytes}
 use Rattle.std.specs.Option.{option_map}
-use Rattle.alta_dump.specs.Dumps.{line_or_skipped}
-use Rattle.alta_dump.specs.Lines.{line_of}
+use Rattle.alta_machine.specs.Dumps.{line_or_skipped}
+use Rattle.alta_machine.specs.DumpLines.{line_of}
 use Rattle.alta_dump.proofs.Lining.{behind_five, first_byte, kept_first}
 use Rattle.alta_dump.proofs.dumping.put_document.Goals as goal
 

@@ -4,7 +4,7 @@ use Rattle.std.proofs.lemmas.List.{length-map, take_all}
 use Rattle.alta_memlevel.specs.Added.{Added}
 use Rattle.alta_memlevel.specs.Documents.{document_in}
 use Rattle.alta_search.specs.Told.{no_row, rows_at}
-use Rattle.alta_dump.specs.Dumps.{count_lines, lines_for}
+use Rattle.alta_machine.specs.Dumps.{count_lines, lines_for}
 use Rattle.alta_dump.specs.Seen.{terms_of}
 use Rattle.alta_dump.specs.Shown.{row_in}
 use Rattle.alta_dump.proofs.Lining.{cut_within, lines_next, same_cut}

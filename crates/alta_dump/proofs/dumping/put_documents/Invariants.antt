@@ -5,7 +5,7 @@ use Rattle.alta_gather.specs.declared.held.Held.{Held}
 use Rattle.alta_memlevel.specs.Added.{Added}
 use Rattle.alta_memlevel.specs.Documents.{document_in}
 use Rattle.alta_search.specs.Told.{rows_at}
-use Rattle.alta_dump.specs.Dumps.{count_lines, lines_for}
+use Rattle.alta_machine.specs.Dumps.{count_lines, lines_for}
 use Rattle.alta_dump.specs.Seen.{IsRowSeen, terms_of}
 use Rattle.alta_dump.specs.Shown.{places_of, row_in}
 use Rattle.alta_dump.proofs.dumping.put_documents.Given as goal

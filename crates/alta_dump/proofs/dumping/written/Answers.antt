@@ -1,7 +1,7 @@
 use Rattle.std.proofs.Common.{◌++◌, ℕ, List, map, get_or, ap, sym, ◌∙◌, arith}
 use Rattle.std.specs.Prelude.{codes, decimal, string_bytes}
 use Rattle.alta_memlevel.specs.Documents.{document_in}
-use Rattle.alta_dump.specs.Dumps.{dumped, lines_for}
+use Rattle.alta_machine.specs.Dumps.{dumped, lines_for}
 use Rattle.alta_dump.proofs.Lining.{behind_three, kept_first, no_refusal}
 use Rattle.alta_dump.proofs.dumping.written.Goals as goal
 

@@ -6,7 +6,7 @@ use Rattle.alta_codec.specs.Rising.{IsPlace, IsRising, first_from}
 use Rattle.alta_codec.specs.declared.location.TheConstants.{TOP}
 use Rattle.alta_content.specs.Rows.{ends_of}
 use Rattle.alta_content.specs.declared.document.DocRow.{DocRow}
-use Rattle.alta_rows.specs.All.{IsPast}
+use Rattle.alta_content.specs.All.{IsPast}
 use Rattle.alta_search.specs.Answers.{answers_in}
 use Rattle.alta_search.specs.Told.{rows_at}
 use Rattle.alta_search.specs.Words.{term_list, term_place}

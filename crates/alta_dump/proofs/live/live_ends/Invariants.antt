@@ -1,6 +1,6 @@
 use Rattle.std.proofs.Common.{◌≡◌, ◌+◌, ◌<◌, ◌≤◌, ◌++◌, length}
 use Rattle.std.specs.List.{All}
-use Rattle.alta_rows.specs.All.{IsPast}
+use Rattle.alta_content.specs.All.{IsPast}
 use Rattle.alta_search.specs.Answers.{answers_in}
 use Rattle.alta_search.specs.Told.{rows_at}
 use Rattle.alta_search.specs.Words.{IsSoundTerm, term_left, term_list, term_place}

@@ -3,8 +3,8 @@ use Rattle.std.specs.Prelude.{Some}
 use Rattle.std.proofs.lemmas.Bool.{ltb-false, ltb-true}
 use Rattle.alta_codec.specs.Name.{IsName}
 use Rattle.alta_codec.specs.Bytes.{has_byte}
-use Rattle.alta_dump.specs.Lines.{add_line, are_alike, cells_again}
-use Rattle.alta_model.specs.declared.line.TheConstants.{LINE_LIMIT}
+use Rattle.alta_machine.specs.DumpLines.{add_line, are_alike, cells_again}
+use Rattle.alta_machine.specs.declared.line.TheConstants.{LINE_LIMIT}
 use Rattle.alta_dump.specs.Seen.{terms_of}
 use Rattle.alta_dump.proofs.Rebuilt.{again_is, fine_words, line_is, line_short, none_alike, none_long, none_tab, some_line}
 use Rattle.alta_dump.proofs.rebuilding.line_with.Goals as goal

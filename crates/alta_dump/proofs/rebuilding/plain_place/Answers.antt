@@ -1,6 +1,6 @@
 use Rattle.std.proofs.Common.{◌≡◌, ℕ, List, true, false, Option, map, sym, subst, arith}
 use Rattle.std.specs.Prelude.{MatchOption, count_by}
-use Rattle.alta_dump.specs.Plain.{is_plain, ends_title}
+use Rattle.alta_machine.specs.Plain.{is_plain, ends_title}
 use Rattle.alta_dump.specs.Seen.{AreFolded, IsTitlePlace, is_held, terms_of}
 use Rattle.alta_dump.proofs.Rebuilt.{IsLaidOut, unseen_words, unseen_count, unseen_place, unseen_first, unseen_last, seen_plain}
 use Rattle.alta_gather.specs.declared.held.Held.{Held}

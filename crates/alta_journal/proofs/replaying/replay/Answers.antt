@@ -1,9 +1,9 @@
 use Rattle.std.proofs.Common.{◌≡◌, ℕ, ◌∙◌}
 use Rattle.std.proofs.lemmas.Result.{MatchResult-weaker}
-use Rattle.alta_journal.specs.OpenFault.{IsNoDamage}
+use Rattle.alta_disk.specs.Answers.{IsNoDamage}
 use Rattle.alta_journal.specs.Placed.{placed}
 use Rattle.alta_journal.specs.Places.{start_of, half_at}
-use Rattle.alta_journal.specs.declared.replaying.OpenFault.TheVariants.{Damaged}
+use Rattle.alta_disk.specs.declared.fault.LoadFault.TheVariants.{Damaged}
 use Rattle.alta_journal.proofs.ReadingSteps.{broken_half, replay_is, same_replay, no_damage, match_both}
 use Rattle.alta_journal.proofs.Unique.{one_fault, not_both}
 use Rattle.alta_journal.proofs.replaying.replay.Goals as goal

@@ -4,7 +4,7 @@ use Rattle.std.proofs.lemmas.List.Elements.{All-nil}
 use Rattle.alta_codec.specs.Rising.{pred_of, count_from}
 use Rattle.alta_compound.specs.Union.{union_of}
 use Rattle.alta_docread.specs.Tree.{IsAhead}
-use Rattle.alta_lead.specs.AnyLaws.{with_any-rises}
+use Rattle.alta_lead.proofs.AnyLaws.{with_any-rises}
 use Rattle.alta_lead.specs.Having.{ends_with_any}
 use Rattle.alta_lead.specs.Moves.{AreAhead}
 use Rattle.alta_lead.proofs.AnyOf.{from_first, begins_first}

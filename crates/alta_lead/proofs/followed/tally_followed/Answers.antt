@@ -5,7 +5,7 @@ use Rattle.std.proofs.lemmas.List.Elements.{All-nil}
 use Rattle.alta_codec.specs.Rising.{pred_of, count_from}
 use Rattle.alta_docread.specs.Tree.{IsAhead}
 use Rattle.alta_lead.specs.Followed.{ends_followed}
-use Rattle.alta_lead.specs.FollowedLaws.{followed-rises}
+use Rattle.alta_lead.proofs.FollowedLaws.{followed-rises}
 use Rattle.alta_lead.specs.Moves.{AreAhead}
 use Rattle.alta_lead.proofs.AnyOf.{from_first, begins_first}
 use Rattle.alta_lead.proofs.Counting.{live_fits}

@@ -1,6 +1,6 @@
 use Rattle.std.proofs.Common.{ℕ, List, ◌++◌, subst, sym, ap, ◌∙◌, append-nil, arith}
-use Rattle.alta_summary.specs.declared.summary.Row.{Row}
-use Rattle.alta_summary.specs.Table.{AreRows}
+use Rattle.alta_postings.specs.declared.summary.Row.{Row}
+use Rattle.alta_postings.specs.Table.{AreRows}
 use Rattle.alta_level.proofs.Coded.{blocks_rise, built_summary, short_summary}
 use Rattle.alta_level.proofs.Streams.{behind_are_bytes}
 use Rattle.alta_level.proofs.writing.put_summary.Goals as goal

@@ -1,5 +1,5 @@
 use Rattle.std.proofs.Common.{subst}
-use Rattle.alta_images.specs.Broken.{IsBrokenIn}
+use Rattle.alta_meaning.specs.Broken.{IsBrokenIn}
 use Rattle.alta_level.specs.Stored.{IsListFault, Stored}
 use Rattle.alta_loading.proofs.Faults.{damaged_goes}
 use Rattle.alta_loading.proofs.Places.{fault_of_level}

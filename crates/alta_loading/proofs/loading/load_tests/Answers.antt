@@ -4,7 +4,7 @@ use Rattle.alta_loading.proofs.Runs.{tells_fault, tells_value}
 use Rattle.alta_loading.proofs.TestRuns.{tests_cost, tests_ended, tests_on}
 use Rattle.alta_loading.specs.Loads.{Tells}
 use Rattle.alta_loading.specs.Met.{loads_met, loads_of_tests}
-use Rattle.alta_query.specs.declared.test.Test.{Test}
+use Rattle.alta_machine.specs.declared.test.Test.{Test}
 use Rattle.alta_search.proofs.Loads.{front-all, front-more}
 use Rattle.alta_search.specs.Lists.{test_in, test_keys, test_lists}
 use Rattle.alta_search.specs.declared.lists.TestLists.{TestLists}

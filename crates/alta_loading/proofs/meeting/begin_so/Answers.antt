@@ -3,7 +3,7 @@ use Rattle.alta_content.specs.Joining.{in_order}
 use Rattle.alta_content.specs.Lists.{terms_of}
 use Rattle.alta_loading.specs.Met.{level_terms}
 use Rattle.alta_loading.proofs.TermSets.{gathered_met}
-use Rattle.alta_query.specs.declared.test.Test.TheVariants.{Begins}
+use Rattle.alta_machine.specs.declared.test.Test.TheVariants.{Begins}
 use Rattle.alta_search.specs.Newest.{term_meets}
 use Rattle.alta_loading.proofs.meeting.begin_so.Goals as goal
 

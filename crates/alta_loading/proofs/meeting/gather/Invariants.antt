@@ -2,7 +2,7 @@ use Rattle.std.proofs.Common.{◌≡◌, ◌++◌, take, flat_map}
 use Rattle.std.specs.List.{filter}
 use Rattle.alta_content.specs.Lists.{terms_of}
 use Rattle.alta_loading.specs.Met.{level_terms_met}
-use Rattle.alta_query.specs.declared.test.Test.TheVariants.{Begins}
+use Rattle.alta_machine.specs.declared.test.Test.TheVariants.{Begins}
 use Rattle.alta_search.specs.Newest.{term_meets}
 use Rattle.alta_loading.proofs.meeting.gather.Given as goal
 

@@ -1,9 +1,9 @@
 use Rattle.std.proofs.Common.{◌≡◌, ℕ, true, List, [], ◌∷◌, ◌++◌, nat_eq, sym, ap, subst, ◌∙◌, arith, append-nil, append_assoc}
 use Rattle.std.specs.List.{starts_with}
-use Rattle.alta_images.proofs.Tests.{by_test}
+use Rattle.alta_meaning.proofs.Tests.{by_test}
 use Rattle.alta_loading.specs.Met.{level_terms}
 use Rattle.alta_loading.proofs.PrefixRows.{none_before, none_behind, row_more}
-use Rattle.alta_query.specs.declared.test.Test.TheVariants.{Begins}
+use Rattle.alta_machine.specs.declared.test.Test.TheVariants.{Begins}
 use Rattle.alta_search.specs.Newest.{term_meets}
 use Rattle.alta_loading.proofs.meeting.put_prefixed.Goals as goal
 

@@ -1,7 +1,7 @@
 use Rattle.std.proofs.Common.{◌≡◌, ◌++◌, take}
 use Rattle.std.specs.List.{filter}
 use Rattle.alta_loading.specs.Met.{level_terms}
-use Rattle.alta_query.specs.declared.test.Test.TheVariants.{Begins}
+use Rattle.alta_machine.specs.declared.test.Test.TheVariants.{Begins}
 use Rattle.alta_search.specs.Newest.{term_meets}
 use Rattle.alta_loading.proofs.meeting.put_prefixed.Given as goal
 

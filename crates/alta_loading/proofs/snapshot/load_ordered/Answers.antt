@@ -1,9 +1,9 @@
 use Rattle.std.proofs.Common.{◌≡◌, ◌++◌, refl, List, Err, Ok, Vec, Global, map, sym, subst, ap, ◌∙◌}
 use Rattle.std.specs.Prelude.{All, flat_map}
-use Rattle.alta_compile.specs.PlanOf.{plan_of}
+use Rattle.alta_machine.specs.PlanOf.{plan_of}
 use Rattle.alta_disk.specs.Calls.{Reads}
-use Rattle.alta_images.specs.Levels.{documents_of}
-use Rattle.alta_images.specs.Ordered.{RowsPrecede}
+use Rattle.alta_meaning.specs.Levels.{documents_of}
+use Rattle.alta_meaning.specs.Ordered.{RowsPrecede}
 use Rattle.alta_loading.specs.Loads.{IsWhole, Tells, load_sizes}
 use Rattle.alta_loading.specs.Met.{each_once, keys_met, loads_of_tests, lists_met}
 use Rattle.alta_loading.specs.Snapshots.{all_rows, loaded_view}
@@ -11,8 +11,8 @@ use Rattle.alta_loading.proofs.Cuts.{all_keyed, all_meet}
 use Rattle.alta_loading.proofs.Loaded.{once_loaded, tests_whole, view_is}
 use Rattle.alta_loading.proofs.Runs.{tells_fault, tells_value}
 use Rattle.alta_loading.proofs.TestedEnds.{mark_right}
-use Rattle.alta_model.specs.Deciding.{answers}
-use Rattle.alta_query.specs.declared.test.Test.{Test}
+use Rattle.alta_machine.specs.Deciding.{answers}
+use Rattle.alta_machine.specs.declared.test.Test.{Test}
 use Rattle.alta_search.specs.Documents.{AreToCome}
 use Rattle.alta_search.specs.Lists.{AreKeys}
 use Rattle.alta_search.specs.Order.{used}

@@ -1,13 +1,13 @@
 use Rattle.std.proofs.Common.{◌≡◌, ◌++◌, List, sym, subst}
 use Rattle.std.specs.Prelude.{IfOk, flat_map}
-use Rattle.alta_compile.specs.Tree.{Tree}
+use Rattle.alta_machine.specs.Plans.{Tree}
 use Rattle.alta_disk.specs.Calls.{Reads}
-use Rattle.alta_images.specs.Levels.{documents_of}
+use Rattle.alta_meaning.specs.Levels.{documents_of}
 use Rattle.alta_loading.specs.Loads.{Tells, load_sizes}
 use Rattle.alta_loading.specs.Met.{each_once, loads_of_tests}
 use Rattle.alta_loading.specs.Snapshots.{loaded_view}
-use Rattle.alta_model.specs.Deciding.{answers}
-use Rattle.alta_query.specs.declared.test.Test.{Test}
+use Rattle.alta_machine.specs.Deciding.{answers}
+use Rattle.alta_machine.specs.declared.test.Test.{Test}
 use Rattle.alta_search.specs.Documents.{AreToCome}
 use Rattle.std.proofs.lemmas.Result.{IfOk-weaker}
 use Rattle.alta_loading.proofs.snapshot.load_snapshot.Goals as goal

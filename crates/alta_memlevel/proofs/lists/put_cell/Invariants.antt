@@ -1,5 +1,5 @@
 use Rattle.std.proofs.Common.{◌≡◌, ℕ, List, [], ◌∷◌, ◌++◌, cond, take}
-use Rattle.alta_meta.specs.Cells.{cell_holds}
+use Rattle.alta_machine.specs.Cells.{cell_holds}
 use Rattle.alta_memlevel.specs.Lists.{list_in, IsIndex}
 use Rattle.alta_memlevel.proofs.lists.put_cell.Given as goal
 

@@ -1,6 +1,6 @@
 use Rattle.std.proofs.Common.{◌≡◌, ◌++◌, ◌∷◌, [], ◌+◌, take, cond, get_or, sym, ap, subst, ◌∙◌, append_assoc, arith}
 use Rattle.std.proofs.lemmas.List.{get_or_default}
-use Rattle.alta_meta.specs.Cells.{cell_holds}
+use Rattle.alta_machine.specs.Cells.{cell_holds}
 use Rattle.alta_memlevel.specs.Added.{places_of}
 use Rattle.alta_memlevel.specs.Lists.{list_in}
 use Rattle.alta_memlevel.proofs.Keyed.{places_of-more}

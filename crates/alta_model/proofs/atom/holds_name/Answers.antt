@@ -1,5 +1,5 @@
 use Rattle.std.proofs.Common.{[], ◌∷◌}
-use Rattle.alta_query.specs.Words.{name_test}
+use Rattle.alta_machine.specs.Words.{name_test}
 use Rattle.alta_model.proofs.Phrases.{phrase_is}
 use Rattle.alta_model.proofs.atom.holds_name.Goals as goal
 

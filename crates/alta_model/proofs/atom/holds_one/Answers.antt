@@ -1,8 +1,8 @@
 use Rattle.std.proofs.Common.{◌≡◌, ⊎_elim, inr, ℕ, ◌+◌, ◌<◌, Bool, false, List, ◌∷◌, length, drop, get_or, map, sym, ap, subst, ◌∙◌, add-one}
 use Rattle.std.specs.Prelude.{◌↔◌, IsTrue}
 use Rattle.std.proofs.Math.Seq.{drop-cons}
-use Rattle.alta_query.specs.Patterns.{Satisfies, SatisfiesOne, range_pattern}
-use Rattle.alta_range.specs.declared.range.Range.{Range}
+use Rattle.alta_machine.specs.Patterns.{Satisfies, SatisfiesOne, range_pattern}
+use Rattle.alta_machine.specs.declared.range.Range.{Range}
 use Rattle.alta_model.proofs.atom.holds_one.Goals as goal
 
 -- a range that the cells do not satisfy changes nothing

@@ -1,7 +1,7 @@
 use Rattle.std.proofs.Common.{ℕ, List, [], ◌∷◌, ap, ◌∙◌}
 use Rattle.alta_model.specs.Phrase.{has_phrase}
-use Rattle.alta_query.specs.Patterns.{range_test}
-use Rattle.alta_query.specs.declared.test.Test.TheVariants.{Is}
+use Rattle.alta_machine.specs.Patterns.{range_test}
+use Rattle.alta_machine.specs.declared.test.Test.TheVariants.{Is}
 use Rattle.alta_model.proofs.Phrases.{phrase_is}
 use Rattle.alta_model.proofs.atom.holds_range.Goals as goal
 

@@ -1,6 +1,6 @@
 use Rattle.std.proofs.Common.{◌-◌, ◌≤◌, length}
 use Rattle.alta_model.specs.Near.{IsLast}
-use Rattle.alta_query.specs.Patterns.{title_end}
+use Rattle.alta_machine.specs.Patterns.{title_end}
 use Rattle.alta_model.proofs.atom.title_place.Given as goal
 
 abbrev pub invariant-loop-i : goal.invariant-loop-i

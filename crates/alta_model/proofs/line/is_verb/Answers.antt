@@ -2,7 +2,7 @@ use Rattle.std.proofs.Common.{◌≡◌, ℕ, Bool, true, false, ◌||◌, List,
 use Rattle.std.specs.List.{list_any}
 use Rattle.std.specs.Str.{bytes_eq}
 use Rattle.std.proofs.lemmas.List.Folds.{list_any-append}
-use Rattle.alta_model.specs.Faults.{is_verb, verbs}
+use Rattle.alta_machine.specs.LineFaults.{is_verb, verbs}
 use Rattle.alta_model.proofs.line.is_verb.Goals as goal
 
 -- whether a word is one of these verbs

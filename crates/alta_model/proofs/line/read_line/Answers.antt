@@ -1,12 +1,12 @@
 use Rattle.std.proofs.Common.{◌≡◌, ◌∙◌, ap, sym, subst, arith}
 use Rattle.std.specs.Prelude.{Some, None, if◌then◌else◌}
-use Rattle.alta_model.specs.Reading.{command_in}
-use Rattle.alta_model.specs.Lines.{refuses}
+use Rattle.alta_machine.specs.Reading.{command_in}
+use Rattle.alta_machine.specs.Lines.{refuses}
 use Rattle.alta_model.specs.Seen.{command_of}
 use Rattle.alta_model.proofs.Counts.{some_inj}
 use Rattle.alta_model.proofs.Law.{reading_reads, reads_reading}
-use Rattle.alta_model.specs.Faults.{is_verb, word_of}
-use Rattle.alta_model.specs.declared.line.LineFault.TheVariants.{Unknown, Bad}
+use Rattle.alta_machine.specs.LineFaults.{is_verb, word_of}
+use Rattle.alta_machine.specs.declared.line.LineFault.TheVariants.{Unknown, Bad}
 use Rattle.alta_model.proofs.Readings.{reading_long, reading_not_utf8, reading_text}
 use Rattle.alta_model.proofs.Refusals.{given, refused, nothing}
 use Rattle.alta_model.proofs.line.read_line.Goals as goal

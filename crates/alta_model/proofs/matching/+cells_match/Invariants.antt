@@ -1,7 +1,7 @@
 use Rattle.std.proofs.Common.{◌≡◌, drop, map}
 use Rattle.std.specs.Prelude.{◌↔◌}
-use Rattle.alta_query.specs.Matches.{Matches, AllMatch, AnyMatches}
-use Rattle.alta_query.specs.Shape.{shapes_of}
+use Rattle.alta_machine.specs.Matches.{Matches, AllMatch, AnyMatches}
+use Rattle.alta_machine.specs.Shape.{shapes_of}
 use Rattle.alta_query.specs.View.{shape}
 use Rattle.alta_model.proofs.matching.+cells_match.Given as goal
 

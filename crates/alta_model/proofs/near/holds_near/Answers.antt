@@ -1,9 +1,8 @@
-use Rattle.std.proofs.Common.{arith, rules, ap, [], sym, ◌∙◌}
+use Rattle.std.proofs.Common.{arith, rules, ap, [], sym, ◌∙◌, subst}
 use Rattle.std.proofs.lemmas.List.{get_or_default}
-use Rattle.alta_query.specs.Patterns.{meets}
+use Rattle.alta_machine.specs.Patterns.{meets}
 use Rattle.alta_model.proofs.Nears.{near_found, none_close}
 use Rattle.alta_model.specs.Near.{AreApart}
-use Rattle.std.proofs.Common.{subst}
 use Rattle.alta_model.proofs.near.holds_near.Goals as goal
 
 pub returns-then-are_close : goal.returns-then-are_close

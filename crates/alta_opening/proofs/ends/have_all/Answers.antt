@@ -1,7 +1,7 @@
 use Rattle.std.proofs.Common.{◌≡◌, ◌+◌, ◌++◌, drop, take, List, sym, ap, subst, ◌∙◌}
 use Rattle.alta_content.specs.Rows.{AreDocumentsBehind, start}
 use Rattle.alta_content.specs.declared.document.DocRow.{DocRow}
-use Rattle.alta_images.specs.Opened.{table_rows}
+use Rattle.alta_meaning.specs.Opened.{table_rows}
 use Rattle.alta_opening.specs.Rows.{are_ends, behind_rows}
 use Rattle.alta_opening.proofs.EndLaws.{all_passed, rows_next, rows_stand}
 use Rattle.alta_opening.proofs.ends.have_all.Goals as goal

@@ -1,5 +1,5 @@
 use Rattle.std.proofs.Common.{◌≡◌, ◌≤◌, drop, length}
-use Rattle.alta_images.specs.Opened.{have_ends, table_rows}
+use Rattle.alta_meaning.specs.Opened.{have_ends, table_rows}
 use Rattle.alta_opening.specs.Rows.{are_ends}
 use Rattle.alta_opening.proofs.ends.have_all.Given as goal
 

@@ -1,6 +1,6 @@
 use Rattle.std.proofs.Common.{◌≡◌, true, sym, ap, ◌∙◌}
 use Rattle.alta_content.specs.Rows.{start}
-use Rattle.alta_images.specs.Opened.{are_in_order, live_in, table_rows}
+use Rattle.alta_meaning.specs.Opened.{are_in_order, live_in, table_rows}
 use Rattle.alta_opening.specs.Rows.{behind_rows}
 use Rattle.alta_opening.proofs.LevelLaws.{reached_more}
 use Rattle.alta_opening.proofs.levels.admit.Goals as goal

@@ -1,13 +1,13 @@
 use Rattle.std.proofs.Common.{◌+◌, ◌++◌, ◌∷◌, [], ◌∙◌, take, get_or, List, ℕ, Err, refl, sym, ap, arith}
 use Rattle.std.specs.List.{sum_by}
 use Rattle.alta_codec.specs.declared.extent.Extent.{Extent}
-use Rattle.alta_images.specs.Opened.{levels_in, with_level}
+use Rattle.alta_meaning.specs.Opened.{levels_in, with_level}
 use Rattle.alta_root.specs.Root.{no_extent}
 use Rattle.alta_opening.specs.Costs.{level_bytes}
-use Rattle.alta_opening.specs.declared.fault.OpeningFault.{OpeningFault}
+use Rattle.alta_disk.specs.declared.fault.LoadFault.{LoadFault}
 use Rattle.alta_opening.specs.declared.levels.Levels.{Levels}
 use Rattle.alta_opening.proofs.LevelLaws.{extents_more, counted_all, counted_more, error_answers, extent_at, levels_more, levels_stop}
-use Rattle.alta_images.proofs.DiskReads.{reads_then, reads_within}
+use Rattle.alta_meaning.proofs.DiskReads.{reads_then, reads_within}
 use Rattle.alta_opening.proofs.levels.read_levels.Goals as goal
 
 pub returns-in-Err-clause-exact : goal.returns-in-Err-clause-exact
@@ -21,7 +21,7 @@ returns-in-Err-clause-exact g c = λ told.
     error_answers (λ (found : Levels). found.levels.items) c.in-Err.fault (levels_in c.args.root.now c.args.deleted.now image)
     (λ place is. levels_stop c.args.root.now c.args.deleted.now image extents i extent at.inside at.is levels (c.loop-extent.invariant.levels told) place
     (ap (with_level c.args.root.now c.args.deleted.now levels extent) (sym (c.loop-extent.invariant.reads.content told))
-    ∙ c.add_level.ensures.damaged told place (c.in-Err.is ∙ ap (λ (f : OpeningFault). Err f) is)))
+    ∙ c.add_level.ensures.damaged told place (c.in-Err.is ∙ ap (λ (f : LoadFault). Err f) is)))
 
 pub returns-in-Err-clause-reads : goal.returns-in-Err-clause-reads
 returns-in-Err-clause-reads g c =

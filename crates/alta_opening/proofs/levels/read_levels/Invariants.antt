@@ -2,7 +2,7 @@ use Rattle.std.proofs.Common.{◌≡◌, ◌+◌, ◌≤◌, [], map, take, Ok}
 use Rattle.std.specs.List.{sum_by}
 use Rattle.alta_codec.specs.declared.extent.Extent.{Extent}
 use Rattle.alta_disk.specs.Calls.{Reads}
-use Rattle.alta_images.specs.Opened.{levels_from, extent_of}
+use Rattle.alta_meaning.specs.Opened.{levels_from, extent_of}
 use Rattle.alta_opening.specs.Costs.{level_bytes}
 use Rattle.alta_opening.specs.Reached.{HasReached}
 use Rattle.alta_opening.proofs.levels.read_levels.Given as goal

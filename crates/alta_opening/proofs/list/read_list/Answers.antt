@@ -1,5 +1,5 @@
 use Rattle.std.proofs.Common.{◌∙◌, sym, ap, subst, Ok, List, ℕ}
-use Rattle.alta_images.specs.Opened.{deleted_in, list_at}
+use Rattle.alta_meaning.specs.Opened.{deleted_in, list_at}
 use Rattle.alta_postings.specs.Deltas.{first_fault}
 use Rattle.alta_opening.specs.Steps.{Answers}
 use Rattle.alta_opening.proofs.ListLaws.{list_missing}

@@ -4,9 +4,9 @@ use Rattle.std.specs.HashMap.{get_by_text}
 use Rattle.std.specs.Map.{update}
 use Rattle.std.specs.Str.{bytes_eq}
 use Rattle.alta_content.specs.Rows.{ends_among}
-use Rattle.alta_images.specs.Known.{is_taken}
+use Rattle.alta_meaning.specs.Known.{is_taken}
 use Rattle.alta_opening.proofs.Naming.{names_live}
-use Rattle.alta_images.proofs.Tests.{not_true}
+use Rattle.alta_meaning.proofs.Tests.{not_true}
 use Rattle.alta_opening.proofs.names.join.Goals as goal
 
 pub returns-clause-names : goal.returns-clause-names

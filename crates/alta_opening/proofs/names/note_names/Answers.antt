@@ -2,9 +2,9 @@ use Rattle.std.proofs.Common.{◌≡◌, ◌<◌, length, get_or, List, sym, ap,
 use Rattle.std.proofs.lemmas.List.{append-nil}
 use Rattle.alta_content.specs.Rows.{AreDocuments, IsPlaced, start}
 use Rattle.alta_content.specs.declared.document.DocRow.{DocRow}
-use Rattle.alta_images.specs.Known.{Named}
-use Rattle.alta_images.specs.Opened.{names_from}
-use Rattle.alta_opening.specs.Names.{AreNames}
+use Rattle.alta_meaning.specs.Known.{Named}
+use Rattle.alta_meaning.specs.Opened.{names_from}
+use Rattle.alta_meaning.specs.Names.{AreNames}
 use Rattle.alta_opening.proofs.Naming.{passed_row}
 use Rattle.alta_opening.proofs.RowLaws.{all_placed}
 use Rattle.alta_opening.proofs.names.note_names.Goals as goal

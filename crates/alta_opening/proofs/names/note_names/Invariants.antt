@@ -1,7 +1,7 @@
 use Rattle.std.proofs.Common.{◌≡◌, ◌++◌, List, take, drop}
-use Rattle.alta_images.specs.Known.{Named}
-use Rattle.alta_images.specs.Opened.{live_in, names_from}
-use Rattle.alta_opening.specs.Names.{AreNames}
+use Rattle.alta_meaning.specs.Known.{Named}
+use Rattle.alta_meaning.specs.Opened.{live_in, names_from}
+use Rattle.alta_meaning.specs.Names.{AreNames}
 use Rattle.alta_opening.proofs.names.note_names.Given as goal
 
 abbrev pub invariant-loop-i : goal.invariant-loop-i

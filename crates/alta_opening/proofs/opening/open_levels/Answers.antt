@@ -1,10 +1,10 @@
 use Rattle.std.proofs.Common.{◌≡◌, ◌≤◌, ◌∙◌, false, length, List, ℕ, Ok, sym, ap, subst, arith}
 use Rattle.std.specs.List.{All}
-use Rattle.alta_images.specs.Broken.{IsBrokenAt, in_list, without_end}
-use Rattle.alta_images.specs.Opened.{deleted_in, have_ends, levels_in}
-use Rattle.alta_images.proofs.OneReading.{opened_unbroken}
+use Rattle.alta_meaning.specs.Broken.{IsBrokenAt, in_list, without_end}
+use Rattle.alta_meaning.specs.Opened.{deleted_in, have_ends, levels_in}
+use Rattle.alta_meaning.proofs.OneReading.{opened_unbroken}
 use Rattle.alta_table.specs.Tables.{Tables}
-use Rattle.alta_opening.specs.declared.fault.OpeningFault.TheVariants.{Damaged}
+use Rattle.alta_disk.specs.declared.fault.LoadFault.TheVariants.{Damaged}
 use Rattle.alta_opening.proofs.BrokenLevels.{broken_level}
 use Rattle.alta_opening.proofs.OpeningLaws.{IsFit, fault_found, levels_within, list_within}
 use Rattle.alta_opening.proofs.opening.open_levels.Goals as goal

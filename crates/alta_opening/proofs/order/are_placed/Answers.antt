@@ -2,7 +2,7 @@ use Rattle.std.proofs.Common.{Bool, sym, ap, ◌∙◌}
 use Rattle.std.specs.Prelude.{◌&&◌}
 use Rattle.alta_content.specs.Rows.{Before, start}
 use Rattle.alta_content.specs.declared.document.DocRow.{DocRow}
-use Rattle.alta_images.specs.Opened.{table_rows}
+use Rattle.alta_meaning.specs.Opened.{table_rows}
 use Rattle.alta_opening.specs.Rows.{behind_rows, leaves_room, lies_behind}
 use Rattle.alta_opening.proofs.RowLaws.{order_tested}
 use Rattle.alta_opening.proofs.order.are_placed.Goals as goal

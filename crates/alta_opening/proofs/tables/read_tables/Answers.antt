@@ -1,5 +1,5 @@
 use Rattle.std.proofs.Common.{◌≡◌, ◌+◌, ◌∙◌, take, length, sym, ap, ap₂, subst, Err, List, ℕ, Result, arith}
-use Rattle.alta_images.specs.Opened.{tables_at}
+use Rattle.alta_meaning.specs.Opened.{tables_at}
 use Rattle.alta_table.specs.Answers.{Answers as TableAnswers}
 use Rattle.alta_table.specs.Tables.{Tables, tables_of}
 use Rattle.alta_opening.proofs.TableReads.{head_fails, tables_fail, tables_read, whole_parts}

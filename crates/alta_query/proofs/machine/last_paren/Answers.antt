@@ -1,6 +1,6 @@
 use Rattle.std.proofs.Common.{ap, ◌∙◌, refl}
 use Rattle.alta_query.specs.Kept.{frames_of}
-use Rattle.alta_query.specs.Machine.{close}
+use Rattle.alta_machine.specs.Parser.{close}
 use Rattle.alta_query.proofs.Frames.{close_popped, none_left}
 use Rattle.alta_query.proofs.machine.last_paren.Goals as goal
 

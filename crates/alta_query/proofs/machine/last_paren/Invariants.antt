@@ -1,6 +1,6 @@
 use Rattle.std.proofs.Common.{◌≡◌, ℕ, vec_len}
-use Rattle.alta_query.specs.Shape.{Shape}
-use Rattle.alta_query.specs.Machine.{close}
+use Rattle.alta_machine.specs.Shape.{Shape}
+use Rattle.alta_machine.specs.Parser.{close}
 use Rattle.alta_query.specs.Kept.{frames_of}
 use Rattle.alta_query.proofs.machine.last_paren.Given as goal
 

@@ -1,4 +1,4 @@
-use Rattle.alta_query.specs.Patterns.{phrase_pattern}
+use Rattle.alta_machine.specs.Patterns.{phrase_pattern}
 use Rattle.alta_query.proofs.Texts.{titled_text, prefix_text, name_text}
 use Rattle.alta_query.proofs.machine.owned.Goals as goal
 

@@ -1,8 +1,8 @@
 use Rattle.std.proofs.Common.{sym, ap, ◌∙◌}
 use Rattle.std.specs.Prelude.{string_bytes}
 use Rattle.alta_query.specs.View.{shape}
-use Rattle.alta_query.specs.Canon.{canon, parens_if}
-use Rattle.alta_query.specs.Spelling.{with_tokens}
+use Rattle.alta_machine.specs.Canon.{canon, parens_if}
+use Rattle.alta_machine.specs.Spelling.{with_tokens}
 use Rattle.alta_query.proofs.Printed.{all_step, or_step}
 use Rattle.alta_query.proofs.printing.+put.Goals as goal
 

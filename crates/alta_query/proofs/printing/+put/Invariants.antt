@@ -1,9 +1,9 @@
 use Rattle.std.proofs.Common.{◌≡◌, drop, map}
 use Rattle.std.specs.Prelude.{string_bytes}
 use Rattle.alta_query.specs.View.{shape}
-use Rattle.alta_query.specs.Shape.{shapes_of}
-use Rattle.alta_query.specs.Canon.{canon, canon_all}
-use Rattle.alta_query.specs.Spelling.{with_tokens}
+use Rattle.alta_machine.specs.Shape.{shapes_of}
+use Rattle.alta_machine.specs.Canon.{canon, canon_all}
+use Rattle.alta_machine.specs.Spelling.{with_tokens}
 use Rattle.alta_query.proofs.Printed.{or_left}
 use Rattle.alta_query.proofs.printing.+put.Given as goal
 

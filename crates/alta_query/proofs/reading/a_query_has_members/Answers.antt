@@ -1,5 +1,5 @@
-use Rattle.alta_query.specs.Spots.{spots}
-use Rattle.alta_query.specs.Token.{tokens_of}
+use Rattle.alta_machine.specs.Spots.{spots}
+use Rattle.alta_machine.specs.Token.{tokens_of}
 use Rattle.alta_query.proofs.Members.{read_has}
 use Rattle.alta_query.proofs.reading.a_query_has_members.Goals as goal
 

@@ -1,6 +1,6 @@
 use Rattle.std.proofs.Common.{length}
-use Rattle.alta_query.specs.Reading.{query_of}
-use Rattle.alta_query.specs.Spots.{spots}
+use Rattle.alta_machine.specs.Queries.{query_of}
+use Rattle.alta_machine.specs.Spots.{spots}
 use Rattle.alta_query.proofs.Exact.{parse_reads, reads_parse, fault_parsed, parsed_fault}
 use Rattle.alta_query.proofs.reading.a_query_is_read_one_way.Goals as goal
 

@@ -1,6 +1,6 @@
 use Rattle.std.proofs.Common.{length}
-use Rattle.alta_query.specs.Reading.{query_of}
-use Rattle.alta_query.specs.Spots.{spots}
+use Rattle.alta_machine.specs.Queries.{query_of}
+use Rattle.alta_machine.specs.Spots.{spots}
 use Rattle.alta_query.proofs.Answers.{found, only, first, answered}
 use Rattle.alta_query.proofs.reading.parse.Goals as goal
 

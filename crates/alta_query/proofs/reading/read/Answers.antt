@@ -1,5 +1,5 @@
 use Rattle.std.proofs.Common.{false, length, get_or, ◌∙◌, sym, ap, subst, arith, inr}
-use Rattle.alta_query.specs.Spots.{is_blank, spots, spots_from}
+use Rattle.alta_machine.specs.Spots.{is_blank, spots, spots_from}
 use Rattle.alta_query.specs.Kept.{state_of}
 use Rattle.std.proofs.lemmas.Str.{IsCharBoundary-start, IsCharBoundary-after_ascii, IsCharBoundary-from_rest}
 use Rattle.alta_query.specs.Texts.{IsTextState}

@@ -1,7 +1,7 @@
 use Rattle.std.proofs.Common.{◌≡◌, ◌-◌, ◌≤◌, length, drop}
 use Rattle.std.specs.Str.{IsCharBoundary}
-use Rattle.alta_query.specs.Spots.{spots, spots_from}
-use Rattle.alta_query.specs.Machine.{parse_of}
+use Rattle.alta_machine.specs.Spots.{spots, spots_from}
+use Rattle.alta_machine.specs.Parser.{parse_of}
 use Rattle.alta_query.specs.Kept.{state_of}
 use Rattle.alta_query.specs.Texts.{IsTextState}
 use Rattle.alta_query.proofs.Seen.{run_seen}

@@ -3,7 +3,7 @@ use Rattle.std.proofs.lemmas.Result.{IfOk-from_err}
 use Rattle.std.proofs.lemmas.Str.{IsCharBoundary-from_rest}
 use Rattle.alta_query.proofs.Cuts.{first_boundary}
 use Rattle.alta_query.proofs.Firsts.{open_first, close_first, quote_first, IsOther, name_first, title_first, run_first, run_some, run_byte}
-use Rattle.alta_query.specs.Spots.{name_token, run_token}
+use Rattle.alta_machine.specs.Spots.{name_token, run_token}
 use Rattle.alta_query.proofs.scan.first_piece.Goals as goal
 
 pub behind-requires : goal.behind-requires

@@ -1,6 +1,6 @@
 use Rattle.std.proofs.Common.{ap, arith}
 use Rattle.std.specs.Prelude.{not}
-use Rattle.alta_query.specs.Spots.{is_quote}
+use Rattle.alta_machine.specs.Spots.{is_quote}
 use Rattle.alta_query.proofs.Firsts.{other_byte}
 use Rattle.alta_query.proofs.Walks.{passed, stopped, ended}
 use Rattle.alta_query.proofs.scan.quote_index.Goals as goal

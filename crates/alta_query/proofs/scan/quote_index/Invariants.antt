@@ -1,6 +1,6 @@
 use Rattle.std.proofs.Common.{◌≡◌, ◌+◌, ◌-◌, ◌≤◌, length, drop}
 use Rattle.std.specs.List.{position_or_len}
-use Rattle.alta_query.specs.Spots.{is_quote}
+use Rattle.alta_machine.specs.Spots.{is_quote}
 use Rattle.alta_query.proofs.scan.quote_index.Given as goal
 
 abbrev pub invariant-loop-n : goal.invariant-loop-n

@@ -1,6 +1,6 @@
 use Rattle.std.proofs.Common.{◌≡◌, sym, ap, subst, true, ◌∙◌, IfOk}
 use Rattle.alta_query.specs.Pieces.{token_of}
-use Rattle.alta_query.specs.Spots.{near_token, value_token, plain_token}
+use Rattle.alta_machine.specs.Spots.{near_token, value_token, plain_token}
 use Rattle.alta_query.proofs.Runs.{IsNoWord, run_and, run_or, run_not, run_near, run_value, run_title, run_plain}
 use Rattle.alta_query.proofs.scan.run.Goals as goal
 

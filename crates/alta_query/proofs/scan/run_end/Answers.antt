@@ -1,5 +1,5 @@
 use Rattle.std.proofs.Common.{sym, ◌∙◌, arith}
-use Rattle.alta_query.specs.Spots.{is_run}
+use Rattle.alta_machine.specs.Spots.{is_run}
 use Rattle.alta_query.proofs.Walks.{passed, stopped, ended}
 use Rattle.alta_query.proofs.scan.run_end.Goals as goal
 

@@ -1,6 +1,6 @@
 use Rattle.std.proofs.Common.{sym, ap, ◌∙◌, arith}
 use Rattle.std.specs.Prelude.{not}
-use Rattle.alta_query.specs.Spots.{is_solid}
+use Rattle.alta_machine.specs.Spots.{is_solid}
 use Rattle.alta_query.proofs.Walks.{passed, stopped, ended}
 use Rattle.alta_query.proofs.scan.solid_end.Goals as goal
 

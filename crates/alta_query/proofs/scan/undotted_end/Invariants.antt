@@ -1,6 +1,6 @@
 use Rattle.std.proofs.Common.{◌≡◌, ◌+◌, ◌-◌, ◌≤◌, length, drop}
 use Rattle.std.specs.List.{prefix_len}
-use Rattle.alta_query.specs.Spots.{is_undotted}
+use Rattle.alta_machine.specs.Spots.{is_undotted}
 use Rattle.alta_query.proofs.scan.undotted_end.Given as goal
 
 abbrev pub invariant-loop-n : goal.invariant-loop-n

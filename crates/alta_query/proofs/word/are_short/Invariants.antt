@@ -1,6 +1,6 @@
 use Rattle.std.proofs.Common.{◌≡◌, drop, map}
 use Rattle.alta_text.specs.Words.{pair_of}
-use Rattle.alta_query.specs.Words.{are_short}
+use Rattle.alta_machine.specs.Words.{are_short}
 use Rattle.alta_query.proofs.word.are_short.Given as goal
 
 abbrev pub invariant-loop-word : goal.invariant-loop-word

@@ -2,7 +2,7 @@ use Rattle.std.proofs.Common.{sym, subst}
 use Rattle.std.specs.List.{All}
 use Rattle.std.proofs.lemmas.List.Elements.{All-push}
 use Rattle.alta_text.specs.Words.{pair_of}
-use Rattle.alta_query.specs.Words.{word_test}
+use Rattle.alta_machine.specs.Words.{word_test}
 use Rattle.alta_query.specs.Texts.{HasTextTerm}
 use Rattle.alta_query.proofs.Walks.{mapped, all_mapped}
 use Rattle.alta_query.proofs.word.each_test.Goals as goal

@@ -2,7 +2,7 @@ use Rattle.std.proofs.Common.{◌≡◌, ◌++◌, drop, map}
 use Rattle.std.specs.List.{All}
 use Rattle.alta_text.specs.Words.{pair_of}
 use Rattle.alta_query.specs.Texts.{HasTextTerm}
-use Rattle.alta_query.specs.Words.{word_test}
+use Rattle.alta_machine.specs.Words.{word_test}
 use Rattle.alta_query.proofs.word.each_test.Given as goal
 
 abbrev pub invariant-loop-word : goal.invariant-loop-word

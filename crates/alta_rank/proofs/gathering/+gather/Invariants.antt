@@ -1,7 +1,7 @@
 use Rattle.std.proofs.Common.{◌≡◌, ◌++◌, map, drop}
-use Rattle.alta_query.specs.Shape.{shapes_of}
+use Rattle.alta_machine.specs.Shape.{shapes_of}
 use Rattle.alta_query.specs.View.{shape}
-use Rattle.alta_rank.specs.Uses.{uses_of, uses_in}
+use Rattle.alta_machine.specs.Uses.{uses_of, uses_in}
 use Rattle.alta_rank.proofs.gathering.+gather.Given as goal
 
 abbrev pub decreases-gather : goal.decreases-gather

@@ -1,5 +1,5 @@
 use Rattle.std.proofs.Common.{◌≡◌, ◌++◌, map, take}
-use Rattle.alta_rank.specs.Uses.{use_of}
+use Rattle.alta_machine.specs.Uses.{use_of}
 use Rattle.alta_rank.proofs.gathering.push_tests.Given as goal
 
 abbrev pub invariant-loop-test : goal.invariant-loop-test

@@ -1,5 +1,5 @@
-use Rattle.alta_query.specs.Spots.{spots}
-use Rattle.alta_query.specs.Token.{tokens_of}
+use Rattle.alta_machine.specs.Spots.{spots}
+use Rattle.alta_machine.specs.Token.{tokens_of}
 use Rattle.alta_rank.proofs.FewUses.{read_few}
 use Rattle.alta_rank.proofs.laws.a_query_has_few_uses.Goals as goal
 

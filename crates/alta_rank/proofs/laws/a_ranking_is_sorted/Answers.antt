@@ -1,4 +1,4 @@
-use Rattle.alta_rank.specs.Ranked.{ranked}
+use Rattle.alta_machine.specs.Ranked.{ranked}
 use Rattle.alta_rank.proofs.Keeping.{ranked-permutation, ranked-falls, sorted-from_falls}
 use Rattle.alta_rank.proofs.laws.a_ranking_is_sorted.Goals as goal
 

@@ -3,7 +3,7 @@ use Rattle.std.proofs.lemmas.List.{map-id}
 use Rattle.std.proofs.lemmas.Iterator.Adapters.{YieldsList-from_vec}
 use Rattle.std.proofs.lemmas.Iterator.Consumers.{YieldsList-end}
 use Rattle.alta_rank.specs.Kept.{IsBest}
-use Rattle.alta_rank.specs.Ranked.{ranked}
+use Rattle.alta_machine.specs.Ranked.{ranked}
 use Rattle.alta_rank.proofs.ranking.first.Goals as goal
 
 pub answers-preserved : goal.answers-preserved

@@ -1,7 +1,7 @@
 use Rattle.std.proofs.Common.{◌+◌, ◌≤◌, ltb, subst, ap, ◌∙◌, arith}
 use Rattle.alta_codec.specs.Rising.{IsRising, IsPlace, first_from, pred_of}
 use Rattle.alta_codec.proofs.Places.{pred_of-below}
-use Rattle.alta_rank.specs.Cells.{weight}
+use Rattle.alta_machine.specs.Scores.{weight}
 use Rattle.alta_rank.specs.Counted.{counted}
 use Rattle.alta_rank.proofs.Passed.{pred_of-first}
 use Rattle.alta_rank.proofs.Scores.{counted-next, counted-first, counted-past}

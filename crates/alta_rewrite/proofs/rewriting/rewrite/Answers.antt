@@ -3,8 +3,8 @@ use Rattle.std.specs.Prelude.{⊤}
 use Rattle.std.specs.List.{All}
 use Rattle.alta_disk.specs.Parts.{Touches}
 use Rattle.alta_disk.proofs.Moments.{leaves_start, passes_as, passes_start}
-use Rattle.alta_images.specs.Opened.{IsOpened}
-use Rattle.alta_images.specs.Views.{state_of}
+use Rattle.alta_meaning.specs.Opened.{IsOpened}
+use Rattle.alta_meaning.specs.Views.{state_of}
 use Rattle.alta_root.specs.Places.{other}
 use Rattle.alta_root.specs.Slots.{Counts}
 use Rattle.alta_root.specs.Switches.{slot_range}

@@ -1,8 +1,7 @@
-use Rattle.alta_format.specs.FormatLaws.{part_first, part_broken}
-use Rattle.alta_root.specs.Root.{root_format}
+use Rattle.alta_format.proofs.FormatLaws.{part_first, part_broken}
+use Rattle.alta_root.specs.Root.{root_format, body_of}
 use Rattle.alta_root.specs.Slots.{root_in}
 use Rattle.std.proofs.Common.{take, refl}
-use Rattle.alta_root.specs.Root.{body_of}
 use Rattle.alta_root.specs.declared.places.TheConstants.{FIELDS_BYTES}
 use Rattle.alta_root.proofs.SpellLaws.{body_long, body_says, reads_back, sound_words, spelled_so}
 use Rattle.alta_root.proofs.laws.a_root_reads_back.Goals as goal

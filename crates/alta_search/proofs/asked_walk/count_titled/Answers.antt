@@ -2,7 +2,7 @@ use Rattle.std.proofs.Common.{◌≡◌, [], ◌∷◌, map, length, get_or, ap,
 use Rattle.std.proofs.lemmas.List.{length-map}
 use Rattle.alta_compile.specs.Space.{document_end, ends_of, list_of}
 use Rattle.alta_lead.specs.Followed.{ends_followed}
-use Rattle.alta_query.specs.Patterns.{title_end}
+use Rattle.alta_machine.specs.Patterns.{title_end}
 use Rattle.alta_search.specs.Answers.{count_live}
 use Rattle.alta_search.specs.Lists.{test_list, test_at, lists_at}
 use Rattle.alta_search.specs.Plans.{lists, locations}

@@ -1,7 +1,7 @@
 use Rattle.std.proofs.Common.{map, length, subst, ap, ◌∙◌, arith}
 use Rattle.std.proofs.lemmas.List.{length-map}
 use Rattle.alta_content.specs.Rows.{end_of}
-use Rattle.alta_rows.proofs.Levels.{rising_fits}
+use Rattle.alta_content.proofs.Levels.{rising_fits}
 use Rattle.alta_search.specs.Answers.{answers_in}
 use Rattle.alta_search.specs.Told.{rows_at}
 use Rattle.alta_search.specs.Walks.{IsPart}

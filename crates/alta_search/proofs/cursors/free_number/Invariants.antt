@@ -1,5 +1,6 @@
 use Rattle.std.proofs.Common.{◌≡◌, ◌+◌, ◌-◌, map, length}
-use Rattle.alta_search.specs.Open.{first_free, number_in}
+use Rattle.alta_machine.specs.OpenAnswers.{first_free}
+use Rattle.alta_search.specs.Open.{number_in}
 use Rattle.alta_search.proofs.cursors.free_number.Given as goal
 
 abbrev pub invariant-loop-tried : goal.invariant-loop-tried

@@ -2,7 +2,7 @@ use Rattle.std.proofs.Common.{◌<◌, map, length, take_all, ap, arith}
 use Rattle.std.specs.Prelude.{sum_by}
 use Rattle.std.specs.List.{concat}
 use Rattle.alta_codec.specs.declared.location.TheConstants.{TOP}
-use Rattle.alta_rows.proofs.Levels.{rising_fits}
+use Rattle.alta_content.proofs.Levels.{rising_fits}
 use Rattle.alta_search.specs.Lists.{level_list}
 use Rattle.alta_search.proofs.LeadReaders.{size, sizes}
 use Rattle.alta_search.proofs.Unions.{more_of, most_of}

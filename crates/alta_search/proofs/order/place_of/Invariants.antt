@@ -1,5 +1,5 @@
 use Rattle.std.proofs.Common.{◌≢◌, ℕ, ◌<◌, get_or}
-use Rattle.alta_query.specs.declared.test.Test.{Test}
+use Rattle.alta_machine.specs.declared.test.Test.{Test}
 use Rattle.alta_search.proofs.order.place_of.Given as goal
 
 abbrev pub invariant-loop-index : goal.invariant-loop-index

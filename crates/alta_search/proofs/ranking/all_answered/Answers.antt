@@ -3,7 +3,7 @@ use Rattle.std.specs.Global.{Vec}
 use Rattle.std.specs.Prelude.{All, IfOk, Result, Ok, Err}
 use Rattle.alta_compile.specs.Space.{Placed}
 use Rattle.alta_compile.specs.View.{tree}
-use Rattle.alta_query.specs.Patterns.{title_end}
+use Rattle.alta_machine.specs.Patterns.{title_end}
 use Rattle.alta_search.specs.Answers.{coming}
 use Rattle.alta_search.specs.Plans.{lists, locations, tests_of}
 use Rattle.alta_search.specs.Told.{rows_at}

@@ -1,7 +1,7 @@
 use Rattle.std.proofs.Common.{◌++◌, ◌∷◌, [], ℕ, List, get_or, subst, ap, ◌∙◌}
 use Rattle.std.proofs.lemmas.Option.{get_or_from_slice_get}
 use Rattle.alta_rank.specs.Kept.{IsBest, KeptOf}
-use Rattle.alta_rank.specs.declared.scored.Scored.{Scored}
+use Rattle.alta_machine.specs.declared.scored.Scored.{Scored}
 use Rattle.alta_search.specs.Told.{no_row}
 use Rattle.alta_search.proofs.Ranks.{has_more, has_none, ranking_more, ranking_none}
 use Rattle.alta_search.proofs.ranking.best_of.Goals as goal

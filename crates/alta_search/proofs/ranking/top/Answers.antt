@@ -3,15 +3,16 @@ use Rattle.alta_compile.specs.View.{tree}
 use Rattle.alta_content.specs.declared.document.DocRow.{DocRow}
 use Rattle.alta_query.specs.View.{shape}
 use Rattle.alta_rank.specs.Kept.{IsBest}
-use Rattle.alta_rank.specs.Ranked.{ranked}
-use Rattle.alta_rank.specs.Uses.{uses_of}
-use Rattle.alta_rank.specs.declared.usage.Use.{Use}
+use Rattle.alta_machine.specs.Ranked.{ranked}
+use Rattle.alta_machine.specs.Uses.{uses_of}
+use Rattle.alta_machine.specs.declared.usage.Use.{Use}
 use Rattle.alta_search.specs.Answers.{coming}
 use Rattle.alta_search.specs.Lists.{count_lists}
 use Rattle.alta_search.specs.Plans.{lists}
 use Rattle.alta_search.specs.Scoring.{AreScorable, IsScorerOf, last_lists, scored_by}
 use Rattle.alta_search.specs.Told.{rows_at}
-use Rattle.alta_search.specs.Tops.{AreTopSteps, scored, scoring_lists}
+use Rattle.alta_search.specs.Tops.{AreTopSteps, scoring_lists}
+use Rattle.alta_machine.specs.Scores.{scored}
 use Rattle.alta_search.specs.View.{View}
 use Rattle.alta_search.proofs.Ranks.{rows_size}
 use Rattle.alta_search.proofs.RowScores.{numbers_stay}

@@ -1,5 +1,5 @@
 use Rattle.std.proofs.Common.{◌≡◌, ◌++◌, drop, map}
-use Rattle.alta_rank.specs.declared.usage.Use.{Use}
+use Rattle.alta_machine.specs.declared.usage.Use.{Use}
 use Rattle.alta_search.specs.Lists.{lists_at}
 use Rattle.alta_search.proofs.SameTests.{lists_among}
 use Rattle.alta_search.proofs.scoring.indexes_for.Given as goal

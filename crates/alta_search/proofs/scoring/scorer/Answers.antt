@@ -4,7 +4,7 @@ use Rattle.std.proofs.lemmas.Bool.{false≢true}
 use Rattle.std.proofs.lemmas.Grind.{get_or_default_zero}
 use Rattle.std.proofs.lemmas.List.{length-map}
 use Rattle.alta_rank.specs.Scoring.{Scoring}
-use Rattle.alta_rank.specs.declared.usage.Use.{Use}
+use Rattle.alta_machine.specs.declared.usage.Use.{Use}
 use Rattle.alta_search.specs.Lists.{IsCut, count_lists, lists_at, test_at}
 use Rattle.alta_search.specs.Plans.{lists}
 use Rattle.alta_search.specs.Readers.{Each, IsFresh}

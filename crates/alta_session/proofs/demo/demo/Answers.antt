@@ -1,7 +1,7 @@
 use Rattle.std.proofs.Common.{refl, ap, sym, subst, ◌∙◌, Err}
-use Rattle.alta_images.specs.Switching.{empty_held}
-use Rattle.alta_images.specs.Standing.{StandsFor}
-use Rattle.alta_images.specs.States.{empty}
+use Rattle.alta_meaning.specs.Switching.{empty_held}
+use Rattle.alta_meaning.specs.Standing.{StandsFor}
+use Rattle.alta_machine.specs.States.{empty_state}
 use Rattle.alta_make.specs.Script.{script, report}
 use Rattle.alta_session.specs.declared.status.Status.TheVariants.{Exists}
 use Rattle.alta_session.proofs.DemoLaws.{IsMade, IsNew, is_made, demo_unmade, demo_unopened, demo_early, demo_late, demo_done, start_ends, start_interrupted}
@@ -27,8 +27,8 @@ returns-in-Err-clause-demo g c =
     demo_unopened g.D.Disk.tells (script c.args.n) report (g.C.Console.told c.args.console.now) (g.D.Disk.state c.args.disk.now) (g.D.Disk.state c.start.new.disk) c.status_of.result (g.met.D.Disk.lawful c.start.new.disk) made
     (start_ends c.status_of.result c.in-Err.fault c.status_of.ensures c.in-Err.ensures.opens.only) (status_not c.status_of.result c.in-Err.fault c.status_of.ensures Exists tt)
     (λ tell.
-    let stands : StandsFor empty (g.D.Disk.state c.init.new.disk).content = (c.init.ensures.made c.in-Done.is).content tell in
-    start_interrupted c.status_of.result c.in-Err.fault c.status_of.ensures (c.in-Err.ensures.opens.opened stands.opened tell (opened_of empty (g.D.Disk.state c.init.new.disk).content stands)))
+    let stands : StandsFor empty_state (g.D.Disk.state c.init.new.disk).content = (c.init.ensures.made c.in-Done.is).content tell in
+    start_interrupted c.status_of.result c.in-Err.fault c.status_of.ensures (c.in-Err.ensures.opens.opened stands.opened tell (opened_of empty_state (g.D.Disk.state c.init.new.disk).content stands)))
     (λ need gap is. opening_not_full c.in-Err.fault c.status_of.result need gap c.in-Err.ensures.opens.only c.status_of.ensures is)
 
 -- a line of the script was not answered
@@ -36,8 +36,8 @@ pub returns-in-Err-obey_script-clause-demo : goal.returns-in-Err-obey_script-cla
 returns-in-Err-obey_script-clause-demo g c =
     let made : IsMade g.D.Disk.tells (g.D.Disk.state c.args.disk.now) = is_made g.D.Disk.tells (g.D.Disk.state c.args.disk.now) c.init.result c.in-Done.is c.init.ensures.found c.init.ensures.small in
     let new : IsNew g.D.Disk.tells (g.D.Disk.state c.args.disk.now) (g.D.Disk.state c.start.new.disk) c.in-Ok.session = record {
-      stands = λ tell. subst (StandsFor empty) (sym (c.start.ensures.opens.content tell)) ((c.init.ensures.made c.in-Done.is).content tell);
-      agrees = λ tell. c.in-Ok.ensures.agrees empty (λ t. (c.init.ensures.made c.in-Done.is).content t);
+      stands = λ tell. subst (StandsFor empty_state) (sym (c.start.ensures.opens.content tell)) ((c.init.ensures.made c.in-Done.is).content tell);
+      agrees = λ tell. c.in-Ok.ensures.agrees empty_state (λ t. (c.init.ensures.made c.in-Done.is).content t);
       held = λ tell. opened_by g.D.Disk.tells (g.D.Disk.state c.init.new.disk) (g.D.Disk.state c.start.new.disk) c.in-Ok.session empty_held (g.met.D.Disk.lawful c.start.new.disk) tell c.in-Ok.ensures.job (c.start.ensures.opens.content tell)
           (record { is = (c.init.ensures.holds c.in-Done.is).content tell; none = refl });
       same_limit = c.start.ensures.opens.same_limit ∙ c.init.ensures.same_limit;
@@ -50,8 +50,8 @@ pub returns-in-Ok-report-clause-demo : goal.returns-in-Ok-report-clause-demo
 returns-in-Ok-report-clause-demo g c =
     let made : IsMade g.D.Disk.tells (g.D.Disk.state c.args.disk.now) = is_made g.D.Disk.tells (g.D.Disk.state c.args.disk.now) c.init.result c.in-Done.is c.init.ensures.found c.init.ensures.small in
     let new : IsNew g.D.Disk.tells (g.D.Disk.state c.args.disk.now) (g.D.Disk.state c.start.new.disk) c.in-Ok.session = record {
-      stands = λ tell. subst (StandsFor empty) (sym (c.start.ensures.opens.content tell)) ((c.init.ensures.made c.in-Done.is).content tell);
-      agrees = λ tell. c.in-Ok.ensures.agrees empty (λ t. (c.init.ensures.made c.in-Done.is).content t);
+      stands = λ tell. subst (StandsFor empty_state) (sym (c.start.ensures.opens.content tell)) ((c.init.ensures.made c.in-Done.is).content tell);
+      agrees = λ tell. c.in-Ok.ensures.agrees empty_state (λ t. (c.init.ensures.made c.in-Done.is).content t);
       held = λ tell. opened_by g.D.Disk.tells (g.D.Disk.state c.init.new.disk) (g.D.Disk.state c.start.new.disk) c.in-Ok.session empty_held (g.met.D.Disk.lawful c.start.new.disk) tell c.in-Ok.ensures.job (c.start.ensures.opens.content tell)
           (record { is = (c.init.ensures.holds c.in-Done.is).content tell; none = refl });
       same_limit = c.start.ensures.opens.same_limit ∙ c.init.ensures.same_limit;
@@ -64,8 +64,8 @@ pub returns-clause-demo : goal.returns-clause-demo
 returns-clause-demo g c =
     let made : IsMade g.D.Disk.tells (g.D.Disk.state c.args.disk.now) = is_made g.D.Disk.tells (g.D.Disk.state c.args.disk.now) c.init.result c.in-Done.is c.init.ensures.found c.init.ensures.small in
     let new : IsNew g.D.Disk.tells (g.D.Disk.state c.args.disk.now) (g.D.Disk.state c.start.new.disk) c.in-Ok.session = record {
-      stands = λ tell. subst (StandsFor empty) (sym (c.start.ensures.opens.content tell)) ((c.init.ensures.made c.in-Done.is).content tell);
-      agrees = λ tell. c.in-Ok.ensures.agrees empty (λ t. (c.init.ensures.made c.in-Done.is).content t);
+      stands = λ tell. subst (StandsFor empty_state) (sym (c.start.ensures.opens.content tell)) ((c.init.ensures.made c.in-Done.is).content tell);
+      agrees = λ tell. c.in-Ok.ensures.agrees empty_state (λ t. (c.init.ensures.made c.in-Done.is).content t);
       held = λ tell. opened_by g.D.Disk.tells (g.D.Disk.state c.init.new.disk) (g.D.Disk.state c.start.new.disk) c.in-Ok.session empty_held (g.met.D.Disk.lawful c.start.new.disk) tell c.in-Ok.ensures.job (c.start.ensures.opens.content tell)
           (record { is = (c.init.ensures.holds c.in-Done.is).content tell; none = refl });
       same_limit = c.start.ensures.opens.same_limit ∙ c.init.ensures.same_limit;

@@ -1,7 +1,7 @@
 use Rattle.std.proofs.Common.{[], ◌≡◌, ℕ, List, None, refl, ap, subst, ◌∙◌, Result, Ok, Err}
 use Rattle.alta_console.proofs.GivingLaws.{gives_piece}
 use Rattle.alta_session.specs.Answering.{Answers}
-use Rattle.alta_session.specs.Machine.{step}
+use Rattle.alta_machine.specs.Machine.{step}
 use Rattle.alta_session.specs.Tasks.{task_of}
 use Rattle.alta_session.specs.declared.status.Status.TheVariants.{DiskFault, GiveFault, Full as StatusFull}
 use Rattle.std.proofs.lemmas.List.Elements.{All-head}

@@ -1,10 +1,10 @@
 use Rattle.std.proofs.Common.{◌≡◌, ℕ, List, map, sym, subst, ◌∙◌}
-use Rattle.alta_compile.specs.PlanOf.{plan_of}
-use Rattle.alta_images.specs.Ordered.{RowsPrecede}
-use Rattle.alta_images.specs.Standing.{tables_by}
+use Rattle.alta_machine.specs.PlanOf.{plan_of}
+use Rattle.alta_meaning.specs.Ordered.{RowsPrecede}
+use Rattle.alta_meaning.specs.Standing.{tables_by}
 use Rattle.alta_loading.specs.Snapshots.{all_rows, loaded_view}
-use Rattle.alta_meta.specs.declared.document.Document.{Document}
-use Rattle.alta_model.specs.Deciding.{answers}
+use Rattle.alta_machine.specs.declared.document.Document.{Document}
+use Rattle.alta_machine.specs.Deciding.{answers}
 use Rattle.alta_search.specs.Documents.{AreToCome}
 use Rattle.alta_search.specs.Plans.{tests_of}
 use Rattle.alta_search.specs.View.{View}

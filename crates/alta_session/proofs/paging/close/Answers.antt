@@ -1,8 +1,7 @@
-use Rattle.std.proofs.Common.{sym, subst, ◌∙◌}
+use Rattle.std.proofs.Common.{sym, subst, ◌∙◌, List}
 use Rattle.std.proofs.lemmas.Bool.{false≢true}
 use Rattle.alta_search.specs.Open.{AreOpen}
 use Rattle.alta_search.specs.declared.cursors.OpenCursor.{OpenCursor}
-use Rattle.std.proofs.Common.{List}
 use Rattle.alta_session.proofs.CursorLaws.{close_had, close_none}
 use Rattle.alta_session.proofs.paging.close.Goals as goal
 

@@ -1,5 +1,5 @@
 use Rattle.std.proofs.Common.{◌≡◌, ◌++◌, string_bytes, take}
-use Rattle.alta_session.specs.Searching.{row_lines}
+use Rattle.alta_machine.specs.Searching.{row_lines}
 use Rattle.alta_session.proofs.replying.put_answers.Given as goal
 
 abbrev pub invariant-loop-index : goal.invariant-loop-index

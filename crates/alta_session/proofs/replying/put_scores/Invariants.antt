@@ -1,5 +1,5 @@
 use Rattle.std.proofs.Common.{◌≡◌, ◌++◌, string_bytes, take}
-use Rattle.alta_session.specs.Searching.{score_lines}
+use Rattle.alta_machine.specs.Searching.{score_lines}
 use Rattle.alta_session.proofs.replying.put_scores.Given as goal
 
 abbrev pub invariant-loop-answer : goal.invariant-loop-answer

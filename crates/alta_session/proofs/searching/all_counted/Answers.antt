@@ -1,6 +1,6 @@
 use Rattle.std.proofs.Common.{◌++◌, ℕ, List, ap, subst, ◌∙◌}
-use Rattle.alta_session.specs.Machine.{IsRefusal}
-use Rattle.alta_session.specs.Searching.{found_line}
+use Rattle.alta_machine.specs.Machine.{IsRefusal}
+use Rattle.alta_machine.specs.Searching.{found_line}
 use Rattle.alta_session.proofs.CursorLaws.{found_other, no_refusal}
 use Rattle.alta_session.proofs.SearchLaws.{counted_are}
 use Rattle.alta_session.proofs.searching.all_counted.Goals as goal

@@ -1,6 +1,6 @@
 use Rattle.std.proofs.Common.{◌++◌, ℕ, List, ap, subst, ◌∙◌}
-use Rattle.alta_session.specs.Machine.{IsRefusal}
-use Rattle.alta_session.specs.Searching.{found_line, row_lines}
+use Rattle.alta_machine.specs.Machine.{IsRefusal}
+use Rattle.alta_machine.specs.Searching.{found_line, row_lines}
 use Rattle.alta_session.proofs.CursorLaws.{no_refusal, rows_other}
 use Rattle.alta_session.proofs.SearchLaws.{listed_are}
 use Rattle.alta_session.proofs.searching.all_listed.Goals as goal

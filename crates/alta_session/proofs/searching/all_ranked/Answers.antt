@@ -1,8 +1,8 @@
 use Rattle.std.proofs.Common.{◌++◌, ℕ, List, [], ap, subst, ◌∙◌}
 use Rattle.alta_query.specs.View.{shape}
-use Rattle.alta_rank.specs.Uses.{uses_of}
-use Rattle.alta_session.specs.Machine.{IsRefusal}
-use Rattle.alta_session.specs.Searching.{found_line, score_lines}
+use Rattle.alta_machine.specs.Uses.{uses_of}
+use Rattle.alta_machine.specs.Machine.{IsRefusal}
+use Rattle.alta_machine.specs.Searching.{found_line, score_lines}
 use Rattle.alta_session.proofs.CursorLaws.{no_refusal, scores_other}
 use Rattle.alta_session.proofs.SearchLaws.{best_are}
 use Rattle.alta_session.proofs.searching.all_ranked.Goals as goal

@@ -1,8 +1,8 @@
 use Rattle.std.proofs.Common.{List, ℕ, sym, subst}
-use Rattle.alta_compile.specs.PlanOf.{plan_of}
+use Rattle.alta_machine.specs.PlanOf.{plan_of}
 use Rattle.alta_loading.specs.Tested.{AreEndsWhole}
-use Rattle.alta_meta.specs.declared.document.Document.{Document}
-use Rattle.alta_model.specs.Deciding.{answers}
+use Rattle.alta_machine.specs.declared.document.Document.{Document}
+use Rattle.alta_machine.specs.Deciding.{answers}
 use Rattle.alta_search.specs.Documents.{AreToCome}
 use Rattle.alta_search.specs.Shown.{ShowsDocuments}
 use Rattle.alta_search.specs.Tops.{AreToRank}

@@ -1,23 +1,23 @@
-use Rattle.alta_compile.specs.PlanOf.{plan_of}
+use Rattle.alta_machine.specs.PlanOf.{plan_of}
 use Rattle.alta_query.specs.View.{shape}
 use Rattle.alta_session.specs.Loading.{top_loads, top_text_loads}
-use Rattle.alta_session.specs.Searching.{IsNoQuery}
+use Rattle.alta_machine.specs.Searching.{IsNoQuery}
 use Rattle.alta_session.proofs.LoadingLaws.{is_query, mark_still, none_ranked, queries_found, queries_idle, top_found}
 use Rattle.alta_session.proofs.SearchLaws.{parsed, not_parsed, rank_found, rank_refused}
 use Rattle.alta_session.proofs.searching.rank.Goals as goal
 
-pub best_listed-reply-requires-clause-read : goal.best_listed-reply-requires-clause-read
-best_listed-reply-requires-clause-read g c = (c.args.text.now, c.utf8.text, c.in-Ok.ensures.found)
+pub search_and_rank-reply-requires-clause-read : goal.search_and_rank-reply-requires-clause-read
+search_and_rank-reply-requires-clause-read g c = (c.args.text.now, c.utf8.text, c.in-Ok.ensures.found)
 
 pub returns-clause-reply : goal.returns-clause-reply
 returns-clause-reply g c = λ s tell stands.
-    rank_found c.best_listed-reply.result c.args.count c.args.text.now s.documents (shape c.in-Ok.query) (parsed c.parse.result c.in-Ok.query c.args.text.now c.in-Ok.is c.parse.ensures.reading) (c.best_listed-reply.ensures.reply s tell stands)
+    rank_found c.search_and_rank-reply.result c.args.count c.args.text.now s.documents (shape c.in-Ok.query) (parsed c.parse.result c.in-Ok.query c.args.text.now c.in-Ok.is c.parse.ensures.reading) (c.search_and_rank-reply.ensures.reply s tell stands)
 
 pub returns-clause-queries : goal.returns-clause-queries
 returns-clause-queries g c =
     let is = parsed c.parse.result c.in-Ok.query c.args.text.now c.in-Ok.is c.parse.ensures.reading in
-    queries_found g.D.Disk.tells g.D.Disk.state c.args.disk.now c.best_listed-reply.new.disk (top_loads c.args.store.now (plan_of (shape c.in-Ok.query))) (top_text_loads c.args.store.now c.args.text.now) (IsNoQuery c.args.text.now) c.best_listed-reply.result
-    (top_found c.args.store.now c.args.text.now (shape c.in-Ok.query) is) (is_query c.args.text.now (shape c.in-Ok.query) is) c.best_listed-reply.ensures.queries
+    queries_found g.D.Disk.tells g.D.Disk.state c.args.disk.now c.search_and_rank-reply.new.disk (top_loads c.args.store.now (plan_of (shape c.in-Ok.query))) (top_text_loads c.args.store.now c.args.text.now) (IsNoQuery c.args.text.now) c.search_and_rank-reply.result
+    (top_found c.args.store.now c.args.text.now (shape c.in-Ok.query) is) (is_query c.args.text.now (shape c.in-Ok.query) is) c.search_and_rank-reply.ensures.queries
 
 pub returns-in-Err-clause-reply : goal.returns-in-Err-clause-reply
 returns-in-Err-clause-reply g c = λ s tell stands.

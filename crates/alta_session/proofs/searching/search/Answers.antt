@@ -1,20 +1,20 @@
-use Rattle.alta_compile.specs.PlanOf.{plan_of}
+use Rattle.alta_machine.specs.PlanOf.{plan_of}
 use Rattle.alta_query.specs.View.{shape}
 use Rattle.alta_session.specs.Loading.{search_loads, text_loads}
-use Rattle.alta_session.specs.Searching.{IsNoQuery}
+use Rattle.alta_machine.specs.Searching.{IsNoQuery}
 use Rattle.alta_session.proofs.LoadingLaws.{is_query, mark_still, none_loaded, queries_found, queries_idle, text_found}
 use Rattle.alta_session.proofs.SearchLaws.{parsed, not_parsed, search_found, search_refused}
 use Rattle.alta_session.proofs.searching.search.Goals as goal
 
 pub returns-clause-reply : goal.returns-clause-reply
 returns-clause-reply g c = λ s tell stands.
-    search_found c.listed-reply.result c.args.text.now s.documents (shape c.in-Ok.query) (parsed c.parse.result c.in-Ok.query c.args.text.now c.in-Ok.is c.parse.ensures.reading) (c.listed-reply.ensures.reply s tell stands)
+    search_found c.search_and_list-reply.result c.args.text.now s.documents (shape c.in-Ok.query) (parsed c.parse.result c.in-Ok.query c.args.text.now c.in-Ok.is c.parse.ensures.reading) (c.search_and_list-reply.ensures.reply s tell stands)
 
 pub returns-clause-queries : goal.returns-clause-queries
 returns-clause-queries g c =
     let is = parsed c.parse.result c.in-Ok.query c.args.text.now c.in-Ok.is c.parse.ensures.reading in
-    queries_found g.D.Disk.tells g.D.Disk.state c.args.disk.now c.listed-reply.new.disk (search_loads c.args.store.now (plan_of (shape c.in-Ok.query))) (text_loads c.args.store.now c.args.text.now) (IsNoQuery c.args.text.now) c.listed-reply.result
-    (text_found c.args.store.now c.args.text.now (shape c.in-Ok.query) is) (is_query c.args.text.now (shape c.in-Ok.query) is) c.listed-reply.ensures.queries
+    queries_found g.D.Disk.tells g.D.Disk.state c.args.disk.now c.search_and_list-reply.new.disk (search_loads c.args.store.now (plan_of (shape c.in-Ok.query))) (text_loads c.args.store.now c.args.text.now) (IsNoQuery c.args.text.now) c.search_and_list-reply.result
+    (text_found c.args.store.now c.args.text.now (shape c.in-Ok.query) is) (is_query c.args.text.now (shape c.in-Ok.query) is) c.search_and_list-reply.ensures.queries
 
 pub returns-in-Err-clause-reply : goal.returns-in-Err-clause-reply
 returns-in-Err-clause-reply g c = λ s tell stands.

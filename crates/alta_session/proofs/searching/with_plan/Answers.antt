@@ -1,6 +1,6 @@
 use Rattle.std.proofs.Common.{◌≡◌, [], rules}
-use Rattle.alta_compile.specs.Explained.{explained}
-use Rattle.alta_compile.specs.PlanOf.{plan_of}
+use Rattle.alta_machine.specs.Explained.{explained}
+use Rattle.alta_machine.specs.PlanOf.{plan_of}
 use Rattle.alta_query.specs.View.{shape}
 use Rattle.alta_session.proofs.SearchLaws.{plan_lines}
 use Rattle.alta_session.proofs.searching.with_plan.Goals as goal

@@ -1,6 +1,6 @@
 use Rattle.std.proofs.Common.{[], ℕ, List, ap, sym, subst, ◌∙◌, Result, Ok, Err}
 use Rattle.alta_session.specs.Answering.{Answers}
-use Rattle.alta_session.specs.Machine.{step}
+use Rattle.alta_machine.specs.Machine.{step}
 use Rattle.alta_session.specs.Tasks.{task_of}
 use Rattle.alta_session.specs.declared.status.Status.TheVariants.{GiveFault}
 use Rattle.std.proofs.lemmas.List.Elements.{All-head}

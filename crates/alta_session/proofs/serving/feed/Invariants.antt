@@ -1,6 +1,6 @@
 use Rattle.std.proofs.Common.{◌≡◌, ◌+◌, ◌≤◌, ◌-◌, length, take}
 use Rattle.alta_codec.specs.Bytes.{Lacks}
-use Rattle.alta_model.specs.declared.line.TheConstants.{LINE_LIMIT}
+use Rattle.alta_machine.specs.declared.line.TheConstants.{LINE_LIMIT}
 use Rattle.alta_console.specs.Lines.{whole_from, begun_from}
 use Rattle.alta_session.specs.Ending.{KeepsCounts}
 use Rattle.alta_session.specs.Answering.{CanAnswer}

@@ -1,6 +1,6 @@
 use Rattle.std.proofs.Common.{refl, ◌∙◌, ap, Err, arith}
 use Rattle.alta_codec.specs.Faults.{Rose}
-use Rattle.alta_session.specs.Machine.{started_at}
+use Rattle.alta_machine.specs.Machine.{started_at}
 use Rattle.alta_session.specs.declared.status.Status.TheVariants.{Done, Usage, TakeFault, GiveFault, TooLong, Exists}
 use Rattle.alta_session.proofs.EndingLaws.{counts_disk, counts_on}
 use Rattle.alta_session.proofs.ServeLaws.{serves_none, serves_opened}

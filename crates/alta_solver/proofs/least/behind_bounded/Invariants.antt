@@ -1,5 +1,5 @@
 use Rattle.std.proofs.Common.{◌≢◌, ◌-◌, ℕ, ◌<◌, ◌≤◌, length, get_or}
-use Rattle.alta_solver.specs.Inequality.{Inequality}
+use Rattle.alta_codec.specs.Inequality.{Inequality}
 use Rattle.alta_solver.proofs.least.behind_bounded.Given as goal
 
 abbrev pub invariant-bounds : goal.invariant-bounds

@@ -1,7 +1,8 @@
 use Rattle.std.proofs.Common.{◌≡◌, ◌≢◌, ℕ, ◌+◌, ◌*◌, ◌<◌, ◌≤◌, Some, List, map, length, refl, sym, subst, ap, ◌∙◌, arith, rules}
 use Rattle.std.specs.Prelude.{slice_index, slice_index_or}
 use Rattle.std.proofs.lemmas.List.{length-map}
-use Rattle.alta_solver.specs.Inequality.{Inequality, upper, lower, IsNamed}
+use Rattle.alta_codec.specs.Inequality.{Inequality, upper, lower}
+use Rattle.alta_solver.specs.Bounds.{IsNamed}
 use Rattle.alta_solver.specs.declared.least.Outcome.TheVariants.{Moved}
 use Rattle.alta_solver.specs.Repair.{IsRepaired}
 use Rattle.alta_solver.specs.Settling.{IsTried}

@@ -1,6 +1,7 @@
 use Rattle.std.proofs.Common.{◌≡◌, ◌<◌, map, length, sym, subst, ◌∙◌, rules}
 use Rattle.std.proofs.lemmas.List.{length-map}
-use Rattle.alta_solver.specs.Inequality.{Inequality, IsNamed}
+use Rattle.alta_codec.specs.Inequality.{Inequality}
+use Rattle.alta_solver.specs.Bounds.{IsNamed}
 use Rattle.alta_solver.proofs.Settling.{tried_settled, tried_moved, tried_stuck}
 use Rattle.alta_solver.proofs.least.try_at.Given.{Over}
 use Rattle.alta_solver.proofs.least.try_at.Goals as goal

@@ -1,7 +1,7 @@
 use Rattle.std.proofs.Common.{◌+◌, ◌*◌, ◌<◌, map, length, subst, arith, rules}
 use Rattle.std.specs.Prelude.{slice_index}
 use Rattle.alta_codec.proofs.Places.{pred_of-below_top}
-use Rattle.alta_solver.specs.Inequality.{Inequality, upper}
+use Rattle.alta_codec.specs.Inequality.{Inequality, upper}
 use Rattle.alta_solver.specs.Solution.{list_at}
 use Rattle.alta_solver.proofs.Pairs.{pair_settled}
 use Rattle.alta_solver.proofs.least.try_pair.Goals as goal

@@ -1,5 +1,6 @@
 use Rattle.std.proofs.Common.{ℕ, ◌+◌, ◌<◌, List, ⊎_elim, subst, refl, sym, arith}
-use Rattle.alta_solver.specs.Inequality.{Inequality, IsPair}
+use Rattle.alta_codec.specs.Inequality.{Inequality}
+use Rattle.alta_solver.specs.Bounds.{IsPair}
 use Rattle.alta_solver.proofs.Raised.{same_or_not}
 use Rattle.alta_solver.proofs.solver.leading_pairs.Goals as goal
 

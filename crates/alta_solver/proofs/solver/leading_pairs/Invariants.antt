@@ -1,5 +1,5 @@
 use Rattle.std.proofs.Common.{◌-◌, length}
-use Rattle.alta_solver.specs.Inequality.{IsPaired}
+use Rattle.alta_solver.specs.Bounds.{IsPaired}
 use Rattle.alta_solver.proofs.solver.leading_pairs.Given as goal
 
 abbrev pub invariant-pairs : goal.invariant-pairs

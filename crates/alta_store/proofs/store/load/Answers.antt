@@ -3,12 +3,12 @@ use Rattle.std.specs.List.{All}
 use Rattle.alta_catalog.specs.Rows.{MayStart}
 use Rattle.alta_content.specs.Rows.{AreDocuments, end_of}
 use Rattle.alta_content.specs.declared.document.DocRow.{DocRow}
-use Rattle.alta_images.specs.Entries.{after_entries, entries_in}
+use Rattle.alta_meaning.specs.Entries.{after_entries, entries_in}
 use Rattle.alta_table.specs.Tables.{Tables}
 use Rattle.std.specs.Prelude.{Err}
 use Rattle.alta_catalog.proofs.MayLaws.{may_start}
-use Rattle.alta_images.specs.Broken.{IsBrokenAt}
-use Rattle.alta_images.specs.Opened.{journal_of, table_rows, extent_of}
+use Rattle.alta_meaning.specs.Broken.{IsBrokenAt}
+use Rattle.alta_meaning.specs.Opened.{journal_of, table_rows, extent_of}
 use Rattle.alta_journal.specs.Journal.{HasBrokenHalf}
 use Rattle.alta_journal.specs.Placed.{IsReplay}
 use Rattle.alta_journal.specs.Places.{start_of}
@@ -33,7 +33,7 @@ returns-in-Err-open_levels-clause-damaged g c = λ told place e.
     let counts = subst (Counts c.in-Ok.roots.slot c.in-Ok.roots.root) (sym (c.read_roots.ensures.reads.content told)) (c.in-Ok.ensures.counts told) in
     subst (λ (image : List ℕ). IsBrokenAt image place) (c.read_roots.ensures.reads.content told)
     (c.in-Err-open_levels.ensures.damaged told c.in-Ok.roots.slot counts place
-    (ap Err (of_levels_damaged c.in-Err-open_levels.fault place (sym c.levels_fault.ensures ∙ same_error _ _ e))))
+    (ap Err (of_levels_damaged c.in-Err-open_levels.fault place (sym c.load_fault.ensures ∙ same_error _ _ e))))
 
 pub returns-in-Err-replay-clause-damaged : goal.returns-in-Err-replay-clause-damaged
 returns-in-Err-replay-clause-damaged g c = λ told place e.
@@ -46,7 +46,7 @@ returns-in-Err-replay-clause-damaged g c = λ told place e.
     (damaged_record middle slot root _ _ has c.in-Ok-open_levels.ensures.ends place
     (subst (λ (image : List ℕ). HasBrokenHalf root.version (journal_of slot) place image) (c.open_levels.ensures.reads.content told)
     (subst (λ (h : Half). HasBrokenHalf root.version (start_of h) place (g.D.Disk.state c.open_levels.new.disk).content) c.half_of.ensures
-    (c.in-Err-replay.ensures.damaged told place (of_damaged c.in-Err-replay.fault place (sym c.opening_fault.ensures ∙ same_error _ _ e))))))
+    (c.in-Err-replay.ensures.damaged told place (of_damaged c.in-Err-replay.fault place (sym c.load_fault-in-Err-replay.ensures ∙ same_error _ _ e))))))
 
 pub returns-in-Ok-catalog_of-clause-loaded : goal.returns-in-Ok-catalog_of-clause-loaded
 returns-in-Ok-catalog_of-clause-loaded g c = λ told.

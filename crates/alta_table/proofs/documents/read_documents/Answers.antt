@@ -1,5 +1,5 @@
 use Rattle.std.proofs.Common.{[], arith}
-use Rattle.alta_format.specs.FormatLaws.{left_fits, read_spells}
+use Rattle.alta_format.proofs.FormatLaws.{left_fits, read_spells}
 use Rattle.alta_table.specs.Documents.{documents_format}
 use Rattle.alta_table.proofs.TableLaws.{documents_spelled}
 use Rattle.alta_table.proofs.documents.read_documents.Goals as goal

@@ -1,6 +1,6 @@
 use Rattle.std.proofs.Common.{rules, ◌≡◌, ◌<◌, ◌++◌, ◌∷◌, [], length, arith}
 use Rattle.alta_format.specs.Format.{read}
-use Rattle.alta_format.specs.EntryLaws.{from_start, goes_on, stops, closed, left_over}
+use Rattle.alta_format.proofs.EntryLaws.{from_start, goes_on, stops, closed, left_over}
 use Rattle.alta_table.specs.Documents.{documents_format, documents_table}
 use Rattle.alta_content.specs.Rows.{Before, start}
 use Rattle.alta_table.proofs.PlaceLaws.{name_within, row_read, reads_none}

@@ -1,6 +1,6 @@
 use Rattle.std.proofs.Common.{◌≡◌, ◌<◌}
 use Rattle.alta_format.specs.Format.{read}
-use Rattle.alta_format.specs.EntryLaws.{from_here}
+use Rattle.alta_format.proofs.EntryLaws.{from_here}
 use Rattle.alta_codec.specs.declared.location.TheConstants.{TOP}
 use Rattle.alta_table.specs.Documents.{documents_format, documents_table}
 use Rattle.alta_table.proofs.PlaceLaws.{AreRead}

@@ -1,6 +1,6 @@
 use Rattle.std.proofs.Common.{min, arith}
 use Rattle.alta_format.specs.Format.{FirstBroken}
-use Rattle.alta_format.specs.FormatLaws.{AreBytes-take, part_first, part_found}
+use Rattle.alta_format.proofs.FormatLaws.{AreBytes-take, part_first, part_found}
 use Rattle.alta_table.specs.Tables.{HasHead, head_format, head_part, read_head}
 use Rattle.alta_table.specs.declared.sizes.Head.{Head}
 use Rattle.alta_table.proofs.Opened.{always_first, always_read}

@@ -1,5 +1,5 @@
 use Rattle.std.proofs.Common.{take, length-take, arith}
-use Rattle.alta_format.specs.FormatLaws.{left_fits, AreBytes-take}
+use Rattle.alta_format.proofs.FormatLaws.{left_fits, AreBytes-take}
 use Rattle.alta_table.specs.Tables.{head_format}
 use Rattle.alta_table.proofs.heading.read_front.Goals as goal
 

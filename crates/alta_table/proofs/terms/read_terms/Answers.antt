@@ -1,5 +1,5 @@
 use Rattle.std.proofs.Common.{arith}
-use Rattle.alta_format.specs.FormatLaws.{left_fits}
+use Rattle.alta_format.proofs.FormatLaws.{left_fits}
 use Rattle.alta_table.specs.Terms.{terms_format}
 use Rattle.alta_table.proofs.terms.read_terms.Goals as goal
 

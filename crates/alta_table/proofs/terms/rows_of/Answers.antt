@@ -1,6 +1,6 @@
 use Rattle.std.proofs.Common.{rules, ◌≡◌, ◌<◌, ◌++◌, ◌∷◌, List, [], length, take, ℕ, refl, arith}
 use Rattle.alta_format.specs.Format.{read}
-use Rattle.alta_format.specs.EntryLaws.{from_start, goes_on, stops, closed, left_over}
+use Rattle.alta_format.proofs.EntryLaws.{from_start, goes_on, stops, closed, left_over}
 use Rattle.alta_table.specs.Places.{row_in, rows_in, places_in}
 use Rattle.alta_table.specs.Terms.{terms_format, terms_table}
 use Rattle.alta_table.specs.declared.span.TermSpan.{TermSpan}

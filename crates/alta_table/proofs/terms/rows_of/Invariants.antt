@@ -1,7 +1,7 @@
 use Rattle.std.proofs.Common.{◌≡◌, ◌≤◌, take}
 use Rattle.std.specs.List.{All}
 use Rattle.alta_format.specs.Format.{read}
-use Rattle.alta_format.specs.EntryLaws.{from_here}
+use Rattle.alta_format.proofs.EntryLaws.{from_here}
 use Rattle.alta_table.specs.Places.{rows_in, places_in}
 use Rattle.alta_table.specs.Terms.{terms_table, terms_format}
 use Rattle.alta_table.proofs.PlaceLaws.{AreTermsRead}

@@ -1,6 +1,6 @@
 use Rattle.std.proofs.Common.{length, refl, arith}
 use Rattle.std.proofs.lemmas.List.{take_all}
-use Rattle.alta_format.specs.EntryLaws.{keeps_first, put_more, put_all}
+use Rattle.alta_format.proofs.EntryLaws.{keeps_first, put_more, put_all}
 use Rattle.alta_table.specs.Documents.{documents_table, row_bytes}
 use Rattle.alta_content.specs.Rows.{MayFollow, start}
 use Rattle.alta_table.proofs.Grown.{grown_more}

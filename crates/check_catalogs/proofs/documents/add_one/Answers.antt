@@ -1,5 +1,5 @@
 use Rattle.std.proofs.Common.{refl}
-use Rattle.alta_images.specs.States.{with_added}
+use Rattle.alta_machine.specs.Changes.{with_added}
 use Rattle.check_catalogs.proofs.documents.add_one.Goals as goal
 
 pub add-requires-clause-left : goal.add-requires-clause-left

@@ -1,5 +1,5 @@
 use Rattle.std.proofs.Common.{subst, sym}
-use Rattle.alta_images.specs.States.{without}
+use Rattle.alta_machine.specs.Changes.{without}
 use Rattle.alta_catalog.specs.Knowing.{Knows}
 use Rattle.alta_catalog.specs.declared.catalog.Catalog.{Catalog}
 use Rattle.check_catalogs.proofs.documents.delete_one.Goals as goal

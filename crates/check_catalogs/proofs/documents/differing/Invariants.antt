@@ -1,4 +1,4 @@
-use Rattle.alta_meta.specs.declared.document.State.{State}
+use Rattle.alta_machine.specs.declared.document.State.{State}
 use Rattle.alta_catalog.specs.Knowing.{Knows}
 use Rattle.check_catalogs.proofs.documents.differing.Given as goal
 

@@ -1,7 +1,7 @@
 use Rattle.std.proofs.Common.{List, ℕ, [], ap, arith, rules, sym, ◌∙◌}
 use Rattle.std.proofs.lemmas.Grind.{common_steps}
 use Rattle.std.proofs.lemmas.List.Elements.{All-cons, All-nil}
-use Rattle.alta_meta.specs.Cells.{cells_of}
+use Rattle.alta_machine.specs.Cells.{cells_of}
 use Rattle.alta_memlevel.specs.Documents.{IsMade}
 use Rattle.check_contents.proofs.worked.level_of.Goals as goal
 

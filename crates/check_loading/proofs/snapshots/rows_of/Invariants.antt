@@ -1,5 +1,5 @@
 use Rattle.std.proofs.Common.{◌≡◌, take}
-use Rattle.alta_images.specs.Opened.{table_rows}
+use Rattle.alta_meaning.specs.Opened.{table_rows}
 use Rattle.check_loading.proofs.snapshots.rows_of.Given as goal
 
 abbrev pub invariant-loop-level : goal.invariant-loop-level

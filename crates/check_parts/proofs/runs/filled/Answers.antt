@@ -4,7 +4,7 @@ use Rattle.alta_codec.specs.Rising.{IsRising}
 use Rattle.alta_codec.specs.declared.location.TheConstants.{TOP}
 use Rattle.alta_content.specs.Rows.{end_of}
 use Rattle.alta_content.specs.declared.document.DocRow.{DocRow}
-use Rattle.alta_rows.proofs.Behind.{each_more, rising_more}
+use Rattle.alta_content.proofs.Behind.{each_more, rising_more}
 use Rattle.check_parts.proofs.runs.filled.Goals as goal
 
 module _ (rows : List DocRow) (next : DocRow) (i : ℕ) (place : end_of next ≡ i + 1) (below : (k : ℕ) → k < length (map end_of rows) → get_or (map end_of rows) k 0 ≤ i) where

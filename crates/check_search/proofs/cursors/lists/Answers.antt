@@ -7,9 +7,9 @@ use Rattle.alta_search.specs.Lists.{AreKeys, key_of, level_in}
 use Rattle.alta_search.specs.declared.lists.LevelList.{LevelList}
 use Rattle.alta_search.specs.declared.lists.TermLists.{TermLists}
 use Rattle.alta_search.proofs.Cuts.{keys_none, keys_push}
-use Rattle.alta_meta.specs.declared.kinds.TheConstants.{DOCUMENT_END}
-use Rattle.alta_query.specs.declared.test.Test.{Test}
-use Rattle.alta_query.specs.declared.test.Test.TheVariants.{Is}
+use Rattle.alta_machine.specs.declared.kinds.TheConstants.{DOCUMENT_END}
+use Rattle.alta_machine.specs.declared.test.Test.{Test}
+use Rattle.alta_machine.specs.declared.test.Test.TheVariants.{Is}
 use Rattle.alta_search.specs.Met.{MeetTest}
 use Rattle.alta_search.specs.Newest.{term_meets}
 use Rattle.check_search.proofs.Keys.{none_met, put_met}

@@ -2,7 +2,7 @@ use Rattle.std.proofs.Common.{◌≡◌, ◌++◌, ◌∷◌, [], List, append_a
 use Rattle.std.specs.Prelude.{All}
 use Rattle.std.proofs.lemmas.List.{map_push}
 use Rattle.std.proofs.lemmas.List.Elements.{All-push}
-use Rattle.alta_query.specs.declared.test.Test.{Test}
+use Rattle.alta_machine.specs.declared.test.Test.{Test}
 use Rattle.alta_search.specs.Lists.{test_in, test_lists, test_keys, IsCut, AreKeys}
 use Rattle.alta_search.specs.Met.{MeetsTest}
 use Rattle.alta_search.specs.declared.lists.TestLists.{TestLists}

@@ -1,7 +1,7 @@
 use Rattle.std.proofs.Common.{◌<◌, List, ap, length, refl, subst, sym, ◌∙◌}
 use Rattle.std.specs.List.{sum_by}
 use Rattle.alta_content.specs.Rows.{live_rows}
-use Rattle.alta_images.specs.Opened.{table_rows}
+use Rattle.alta_meaning.specs.Opened.{table_rows}
 use Rattle.alta_table.specs.Tables.{Tables}
 use Rattle.alta_catalog.specs.Counting.{cells_in, row_words}
 use Rattle.alta_catalog.proofs.StartingLaws.{cells_below, starts}

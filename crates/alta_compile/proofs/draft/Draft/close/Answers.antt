@@ -1,7 +1,7 @@
 use Rattle.std.proofs.Common.{◌≡◌, ◌++◌, suc, length, sym, subst, rules}
 use Rattle.alta_docread.specs.Solutions.{IsHeld}
-use Rattle.alta_solver.specs.Inequality.{IsNamed}
-use Rattle.alta_compile.specs.PlanOf.{held}
+use Rattle.alta_solver.specs.Bounds.{IsNamed}
+use Rattle.alta_machine.specs.PlanOf.{held}
 use Rattle.alta_compile.proofs.Drafts.{held_named, held_is}
 use Rattle.alta_compile.proofs.draft.Draft.close.Goals as goal
 

@@ -3,7 +3,7 @@ use Rattle.std.specs.BinaryHeap.{heap_items}
 use Rattle.std.proofs.lemmas.Bool.{false≢true}
 use Rattle.std.proofs.lemmas.List.Elements.{All-from_recursion}
 use Rattle.alta_rank.specs.Kept.{IsBest, KeptOf}
-use Rattle.alta_rank.specs.declared.scored.Scored.{Scored}
+use Rattle.alta_machine.specs.declared.scored.Scored.{Scored}
 use Rattle.alta_rank.proofs.Keeping.{after_number, after_score, best-left_out, best-none_kept, lt}
 use Rattle.alta_rank.proofs.best.Best.has_place.Goals as goal
 

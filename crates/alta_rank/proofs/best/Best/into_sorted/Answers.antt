@@ -2,8 +2,8 @@ use Rattle.std.proofs.Common.{◌≡◌, ◌≢◌, List, map, take, subst}
 use Rattle.std.specs.BinaryHeap.{heap_items}
 use Rattle.std.specs.Prelude.{AllPairs}
 use Rattle.alta_rank.specs.Kept.{IsBest, KeptOf}
-use Rattle.alta_rank.specs.Ranked.{number_of, ranked}
-use Rattle.alta_rank.specs.declared.scored.Scored.{Scored}
+use Rattle.alta_machine.specs.Ranked.{number_of, ranked}
+use Rattle.alta_machine.specs.declared.scored.Scored.{Scored}
 use Rattle.alta_rank.proofs.Keeping.{best-sorted}
 use Rattle.alta_rank.proofs.best.Best.into_sorted.Goals as goal
 

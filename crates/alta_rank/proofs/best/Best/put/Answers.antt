@@ -1,7 +1,7 @@
 use Rattle.std.proofs.Common.{◌++◌, ◌∷◌, [], List, subst}
 use Rattle.std.specs.BinaryHeap.{heap_items}
 use Rattle.alta_rank.specs.Kept.{IsBest, KeptOf}
-use Rattle.alta_rank.specs.declared.scored.Scored.{Scored}
+use Rattle.alta_machine.specs.declared.scored.Scored.{Scored}
 use Rattle.alta_rank.proofs.Keeping.{best-more}
 use Rattle.alta_rank.proofs.best.Best.put.Goals as goal
 

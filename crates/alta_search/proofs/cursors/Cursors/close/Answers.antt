@@ -2,7 +2,7 @@ use Rattle.std.proofs.Common.{◌≡◌, ◌||◌, ℕ, Bool, true, false, cond,
 use Rattle.std.specs.Prelude.{◌↔◌, IsSome, filter, ◌==◌}
 use Rattle.std.specs.List.{list_any}
 use Rattle.std.proofs.lemmas.Fn.{filter_same}
-use Rattle.alta_search.specs.Open.{left_of}
+use Rattle.alta_machine.specs.OpenAnswers.{left_of}
 use Rattle.alta_search.specs.declared.cursors.OpenCursor.{OpenCursor}
 use Rattle.alta_search.proofs.CursorAnswers.{had_is, numbers_kept, open_kept}
 use Rattle.alta_search.proofs.cursors.Cursors.close.Goals as goal

@@ -1,6 +1,6 @@
 use Rattle.std.proofs.Common.{◌≡◌, ◌<◌, length, sym, subst, ap, ◌∙◌}
 use Rattle.alta_search.specs.Open.{AreOpen}
-use Rattle.alta_search.specs.declared.cursors.TheConstants.{CURSORS}
+use Rattle.alta_machine.specs.declared.cursors.TheConstants.{CURSORS}
 use Rattle.alta_search.proofs.CursorAnswers.{free_in, free_range, numbers_opened, opened_is, same_free}
 use Rattle.alta_search.proofs.cursors.Cursors.open.Goals as goal
 

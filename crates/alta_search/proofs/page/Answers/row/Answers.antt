@@ -3,7 +3,8 @@ use Rattle.std.specs.Prelude.{slice_get, Some}
 use Rattle.std.proofs.lemmas.Option.{slice_get-map, slice_get_read, get_or_from_slice_get}
 use Rattle.std.proofs.lemmas.List.{length-map}
 use Rattle.std.specs.Option.{option_map}
-use Rattle.alta_search.specs.Told.{AnswerRow, answer_of, no_row}
+use Rattle.alta_machine.specs.Searching.{AnswerRow}
+use Rattle.alta_search.specs.Told.{answer_of, no_row}
 use Rattle.alta_search.proofs.page.Answers.row.Goals as goal
 
 pub returns : goal.returns

@@ -1,11 +1,9 @@
 use Rattle.std.specs.Prelude.{All}
-use Rattle.std.proofs.Common.{[]}
+use Rattle.std.proofs.Common.{[], ℕ, List, ◌<◌, length, map}
 use Rattle.std.proofs.lemmas.List.Elements.{All-nil}
 use Rattle.alta_codec.specs.Rising.{IsRising}
-use Rattle.std.proofs.Common.{ℕ, List, ◌<◌, length}
 use Rattle.std.specs.List.{concat}
 use Rattle.alta_search.specs.Lists.{IsCut, AreKeys, test_lists, test_keys}
-use Rattle.std.proofs.Common.{map}
 use Rattle.alta_search.proofs.Cuts.{keys_none}
 use Rattle.alta_search.proofs.Single.{met_uses}
 use Rattle.alta_search.proofs.Uses.{all_at}

@@ -1,17 +1,17 @@
 use Rattle.std.proofs.Common.{refl, ◌≡◌, ◌≤◌, ℕ, true, false, List, ◌++◌, inl, inr, ⊎_elim, ap, sym, subst, ◌∙◌, codes, decimal, Err, rules, arith}
 use Rattle.alta_disk.specs.Disk.{LeavesOnly}
-use Rattle.alta_images.specs.Standing.{StandsFor, StandsForEither}
-use Rattle.alta_images.specs.States.{with_added, has_name}
-use Rattle.alta_images.specs.Work.{enters}
+use Rattle.alta_meaning.specs.Standing.{StandsFor, StandsForEither}
+use Rattle.alta_machine.specs.Changes.{with_added, has_name}
+use Rattle.alta_meaning.specs.Work.{enters}
 use Rattle.alta_journal.specs.declared.entry.Entry.TheVariants.{Add}
-use Rattle.alta_meta.specs.declared.document.State.{State}
-use Rattle.alta_session.specs.Machine.{adding}
+use Rattle.alta_machine.specs.declared.document.State.{State}
+use Rattle.alta_machine.specs.Machine.{adding}
 use Rattle.alta_session.specs.Tasks.{task_of_add}
 use Rattle.alta_store.specs.Agreement.{Has, Knows}
 use Rattle.alta_store.specs.declared.store.Store.{Store}
 use Rattle.alta_store.specs.declared.fault.StoreFault.TheVariants.{Damaged, Disk, Taken, Numbers, Full}
-use Rattle.alta_model.specs.Command.{adds}
-use Rattle.alta_model.specs.Lines.{asks}
+use Rattle.alta_machine.specs.Command.{adds}
+use Rattle.alta_machine.specs.Lines.{asks}
 use Rattle.alta_session.proofs.JoiningLaws.{joins_task, lacks_task, works_done, works_failed, works_from, works_still}
 use Rattle.alta_session.proofs.AddingLaws.{adding_bad, adding_full, adding_added, added_is_none, leaves_adding, not_refused, room_left}
 use Rattle.alta_session.proofs.AgreementLaws.{knows_state}

@@ -1,17 +1,17 @@
 use Rattle.std.proofs.Common.{refl, ◌≡◌, ℕ, false, List, ap, sym, subst, ◌∙◌, Err, rules, arith}
 use Rattle.std.specs.Prelude.{Some}
 use Rattle.alta_disk.specs.Disk.{LeavesOnly}
-use Rattle.alta_images.specs.Standing.{StandsFor, StandsForEither}
-use Rattle.alta_images.specs.States.{has_name, with_deleted, number_of}
-use Rattle.alta_images.specs.Work.{enters}
+use Rattle.alta_meaning.specs.Standing.{StandsFor, StandsForEither}
+use Rattle.alta_machine.specs.Changes.{has_name, with_deleted, number_of}
+use Rattle.alta_meaning.specs.Work.{enters}
 use Rattle.alta_journal.specs.declared.entry.Entry.TheVariants.{Delete}
-use Rattle.alta_meta.specs.declared.document.State.{State}
-use Rattle.alta_session.specs.Machine.{deleting}
+use Rattle.alta_machine.specs.declared.document.State.{State}
+use Rattle.alta_machine.specs.Machine.{deleting}
 use Rattle.alta_session.specs.Tasks.{task_of_delete}
 use Rattle.alta_store.specs.Agreement.{Has}
 use Rattle.alta_store.specs.declared.fault.StoreFault.TheVariants.{Damaged, Disk, Missing, Full}
-use Rattle.alta_model.specs.Command.{deletes}
-use Rattle.alta_model.specs.Lines.{asks}
+use Rattle.alta_machine.specs.Command.{deletes}
+use Rattle.alta_machine.specs.Lines.{asks}
 use Rattle.alta_session.proofs.JoiningLaws.{joins_task, lacks_task, works_done, works_failed, works_still}
 use Rattle.alta_session.proofs.AgreementLaws.{knows_state}
 use Rattle.alta_session.proofs.AnsweringLaws.{same_fault, same_store, looked, answers_same, changed, changed_rests}

@@ -1,9 +1,9 @@
 use Rattle.std.proofs.Common.{ℕ, List, subst, Result}
 use Rattle.alta_session.specs.Answering.{Answers}
-use Rattle.alta_session.specs.Machine.{step}
+use Rattle.alta_machine.specs.Machine.{step}
 use Rattle.alta_session.specs.Tasks.{task_of}
 use Rattle.alta_store.specs.declared.fault.StoreFault.{StoreFault}
-use Rattle.alta_model.specs.Lines.{reading_of}
+use Rattle.alta_machine.specs.Lines.{reading_of}
 use Rattle.alta_session.specs.Joining.{Works}
 use Rattle.alta_session.proofs.AnsweringLaws.{answers_failed}
 use Rattle.alta_session.proofs.session.Session.line.Goals as goal

@@ -2,17 +2,17 @@ use Rattle.std.proofs.Common.{refl, ◌≡◌, ◌≤◌, ℕ, true, false, List
 use Rattle.std.specs.Prelude.{Some}
 use Rattle.std.proofs.lemmas.Bool.{false≢true}
 use Rattle.alta_disk.specs.Disk.{LeavesOnly}
-use Rattle.alta_images.specs.Standing.{StandsFor, StandsForEither}
-use Rattle.alta_images.specs.States.{has_name, number_of, with_replaced}
-use Rattle.alta_images.specs.Work.{enters}
+use Rattle.alta_meaning.specs.Standing.{StandsFor, StandsForEither}
+use Rattle.alta_machine.specs.Changes.{has_name, number_of, with_replaced}
+use Rattle.alta_meaning.specs.Work.{enters}
 use Rattle.alta_journal.specs.declared.entry.Entry.TheVariants.{Replace}
-use Rattle.alta_meta.specs.declared.document.State.{State}
-use Rattle.alta_session.specs.Machine.{adding}
+use Rattle.alta_machine.specs.declared.document.State.{State}
+use Rattle.alta_machine.specs.Machine.{adding}
 use Rattle.alta_session.specs.Tasks.{task_of_add}
 use Rattle.alta_store.specs.Agreement.{Has}
 use Rattle.alta_store.specs.declared.fault.StoreFault.TheVariants.{Damaged, Disk, Missing, Numbers, Full}
-use Rattle.alta_model.specs.Command.{adds}
-use Rattle.alta_model.specs.Lines.{asks}
+use Rattle.alta_machine.specs.Command.{adds}
+use Rattle.alta_machine.specs.Lines.{asks}
 use Rattle.alta_session.proofs.JoiningLaws.{joins_task, lacks_task, works_done, works_failed}
 use Rattle.alta_session.proofs.AddingLaws.{adding_full, adding_replaced, leaves_adding, not_refused, number_left, replaced_is_none}
 use Rattle.alta_session.proofs.AgreementLaws.{knows_state}

@@ -1,19 +1,19 @@
 use Rattle.std.proofs.Common.{◌≡◌, ◌⊎◌, ◌≤◌, ◌++◌, ℕ, inl, List, length, codes, decimal, ◌∙◌, ap, sym, subst}
 use Rattle.std.specs.Prelude.{Some}
-use Rattle.alta_dump.specs.Dumps.{dump_of}
+use Rattle.alta_machine.specs.Dumps.{dump_of}
 use Rattle.alta_dump.specs.Shown.{dump_tests}
-use Rattle.alta_meta.specs.declared.document.State.{State}
-use Rattle.alta_images.specs.Work.{flushes, merges, steps}
-use Rattle.alta_model.specs.Command.{adds, deletes, searches, counts as asks_count, explains, opens, fetches, closes, ranks, flushes as asks_flush, merges as asks_merge, steps as asks_step, asks_stats, dumps}
-use Rattle.alta_model.specs.Lines.{Reading, asks}
+use Rattle.alta_machine.specs.declared.document.State.{State}
+use Rattle.alta_meaning.specs.Work.{flushes, merges, steps}
+use Rattle.alta_machine.specs.Command.{adds, deletes, searches, counts as asks_count, explains, opens, fetches, closes, ranks, flushes as asks_flush, merges as asks_merge, steps as asks_step, asks_stats, dumps}
+use Rattle.alta_machine.specs.Lines.{Reading, asks}
 use Rattle.alta_search.specs.Open.{AreOpen}
-use Rattle.alta_search.specs.declared.cursors.TheConstants.{CURSORS}
-use Rattle.alta_session.specs.Cursors.{opening, fetching, closing}
+use Rattle.alta_machine.specs.declared.cursors.TheConstants.{CURSORS}
+use Rattle.alta_machine.specs.Cursors.{opening, fetching, closing}
 use Rattle.alta_session.specs.Loading.{Loads, loads_in, newest_in, open_loads, order_loads, text_loads, top_text_loads}
-use Rattle.alta_session.specs.Machine.{LooksIn, SearchesIn, changed_by, adding, deleting, step, stats_of}
-use Rattle.alta_session.specs.Searching.{IsNoQuery, searching, counting, ranking}
+use Rattle.alta_machine.specs.Machine.{LooksIn, SearchesIn, changed_by, adding, deleting, step, stats_of}
+use Rattle.alta_machine.specs.Searching.{IsNoQuery, searching, counting, ranking}
 use Rattle.alta_session.specs.Tasks.{task_of, task_of_add, task_of_delete}
-use Rattle.alta_images.specs.States.{words_in}
+use Rattle.alta_machine.specs.Changes.{words_in}
 use Rattle.alta_session.specs.Spending.{OnlyReads, ReadsIn}
 use Rattle.alta_session.specs.Joining.{Works}
 use Rattle.alta_session.proofs.JoiningLaws.{works_searching, works_still}

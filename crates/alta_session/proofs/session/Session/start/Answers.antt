@@ -1,5 +1,5 @@
 use Rattle.std.proofs.Common.{refl, subst, sym}
-use Rattle.alta_images.specs.Standing.{StandsFor}
+use Rattle.alta_meaning.specs.Standing.{StandsFor}
 use Rattle.alta_session.proofs.AgreementLaws.{agrees_started}
 use Rattle.alta_session.proofs.OpeningLaws.{opens_err, opens_ok}
 use Rattle.alta_session.proofs.session.Session.start.Goals as goal

@@ -1,13 +1,13 @@
 use Rattle.std.proofs.Common.{refl, ◌≡◌, ap, codes, Err, rules, arith}
 use Rattle.std.specs.Prelude.{Some}
-use Rattle.alta_images.specs.Work.{steps}
-use Rattle.alta_meta.specs.declared.document.State.{State}
-use Rattle.alta_session.specs.Machine.{IsRefusal}
+use Rattle.alta_meaning.specs.Work.{steps}
+use Rattle.alta_machine.specs.declared.document.State.{State}
+use Rattle.alta_machine.specs.Machine.{IsRefusal}
 use Rattle.alta_store.specs.Agreement.{Has}
 use Rattle.alta_store.specs.Calls.{NoRefusal}
 use Rattle.alta_store.specs.declared.fault.StoreFault.TheVariants.{Damaged, Disk, Full}
-use Rattle.alta_model.specs.Command.{steps as asks_step}
-use Rattle.alta_model.specs.Lines.{asks}
+use Rattle.alta_machine.specs.Command.{steps as asks_step}
+use Rattle.alta_machine.specs.Lines.{asks}
 use Rattle.alta_session.proofs.JoiningLaws.{failed_done, works_done, works_failed}
 use Rattle.alta_session.proofs.AnsweringLaws.{changed}
 use Rattle.alta_session.proofs.ObeyingLaws.{obeyed_works, obeyed_full, narrow_at, some_only}

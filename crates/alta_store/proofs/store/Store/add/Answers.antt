@@ -1,6 +1,6 @@
 use Rattle.std.proofs.Common.{◌≡◌, ⊎_elim, ℕ, ap, false, refl, rules}
 use Rattle.std.proofs.lemmas.Bool.{false≢true, cases_lt}
-use Rattle.alta_images.specs.States.{has_name, with_added}
+use Rattle.alta_machine.specs.Changes.{has_name, with_added}
 use Rattle.alta_store.specs.Calls.{NoRefusal, RefusesAdd}
 use Rattle.alta_store.proofs.Changing.{changes_fault, changes_ok}
 use Rattle.alta_store.proofs.store.Store.add.Goals as goal

@@ -1,5 +1,5 @@
 use Rattle.std.proofs.Common.{ℕ, sym, ◌∙◌, ap}
-use Rattle.alta_images.specs.States.{with_deleted}
+use Rattle.alta_machine.specs.Changes.{with_deleted}
 use Rattle.alta_journal.specs.declared.entry.Entry.TheVariants.{Delete}
 use Rattle.alta_store.specs.Calls.{NoRefusal}
 use Rattle.alta_store.proofs.Changing.{changes_fault, changes_ok, obeys_as, some_is}

@@ -1,4 +1,4 @@
-use Rattle.alta_images.specs.States.{with_deleted}
+use Rattle.alta_machine.specs.Changes.{with_deleted}
 use Rattle.alta_store.proofs.Commits.{delete_allowed, delete_steps}
 use Rattle.alta_store.proofs.store.Store.enter_delete.Goals as goal
 

@@ -1,10 +1,10 @@
 use Rattle.std.proofs.Common.{sym, subst}
-use Rattle.alta_images.specs.Entries.{Allows}
-use Rattle.alta_images.specs.States.{with_replaced}
+use Rattle.alta_meaning.specs.Entries.{Allows}
+use Rattle.alta_machine.specs.Changes.{with_replaced}
 use Rattle.alta_journal.specs.Entry.{KeepsRules}
 use Rattle.alta_journal.specs.declared.entry.Entry.{Entry}
 use Rattle.alta_journal.specs.declared.entry.Entry.TheVariants.{Replace}
-use Rattle.alta_meta.specs.declared.document.State.{State}
+use Rattle.alta_machine.specs.declared.document.State.{State}
 use Rattle.alta_store.specs.Calls.{IsStepFrom, NoRefusal}
 use Rattle.alta_store.proofs.Changing.{obeys_as}
 use Rattle.alta_store.proofs.Commits.{keeps_texts, replace_allowed, replace_steps}

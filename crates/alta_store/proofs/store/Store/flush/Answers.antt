@@ -1,6 +1,6 @@
 use Rattle.std.proofs.Common.{◌∙◌, sym}
 use Rattle.std.proofs.lemmas.Bool.{false≢true}
-use Rattle.alta_images.proofs.Tests.{equal_from, equal_test}
+use Rattle.alta_meaning.proofs.Tests.{equal_from, equal_test}
 use Rattle.alta_journal.specs.Places.{start_of}
 use Rattle.alta_store.specs.Calls.{NoRefusal}
 use Rattle.alta_store.proofs.Changing.{changes_fault}

@@ -1,5 +1,5 @@
 use Rattle.std.proofs.Common.{List, refl, sym, ◌∙◌, ap, subst, Result, Ok, Err}
-use Rattle.alta_images.specs.Work.{steps}
+use Rattle.alta_meaning.specs.Work.{steps}
 use Rattle.alta_store.specs.Calls.{NoRefusal, Obeys}
 use Rattle.alta_store.specs.Putting.{IsDrained}
 use Rattle.alta_store.specs.declared.fault.StoreFault.{StoreFault}

@@ -5,7 +5,7 @@ use Rattle.alta_root.specs.Slots.{Counts}
 use Rattle.std.proofs.lemmas.Result.{IfOk-at_ok}
 use Rattle.alta_disk.proofs.Moments.{only_same, passes_same}
 use Rattle.alta_store.specs.Agreement.{Agrees, KeepsOpened, IsIntact, Keeps, levels_of}
-use Rattle.alta_images.specs.Opened.{IsOpened}
+use Rattle.alta_meaning.specs.Opened.{IsOpened}
 use Rattle.alta_store.specs.declared.store.Store.{Store}
 use Rattle.alta_store.proofs.Agreements.{kept}
 use Rattle.alta_store.proofs.GoingOn.{none_goes_on}

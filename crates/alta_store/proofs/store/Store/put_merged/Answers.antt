@@ -4,8 +4,8 @@ use Rattle.alta_catalog.specs.Knowing.{gone_of, newest_of}
 use Rattle.alta_content.specs.Parts.{IsPart}
 use Rattle.alta_content.specs.Rows.{live_rows}
 use Rattle.alta_content.specs.declared.content.Content.{Content}
-use Rattle.alta_images.specs.Opened.{table_rows}
-use Rattle.alta_images.specs.Work.{merges}
+use Rattle.alta_meaning.specs.Opened.{table_rows}
+use Rattle.alta_meaning.specs.Work.{merges}
 use Rattle.alta_joins.specs.Contents.{StandsOn}
 use Rattle.alta_rewrite.specs.Rewrites.{no_content}
 use Rattle.alta_store.specs.Agreement.{levels_of}
@@ -47,11 +47,11 @@ returns-in-Err-merge_levels-clause-obeys g c =
     let drained = given_up store c.drain.new.self c.in-Ok.ensures.drained in
     let same = c.levels-levels.ensures ∙ sym (levels_now store c.drain.new.self drained) in
     let clauses = c.in-Err-merge_levels.ensures in
-    let read = read_failed {X = Content} tells c.levels-levels.result.now a b c.in-Err-merge_levels.fault c.join_fault.result c.join_fault.ensures clauses.damage clauses.broken clauses.cause clauses.reads in
-    let result : Result (Unit {0}) StoreFault = Err c.join_fault.result in
+    let read = read_failed {X = Content} tells c.levels-levels.result.now a b c.in-Err-merge_levels.fault c.load_fault.result c.load_fault.ensures clauses.damage clauses.broken clauses.cause clauses.reads in
+    let result : Result (Unit {0}) StoreFault = Err c.load_fault.result in
     subst (λ (joins : List Tables). ObeysOver tells merges joins a b store c.drain.new.self result) (sym (ap (λ (x : Bool). cond x [] (levels_of store)) c.requires.some))
-    (changes_unread tells _ _ 1 (levels_of store) a b (g.met.D.Disk.lawful c.args.disk.now) (g.met.D.Disk.lawful c.merge_levels.new.disk) store c.drain.new.self c.join_fault.result c.requires.agrees
-    (segments_here tells a (g.met.D.Disk.lawful c.args.disk.now) store c.requires.agrees) (subst (λ (levels : List Tables). ReadsLevels {T = Content} tells levels a b (Err c.join_fault.result)) same read))
+    (changes_unread tells _ _ 1 (levels_of store) a b (g.met.D.Disk.lawful c.args.disk.now) (g.met.D.Disk.lawful c.merge_levels.new.disk) store c.drain.new.self c.load_fault.result c.requires.agrees
+    (segments_here tells a (g.met.D.Disk.lawful c.args.disk.now) store c.requires.agrees) (subst (λ (levels : List Tables). ReadsLevels {T = Content} tells levels a b (Err c.load_fault.result)) same read))
 
 pub put-requires-clause-may : goal.put-requires-clause-may
 put-requires-clause-may g c =

@@ -1,6 +1,6 @@
 use Rattle.std.proofs.Common.{ℕ, ⊎_elim, refl, sym, ◌∙◌, ap}
 use Rattle.std.proofs.lemmas.Bool.{false≢true, cases_lt}
-use Rattle.alta_images.specs.States.{with_replaced}
+use Rattle.alta_machine.specs.Changes.{with_replaced}
 use Rattle.alta_journal.specs.declared.entry.Entry.TheVariants.{Replace}
 use Rattle.alta_store.specs.Calls.{NoRefusal, RefusesReplace}
 use Rattle.alta_store.proofs.Changing.{changes_fault, changes_ok, obeys_as, some_is}

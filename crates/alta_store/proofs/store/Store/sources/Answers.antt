@@ -1,6 +1,6 @@
 use Rattle.std.proofs.Common.{◌++◌, IsTrue, List, subst, sym, ◌∙◌, ap₂}
-use Rattle.alta_images.specs.Opened.{table_rows}
-use Rattle.alta_images.specs.Ordered.{RowsPrecede}
+use Rattle.alta_meaning.specs.Opened.{table_rows}
+use Rattle.alta_meaning.specs.Ordered.{RowsPrecede}
 use Rattle.alta_memlevel.specs.Added.{HasContent, LevelView}
 use Rattle.alta_table.specs.Tables.{Tables}
 use Rattle.alta_store.proofs.store.Store.sources.Goals as goal

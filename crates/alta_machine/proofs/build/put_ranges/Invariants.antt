@@ -1,0 +1,6 @@
+use Rattle.std.proofs.Common.{◌≡◌, ◌-◌, ◌++◌}
+use Rattle.alta_machine.specs.Terms.{terms_from, range_terms}
+use Rattle.alta_machine.proofs.build.put_ranges.Given as goal
+
+abbrev pub invariant-loop-level : goal.invariant-loop-level
+invariant-loop-level l = l.terms.items ++ terms_from l.value l.level (33 - l.level) ≡ l.initial.terms.items ++ range_terms l.value

@@ -1,0 +1,4 @@
+// Open cursors.
+
+/// How many cursors may be open at once.
+pub const CURSORS: usize = 64;

@@ -1,0 +1,14 @@
+pub mod Broken
+pub mod Chain
+pub mod Entries
+pub mod Holding
+pub mod Known
+pub mod Levels
+pub mod Opened
+pub mod Ordered
+pub mod Standing
+pub mod Switching
+pub mod Views
+pub mod Work
+pub mod Working
+pub mod Names

@@ -1,6 +1,0 @@
-use Rattle.std.proofs.Common.{◌≡◌, ◌-◌, ◌++◌}
-use Rattle.alta_range.specs.Terms.{terms_from, range_terms}
-use Rattle.alta_meta.proofs.build.put_ranges.Given as goal
-
-abbrev pub invariant-loop-level : goal.invariant-loop-level
-invariant-loop-level l = l.terms.items ++ terms_from l.value l.level (33 - l.level) ≡ l.initial.terms.items ++ range_terms l.value

@@ -1,5 +1,0 @@
-use Rattle.alta_range.proofs.Made.{cover_made}
-use Rattle.alta_range.proofs.laws.a_cover_is_made.Goals as goal
-
-pub returns : goal.returns
-returns c = cover_made

@@ -1,5 +1,0 @@
-use Rattle.alta_range.proofs.Numerals.{are_read}
-use Rattle.alta_range.proofs.laws.a_number_is_read.Goals as goal
-
-pub returns : goal.returns
-returns c = are_read

@@ -1,5 +1,0 @@
-use Rattle.alta_range.proofs.Once.{is_cover}
-use Rattle.alta_range.proofs.laws.a_value_is_covered_once.Goals as goal
-
-pub returns : goal.returns
-returns c first last ranges small covers = is_cover first last ranges small covers

@@ -1,7 +1,0 @@
-use Rattle.std.proofs.Common.{refl}
-use Rattle.alta_range.specs.Terms.{term_bytes}
-use Rattle.alta_range.proofs.terms.range_term.Goals as goal
-
-pub returns : goal.returns
-unfolding term_bytes
-returns c = rw c.to_be_bytes.ensures refl

@@ -1,4 +1,0 @@
-pub mod Covers
-pub mod Laws
-pub mod Numbers
-pub mod Terms

@@ -1,5 +1,0 @@
-use Rattle.alta_summary.specs.Table.{HasGroupFields}
-use Rattle.alta_summary.proofs.building.put_groups.Given as goal
-
-abbrev pub invariant-loop-group : goal.invariant-loop-group
-invariant-loop-group l = HasGroupFields l.out.items l.rows l.group
