@@ -20,5 +20,4 @@ pub mod SpaceLaws
 pub mod StartLaws
 pub mod StartingLaws
 pub mod TallyLaws
-pub mod Gone
 pub mod Places

@@ -1,15 +1,10 @@
 // The deleted ends of an index.
-ghost use Rattle.std.specs.Prelude.{◌≡◌, ℕ, ◌<◌, ◌≤◌, ◌⊎◌, ◌↔◌, [], length, insert, nat_eq, Contains, IsTrue, IfOk, IfErr, OnOk, OnErr};
-ghost use Rattle.std.specs.List.{list_any};
-ghost use Rattle.std.specs.List.Sorted.{IsSorted};
-ghost use Rattle.std.specs.Ordering.{nat_cmp};
+ghost use Rattle.std.specs.Prelude.{◌≡◌, ℕ, ◌<◌, ◌≤◌, ◌⊎◌, ◌↔◌, [], length, insert, Contains, IsTrue, IfOk, IfErr, OnOk, OnErr};
 ghost use Rattle.alta_codec.specs.Rising.{IsRising};
 ghost use Rattle.alta_codec.specs.declared.location.TheConstants.{TOP};
-ghost use Rattle.alta_postings.specs.Deltas.{Spells};
-ghost use Rattle.alta_catalog.specs.Ends.{with_end, without_ends};
+ghost use Rattle.alta_catalog.specs.Ends.{with_end};
 
-use alta_codec::{Bytes, Loc};
-use alta_postings::encode;
+use alta_codec::Loc;
 use std::alloc::{AllocError, Global};
 use std::marker::Model;
 
@@ -18,7 +13,6 @@ use std::marker::Model;
 #[derive(Drop)]
 pub struct Deletions {
     ends: Vec<Loc>,
-    alloc: Global,
 }
 
 impl Model for Deletions {
@@ -39,7 +33,6 @@ impl Deletions {
     {
         Deletions {
             ends: Vec::new(alloc),
-            alloc,
         }
     }
 
@@ -77,48 +70,6 @@ impl Deletions {
     {
         &self.ends
     }
-
-    /// The ends that are not among `gone`, in memory of the same allocator. `gone` may stand in any order, may hold an
-    /// end more than once, and may hold others. A copy of `gone` is sorted, and each end is looked up in it by a binary
-    /// search: (n + g) log g comparisons for n ends and g gone ones.
-    pub fn without(&self, gone: &[Loc]) -> Result<Deletions, AllocError>
-        ensures left { IfOk result (λ left. left ≡ without_ends gone.now self.now) }
-        ensures rising { IfOk result (λ left. IsRising left) }
-    {
-        let mut sorted = Vec::from_slice(self.alloc, gone)?;
-        sorted.sort_unstable();
-        let mut ends = Vec::from_slice(self.alloc, &self.ends)?;
-        keep_others(&mut ends, &sorted);
-        Ok(Deletions {
-            ends,
-            alloc: self.alloc,
-        })
-    }
-
-    /// The bytes that spell the list: the LEB128 of the first end, then of each difference from the one before. The
-    /// empty list has none.
-    pub fn coded(&self) -> Result<Bytes, AllocError>
-        ensures { IfOk result (λ bytes. Spells bytes self.now) }
-    {
-        let coded = encode(self.alloc, &self.ends)?;
-        Ok(coded.bytes)
-    }
-}
-
-// Leaves the ends that are none of these, which are sorted.
-fn keep_others(ends: &mut Vec<Loc>, sorted: &[Loc])
-    requires { IsSorted nat_cmp sorted.now }
-    ensures { ends.new.items ≡ without_ends sorted.now ends.old.items }
-{
-    ends.retain(|end| !is_among(sorted, *end));
-}
-
-// Whether the location is one of these, which are sorted.
-fn is_among(sorted: &[Loc], location: Loc) -> bool
-    requires { IsSorted nat_cmp sorted.now }
-    ensures { result ≡ list_any (λ x. nat_eq x location) sorted.now }
-{
-    sorted.binary_search(&location).is_ok()
 }
 
 // Where the end is held, or else where it belongs.

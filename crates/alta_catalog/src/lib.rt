@@ -1,6 +1,5 @@
-//! What an index knows of its live documents in memory: those of its levels by number, name and count of cells, and the newest ones with
-//! all their words.
-//! The ends of the documents that were deleted from an index: a rising list, which is searched, edited and coded.
+//! What an index knows of its documents in memory: the live ones of its levels by number, name and count of cells, the newest ones
+//! with all their words, and the ends of those that were deleted, a rising list, which is searched, edited and coded.
 #![tactic(auto)]
 
 mod catalog;

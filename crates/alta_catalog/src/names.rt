@@ -1,4 +1,7 @@
 // The numbers of live documents by their names.
+// A map by hash: opening puts each live name into it, and no line asks for all of them in order, so an ordered map would compare at
+// every step down for nothing. `Store::names` copies them in one pass, and sorts the copies. The seed is fixed: whoever picks all
+// names can make the map slow, and no answer wrong.
 ghost use Rattle.std.specs.HashMap.{IsUnique, get_by_text};
 ghost use Rattle.std.specs.List.Sorted.{IsPermutation, IsSorted};
 ghost use Rattle.std.specs.Map.{update};

@@ -1,5 +1,9 @@
 //! The program: `alta_cli PATH init` makes an index in a file, `alta_cli PATH run` answers the command lines of the
 //! standard input, and `alta_cli PATH demo N` makes the generated index of N documents and prints a report.
+//!
+//! The null device is held open three times before anything else is opened. Else, where a standard stream was closed, the index
+//! would be opened in its place, and what was meant for the stream be written over it. Where it can't be opened, no file is, and the
+//! program ends with status 2.
 #![tactic(auto)]
 
 use alta_codec::Text;

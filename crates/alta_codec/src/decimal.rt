@@ -1,4 +1,6 @@
 // Numbers in decimal digits.
+// Nine digits are the most that `read_count` takes: its callers ask for four and seven, and so the sum fits without a lemma on
+// powers.
 ghost use Rattle.std.specs.Prelude.{◌≡◌, ◌≤◌, true, length, IfSome};
 ghost use Rattle.std.specs.Char.{is_ascii_digit};
 ghost use Rattle.std.specs.List.{list_all};

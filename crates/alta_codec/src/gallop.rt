@@ -1,4 +1,7 @@
 // A search forward in a rising list, whose cost grows with the distance to the answer alone.
+// Most moves along a list are short, so the next four elements are compared at once before it gallops. One such search serves all
+// rising lists of numbers. Spans, which are pairs, have their own, and so has the reading of a level's lists (`ends.rt` of
+// alta_level), whose locations stand anywhere.
 ghost use Rattle.std.specs.Prelude.{◌≡◌, ℕ, ◌+◌, ◌<◌, ◌≤◌, length, slice_index};
 ghost use Rattle.alta_codec.specs.Rising.{IsRising};
 

@@ -1,4 +1,6 @@
 // From query to plan.
+// An And without members is the Found of no tests, which finds every document, as such an And matches every one: so the law on plans
+// asks for no text that spells the query.
 ghost use Rattle.std.specs.Prelude.{◌≡◌, ◌↔◌, List, [], ◌∷◌, map, IfOk, OnOk, All, Contains};
 ghost use Rattle.alta_machine.specs.Matches.{IsWellFormed, Matches};
 ghost use Rattle.alta_machine.specs.Patterns.{pattern_of, numbers_in, phrase_pattern, range_pattern};

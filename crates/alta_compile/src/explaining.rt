@@ -1,4 +1,6 @@
 // A plan in words.
+// A test may hold any bytes, and the words are text, so what is no UTF-8 is replaced; the terms of a query that was read are UTF-8,
+// and the session rests on that. Numbers are written by `itoa`, which takes no memory.
 ghost use Rattle.std.specs.Prelude.{◌≡◌, ◌∷◌, ◌++◌, [], map, length, drop, nat_eq, codes, string_bytes, IfOk, OnOk};
 ghost use Rattle.std.specs.Fmt.{decimal};
 ghost use Rattle.std.specs.Int.{w32, from_be_bytes};

@@ -1,4 +1,7 @@
 // A reader of the union of several readers' lists.
+// The readers stand in their own vector as a binary heap by place, so a move puts them into another order, and its clauses say them
+// up to order; `all` is the sorted gathering of their elements for the same reason. The element before the union's place is kept
+// beside it.
 ghost use Rattle.std.specs.Prelude.{◌≡◌, ◌⊎◌, ℕ, ◌+◌, ◌<◌, ◌≤◌, map, length, slice_index_or, All, sum_by};
 ghost use Rattle.std.specs.List.Sorted.{IsPermutation};
 ghost use Rattle.alta_codec.specs.Rising.{first_from, pred_of};

@@ -1,4 +1,5 @@
 -- What a console's calls did, in order.
+-- A take past the limit is the last: `taken_within` stops at its piece, and leaves out what follows.
 use Rattle.std.specs.Prelude.{◌≡◌, ℕ, zero, suc, ◌-◌, Bool, true, false, if◌then◌else◌, nat_le, List, [], ◌∷◌, ◌++◌, Option, length}
 use Rattle.std.specs.Option.{option_map}
 use Rattle.alta_console.specs.declared.event.Event.{Event}

@@ -1,4 +1,5 @@
 // The process's standard streams as a console, which tells no content.
+// std does not try an interrupted call again, so that is a fault.
 ghost use Rattle.std.specs.Prelude.{◌≡◌, None};
 
 use crate::Console;

@@ -1,4 +1,7 @@
 // The rows of a level.
+// Opening makes these rows once, and snapshots share them. A row takes seven times the bytes of its end, and has its name elsewhere:
+// so a look-up of which document a location is in reads the ends. By the runs a list is tested without a look at each location,
+// where its first and last one stand in one run (`check_list` of alta_level).
 ghost use Rattle.std.specs.Prelude.{◌≡◌, ◌<◌, ◌↔◌, [], map, length, IsTrue, IfOk};
 ghost use Rattle.alta_codec.specs.Rising.{IsRising};
 ghost use Rattle.alta_codec.specs.declared.location.TheConstants.{TOP};

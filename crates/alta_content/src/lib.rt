@@ -1,6 +1,9 @@
-//! What a level has: its document rows, and for each term the rising list of the locations that hold it; and what several
-//! contents make up, without the documents that are deleted.
-//! The rows of documents, shared by level, and found by where a document ends.
+//! What a level has, its content: the rows of its documents, and for each term the rising list of the locations that hold it; and
+//! what several contents make up, without the documents that are deleted. Rows are shared by level, and found by where a document
+//! ends.
+//!
+//! The level in memory, the join and the tables share these words, and the crate stands on alta_codec alone: it says the cells of a
+//! row (`cells_at`), and knows no documents with cells.
 #![tactic(auto)]
 
 mod all;

@@ -1,4 +1,7 @@
 // Rows and gaps of lists, as bytes.
+// Packed, the lists of a content take about as many bytes as on the disk; lists of numbers took eight a location, and more than a
+// hundred a term. A gap goes around the end of the numbers, so that no list has to rise. The price: each location is spelled and
+// read once more for each content that it passes through.
 ghost use Rattle.std.specs.Prelude.{◌≡◌, ◌≤◌, ◌++◌, drop, take, length, is_ok, if◌then◌else◌, OnOk};
 ghost use Rattle.alta_codec.specs.Numbers.{number_bytes};
 ghost use Rattle.alta_content.specs.Packed.{gaps_bytes, locations_in, number_in, row_in};

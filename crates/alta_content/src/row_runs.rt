@@ -1,10 +1,12 @@
 // Rows to which rows are added, in runs of which the full ones are shared.
+// So a search copies no more than the last run. A flush copies all rows, since snapshots may share them. Smaller runs would copy
+// less, and be more of them to pass over.
 ghost use Rattle.std.specs.Prelude.{◌≡◌, ◌<◌, ◌∷◌, ◌++◌, [], map, length, slice_get, Some, IfOk, OnOk, OnErr};
 ghost use Rattle.alta_codec.specs.Rising.{IsRising};
 ghost use Rattle.alta_content.specs.Rows.{end_of, ends_of};
 ghost use Rattle.alta_content.specs.All.{shared_rows, rows_of_levels};
 
-use crate::all::{AllRows, row_in};
+use crate::all::row_in;
 use crate::{DocRow, LevelRows, ends_of, runs_of};
 use std::alloc::{AllocError, Global};
 use std::marker::Model;
@@ -113,15 +115,6 @@ impl RowRuns {
         let mut runs = share_runs(self.alloc, &self.full)?;
         runs.push(copy_run(self.alloc, &self.last)?)?;
         Ok(runs)
-    }
-
-    /// The same rows to be read, in the runs that `runs` gives. Fails for want of memory alone.
-    pub fn share(&self) -> Result<AllRows, AllocError>
-        ensures { IfOk result (λ rows. rows ≡ self.now) }
-    {
-        let runs = self.runs()?;
-        let rows = AllRows::new(self.alloc, runs)?;
-        Ok(rows)
     }
 
     /// Equal rows, in memory of their own. Fails for want of memory alone.

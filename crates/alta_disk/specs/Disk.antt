@@ -1,4 +1,6 @@
 -- What a disk means, and what its calls and the layers above do to it.
+-- A written range holds bytes, so what a torn write leaves are bytes too: a field of what each disk keeps (`IsLawful`), and no
+-- premise of the layers above.
 use Rattle.std.specs.Prelude.{◌≡◌, ◌⊎◌, ℕ, ◌+◌, ◌≤◌, max, List, ◌++◌, length, take, drop}
 use Rattle.alta_codec.specs.Bytes.{AreBytes}
 

@@ -1,4 +1,7 @@
 // A disk over a real file, of which only the counts and the limit are told.
+// Its folder is synced at the first call also where the file was there, since an earlier process may have made it and stopped before
+// its sync; where that sync fails the call does, and it is tried again at the next one. `fdatasync` is enough for a sync, as it
+// writes the length too. Behind the first one each call is one `statx`, `pread64`, `pwrite64` or `fdatasync`.
 ghost use Rattle.std.specs.Prelude.{◌≡◌, ◌≤◌, ◌+◌, ◌-◌, ◌^◌, min, length, IfOk, OnOk};
 ghost use Rattle.alta_codec.specs.Faults.{Rose, HasCause};
 ghost use Rattle.alta_disk.specs.Disk.{Same, Passes};

@@ -1,4 +1,6 @@
 // A disk in memory, which tells everything.
+// It counts the calls that found no memory for their record: without that count no clause could tell a range that was forgotten from
+// want of memory.
 ghost use Rattle.std.specs.Prelude.{◌≡◌, ◌↔◌, ◌⊎◌, ℕ, List, ◌+◌, ◌-◌, ◌^◌, ◌≤◌, min, length, take, drop, IfOk, OnOk, OnErr, IsTrue};
 ghost use Rattle.alta_codec.specs.Faults.{Rose, HasCause, CountsErrors};
 ghost use Rattle.alta_disk.specs.Disk.{Holds, Torn, Same, Only, Passes};

@@ -1,4 +1,5 @@
 // A difference of ends as a reader.
+// Its ends are kept in a type with an invariant, so that what a tree keeps is said of plain lists and places alone.
 ghost use Rattle.std.specs.Prelude.{◌<◌};
 ghost use Rattle.alta_docread.specs.Tree.{tree_list, tree_all, tree_left, IsSoundTree, IsMoved, IsUnmoved};
 ghost use Rattle.alta_docread.specs.TreeLaws.{tree_rises, tree_stands};

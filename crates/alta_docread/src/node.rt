@@ -1,4 +1,7 @@
 // Trees of document readers.
+// A tree is asked by moves alone, which answer where it then stands, so none is asked again for what it answered. A pass over an
+// intersection answers the least and the last of its trees' places: where both are the same all stand there. At its end all are
+// brought to theirs. A union of no trees stands at TOP from its making.
 ghost use Rattle.std.specs.Prelude.{◌≡◌, ◌↔◌, ℕ, ◌<◌, length, Contains, All, Any};
 ghost use Rattle.alta_codec.specs.Rising.{first_from};
 ghost use Rattle.alta_docread.specs.FoundView.{walk_of};

@@ -1,4 +1,6 @@
 // A tree of document readers as one reader.
+// A reader that was not moved stands at 0, which is no location: its making takes no steps, so it can't know its first end. `new`
+// brings it there.
 ghost use Rattle.std.specs.Prelude.{◌≡◌, ℕ, ◌+◌, ◌<◌, ◌≤◌, All, IsTrue};
 ghost use Rattle.alta_codec.specs.Rising.{IsPlace, first_from, count_from};
 ghost use Rattle.alta_codec.specs.declared.location.TheConstants.{TOP};

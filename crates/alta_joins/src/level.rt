@@ -1,4 +1,6 @@
 // The content of a level, read from its segment.
+// The tables are not read again, so what is read has the rows that were opened, whatever the disk tells, and levels in order may be
+// joined without another test.
 ghost use Rattle.std.specs.Prelude.{◌≡◌, ◌≢◌, ◌+◌, ◌++◌, ◌∷◌, [], ◌<◌, ◌≤◌, ◌^◌, ℕ, length, Err, IfErr, IfOk};
 ghost use Rattle.alta_codec.specs.Faults.{Rose};
 ghost use Rattle.alta_content.specs.declared.content.Content.{Content};

@@ -1,4 +1,7 @@
 -- What a record says: its bytes, and the rules that it keeps.
+-- The three texts of a record are bounded together; its payload has at most 18 bytes more, and needs no limit of its own. What a
+-- root of version 1 asks besides is one test beside the rules (`is_old`), so whether a root has to be raised before an entry is the
+-- rule itself.
 use Rattle.std.specs.Prelude.{◌≡◌, ℕ, ◌+◌, ◌<◌, ◌≤◌, ◌^◌, Bool, true, false, nat_le, List, ◌∷◌, ◌++◌, length, IsUtf8}
 use Rattle.std.specs.Int.{w32, w64, to_be_bytes}
 pub use Rattle.alta_codec.specs.Bytes.{Lacks}

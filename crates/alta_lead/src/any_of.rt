@@ -1,4 +1,7 @@
 // How many documents that have one of several words were not deleted, by one walk over them.
+// Each document costs one move of the ends and one of each word that has it, and each list is read once; counting one word and then
+// the other without the first would read one twice. Beyond eight words the tree of the plan is asked, whose heap looks at fewer
+// words a document.
 ghost use Rattle.std.specs.Prelude.{◌≡◌, ℕ, ◌+◌, ◌-◌, ◌*◌, ◌≤◌, true, List, [], map, sum_by, All};
 ghost use Rattle.alta_codec.specs.Rising.{IsRising, first_from, pred_of, count_from};
 ghost use Rattle.alta_codec.specs.declared.location.TheConstants.{TOP};

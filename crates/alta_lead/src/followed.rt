@@ -1,4 +1,6 @@
 // How many documents in which a word stands before another were not deleted, by one walk that the first word leads.
+// Where any place of the first word in a document has the second behind it, the word's first place has: so one look at the second a
+// document is enough.
 ghost use Rattle.std.specs.Prelude.{◌≡◌, ℕ, ◌+◌, ◌*◌, ◌≤◌, List, [], map, length, slice_index_or, sum_by, All};
 ghost use Rattle.alta_codec.specs.Rising.{IsRising, first_from, pred_of, count_from};
 ghost use Rattle.alta_codec.specs.declared.location.TheConstants.{TOP};

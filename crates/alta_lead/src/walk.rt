@@ -1,4 +1,7 @@
 // How many documents of a conjunction were not deleted, by one walk that its leading word leads.
+// A count holds at no answer, so it need not go to the end of the next document first: it goes on by two moves, of the word behind
+// the document's end and of the ends to where the word stands, and a loop over ends in memory and coded lists asks no reader what
+// kind it is.
 ghost use Rattle.std.specs.Prelude.{◌≡◌, ℕ, ◌+◌, ◌*◌, ◌<◌, ◌≤◌, List, [], map, length, slice_index, slice_index_or, sum_by, All, Contains};
 ghost use Rattle.std.specs.Bool.{OnTrue, OnFalse};
 ghost use Rattle.alta_codec.specs.Rising.{IsRising, pred_of, count_from};

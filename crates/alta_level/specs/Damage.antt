@@ -1,4 +1,6 @@
 -- Where a segment is first damaged: in its tables, else in its lists, in the order of the terms.
+-- A number of a stream that is misspelled is damaged at its first byte, and a summary of a wrong length at its end: so the place is
+-- inside what is read.
 use Rattle.std.specs.Prelude.{◌≡◌, ◌⊎◌, ℕ, ◌+◌, List, [], ◌∷◌, length, take, drop, slice_index_or}
 use Rattle.alta_content.specs.declared.document.DocRow.{DocRow}
 use Rattle.alta_table.specs.declared.term.TermRow.{TermRow}

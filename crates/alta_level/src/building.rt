@@ -1,4 +1,6 @@
 // The segment of a content.
+// `build` uses its content up: its lists are let go before head, tables and streams are put together, so a flush or a merge holds
+// the content and the segment in turn.
 ghost use Rattle.std.specs.Prelude.{◌≡◌, ℕ, ◌++◌, ◌∷◌, [], ◌<◌, ◌≤◌, length, slice_index_or, OnOk, IfOk, flat_map};
 ghost use Rattle.std.specs.List.{All};
 ghost use Rattle.alta_codec.specs.Rising.{IsRising};

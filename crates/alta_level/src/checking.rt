@@ -1,4 +1,8 @@
 // One list of a level, tested and read.
+// A search loads the lists of its terms and no others, so a list is tested alone. Where a level's documents stand side by side in
+// one run, the range of the list says that each location is in a document. Where there are several runs, only a block that leaves
+// its run is decoded and looked up beside them. Reading a list keeps its locations while it tests them, so want of memory may be
+// answered before a damage is seen.
 ghost use Rattle.std.specs.Prelude.{◌≡◌, ℕ, ◌+◌, ◌<◌, ◌^◌, List, length, Err, IfOk};
 ghost use Rattle.alta_postings.specs.Deltas.{decoded_list};
 ghost use Rattle.alta_table.specs.Answers.{IfDamaged, IsDamaged, IsFound};

@@ -1,4 +1,6 @@
 // The first end of a document at or behind a location, which in most lists is far from the one before.
+// Locations of a rare term stand anywhere, so half the branches of a search by halves are foreseen badly: it goes by quarters, and
+// adds up three tests in place of a branch.
 ghost use Rattle.std.specs.Prelude.{◌≡◌, ℕ, ◌+◌, ◌-◌, ◌*◌, ◌<◌, ◌≤◌, length, slice_index};
 ghost use Rattle.alta_codec.specs.Rising.{IsRising};
 

@@ -1,4 +1,7 @@
 // The lists of several terms.
+// Terms come in collating order, and each row of a level that begins so has one of them: so beside the place of the term before, a
+// level that has the term compares one row, and another two, in place of a look-up by halves. A place is a hint of which no contract
+// speaks: with any other the row is the same.
 ghost use Rattle.std.specs.Prelude.{◌≡◌, ℕ, List, map, All, Err, IfOk, IsTrue};
 ghost use Rattle.alta_codec.specs.Faults.{Rose};
 ghost use Rattle.alta_disk.specs.Calls.{Reads};

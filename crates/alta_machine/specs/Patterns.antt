@@ -1,4 +1,6 @@
 -- The patterns of an atom: tests that cells have to meet, and bounds between their places.
+-- A value is an atom whose pattern is none, and which matches by one of its ranges' patterns (`AtomMatches`): so all that is said of
+-- an atom's one pattern stays as it is, and a value is one case more.
 use Rattle.std.specs.Prelude.{◌≡◌, ◌⊎◌, ℕ, zero, suc, ◌+◌, ◌≤◌, ◌<◌, Bool, true, if◌then◌else◌, List, [], ◌∷◌, ◌++◌, length, map, get_or, Option, Some, None, MatchOption}
 use Rattle.std.specs.List.{All}
 use Rattle.alta_machine.specs.Cells.{cell_holds, cell_begins}

@@ -1,4 +1,5 @@
 // A cell of a document: its terms, which rise.
+// A cell is an enum of none, one, two or many terms, so that only that of a number has a vector of its own.
 ghost use Rattle.std.specs.Prelude.{◌≡◌, ◌∷◌, [], length, slice_get};
 ghost use Rattle.std.specs.Option.{option_copied};
 ghost use Rattle.std.specs.Str.{bytes_eq};

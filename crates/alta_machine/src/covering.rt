@@ -1,4 +1,6 @@
 // The ranges that cover the numbers from one to another.
+// The cover is a list by definition too (`cover_of`), beside the rule that fixes it (`Covers`), since the plan of a query names it
+// and is a function of the query.
 ghost use Rattle.std.specs.Prelude.{◌≡◌, All};
 ghost use Rattle.alta_machine.specs.Covers.{Covers, IsRange, cover_of};
 

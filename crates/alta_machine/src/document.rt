@@ -1,4 +1,5 @@
 // Documents, and the state that they make up.
+// A state's next number is at least 1, also without documents.
 ghost use Rattle.std.specs.Prelude.{◌≡◌};
 ghost use Rattle.alta_machine.specs.States.{IsState, empty_state};
 

@@ -1,9 +1,9 @@
-//! The abstract machine: documents as lists of cells, the state that they make up, what a query asks for and which documents match it,
-//! what each line answers, and the machine after it. `specs/Lib.antt` has its definitions in the order of reading. They rest on
-//! alta_codec and alta_text alone: nothing here knows a disk, a reader or a list of locations.
+//! The abstract machine: documents as lists of cells, the state that they make up, which documents a query matches, what each line
+//! answers, and the machine after it. `specs/Lib.antt` has its definitions in the order of reading. They rest on alta_codec and
+//! alta_text alone: nothing here knows a disk, a reader or a list of locations.
 //!
-//! Of the types that they speak of some are the program's own; beside these stand the cells of a document and the ranges that cover
-//! an interval of numbers, made as the definitions say.
+//! The code has the types of which both the definitions and the program speak, and what is made as the definitions say: the cells
+//! of a document, a word as a number, and the ranges that cover an interval of numbers.
 #![tactic(auto)]
 
 mod build;

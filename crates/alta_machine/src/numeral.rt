@@ -1,4 +1,6 @@
 // Words that are numbers.
+// A word is a number exactly where it is std's own spelling (`decimal`) of one below 2^32, so no definition of digits stands beside
+// std's.
 ghost use Rattle.std.specs.Prelude.{◌≡◌, ◌≢◌, ℕ, ◌^◌, ◌<◌, length, slice_index, MatchOption, IfSome, IsTrue, ◌↔◌};
 ghost use Rattle.std.specs.Fmt.{decimal};
 ghost use Rattle.alta_machine.specs.Numbers.{number_in};

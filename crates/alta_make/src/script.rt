@@ -1,4 +1,6 @@
 // The lines of the generated run by their index.
+// A hundred documents bring 102 lines, so a line is known without those before it. The definition is the list of all lines, document
+// by document.
 ghost use Rattle.std.specs.Prelude.{◌≡◌, ◌∷◌, ◌++◌, [], codes, slice_get, IfOk};
 ghost use Rattle.std.specs.Option.{option_map};
 ghost use Rattle.alta_make.specs.Script.{adds, deletes, script};

@@ -1,4 +1,6 @@
 -- Where an image that has a root breaks the first rule, in the order in which opening tests them.
+-- The place is a case of one data type, one a step of opening in its order; steps are functions that answer a value or a place, so
+-- that one place follows from one chain.
 use Rattle.std.specs.Prelude.{◌≡◌, ◌⊎◌, ℕ, ◌+◌, true, false, List, [], ◌∷◌, ◌++◌, drop, Contains, Ok, Err}
 use Rattle.alta_codec.specs.declared.extent.Extent.{Extent}
 use Rattle.alta_journal.specs.Journal.{EndsAt, HasBrokenHalf}

@@ -1,4 +1,6 @@
 -- What the work on levels makes of what a store holds: what it holds then, or why no place is left.
+-- It is one function of what is held, the limit and the task. Places are the first gaps beside the extents that stay and those
+-- placed before, in the order in which a switch writes, over the length of the one spelling; so no parameter stands for places.
 use Rattle.std.specs.Prelude.{◌≡◌, ◌<◌, ◌≤◌, true, ℕ, ◌+◌, ◌==◌, nat_le, ◌&&◌, Bool, cond, List, [], ◌∷◌, ◌++◌, length, take, map, Option, Some, None, Result, Ok, Err}
 use Rattle.std.specs.List.{All, filter, flat_map, sum_by}
 use Rattle.std.specs.Str.{bytes_eq}

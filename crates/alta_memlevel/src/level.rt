@@ -1,4 +1,6 @@
 // The level in memory: the documents that were added, and the locations of their terms.
+// A drain sorts a copy of the deleted ends that it is given, so these may stand in any order, and may be ends of no document of it.
+// It takes all memory before the level changes.
 ghost use Rattle.std.specs.Prelude.{◌≡◌, ℕ, ◌<◌, ◌≤◌, ◌∷◌, ◌++◌, [], List, length, map, slice_get, Some, false, nat_eq, IsTrue, IfOk, OnOk, OnErr};
 ghost use Rattle.std.specs.List.{All, filter, starts_with};
 ghost use Rattle.std.specs.List.Sorted.{IsStrictlySortedBy};
@@ -15,7 +17,7 @@ use crate::copying::copy_lists;
 use crate::lists::{Lists, list_of, put_cells};
 use crate::terms::terms_from;
 use alta_codec::{Bytes, Loc};
-use alta_content::{AllRows, Content, DocRow, DocRows, LevelRows, RowRuns, keep_rows, spans_of};
+use alta_content::{Content, DocRow, DocRows, LevelRows, RowRuns, keep_rows, spans_of};
 use alta_machine::Cell;
 use std::alloc::{AllocError, Global};
 use std::collections::HashMap;
@@ -111,13 +113,6 @@ impl MemLevel {
         ensures { IfOk result (λ runs. rows_of_levels (map shared_rows runs.items) ≡ self.now.content.documents) }
     {
         self.rows.runs()
-    }
-
-    /// The same rows to be read, in the runs that `runs` gives. Fails for want of memory alone.
-    pub fn share_rows(&self) -> Result<AllRows, AllocError>
-        ensures { IfOk result (λ rows. rows ≡ self.now.content.documents) }
-    {
-        self.rows.share()
     }
 
     /// The locations of a term, rising, without a copy: none where no cell holds it.

@@ -1,4 +1,8 @@
 // The terms, each with its rising locations, found by a hash of their bytes.
+// An add looks up each term of each cell, and on the way down a tree most of its time went into comparing terms. So terms stand in a
+// map by hash, and are sorted only where order is asked for: all by a drain, and those that begin so by a search. The seed of the
+// hash is fixed: whoever picks words that collide makes adds slow, by the terms of one half of the journal at most, and no answer
+// wrong.
 ghost use Rattle.std.specs.Prelude.{◌≡◌, List, ℕ, ◌+◌, ◌<◌, ◌≤◌, ◌++◌, ◌∷◌, [], cond, length, take, slice_index_or, OnOk};
 ghost use Rattle.std.specs.Str.{bytes_eq};
 ghost use Rattle.alta_codec.specs.declared.location.TheConstants.{TOP};

@@ -1,4 +1,6 @@
 // Command lines.
+// A line is tested by `simdutf8`, 64 bytes a step, where std's `from_utf8` decodes a character a step outside ASCII; its clauses are
+// those of std's, so either does.
 ghost use Rattle.std.specs.Prelude.{◌≡◌, ◌↔◌, option_map, take, drop, IfOk, OnOk, Err, if◌then◌else◌};
 ghost use Rattle.std.specs.List.{list_any};
 ghost use Rattle.std.specs.Str.{IsUtf8, bytes_eq};

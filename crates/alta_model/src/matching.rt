@@ -1,4 +1,5 @@
 // Which documents match a query.
+// It answers no line: the tests of the readers are compared with it.
 ghost use Rattle.std.specs.Prelude.{◌≡◌, ◌↔◌, IsTrue};
 ghost use Rattle.alta_machine.specs.Deciding.{is_match};
 ghost use Rattle.alta_machine.specs.Matches.{Matches};

@@ -65,10 +65,6 @@ pub record IsBehind (list : List ℕ) (i place last : ℕ) : Type 0 where
   pub place_is : place ≡ length (stream_bytes 0 (take i list))
   pub last_is : last ≡ slice_index (0 ∷ list) i
 
--- a block of 64 locations, or fewer at the end, begins at this place behind this location
-abbrev pub BeginsBlock : List ℕ → ℕ → ℕ → ℕ → Type 0
-BeginsBlock list i place before = (64 * i < length list) × IsBehind list (64 * i) place before
-
 -- behind the first i locations of the list comes this one, which is spelled up to this place
 pub record IsNextOf (list : List ℕ) (i last location place : ℕ) : Type 0 where
   pub within : i < length list

@@ -1,4 +1,6 @@
 // One block of a stream.
+// A block can be read without its locations (`scan_block`): so a stream is compared with its summary in the pass that checks it, and
+// each number is decoded once.
 ghost use Rattle.std.specs.Prelude.{◌≡◌, ◌<◌, ◌≤◌, length, take, drop, slice_index, Some, None, IfOk, IfErr};
 ghost use Rattle.alta_codec.specs.Rising.{IsRising};
 ghost use Rattle.alta_codec.specs.declared.location.TheConstants.{TOP};
@@ -6,8 +8,8 @@ ghost use Rattle.alta_postings.specs.Deltas.{fault_from, list_from, IsBlockRead}
 
 use crate::fault::StreamFault;
 use crate::lanes::scan_runs;
-use crate::runs::{fill_runs, read_runs};
-use crate::step::{next_location, read_location};
+use crate::runs::fill_runs;
+use crate::step::read_location;
 use alta_codec::TOP;
 use arrayvec::ArrayVec;
 
@@ -94,21 +96,4 @@ pub fn fill_block(
         count: out.len(),
         next,
     })
-}
-
-/// Fills `out` with the locations from a place of a stream on, at most 64.
-pub fn read_block(bytes: &[u8], place: usize, before: u64, out: &mut ArrayVec<u64, 64>)
-    requires within { place ≤ length bytes.now }
-    requires low { before < TOP }
-    requires spelled { fault_from place 0 before (drop place bytes.now) ≡ None }
-    ensures { out.new.items ≡ take 64 (list_from place 0 before (drop place bytes.now)) }
-{
-    out.clear();
-    let (mut at, mut last) = read_runs(bytes, place, before, out);
-    'numbers: while at < bytes.len() && out.len() < 64 {
-        let (location, next) = next_location(bytes, at, last);
-        out.push(location);
-        last = location;
-        at = next;
-    }
 }

@@ -1,4 +1,7 @@
 // Numbers of one or of two bytes, as many at once as begin in the lanes of a vector.
+// A number begins at each place whose byte before is below 128. So how many begin at sixteen places, and what they come to, are sums
+// over lanes, with no branch for the length of a number. What is longer, is 0 or is not in its shortest spelling is left to the
+// reading of one number, which finds its fault.
 ghost use Rattle.std.specs.Prelude.{◌≡◌, ℕ, ◌+◌, ◌/◌, ◌<◌, ◌≤◌, length, slice_index, IsTrue, IfSome};
 ghost use Rattle.std.specs.Simd.Lanes.{sum_l};
 ghost use Rattle.alta_codec.specs.declared.location.TheConstants.{TOP};

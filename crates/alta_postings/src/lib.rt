@@ -1,6 +1,5 @@
-//! Rising lists of locations as bytes: the first location, then each difference from the one before, in blocks of 64.
-//! The summary of a stream: a row for each block of 64 locations, and above the rows the last location of each 64 of
-//! them.
+//! Rising lists of locations as bytes. A stream has the first location, and then each difference from the one before, in blocks of
+//! 64. Its summary has a row for each block, and above the rows the last location of each 64 of them.
 #![tactic(auto)]
 
 mod block;

@@ -1,4 +1,5 @@
 // Runs of eight numbers of one byte each, in the first part of a block.
+// A block whose locations are kept is read so only where each number has one byte, since each location has to be written.
 ghost use Rattle.std.specs.Prelude.{◌≡◌, ℕ, ◌+◌, ◌-◌, ◌*◌, ◌<◌, ◌≤◌, ◌++◌, length, take, drop, None, IsTrue};
 ghost use Rattle.alta_codec.specs.declared.location.TheConstants.{TOP};
 ghost use Rattle.alta_postings.specs.Deltas.{fault_from, list_from};
@@ -21,55 +22,6 @@ fn are_gaps(bytes: &[u8], at: usize) -> bool
     let zero = lanes.simd_eq(u8x8::splat(0));
     let longer = lanes.simd_ge(u8x8::splat(128));
     (zero | longer).to_bitmask() == 0
-}
-
-// Appends the locations of eight numbers of one byte each, and answers the last.
-#[inline(always)]
-fn push_run(bytes: &[u8], at: usize, before: u64, out: &mut ArrayVec<u64, 64>) -> u64
-    requires within { at + 8 ≤ length bytes.now }
-    requires gaps { AreGaps bytes.now at }
-    requires low { before < TOP }
-    requires spelled { fault_from at 0 before (drop at bytes.now) ≡ None }
-    requires room { length out.old.items + 8 ≤ 64 }
-    ensures read { out.new.items ++ take (64 - length out.new.items) (list_from (at + 8) 0 result (drop (at + 8) bytes.now))
-        ≡ out.old.items ++ take (64 - length out.old.items) (list_from at 0 before (drop at bytes.now)) }
-    ensures none { fault_from (at + 8) 0 result (drop (at + 8) bytes.now) ≡ None }
-    ensures low { result < TOP }
-    ensures fits { length out.new.items ≡ length out.old.items + 8 }
-{
-    let mut last = before;
-    for i in 0..8 {
-        last += u64::from(bytes[at + i]);
-        out.push(last);
-    }
-    last
-}
-
-// Appends the locations of runs at a place, as long as they last: the place behind them, and the last location.
-#[inline(always)]
-pub(crate) fn read_runs(
-    bytes: &[u8],
-    place: usize,
-    before: u64,
-    out: &mut ArrayVec<u64, 64>,
-) -> (usize, u64)
-    requires within { place ≤ length bytes.now }
-    requires low { before < TOP }
-    requires spelled { fault_from place 0 before (drop place bytes.now) ≡ None }
-    requires empty { length out.old.items ≡ 0 }
-    ensures read { out.new.items ++ take (64 - length out.new.items) (list_from result.0 0 result.1 (drop result.0 bytes.now)) ≡ take 64 (list_from place 0 before (drop place bytes.now)) }
-    ensures none { fault_from result.0 0 result.1 (drop result.0 bytes.now) ≡ None }
-    ensures low { result.1 < TOP }
-    ensures within { result.0 ≤ length bytes.now }
-    ensures fits { length out.new.items ≤ 64 }
-{
-    let mut at = place;
-    let mut last = before;
-    'runs: while bytes.len() - at >= 8 && out.len() <= 56 && are_gaps(bytes, at) {
-        last = push_run(bytes, at, last, out);
-        at += 8;
-    }
-    (at, last)
 }
 
 // Appends the locations of eight numbers of one byte each, of which the last may not reach `TOP`, and answers the last.

@@ -1,4 +1,7 @@
 // One location of a stream.
+// Numbers of one and of two bytes are read here, and longer ones by `get_number` apart from it; both ways have the same contract.
+// Where the gaps of a list are short nearly all numbers have one byte, and where that is foreseen the processor goes on without
+// waiting for it.
 ghost use Rattle.std.specs.Prelude.{◌≡◌, ◌+◌, ◌<◌, ◌≤◌, length, drop, slice_index, Some, None, IsTrue, IfSome, IfOk, IfErr};
 ghost use Rattle.alta_codec.specs.declared.location.TheConstants.{TOP};
 ghost use Rattle.alta_postings.specs.Deltas.{fault_from, IsStep};

@@ -1,16 +1,14 @@
 // A stream of locations: opened, and read block by block or whole.
 ghost use Rattle.std.specs.Prelude.{◌≡◌, ℕ, ◌+◌, ◌-◌, ◌*◌, ◌<◌, List, length, take, drop, Some, None, IfSome, IfOk, IfErr, IsOk};
 ghost use Rattle.alta_codec.specs.declared.location.TheConstants.{TOP};
-ghost use Rattle.alta_postings.specs.Deltas.{Spells, fault_from, list_from, first_fault, decoded_list, IsBehind, BeginsBlock, IsNextOf};
+ghost use Rattle.alta_postings.specs.Deltas.{Spells, fault_from, list_from, first_fault, decoded_list, IsBehind, IsNextOf};
 
-use crate::block::{read_block, scan_block};
+use crate::block::scan_block;
 use crate::fault::StreamFault;
 use crate::step::{last_location, near_location, next_location};
-use alta_codec::{Steps, TOP};
-use arrayvec::ArrayVec;
+use alta_codec::TOP;
 use std::alloc::{AllocError, Global};
 use std::marker::Model;
-use std::sync::ledger::Ledger;
 
 /// Bytes that spell a list of locations, borrowed, and how many places have eight bytes from there on. Contracts see the bytes.
 #[derive(Drop)]
@@ -79,24 +77,6 @@ impl<'a> Stream<'a> {
             return Some(near_location(self.bytes, place, last));
         }
         last_location(self.bytes, place, last)
-    }
-
-    /// Fills `out` with the block that begins at `place`, at most 64 locations. `before` is the location before the
-    /// block, 0 where there is none. It adds one step and takes no memory.
-    pub fn block<L: Ledger>(
-        &self,
-        place: usize,
-        before: u64,
-        out: &mut ArrayVec<u64, 64>,
-        steps: &mut Steps<L>,
-    )
-        requires begins { (i : ℕ) × BeginsBlock (decoded_list self.now) i place before }
-        ensures block { (i : ℕ) → BeginsBlock (decoded_list self.now) i place before
-            → out.new.items ≡ take 64 (drop (64 * i) (decoded_list self.now)) }
-        ensures steps { steps.new ≡ steps.old + 1 }
-    {
-        steps.tick();
-        read_block(self.bytes, place, before, out);
     }
 
     /// The whole list.

@@ -1,4 +1,6 @@
 // From text to tokens.
+// A value's text is cut at its first dot: a number has none, so that is the only cut that can do. Behind `title:` a run is words, so
+// there is no value of titles.
 ghost use Rattle.std.specs.Prelude.{◌≡◌, ℕ, ◌+◌, ◌-◌, ◌<◌, ◌≤◌, length, take, drop, true, false, get_or, codes, nat_eq, option_map, IsTrue, IfOk};
 ghost use Rattle.std.specs.List.{prefix_len, take_while, position_or_len, starts_with, ends_with};
 ghost use Rattle.std.specs.Str.{IsCharBoundary};

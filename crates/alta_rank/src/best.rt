@@ -1,4 +1,6 @@
 // The first by score of the answers that come one after the other.
+// Most answers come behind all that are kept, and cost one comparison with the last of the best; the others a pop and a push. The
+// heap's order is turned round, so its greatest element is the one that comes last.
 ghost use Rattle.std.specs.BinaryHeap.{IsHeap, heap_items};
 ghost use Rattle.std.specs.Prelude.{◌≡◌, ◌≢◌, ◌∷◌, ◌++◌, ℕ, [], List, take, map, false, OnOk, AllPairs};
 ghost use Rattle.alta_rank.specs.Kept.{IsBest, Keeps, Replaces};

@@ -1,4 +1,7 @@
 // The score of a range of locations.
+// It speaks of any lists that have the document's locations in the range asked, and so of no space and no plan. The last end asked
+// is kept, so that the one condition on a range is on a number. The end of a title is looked up once a range: a title ends behind a
+// location exactly where the last end in the range lies behind it.
 ghost use Rattle.std.specs.Prelude.{◌≡◌, ◌↔◌, ◌+◌, ◌-◌, ◌*◌, ◌^◌, ◌<◌, ◌≤◌, map, length, All, sum_by, IsOk, IfOk, IfErr};
 ghost use Rattle.alta_codec.specs.Rising.{first_from};
 ghost use Rattle.alta_codec.specs.declared.location.TheConstants.{TOP};

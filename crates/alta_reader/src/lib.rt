@@ -1,4 +1,8 @@
 //! Readers: a rising list of locations with a place in it, which only moves forward and counts its moves.
+//!
+//! `sound` is a member, asked by each call and kept by it, since a fact about all values of a type can't stand in a struct that owns
+//! memory. `cost` bounds one move where `left` bounds all together; of a union it is the sum over its readers, so that it is a
+//! number of the reader alone.
 #![tactic(auto)]
 
 pub mod many;

@@ -1,4 +1,6 @@
 // Pieces are written, a gate is closed, one sync makes both firm, and the root is switched.
+// One sync is enough for pieces and gate: they touch nothing that the root in force names, so an image with any part of them is
+// opened as before.
 ghost use Rattle.std.specs.Prelude.{◌≡◌, ◌≤◌, ◌+◌, [], List, ℕ, length, OnOk};
 ghost use Rattle.std.specs.List.{All};
 ghost use Rattle.alta_codec.specs.Faults.{HasCause};

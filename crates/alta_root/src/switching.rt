@@ -1,4 +1,6 @@
 // The other slot's gate is closed where it is open, its body is written and synced, and its gate is opened and synced.
+// A closed gate is left alone. A pending write over it may leave it open, over an old or empty body, and such an image would stand
+// for nothing. So the gate is read first, one byte, and the write and its sync are skipped where it is closed.
 ghost use Rattle.std.specs.Prelude.{◌≡◌, ◌+◌, ◌≤◌, ◌∷◌, length, OnOk};
 ghost use Rattle.alta_codec.specs.Faults.{HasCause};
 ghost use Rattle.alta_disk.specs.Disk.{DiskState, Only, Passes, Stands};

@@ -1,4 +1,6 @@
 // Readers of the words of a conjunction, and the word that leads.
+// The word with the fewest locations leads, always. Where it or the ends have none, the answer is there and no reader is made. A
+// test of a word has one term at most, which a snapshot keeps, so its reader is no union, and moves at one step each.
 ghost use Rattle.std.specs.Prelude.{◌≡◌, ℕ, ◌+◌, ◌<◌, ◌≤◌, [], ◌∷◌, ◌++◌, map, length, slice_index, All, IfOk, IfErr, IfSome, None};
 ghost use Rattle.std.specs.List.{concat};
 ghost use Rattle.alta_codec.specs.declared.location.TheConstants.{TOP};

@@ -1,4 +1,6 @@
 // The best answers of a query.
+// Of all answers the index of the row alone is kept, and a name is copied only of one that is among the best: a heap of all names
+// would take memory by the answers and not by what is asked for.
 ghost use Rattle.std.specs.Prelude.{◌≡◌, ℕ, ◌+◌, ◌<◌, ◌≤◌, ◌∷◌, ◌++◌, [], List, map, length, All, IfSome, IfOk, OnOk};
 ghost use Rattle.alta_machine.specs.PlanOf.{plan_of};
 ghost use Rattle.alta_compile.specs.Space.{Placed};

@@ -1,4 +1,6 @@
 // The scores of documents over a snapshot.
+// That a score fits in 64 bits is tested at each row, and is no condition on a snapshot, whose rows say no more than where documents
+// stand: so no caller owes anything for `top` to be safe. Documents and queries that were read keep these limits (`AreToRank`).
 ghost use Rattle.std.specs.Prelude.{◌≡◌, ◌↔◌, ◌+◌, ◌<◌, ◌≤◌, map, length, All, IsTrue, IfSome, IfOk, None};
 ghost use Rattle.alta_compile.specs.Space.{document_end};
 ghost use Rattle.alta_content.specs.Rows.{end_of};

@@ -45,7 +45,7 @@ pub fn a_search_answers_what_matches<D: Disk>()
 pub fn the_lines_of_a_dump_restore()
     ensures state { (s : State) (lines : List (List ℕ)) → AreAddLines s.documents lines → machine_after (started_at empty_state) lines ≡ started_at (restored s.documents) }
     ensures answers { (s : State) (lines : List (List ℕ)) (q : Shape) → AreAddLines s.documents lines → All HasItsName s.documents → IsWellFormed q → AsksForFoldings q
-        → AnswersAlike s (machine_after (started_at empty) lines).state q }
+        → AnswersAlike s (machine_after (started_at empty_state) lines).state q }
 {
     the_lines_of_a_dump_answer_again();
 }

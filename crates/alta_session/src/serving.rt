@@ -1,4 +1,6 @@
 // Lines in, replies out.
+// A line that stands whole in a piece is answered where it stands; only one that spans pieces is copied. The next newline is found
+// by `memchr`, which looks at many bytes at once.
 ghost use Rattle.std.specs.Prelude.{◌≡◌, ◌≢◌, ◌⊎◌, ◌+◌, ◌<◌, ◌≤◌, ◌^◌, ◌++◌, [], ◌∷◌, ℕ, length, take, Err, OnOk, OnErr, IfOk, IfErr, IfSome};
 ghost use Rattle.alta_codec.specs.Faults.{Rose};
 ghost use Rattle.alta_codec.specs.Bytes.{Lacks};

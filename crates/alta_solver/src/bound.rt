@@ -1,4 +1,5 @@
 // One bound between two readers.
+// The constant is kept in natural numbers: `low + minus <= high + plus`, with one of both 0, in place of a signed one.
 ghost use Rattle.std.specs.Prelude.{◌≡◌, ◌↔◌, ◌⊎◌, ◌≤◌, pos, negsuc, ◌+ℤ◌, ◌<ℤ◌, IsNone, IfSome};
 
 use alta_codec::Form;

@@ -1,4 +1,8 @@
 // Readers under a system of bounds.
+// The first reader is that of document ends. From one solution to the next the second moves, and the bound between both brings the
+// first on, so that it is not brought to each end between. The two bounds that hold a reader to the first are one test, as one of
+// them at most does not hold. Whether the first has passed its list is asked once the bounds hold; the other readers are then
+// brought behind its last location, once.
 ghost use Rattle.std.specs.Prelude.{◌≡◌, ◌↔◌, ℕ, ◌+◌, ◌*◌, ◌<◌, ◌≤◌, List, map, length, slice_index, slice_index_or, slice_set, All, sum_by, IsTrue, IsOk, IfOk, IfErr, false};
 ghost use Rattle.alta_codec.specs.Rising.{IsRising, first_from};
 ghost use Rattle.alta_solver.specs.Solution.{list_at, IsSolution, IsAtLeast, IsLeast};

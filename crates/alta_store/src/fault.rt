@@ -1,4 +1,5 @@
 // Why a call of the store was not done.
+// `thiserror` writes what a fault says; no reply, status line or clause rests on these texts.
 ghost use Rattle.std.specs.Prelude.{◌≡◌};
 ghost use Rattle.alta_store.specs.Answers.{of_catalog, of_load, of_rewrite, of_root};
 

@@ -1,4 +1,6 @@
 // The head of a segment.
+// `head` also reads a segment that is too short for one, and names the field that is cut or missing: so reading a whole segment asks
+// nothing of its length.
 ghost use Rattle.std.specs.Prelude.{◌≡◌, ℕ, ◌+◌, ◌<◌, ◌≤◌, ◌^◌, length, nat_le, IfOk};
 ghost use Rattle.alta_format.specs.Gives.{Gives, NeverMemory};
 ghost use Rattle.alta_format.specs.Format.{FirstBroken, read};

@@ -16,9 +16,8 @@ use crate::heading::head;
 use crate::parts::Parts;
 use crate::search::{find_in, prefixed_in};
 use crate::span::{TermSpan, term_of};
-use crate::term::TermRow;
 use crate::terms::read_terms;
-use alta_codec::{Bytes, Extent};
+use alta_codec::Extent;
 use alta_content::{DocRow, LevelRows};
 use std::alloc::{AllocError, Global};
 use std::marker::Model;
@@ -59,30 +58,6 @@ fn has_end(text: &[u8], spans: &[TermSpan]) -> bool
     ensures { result ≡ list_any is_end (rows_in text.now spans.now) }
 {
     any_ends(text, spans)
-}
-
-// A row with its term in memory of its own.
-fn row_of(alloc: Global, text: &[u8], span: &TermSpan) -> Result<TermRow, AllocError>
-    ensures { IfOk result (λ row. row ≡ row_in text.now span.now) }
-{
-    let term = Vec::from_slice(alloc, term_of(text, span))?;
-    Ok(TermRow {
-        term: Bytes::from_vec(term),
-        count: span.count,
-        stream: span.stream,
-        summary: span.summary,
-    })
-}
-
-// The rows of all spans.
-fn rows_at(alloc: Global, text: &[u8], spans: &[TermSpan]) -> Result<Vec<TermRow>, AllocError>
-    ensures { IfOk result (λ rows. rows.items ≡ rows_in text.now spans.now) }
-{
-    let mut rows = Vec::with_capacity(alloc, spans.len())?;
-    for span in spans {
-        rows.push(row_of(alloc, text, span)?)?;
-    }
-    Ok(rows)
 }
 
 // Rows of documents, to be shared.
@@ -187,16 +162,6 @@ impl OpenLevel {
         ensures kept { KeepRules (total_of self.now.documents self.now.terms) self.now.documents self.now.terms }
     {
         &self.parts.documents
-    }
-
-    /// The documents, as [`rows`](OpenLevel::rows) gives them, and the terms, each in memory of its own. Fails for want of memory alone.
-    pub fn into_rows(self, alloc: Global) -> Result<(Rc<LevelRows>, Vec<TermRow>), AllocError>
-        ensures documents { IfOk result (λ x. x.0.value ≡ self.documents) }
-        ensures terms { IfOk result (λ x. x.1.items ≡ self.terms) }
-    {
-        let parts = self.parts;
-        let rows = rows_at(alloc, &parts.text, &parts.spans)?;
-        Ok((parts.documents, rows))
     }
 
     /// The place on the disk of a document's name.

@@ -1,4 +1,6 @@
 // Whether a stream and a summary belong together, in one pass over each.
+// A stream of one block agrees with the empty summary alone, since its summary has no rows. Beside a table its one block is block 0:
+// so the first row that differs may be row 0, or row 1 where row 0 is that block.
 ghost use Rattle.std.specs.Prelude.{IfOk, IfErr};
 ghost use Rattle.alta_postings.specs.Deltas.{decoded_list};
 ghost use Rattle.alta_postings.specs.Table.{IsFault};

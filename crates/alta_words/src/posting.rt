@@ -1,4 +1,5 @@
 // A coded list that readers may borrow.
+// Length, first and last location are kept as the check found them, so that to ask for them reads nothing.
 ghost use Rattle.std.specs.Prelude.{◌≡◌, ℕ, ◌+◌, List, length, slice_index, IfOk, IfErr, IsOk};
 ghost use Rattle.alta_codec.specs.Rising.{first_from, pred_of};
 ghost use Rattle.alta_codec.specs.declared.location.TheConstants.{TOP};

@@ -1,4 +1,6 @@
 // A reader of a coded list, which reads number after number.
+// Blocks of 64 that were read ahead made a reader half a kilobyte large, and took a quarter to a third of a walk. The last location
+// of the list is kept, since a chain and a union ask for it several times a move.
 ghost use Rattle.std.specs.Prelude.{◌≡◌, refl, ℕ, ◌+◌, ◌*◌, ◌<◌, ◌≤◌, length};
 ghost use Rattle.alta_codec.specs.Rising.{first_from, pred_of, count_from};
 ghost use Rattle.alta_codec.specs.declared.location.TheConstants.{TOP};

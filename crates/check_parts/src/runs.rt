@@ -2,7 +2,7 @@
 ghost use Rattle.std.specs.Prelude.{◌≡◌, ◌+◌, ◌<◌, length, IfOk};
 
 use alta_codec::Text;
-use alta_content::{DocRow, RowRuns};
+use alta_content::{AllRows, DocRow, RowRuns};
 use std::alloc::{AllocError, Global};
 use std::process::Abort;
 use std::test::Fail;
@@ -36,10 +36,11 @@ fn filled(alloc: Global) -> Result<RowRuns, AllocError>
 /// Whether the rows are found by index and by end, shared and copied.
 fn are_found(alloc: Global) -> Result<bool, AllocError> {
     let rows = filled(alloc)?;
-    let shared = rows.share()?;
+    let runs = rows.runs()?;
     let copies = rows.copy()?;
+    let mut found = rows.len() == 2100 && copies.len() == 2100 && runs.len() == 3;
+    let shared = AllRows::new(alloc, runs)?;
     let mut walk = shared.walk();
-    let mut found = rows.len() == 2100 && copies.len() == 2100 && rows.runs()?.len() == 3;
     for i in [0usize, 1023, 1024, 2047, 2048, 2099] {
         let place = i as u64 + 1;
         found = found && rows.row(i).first == place && shared.row(i).first == place;
