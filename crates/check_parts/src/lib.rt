@@ -1,11 +1,17 @@
-//! Numbers, names, ranges, lists as bytes, rows, lines of a generated run, and consoles, by examples. It holds no product, only
-//! tests.
+//! Numbers, names and texts, disks, journals and consoles, ranges, rows, roots, lists as bytes, and lines of generated runs, by
+//! examples: what is read back, each rule broken, and what each stop leaves. It holds no product, only tests.
 #![tactic(auto)]
 
 #[cfg(test)]
 mod all;
 #[cfg(test)]
 mod consoles;
+#[cfg(test)]
+mod disks;
+#[cfg(test)]
+mod images;
+#[cfg(test)]
+mod journals;
 #[cfg(test)]
 mod lines;
 #[cfg(test)]
@@ -14,6 +20,8 @@ mod numbers;
 mod postings;
 #[cfg(test)]
 mod ranges;
+#[cfg(test)]
+mod roots;
 #[cfg(test)]
 mod runs;
 #[cfg(test)]

@@ -1,4 +1,5 @@
-//! Worked rows of the readers and of the solver together.
+//! Readers of lists, the solver, trees of readers and their leads, searches of snapshots that are made by hand, beside a plain search
+//! or the plain match of a query with a document, and open cursors. It holds no product, only tests.
 #![tactic(auto)]
 
 #[cfg(test)]
@@ -10,6 +11,20 @@ mod coded;
 #[cfg(test)]
 mod counted;
 #[cfg(test)]
-mod search;
+mod cursors;
 #[cfg(test)]
-mod tests;
+mod figures;
+#[cfg(test)]
+mod leads;
+#[cfg(test)]
+mod plain_search;
+#[cfg(test)]
+mod ranks;
+#[cfg(test)]
+mod searches;
+#[cfg(test)]
+mod small_snapshots;
+#[cfg(test)]
+mod solutions;
+#[cfg(test)]
+mod trees;

@@ -1,0 +1,26 @@
+use Rattle.std.proofs.Common.{arith, ap, sym, subst, inl, inr, ◌∙◌, Err}
+use Rattle.alta_disk.specs.Disk.{DiskState}
+use Rattle.alta_store.specs.Agreement.{CanAdd}
+use Rattle.alta_store.specs.declared.store.Store.{Store}
+use Rattle.check_program.proofs.stores.add_one.Goals as goal
+
+pub returns-in-Ok : goal.returns-in-Ok
+returns-in-Ok g c = record {
+  sound = c.in-Ok.ensures.sound;
+  agrees = c.in-Ok.ensures.obeys.agrees;
+  limit = omega (arith, c.in-Ok.ensures.obeys.costs.limit, c.requires.limit);
+}
+
+pub returns-in-Err-Taken : goal.returns-in-Err-Taken
+returns-in-Err-Taken g c =
+    let same = c.add.ensures.refused (inl (c.in-Err-Taken.is ∙ ap Err c.in-Err-Taken.field-0-is)) in
+    subst (λ (disk : DiskState). CanAdd g.D.Disk.tells disk c.add.new.self) (sym (ap g.D.Disk.state same.0))
+    (subst (λ (store : Store). CanAdd g.D.Disk.tells (g.D.Disk.state c.args.disk.now) store) (sym same.1)
+    (record { sound = c.requires.sound; agrees = c.requires.agrees; limit = c.requires.limit }))
+
+pub returns-in-Err-Numbers : goal.returns-in-Err-Numbers
+returns-in-Err-Numbers g c =
+    let same = c.add.ensures.refused (inr (c.in-Err-Numbers.is ∙ ap Err c.in-Err-Numbers.field-0-is)) in
+    subst (λ (disk : DiskState). CanAdd g.D.Disk.tells disk c.add.new.self) (sym (ap g.D.Disk.state same.0))
+    (subst (λ (store : Store). CanAdd g.D.Disk.tells (g.D.Disk.state c.args.disk.now) store) (sym same.1)
+    (record { sound = c.requires.sound; agrees = c.requires.agrees; limit = c.requires.limit }))
