@@ -1,4 +1,5 @@
 pub mod Brings
+pub mod Calls
 pub mod Comes
 pub mod Drafts
 pub mod Places

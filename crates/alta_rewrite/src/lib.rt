@@ -29,4 +29,5 @@ pub use laws::{
     work_is_a_rewrite,
 };
 pub use levels::NextLevels;
+pub use putting::half_of;
 pub use rewriting::{Rewritten, rewrite};

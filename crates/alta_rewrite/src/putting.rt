@@ -86,11 +86,12 @@ fn put<D: Disk>(disk: &mut D, slot: Slot, pieces: &[Piece<'_>]) -> Result<(), Fa
     ensures costs { Costs 0 (D.state disk.old) (D.state disk.new) }
 {
     write_pieces(disk, pieces)?;
-    close_half(disk, half(slot))?;
+    close_half(disk, half_of(slot))?;
     Ok(())
 }
 
-fn half(slot: Slot) -> Half
+/// The half of the journal that a root in this slot uses.
+pub fn half_of(slot: Slot) -> Half
     ensures { result ≡ half_of slot }
 {
     match slot {

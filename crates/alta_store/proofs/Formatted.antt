@@ -12,8 +12,9 @@ use Rattle.alta_journal.proofs.HalfLaws.{half_long, half_byte}
 use Rattle.alta_meaning.specs.Switching.{empty_root, IsFormatted}
 use Rattle.alta_root.specs.Places.{fields_at, gate_of}
 use Rattle.alta_root.specs.Root.{body_of, fields_of, wide_bytes}
+use Rattle.alta_root.specs.declared.places.TheConstants.{VERSION}
 use Rattle.alta_root.specs.declared.slot.Slot.TheVariants.{A}
-use Rattle.alta_store.specs.Clearing.{AreZero, IsClear, empty_fields, empty_head}
+use Rattle.alta_store.specs.Clearing.{AreZero, IsClear, empty_head}
 use Rattle.alta_journal.proofs.Steps.{take_sum}
 
 -- the byte at a place
@@ -48,6 +49,10 @@ zero_part at n m image fits zeros =
     let split : m ≡ at + k = omega (arith, fits) in
     subst AreZero (take-take n k (drop at image) (omega (arith, fits)))
     (All-take (λ b. b ≡ 0) n (take k (drop at image)) (subst AreZero (ap (λ (j : ℕ). drop at (take j image)) split ∙ drop-take at k image) (All-drop (λ b. b ≡ 0) at (take m image) zeros)))
+
+-- the fields behind the gate of a root without documents, byte by byte
+abbrev empty_fields : List ℕ
+empty_fields = VERSION ∷ 0 ∷ 0 ∷ 0 ∷ 0 ∷ 0 ∷ 0 ∷ 0 ∷ 0 ∷ 0 ∷ 0 ∷ 0 ∷ 0 ∷ 0 ∷ 1 ∷ 0 ∷ 0 ∷ 0 ∷ 0 ∷ 0 ∷ 0 ∷ 0 ∷ 1 ∷ 0 ∷ 0 ∷ 0 ∷ 0 ∷ 0 ∷ 0 ∷ 0 ∷ 0 ∷ 0 ∷ 0 ∷ 0 ∷ 0 ∷ 0 ∷ 0 ∷ 0 ∷ 0 ∷ []
 
 spelled : fields_of empty_root ≡ empty_fields
 unfolding fields_of wide_bytes
@@ -147,3 +152,4 @@ module _ (old c0 c1 c2 : List ℕ) (clear : IsClear HEAD_BYTES c0) (still : drop
       gate
       ∙ ap (λ (l : List ℕ). 165 ∷ l)
       (fields_then ∙ ap (λ (l : List ℕ). empty_fields ++ l) zeros_then ∙ sym (append_assoc empty_fields (replicate (HEAD_BYTES - 40) 0) (drop HEAD_BYTES old)))
+      ∙ ap (λ (l : List ℕ). (165 ∷ l ++ replicate (HEAD_BYTES - 40) 0) ++ drop HEAD_BYTES old) (sym spelled)

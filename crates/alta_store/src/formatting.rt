@@ -7,7 +7,7 @@ ghost use Rattle.alta_meaning.specs.Holding.{IsHeld};
 ghost use Rattle.alta_meaning.specs.Opened.{IsOpened};
 ghost use Rattle.alta_meaning.specs.Standing.{StandsFor};
 ghost use Rattle.alta_meaning.specs.Switching.{empty_held, empty_opened};
-ghost use Rattle.alta_store.specs.Clearing.{AreZero, IsClear, empty_head};
+ghost use Rattle.alta_store.specs.Clearing.{AreZero, Clears, IsClear, empty_head};
 ghost use Rattle.alta_machine.specs.States.{empty_state};
 
 use alta_codec::Failed;
@@ -51,11 +51,7 @@ pub fn make_index<D: Disk>(disk: &mut D) -> Result<(), Failed>
 // Writes zeros over the slots and the journal.
 fn clear_head<D: Disk>(disk: &mut D) -> Result<(), Failed>
     requires { HEAD_BYTES ≤ (D.state disk.old).limit }
-    ensures clear { D.tells → OnOk result (IsClear HEAD_BYTES (D.state disk.new).content) }
-    ensures behind { D.tells → OnOk result (drop HEAD_BYTES (D.state disk.new).content ≡ drop HEAD_BYTES (D.state disk.old).content) }
-    ensures cause { HasCause (D.state disk.old).faults (D.state disk.new).faults result }
-    ensures taken { (D.state disk.new).taken ≡ (D.state disk.old).taken }
-    ensures same_limit { (D.state disk.new).limit ≡ (D.state disk.old).limit }
+    ensures { Clears D.tells HEAD_BYTES (D.state disk.old) (D.state disk.new) result }
 {
     let zeros = [0u8; 65_536];
     put_zeros(disk, &zeros)
@@ -66,11 +62,7 @@ fn put_zeros<D: Disk>(disk: &mut D, zeros: &[u8]) -> Result<(), Failed>
     requires limit { HEAD_BYTES ≤ (D.state disk.old).limit }
     requires zeros { AreZero zeros.now }
     requires some { 1 ≤ length zeros.now }
-    ensures clear { D.tells → OnOk result (IsClear HEAD_BYTES (D.state disk.new).content) }
-    ensures behind { D.tells → OnOk result (drop HEAD_BYTES (D.state disk.new).content ≡ drop HEAD_BYTES (D.state disk.old).content) }
-    ensures cause { HasCause (D.state disk.old).faults (D.state disk.new).faults result }
-    ensures taken { (D.state disk.new).taken ≡ (D.state disk.old).taken }
-    ensures same_limit { (D.state disk.new).limit ≡ (D.state disk.old).limit }
+    ensures { Clears D.tells HEAD_BYTES (D.state disk.old) (D.state disk.new) result }
 {
     let mut at = 0;
     while at < HEAD_BYTES {
@@ -89,11 +81,7 @@ fn put_part<D: Disk>(disk: &mut D, at: u64, zeros: &[u8]) -> Result<(), Failed>
     requires clear { D.tells → IsClear at (D.state disk.old).content }
     requires zeros { AreZero zeros.now }
     requires fits { at + length zeros.now ≤ HEAD_BYTES }
-    ensures clear { D.tells → OnOk result (IsClear (at + length zeros.now) (D.state disk.new).content) }
-    ensures behind { D.tells → OnOk result (drop HEAD_BYTES (D.state disk.new).content ≡ drop HEAD_BYTES (D.state disk.old).content) }
-    ensures cause { HasCause (D.state disk.old).faults (D.state disk.new).faults result }
-    ensures taken { (D.state disk.new).taken ≡ (D.state disk.old).taken }
-    ensures same_limit { (D.state disk.new).limit ≡ (D.state disk.old).limit }
+    ensures { Clears D.tells (at + length zeros.now) (D.state disk.old) (D.state disk.new) result }
 {
     disk.write(at, zeros)?;
     Ok(())

@@ -1,11 +1,13 @@
 //! An index on a disk. Each image that a stop may leave stands for the state before a call or after it.
 #![tactic(auto)]
 
+mod entries;
 mod fault;
 mod formatting;
 mod laws;
 mod opening;
 mod store;
+mod work;
 
 pub use alta_catalog::{NameRow, Names};
 pub use fault::{StoreFault, load_fault};

@@ -1,0 +1,323 @@
+// Documents that are added, replaced and deleted, each by one record in the journal.
+ghost use Rattle.std.specs.Prelude.{◌≡◌, ◌⊎◌, ◌↔◌, ◌<◌, ◌≤◌, ℕ, true, false, Err, Some, IfOk, IfErr, OnOk};
+ghost use Rattle.alta_meaning.specs.Entries.{Allows, IsDocument};
+ghost use Rattle.alta_machine.specs.Changes.{has_name, number_of, with_added, with_deleted, with_replaced};
+ghost use Rattle.alta_meaning.specs.Work.{enters};
+ghost use Rattle.alta_journal.specs.Entry.{IsTyped, KeepsRules};
+ghost use Rattle.alta_journal.specs.Places.{left_behind, start_of};
+ghost use Rattle.alta_journal.specs.declared.entry.Entry.TheVariants.{Add, Delete, Replace};
+ghost use Rattle.alta_journal.specs.declared.places.TheConstants.{HEAD_BYTES};
+ghost use Rattle.alta_machine.specs.declared.document.State.{State};
+ghost use Rattle.alta_store.specs.Agreement.{Agrees, Knows, is_sound};
+ghost use Rattle.alta_store.specs.Calls.{Enters, IsStepFrom, IsStepOf, MakesRoom, NoRefusal, Obeys, RefusesAdd, RefusesReplace, needs_room};
+ghost use Rattle.alta_store.specs.declared.fault.StoreFault.TheVariants.{Taken, Missing, Numbers};
+
+use crate::{Store, StoreFault};
+use alta_catalog::apply_entry;
+use alta_codec::Text;
+use alta_disk::Disk;
+use alta_journal::{Entry, HALF_BYTES, JournalFault, Ready, Tail, append, is_old, ready};
+use std::alloc::{AllocError, Global};
+
+impl Store {
+    /// Adds a document, by one record in the journal, and answers its number. Where the root's version can't have the record, a root of the
+    /// last version comes first, with the newest documents in a level, and where the record does not fit in the journal, a
+    /// [`flush`](Store::flush). The title has no tab, title and body have no newline. While it runs, each image that a stop may leave
+    /// stands for the state before or after; once it has answered, each stands for the state after.
+    ///
+    /// # Errors
+    ///
+    /// `Taken` exactly where a live document has the name, else `Numbers` exactly where no number is left; then nothing was
+    /// called and nothing has changed. `Full` and `Damaged` where the root is switched first, as [`flush`](Store::flush) answers them,
+    /// `Disk` where a call of the disk failed, and `Memory`: then the store may no longer be used.
+    pub fn add<D: Disk>(
+        &mut self,
+        disk: &mut D,
+        name: &str,
+        title: &str,
+        body: &str,
+    ) -> Result<u64, StoreFault>
+        requires document { IsDocument name.now title.now body.now }
+        requires sound { is_sound self.old ≡ true }
+        requires agrees { Agrees D.tells (D.state disk.old) self.old }
+        requires limit { HEAD_BYTES ≤ (D.state disk.old).limit }
+
+        ensures obeys { Obeys D.tells (enters (Add name.now title.now body.now)) (with_added name.now title.now body.now) RefusesAdd (D.state disk.old) (D.state disk.new) self.old self.new result }
+        ensures number { (s : State) → Knows self.old s → IfOk result (λ n. (n ≡ s.next) × (has_name name.now s ≡ false) × (s.next < 4294967296)) }
+        ensures taken { (s : State) → Knows self.old s → (result ≡ Err Taken) ↔ (has_name name.now s ≡ true) }
+        ensures numbers { (s : State) → Knows self.old s → (result ≡ Err Numbers) ↔ ((has_name name.now s ≡ false) × (4294967296 ≤ s.next)) }
+        ensures refused { (result ≡ Err Taken) ⊎ (result ≡ Err Numbers) → (disk.new ≡ disk.old) × (self.new ≡ self.old) }
+        ensures sound { OnOk result (is_sound self.new ≡ true) }
+        ensures unsound { IfErr result (λ e. RefusesAdd e ⊎ (is_sound self.new ≡ false)) }
+    {
+        if self.catalog.number_of(name).is_some() {
+            return Err(StoreFault::Taken);
+        }
+        if !self.catalog.has_room() {
+            return Err(StoreFault::Numbers);
+        }
+        let (_, _, number) = self.catalog.counts();
+        match self.enter_add(disk, name, title, body) {
+            Ok(()) => Ok(number),
+            Err(fault) => Err(self.failed(fault)),
+        }
+    }
+
+    // Adds a document whose name is free and for which a number is left.
+    fn enter_add<D: Disk>(
+        &mut self,
+        disk: &mut D,
+        name: &str,
+        title: &str,
+        body: &str,
+    ) -> Result<(), StoreFault>
+        requires document { IsDocument name.now title.now body.now }
+        requires agrees { Agrees D.tells (D.state disk.old) self.old }
+        requires free { (s : State) → Knows self.old s → has_name name.now s ≡ false }
+        requires number { (s : State) → Knows self.old s → s.next < 4294967296 }
+        requires limit { HEAD_BYTES ≤ (D.state disk.old).limit }
+
+        ensures obeys { Obeys D.tells (enters (Add name.now title.now body.now)) (with_added name.now title.now body.now) NoRefusal (D.state disk.old) (D.state disk.new) self.old self.new result }
+        ensures sound { OnOk result (is_sound self.new ≡ is_sound self.old) }
+    {
+        match entry_of_add(self.alloc, name, title, body) {
+            Ok(entry) => self.enter(disk, &entry),
+            Err(_) => Err(StoreFault::Memory),
+        }
+    }
+
+    /// Puts a document in place of the live one with its name, by one record in the journal, and answers the number of that one and its own.
+    /// A root of the last version, and a [`flush`](Store::flush), come first where they do at [`add`](Store::add). The title has no tab,
+    /// title and body have no newline. While it runs, each image that a stop may leave stands for the state before or after, never
+    /// for one with both documents or with neither; once it has answered, each stands for the state after.
+    ///
+    /// # Errors
+    ///
+    /// `Missing` exactly where no live document has the name, else `Numbers` exactly where no number is left; then nothing was
+    /// called and nothing has changed. `Full` and `Damaged` where the root is switched first, as [`flush`](Store::flush) answers them,
+    /// `Disk` where a call of the disk failed, and `Memory`: then the store may no longer be used.
+    pub fn replace<D: Disk>(
+        &mut self,
+        disk: &mut D,
+        name: &str,
+        title: &str,
+        body: &str,
+    ) -> Result<(u64, u64), StoreFault>
+        requires document { IsDocument name.now title.now body.now }
+        requires sound { is_sound self.old ≡ true }
+        requires agrees { Agrees D.tells (D.state disk.old) self.old }
+        requires limit { HEAD_BYTES ≤ (D.state disk.old).limit }
+
+        ensures obeys { (s : State) → (number : ℕ) → Knows self.old s → number_of name.now s ≡ Some number
+            → Obeys D.tells (enters (Replace number name.now title.now body.now)) (with_replaced name.now title.now body.now) RefusesReplace (D.state disk.old) (D.state disk.new) self.old self.new result }
+        ensures numbers_of { (s : State) → Knows self.old s → IfOk result (λ both. (number_of name.now s ≡ Some both.0) × (both.1 ≡ s.next) × (s.next < 4294967296)) }
+        ensures missing { (s : State) → Knows self.old s → (result ≡ Err Missing) ↔ (has_name name.now s ≡ false) }
+        ensures numbers { (s : State) → Knows self.old s → (result ≡ Err Numbers) ↔ ((has_name name.now s ≡ true) × (4294967296 ≤ s.next)) }
+        ensures refused { (result ≡ Err Missing) ⊎ (result ≡ Err Numbers) → (disk.new ≡ disk.old) × (self.new ≡ self.old) }
+        ensures sound { OnOk result (is_sound self.new ≡ true) }
+        ensures unsound { IfErr result (λ e. RefusesReplace e ⊎ (is_sound self.new ≡ false)) }
+    {
+        let Some(old) = self.catalog.number_of(name) else {
+            return Err(StoreFault::Missing);
+        };
+        if !self.catalog.has_room() {
+            return Err(StoreFault::Numbers);
+        }
+        let (_, _, new) = self.catalog.counts();
+        match self.enter_replace(disk, old, name, title, body) {
+            Ok(()) => Ok((old, new)),
+            Err(fault) => Err(self.failed(fault)),
+        }
+    }
+
+    // Puts a document in place of one that was found, with a number that is left.
+    fn enter_replace<D: Disk>(
+        &mut self,
+        disk: &mut D,
+        number: u64,
+        name: &str,
+        title: &str,
+        body: &str,
+    ) -> Result<(), StoreFault>
+        requires document { IsDocument name.now title.now body.now }
+        requires agrees { Agrees D.tells (D.state disk.old) self.old }
+        requires named { (s : State) → Knows self.old s → number_of name.now s ≡ Some number }
+        requires left { (s : State) → Knows self.old s → s.next < 4294967296 }
+        requires limit { HEAD_BYTES ≤ (D.state disk.old).limit }
+
+        ensures obeys { Obeys D.tells (enters (Replace number name.now title.now body.now)) (with_replaced name.now title.now body.now) NoRefusal (D.state disk.old) (D.state disk.new) self.old self.new result }
+        ensures sound { OnOk result (is_sound self.new ≡ is_sound self.old) }
+    {
+        match entry_of_replace(self.alloc, number, name, title, body) {
+            Ok(entry) => self.enter(disk, &entry),
+            Err(_) => Err(StoreFault::Memory),
+        }
+    }
+
+    /// Deletes the live document with this name, by one record in the journal, and answers its number. Where the record does not fit in
+    /// the journal, a flush comes first, as [`flush`](Store::flush). While it runs, each image that a stop may leave stands for the state
+    /// before or after; once it has answered, each stands for the state after.
+    ///
+    /// # Errors
+    ///
+    /// `Missing` exactly where no live document has the name; then nothing was called and nothing has changed. `Full` and `Damaged` where a
+    /// flush comes first, as [`flush`](Store::flush) answers them, `Disk` where a call of the disk failed, and `Memory`: then the store may
+    /// no longer be used.
+    pub fn delete<D: Disk>(&mut self, disk: &mut D, name: &str) -> Result<u64, StoreFault>
+        requires sound { is_sound self.old ≡ true }
+        requires agrees { Agrees D.tells (D.state disk.old) self.old }
+        requires limit { HEAD_BYTES ≤ (D.state disk.old).limit }
+
+        ensures obeys { (s : State) → (number : ℕ) → Knows self.old s → number_of name.now s ≡ Some number
+            → Obeys D.tells (enters (Delete number)) (with_deleted name.now) NoRefusal (D.state disk.old) (D.state disk.new) self.old self.new result }
+        ensures number { (s : State) → Knows self.old s → IfOk result (λ n. number_of name.now s ≡ Some n) }
+        ensures missing { (s : State) → Knows self.old s → (result ≡ Err Missing) ↔ (has_name name.now s ≡ false) }
+        ensures refused { result ≡ Err Missing → (disk.new ≡ disk.old) × (self.new ≡ self.old) }
+        ensures sound { OnOk result (is_sound self.new ≡ true) }
+        ensures unsound { IfErr result (λ e. (e ≡ Missing) ⊎ (is_sound self.new ≡ false)) }
+    {
+        let Some(number) = self.catalog.number_of(name) else {
+            return Err(StoreFault::Missing);
+        };
+        match self.enter_delete(disk, name, number) {
+            Ok(()) => Ok(number),
+            Err(fault) => Err(self.failed(fault)),
+        }
+    }
+
+    // Deletes a document that was found.
+    fn enter_delete<D: Disk>(
+        &mut self,
+        disk: &mut D,
+        name: &str,
+        number: u64,
+    ) -> Result<(), StoreFault>
+        requires agrees { Agrees D.tells (D.state disk.old) self.old }
+        requires named { (s : State) → Knows self.old s → number_of name.now s ≡ Some number }
+        requires limit { HEAD_BYTES ≤ (D.state disk.old).limit }
+
+        ensures obeys { Obeys D.tells (enters (Delete number)) (with_deleted name.now) NoRefusal (D.state disk.old) (D.state disk.new) self.old self.new result }
+        ensures sound { OnOk result (is_sound self.new ≡ is_sound self.old) }
+    {
+        self.enter(disk, &Entry::Delete { number })
+    }
+
+    // ---- entries
+
+    // Enters an entry that the documents allow, behind a switch of the root where the journal has no room for it.
+    fn enter<D: Disk>(&mut self, disk: &mut D, entry: &Entry) -> Result<(), StoreFault>
+        requires rules { KeepsRules entry.now }
+        requires agrees { Agrees D.tells (D.state disk.old) self.old }
+        requires allowed { (s : State) → Knows self.old s → Allows s entry.now }
+        requires limit { HEAD_BYTES ≤ (D.state disk.old).limit }
+
+        ensures obeys { (step : State → State) → IsStepFrom entry.now step self.old → Obeys D.tells (enters entry.now) step NoRefusal (D.state disk.old) (D.state disk.new) self.old self.new result }
+        ensures sound { OnOk result (is_sound self.new ≡ is_sound self.old) }
+    {
+        let Ok(ready) = ready(self.alloc, entry) else {
+            return Err(StoreFault::Memory);
+        };
+        match self.make_room(disk, entry, &ready) {
+            Ok(()) => self.commit(disk, entry, &ready),
+            Err(fault) => Err(fault),
+        }
+    }
+
+    // Makes room in the journal for an entry: by a switch of the root, where there is none.
+    fn make_room<D: Disk>(
+        &mut self,
+        disk: &mut D,
+        entry: &Entry,
+        ready: &Ready,
+    ) -> Result<(), StoreFault>
+        requires rules { KeepsRules entry.now }
+        requires ready { ready.now.entry ≡ entry.now }
+        requires agrees { Agrees D.tells (D.state disk.old) self.old }
+        requires limit { HEAD_BYTES ≤ (D.state disk.old).limit }
+
+        ensures makes { MakesRoom D.tells entry.now (D.state disk.old) (D.state disk.new) self.old self.new result }
+        ensures room { OnOk result (needs_room self.new entry.now ≡ false) }
+        ensures sound { OnOk result (is_sound self.new ≡ is_sound self.old) }
+    {
+        if !self.needs_room(entry, ready) {
+            return Ok(());
+        }
+        self.put_newest(disk)
+    }
+
+    // Whether the journal has no room for an entry: the root's version can't have its record, or it does not fit.
+    fn needs_room(&self, entry: &Entry, ready: &Ready) -> bool
+        requires rules { KeepsRules entry.now }
+        requires ready { ready.now.entry ≡ entry.now }
+        ensures { result ≡ needs_room self.now entry.now }
+    {
+        let is_new = self.root.version == 1 && !is_old(entry);
+        is_new || ready.bytes().len() as u64 > room_behind(self.tail)
+    }
+
+    // Enters an entry that the documents allow, and for which there is room. All memory is taken before the first write.
+    fn commit<D: Disk>(
+        &mut self,
+        disk: &mut D,
+        entry: &Entry,
+        ready: &Ready,
+    ) -> Result<(), StoreFault>
+        requires rules { KeepsRules entry.now }
+        requires typed { IsTyped entry.now }
+        requires ready { ready.now.entry ≡ entry.now }
+        requires agrees { Agrees D.tells (D.state disk.old) self.old }
+        requires allowed { (s : State) → Knows self.old s → Allows s entry.now }
+        requires room { needs_room self.old entry.now ≡ false }
+        requires limit { HEAD_BYTES ≤ (D.state disk.old).limit }
+
+        ensures enters { (step : State → State) → IsStepOf entry.now step self.old → Enters D.tells entry.now step (D.state disk.old) (D.state disk.new) self.old self.new result }
+        ensures sound { is_sound self.new ≡ is_sound self.old }
+    {
+        match apply_entry(self.alloc, &mut self.catalog, entry) {
+            Ok(true) => {}
+            Ok(false) => unreachable!(),
+            Err(_) => return Err(StoreFault::Memory),
+        }
+        match append(disk, &mut self.tail, ready) {
+            Ok(()) => Ok(()),
+            Err(JournalFault::Full { .. }) => unreachable!(),
+            Err(JournalFault::Disk) => Err(StoreFault::Disk),
+        }
+    }
+}
+
+// How many bytes the journal has left behind the gate of its next record.
+fn room_behind(tail: Tail) -> u64
+    ensures { result ≡ left_behind (start_of tail.half) tail.place }
+{
+    tail.half.start() + HALF_BYTES - (tail.place + 1)
+}
+
+// The entry of a document that is added.
+fn entry_of_add(alloc: Global, name: &str, title: &str, body: &str) -> Result<Entry, AllocError>
+    ensures { IfOk result (λ entry. entry ≡ Add name.now title.now body.now) }
+{
+    Ok(Entry::Add {
+        name: Text::of(alloc, name)?,
+        title: Text::of(alloc, title)?,
+        body: Text::of(alloc, body)?,
+    })
+}
+
+// The entry of a document that takes the place of the one with this number.
+fn entry_of_replace(
+    alloc: Global,
+    number: u64,
+    name: &str,
+    title: &str,
+    body: &str,
+) -> Result<Entry, AllocError>
+    ensures { IfOk result (λ entry. entry ≡ Replace number name.now title.now body.now) }
+{
+    Ok(Entry::Replace {
+        number,
+        name: Text::of(alloc, name)?,
+        title: Text::of(alloc, title)?,
+        body: Text::of(alloc, body)?,
+    })
+}
