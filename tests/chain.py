@@ -3,13 +3,14 @@
 
 A crate's chain is the crate, one that it stands on, one that this stands on, and so on. The longest may have LONGEST crates, so
 that a reader comes from the program to the bottom in so many steps and a change is proved again through no more of them.
-Crates that hold only tests or measurements (check_, bench_) and those of the kit are left out.
+The session's is the dearest check: its answers to queries stand in a crate of their own, alta_replies, so that its halves are proved side by
+side, and the tenth crate is for them. Crates that hold only tests or measurements (check_, bench_) and those of the kit are left out.
 """
 
 import os
 import sys
 
-LONGEST = 9
+LONGEST = 10
 
 
 def crates_of(text):

@@ -9,9 +9,10 @@ use Rattle.alta_search.specs.Open.{AreOpen}
 use Rattle.alta_machine.specs.OpenAnswers.{OpenAnswers}
 use Rattle.alta_search.specs.declared.cursors.OpenCursor.{OpenCursor}
 use Rattle.alta_session.specs.Agreement.{AgreesOn}
-use Rattle.alta_session.specs.Answering.{CanAnswer, IsReply, AnswersFrom, Answers}
+use Rattle.alta_session.specs.Answering.{CanAnswer, AnswersFrom, Answers}
+use Rattle.alta_replies.specs.Replies.{IsReply}
 use Rattle.alta_machine.specs.Cursors.{Turn}
-use Rattle.alta_session.specs.Turns.{Turns}
+use Rattle.alta_replies.specs.Turns.{Turns}
 use Rattle.alta_machine.specs.Machine.{Machine, changed_by, turned_by, IsRefusal}
 use Rattle.alta_session.specs.Tasks.{IsBy, IsWorked, worked_where}
 use Rattle.alta_session.specs.declared.session.Session.{Session}

@@ -7,7 +7,8 @@ use Rattle.alta_session.specs.Answering.{CanAnswer}
 use Rattle.alta_session.specs.Damage.{FindsDamage, SomeFindsDamage, SomeWantsPlace, WantsPlace}
 use Rattle.alta_session.specs.Joining.{Works}
 use Rattle.alta_session.specs.Keeping.{clip}
-use Rattle.alta_session.specs.Loading.{Loads, session_loads}
+use Rattle.alta_replies.specs.Loading.{Loads}
+use Rattle.alta_session.specs.Spending.{session_loads}
 use Rattle.alta_machine.specs.Machine.{Searches, SearchesIn}
 use Rattle.alta_session.specs.declared.session.Session.{Session}
 use Rattle.alta_session.proofs.MachineLaws.{reading_clip}

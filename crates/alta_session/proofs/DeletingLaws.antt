@@ -12,7 +12,7 @@ use Rattle.alta_codec.proofs.NameLaws.{name_is, name_is_not}
 use Rattle.alta_machine.specs.Machine.{deleted_as, deleting, stats_of, IsRefusal}
 use Rattle.alta_meaning.specs.Standing.{StandsForEither}
 use Rattle.alta_machine.specs.Changes.{has_name, number_of, words_in, with_deleted}
-use Rattle.alta_session.proofs.SearchLaws.{some_behind}
+use Rattle.alta_replies.proofs.SearchLaws.{some_behind}
 
 -- what is found, and what is left out, in a list
 none_found : {X : Type 0} (b : X → Bool) (xs : List X) → list_any b xs ≡ false → find b xs ≡ None

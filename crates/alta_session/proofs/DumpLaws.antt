@@ -1,12 +1,12 @@
 -- Laws of dumps.
-use Rattle.std.proofs.Common.{◌≡◌, ℕ, ◌<◌, true, false, List, [], ◌∷◌, ◌++◌, length, lit<, map, arith, codes, decimal, length-append}
+use Rattle.std.proofs.Common.{ℕ, ◌<◌, true, false, List, [], ◌∷◌, ◌++◌, length, lit<, arith, codes, decimal}
 use Rattle.std.specs.Prelude.{Some, None, if◌then◌else◌}
 use Rattle.alta_machine.specs.Dumps.{count_lines, dumped, line_or_skipped, lines_for}
 use Rattle.alta_machine.specs.DumpLines.{add_line, has_line, line_of}
 use Rattle.alta_machine.specs.declared.document.Document.{Document}
 use Rattle.alta_machine.specs.Machine.{IsRefusal}
-use Rattle.alta_session.proofs.CursorLaws.{BeginsOther, left_other, no_refusal}
-use Rattle.alta_session.proofs.SearchLaws.{some_behind}
+use Rattle.alta_replies.proofs.CursorLaws.{BeginsOther, left_other, no_refusal}
+use Rattle.alta_replies.proofs.SearchLaws.{some_behind}
 
 -- a dump has at least its last newline
 pub dumped_some : (documents : List Document) → 0 < length (dumped documents)

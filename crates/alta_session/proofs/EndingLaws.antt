@@ -1,8 +1,9 @@
 -- Laws of what a call that answers lines leaves of the counts, and why it ended.
-use Rattle.std.proofs.Common.{◌≡◌, ℕ, ◌≤◌, refl, ◌∙◌, arith}
+use Rattle.std.proofs.Common.{◌≡◌, ℕ, ◌≤◌, ◌↔◌, List, [], ◌++◌, Option, None, Some, IfSome, Result, Ok, Err, take, inl, refl, sym, subst, ◌∙◌, arith}
 use Rattle.alta_codec.specs.Faults.{Rose}
+use Rattle.alta_console.specs.Transcript.{Consumes}
 use Rattle.alta_disk.specs.Disk.{DiskState}
-use Rattle.alta_session.specs.Ending.{IsCaused, KeepsCounts}
+use Rattle.alta_session.specs.Ending.{Accounts, IsCaused, KeepsCounts}
 use Rattle.alta_session.specs.declared.status.Status.{Status}
 use Rattle.alta_session.specs.declared.status.Status.TheVariants.{Memory, TakeFault}
 
@@ -49,3 +50,38 @@ caused_input tells give_faults a b d e status failed = record {
   give_fault = λ is. absurd cc;
   disk_fault = λ is. absurd cc;
 }
+
+-- ---- of calls
+
+-- nothing was called, for want of memory
+pub accounts_memory : {C T : Type 0} (tells : Type 0) (left : C → Option (List ℕ)) (take_faults give_faults : C → ℕ) (c : C) (d : DiskState) (status : Status) → status ≡ Memory → Accounts {T = T} tells left take_faults give_faults c c d d (Err status)
+accounts_memory tells left take_faults give_faults c d status memory = record {
+  ends = inl (inl memory);
+  caused = caused_memory tells give_faults c c d d status memory;
+  input_kept = refl;
+  counts = counts_none take_faults give_faults c d;
+}
+
+-- lines were answered behind others
+pub accounts_on : {C T : Type 0} (tells : Type 0) (left : C → Option (List ℕ)) (take_faults give_faults : C → ℕ) (a b c : C) (d e f : DiskState) (result : Result T Status) → left b ≡ left a → KeepsCounts take_faults give_faults a b d e
+    → Accounts tells left take_faults give_faults b c e f result → Accounts tells left take_faults give_faults a c d f result
+accounts_on tells left take_faults give_faults a b c d e f (Ok x) kept counts later = record {
+  ends = tt;
+  caused = tt;
+  input_kept = later.input_kept ∙ kept;
+  counts = counts_on take_faults give_faults a b c d e f counts later.counts;
+}
+accounts_on tells left take_faults give_faults a b c d e f (Err status) kept counts later = record {
+  ends = later.ends;
+  caused = caused_on take_faults give_faults tells a b c d e f status counts later.caused;
+  input_kept = later.input_kept ∙ kept;
+  counts = counts_on take_faults give_faults a b c d e f counts later.counts;
+}
+
+-- where a take finds the end of the input, all of it was read
+pub read_to_end : (a b c : Option (List ℕ)) (n : ℕ) (piece : List ℕ) → n ≡ 0 → IfSome a (λ bytes. (n ≡ 0) ↔ (bytes ≡ [])) → Consumes a b (take n piece) → c ≡ b → IfSome c (λ bytes. bytes ≡ [])
+read_to_end a None c n piece none ends read same = subst (λ (o : Option (List ℕ)). IfSome o (λ bytes. bytes ≡ [])) (sym same) tt
+read_to_end a (Some left) c n piece none ends read same =
+    let told : (n ≡ 0) ↔ (take n piece ++ left ≡ []) = subst (λ (o : Option (List ℕ)). IfSome o (λ bytes. (n ≡ 0) ↔ (bytes ≡ []))) read ends in
+    let empty : left ≡ [] = subst (λ (k : ℕ). take k piece ++ left ≡ []) none (told.0 none) in
+    subst (λ (o : Option (List ℕ)). IfSome o (λ bytes. bytes ≡ [])) (sym same) empty

@@ -2,7 +2,6 @@ pub mod AddingLaws
 pub mod AgreementLaws
 pub mod AnsweringLaws
 pub mod AskLaws
-pub mod CursorLaws
 pub mod DamageLaws
 pub mod DeletingLaws
 pub mod DemoLaws
@@ -14,8 +13,8 @@ pub mod FullnessLaws
 pub mod GivenLaws
 pub mod JoiningLaws
 pub mod KeepingLaws
-pub mod LoadingLaws
 pub mod MachineLaws
+pub mod MakingLaws
 pub mod ObeyingLaws
 pub mod OpeningLaws
 pub mod ProgressLaws
@@ -23,7 +22,6 @@ pub mod QueryingLaws
 pub mod RestoringLaws
 pub mod RunLaws
 pub mod ScriptLaws
-pub mod SearchLaws
 pub mod ServeLaws
 pub mod SpendingLaws
 pub mod StateLaws

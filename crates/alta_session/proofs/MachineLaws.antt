@@ -1,6 +1,5 @@
 -- Laws of the machine.
 use Rattle.std.proofs.Common.{◌≡◌, ℕ, ◌+◌, ◌<◌, inl, inr, Option, Some, None, List, [], ◌∷◌, ◌++◌, length, take, suc, lit<, refl, ap, sym, ◌∙◌, arith, map, nat_le, codes, decimal, if◌then◌else◌}
-use Rattle.std.proofs.lemmas.Grind.{common_steps}
 use Rattle.std.proofs.lemmas.List.{length-take, take_all, take-map}
 use Rattle.std.proofs.lemmas.Bool.{cases_lt}
 use Rattle.alta_codec.specs.Name.{is_name}
@@ -14,10 +13,10 @@ use Rattle.alta_machine.specs.declared.line.LineFault.TheVariants.{TooLong, NotU
 use Rattle.alta_model.proofs.Readings.{reading_long}
 use Rattle.alta_session.specs.Keeping.{clip}
 use Rattle.alta_machine.specs.Machine.{Machine, refusal, adding, put_as, obeyed, answered, step, machine_after, replies}
-use Rattle.alta_session.proofs.CursorLaws.{opening_some, fetching_some, closing_some}
+use Rattle.alta_replies.proofs.CursorLaws.{opening_some, fetching_some, closing_some}
 use Rattle.alta_session.proofs.DeletingLaws.{deleting_some, if_some, stats_some}
 use Rattle.alta_session.proofs.DumpLaws.{dumped_some}
-use Rattle.alta_session.proofs.SearchLaws.{searching_some, counting_some, explaining_some, ranking_some, some_behind}
+use Rattle.alta_replies.proofs.SearchLaws.{searching_some, counting_some, explaining_some, ranking_some, some_behind}
 
 pub after_append : (m : Machine) (xs ys : List (List ℕ)) → machine_after m (xs ++ ys) ≡ machine_after (machine_after m xs) ys
 after_append m [] ys = refl

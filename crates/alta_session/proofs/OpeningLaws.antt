@@ -1,7 +1,8 @@
 -- Laws of calls that open an index: the same of another value.
 use Rattle.std.proofs.Common.{◌≡◌, Ok, Err, refl, ap}
 use Rattle.alta_disk.specs.Disk.{DiskState}
-use Rattle.alta_session.proofs.StatusLaws.{err_answers, ok_answers}
+use Rattle.alta_replies.proofs.LoadingLaws.{err_answers}
+use Rattle.alta_replies.proofs.LoadingLaws.{ok_answers}
 use Rattle.alta_store.specs.Opening.{Opens}
 use Rattle.alta_store.specs.declared.fault.StoreFault.{StoreFault}
 use Rattle.alta_store.specs.declared.fault.StoreFault.TheVariants.{Damaged, Disk, NoRoot}

@@ -24,17 +24,17 @@ use Rattle.alta_machine.specs.declared.cursors.TheConstants.{CURSORS}
 use Rattle.alta_search.proofs.CursorAnswers.{same_length}
 use Rattle.alta_session.specs.Answering.{Answers, CanAnswer}
 use Rattle.alta_machine.specs.Cursors.{Turn, opening, opened_by}
-use Rattle.alta_session.specs.Turns.{Turns}
-use Rattle.alta_session.specs.Loading.{KeepsMark, Queries}
+use Rattle.alta_replies.specs.Turns.{Turns}
+use Rattle.alta_replies.specs.Loading.{KeepsMark, Queries}
 use Rattle.alta_machine.specs.Machine.{IsRefusal, Machine, turned_by}
 use Rattle.alta_machine.specs.Searching.{IsNoQuery, answer_lines, counted_by, counting, found_by, found_line, ranked_by, ranking, score_lines, searching}
 use Rattle.alta_session.specs.Tasks.{IsBy}
 use Rattle.alta_session.specs.declared.session.Session.{Session}
 use Rattle.alta_session.proofs.AnsweringLaws.{answers_by, if_so, ok_weaker, with_mark}
-use Rattle.alta_session.proofs.CursorLaws.{found_other, cursor_other, lines_other, no_refusal, scores_other}
-use Rattle.alta_session.proofs.LoadingLaws.{agrees_read}
+use Rattle.alta_replies.proofs.CursorLaws.{found_other, cursor_other, lines_other, no_refusal, scores_other}
+use Rattle.alta_replies.proofs.LoadingLaws.{agrees_read}
 use Rattle.alta_session.proofs.TaskLaws.{worked_none}
-use Rattle.alta_store.specs.Agreement.{Agrees, levels_of}
+use Rattle.alta_store.specs.Agreement.{Agrees}
 use Rattle.alta_store.specs.Answers.{IsOutside}
 use Rattle.alta_store.specs.declared.fault.StoreFault.{StoreFault}
 use Rattle.alta_store.specs.declared.fault.StoreFault.TheVariants.{Damaged, Full}

@@ -15,7 +15,7 @@ use Rattle.alta_session.specs.Agreement.{AgreesOn}
 use Rattle.alta_session.specs.Fullness.{IsFullExactly}
 use Rattle.alta_machine.specs.Machine.{Machine, started_at}
 use Rattle.alta_session.specs.Progress.{StandsAfterSome}
-use Rattle.alta_session.specs.Loading.{newest_in}
+use Rattle.alta_replies.specs.Loading.{newest_in}
 use Rattle.alta_session.specs.Run.{AnswersAll, KeepsAnswered, KeepsSince, Runs, RunsFrom, Serves, Keeps}
 use Rattle.alta_session.specs.Spending.{OnlyReads, Spends, lines_bytes, newest_of_opened, opening_bytes}
 use Rattle.alta_session.specs.Tasks.{IsBy, IsFirst, IsOn, IsWorked, worked_lines}

@@ -11,7 +11,8 @@ use Rattle.alta_search.specs.Open.{AreOpen}
 use Rattle.alta_machine.specs.OpenAnswers.{OpenAnswers}
 use Rattle.alta_search.specs.declared.cursors.OpenCursor.{OpenCursor}
 use Rattle.alta_session.specs.Keeping.{clip}
-use Rattle.alta_session.specs.Loading.{Loads, line_loads, loads_in, newest_in, session_loads}
+use Rattle.alta_replies.specs.Loading.{Loads, line_loads, loads_in, newest_in}
+use Rattle.alta_session.specs.Spending.{session_loads}
 use Rattle.alta_machine.specs.Machine.{Looks, LooksIn, Machine, Searches, SearchesIn, step, machine_after}
 use Rattle.alta_session.specs.Spending.{KeepsStore, OnlyReads, ReadsIn, Spends, line_bytes, lines_bytes}
 use Rattle.alta_session.specs.declared.session.Session.{Session}

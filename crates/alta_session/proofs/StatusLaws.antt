@@ -1,5 +1,5 @@
 -- Laws of statuses.
-use Rattle.std.proofs.Common.{◌≡◌, ◌≢◌, ◌⊎◌, ℕ, inl, inr, refl, ap, sym, subst, ◌∙◌, Result, Ok, Err}
+use Rattle.std.proofs.Common.{◌≡◌, ◌≢◌, ◌⊎◌, ℕ, inl, inr, refl, ap, sym, subst, ◌∙◌, Result, Err}
 use Rattle.alta_session.specs.Status.{StopsLine, EndsLine, EndsRunning, EndsRun, EndsInit, IsOpened, Completes, Yields, status_for}
 use Rattle.alta_session.specs.declared.status.Status.{Status}
 use Rattle.alta_session.specs.declared.status.Status.TheVariants.{Done, Usage, DiskFault, TakeFault, GiveFault, Memory, Damaged, NoRoot, Full, TooLong, Exists}
@@ -20,6 +20,13 @@ ends_not_long status (inl (inr (inl is))) long = cc
 ends_not_long status (inl (inr (inr (inl is)))) long = cc
 ends_not_long status (inl (inr (inr (inr (need, gap, is))))) long = cc
 ends_not_long status (inr (place, is)) long = cc
+
+pub ends_not_taken : (status : Status) → EndsLine status → (status ≡ TakeFault → ⊥)
+ends_not_taken status (inl (inl is)) failed = cc
+ends_not_taken status (inl (inr (inl is))) failed = cc
+ends_not_taken status (inl (inr (inr (inl is)))) failed = cc
+ends_not_taken status (inl (inr (inr (inr (need, gap, is))))) failed = cc
+ends_not_taken status (inr (place, is)) failed = cc
 
 -- where no damage is found
 pub ends_whole : (status : Status) → EndsLine status → ((place : ℕ) → status ≡ Damaged place → ⊥) → StopsLine status
@@ -227,11 +234,6 @@ answers_status r e fault is result was (inl same) = let f : e ≡ fault = cc in 
 answers_status r e fault is result was (inr (inl same)) = let f : e ≡ StoreMemory = cc in inr (inl (is ∙ ap status_for f))
 answers_status r e fault is result was (inr (inr same)) = let f : e ≡ StoreDisk = cc in inr (inr (is ∙ ap status_for f))
 
-pub ok_answers : {T : Type 0} (x : T) (fault : StoreFault) (result : Result T StoreFault) → result ≡ Ok x → AnswersFault result fault → ⊥
-ok_answers x fault result was (inl same) = cc
-ok_answers x fault result was (inr (inl same)) = cc
-ok_answers x fault result was (inr (inr same)) = cc
-
 pub outside_opened : (r : Status) (e : StoreFault) → r ≡ status_for e → IsOutside e → IsOpened r
 outside_opened r e is (inl same) = let m : r ≡ Memory = is ∙ ap status_for same in record { rooted = λ other. cc; whole = λ place other. cc }
 outside_opened r e is (inr same) = let m : r ≡ DiskFault = is ∙ ap status_for same in record { rooted = λ other. cc; whole = λ place other. cc }
@@ -257,8 +259,3 @@ init_never status (inl is) = record { usage = λ other. cc; take = λ other. cc;
 init_never status (inr (inl is)) = record { usage = λ other. cc; take = λ other. cc; give = λ other. cc }
 init_never status (inr (inr (inl is))) = record { usage = λ other. cc; take = λ other. cc; give = λ other. cc }
 init_never status (inr (inr (inr (need, gap, is)))) = record { usage = λ other. cc; take = λ other. cc; give = λ other. cc }
-
-pub err_answers : {T U : Type 0} (e fault : StoreFault) (result : Result T StoreFault) → result ≡ Err e → AnswersFault result fault → AnswersFault {T = U} (Err e) fault
-err_answers e fault result was (inl same) = let f : e ≡ fault = cc in inl (ap Err f)
-err_answers e fault result was (inr (inl same)) = let f : e ≡ StoreMemory = cc in inr (inl (ap Err f))
-err_answers e fault result was (inr (inr same)) = let f : e ≡ StoreDisk = cc in inr (inr (ap Err f))

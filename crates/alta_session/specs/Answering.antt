@@ -5,7 +5,7 @@ use Rattle.alta_disk.specs.Disk.{DiskState, LeavesOnly}
 use Rattle.alta_journal.specs.declared.places.TheConstants.{HEAD_BYTES}
 use Rattle.alta_session.specs.Agreement.{AgreesOn, HasNotFailed}
 use Rattle.alta_session.specs.Fullness.{IsFull}
-use Rattle.alta_session.specs.Loading.{MarkHolds}
+use Rattle.alta_replies.specs.Loading.{MarkHolds}
 use Rattle.alta_machine.specs.Machine.{Machine, IsRefusal}
 use Rattle.alta_session.specs.Tasks.{IsBy, IsWorked, worked_where}
 use Rattle.alta_session.specs.declared.session.Session.{Session}
@@ -24,11 +24,6 @@ pub record CanAnswer (tells : Type 0) (disk : DiskState) (session : Session) : T
   pub agrees : Agrees tells disk session.store
   pub mark : MarkHolds tells disk session.store session.ends
   pub limit : HEAD_BYTES ≤ disk.limit
-
--- What was answered is this text, or memory was wanting.
-pub record IsReply (text : List ℕ) (result : Result (List ℕ) StoreFault) : Type 0 where
-  pub reply : IfOk result (λ reply. reply ≡ text)
-  pub memory : IfErr result (λ e. e ≡ Memory)
 
 -- A call answered by this step from a machine: with its reply, on the machine after it, and at each moment with images of the
 -- state before or after it. What is held then is what this task makes of what was held before.

@@ -5,7 +5,7 @@ use Rattle.alta_loading.specs.Loads.{IsFirstFault}
 use Rattle.alta_machine.specs.declared.document.State.{State}
 use Rattle.alta_machine.specs.Lines.{Reading, reading_of}
 use Rattle.alta_session.specs.Joining.{FindsNoPlace, joins_where}
-use Rattle.alta_session.specs.Loading.{loads_in, newest_in}
+use Rattle.alta_replies.specs.Loading.{loads_in, newest_in}
 use Rattle.alta_machine.specs.Machine.{started_at}
 use Rattle.alta_session.specs.Tasks.{task_in}
 use Rattle.alta_store.specs.Agreement.{KeepsOpened, Knows, levels_of}

@@ -1,5 +1,5 @@
 -- A demo: an index is made, lines are answered without giving their replies, and then others whose replies are given.
-use Rattle.std.specs.Prelude.{◌≡◌, ◌⊎◌, ◌<◌, ◌≤◌, ℕ, List, [], ◌∷◌, ◌++◌, Option, None, length, take, drop, codes, decimal}
+use Rattle.std.specs.Prelude.{◌≡◌, ◌⊎◌, ◌<◌, ◌≤◌, ℕ, List, [], ◌∷◌, ◌++◌, Option, None, Result, length, take, drop, codes, decimal}
 use Rattle.alta_console.specs.Giving.{Gives}
 use Rattle.std.specs.List.{concat}
 use Rattle.alta_console.specs.Replies.{IsPrefix}
@@ -10,7 +10,7 @@ use Rattle.alta_meaning.specs.Standing.{StandsFor}
 use Rattle.alta_machine.specs.States.{empty_state}
 use Rattle.alta_meaning.specs.Switching.{empty_held}
 use Rattle.alta_root.specs.Slots.{HasNoRoot}
-use Rattle.alta_session.specs.Fed.{Fed}
+use Rattle.alta_session.specs.Fed.{Fed, Feeds}
 use Rattle.alta_session.specs.Fullness.{Overflows, IsInterrupted, IsFull}
 use Rattle.alta_machine.specs.Machine.{Machine, started_at, machine_after, replies}
 use Rattle.alta_session.specs.Progress.{StopsWithin}
@@ -36,6 +36,10 @@ Obeyed tells disk disk_now session session_now lines = Fed tells None None disk 
 -- and up to one that was not
 abbrev pub StopsObeying : Type 0 → DiskState → DiskState → Session → List (List ℕ) → Status → Type 0
 StopsObeying tells disk disk_now session lines status = StopsWithin tells None None disk disk_now session lines status
+
+-- a call that does one or the other
+abbrev pub Obeys : {T : Type 0} → Type 0 → DiskState → DiskState → Session → Session → List (List ℕ) → Result T Status → Type 0
+Obeys tells disk disk_now session session_now lines result = Feeds tells None None disk disk_now session session_now lines result
 
 -- ---- behind them, lines whose replies are given
 

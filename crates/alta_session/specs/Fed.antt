@@ -1,5 +1,5 @@
--- Lines that were all answered.
-use Rattle.std.specs.Prelude.{◌≡◌, ℕ, List, Option}
+-- Lines that were answered.
+use Rattle.std.specs.Prelude.{◌≡◌, ℕ, List, Option, Result, OnOk, IfErr}
 use Rattle.alta_console.specs.Giving.{Gives}
 use Rattle.std.specs.List.{concat}
 use Rattle.alta_console.specs.declared.event.Event.{Event}
@@ -7,10 +7,11 @@ use Rattle.alta_disk.specs.Disk.{DiskState, LeavesOnly}
 use Rattle.alta_meaning.specs.Holding.{Holding}
 use Rattle.alta_session.specs.Agreement.{AgreesOn}
 use Rattle.alta_machine.specs.Machine.{Machine, machine_after, replies}
-use Rattle.alta_session.specs.Progress.{StandsAfterSome}
+use Rattle.alta_session.specs.Progress.{StandsAfterSome, StopsWithin}
 use Rattle.alta_session.specs.Spending.{KeepsStore, Spends}
 use Rattle.alta_session.specs.Tasks.{IsBy, IsWorked, worked_lines}
 use Rattle.alta_session.specs.declared.session.Session.{Session}
+use Rattle.alta_session.specs.declared.status.Status.{Status}
 
 -- From this machine on the lines were answered, what is held then is what their work makes of what was held before, and at no moment was
 -- there an image of another state than after some.
@@ -27,3 +28,8 @@ pub record Fed (tells : Type 0) (told told_now : Option (List Event)) (disk disk
   pub same_limit : disk_now.limit ≡ disk.limit
   pub keeps : KeepsStore session session_now lines
   pub each : (m : Machine) → tells → AgreesOn tells disk session m → FedFrom tells disk disk_now session session_now lines given m
+
+-- A call that answers lines answers all of them, or ends with a status at one of them.
+pub record Feeds {T : Type 0} (tells : Type 0) (told told_now : Option (List Event)) (disk disk_now : DiskState) (session session_now : Session) (lines : List (List ℕ)) (result : Result T Status) : Type 0 where
+  pub ok : OnOk result (Fed tells told told_now disk disk_now session session_now lines)
+  pub err : IfErr result (StopsWithin tells told told_now disk disk_now session lines)

@@ -10,11 +10,10 @@ pub mod Fullness
 pub mod Going
 pub mod Joining
 pub mod Keeping
-pub mod Loading
+pub mod Outcomes
 pub mod Progress
 pub mod Restoring
 pub mod Run
 pub mod Spending
 pub mod Status
 pub mod Tasks
-pub mod Turns

@@ -5,13 +5,13 @@ use Rattle.alta_content.specs.declared.content.Content.{Content}
 use Rattle.alta_disk.specs.Disk.{DiskState}
 use Rattle.alta_meaning.specs.Opened.{Opened}
 use Rattle.alta_journal.specs.declared.places.TheConstants.{HALF_BYTES}
-use Rattle.alta_loading.specs.Loads.{load_sizes}
+use Rattle.alta_loading.specs.Loads.{Load, load_sizes}
 use Rattle.alta_machine.specs.Command.{Command, adds, deletes, searches, counts, explains, opens, fetches, closes, ranks, flushes, merges, steps, asks_stats, dumps}
 use Rattle.alta_machine.specs.Lines.{Reading, asks, refuses, reading_of}
 use Rattle.alta_memlevel.specs.Documents.{content_of}
 use Rattle.alta_opening.specs.Costs.{named_bytes}
 use Rattle.alta_root.specs.declared.root.Root.{Root}
-use Rattle.alta_session.specs.Loading.{line_loads, newest_in}
+use Rattle.alta_replies.specs.Loading.{line_loads, newest_in}
 use Rattle.alta_machine.specs.Machine.{Machine, step}
 use Rattle.alta_session.specs.declared.session.Session.{Session}
 use Rattle.alta_store.specs.Agreement.{levels_of}
@@ -41,6 +41,10 @@ ReadsIn (refuses fault) = Unit {0}
 -- the line is no command, or a command that changes no index
 unfoldable pub OnlyReads : List ℕ → Type 0
 OnlyReads line = ReadsIn (reading_of line)
+
+-- the lists that a session loads for a line
+abbrev pub session_loads : Session → List ℕ → List Load
+session_loads session line = line_loads (levels_of session.store) (newest_in session.store) (length session.cursors) line
 
 -- the bytes of the lists that a line loads from levels, beside these newest documents
 unfoldable pub line_bytes : List Tables → Content → Machine → List ℕ → ℕ

@@ -1,16 +1,13 @@
 // A generated run over a new index, and the report on it.
-ghost use Rattle.std.specs.Prelude.{◌≡◌, ◌≢◌, ◌≤◌, ◌<◌, ◌∷◌, [], ℕ, None, Err, OnOk, IfErr, IfSome, IfNone};
+ghost use Rattle.std.specs.Prelude.{◌≡◌, ◌≤◌, ◌∷◌, [], ℕ, OnOk, IfSome, IfNone};
 ghost use Rattle.alta_codec.specs.Faults.{Rose};
 ghost use Rattle.alta_codec.specs.Bytes.{Lacks};
 ghost use Rattle.alta_disk.specs.Disk.{DiskState};
 ghost use Rattle.alta_make.specs.Script.{script, report as asked};
 ghost use Rattle.alta_session.specs.Answering.{CanAnswer};
-ghost use Rattle.alta_session.specs.Demo.{AsksDemo, Obeyed, StopsObeying, Demonstrates};
-ghost use Rattle.alta_session.specs.Ending.{IsCaused, KeepsCounts};
-ghost use Rattle.alta_session.specs.Fed.{Fed};
-ghost use Rattle.alta_session.specs.Fullness.{IsFull};
-ghost use Rattle.alta_session.specs.Progress.{StopsWithin};
-ghost use Rattle.alta_session.specs.Status.{EndsLine};
+ghost use Rattle.alta_session.specs.Demo.{AsksDemo, Obeys, Demonstrates};
+ghost use Rattle.alta_session.specs.Ending.{Accounts, AccountsSilently};
+ghost use Rattle.alta_session.specs.Fed.{Feeds};
 
 use crate::serving::answer;
 use crate::status::status_of;
@@ -48,15 +45,9 @@ fn obey<D: Disk>(
 ) -> Result<(), Status>
     requires one_line { Lacks 10 line.now }
     requires can { CanAnswer D.tells (D.state disk.old) session.old }
-    ensures ok { OnOk result (Obeyed D.tells (D.state disk.old) (D.state disk.new) session.old session.new (line.now ∷ [])) }
-    ensures err { IfErr result (StopsObeying D.tells (D.state disk.old) (D.state disk.new) session.old (line.now ∷ [])) }
+    ensures feeds { Obeys D.tells (D.state disk.old) (D.state disk.new) session.old session.new (line.now ∷ []) result }
     ensures can { OnOk result (CanAnswer D.tells (D.state disk.new) session.new) }
-    ensures ends { IfErr result EndsLine }
-    ensures gives_nothing { IfErr result (λ status. status ≢ Status.GiveFault) }
-    ensures full { (need gap : ℕ) → D.tells → result ≡ Err (Status.Full need gap) → IsFull (D.state disk.new) need gap }
-    ensures disk_fault { result ≡ Err Status.DiskFault → Rose (D.state disk.old).faults (D.state disk.new).faults }
-    ensures disk_count { (D.state disk.old).faults ≤ (D.state disk.new).faults }
-    ensures same_limit { (D.state disk.new).limit ≡ (D.state disk.old).limit }
+    ensures accounts { AccountsSilently D.tells (D.state disk.old) (D.state disk.new) result }
 {
     let _reply = match session.line(alloc, disk, line) {
         Ok(reply) => reply,
@@ -74,15 +65,9 @@ fn obey_script<D: Disk>(
 ) -> Result<(), Status>
     requires few { n ≤ 100000 }
     requires can { CanAnswer D.tells (D.state disk.old) session.old }
-    ensures ok { OnOk result (Obeyed D.tells (D.state disk.old) (D.state disk.new) session.old session.new (script n)) }
-    ensures err { IfErr result (StopsObeying D.tells (D.state disk.old) (D.state disk.new) session.old (script n)) }
+    ensures feeds { Obeys D.tells (D.state disk.old) (D.state disk.new) session.old session.new (script n) result }
     ensures can { OnOk result (CanAnswer D.tells (D.state disk.new) session.new) }
-    ensures ends { IfErr result EndsLine }
-    ensures gives_nothing { IfErr result (λ status. status ≢ Status.GiveFault) }
-    ensures full { (need gap : ℕ) → D.tells → result ≡ Err (Status.Full need gap) → IsFull (D.state disk.new) need gap }
-    ensures disk_fault { result ≡ Err Status.DiskFault → Rose (D.state disk.old).faults (D.state disk.new).faults }
-    ensures disk_count { (D.state disk.old).faults ≤ (D.state disk.new).faults }
-    ensures same_limit { (D.state disk.new).limit ≡ (D.state disk.old).limit }
+    ensures accounts { AccountsSilently D.tells (D.state disk.old) (D.state disk.new) result }
 {
     let mut index = 0;
     'lines: loop {
@@ -106,12 +91,8 @@ fn report<C: Console, D: Disk>(
     disk: &mut D,
 ) -> Result<(), Status>
     requires { CanAnswer D.tells (D.state disk.old) session.old }
-    ensures ok { OnOk result (Fed D.tells (C.told console.old) (C.told console.new) (D.state disk.old) (D.state disk.new) session.old session.new asked) }
-    ensures err { IfErr result (StopsWithin D.tells (C.told console.old) (C.told console.new) (D.state disk.old) (D.state disk.new) session.old asked) }
-    ensures ends { IfErr result EndsLine }
-    ensures caused { IfErr result (IsCaused D.tells C.give_faults console.old console.new (D.state disk.old) (D.state disk.new)) }
-    ensures input_kept { C.left console.new ≡ C.left console.old }
-    ensures counts { KeepsCounts C.take_faults C.give_faults console.old console.new (D.state disk.old) (D.state disk.new) }
+    ensures feeds { Feeds D.tells (C.told console.old) (C.told console.new) (D.state disk.old) (D.state disk.new) session.old session.new asked result }
+    ensures accounts { Accounts D.tells C.left C.take_faults C.give_faults console.old console.new (D.state disk.old) (D.state disk.new) result }
 {
     let mut index = 0;
     'lines: loop {

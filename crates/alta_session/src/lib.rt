@@ -2,12 +2,8 @@
 #![tactic(auto)]
 
 mod demo;
-mod dumping;
 mod giving;
 mod laws;
-mod paging;
-mod replying;
-mod searching;
 mod serving;
 mod session;
 mod status;

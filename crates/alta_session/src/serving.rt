@@ -1,24 +1,18 @@
 // Lines in, replies out.
 // A line that stands whole in a piece is answered where it stands; only one that spans pieces is copied. The next newline is found
 // by `memchr`, which looks at many bytes at once.
-ghost use Rattle.std.specs.Prelude.{◌≡◌, ◌≢◌, ◌⊎◌, ◌+◌, ◌<◌, ◌≤◌, ◌^◌, ◌++◌, [], ◌∷◌, ℕ, length, take, Err, OnOk, OnErr, IfOk, IfErr, IfSome};
-ghost use Rattle.alta_codec.specs.Faults.{Rose};
+ghost use Rattle.std.specs.Prelude.{◌≡◌, ◌+◌, ◌<◌, ◌≤◌, ◌^◌, ◌++◌, [], ◌∷◌, length, take, OnOk, IfOk, IfErr};
 ghost use Rattle.alta_codec.specs.Bytes.{Lacks};
 ghost use Rattle.alta_console.specs.Lines.{whole_from, begun_from, last_piece};
 ghost use Rattle.alta_disk.specs.Disk.{DiskState};
-ghost use Rattle.alta_machine.specs.declared.document.State.{State};
 ghost use Rattle.alta_session.specs.Answering.{CanAnswer};
-ghost use Rattle.alta_session.specs.Ending.{IsCaused, KeepsCounts};
-ghost use Rattle.alta_session.specs.Fed.{Fed};
+ghost use Rattle.alta_session.specs.Ending.{Accounts, AccountsForInput, KeepsCounts};
+ghost use Rattle.alta_session.specs.Fed.{Fed, Feeds};
 ghost use Rattle.alta_machine.specs.declared.line.TheConstants.{LINE_LIMIT};
 ghost use Rattle.alta_session.specs.Keeping.{clip};
-ghost use Rattle.alta_session.specs.Fullness.{IsFull};
+ghost use Rattle.alta_session.specs.Outcomes.{Finishes, HasReason, RefusesDisk};
 ghost use Rattle.alta_session.specs.Progress.{StopsWithin};
-ghost use Rattle.alta_session.specs.Run.{KeepsDisk, Runs, Serves};
-ghost use Rattle.alta_session.specs.Status.{EndsLine, EndsRunning, IsOpened, Completes, Yields};
-ghost use Rattle.alta_root.specs.Slots.{HasNoRoot};
-ghost use Rattle.alta_meaning.specs.Broken.{IsBrokenAt};
-ghost use Rattle.alta_meaning.specs.Standing.{StandsFor};
+ghost use Rattle.alta_session.specs.Run.{Runs, Serves};
 
 use crate::giving::give_all;
 use crate::status::status_of;
@@ -45,13 +39,9 @@ pub(crate) fn answer<C: Console, D: Disk>(
 ) -> Result<(), Status>
     requires one_line { Lacks 10 line.now }
     requires can { CanAnswer D.tells (D.state disk.old) session.old }
-    ensures ok { OnOk result (Fed D.tells (C.told console.old) (C.told console.new) (D.state disk.old) (D.state disk.new) session.old session.new (line.now ∷ [])) }
-    ensures err { IfErr result (StopsWithin D.tells (C.told console.old) (C.told console.new) (D.state disk.old) (D.state disk.new) session.old (line.now ∷ [])) }
+    ensures feeds { Feeds D.tells (C.told console.old) (C.told console.new) (D.state disk.old) (D.state disk.new) session.old session.new (line.now ∷ []) result }
     ensures can { OnOk result (CanAnswer D.tells (D.state disk.new) session.new) }
-    ensures ends { IfErr result EndsLine }
-    ensures caused { IfErr result (IsCaused D.tells C.give_faults console.old console.new (D.state disk.old) (D.state disk.new)) }
-    ensures input_kept { C.left console.new ≡ C.left console.old }
-    ensures counts { KeepsCounts C.take_faults C.give_faults console.old console.new (D.state disk.old) (D.state disk.new) }
+    ensures accounts { Accounts D.tells C.left C.take_faults C.give_faults console.old console.new (D.state disk.old) (D.state disk.new) result }
 {
     let reply = match session.line(alloc, disk, line) {
         Ok(reply) => reply,
@@ -89,14 +79,10 @@ fn end_line<C: Console, D: Disk>(
     requires begun_free { Lacks 10 begun.old.items }
     requires rest_free { Lacks 10 rest.now }
     requires can { CanAnswer D.tells (D.state disk.old) session.old }
-    ensures ok { OnOk result (Fed D.tells (C.told console.old) (C.told console.new) (D.state disk.old) (D.state disk.new) session.old session.new ((begun.old.items ++ rest.now) ∷ [])) }
-    ensures err { IfErr result (StopsWithin D.tells (C.told console.old) (C.told console.new) (D.state disk.old) (D.state disk.new) session.old ((begun.old.items ++ rest.now) ∷ [])) }
+    ensures feeds { Feeds D.tells (C.told console.old) (C.told console.new) (D.state disk.old) (D.state disk.new) session.old session.new ((begun.old.items ++ rest.now) ∷ []) result }
     ensures none_begun { OnOk result (begun.new.items ≡ []) }
     ensures can { OnOk result (CanAnswer D.tells (D.state disk.new) session.new) }
-    ensures ends { IfErr result EndsLine }
-    ensures caused { IfErr result (IsCaused D.tells C.give_faults console.old console.new (D.state disk.old) (D.state disk.new)) }
-    ensures input_kept { C.left console.new ≡ C.left console.old }
-    ensures counts { KeepsCounts C.take_faults C.give_faults console.old console.new (D.state disk.old) (D.state disk.new) }
+    ensures accounts { Accounts D.tells C.left C.take_faults C.give_faults console.old console.new (D.state disk.old) (D.state disk.new) result }
 {
     if begun.is_empty() {
         return answer(alloc, session, console, disk, rest);
@@ -136,10 +122,7 @@ fn feed_line<C: Console, D: Disk>(
     ensures short { OnOk result (length begun.new.items ≤ LINE_LIMIT + 1) }
     ensures free { OnOk result (Lacks 10 begun.new.items) }
     ensures can { OnOk result (CanAnswer D.tells (D.state disk.new) session.new) }
-    ensures ends { IfErr result EndsLine }
-    ensures caused { IfErr result (IsCaused D.tells C.give_faults console.old console.new (D.state disk.old) (D.state disk.new)) }
-    ensures input_kept { C.left console.new ≡ C.left console.old }
-    ensures counts { KeepsCounts C.take_faults C.give_faults console.old console.new (D.state disk.old) (D.state disk.new) }
+    ensures accounts { Accounts D.tells C.left C.take_faults C.give_faults console.old console.new (D.state disk.old) (D.state disk.new) result }
 {
     match memchr(b'\n', bytes) {
         None => match keep(begun, bytes) {
@@ -165,16 +148,12 @@ fn feed<C: Console, D: Disk>(
     requires short { length begun.old.items ≤ LINE_LIMIT + 1 }
     requires free { Lacks 10 begun.old.items }
     requires can { CanAnswer D.tells (D.state disk.old) session.old }
-    ensures ok { OnOk result (Fed D.tells (C.told console.old) (C.told console.new) (D.state disk.old) (D.state disk.new) session.old session.new (whole_from begun.old.items piece.now)) }
+    ensures feeds { Feeds D.tells (C.told console.old) (C.told console.new) (D.state disk.old) (D.state disk.new) session.old session.new (whole_from begun.old.items piece.now) result }
     ensures begun { OnOk result (clip begun.new.items ≡ clip (begun_from begun.old.items piece.now)) }
-    ensures err { IfErr result (StopsWithin D.tells (C.told console.old) (C.told console.new) (D.state disk.old) (D.state disk.new) session.old (whole_from begun.old.items piece.now)) }
     ensures short { OnOk result (length begun.new.items ≤ LINE_LIMIT + 1) }
     ensures free { OnOk result (Lacks 10 begun.new.items) }
     ensures can { OnOk result (CanAnswer D.tells (D.state disk.new) session.new) }
-    ensures ends { IfErr result EndsLine }
-    ensures caused { IfErr result (IsCaused D.tells C.give_faults console.old console.new (D.state disk.old) (D.state disk.new)) }
-    ensures input_kept { C.left console.new ≡ C.left console.old }
-    ensures counts { KeepsCounts C.take_faults C.give_faults console.old console.new (D.state disk.old) (D.state disk.new) }
+    ensures accounts { Accounts D.tells C.left C.take_faults C.give_faults console.old console.new (D.state disk.old) (D.state disk.new) result }
 {
     let mut at = 0;
     'lines: while at < piece.len() {
@@ -196,12 +175,8 @@ fn finish<C: Console, D: Disk>(
 ) -> Result<(), Status>
     requires free { Lacks 10 begun.now }
     requires can { CanAnswer D.tells (D.state disk.old) session.old }
-    ensures ok { OnOk result (Fed D.tells (C.told console.old) (C.told console.new) (D.state disk.old) (D.state disk.new) session.old session.new (last_piece begun.now)) }
-    ensures err { IfErr result (StopsWithin D.tells (C.told console.old) (C.told console.new) (D.state disk.old) (D.state disk.new) session.old (last_piece begun.now)) }
-    ensures ends { IfErr result EndsLine }
-    ensures caused { IfErr result (IsCaused D.tells C.give_faults console.old console.new (D.state disk.old) (D.state disk.new)) }
-    ensures input_kept { C.left console.new ≡ C.left console.old }
-    ensures counts { KeepsCounts C.take_faults C.give_faults console.old console.new (D.state disk.old) (D.state disk.new) }
+    ensures feeds { Feeds D.tells (C.told console.old) (C.told console.new) (D.state disk.old) (D.state disk.new) session.old session.new (last_piece begun.now) result }
+    ensures accounts { Accounts D.tells C.left C.take_faults C.give_faults console.old console.new (D.state disk.old) (D.state disk.new) result }
 {
     if begun.is_empty() {
         return Ok(());
@@ -221,11 +196,7 @@ fn answer_pieces<C: Console, D: Disk>(
     requires room { 0 < length buffer.old }
     requires can { CanAnswer D.tells (D.state disk.old) session.old }
     ensures run { Runs D.tells limit (C.told console.old) (C.told console.new) (C.left console.old) (C.left console.new) (D.state disk.old) (D.state disk.new) session.old result }
-    ensures ends { EndsRunning result }
-    ensures caused { IsCaused D.tells C.give_faults console.old console.new (D.state disk.old) (D.state disk.new) result }
-    ensures take_fault { result ≡ Status.TakeFault → Rose (C.take_faults console.old) (C.take_faults console.new) }
-    ensures read_all { result ≡ Status.Done → IfSome (C.left console.new) (λ bytes. bytes ≡ []) }
-    ensures counts { KeepsCounts C.take_faults C.give_faults console.old console.new (D.state disk.old) (D.state disk.new) }
+    ensures accounts { AccountsForInput D.tells C.left C.take_faults C.give_faults console.old console.new (D.state disk.old) (D.state disk.new) result }
 {
     let mut begun = Vec::new(alloc);
     let mut taken: u64 = 0;
@@ -261,11 +232,7 @@ fn answer_lines<C: Console, D: Disk>(
 ) -> Status
     requires can { CanAnswer D.tells (D.state disk.old) session.old }
     ensures run { Runs D.tells limit (C.told console.old) (C.told console.new) (C.left console.old) (C.left console.new) (D.state disk.old) (D.state disk.new) session.old result }
-    ensures ends { EndsRunning result }
-    ensures caused { IsCaused D.tells C.give_faults console.old console.new (D.state disk.old) (D.state disk.new) result }
-    ensures take_fault { result ≡ Status.TakeFault → Rose (C.take_faults console.old) (C.take_faults console.new) }
-    ensures read_all { result ≡ Status.Done → IfSome (C.left console.new) (λ bytes. bytes ≡ []) }
-    ensures counts { KeepsCounts C.take_faults C.give_faults console.old console.new (D.state disk.old) (D.state disk.new) }
+    ensures accounts { AccountsForInput D.tells C.left C.take_faults C.give_faults console.old console.new (D.state disk.old) (D.state disk.new) result }
 {
     let mut buffer = match vec![in alloc; 0; PIECE] {
         Ok(buffer) => buffer,
@@ -297,23 +264,9 @@ pub fn serve<C: Console, D: Disk>(
 ) -> Status
     requires { limit ≤ 2 ^ 40 }
     ensures run { Serves D.tells limit (C.told console.old) (C.told console.new) (C.left console.old) (C.left console.new) (D.state disk.old) (D.state disk.new) result }
-    ensures read_all { result ≡ Status.Done → IfSome (C.left console.new) (λ bytes. bytes ≡ []) }
-
-    ensures no_root { D.tells → result ≡ Status.NoRoot → HasNoRoot (D.state disk.old).content }
-    ensures rooted { D.tells → HasNoRoot (D.state disk.old).content → (result ≡ Status.NoRoot) ⊎ Yields result }
-    // Where opening finds that a rule is broken, console and disk are as they were.
-    ensures undamaged { (place : ℕ) → D.tells → IsBrokenAt (D.state disk.old).content place
-        → (console.new ≡ console.old) × KeepsDisk D.tells (D.state disk.old) (D.state disk.new) × ((result ≡ Status.Damaged place) ⊎ Yields result) }
-    ensures unopened { result ≡ Status.NoRoot → (console.new ≡ console.old) × KeepsDisk D.tells (D.state disk.old) (D.state disk.new) }
-    // Where the content stands for a state, it is opened, and no damage is found.
-    ensures stands { (s : State) → D.tells → StandsFor s (D.state disk.old).content → IsOpened result }
-    ensures never { (result ≢ Status.Usage) × (result ≢ Status.Exists) }
-    ensures full { (need gap : ℕ) → D.tells → result ≡ Status.Full need gap → IsFull (D.state disk.new) need gap }
-    ensures complete { (s : State) → D.tells → StandsFor s (D.state disk.old).content → ¬ (Rose (C.take_faults console.old) (C.take_faults console.new)) → ¬ (Rose (C.give_faults console.old) (C.give_faults console.new)) → ¬ (Rose (D.state disk.old).faults (D.state disk.new).faults) → Completes result }
-
-    ensures take_fault { result ≡ Status.TakeFault → Rose (C.take_faults console.old) (C.take_faults console.new) }
-    ensures give_fault { result ≡ Status.GiveFault → Rose (C.give_faults console.old) (C.give_faults console.new) }
-    ensures disk_fault { result ≡ Status.DiskFault → Rose (D.state disk.old).faults (D.state disk.new).faults }
+    ensures finishes { Finishes D.tells C.left C.take_faults C.give_faults console.old console.new (D.state disk.old) (D.state disk.new) result }
+    ensures refuses { RefusesDisk D.tells console.old console.new (D.state disk.old) (D.state disk.new) result }
+    ensures reason { HasReason D.tells C.take_faults C.give_faults console.old console.new (D.state disk.old) (D.state disk.new) result }
     ensures counts { KeepsCounts C.take_faults C.give_faults console.old console.new (D.state disk.old) (D.state disk.new) }
 {
     let mut session = match Session::start(alloc, disk) {

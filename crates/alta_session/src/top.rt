@@ -1,19 +1,16 @@
 // The top call.
-ghost use Rattle.std.specs.Prelude.{◌≡◌, ◌≢◌, ◌⊎◌, ◌↔◌, ◌^◌, ◌<◌, ◌≤◌, [], ◌∷◌, ℕ, true, codes, IsTrue, IfSome};
+ghost use Rattle.std.specs.Prelude.{◌≡◌, ◌≢◌, ◌↔◌, ◌^◌, ◌≤◌, [], ◌∷◌, ℕ, codes, IsTrue};
 ghost use Rattle.alta_codec.specs.Faults.{Rose};
 ghost use Rattle.alta_disk.specs.Disk.{DiskState, Stands};
-ghost use Rattle.alta_machine.specs.declared.document.State.{State};
 ghost use Rattle.alta_make.specs.Script.{script, report};
 ghost use Rattle.alta_session.specs.Demo.{AsksDemo, Demonstrates};
-ghost use Rattle.alta_session.specs.Run.{KeepsDisk, Serves};
-ghost use Rattle.alta_session.specs.Status.{IsOpened, IsUnmade, Completes, Yields, EndsInit};
+ghost use Rattle.alta_session.specs.Ending.{KeepsDiskCounts};
+ghost use Rattle.alta_session.specs.Outcomes.{Finishes, HasReason, MakesIndex, RefusesDisk};
+ghost use Rattle.alta_session.specs.Run.{Serves};
+ghost use Rattle.alta_session.specs.Status.{Completes};
 ghost use Rattle.alta_root.specs.Slots.{HasNoRoot};
-ghost use Rattle.alta_meaning.specs.Broken.{IsBrokenAt};
 ghost use Rattle.alta_meaning.specs.Holding.{IsHeld};
-ghost use Rattle.alta_meaning.specs.Standing.{StandsFor};
-ghost use Rattle.alta_machine.specs.States.{empty_state};
 ghost use Rattle.alta_meaning.specs.Switching.{empty_held};
-ghost use Rattle.alta_store.specs.Calls.{IsNarrow};
 
 use crate::demo::{demo, demo_size};
 use crate::{Status, serve};
@@ -50,32 +47,16 @@ pub fn alta<C: Console, D: Disk>(
     ensures no_call { words.now ≢ codes "init" ∷ [] → words.now ≢ codes "run" ∷ [] → ((n : ℕ) → AsksDemo words.now n → ⊥)
         → (result ≡ Status.Usage) × (console.new ≡ console.old) × (disk.new ≡ disk.old) }
 
-    ensures init { words.now ≡ codes "init" ∷ [] → EndsInit result × (console.new ≡ console.old) }
-    ensures made { words.now ≡ codes "init" ∷ [] → result ≡ Status.Done → Stands D.tells (D.state disk.new) (StandsFor empty_state) }
-    ensures exists { D.tells → result ≡ Status.Exists → ¬ (HasNoRoot (D.state disk.old).content) }
-    ensures found { words.now ≡ codes "init" ∷ [] → D.tells → ¬ (HasNoRoot (D.state disk.old).content) → (result ≡ Status.Exists) ⊎ (result ≡ Status.DiskFault) }
-    ensures too_small { words.now ≡ codes "init" ∷ [] → (need gap : ℕ) → result ≡ Status.Full need gap → (need ≡ 2105344) × (gap ≡ (D.state disk.old).limit) × ((D.state disk.old).limit < 2105344) }
-    ensures kept { words.now ≡ codes "init" ∷ [] → IsUnmade result → KeepsDisk D.tells (D.state disk.old) (D.state disk.new) }
-    ensures small { words.now ≡ codes "init" ∷ [] → (D.state disk.old).limit < 2105344 → (result ≡ Status.Exists) ⊎ ((result ≡ Status.Full 2105344 (D.state disk.old).limit) ⊎ (result ≡ Status.DiskFault)) }
+    ensures init { words.now ≡ codes "init" ∷ [] → MakesIndex D.tells (D.state disk.old) (D.state disk.new) result × (console.new ≡ console.old) }
 
     ensures run { words.now ≡ codes "run" ∷ [] → Serves D.tells (2 ^ 40) (C.told console.old) (C.told console.new) (C.left console.old) (C.left console.new) (D.state disk.old) (D.state disk.new) result }
-    ensures read_all { words.now ≡ codes "run" ∷ [] → result ≡ Status.Done → IfSome (C.left console.new) (λ bytes. bytes ≡ []) }
-    ensures never_exists { words.now ≡ codes "run" ∷ [] → result ≢ Status.Exists }
-    ensures no_root { D.tells → result ≡ Status.NoRoot → HasNoRoot (D.state disk.old).content }
-    ensures rooted { words.now ≡ codes "run" ∷ [] → D.tells → HasNoRoot (D.state disk.old).content → (result ≡ Status.NoRoot) ⊎ Yields result }
-    ensures undamaged { (place : ℕ) → words.now ≡ codes "run" ∷ [] → D.tells → IsBrokenAt (D.state disk.old).content place
-        → (console.new ≡ console.old) × KeepsDisk D.tells (D.state disk.old) (D.state disk.new) × ((result ≡ Status.Damaged place) ⊎ Yields result) }
-    ensures unopened { words.now ≡ codes "run" ∷ [] → result ≡ Status.NoRoot → (console.new ≡ console.old) × KeepsDisk D.tells (D.state disk.old) (D.state disk.new) }
-    ensures stands { (s : State) → D.tells → StandsFor s (D.state disk.old).content → IsOpened result }
-    ensures full { (need gap : ℕ) → words.now ≡ codes "run" ∷ [] → D.tells → result ≡ Status.Full need gap → IsNarrow (D.state disk.old).limit (D.state disk.new).content need gap }
-    ensures complete { (s : State) → words.now ≡ codes "run" ∷ [] → D.tells → StandsFor s (D.state disk.old).content → ¬ (Rose (C.take_faults console.old) (C.take_faults console.new)) → ¬ (Rose (C.give_faults console.old) (C.give_faults console.new)) → ¬ (Rose (D.state disk.old).faults (D.state disk.new).faults) → Completes result }
+    ensures finishes { words.now ≡ codes "run" ∷ [] → Finishes D.tells C.left C.take_faults C.give_faults console.old console.new (D.state disk.old) (D.state disk.new) result }
+    ensures refuses { words.now ≡ codes "run" ∷ [] → RefusesDisk D.tells console.old console.new (D.state disk.old) (D.state disk.new) result }
 
     ensures demo { (n : ℕ) → AsksDemo words.now n → Demonstrates D.tells (script n) report (C.told console.old) (C.told console.new) (D.state disk.old) (D.state disk.new) result × (C.left console.new ≡ C.left console.old) }
     ensures shown { (n : ℕ) → AsksDemo words.now n → D.tells → HasNoRoot (D.state disk.old).content → 2105344 ≤ (D.state disk.old).limit → ¬ (Rose (C.give_faults console.old) (C.give_faults console.new)) → ¬ (Rose (D.state disk.old).faults (D.state disk.new).faults) → Completes result }
 
-    ensures take_fault { result ≡ Status.TakeFault → Rose (C.take_faults console.old) (C.take_faults console.new) }
-    ensures give_fault { result ≡ Status.GiveFault → Rose (C.give_faults console.old) (C.give_faults console.new) }
-    ensures disk_fault { result ≡ Status.DiskFault → Rose (D.state disk.old).faults (D.state disk.new).faults }
+    ensures reason { HasReason D.tells C.take_faults C.give_faults console.old console.new (D.state disk.old) (D.state disk.new) result }
 {
     if is_word(words, "init") {
         return init(disk);
@@ -101,17 +82,10 @@ fn is_word(words: &[Text], word: &str) -> bool
 
 // Makes an index without documents.
 pub(crate) fn init<D: Disk>(disk: &mut D) -> Status
-    ensures ends { EndsInit result }
-    ensures made { result ≡ Status.Done → Stands D.tells (D.state disk.new) (StandsFor empty_state) }
+    ensures makes { MakesIndex D.tells (D.state disk.old) (D.state disk.new) result }
     ensures holds { result ≡ Status.Done → Stands D.tells (D.state disk.new) (IsHeld empty_held) }
-    ensures exists { D.tells → result ≡ Status.Exists → ¬ (HasNoRoot (D.state disk.old).content) }
-    ensures found { D.tells → ¬ (HasNoRoot (D.state disk.old).content) → (result ≡ Status.Exists) ⊎ (result ≡ Status.DiskFault) }
-    ensures too_small { (need gap : ℕ) → result ≡ Status.Full need gap → (need ≡ 2105344) × (gap ≡ (D.state disk.old).limit) × ((D.state disk.old).limit < 2105344) }
-    ensures kept { IsUnmade result → KeepsDisk D.tells (D.state disk.old) (D.state disk.new) }
-    ensures small { (D.state disk.old).limit < 2105344 → (result ≡ Status.Exists) ⊎ ((result ≡ Status.Full 2105344 (D.state disk.old).limit) ⊎ (result ≡ Status.DiskFault)) }
     ensures disk_fault { result ≡ Status.DiskFault → Rose (D.state disk.old).faults (D.state disk.new).faults }
-    ensures disk_count { (D.state disk.old).faults ≤ (D.state disk.new).faults }
-    ensures same_limit { (D.state disk.new).limit ≡ (D.state disk.old).limit }
+    ensures counts { KeepsDiskCounts (D.state disk.old) (D.state disk.new) }
 {
     match has_index(disk) {
         Ok(true) => return Status::Exists,

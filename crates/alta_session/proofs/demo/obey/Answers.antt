@@ -18,59 +18,56 @@ pub status_of-requires : goal.status_of-requires
 status_of-requires g c =
     line_ends_run c.in-Err.fault (subst (λ (r : Result (List ℕ) StoreFault). Answers g.D.Disk.tells g.D.Disk.state c.args.disk.now c.line.new.disk c.args.session.now c.line.new.self r (λ m. step m c.args.line.now) (λ m. task_of m c.args.line.now)) c.in-Err.is c.line.ensures.answers).only
 
-pub returns-in-Err-clause-ends : goal.returns-in-Err-clause-ends
-returns-in-Err-clause-ends g c =
-    line_ends c.status_of.result c.in-Err.fault c.status_of.ensures (subst (λ (r : Result (List ℕ) StoreFault). Answers g.D.Disk.tells g.D.Disk.state c.args.disk.now c.line.new.disk c.args.session.now c.line.new.self r (λ m. step m c.args.line.now) (λ m. task_of m c.args.line.now)) c.in-Err.is c.line.ensures.answers).only
+pub returns-in-Err-clause-feeds : goal.returns-in-Err-clause-feeds
+returns-in-Err-clause-feeds g c = record {
+  ok = tt;
+  err = stops_unanswered g.D.Disk.tells None (g.D.Disk.state c.args.disk.now) (g.D.Disk.state c.line.new.disk) c.args.session.now c.args.line.now c.status_of.result (g.met.D.Disk.lawful c.line.new.disk)
+      (λ m tell agrees. (c.line.ensures.answers.from m tell agrees).images)
+      (λ m held need gap tell agrees here is.
+      (c.line.ensures.answers.from m tell agrees).full held need gap here (c.in-Err.is ∙ ap Err (status_full _ c.in-Err.fault need gap c.status_of.ensures is)))
+      (λ m place tell agrees is. (c.line.ensures.answers.from m tell agrees).undamaged place (c.in-Err.is ∙ ap Err (status_damaged _ c.in-Err.fault place c.status_of.ensures is)))
+      (λ place tell is. line_finds g.D.Disk.tells g.D.Disk.state c.args.disk.now c.line.new.disk c.args.session.now c.args.line.now c.line.result place c.requires.can c.line.ensures.loads c.line.ensures.works c.line.ensures.answers.still tell
+      (c.in-Err.is ∙ ap Err (status_damaged _ c.in-Err.fault place c.status_of.ensures is)))
+      (λ need gap tell is. line_wants g.D.Disk.tells g.D.Disk.state c.args.disk.now c.line.new.disk c.args.session.now c.args.line.now c.line.result need gap c.requires.can c.line.ensures.works c.line.ensures.answers.unwritten c.line.ensures.answers.same_limit tell
+      (c.in-Err.is ∙ ap Err (status_full _ c.in-Err.fault need gap c.status_of.ensures is)))
+      (λ m tell agrees. spends_line g.D.Disk.tells g.D.Disk.state c.args.disk.now c.line.new.disk c.args.session.now m c.args.line.now c.line.result agrees.cursors c.line.ensures.no_disk c.line.ensures.loads);
+}
 
-pub returns-in-Err-clause-gives_nothing : goal.returns-in-Err-clause-gives_nothing
-returns-in-Err-clause-gives_nothing g c = status_not c.status_of.result c.in-Err.fault c.status_of.ensures GiveFault tt
-
-pub returns-in-Err-clause-err : goal.returns-in-Err-clause-err
-returns-in-Err-clause-err g c =
-    stops_unanswered g.D.Disk.tells None (g.D.Disk.state c.args.disk.now) (g.D.Disk.state c.line.new.disk) c.args.session.now c.args.line.now c.status_of.result (g.met.D.Disk.lawful c.line.new.disk)
-    (λ m tell agrees. (c.line.ensures.answers.from m tell agrees).images)
-    (λ m held need gap tell agrees here is.
-    (c.line.ensures.answers.from m tell agrees).full held need gap here (c.in-Err.is ∙ ap Err (status_full _ c.in-Err.fault need gap c.status_of.ensures is)))
-    (λ m place tell agrees is. (c.line.ensures.answers.from m tell agrees).undamaged place (c.in-Err.is ∙ ap Err (status_damaged _ c.in-Err.fault place c.status_of.ensures is)))
-    (λ place tell is. line_finds g.D.Disk.tells g.D.Disk.state c.args.disk.now c.line.new.disk c.args.session.now c.args.line.now c.line.result place c.requires.can c.line.ensures.loads c.line.ensures.works c.line.ensures.answers.still tell
-    (c.in-Err.is ∙ ap Err (status_damaged _ c.in-Err.fault place c.status_of.ensures is)))
-    (λ need gap tell is. line_wants g.D.Disk.tells g.D.Disk.state c.args.disk.now c.line.new.disk c.args.session.now c.args.line.now c.line.result need gap c.requires.can c.line.ensures.works c.line.ensures.answers.unwritten c.line.ensures.answers.same_limit tell
-    (c.in-Err.is ∙ ap Err (status_full _ c.in-Err.fault need gap c.status_of.ensures is)))
-    (λ m tell agrees. spends_line g.D.Disk.tells g.D.Disk.state c.args.disk.now c.line.new.disk c.args.session.now m c.args.line.now c.line.result agrees.cursors c.line.ensures.no_disk c.line.ensures.loads)
-
-pub returns-in-Err-clause-full : goal.returns-in-Err-clause-full
-returns-in-Err-clause-full g c = λ need gap tell is.
-    let same : c.status_of.result ≡ StatusFull need gap = cc in
-    c.line.ensures.answers.full need gap tell (c.in-Err.is ∙ ap Err (status_full _ c.in-Err.fault need gap c.status_of.ensures same))
-
-pub returns-in-Err-clause-disk_fault : goal.returns-in-Err-clause-disk_fault
-returns-in-Err-clause-disk_fault g c = λ is.
-    let same : c.status_of.result ≡ DiskFault = cc in
-    c.line.ensures.answers.cause (c.in-Err.is ∙ ap Err (status_disk _ c.in-Err.fault c.status_of.ensures same))
-
-pub returns-in-Err-clause-disk_count : goal.returns-in-Err-clause-disk_count
-returns-in-Err-clause-disk_count g c = c.line.ensures.answers.faults
-
-pub returns-in-Err-clause-same_limit : goal.returns-in-Err-clause-same_limit
-returns-in-Err-clause-same_limit g c = c.line.ensures.answers.same_limit
+pub returns-in-Err-clause-accounts : goal.returns-in-Err-clause-accounts
+returns-in-Err-clause-accounts g c = record {
+  ends = line_ends c.status_of.result c.in-Err.fault c.status_of.ensures (subst (λ (r : Result (List ℕ) StoreFault). Answers g.D.Disk.tells g.D.Disk.state c.args.disk.now c.line.new.disk c.args.session.now c.line.new.self r (λ m. step m c.args.line.now) (λ m. task_of m c.args.line.now)) c.in-Err.is c.line.ensures.answers).only;
+  gives_nothing = status_not c.status_of.result c.in-Err.fault c.status_of.ensures GiveFault tt;
+  full = λ need gap tell is.
+      let same : c.status_of.result ≡ StatusFull need gap = cc in
+      c.line.ensures.answers.full need gap tell (c.in-Err.is ∙ ap Err (status_full _ c.in-Err.fault need gap c.status_of.ensures same));
+  disk_fault = λ is.
+      let same : c.status_of.result ≡ DiskFault = cc in
+      c.line.ensures.answers.cause (c.in-Err.is ∙ ap Err (status_disk _ c.in-Err.fault c.status_of.ensures same));
+  counts = record { faults = c.line.ensures.answers.faults; limit = c.line.ensures.answers.same_limit };
+}
 
 -- it was
-pub returns-clause-ok : goal.returns-clause-ok
-returns-clause-ok g c =
-    let answers : Answers g.D.Disk.tells g.D.Disk.state c.args.disk.now c.line.new.disk c.args.session.now c.line.new.self (Ok c.in-Ok.reply) (λ m. step m c.args.line.now) (λ m. task_of m c.args.line.now) =
-    subst (λ (r : Result (List ℕ) StoreFault). Answers g.D.Disk.tells g.D.Disk.state c.args.disk.now c.line.new.disk c.args.session.now c.line.new.self r (λ m. step m c.args.line.now) (λ m. task_of m c.args.line.now)) c.in-Ok.is c.line.ensures.answers in
-    fed_line g.D.Disk.tells None None (g.D.Disk.state c.args.disk.now) (g.D.Disk.state c.line.new.disk) c.args.session.now c.line.new.self c.args.line.now c.in-Ok.reply
-    (gives_piece None None c.in-Ok.reply refl) (λ m tell agrees. (answers.from m tell agrees).reply) (λ m tell agrees. (answers.from m tell agrees).agrees) (λ m tell agrees. (answers.from m tell agrees).images)
-    (λ m held tell agrees here. (answers.from m tell agrees).works held here) c.line.ensures.answers.same_limit
-    (λ all. c.line.ensures.kept (All-head OnlyReads c.args.line.now [] all))
-    (λ m tell agrees. spends_line g.D.Disk.tells g.D.Disk.state c.args.disk.now c.line.new.disk c.args.session.now m c.args.line.now c.line.result agrees.cursors c.line.ensures.no_disk c.line.ensures.loads)
+pub returns-clause-feeds : goal.returns-clause-feeds
+returns-clause-feeds g c = record {
+  ok = let answers : Answers g.D.Disk.tells g.D.Disk.state c.args.disk.now c.line.new.disk c.args.session.now c.line.new.self (Ok c.in-Ok.reply) (λ m. step m c.args.line.now) (λ m. task_of m c.args.line.now) =
+      subst (λ (r : Result (List ℕ) StoreFault). Answers g.D.Disk.tells g.D.Disk.state c.args.disk.now c.line.new.disk c.args.session.now c.line.new.self r (λ m. step m c.args.line.now) (λ m. task_of m c.args.line.now)) c.in-Ok.is c.line.ensures.answers in
+      fed_line g.D.Disk.tells None None (g.D.Disk.state c.args.disk.now) (g.D.Disk.state c.line.new.disk) c.args.session.now c.line.new.self c.args.line.now c.in-Ok.reply
+      (gives_piece None None c.in-Ok.reply refl) (λ m tell agrees. (answers.from m tell agrees).reply) (λ m tell agrees. (answers.from m tell agrees).agrees) (λ m tell agrees. (answers.from m tell agrees).images)
+      (λ m held tell agrees here. (answers.from m tell agrees).works held here) c.line.ensures.answers.same_limit
+      (λ all. c.line.ensures.kept (All-head OnlyReads c.args.line.now [] all))
+      (λ m tell agrees. spends_line g.D.Disk.tells g.D.Disk.state c.args.disk.now c.line.new.disk c.args.session.now m c.args.line.now c.line.result agrees.cursors c.line.ensures.no_disk c.line.ensures.loads);
+  err = tt;
+}
 
 pub returns-clause-can : goal.returns-clause-can
 returns-clause-can g c =
     (subst (λ (r : Result (List ℕ) StoreFault). Answers g.D.Disk.tells g.D.Disk.state c.args.disk.now c.line.new.disk c.args.session.now c.line.new.self r (λ m. step m c.args.line.now) (λ m. task_of m c.args.line.now)) c.in-Ok.is c.line.ensures.answers).can
 
-pub returns-clause-disk_count : goal.returns-clause-disk_count
-returns-clause-disk_count g c = c.line.ensures.answers.faults
-
-pub returns-clause-same_limit : goal.returns-clause-same_limit
-returns-clause-same_limit g c = c.line.ensures.answers.same_limit
+pub returns-clause-accounts : goal.returns-clause-accounts
+returns-clause-accounts g c = record {
+  ends = tt;
+  gives_nothing = tt;
+  full = λ need gap tell is. absurd cc;
+  disk_fault = λ is. absurd cc;
+  counts = record { faults = c.line.ensures.answers.faults; limit = c.line.ensures.answers.same_limit };
+}

@@ -1,4 +1,4 @@
-use Rattle.std.proofs.Common.{◌≡◌, ℕ, ◌<◌, List, ◌∷◌, [], None, Some, length, refl, sym, subst, ◌∙◌, arith}
+use Rattle.std.proofs.Common.{◌≡◌, ℕ, ◌<◌, List, ◌∷◌, [], None, Some, length, inl, refl, sym, subst, ◌∙◌, arith}
 use Rattle.std.specs.Prelude.{slice_get}
 use Rattle.std.proofs.lemmas.Option.{slice_get_within}
 use Rattle.alta_codec.specs.Bytes.{Lacks}
@@ -14,18 +14,22 @@ lines-init g c = record {
   within = omega arith;
   obeyed = fed_none g.D.Disk.tells None (g.D.Disk.state c.args.disk.now) c.args.session.now (g.met.D.Disk.lawful c.args.disk.now);
   can = c.requires.can;
-  disk_count = omega arith;
-  same_limit = refl;
+  counts = record { faults = omega arith; limit = refl };
 }
 
 -- behind the last line
-pub returns-in-Ok-None-clause-ok : goal.returns-in-Ok-None-clause-ok
-returns-in-Ok-None-clause-ok g c = fed_all g.D.Disk.tells None None _ _ _ _ (script c.args.n) c.lines.index (sym c.in-Ok-None.ensures ∙ c.in-Ok-None.field-0-is) c.lines.invariant.obeyed
+pub returns-in-Ok-None-clause-feeds : goal.returns-in-Ok-None-clause-feeds
+returns-in-Ok-None-clause-feeds g c = record {
+  ok = fed_all g.D.Disk.tells None None _ _ _ _ (script c.args.n) c.lines.index (sym c.in-Ok-None.ensures ∙ c.in-Ok-None.field-0-is) c.lines.invariant.obeyed;
+  err = tt;
+}
 
 -- no memory for a line
-pub returns-in-Err-clause-err : goal.returns-in-Err-clause-err
-returns-in-Err-clause-err g c =
-    stops_before g.D.Disk.tells None None _ _ _ c.lines.session (script c.args.n) c.lines.index Memory (g.met.D.Disk.lawful c.lines.disk) (λ need gap is. cc) (λ place is. cc) c.lines.invariant.obeyed
+pub returns-in-Err-clause-feeds : goal.returns-in-Err-clause-feeds
+returns-in-Err-clause-feeds g c = record {
+  ok = tt;
+  err = stops_before g.D.Disk.tells None None _ _ _ c.lines.session (script c.args.n) c.lines.index Memory (g.met.D.Disk.lawful c.lines.disk) (λ need gap is. cc) (λ place is. cc) c.lines.invariant.obeyed;
+}
 
 pub obey-requires-clause-one_line : goal.obey-requires-clause-one_line
 obey-requires-clause-one_line g c =
@@ -54,16 +58,32 @@ lines-preserved g c =
     record {
       within = omega arith;
       obeyed = fed_next g.D.Disk.tells None None None _ _ _ _ _ _ (script c.args.n) c.lines.index c.in-Ok-Some.line at c.lines.invariant.obeyed
-          (subst (λ (l : List ℕ). Obeyed g.D.Disk.tells (g.D.Disk.state c.lines.disk) (g.D.Disk.state c.obey.new.disk) c.lines.session c.obey.new.session (l ∷ [])) bytes c.in-Ok.ensures.ok);
+          (subst (λ (l : List ℕ). Obeyed g.D.Disk.tells (g.D.Disk.state c.lines.disk) (g.D.Disk.state c.obey.new.disk) c.lines.session c.obey.new.session (l ∷ [])) bytes c.in-Ok.ensures.feeds.ok);
       can = c.in-Ok.ensures.can;
-      disk_count = omega (arith, c.lines.invariant.disk_count, c.obey.ensures.disk_count);
-      same_limit = c.obey.ensures.same_limit ∙ c.lines.invariant.same_limit;
+      counts = record { faults = omega (arith, c.lines.invariant.counts.faults, c.obey.ensures.accounts.counts.faults); limit = c.obey.ensures.accounts.counts.limit ∙ c.lines.invariant.counts.limit };
     }
 
 -- a line was not answered
-pub returns-in-Err-obey-clause-err : goal.returns-in-Err-obey-clause-err
-returns-in-Err-obey-clause-err g c =
-    let at : slice_get (script c.args.n) c.lines.index ≡ Some c.in-Ok-Some.line = sym c.in-Ok-Some.ensures ∙ c.in-Ok-Some.field-0-is in
-    let bytes : c.as_bytes.result.now ≡ c.in-Ok-Some.line = c.as_bytes.ensures.value ∙ c.as_str.ensures in
-    stops_next g.D.Disk.tells None None None _ _ _ _ _ (script c.args.n) c.lines.index c.in-Ok-Some.line c.in-Err-obey.status at c.lines.invariant.obeyed
-    (subst (λ (l : List ℕ). StopsObeying g.D.Disk.tells (g.D.Disk.state c.lines.disk) (g.D.Disk.state c.obey.new.disk) c.lines.session (l ∷ []) c.in-Err-obey.status) bytes c.in-Err-obey.ensures.err)
+pub returns-in-Err-obey-clause-feeds : goal.returns-in-Err-obey-clause-feeds
+returns-in-Err-obey-clause-feeds g c = record {
+  ok = tt;
+  err = let at : slice_get (script c.args.n) c.lines.index ≡ Some c.in-Ok-Some.line = sym c.in-Ok-Some.ensures ∙ c.in-Ok-Some.field-0-is in
+      let bytes : c.as_bytes.result.now ≡ c.in-Ok-Some.line = c.as_bytes.ensures.value ∙ c.as_str.ensures in
+      stops_next g.D.Disk.tells None None None _ _ _ _ _ (script c.args.n) c.lines.index c.in-Ok-Some.line c.in-Err-obey.status at c.lines.invariant.obeyed
+      (subst (λ (l : List ℕ). StopsObeying g.D.Disk.tells (g.D.Disk.state c.lines.disk) (g.D.Disk.state c.obey.new.disk) c.lines.session (l ∷ []) c.in-Err-obey.status) bytes c.in-Err-obey.ensures.feeds.err);
+}
+
+pub returns-in-Ok-None-clause-accounts : goal.returns-in-Ok-None-clause-accounts
+returns-in-Ok-None-clause-accounts g c = record { ends = tt; gives_nothing = tt; full = λ need gap tell is. absurd cc; disk_fault = λ is. absurd cc; counts = c.lines.invariant.counts }
+
+pub returns-in-Err-clause-accounts : goal.returns-in-Err-clause-accounts
+returns-in-Err-clause-accounts g c = record { ends = inl (inl refl); gives_nothing = λ is. absurd cc; full = λ need gap tell is. absurd cc; disk_fault = λ is. absurd cc; counts = c.lines.invariant.counts }
+
+pub returns-in-Err-obey-clause-accounts : goal.returns-in-Err-obey-clause-accounts
+returns-in-Err-obey-clause-accounts g c = record {
+  ends = c.in-Err-obey.ensures.accounts.ends;
+  gives_nothing = c.in-Err-obey.ensures.accounts.gives_nothing;
+  full = c.in-Err-obey.ensures.accounts.full;
+  disk_fault = λ is. omega (arith, c.in-Err-obey.ensures.accounts.disk_fault is, c.lines.invariant.counts.faults);
+  counts = record { faults = omega (arith, c.lines.invariant.counts.faults, c.obey.ensures.accounts.counts.faults); limit = c.obey.ensures.accounts.counts.limit ∙ c.lines.invariant.counts.limit };
+}

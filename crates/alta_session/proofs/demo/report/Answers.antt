@@ -1,11 +1,11 @@
-use Rattle.std.proofs.Common.{◌≡◌, ℕ, ◌<◌, List, ◌∷◌, [], Some, length, refl, sym, subst, ◌∙◌, arith}
+use Rattle.std.proofs.Common.{◌≡◌, ℕ, ◌<◌, List, ◌∷◌, [], Some, length, refl, sym, subst, ◌∙◌, Err, arith}
 use Rattle.std.specs.Prelude.{slice_get}
 use Rattle.std.proofs.lemmas.Option.{slice_get_within}
 use Rattle.alta_codec.specs.Bytes.{Lacks}
 use Rattle.alta_make.specs.Script.{report}
 use Rattle.alta_session.specs.Fed.{Fed}
 use Rattle.alta_session.specs.Progress.{StopsWithin}
-use Rattle.alta_session.proofs.EndingLaws.{caused_on, counts_none, counts_on}
+use Rattle.alta_session.proofs.EndingLaws.{accounts_on, counts_none, counts_on}
 use Rattle.alta_session.proofs.FedLaws.{fed_none}
 use Rattle.alta_session.proofs.ScriptLaws.{fed_all, fed_next, stops_next, report_line_free}
 use Rattle.alta_session.proofs.demo.report.Goals as goal
@@ -26,30 +26,35 @@ lines-preserved g c =
     record {
       within = omega arith;
       fed = fed_next g.D.Disk.tells _ _ _ _ _ _ _ _ _ report c.lines.index c.in-Some.line.now at c.lines.invariant.fed
-          (subst (λ (l : List ℕ). Fed g.D.Disk.tells (g.C.Console.told c.lines.console) (g.C.Console.told c.answer.new.console) (g.D.Disk.state c.lines.disk) (g.D.Disk.state c.answer.new.disk) c.lines.session c.answer.new.session (l ∷ [])) c.as_bytes.ensures.value c.in-Ok.ensures.ok);
+          (subst (λ (l : List ℕ). Fed g.D.Disk.tells (g.C.Console.told c.lines.console) (g.C.Console.told c.answer.new.console) (g.D.Disk.state c.lines.disk) (g.D.Disk.state c.answer.new.disk) c.lines.session c.answer.new.session (l ∷ [])) c.as_bytes.ensures.value c.in-Ok.ensures.feeds.ok);
       can = c.in-Ok.ensures.can;
-      input_kept = c.answer.ensures.input_kept ∙ c.lines.invariant.input_kept;
-      counts = counts_on g.C.Console.take_faults g.C.Console.give_faults c.args.console.now c.lines.console c.answer.new.console (g.D.Disk.state c.args.disk.now) (g.D.Disk.state c.lines.disk) (g.D.Disk.state c.answer.new.disk) c.lines.invariant.counts c.answer.ensures.counts;
+      input_kept = c.answer.ensures.accounts.input_kept ∙ c.lines.invariant.input_kept;
+      counts = counts_on g.C.Console.take_faults g.C.Console.give_faults c.args.console.now c.lines.console c.answer.new.console (g.D.Disk.state c.args.disk.now) (g.D.Disk.state c.lines.disk) (g.D.Disk.state c.answer.new.disk) c.lines.invariant.counts c.answer.ensures.accounts.counts;
     }
 
 -- behind the last line
-pub returns-in-None-clause-ok : goal.returns-in-None-clause-ok
-returns-in-None-clause-ok g c = fed_all g.D.Disk.tells _ _ _ _ _ _ report c.lines.index (sym c.in-None.ensures) c.lines.invariant.fed
+pub returns-in-None-clause-feeds : goal.returns-in-None-clause-feeds
+returns-in-None-clause-feeds g c = record {
+  ok = fed_all g.D.Disk.tells _ _ _ _ _ _ report c.lines.index (sym c.in-None.ensures) c.lines.invariant.fed;
+  err = tt;
+}
 
 -- a line was not answered
-pub returns-in-Err-clause-err : goal.returns-in-Err-clause-err
-returns-in-Err-clause-err g c =
-    let at : slice_get report c.lines.index ≡ Some c.in-Some.line.now = sym c.in-Some.ensures in
-    stops_next g.D.Disk.tells _ _ _ _ _ _ _ _ report c.lines.index c.in-Some.line.now c.in-Err.status at c.lines.invariant.fed
-    (subst (λ (l : List ℕ). StopsWithin g.D.Disk.tells (g.C.Console.told c.lines.console) (g.C.Console.told c.answer.new.console) (g.D.Disk.state c.lines.disk) (g.D.Disk.state c.answer.new.disk) c.lines.session (l ∷ []) c.in-Err.status) c.as_bytes.ensures.value c.in-Err.ensures.err)
-
-pub returns-in-Err-clause-caused : goal.returns-in-Err-clause-caused
-returns-in-Err-clause-caused g c =
-    caused_on g.C.Console.take_faults g.C.Console.give_faults g.D.Disk.tells c.args.console.now c.lines.console c.answer.new.console (g.D.Disk.state c.args.disk.now) (g.D.Disk.state c.lines.disk) (g.D.Disk.state c.answer.new.disk) c.in-Err.status c.lines.invariant.counts c.in-Err.ensures.caused
-
-pub returns-in-Err-clause-counts : goal.returns-in-Err-clause-counts
-returns-in-Err-clause-counts g c =
-    counts_on g.C.Console.take_faults g.C.Console.give_faults c.args.console.now c.lines.console c.answer.new.console (g.D.Disk.state c.args.disk.now) (g.D.Disk.state c.lines.disk) (g.D.Disk.state c.answer.new.disk) c.lines.invariant.counts c.answer.ensures.counts
+pub returns-in-Err-clause-feeds : goal.returns-in-Err-clause-feeds
+returns-in-Err-clause-feeds g c = record {
+  ok = tt;
+  err = let at : slice_get report c.lines.index ≡ Some c.in-Some.line.now = sym c.in-Some.ensures in
+      stops_next g.D.Disk.tells _ _ _ _ _ _ _ _ report c.lines.index c.in-Some.line.now c.in-Err.status at c.lines.invariant.fed
+      (subst (λ (l : List ℕ). StopsWithin g.D.Disk.tells (g.C.Console.told c.lines.console) (g.C.Console.told c.answer.new.console) (g.D.Disk.state c.lines.disk) (g.D.Disk.state c.answer.new.disk) c.lines.session (l ∷ []) c.in-Err.status) c.as_bytes.ensures.value c.in-Err.ensures.feeds.err);
+}
 
 pub answer-requires-clause-one_line : goal.answer-requires-clause-one_line
 answer-requires-clause-one_line g c = subst (Lacks 10) (sym c.as_bytes.ensures.value) (report_line_free c.lines.index c.in-Some.line.now (sym c.in-Some.ensures))
+
+pub returns-in-Err-clause-accounts : goal.returns-in-Err-clause-accounts
+returns-in-Err-clause-accounts g c =
+    accounts_on g.D.Disk.tells g.C.Console.left g.C.Console.take_faults g.C.Console.give_faults c.args.console.now c.lines.console c.answer.new.console (g.D.Disk.state c.args.disk.now) (g.D.Disk.state c.lines.disk) (g.D.Disk.state c.answer.new.disk) (Err c.in-Err.status) c.lines.invariant.input_kept c.lines.invariant.counts
+    c.in-Err.ensures.accounts
+
+pub returns-in-None-clause-accounts : goal.returns-in-None-clause-accounts
+returns-in-None-clause-accounts g c = record { ends = tt; caused = tt; input_kept = c.lines.invariant.input_kept; counts = c.lines.invariant.counts }

@@ -1,4 +1,4 @@
-use Rattle.std.proofs.Common.{◌≡◌, ℕ, List, map, sym, subst, ◌∙◌}
+use Rattle.std.proofs.Common.{ℕ, List, map, sym, subst, ◌∙◌}
 use Rattle.alta_machine.specs.PlanOf.{plan_of}
 use Rattle.alta_meaning.specs.Ordered.{RowsPrecede}
 use Rattle.alta_meaning.specs.Standing.{tables_by}

@@ -1,5 +1,4 @@
 use Rattle.std.proofs.Common.{sym, subst}
-use Rattle.alta_machine.specs.Dumps.{restored}
 use Rattle.alta_dump.specs.Laws.{AnswersAlike}
 use Rattle.alta_machine.specs.Machine.{Machine}
 use Rattle.alta_session.proofs.RestoringLaws.{each_has_line, lines_restore}

@@ -1,4 +1,4 @@
-use Rattle.std.proofs.Common.{[], refl}
+use Rattle.std.proofs.Common.{[], inl, inr, refl}
 use Rattle.alta_session.specs.declared.status.Status.TheVariants.{Memory}
 use Rattle.alta_session.proofs.EndingLaws.{caused_memory, counts_none}
 use Rattle.alta_session.proofs.RunLaws.{goes_none, runs_failed}
@@ -11,8 +11,11 @@ returns-in-Err-clause-run g c =
     (goes_none g.D.Disk.tells c.args.limit (g.C.Console.told c.args.console.now) (g.C.Console.left c.args.console.now) (g.D.Disk.state c.args.disk.now) c.args.session.now (g.met.D.Disk.lawful c.args.disk.now)) refl refl (λ same. cc) (λ same. cc) (λ need gap same. cc)
     (λ place same. cc)
 
-pub returns-in-Err-clause-caused : goal.returns-in-Err-clause-caused
-returns-in-Err-clause-caused g c = caused_memory g.D.Disk.tells g.C.Console.give_faults c.args.console.now c.args.console.now (g.D.Disk.state c.args.disk.now) (g.D.Disk.state c.args.disk.now) Memory refl
-
-pub returns-in-Err-clause-counts : goal.returns-in-Err-clause-counts
-returns-in-Err-clause-counts g c = counts_none g.C.Console.take_faults g.C.Console.give_faults c.args.console.now (g.D.Disk.state c.args.disk.now)
+pub returns-in-Err-clause-accounts : goal.returns-in-Err-clause-accounts
+returns-in-Err-clause-accounts g c = record {
+  ends = inr (inr (inr (inl (inl refl))));
+  caused = caused_memory g.D.Disk.tells g.C.Console.give_faults c.args.console.now c.args.console.now (g.D.Disk.state c.args.disk.now) (g.D.Disk.state c.args.disk.now) Memory refl;
+  take_fault = λ is. absurd cc;
+  read_all = λ is. absurd cc;
+  counts = counts_none g.C.Console.take_faults g.C.Console.give_faults c.args.console.now (g.D.Disk.state c.args.disk.now);
+}

@@ -1,4 +1,4 @@
-use Rattle.std.proofs.Common.{refl, rules, arith}
+use Rattle.std.proofs.Common.{refl, ◌∙◌, rules, arith}
 use Rattle.alta_session.proofs.EndingLaws.{caused_on, counts_none, counts_on}
 use Rattle.alta_session.proofs.FedLaws.{fed_none}
 use Rattle.alta_session.proofs.FeedLaws.{feed_on, kept_on, feed_stops}
@@ -24,17 +24,23 @@ lines-preserved g c = record {
   short = c.in-Ok.ensures.short;
   free = c.in-Ok.ensures.free;
   can = c.in-Ok.ensures.can;
-  input_kept = search rules;
-  counts = counts_on g.C.Console.take_faults g.C.Console.give_faults c.args.console.now c.lines.console c.feed_line.new.console (g.D.Disk.state c.args.disk.now) (g.D.Disk.state c.lines.disk) (g.D.Disk.state c.feed_line.new.disk) c.lines.invariant.counts c.feed_line.ensures.counts;
+  input_kept = c.feed_line.ensures.accounts.input_kept ∙ c.lines.invariant.input_kept;
+  counts = counts_on g.C.Console.take_faults g.C.Console.give_faults c.args.console.now c.lines.console c.feed_line.new.console (g.D.Disk.state c.args.disk.now) (g.D.Disk.state c.lines.disk) (g.D.Disk.state c.feed_line.new.disk) c.lines.invariant.counts c.feed_line.ensures.accounts.counts;
 }
 
-pub returns-in-Err-clause-err : goal.returns-in-Err-clause-err
-returns-in-Err-clause-err g c = feed_stops g.D.Disk.tells _ _ _ _ _ _ _ _ c.args.begun.now.items c.lines.begun.items c.args.piece.now c.lines.at c.in-Err.status c.lines.invariant.fed c.lines.invariant.begun c.in-Err.ensures.err
+pub returns-in-Err-clause-feeds : goal.returns-in-Err-clause-feeds
+returns-in-Err-clause-feeds g c = record {
+  ok = tt;
+  err = feed_stops g.D.Disk.tells _ _ _ _ _ _ _ _ c.args.begun.now.items c.lines.begun.items c.args.piece.now c.lines.at c.in-Err.status c.lines.invariant.fed c.lines.invariant.begun c.in-Err.ensures.err;
+}
 
-pub returns-in-Err-clause-caused : goal.returns-in-Err-clause-caused
-returns-in-Err-clause-caused g c =
-    caused_on g.C.Console.take_faults g.C.Console.give_faults g.D.Disk.tells c.args.console.now c.lines.console c.feed_line.new.console (g.D.Disk.state c.args.disk.now) (g.D.Disk.state c.lines.disk) (g.D.Disk.state c.feed_line.new.disk) c.in-Err.status c.lines.invariant.counts c.in-Err.ensures.caused
+pub returns-in-Err-clause-accounts : goal.returns-in-Err-clause-accounts
+returns-in-Err-clause-accounts g c = record {
+  ends = c.in-Err.ensures.accounts.ends;
+  caused = caused_on g.C.Console.take_faults g.C.Console.give_faults g.D.Disk.tells c.args.console.now c.lines.console c.feed_line.new.console (g.D.Disk.state c.args.disk.now) (g.D.Disk.state c.lines.disk) (g.D.Disk.state c.feed_line.new.disk) c.in-Err.status c.lines.invariant.counts c.in-Err.ensures.accounts.caused;
+  input_kept = c.feed_line.ensures.accounts.input_kept ∙ c.lines.invariant.input_kept;
+  counts = counts_on g.C.Console.take_faults g.C.Console.give_faults c.args.console.now c.lines.console c.feed_line.new.console (g.D.Disk.state c.args.disk.now) (g.D.Disk.state c.lines.disk) (g.D.Disk.state c.feed_line.new.disk) c.lines.invariant.counts c.feed_line.ensures.accounts.counts;
+}
 
-pub returns-in-Err-clause-counts : goal.returns-in-Err-clause-counts
-returns-in-Err-clause-counts g c =
-    counts_on g.C.Console.take_faults g.C.Console.give_faults c.args.console.now c.lines.console c.feed_line.new.console (g.D.Disk.state c.args.disk.now) (g.D.Disk.state c.lines.disk) (g.D.Disk.state c.feed_line.new.disk) c.lines.invariant.counts c.feed_line.ensures.counts
+pub returns-clause-accounts : goal.returns-clause-accounts
+returns-clause-accounts g c = record { ends = tt; caused = tt; input_kept = c.lines.invariant.input_kept; counts = c.lines.invariant.counts }

@@ -1,4 +1,4 @@
-use Rattle.std.proofs.Common.{refl, ◌≡◌, ◌≤◌, ℕ, true, false, List, ◌++◌, inl, inr, ⊎_elim, ap, sym, subst, ◌∙◌, codes, decimal, Err, rules, arith}
+use Rattle.std.proofs.Common.{refl, ◌≡◌, ◌≤◌, ℕ, true, false, List, ◌++◌, inl, inr, ap, sym, subst, ◌∙◌, codes, decimal, Err, rules, arith}
 use Rattle.alta_disk.specs.Disk.{LeavesOnly}
 use Rattle.alta_meaning.specs.Standing.{StandsFor, StandsForEither}
 use Rattle.alta_machine.specs.Changes.{with_added, has_name}

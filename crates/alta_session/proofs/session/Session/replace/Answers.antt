@@ -1,9 +1,8 @@
-use Rattle.std.proofs.Common.{refl, ◌≡◌, ◌≤◌, ℕ, true, false, List, ◌++◌, inl, inr, ap, sym, subst, ◌∙◌, codes, decimal, Err, rules, arith}
-use Rattle.std.specs.Prelude.{Some}
+use Rattle.std.proofs.Common.{refl, ◌≡◌, ◌≤◌, ℕ, true, List, ◌++◌, inr, ap, sym, subst, ◌∙◌, codes, decimal, Err, rules, arith}
 use Rattle.std.proofs.lemmas.Bool.{false≢true}
 use Rattle.alta_disk.specs.Disk.{LeavesOnly}
 use Rattle.alta_meaning.specs.Standing.{StandsFor, StandsForEither}
-use Rattle.alta_machine.specs.Changes.{has_name, number_of, with_replaced}
+use Rattle.alta_machine.specs.Changes.{has_name, with_replaced}
 use Rattle.alta_meaning.specs.Work.{enters}
 use Rattle.alta_journal.specs.declared.entry.Entry.TheVariants.{Replace}
 use Rattle.alta_machine.specs.declared.document.State.{State}

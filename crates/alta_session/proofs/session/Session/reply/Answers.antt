@@ -9,7 +9,7 @@ use Rattle.alta_machine.specs.Lines.{Reading, asks}
 use Rattle.alta_search.specs.Open.{AreOpen}
 use Rattle.alta_machine.specs.declared.cursors.TheConstants.{CURSORS}
 use Rattle.alta_machine.specs.Cursors.{opening, fetching, closing}
-use Rattle.alta_session.specs.Loading.{Loads, loads_in, newest_in, open_loads, order_loads, text_loads, top_text_loads}
+use Rattle.alta_replies.specs.Loading.{Loads, loads_in, newest_in, open_loads, order_loads, text_loads, top_text_loads}
 use Rattle.alta_machine.specs.Machine.{LooksIn, SearchesIn, changed_by, adding, deleting, step, stats_of}
 use Rattle.alta_machine.specs.Searching.{IsNoQuery, searching, counting, ranking}
 use Rattle.alta_session.specs.Tasks.{task_of, task_of_add, task_of_delete}

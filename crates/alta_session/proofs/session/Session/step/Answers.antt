@@ -4,7 +4,6 @@ use Rattle.alta_meaning.specs.Work.{steps}
 use Rattle.alta_machine.specs.declared.document.State.{State}
 use Rattle.alta_machine.specs.Machine.{IsRefusal}
 use Rattle.alta_store.specs.Agreement.{Has}
-use Rattle.alta_store.specs.Calls.{NoRefusal}
 use Rattle.alta_store.specs.declared.fault.StoreFault.TheVariants.{Damaged, Disk, Full}
 use Rattle.alta_machine.specs.Command.{steps as asks_step}
 use Rattle.alta_machine.specs.Lines.{asks}

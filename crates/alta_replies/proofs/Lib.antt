@@ -1,0 +1,3 @@
+pub mod CursorLaws
+pub mod LoadingLaws
+pub mod SearchLaws

@@ -1,4 +1,0 @@
-use Rattle.alta_session.proofs.dumping.dumped.Given as goal
-
-abbrev pub ghosts-all_dumped : goal.ghosts-all_dumped
-ghosts-all_dumped a = record { name = a.blank.name; parts = a.blank.parts }

@@ -1,4 +1,0 @@
-use Rattle.alta_session.proofs.paging.next_page.Given as goal
-
-abbrev pub ghosts-take_page : goal.ghosts-take_page
-ghosts-take_page a = record { name = a.blank.name; parts = a.blank.parts }
