@@ -19,7 +19,8 @@ def faults(folder):
     """What is wrong in the folder of the machine's definitions."""
     with open(f"{folder}/Lib.antt", encoding="utf-8") as file:
         order = re.findall(r"^pub mod (\w+)$", file.read(), re.MULTILINE)
-    found = []
+    there = {name[:-5] for name in os.listdir(folder) if name.endswith(".antt")} - {"Lib"}
+    found = [f"Lib: names {len(order)} files, and the folder has {len(there)}"] if not order or set(order) != there else []
     for place, name in enumerate(order):
         with open(f"{folder}/{name}.antt", encoding="utf-8") as file:
             text = file.read()

@@ -8,7 +8,7 @@ ghost use Rattle.alta_journal.specs.Entry.{MayBeRecorded};
 ghost use Rattle.alta_journal.specs.Record.{Record, record_of, body_of};
 ghost use Rattle.alta_journal.specs.Journal.{EndsAt, Appended, Appends};
 
-use crate::places::{GATE_CLOSED, GATE_OPEN, HALF_BYTES, HEAD_BYTES};
+use crate::places::{GATE_CLOSED, GATE_OPEN, HEAD_BYTES};
 use crate::{Half, Ready, Tail};
 use alta_codec::Failed;
 use alta_disk::{Disk, write_synced};
@@ -66,7 +66,7 @@ pub fn append<D: Disk>(disk: &mut D, tail: &mut Tail, ready: &Ready) -> Result<(
 {
     let bytes = ready.bytes();
     let need = bytes.len() as u64;
-    let left = tail.half.start() + HALF_BYTES - (tail.place + 1);
+    let left = tail.room();
     if need > left {
         return Err(JournalFault::Full { need, left });
     }

@@ -1,6 +1,6 @@
 // The two halves of the journal.
 ghost use Rattle.std.specs.Prelude.{◌+◌, ◌<◌, ◌≤◌, ◌≡◌};
-ghost use Rattle.alta_journal.specs.Places.{start_of};
+ghost use Rattle.alta_journal.specs.Places.{left_behind, start_of};
 ghost use Rattle.alta_journal.specs.declared.places.TheConstants.{HALF_BYTES};
 
 use crate::places::{HALF_BYTES, START_A, START_B};
@@ -31,4 +31,13 @@ pub struct Tail {
     pub place: u64,
     pub ghost starts: { start_of half ≤ place },
     pub ghost ends: { place < start_of half + HALF_BYTES },
+}
+
+impl Tail {
+    /// How many bytes the half has left behind the gate of its next record.
+    pub fn room(self) -> u64
+        ensures { result ≡ left_behind (start_of self.half) self.place }
+    {
+        self.half.start() + HALF_BYTES - (self.place + 1)
+    }
 }

@@ -4,7 +4,6 @@ ghost use Rattle.alta_meaning.specs.Entries.{Allows, IsDocument};
 ghost use Rattle.alta_machine.specs.Changes.{has_name, number_of, with_added, with_deleted, with_replaced};
 ghost use Rattle.alta_meaning.specs.Work.{enters};
 ghost use Rattle.alta_journal.specs.Entry.{IsTyped, KeepsRules};
-ghost use Rattle.alta_journal.specs.Places.{left_behind, start_of};
 ghost use Rattle.alta_journal.specs.declared.entry.Entry.TheVariants.{Add, Delete, Replace};
 ghost use Rattle.alta_journal.specs.declared.places.TheConstants.{HEAD_BYTES};
 ghost use Rattle.alta_machine.specs.declared.document.State.{State};
@@ -16,7 +15,7 @@ use crate::{Store, StoreFault};
 use alta_catalog::apply_entry;
 use alta_codec::Text;
 use alta_disk::Disk;
-use alta_journal::{Entry, HALF_BYTES, JournalFault, Ready, Tail, append, is_old, ready};
+use alta_journal::{Entry, JournalFault, Ready, append, is_old, ready};
 use std::alloc::{AllocError, Global};
 
 impl Store {
@@ -252,7 +251,7 @@ impl Store {
         ensures { result ≡ needs_room self.now entry.now }
     {
         let is_new = self.root.version == 1 && !is_old(entry);
-        is_new || ready.bytes().len() as u64 > room_behind(self.tail)
+        is_new || ready.bytes().len() as u64 > self.tail.room()
     }
 
     // Enters an entry that the documents allow, and for which there is room. All memory is taken before the first write.
@@ -284,13 +283,6 @@ impl Store {
             Err(JournalFault::Disk) => Err(StoreFault::Disk),
         }
     }
-}
-
-// How many bytes the journal has left behind the gate of its next record.
-fn room_behind(tail: Tail) -> u64
-    ensures { result ≡ left_behind (start_of tail.half) tail.place }
-{
-    tail.half.start() + HALF_BYTES - (tail.place + 1)
 }
 
 // The entry of a document that is added.
