@@ -1,18 +1,63 @@
--- Entries one after the other, as they are applied.
-use Rattle.std.proofs.Common.{◌≡◌, ℕ, ◌+◌, ◌<◌, List, [], ◌∷◌, ◌++◌, length, get_or, take, drop, append_assoc, sym, ◌∙◌, ap, subst, take-append-drop}
-use Rattle.std.specs.Prelude.{Result, Err}
+-- Entries as they are applied, each by itself and one after the other.
+use Rattle.std.proofs.Common.{◌≡◌, Bool, true, false, ℕ, ◌+◌, ◌<◌, List, [], ◌∷◌, ◌++◌, length, get_or, take, drop, append_assoc, refl, sym, ◌∙◌, ap, subst, take-append-drop}
+use Rattle.std.specs.Prelude.{Result, Ok, Err}
+use Rattle.std.proofs.lemmas.Bool.{false≢true, true≢false}
 use Rattle.std.proofs.lemmas.List.{take_more, drop_more, map-append}
 use Rattle.alta_journal.specs.declared.entry.Entry.{Entry}
+use Rattle.alta_journal.specs.declared.entry.Entry.TheVariants.{Delete}
 use Rattle.alta_journal.specs.declared.placed.Placed.{Placed}
+use Rattle.alta_content.specs.Rows.{ends_among}
+use Rattle.alta_content.specs.declared.document.DocRow.{DocRow}
+use Rattle.alta_machine.specs.Changes.{has_number, without}
 use Rattle.alta_machine.specs.declared.document.State.{State}
 use Rattle.alta_root.specs.declared.root.Root.{Root}
-use Rattle.alta_catalog.specs.Knowing.{Follows, KnowsBy}
+use Rattle.alta_catalog.specs.Applying.{Applies}
+use Rattle.alta_catalog.specs.Knowing.{Follows, Knows, KnowsBy, gone_of, levels_of}
 use Rattle.alta_memlevel.specs.Added.{Added}
 use Rattle.alta_catalog.specs.declared.catalog.Catalog.{Catalog}
 use Rattle.alta_meaning.specs.Entries.{Allows, AllowsAll, after_entry, after_entries, entries_in, IsRefusedAt}
 use Rattle.alta_catalog.specs.declared.fault.CatalogFault.{CatalogFault}
 use Rattle.alta_catalog.specs.declared.fault.CatalogFault.TheVariants.{Damaged}
 use Rattle.alta_meaning.proofs.Entering.{after_more, allows_more}
+
+-- ---- one entry
+
+pub not_applied : (entry : Entry) (catalog : Catalog) → ((s : State) → Knows catalog s → Allows s entry → ⊥) → Applies entry catalog catalog (Ok false)
+not_applied entry catalog refused = record {
+  allowed = λ s knows yes. absurd (false≢true yes);
+  refused = λ s knows no allows. refused s knows allows;
+  unchanged = λ no. refl;
+  still = λ row gone. gone;
+  levels = refl;
+  follows = λ root entries follows yes. absurd (false≢true yes);
+}
+
+pub applied : (entry : Entry) (old new : Catalog) → ((s : State) → (knows : Knows old s) → Allows s entry × KnowsBy new knows.olds (after_entry s entry))
+    → ((row : DocRow) → ends_among (gone_of old) row ≡ true → ends_among (gone_of new) row ≡ true) → levels_of new ≡ levels_of old
+    → ((root : Root) (entries : List Entry) → Follows old root entries → Follows new root (entries ++ entry ∷ [])) → Applies entry old new (Ok true)
+applied entry old new allowed still levels follows = record {
+  allowed = λ s knows yes. allowed s knows;
+  refused = λ s knows no allows. true≢false no;
+  unchanged = λ no. absurd (true≢false no);
+  still = still;
+  levels = levels;
+  follows = λ root entries was yes. follows root entries was;
+}
+
+-- the document of a number is deleted, if there is one
+pub deleted : (number : ℕ) (old new : Catalog) (there : Bool) → (there ≡ true → (s : State) → (knows : Knows old s) → (has_number number s ≡ true) × KnowsBy new knows.olds (without number s))
+    → (there ≡ false → (s : State) → Knows old s → has_number number s ≡ false) → (there ≡ false → new ≡ old) → ((row : DocRow) → ends_among (gone_of old) row ≡ true → ends_among (gone_of new) row ≡ true)
+    → levels_of new ≡ levels_of old → ((root : Root) (entries : List Entry) → Follows old root entries → there ≡ true → Follows new root (entries ++ Delete number ∷ [])) → Applies (Delete number) old new (Ok there)
+deleted number old new there found missing unchanged still levels follows = record {
+  allowed = λ s knows yes. found yes s knows;
+  refused = λ s knows no allows. false≢true (sym (missing no s knows) ∙ allows);
+  unchanged = unchanged;
+  still = still;
+  levels = levels;
+  follows = follows;
+}
+
+-- ---- one behind the other
 
 module _ (found : List Placed) (i : ℕ) (p : Placed) (inside : i < length found) (is : p ≡ get_or found i p) where
   entries_more : entries_in (take (i + 1) found) ≡ entries_in (take i found) ++ p.entry ∷ []

@@ -4,6 +4,7 @@ use Rattle.std.specs.Prelude.{◌&&◌, ◌||◌, Contains}
 use Rattle.std.specs.List.{All, filter, list_all}
 use Rattle.std.proofs.lemmas.List.{map-append}
 use Rattle.std.proofs.lemmas.List.Elements.{All-append, All-contains, All-filter, All-head, All-map, All-nil, All-cons}
+use Rattle.alta_layout.specs.Places.{half_start}
 use Rattle.alta_codec.specs.Rising.{IsRising}
 use Rattle.alta_codec.specs.declared.extent.Extent.{Extent}
 use Rattle.alta_content.specs.Rows.{end_of, ends_among, live_rows}
@@ -12,7 +13,7 @@ use Rattle.alta_content.proofs.Outside.{filter_alike, filter_all}
 use Rattle.alta_content.proofs.Rises.{Contains-head, Contains-tail, above_from_rising, filter-has, filter-keeps, filter-rises}
 use Rattle.alta_meaning.specs.Entries.{AllowsAll}
 use Rattle.alta_meaning.specs.Levels.{Level}
-use Rattle.alta_meaning.specs.Opened.{IsOpened, Opened, are_in_order, comes_behind, is_below, journal_of, levels_from, table_rows, with_level}
+use Rattle.alta_meaning.specs.Opened.{IsOpened, Opened, are_in_order, comes_behind, is_below, levels_from, table_rows, with_level}
 use Rattle.alta_meaning.specs.Known.{Known, replayed}
 use Rattle.alta_meaning.specs.Ordered.{AreBelow, Precedes, RowsPrecede}
 use Rattle.alta_meaning.specs.Standing.{view_of}
@@ -213,8 +214,8 @@ module _ (c : Catalog) (s : State) (o : Opened) (image : List ℕ) (levels : Lis
 
   allowed : AllowsAll may.start o.entries
   allowed =
-      (allows_replayed may.start (journal_of o.slot) o.entries is.named.known
-      (ap (λ (known : Known). replayed known (placed (journal_of o.slot) o.entries)) (start_known may.start o.root o.deleted o.levels may.starts) ∙ is.named.admitted)).0
+      (allows_replayed may.start (half_start o.slot) o.entries is.named.known
+      (ap (λ (known : Known). replayed known (placed (half_start o.slot) o.entries)) (start_known may.start o.root o.deleted o.levels may.starts) ∙ is.named.admitted)).0
 
   abbrev started : List Added
   started = may.starts.olds ++ news

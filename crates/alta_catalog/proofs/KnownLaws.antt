@@ -2,10 +2,11 @@
 use Rattle.std.proofs.Common.{◌≡◌, ℕ, ◌+◌, Bool, cond, List, [], ◌∷◌, ◌++◌, map, refl, sym, ◌∙◌, ap, subst}
 use Rattle.std.specs.Prelude.{Ok, Err}
 use Rattle.std.proofs.lemmas.List.{map-append}
+use Rattle.alta_layout.specs.Places.{half_start}
 use Rattle.alta_content.specs.declared.document.DocRow.{DocRow}
 use Rattle.alta_meaning.specs.Entries.{Allows, AllowsAll, IsRefusedAt, after_entries, after_entry, entries_in}
 use Rattle.alta_meaning.specs.Known.{Known, Named, admits, known_behind, known_of, named_of, replayed}
-use Rattle.alta_meaning.specs.Opened.{IsNamed, Opened, journal_of, known_at, live_in, table_rows}
+use Rattle.alta_meaning.specs.Opened.{IsNamed, Opened, known_at, live_in, table_rows}
 use Rattle.alta_meaning.specs.Switching.{with_entry}
 use Rattle.alta_meaning.proofs.Entering.{after_more}
 use Rattle.alta_meaning.proofs.KnownLaws.{admitted_from, allowed_from, allows_replayed, known_entry}
@@ -34,9 +35,9 @@ start_known s root deleted levels may =
 
 pub behind_known : (s : State) (o : Opened) (image : List ℕ) (is : IsNamed o image) → MayBe s o → is.known ≡ known_of s
 behind_known s o image is may =
-    let found : replayed (known_of may.start) (placed (journal_of o.slot) o.entries) ≡ Ok is.known =
-    ap (λ (k : Known). replayed k (placed (journal_of o.slot) o.entries)) (start_known may.start o.root o.deleted o.levels may.starts) ∙ is.admitted in
-    (allows_replayed may.start (journal_of o.slot) o.entries is.known found).1 ∙ ap known_of (sym may.state_is)
+    let found : replayed (known_of may.start) (placed (half_start o.slot) o.entries) ≡ Ok is.known =
+    ap (λ (k : Known). replayed k (placed (half_start o.slot) o.entries)) (start_known may.start o.root o.deleted o.levels may.starts) ∙ is.admitted in
+    (allows_replayed may.start (half_start o.slot) o.entries is.known found).1 ∙ ap known_of (sym may.state_is)
 
 pub one_known : (c : Catalog) (s t : State) → Knows c s → Knows c t → known_of s ≡ known_of t
 unfolding known_with

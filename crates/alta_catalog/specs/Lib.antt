@@ -1,3 +1,4 @@
+pub mod Applying
 pub mod Counting
 pub mod Finding
 pub mod Knowing

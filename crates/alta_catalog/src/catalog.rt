@@ -5,6 +5,7 @@ ghost use Rattle.alta_codec.specs.Name.{IsName};
 ghost use Rattle.alta_codec.specs.Rising.{IsRising};
 ghost use Rattle.alta_content.specs.declared.document.DocRow.{DocRow};
 ghost use Rattle.alta_content.specs.Rows.{AreDocuments, ends_among, RowsRise};
+ghost use Rattle.alta_content.specs.Ends.{ShowsRising};
 ghost use Rattle.alta_meaning.specs.Opened.{have_ends, live_in, table_rows};
 ghost use Rattle.alta_meaning.specs.Ordered.{AreBelow, AreOrdered, RowsPrecede};
 ghost use Rattle.alta_machine.specs.Changes.{has_name, has_number, number_of, with_added, with_deleted, without, words_in};
@@ -109,8 +110,7 @@ impl Catalog {
 
     /// The ends of all documents that are gone, of the levels and of those in memory, rising.
     pub fn gone(&self) -> &[Loc]
-        ensures value { result.now ≡ gone_of self.now }
-        ensures rising { IsRising result.now }
+        ensures { ShowsRising (gone_of self.now) result.now }
     {
         self.gone.ends()
     }

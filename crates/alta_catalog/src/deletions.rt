@@ -2,6 +2,7 @@
 ghost use Rattle.std.specs.Prelude.{◌≡◌, ℕ, ◌<◌, ◌≤◌, ◌⊎◌, ◌↔◌, [], length, insert, Contains, IsTrue, IfOk, IfErr, OnOk, OnErr};
 ghost use Rattle.alta_codec.specs.Rising.{IsRising};
 ghost use Rattle.alta_codec.specs.declared.location.TheConstants.{TOP};
+ghost use Rattle.alta_content.specs.Ends.{ShowsRising};
 ghost use Rattle.alta_catalog.specs.Ends.{with_end};
 
 use alta_codec::Loc;
@@ -65,8 +66,7 @@ impl Deletions {
 
     /// The deleted ends, borrowed.
     pub fn ends(&self) -> &[Loc]
-        ensures value { result.now ≡ self.now }
-        ensures rising { IsRising result.now }
+        ensures { ShowsRising self.now result.now }
     {
         &self.ends
     }

@@ -43,16 +43,24 @@ pub(crate) fn rows_in(alloc: Global, names: &HashMap<String, u64>) -> Result<Nam
     ensures unique { IsUnique string_eq names.now }
 {
     let mut rows = copy_of(alloc, names)?;
-    rows.sort();
-    Ok(rows)
+    sort(&mut rows);
+    Ok(Names::from_vec(rows))
+}
+
+// Sorts the rows by their names, in the order of bytes.
+fn sort(rows: &mut Vec<NameRow>)
+    ensures same { IsPermutation rows.old.items rows.new.items }
+    ensures sorted { IsSorted by_name rows.new.items }
+{
+    rows.sort_unstable_by(|a, b| a.name.as_str().cmp(b.name.as_str()));
 }
 
 // A copy of the names with their numbers, in the order of the map.
-fn copy_of(alloc: Global, names: &HashMap<String, u64>) -> Result<Names, AllocError>
-    ensures rows { IfOk result (λ rows. rows ≡ map row_of names.now.entries) }
+fn copy_of(alloc: Global, names: &HashMap<String, u64>) -> Result<Vec<NameRow>, AllocError>
+    ensures rows { IfOk result (λ rows. rows.items ≡ map row_of names.now.entries) }
     ensures unique { IsUnique string_eq names.now }
 {
-    let mut rows = Names::new(alloc);
+    let mut rows = Vec::new(alloc);
     for (name, number) in names {
         rows.push(named(alloc, name.as_str(), *number)?)?;
     }

@@ -3,6 +3,7 @@ ghost use Rattle.std.specs.Prelude.{◌≡◌, ◌+◌, ◌++◌, ◌<◌, ◌�
 ghost use Rattle.std.specs.Vec.{vec_capacity, vec_len};
 ghost use Rattle.alta_codec.specs.Rising.{IsRising};
 ghost use Rattle.alta_content.specs.Rows.{RowsRise};
+ghost use Rattle.alta_content.specs.Ends.{ShowsRising};
 ghost use Rattle.alta_meaning.specs.Opened.{table_rows};
 ghost use Rattle.alta_catalog.specs.Replacing.{deleted_of, ends_in, is_end, some_in};
 
@@ -28,8 +29,7 @@ pub struct PreparedLevels {
 impl PreparedLevels {
     /// The ends that are deleted once the levels stand, rising.
     pub fn deleted(&self) -> &[Loc]
-        ensures value { result.now ≡ deleted_of self.now }
-        ensures rising { IsRising result.now }
+        ensures { ShowsRising (deleted_of self.now) result.now }
     {
         self.deleted.ends()
     }

@@ -1,14 +1,13 @@
 // The documents that the entries of a journal leave.
-ghost use Rattle.std.specs.Prelude.{◌≡◌, ◌⊎◌, ◌+◌, ◌++◌, ◌∷◌, [], ◌<◌, ℕ, List, true, false, Err, IfOk, IfErr, OnOk, All};
+ghost use Rattle.std.specs.Prelude.{◌≡◌, ◌⊎◌, ◌+◌, ◌++◌, ◌<◌, ℕ, List, Err, IfOk, IfErr, OnOk, All};
 ghost use Rattle.alta_journal.specs.Entry.{KeepTexts, MayBeRecorded};
 ghost use Rattle.alta_journal.specs.declared.entry.Entry.{Entry};
 ghost use Rattle.alta_journal.specs.declared.entry.Entry.TheVariants.{Add, Replace};
-ghost use Rattle.alta_content.specs.declared.document.DocRow.{DocRow};
-ghost use Rattle.alta_content.specs.Rows.{ends_among};
 ghost use Rattle.alta_machine.specs.declared.document.State.{State};
-ghost use Rattle.alta_meaning.specs.Entries.{Allows, AllowsAll, after_entry, after_entries, entries_in, IsRefusedAt};
-ghost use Rattle.alta_machine.specs.Changes.{has_named, with_added, without};
+ghost use Rattle.alta_meaning.specs.Entries.{AllowsAll, after_entries, entries_in, IsRefusedAt};
+ghost use Rattle.alta_machine.specs.Changes.{has_named};
 ghost use Rattle.alta_root.specs.declared.root.Root.{Root};
+ghost use Rattle.alta_catalog.specs.Applying.{Applies};
 ghost use Rattle.alta_catalog.specs.Knowing.{Follows, Knows, KnowsBy, gone_of, levels_of};
 ghost use Rattle.alta_catalog.specs.declared.fault.CatalogFault.TheVariants.{Memory, Damaged};
 
@@ -68,12 +67,7 @@ fn payload_place(placed: &Placed) -> u64
 pub fn apply_entry(alloc: Global, catalog: &mut Catalog, entry: &Entry) -> Result<bool, MetaFault>
     requires knows { (s : State) × Knows catalog.old s }
     requires sound { (version : ℕ) × MayBeRecorded version entry.now }
-    ensures allowed { (s : State) → (knows : Knows catalog.old s) → IfOk result (λ allowed. allowed ≡ true → Allows s entry.now × KnowsBy catalog.new knows.olds (after_entry s entry.now)) }
-    ensures refused { (s : State) → Knows catalog.old s → IfOk result (λ allowed. allowed ≡ false → Allows s entry.now → ⊥) }
-    ensures unchanged { IfOk result (λ allowed. allowed ≡ false → catalog.new ≡ catalog.old) }
-    ensures still { IfOk result (λ allowed. (row : DocRow) → ends_among (gone_of catalog.old) row ≡ true → ends_among (gone_of catalog.new) row ≡ true) }
-    ensures levels { levels_of catalog.new ≡ levels_of catalog.old }
-    ensures follows { (root : Root) → (entries : List Entry) → Follows catalog.old root entries → IfOk result (λ allowed. allowed ≡ true → Follows catalog.new root (entries ++ entry.now ∷ [])) }
+    ensures { Applies entry.now catalog.old catalog.new result }
 {
     match entry {
         Entry::Add { name, title, body } => {
@@ -107,13 +101,7 @@ fn replace(
 ) -> Result<bool, MetaFault>
     requires knows { (s : State) × Knows catalog.old s }
     requires sound { KeepTexts name.now title.now body.now }
-    ensures allowed { (s : State) → (knows : Knows catalog.old s) → IfOk result (λ allowed. allowed ≡ true → Allows s (Replace number name.now title.now body.now)
-        × KnowsBy catalog.new knows.olds (with_added name.now title.now body.now (without number s))) }
-    ensures refused { (s : State) → Knows catalog.old s → IfOk result (λ allowed. allowed ≡ false → Allows s (Replace number name.now title.now body.now) → ⊥) }
-    ensures unchanged { IfOk result (λ allowed. allowed ≡ false → catalog.new ≡ catalog.old) }
-    ensures still { IfOk result (λ allowed. (row : DocRow) → ends_among (gone_of catalog.old) row ≡ true → ends_among (gone_of catalog.new) row ≡ true) }
-    ensures levels { levels_of catalog.new ≡ levels_of catalog.old }
-    ensures follows { (root : Root) → (entries : List Entry) → Follows catalog.old root entries → IfOk result (λ allowed. allowed ≡ true → Follows catalog.new root (entries ++ Replace number name.now title.now body.now ∷ [])) }
+    ensures { Applies (Replace number name.now title.now body.now) catalog.old catalog.new result }
 {
     if !catalog.has_room() {
         return Ok(false);
@@ -146,12 +134,8 @@ fn add(
 ) -> Result<bool, MetaFault>
     requires knows { (s : State) × Knows catalog.old s }
     requires sound { KeepTexts name.now title.now body.now }
-    ensures allowed { (s : State) → (knows : Knows catalog.old s) → IfOk result (λ allowed. allowed ≡ true → Allows s (Add name.now title.now body.now) × KnowsBy catalog.new knows.olds (with_added name.now title.now body.now s)) }
-    ensures refused { (s : State) → Knows catalog.old s → IfOk result (λ allowed. allowed ≡ false → Allows s (Add name.now title.now body.now) → ⊥) }
-    ensures unchanged { IfOk result (λ allowed. allowed ≡ false → catalog.new ≡ catalog.old) }
+    ensures applies { Applies (Add name.now title.now body.now) catalog.old catalog.new result }
     ensures gone { IfOk result (λ allowed. gone_of catalog.new ≡ gone_of catalog.old) }
-    ensures levels { levels_of catalog.new ≡ levels_of catalog.old }
-    ensures follows { (root : Root) → (entries : List Entry) → Follows catalog.old root entries → IfOk result (λ allowed. allowed ≡ true → Follows catalog.new root (entries ++ Add name.now title.now body.now ∷ [])) }
 {
     if !catalog.has_room() {
         return Ok(false);

@@ -1,6 +1,7 @@
 pub mod Bytes
 pub mod Decimal
 pub mod Faults
+pub mod Lists
 pub mod Name
 pub mod Numbers
 pub mod Order

@@ -1,5 +1,5 @@
 -- Rising lists of locations: the first at or above a place, and the last below one.
-use Rattle.std.specs.Prelude.{◌≡◌, ◌⊎◌, ℕ, ◌+◌, ◌<◌, min, max, cond, nat_le, nat_lt, List, [], ◌∷◌, length, slice_index, Contains}
+use Rattle.std.specs.Prelude.{◌≡◌, ◌⊎◌, ℕ, ◌+◌, ◌<◌, ◌≤◌, min, max, cond, nat_le, nat_lt, List, [], ◌∷◌, length, slice_index, Contains}
 use Rattle.alta_codec.specs.declared.location.TheConstants.{TOP}
 
 -- the list rises strictly, from 1 to below TOP
@@ -7,6 +7,14 @@ pub record IsRising (xs : List ℕ) : Type 0 where
   pub rising : (i j : ℕ) → i < j → j < length xs → slice_index xs i < slice_index xs j
   pub positive : (i : ℕ) → i < length xs → 0 < slice_index xs i
   pub below : (i : ℕ) → i < length xs → slice_index xs i < TOP
+
+-- Of the indexes from one up to another, the first whose element is at or above a place, that other one where there is none. All
+-- elements before it are below the place.
+pub record IsFirstFrom (xs : List ℕ) (from until to index : ℕ) : Type 0 where
+  pub after : from ≤ index
+  pub within : index ≤ until
+  pub before : (k : ℕ) → k < index → slice_index xs k < to
+  pub found : index < until → to ≤ slice_index xs index
 
 -- the place is an element or TOP
 abbrev pub IsPlace : List ℕ → ℕ → Type 0

@@ -3,7 +3,7 @@
 // rising lists of numbers. Spans, which are pairs, have their own, and so has the reading of a level's lists (`ends.rt` of
 // alta_level), whose locations stand anywhere.
 ghost use Rattle.std.specs.Prelude.{◌≡◌, ℕ, ◌+◌, ◌<◌, ◌≤◌, length, slice_index};
-ghost use Rattle.alta_codec.specs.Rising.{IsRising};
+ghost use Rattle.alta_codec.specs.Rising.{IsFirstFrom, IsRising};
 
 /// The first of four indexes from `from` on whose element is at or above `to`, the index behind them where none is.
 /// It compares all four, so that no branch depends on which it is.
@@ -28,10 +28,7 @@ fn far_from(list: &[u64], from: usize, to: u64) -> usize
     requires rising { IsRising list.now }
     requires within { from ≤ length list.now }
     requires passed { (k : ℕ) → k < from → slice_index list.now k < to }
-    ensures within { result ≤ length list.now }
-    ensures after { from ≤ result }
-    ensures before { (k : ℕ) → k < result → slice_index list.now k < to }
-    ensures found { result < length list.now → to ≤ slice_index list.now result }
+    ensures { IsFirstFrom list.now from (length list.now) to result }
 {
     let mut low = from;
     let mut high = from;
@@ -62,10 +59,7 @@ pub fn index_from(list: &[u64], from: usize, to: u64) -> usize
     requires rising { IsRising list.now }
     requires within { from ≤ length list.now }
     requires passed { (k : ℕ) → k < from → slice_index list.now k < to }
-    ensures within { result ≤ length list.now }
-    ensures after { from ≤ result }
-    ensures before { (k : ℕ) → k < result → slice_index list.now k < to }
-    ensures found { result < length list.now → to ≤ slice_index list.now result }
+    ensures { IsFirstFrom list.now from (length list.now) to result }
 {
     if list.len() - from < 4 {
         return far_from(list, from, to);

@@ -1,5 +1,6 @@
 // A list that grows, which contracts see as the list of its members.
-ghost use Rattle.std.specs.Prelude.{◌≡◌, ◌∷◌, ◌++◌, [], length, slice_get, option_copied, OnOk, OnErr};
+ghost use Rattle.std.specs.Prelude.{◌≡◌, [], length, slice_get, option_copied};
+ghost use Rattle.alta_codec.specs.Lists.{Pushes};
 
 use std::alloc::{AllocError, Global};
 use std::marker::Model;
@@ -44,8 +45,7 @@ impl<T: Drop> Listed<T> {
 
     /// Adds a member at the end. Where memory is wanting the list stays.
     pub fn push(&mut self, item: T) -> Result<(), AllocError>
-        ensures pushed { OnOk result (self.new ≡ self.old ++ item ∷ []) }
-        ensures kept { OnErr result (self.new ≡ self.old) }
+        ensures { Pushes item self.old self.new result }
     {
         self.items.push(item)?;
         Ok(())

@@ -1,5 +1,6 @@
 pub mod Conjoined
 pub mod Drafted
+pub mod Puts
 pub mod Space
 pub mod View
 pub mod Whole

@@ -10,6 +10,7 @@ ghost use Rattle.std.specs.Str.Lossy.{utf8_lossy};
 ghost use Rattle.alta_machine.specs.Explained as spec;
 ghost use Rattle.alta_machine.specs.Explained.{explained, explained_each, tests_text, test_text, term_text, range_text, deeper};
 ghost use Rattle.alta_machine.specs.Plans.{trees_of, found, all_of, any_of, without};
+ghost use Rattle.alta_compile.specs.Puts.{PutsBehind};
 ghost use Rattle.alta_compile.specs.View.{tree};
 
 use crate::plan::{FoundPlan, Plan};
@@ -48,8 +49,7 @@ fn text_of(alloc: Global, bytes: Vec<u8>) -> Result<String, AllocError>
 /// The lines of a node and of all below it, behind the margin.
 #[cycle(explaining)]
 fn put_plan(out: &mut Vec<u8>, margin: &mut Vec<u8>, plan: &Plan) -> Result<(), AllocError>
-    ensures lines { OnOk result (out.new.items ≡ out.old.items ++ explained margin.old.items (tree plan.now)) }
-    ensures margin { OnOk result (margin.new.items ≡ margin.old.items) }
+    ensures { OnOk result (PutsBehind margin.old.items margin.new.items (explained margin.old.items (tree plan.now)) out.old.items out.new.items) }
 {
     match plan {
         Plan::Found(found) => put_found(out, margin, found),
@@ -62,8 +62,7 @@ fn put_plan(out: &mut Vec<u8>, margin: &mut Vec<u8>, plan: &Plan) -> Result<(), 
 /// The lines of an AllOf.
 #[cycle(explaining)]
 fn put_all(out: &mut Vec<u8>, margin: &mut Vec<u8>, parts: &[Plan]) -> Result<(), AllocError>
-    ensures lines { OnOk result (out.new.items ≡ out.old.items ++ explained margin.old.items (all_of (trees_of (map tree parts.now)))) }
-    ensures margin { OnOk result (margin.new.items ≡ margin.old.items) }
+    ensures { OnOk result (PutsBehind margin.old.items margin.new.items (explained margin.old.items (all_of (trees_of (map tree parts.now)))) out.old.items out.new.items) }
 {
     put_head(out, margin, b"all ", parts.len())?;
     put_parts(out, margin, parts)?;
@@ -73,8 +72,7 @@ fn put_all(out: &mut Vec<u8>, margin: &mut Vec<u8>, parts: &[Plan]) -> Result<()
 /// The lines of an AnyOf.
 #[cycle(explaining)]
 fn put_any(out: &mut Vec<u8>, margin: &mut Vec<u8>, parts: &[Plan]) -> Result<(), AllocError>
-    ensures lines { OnOk result (out.new.items ≡ out.old.items ++ explained margin.old.items (any_of (trees_of (map tree parts.now)))) }
-    ensures margin { OnOk result (margin.new.items ≡ margin.old.items) }
+    ensures { OnOk result (PutsBehind margin.old.items margin.new.items (explained margin.old.items (any_of (trees_of (map tree parts.now)))) out.old.items out.new.items) }
 {
     put_head(out, margin, b"any ", parts.len())?;
     put_parts(out, margin, parts)?;
@@ -84,8 +82,7 @@ fn put_any(out: &mut Vec<u8>, margin: &mut Vec<u8>, parts: &[Plan]) -> Result<()
 /// The lines of a Without.
 #[cycle(explaining)]
 fn put_not(out: &mut Vec<u8>, margin: &mut Vec<u8>, part: &Plan) -> Result<(), AllocError>
-    ensures lines { OnOk result (out.new.items ≡ out.old.items ++ explained margin.old.items (without (tree part.now))) }
-    ensures margin { OnOk result (margin.new.items ≡ margin.old.items) }
+    ensures { OnOk result (PutsBehind margin.old.items margin.new.items (explained margin.old.items (without (tree part.now))) out.old.items out.new.items) }
 {
     out.extend_from_slice(margin)?;
     out.extend_from_slice(b"not\n")?;
@@ -98,8 +95,7 @@ fn put_not(out: &mut Vec<u8>, margin: &mut Vec<u8>, part: &Plan) -> Result<(), A
 /// The lines of the parts of a node, one level deeper.
 #[cycle(explaining)]
 fn put_parts(out: &mut Vec<u8>, margin: &mut Vec<u8>, parts: &[Plan]) -> Result<(), AllocError>
-    ensures lines { OnOk result (out.new.items ≡ out.old.items ++ explained_each (deeper margin.old.items) (trees_of (map tree parts.now))) }
-    ensures margin { OnOk result (margin.new.items ≡ margin.old.items) }
+    ensures { OnOk result (PutsBehind margin.old.items margin.new.items (explained_each (deeper margin.old.items) (trees_of (map tree parts.now))) out.old.items out.new.items) }
 {
     margin.extend_from_slice(b"  ")?;
     for part in parts {
@@ -137,7 +133,7 @@ fn put_found(out: &mut Vec<u8>, margin: &[u8], plan: &FoundPlan) -> Result<(), A
     out.extend_from_slice(b"found D")?;
     put_tests(out, plan.tests().as_slice())?;
     out.extend_from_slice(b"\n")?;
-    put_bounds(out, margin, plan.system().bounds())
+    put_bounds(out, margin, plan.system())
 }
 
 /// The tests of a Found, each behind a space.

@@ -2,7 +2,7 @@
 // The readers stand in their own vector as a binary heap by place, so a move puts them into another order, and its clauses say them
 // up to order; `all` is the sorted gathering of their elements for the same reason. The element before the union's place is kept
 // beside it.
-ghost use Rattle.std.specs.Prelude.{◌≡◌, ◌⊎◌, ℕ, ◌+◌, ◌<◌, ◌≤◌, map, length, slice_index_or, All, sum_by};
+ghost use Rattle.std.specs.Prelude.{◌≡◌, ◌+◌, ◌<◌, ◌≤◌, map, slice_index_or, All, sum_by};
 ghost use Rattle.std.specs.List.Sorted.{IsPermutation};
 ghost use Rattle.alta_codec.specs.Rising.{first_from, pred_of};
 ghost use Rattle.alta_codec.specs.declared.location.TheConstants.{TOP};
@@ -13,6 +13,7 @@ ghost use Rattle.alta_compound.specs.Moves.{MovesThoseBefore, cost_before};
 ghost use Rattle.alta_compound.specs.OverReaders.{union_of-rises, in_step_place, gathered-members, gathered-left};
 ghost use Rattle.alta_compound.specs.Readers.{readers_of};
 ghost use Rattle.alta_compound.specs.Union.{union_of, IsInStep};
+ghost use Rattle.alta_reader.specs.Moves.{MoveOn};
 
 use crate::heap::{build, least_place, move_first};
 use alta_codec::{Loc, Steps, TOP};
@@ -31,12 +32,9 @@ fn seek_before<R: BackReader, L: Ledger>(
     requires heap { IsHeapFrom 0 (map R.location readers.old) }
     requires above { at < to }
     requires top { to ≤ TOP }
-    ensures sound { All R.sound readers.new }
+    ensures moves { MoveOn R.sound R.left (MovesThoseBefore R.list R.all R.location to) readers.old readers.new steps.old steps.new }
     ensures heap { IsHeapFrom 0 (map R.location readers.new) }
-    ensures moved { MovesThoseBefore R.list R.all R.location to readers.old readers.new }
     ensures last { result ≡ pred_of (union_of (map R.list readers.old)) to }
-    ensures falls { sum_by R.left readers.new < sum_by R.left readers.old }
-    ensures steps { steps.new + sum_by R.left readers.new ≤ steps.old + sum_by R.left readers.old }
     ensures spent { steps.new ≤ steps.old + sum_by (cost_before R.cost R.location to) readers.old }
 {
     let mut last = at;
@@ -75,14 +73,11 @@ fn go<R: BackReader, L: Ledger>(
     requires heap { IsHeapFrom 0 (map R.location readers.old) }
     requires above { at < to }
     requires top { to ≤ TOP }
-    ensures sound { All R.sound readers.new }
+    ensures moves { MoveOn R.sound R.left (MovesThoseBefore R.list R.all R.location to) readers.old readers.new steps.old steps.new }
     ensures union { IsUnion R.list R.location readers.new result.0 result.1 }
     ensures list { union_of (map R.list readers.new) ≡ union_of (map R.list readers.old) }
     ensures all { gathered (map R.all readers.new) ≡ gathered (map R.all readers.old) }
     ensures place { result.0 ≡ first_from (union_of (map R.list readers.old)) to }
-    ensures moved { MovesThoseBefore R.list R.all R.location to readers.old readers.new }
-    ensures falls { sum_by R.left readers.new < sum_by R.left readers.old }
-    ensures steps { steps.new + sum_by R.left readers.new ≤ steps.old + sum_by R.left readers.old }
     ensures spent { steps.new ≤ steps.old + sum_by (cost_before R.cost R.location to) readers.old }
     ensures cost { steps.new ≤ steps.old + sum_by R.cost readers.old }
 {

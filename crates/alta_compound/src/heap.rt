@@ -6,6 +6,7 @@ ghost use Rattle.alta_codec.specs.declared.location.TheConstants.{TOP};
 ghost use Rattle.alta_compound.specs.Heap.{IsChild, IsHeapFrom};
 ghost use Rattle.alta_compound.specs.Moves.{MovesFirst, cost_before};
 ghost use Rattle.alta_compound.specs.Union.{least_of};
+ghost use Rattle.alta_reader.specs.Moves.{MoveOn};
 
 use alta_codec::{Loc, Steps, TOP};
 use alta_reader::BackReader;
@@ -85,12 +86,9 @@ pub(crate) fn move_first<R: BackReader, L: Ledger>(
     requires some { 0 < length readers.old }
     requires before { slice_index (map R.location readers.old) 0 < to }
     requires top { to ≤ TOP }
-    ensures sound { All R.sound readers.new }
+    ensures moves { MoveOn R.sound R.left (MovesFirst R.list R.all R.location to) readers.old readers.new steps.old steps.new }
     ensures heap { IsHeapFrom 0 (map R.location readers.new) }
-    ensures moved { MovesFirst R.list R.all R.location to readers.old readers.new }
     ensures last { result ≡ pred_of (slice_index_or (map R.list readers.old) 0 []) to }
-    ensures falls { sum_by R.left readers.new < sum_by R.left readers.old }
-    ensures steps { steps.new + sum_by R.left readers.new ≤ steps.old + sum_by R.left readers.old }
     ensures cost { steps.new + sum_by (cost_before R.cost R.location to) readers.new ≤ steps.old + sum_by (cost_before R.cost R.location to) readers.old }
 {
     readers[0].seek(to, steps);

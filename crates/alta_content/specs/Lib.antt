@@ -1,4 +1,5 @@
 pub mod Cells
+pub mod Ends
 pub mod Fronts
 pub mod Joining
 pub mod Laws

@@ -7,6 +7,7 @@ ghost use Rattle.alta_content.specs.All.{shared_rows, rows_of_levels};
 use crate::walk::RowWalk;
 use crate::{DocRow, LevelRows};
 use std::alloc::{AllocError, Global};
+use std::convert::AsSlice;
 use std::marker::Model;
 use std::rc::Rc;
 

@@ -5,6 +5,7 @@
 ghost use Rattle.std.specs.Prelude.{◌≡◌, ◌<◌, ◌↔◌, [], map, length, IsTrue, IfOk};
 ghost use Rattle.alta_codec.specs.Rising.{IsRising};
 ghost use Rattle.alta_codec.specs.declared.location.TheConstants.{TOP};
+ghost use Rattle.alta_content.specs.Ends.{ShowsRising};
 ghost use Rattle.alta_content.specs.Rows.{AreJoined, end_of};
 ghost use Rattle.alta_content.specs.Runs.{AreRunsOf};
 
@@ -12,6 +13,7 @@ use crate::document::DocRow;
 use crate::runs::{Runs, runs_of};
 use alta_codec::Loc;
 use std::alloc::{AllocError, Global};
+use std::convert::AsSlice;
 use std::marker::Model;
 use std::rc::Rc;
 
@@ -130,13 +132,6 @@ impl LevelRows {
         self.rows.is_empty()
     }
 
-    /// The rows, borrowed.
-    pub fn as_slice(&self) -> &[DocRow]
-        ensures { result.now ≡ self.now }
-    {
-        &self.rows
-    }
-
     /// Whether each document is known to begin right behind the end of the one before.
     pub fn is_joined(&self) -> bool
         ensures { IsTrue result → AreJoined self.now }
@@ -153,9 +148,17 @@ impl LevelRows {
 
     /// The ends of the documents.
     pub fn ends(&self) -> &[Loc]
-        ensures value { result.now ≡ map end_of self.now }
-        ensures rising { IsRising result.now }
+        ensures { ShowsRising (map end_of self.now) result.now }
     {
         &self.ends
+    }
+}
+
+impl AsSlice<DocRow> for LevelRows {
+    ghost items = { λ rows. rows };
+
+    /// The rows, borrowed.
+    fn as_slice(&self) -> &[DocRow] {
+        &self.rows
     }
 }

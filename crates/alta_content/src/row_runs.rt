@@ -1,14 +1,18 @@
 // Rows to which rows are added, in runs of which the full ones are shared.
 // So a search copies no more than the last run. A flush copies all rows, since snapshots may share them. Smaller runs would copy
 // less, and be more of them to pass over.
-ghost use Rattle.std.specs.Prelude.{◌≡◌, ◌<◌, ◌∷◌, ◌++◌, [], map, length, slice_get, Some, IfOk, OnOk, OnErr};
+ghost use Rattle.std.specs.Prelude.{◌≡◌, ◌<◌, ◌∷◌, ◌++◌, [], map, length, slice_get, Some, IfOk, OnOk};
 ghost use Rattle.alta_codec.specs.Rising.{IsRising};
+ghost use Rattle.alta_codec.specs.Lists.{Pushes};
 ghost use Rattle.alta_content.specs.Rows.{end_of, ends_of};
 ghost use Rattle.alta_content.specs.All.{shared_rows, rows_of_levels};
 
 use crate::all::row_in;
 use crate::{DocRow, LevelRows, ends_of, runs_of};
+use alta_codec::Len;
 use std::alloc::{AllocError, Global};
+use std::convert::AsSlice;
+use std::default::MadeWith;
 use std::marker::Model;
 use std::mem;
 use std::rc::Rc;
@@ -39,23 +43,36 @@ impl Model for RowRuns {
     ghost invariant = { λ r. IsRising (ends_of (rows_of_levels (map shared_rows r.full.items) ++ r.last.items)) };
 }
 
-impl RowRuns {
+impl MadeWith<Global> for RowRuns {
+    ghost is_made_with = { λ rows. rows ≡ [] };
+
     /// No rows. What they take in memory comes from the allocator.
-    pub fn new(alloc: Global) -> RowRuns
-        ensures { result ≡ [] }
-    {
+    fn made_with(alloc: Global) -> RowRuns {
         RowRuns {
             full: Vec::new(alloc),
             last: Vec::new(alloc),
             alloc,
         }
     }
+}
 
+impl Len for RowRuns {
+    ghost len_of = { length };
+
+    fn len(&self) -> usize {
+        let mut count = self.last.len();
+        for run in self.full.as_slice() {
+            count += run.len();
+        }
+        count
+    }
+}
+
+impl RowRuns {
     /// Adds a row at the end. Where memory is wanting, the rows stay as they were.
     pub fn push(&mut self, row: DocRow) -> Result<(), AllocError>
         requires { IsRising (ends_of (self.old ++ row ∷ [])) }
-        ensures pushed { OnOk result (self.new ≡ self.old ++ row ∷ []) }
-        ensures kept { OnErr result (self.new ≡ self.old) }
+        ensures { Pushes row self.old self.new result }
     {
         if self.last.len() >= RUN {
             self.close_run()?;
@@ -84,17 +101,6 @@ impl RowRuns {
                 Err(AllocError)
             }
         }
-    }
-
-    /// How many rows there are.
-    pub fn len(&self) -> usize
-        ensures { result ≡ length self.now }
-    {
-        let mut count = self.last.len();
-        for run in self.full.as_slice() {
-            count += run.len();
-        }
-        count
     }
 
     /// The row at an index.

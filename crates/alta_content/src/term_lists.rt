@@ -1,10 +1,12 @@
 // The terms of a content with their locations, packed.
-ghost use Rattle.std.specs.Prelude.{◌≡◌, ◌<◌, ◌∷◌, ◌++◌, [], drop, length, MatchOption, OnOk, OnErr};
+ghost use Rattle.std.specs.Prelude.{◌≡◌, ◌<◌, ◌++◌, [], drop, length, MatchOption, OnOk};
+ghost use Rattle.alta_codec.specs.Lists.{Pushes};
 ghost use Rattle.alta_content.specs.Fronts.{front_locations, front_term};
 
 use crate::packing::{put_gaps, put_locations_at, put_row, row_at, term_at};
-use alta_codec::Loc;
+use alta_codec::{Len, Loc};
 use std::alloc::{AllocError, Global};
+use std::default::MadeWith;
 use std::marker::Model;
 
 /// Terms with their locations, which are put at the end and read from the front. They are held packed: of each term its bytes and
@@ -36,11 +38,11 @@ impl Model for TermLists {
         × (a.row ≤ length a.rows.items) × (a.gap ≤ length a.gaps.items) };
 }
 
-impl TermLists {
+impl MadeWith<Global> for TermLists {
+    ghost is_made_with = { λ lists. lists ≡ [] };
+
     /// No terms.
-    pub fn new(alloc: Global) -> TermLists
-        ensures { result ≡ [] }
-    {
+    fn made_with(alloc: Global) -> TermLists {
         TermLists {
             count: 0,
             rows: Vec::new(alloc),
@@ -49,11 +51,20 @@ impl TermLists {
             gap: 0,
         }
     }
+}
 
+impl Len for TermLists {
+    ghost len_of = { length };
+
+    fn len(&self) -> usize {
+        self.count
+    }
+}
+
+impl TermLists {
     /// Adds a term with its locations at the end. Where memory is wanting the lists stay.
     pub fn put(&mut self, term: &[u8], locations: &[Loc]) -> Result<(), AllocError>
-        ensures put { OnOk result (self.new ≡ self.old ++ (record { term = term.now; locations = locations.now }) ∷ []) }
-        ensures kept { OnErr result (self.new ≡ self.old) }
+        ensures { Pushes (record { term = term.now; locations = locations.now }) self.old self.new result }
     {
         let gaps = self.gaps.len();
         put_gaps(&mut self.gaps, locations)?;
@@ -64,13 +75,6 @@ impl TermLists {
         }
         self.count += 1;
         Ok(())
-    }
-
-    /// How many terms there are.
-    pub fn len(&self) -> usize
-        ensures { result ≡ length self.now }
-    {
-        self.count
     }
 
     /// The first term, None where there is none.

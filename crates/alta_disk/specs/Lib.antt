@@ -2,7 +2,6 @@ pub mod Calls
 pub mod Disk
 pub mod Fuse
 pub mod Images
-pub mod InOrder
 pub mod Media
 pub mod MediaLaws
 pub mod Memory

@@ -1,8 +1,9 @@
 -- What a disk in memory is at one moment, and what its calls do to it.
 use Rattle.std.specs.Prelude.{◌≡◌, ◌⊎◌, ◌↔◌, ℕ, ◌+◌, ◌-◌, ◌^◌, min, Bool, ◌==◌, List, length, Result, IsErr, OnOk, OnErr, IsTrue}
 use Rattle.std.specs.List.{list_any}
-use Rattle.alta_codec.specs.Faults.{Rose}
-use Rattle.alta_disk.specs.Disk.{DiskState, IsLawful}
+use Rattle.alta_codec.specs.Faults.{Rose, CountsErrors}
+use Rattle.alta_disk.specs.Calls.{Charges}
+use Rattle.alta_disk.specs.Disk.{DiskState, Passes, IsLawful}
 use Rattle.alta_disk.specs.Media.{Media, start, after, state_of}
 use Rattle.alta_disk.specs.MediaLaws.{media_lawful}
 use Rattle.alta_disk.specs.Images.{Pends, Tears, Firms, Stays}
@@ -38,6 +39,12 @@ Counts old new = (new.calls ≡ next_call old) × (new.fail.items ≡ old.fail.i
 pub record LacksMemory (old new : MemoryDisk) : Type 0 where
   pub stays : Stays (media_of old) (media_of new)
   pub counted : Rose old.unrecorded new.unrecorded
+
+-- each image goes by a step, and exactly the errors are counted
+pub record IsMemoryCall {T E : Type 0} (bytes : ℕ) (step : List ℕ → List ℕ → Type 0) (old new : MemoryDisk) (result : Result T E) : Type 0 where
+  pub images : Passes step (memory_state old) (memory_state new)
+  pub charges : Charges bytes (memory_state old) (memory_state new) result
+  pub faults : CountsErrors (memory_state old).faults (memory_state new).faults result
 
 -- exactly what a read or a question for the length leaves
 pub record IsMemoryRead {T E : Type 0} (old new : MemoryDisk) (result : Result T E) : Type 0 where

@@ -1,6 +1,6 @@
 // A disk with one content, whose written bytes may be torn by a stop until they are synced.
 ghost use Rattle.std.specs.Prelude.{◌≡◌, ◌+◌, ◌≤◌, length, take, drop, IfOk, OnOk, OnErr};
-ghost use Rattle.alta_codec.specs.Faults.{HasCause};
+ghost use Rattle.alta_disk.specs.Calls.{Charges};
 ghost use Rattle.alta_disk.specs.Disk.{DiskState, Holds, Torn, Same, Only, Passes, IsLawful};
 
 use alta_codec::Failed;
@@ -24,9 +24,7 @@ pub trait Disk {
         ensures within { IfOk result (λ n. n ≤ (state self.old).limit) }
         ensures content { tells → (state self.new).content ≡ (state self.old).content }
         ensures images { Passes Same (state self.old) (state self.new) }
-        ensures cause { HasCause (state self.old).faults (state self.new).faults result }
-        ensures taken { (state self.new).taken ≡ (state self.old).taken }
-        ensures limit { (state self.new).limit ≡ (state self.old).limit };
+        ensures charges { Charges 0 (state self.old) (state self.new) result };
 
     /// Fills `buf` with the content from byte `at` on. The range lies inside the content. After `Err` the bytes of
     /// `buf` are unknown. Done or failed, the count of bytes taken rises by at most the length of `buf`.
@@ -35,9 +33,7 @@ pub trait Disk {
         ensures bytes { tells → OnOk result (buf.new ≡ take (length buf.old) (drop at (state self.old).content)) }
         ensures content { tells → (state self.new).content ≡ (state self.old).content }
         ensures images { Passes Same (state self.old) (state self.new) }
-        ensures cause { HasCause (state self.old).faults (state self.new).faults result }
-        ensures taken { ((state self.old).taken ≤ (state self.new).taken) × ((state self.new).taken ≤ (state self.old).taken + length buf.old) }
-        ensures limit { (state self.new).limit ≡ (state self.old).limit };
+        ensures charges { Charges (length buf.old) (state self.old) (state self.new) result };
 
     /// Writes over what is there from byte `at` on, and past the end. Until a sync, a stop may leave any bytes in
     /// the range. After `Err` the content itself may hold any bytes there.
@@ -47,9 +43,7 @@ pub trait Disk {
         ensures written { tells → OnOk result (Holds (state self.old).content at bytes.now (state self.new).content) }
         ensures torn { tells → OnErr result (Torn at (length bytes.now) (state self.old).content (state self.new).content) }
         ensures images { Passes (Torn at (length bytes.now)) (state self.old) (state self.new) }
-        ensures cause { HasCause (state self.old).faults (state self.new).faults result }
-        ensures taken { (state self.new).taken ≡ (state self.old).taken }
-        ensures limit { (state self.new).limit ≡ (state self.old).limit };
+        ensures charges { Charges 0 (state self.old) (state self.new) result };
 
     /// After `Ok` nothing is pending: a stop leaves what a read gives. After `Err` a stop may leave what it might
     /// have left before, and nothing else.
@@ -57,9 +51,7 @@ pub trait Disk {
         ensures durable { OnOk result (Only (state self.old).content (state self.new).images) }
         ensures content { tells → (state self.new).content ≡ (state self.old).content }
         ensures images { Passes Same (state self.old) (state self.new) }
-        ensures cause { HasCause (state self.old).faults (state self.new).faults result }
-        ensures taken { (state self.new).taken ≡ (state self.old).taken }
-        ensures limit { (state self.new).limit ≡ (state self.old).limit };
+        ensures charges { Charges 0 (state self.old) (state self.new) result };
 
     /// The length in bytes that the content never passes. It never changes, and every disk knows it.
     fn limit(&self) -> u64

@@ -3,7 +3,8 @@
 // its sync; where that sync fails the call does, and it is tried again at the next one. `fdatasync` is enough for a sync, as it
 // writes the length too. Behind the first one each call is one `statx`, `pread64`, `pwrite64` or `fdatasync`.
 ghost use Rattle.std.specs.Prelude.{◌≡◌, ◌≤◌, ◌+◌, ◌-◌, ◌^◌, min, length, IfOk, OnOk};
-ghost use Rattle.alta_codec.specs.Faults.{Rose, HasCause};
+ghost use Rattle.alta_codec.specs.Faults.{Rose};
+ghost use Rattle.alta_disk.specs.Calls.{Charges};
 ghost use Rattle.alta_disk.specs.Disk.{Same, Passes};
 ghost use Rattle.alta_disk.specs.Untold.{untold, untold_lawful};
 
@@ -27,33 +28,21 @@ const FILE_LIMIT: u64 = 1 << 40;
 /// every call fails.
 #[derive(Drop)]
 pub struct FileDisk<R: Files<File = File> + Drop> {
-    rt: R,
-    path: Option<Text>,
-    file: Option<File>,
+    file: LazyFile<R>,
     faults: u64,
     taken: u64,
 }
 
-impl<R: Files<File = File> + Drop> FileDisk<R> {
-    /// A disk over the file at this path. Nothing is opened yet.
-    pub fn new(rt: R, path: Option<Text>) -> FileDisk<R>
-        ensures faults { (⟦<FileDisk<R> as Disk>⟧.state result).faults ≡ 0 }
-        ensures taken { (⟦<FileDisk<R> as Disk>⟧.state result).taken ≡ 0 }
-    {
-        FileDisk {
-            rt,
-            path,
-            file: None,
-            faults: 0,
-            taken: 0,
-        }
-    }
+// A file that the first call opens.
+#[derive(Drop)]
+struct LazyFile<R: Files<File = File> + Drop> {
+    rt: R,
+    path: Option<Text>,
+    file: Option<File>,
+}
 
-    // The open file, which the first call opens.
-    fn open(&mut self) -> io::Result<()>
-        ensures faults { self.new.faults ≡ self.old.faults }
-        ensures taken { self.new.taken ≡ self.old.taken }
-    {
+impl<R: Files<File = File> + Drop> LazyFile<R> {
+    fn open(&mut self) -> io::Result<()> {
         if self.file.is_some() {
             return Ok(());
         }
@@ -68,49 +57,48 @@ impl<R: Files<File = File> + Drop> FileDisk<R> {
         Ok(())
     }
 
-    fn try_len(&mut self) -> io::Result<u64>
-        ensures within { IfOk result (λ n. n ≤ 2 ^ 40) }
-        ensures faults { self.new.faults ≡ self.old.faults }
-        ensures taken { self.new.taken ≡ self.old.taken }
-    {
+    fn opened(&mut self) -> io::Result<&File> {
         self.open()?;
-        let Some(file) = &self.file else {
-            return Err(ErrorKind::NotFound.into());
-        };
-        length_within(file)
+        match &self.file {
+            Some(file) => Ok(file),
+            None => Err(ErrorKind::NotFound.into()),
+        }
     }
 
-    fn try_read(&mut self, at: u64, buf: &mut [u8]) -> io::Result<()>
-        ensures faults { self.new.faults ≡ self.old.faults }
-        ensures taken { self.new.taken ≡ self.old.taken }
+    fn len(&mut self) -> io::Result<u64>
+        ensures { IfOk result (λ n. n ≤ 2 ^ 40) }
     {
-        self.open()?;
-        let Some(file) = &self.file else {
-            return Err(ErrorKind::NotFound.into());
-        };
-        file.read_exact_at(buf, at)
+        length_within(self.opened()?)
     }
 
-    fn try_write(&mut self, at: u64, bytes: &[u8]) -> io::Result<()>
-        ensures faults { self.new.faults ≡ self.old.faults }
-        ensures taken { self.new.taken ≡ self.old.taken }
-    {
-        self.open()?;
-        let Some(file) = &self.file else {
-            return Err(ErrorKind::NotFound.into());
-        };
-        file.write_all_at(bytes, at)
+    fn read(&mut self, at: u64, buf: &mut [u8]) -> io::Result<()> {
+        self.opened()?.read_exact_at(buf, at)
     }
 
-    fn try_sync(&mut self) -> io::Result<()>
-        ensures faults { self.new.faults ≡ self.old.faults }
-        ensures taken { self.new.taken ≡ self.old.taken }
+    fn write(&mut self, at: u64, bytes: &[u8]) -> io::Result<()> {
+        self.opened()?.write_all_at(bytes, at)
+    }
+
+    fn sync(&mut self) -> io::Result<()> {
+        self.opened()?.sync_data()
+    }
+}
+
+impl<R: Files<File = File> + Drop> FileDisk<R> {
+    /// A disk over the file at this path. Nothing is opened yet.
+    pub fn new(rt: R, path: Option<Text>) -> FileDisk<R>
+        ensures faults { (⟦<FileDisk<R> as Disk>⟧.state result).faults ≡ 0 }
+        ensures taken { (⟦<FileDisk<R> as Disk>⟧.state result).taken ≡ 0 }
     {
-        self.open()?;
-        let Some(file) = &self.file else {
-            return Err(ErrorKind::NotFound.into());
-        };
-        file.sync_data()
+        FileDisk {
+            file: LazyFile {
+                rt,
+                path,
+                file: None,
+            },
+            faults: 0,
+            taken: 0,
+        }
     }
 
     fn count_fault(&mut self) -> Failed
@@ -160,7 +148,7 @@ impl<R: Files<File = File> + Drop> Disk for FileDisk<R> {
     ghost lawful = { λ d. untold_lawful d.faults d.taken (2 ^ 40) };
 
     fn len(&mut self) -> Result<u64, Failed> {
-        match self.try_len() {
+        match self.file.len() {
             Ok(n) => Ok(n),
             Err(_) => Err(self.count_fault()),
         }
@@ -168,11 +156,9 @@ impl<R: Files<File = File> + Drop> Disk for FileDisk<R> {
 
     fn read(&mut self, at: u64, buf: &mut [u8]) -> Result<(), Failed>
         ensures counted { OnOk result ((⟦<FileDisk<R> as Disk>⟧.state self.new).taken ≡ min ((⟦<FileDisk<R> as Disk>⟧.state self.old).taken + length buf.old) (2 ^ 64 - 1)) }
-        ensures cause { HasCause (⟦<FileDisk<R> as Disk>⟧.state self.old).faults (⟦<FileDisk<R> as Disk>⟧.state self.new).faults result }
-        ensures taken { ((⟦<FileDisk<R> as Disk>⟧.state self.old).taken ≤ (⟦<FileDisk<R> as Disk>⟧.state self.new).taken)
-            × ((⟦<FileDisk<R> as Disk>⟧.state self.new).taken ≤ (⟦<FileDisk<R> as Disk>⟧.state self.old).taken + length buf.old) }
+        ensures charges { Charges (length buf.old) (⟦<FileDisk<R> as Disk>⟧.state self.old) (⟦<FileDisk<R> as Disk>⟧.state self.new) result }
     {
-        match self.try_read(at, buf) {
+        match self.file.read(at, buf) {
             Ok(()) => {
                 self.taken = self.taken.saturating_add(buf.len() as u64);
                 Ok(())
@@ -182,14 +168,14 @@ impl<R: Files<File = File> + Drop> Disk for FileDisk<R> {
     }
 
     fn write(&mut self, at: u64, bytes: &[u8]) -> Result<(), Failed> {
-        match self.try_write(at, bytes) {
+        match self.file.write(at, bytes) {
             Ok(()) => Ok(()),
             Err(_) => Err(self.count_fault()),
         }
     }
 
     fn sync(&mut self) -> Result<(), Failed> {
-        match self.try_sync() {
+        match self.file.sync() {
             Ok(()) => Ok(()),
             Err(_) => Err(self.count_fault()),
         }

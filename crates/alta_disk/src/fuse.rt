@@ -1,8 +1,7 @@
 // A disk in memory whose calls all fail from some call on, as after a stop.
 ghost use Rattle.std.specs.Prelude.{◌≡◌, ◌+◌, ◌-◌, ◌≤◌, length, take, drop, IfOk, OnOk, OnErr, IsTrue, ◌==◌};
-ghost use Rattle.alta_codec.specs.Faults.{HasCause, CountsErrors};
-ghost use Rattle.alta_disk.specs.Disk.{Holds, Torn, Same, Only, Passes};
-ghost use Rattle.alta_disk.specs.Memory.{memory_state, memory_lawful};
+ghost use Rattle.alta_disk.specs.Disk.{Holds, Torn, Same, Only};
+ghost use Rattle.alta_disk.specs.Memory.{memory_state, memory_lawful, IsMemoryCall};
 
 use crate::{Disk, Failed, MemoryDisk};
 
@@ -58,11 +57,7 @@ impl Disk for FuseDisk {
         ensures exactly { IsFuseRead self.old self.new result }
         ensures length { IfOk result (λ n. n ≡ length (memory_state (fuse_inner self.old)).content) }
         ensures content { (memory_state (fuse_inner self.new)).content ≡ (memory_state (fuse_inner self.old)).content }
-        ensures images { Passes Same (memory_state (fuse_inner self.old)) (memory_state (fuse_inner self.new)) }
-        ensures cause { HasCause (memory_state (fuse_inner self.old)).faults (memory_state (fuse_inner self.new)).faults result }
-        ensures faults { CountsErrors (memory_state (fuse_inner self.old)).faults (memory_state (fuse_inner self.new)).faults result }
-        ensures taken { (memory_state (fuse_inner self.new)).taken ≡ (memory_state (fuse_inner self.old)).taken }
-        ensures limit { (memory_state (fuse_inner self.new)).limit ≡ (memory_state (fuse_inner self.old)).limit }
+        ensures call { IsMemoryCall 0 Same (fuse_inner self.old) (fuse_inner self.new) result }
     {
         if self.is_blown() {
             return Err(self.inner.count_fault());
@@ -75,11 +70,7 @@ impl Disk for FuseDisk {
         ensures exactly { IsFuseRead self.old self.new result }
         ensures bytes { OnOk result (buf.new ≡ take (length buf.old) (drop at (memory_state (fuse_inner self.old)).content)) }
         ensures content { (memory_state (fuse_inner self.new)).content ≡ (memory_state (fuse_inner self.old)).content }
-        ensures images { Passes Same (memory_state (fuse_inner self.old)) (memory_state (fuse_inner self.new)) }
-        ensures cause { HasCause (memory_state (fuse_inner self.old)).faults (memory_state (fuse_inner self.new)).faults result }
-        ensures faults { CountsErrors (memory_state (fuse_inner self.old)).faults (memory_state (fuse_inner self.new)).faults result }
-        ensures taken { ((memory_state (fuse_inner self.old)).taken ≤ (memory_state (fuse_inner self.new)).taken) × ((memory_state (fuse_inner self.new)).taken ≤ (memory_state (fuse_inner self.old)).taken + length buf.old) }
-        ensures limit { (memory_state (fuse_inner self.new)).limit ≡ (memory_state (fuse_inner self.old)).limit }
+        ensures call { IsMemoryCall (length buf.old) Same (fuse_inner self.old) (fuse_inner self.new) result }
     {
         if self.is_blown() {
             return Err(self.inner.count_fault());
@@ -93,11 +84,7 @@ impl Disk for FuseDisk {
         ensures exactly { IsFuseWrite at bytes.now self.old self.new result }
         ensures written { OnOk result (Holds (memory_state (fuse_inner self.old)).content at bytes.now (memory_state (fuse_inner self.new)).content) }
         ensures stays { OnErr result ((memory_state (fuse_inner self.new)).content ≡ (memory_state (fuse_inner self.old)).content) }
-        ensures images { Passes (Torn at (length bytes.now)) (memory_state (fuse_inner self.old)) (memory_state (fuse_inner self.new)) }
-        ensures cause { HasCause (memory_state (fuse_inner self.old)).faults (memory_state (fuse_inner self.new)).faults result }
-        ensures faults { CountsErrors (memory_state (fuse_inner self.old)).faults (memory_state (fuse_inner self.new)).faults result }
-        ensures taken { (memory_state (fuse_inner self.new)).taken ≡ (memory_state (fuse_inner self.old)).taken }
-        ensures limit { (memory_state (fuse_inner self.new)).limit ≡ (memory_state (fuse_inner self.old)).limit }
+        ensures call { IsMemoryCall 0 (Torn at (length bytes.now)) (fuse_inner self.old) (fuse_inner self.new) result }
     {
         if self.is_blown() {
             return Err(self.inner.fail_write(at as usize, bytes.len()));
@@ -109,11 +96,7 @@ impl Disk for FuseDisk {
         ensures exactly { IsFuseSync self.old self.new result }
         ensures durable { OnOk result (Only (memory_state (fuse_inner self.old)).content (memory_state (fuse_inner self.new)).images) }
         ensures content { (memory_state (fuse_inner self.new)).content ≡ (memory_state (fuse_inner self.old)).content }
-        ensures images { Passes Same (memory_state (fuse_inner self.old)) (memory_state (fuse_inner self.new)) }
-        ensures cause { HasCause (memory_state (fuse_inner self.old)).faults (memory_state (fuse_inner self.new)).faults result }
-        ensures faults { CountsErrors (memory_state (fuse_inner self.old)).faults (memory_state (fuse_inner self.new)).faults result }
-        ensures taken { (memory_state (fuse_inner self.new)).taken ≡ (memory_state (fuse_inner self.old)).taken }
-        ensures limit { (memory_state (fuse_inner self.new)).limit ≡ (memory_state (fuse_inner self.old)).limit }
+        ensures call { IsMemoryCall 0 Same (fuse_inner self.old) (fuse_inner self.new) result }
     {
         if self.is_blown() {
             return Err(self.inner.count_fault());

@@ -21,4 +21,4 @@ pub use fuse::FuseDisk;
 pub use laws::images_keep_the_firm_bytes;
 pub use memory::MemoryDisk;
 pub use parts::read_part;
-pub use synced::{write_in_order, write_synced};
+pub use synced::write_synced;

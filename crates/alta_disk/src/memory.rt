@@ -2,7 +2,7 @@
 // It counts the calls that found no memory for their record: without that count no clause could tell a range that was forgotten from
 // want of memory.
 ghost use Rattle.std.specs.Prelude.{◌≡◌, ◌↔◌, ◌⊎◌, ℕ, List, ◌+◌, ◌-◌, ◌^◌, ◌≤◌, min, length, take, drop, IfOk, OnOk, OnErr, IsTrue};
-ghost use Rattle.alta_codec.specs.Faults.{Rose, HasCause, CountsErrors};
+ghost use Rattle.alta_codec.specs.Faults.{Rose};
 ghost use Rattle.alta_disk.specs.Disk.{Holds, Torn, Same, Only, Passes};
 ghost use Rattle.alta_disk.specs.Images.{Tears, IsFilled};
 ghost use Rattle.alta_disk.specs.Media.{Media, start, state_of, content_of};
@@ -125,7 +125,7 @@ impl MemoryDisk {
 }
 
 impl Disk for MemoryDisk {
-    ghost use Rattle.alta_disk.specs.Memory.{memory_state, IsMemoryRead, IsMemoryWrite, IsMemorySync};
+    ghost use Rattle.alta_disk.specs.Memory.{memory_state, IsMemoryCall, IsMemoryRead, IsMemoryWrite, IsMemorySync};
 
     ghost tells = { Unit {0} };
 
@@ -137,11 +137,7 @@ impl Disk for MemoryDisk {
         ensures exactly { IsMemoryRead self.old self.new result }
         ensures length { IfOk result (λ n. n ≡ length (memory_state self.old).content) }
         ensures content { (memory_state self.new).content ≡ (memory_state self.old).content }
-        ensures images { Passes Same (memory_state self.old) (memory_state self.new) }
-        ensures cause { HasCause (memory_state self.old).faults (memory_state self.new).faults result }
-        ensures faults { CountsErrors (memory_state self.old).faults (memory_state self.new).faults result }
-        ensures taken { (memory_state self.new).taken ≡ (memory_state self.old).taken }
-        ensures limit { (memory_state self.new).limit ≡ (memory_state self.old).limit }
+        ensures call { IsMemoryCall 0 Same self.old self.new result }
     {
         if self.fails_now() {
             return Err(self.count_fault());
@@ -155,11 +151,7 @@ impl Disk for MemoryDisk {
         ensures counted { OnOk result ((memory_state self.new).taken ≡ min ((memory_state self.old).taken + length buf.old) (2 ^ 64 - 1)) }
         ensures bytes { OnOk result (buf.new ≡ take (length buf.old) (drop at (memory_state self.old).content)) }
         ensures content { (memory_state self.new).content ≡ (memory_state self.old).content }
-        ensures images { Passes Same (memory_state self.old) (memory_state self.new) }
-        ensures cause { HasCause (memory_state self.old).faults (memory_state self.new).faults result }
-        ensures faults { CountsErrors (memory_state self.old).faults (memory_state self.new).faults result }
-        ensures taken { ((memory_state self.old).taken ≤ (memory_state self.new).taken) × ((memory_state self.new).taken ≤ (memory_state self.old).taken + length buf.old) }
-        ensures limit { (memory_state self.new).limit ≡ (memory_state self.old).limit }
+        ensures call { IsMemoryCall (length buf.old) Same self.old self.new result }
     {
         if self.fails_now() {
             return Err(self.count_fault());
@@ -176,11 +168,7 @@ impl Disk for MemoryDisk {
         ensures exactly { IsMemoryWrite at bytes.now self.old self.new result }
         ensures written { OnOk result (Holds (memory_state self.old).content at bytes.now (memory_state self.new).content) }
         ensures stays { OnErr result ((memory_state self.new).content ≡ (memory_state self.old).content) }
-        ensures images { Passes (Torn at (length bytes.now)) (memory_state self.old) (memory_state self.new) }
-        ensures cause { HasCause (memory_state self.old).faults (memory_state self.new).faults result }
-        ensures faults { CountsErrors (memory_state self.old).faults (memory_state self.new).faults result }
-        ensures taken { (memory_state self.new).taken ≡ (memory_state self.old).taken }
-        ensures limit { (memory_state self.new).limit ≡ (memory_state self.old).limit }
+        ensures call { IsMemoryCall 0 (Torn at (length bytes.now)) self.old self.new result }
     {
         let at = at as usize;
         if self.fails_now() {
@@ -199,11 +187,7 @@ impl Disk for MemoryDisk {
         ensures exactly { IsMemorySync self.old self.new result }
         ensures durable { OnOk result (Only (memory_state self.old).content (memory_state self.new).images) }
         ensures content { (memory_state self.new).content ≡ (memory_state self.old).content }
-        ensures images { Passes Same (memory_state self.old) (memory_state self.new) }
-        ensures cause { HasCause (memory_state self.old).faults (memory_state self.new).faults result }
-        ensures faults { CountsErrors (memory_state self.old).faults (memory_state self.new).faults result }
-        ensures taken { (memory_state self.new).taken ≡ (memory_state self.old).taken }
-        ensures limit { (memory_state self.new).limit ≡ (memory_state self.old).limit }
+        ensures call { IsMemoryCall 0 Same self.old self.new result }
     {
         if self.fails_now() {
             return Err(self.count_fault());

@@ -1,10 +1,8 @@
 // A part of a disk, read by one call.
-ghost use Rattle.std.specs.Prelude.{◌≡◌, ◌+◌, ◌≤◌, length, Err, IfOk, IfErr};
-ghost use Rattle.alta_codec.specs.Faults.{Rose};
+ghost use Rattle.std.specs.Prelude.{◌≡◌, ◌+◌, ◌≤◌, length, IfOk, IfErr};
 ghost use Rattle.alta_disk.specs.Answers.{IfDamaged, IsOutside};
-ghost use Rattle.alta_disk.specs.Calls.{Reads};
+ghost use Rattle.alta_disk.specs.Calls.{Retrieves};
 ghost use Rattle.alta_disk.specs.Parts.{part};
-ghost use Rattle.alta_disk.specs.declared.fault.LoadFault.TheVariants.{Disk as DiskFault};
 
 use crate::disk::Disk;
 use crate::fault::LoadFault;
@@ -27,8 +25,7 @@ pub fn read_part<D: Disk>(
     ensures long { IfOk result (λ v. length v.items ≡ bytes) }
     ensures only { IfErr result IsOutside }
     ensures undamaged { IfDamaged result (λ place. ⊥) }
-    ensures cause { result ≡ Err DiskFault → Rose (D.state disk.old).faults (D.state disk.new).faults }
-    ensures reads { Reads D.tells bytes (D.state disk.old) (D.state disk.new) }
+    ensures retrieves { Retrieves D.tells bytes (D.state disk.old) (D.state disk.new) result }
 {
     let mut part = zeros(alloc, bytes as usize)?;
     disk.read(place, &mut part)?;

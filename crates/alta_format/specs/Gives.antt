@@ -17,3 +17,8 @@ abbrev pub NeverMemory : {X : Type 0} → Result X ReadFault → Type 0
 NeverMemory (Ok x) = Unit {0}
 NeverMemory (Err errors.Memory) = ⊥
 NeverMemory (Err (errors.Broken left)) = Unit {0}
+
+-- it is what reading finds, and took no memory that could be refused
+pub record AlwaysGives {X Y : Type 0} (view : X → Y) (result : Result X ReadFault) (read : Result Y ℕ) : Type 0 where
+  pub gives : Gives view result read
+  pub lean : NeverMemory result

@@ -1,6 +1,6 @@
 ghost use Rattle.std.specs.Prelude.{◌≡◌, ℕ, length, IfOk};
 ghost use Rattle.alta_format.specs.Format.{number_of, text_of, packed, byte, wide};
-ghost use Rattle.alta_format.specs.Gives.{Gives, NeverMemory};
+ghost use Rattle.alta_format.specs.Gives.{AlwaysGives};
 ghost use Rattle.alta_format.specs.declared.field.ReadFault.TheVariants.{Memory};
 
 use alta_codec::get_number;
@@ -33,8 +33,7 @@ impl<T: Drop> From<AllocFailed<T>> for ReadFault {
 /// A number in its shortest spelling, and the bytes behind it.
 #[tactic(auto, unfolding(crate::specs::Format::number_of))]
 pub fn packed_at(bytes: &[u8]) -> Result<(u64, &[u8]), ReadFault>
-    ensures gives { Gives (λ x. (x.0, x.1.now)) result (number_of packed bytes.now) }
-    ensures lean { NeverMemory result }
+    ensures { AlwaysGives (λ x. (x.0, x.1.now)) result (number_of packed bytes.now) }
 {
     match get_number(bytes, 0) {
         Ok((n, next)) => {
@@ -48,8 +47,7 @@ pub fn packed_at(bytes: &[u8]) -> Result<(u64, &[u8]), ReadFault>
 /// One byte, and those behind it.
 #[tactic(auto, unfolding(crate::specs::Format::number_of))]
 pub fn byte_at(bytes: &[u8]) -> Result<(u8, &[u8]), ReadFault>
-    ensures gives { Gives (λ x. (x.0, x.1.now)) result (number_of byte bytes.now) }
-    ensures lean { NeverMemory result }
+    ensures { AlwaysGives (λ x. (x.0, x.1.now)) result (number_of byte bytes.now) }
 {
     match bytes {
         [] => Err(ReadFault::Broken(0)),
@@ -60,8 +58,7 @@ pub fn byte_at(bytes: &[u8]) -> Result<(u8, &[u8]), ReadFault>
 /// Eight bytes as a number, and those behind them.
 #[tactic(auto, unfolding(crate::specs::Format::number_of))]
 pub fn wide_at(bytes: &[u8]) -> Result<(u64, &[u8]), ReadFault>
-    ensures gives { Gives (λ x. (x.0, x.1.now)) result (number_of wide bytes.now) }
-    ensures lean { NeverMemory result }
+    ensures { AlwaysGives (λ x. (x.0, x.1.now)) result (number_of wide bytes.now) }
 {
     if bytes.len() < 8 {
         return Err(ReadFault::Broken(bytes.len()));
@@ -76,8 +73,7 @@ pub fn wide_at(bytes: &[u8]) -> Result<(u64, &[u8]), ReadFault>
 /// That many bytes, and those behind them.
 #[tactic(auto, unfolding(crate::specs::Format::text_of))]
 pub fn text_at(bytes: &[u8], len: usize) -> Result<(&[u8], &[u8]), ReadFault>
-    ensures gives { Gives (λ x. (x.0.now, x.1.now)) result (text_of len bytes.now) }
-    ensures lean { NeverMemory result }
+    ensures reads { AlwaysGives (λ x. (x.0.now, x.1.now)) result (text_of len bytes.now) }
     ensures len { IfOk result (λ x. length x.0.now ≡ len) }
 {
     if bytes.len() < len {

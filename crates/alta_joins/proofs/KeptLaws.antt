@@ -5,6 +5,7 @@ use Rattle.std.specs.List.{All, flat_map}
 use Rattle.std.proofs.lemmas.Grind.{flat_map-append}
 use Rattle.std.proofs.lemmas.List.{map-append}
 use Rattle.std.proofs.lemmas.List.Elements.{All-nil, All-cons, All-head, All-tail, All-map, All-weaker}
+use Rattle.alta_layout.specs.Places.{half_start}
 use Rattle.alta_content.specs.Cells.{with_cells}
 use Rattle.alta_content.specs.Joining.{joined_in}
 use Rattle.alta_content.specs.Parts.{IsPart, MayJoin}
@@ -19,7 +20,7 @@ use Rattle.alta_meaning.specs.Entries.{AllowsAll, after_entry}
 use Rattle.alta_meaning.specs.Holding.{Holding, IsHeld, IsSpaced, IsWell}
 use Rattle.alta_meaning.specs.Known.{Known, replayed}
 use Rattle.alta_meaning.specs.Levels.{Level, document_of}
-use Rattle.alta_meaning.specs.Opened.{Opened, IsNamed, bytes_at, journal_of}
+use Rattle.alta_meaning.specs.Opened.{Opened, IsNamed, bytes_at}
 use Rattle.alta_meaning.specs.Ordered.{RowsPrecede}
 use Rattle.alta_meaning.specs.Standing.{AreLevels, view_of}
 use Rattle.alta_meaning.specs.Views.{View, rooted}
@@ -164,7 +165,7 @@ module _ (o : Opened) (levels : List Level) (image : List ℕ) (sound : IsSound 
   opened_room =
       let known = rooted_known o levels are.tables in
       added_room (rooted (view_of o levels)) o.root.next_location o.entries (omega (arith, sound.number.1))
-      (allows_replayed (rooted (view_of o levels)) (journal_of o.slot) o.entries named.known (subst (λ (k : Known). replayed k (placed (journal_of o.slot) o.entries) ≡ Ok named.known) known named.admitted)).0
+      (allows_replayed (rooted (view_of o levels)) (half_start o.slot) o.entries named.known (subst (λ (k : Known). replayed k (placed (half_start o.slot) o.entries) ≡ Ok named.known) known named.admitted)).0
 
   pub opened_added : AreAdded o.root.next_number o.root.next_location (newest (view_of o levels))
   opened_added = record {

@@ -3,6 +3,7 @@ use Rattle.std.proofs.Common.{◌≡◌, ℕ, ◌+◌, ◌≤◌, List, [], ◌�
 use Rattle.std.specs.List.{All}
 use Rattle.std.proofs.lemmas.List.{length-take}
 use Rattle.std.proofs.lemmas.List.Elements.{All-nil, All-cons, All-head, All-tail}
+use Rattle.alta_layout.specs.declared.slot.Slot.{Slot}
 use Rattle.alta_codec.proofs.ByteLaws.{AreBytes-drop, AreBytes-take}
 use Rattle.alta_codec.specs.Bytes.{AreBytes}
 use Rattle.alta_codec.specs.declared.extent.Extent.{Extent}
@@ -15,7 +16,6 @@ use Rattle.alta_joins.specs.Contents.{AreContentsOf, AreSegmentsOn, StandsOn, le
 use Rattle.alta_level.specs.Segments.{IsSegment}
 use Rattle.alta_root.specs.Root.{AreExtents}
 use Rattle.alta_root.specs.declared.root.Root.{Root}
-use Rattle.alta_root.specs.declared.slot.Slot.{Slot}
 use Rattle.alta_root.proofs.Frames.{counts_sound}
 use Rattle.alta_table.specs.Tables.{AreTables, Tables}
 use Rattle.alta_table.proofs.FrontLaws.{whole_has_parts}

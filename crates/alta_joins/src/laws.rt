@@ -1,5 +1,6 @@
 // Laws of levels that are read, and of their joins. The functions have nothing to run: their contracts are the laws.
 ghost use Rattle.std.specs.Prelude.{◌≡◌, ℕ, ◌+◌, ◌<◌, ◌≤◌, List, [], ◌∷◌, ◌++◌, All, Some, length, map, take};
+ghost use Rattle.alta_layout.specs.declared.slot.Slot.{Slot};
 ghost use Rattle.alta_codec.specs.Bytes.{AreBytes};
 ghost use Rattle.alta_content.specs.Joining.{joined_in, terms_in, rows_in};
 ghost use Rattle.alta_content.specs.Lists.{IsContent};
@@ -23,7 +24,6 @@ ghost use Rattle.alta_memlevel.specs.Added.{Added, HasContent, IsSpace, live_of}
 ghost use Rattle.alta_memlevel.specs.Documents.{AreAdded, IsBefore, content_of};
 ghost use Rattle.alta_merge.specs.Merging.{Merging};
 ghost use Rattle.alta_root.specs.declared.root.Root.{Root};
-ghost use Rattle.alta_root.specs.declared.slot.Slot.{Slot};
 ghost use Rattle.alta_table.specs.Tables.{Tables};
 
 /// The tables that opening finds stand on the image; with contents that were read they are the levels of what is opened; and where

@@ -2,9 +2,8 @@
 // The tables are not read again, so what is read has the rows that were opened, whatever the disk tells, and levels in order may be
 // joined without another test.
 ghost use Rattle.std.specs.Prelude.{◌≡◌, ◌≢◌, ◌+◌, ◌++◌, ◌∷◌, [], ◌<◌, ◌≤◌, ◌^◌, ℕ, length, Err, IfErr, IfOk};
-ghost use Rattle.alta_codec.specs.Faults.{Rose};
 ghost use Rattle.alta_content.specs.declared.content.Content.{Content};
-ghost use Rattle.alta_disk.specs.Calls.{Reads};
+ghost use Rattle.alta_disk.specs.Calls.{Retrieves};
 ghost use Rattle.alta_disk.specs.Disk.{DiskState};
 ghost use Rattle.alta_meaning.specs.Broken.{IsBrokenIn};
 ghost use Rattle.alta_disk.specs.Answers.{IfDamaged, IsDamaged, IsFound};
@@ -23,6 +22,7 @@ use alta_disk::{Disk, LoadFault, read_part};
 use alta_level::{StoredList, read_list, segments_read_back};
 use alta_table::{LevelFault, OpenLevel};
 use std::alloc::Global;
+use std::default::MadeWith;
 
 /// Reads the content of a level. Its streams and summaries stand one behind the other, and are read by one read of the disk. The
 /// rows are those of the tables that were opened, and are copied. Each list is tested as [`alta_level::read_list`] tests it, and
@@ -48,8 +48,7 @@ pub fn read_level<D: Disk>(
     ensures broken { D.tells → IfDamaged result (IsBrokenIn level.now (D.state disk.old).content) }
     // Whatever the disk tells, what is read keeps the rules of a content, and has these tables.
     ensures kept { IfOk result (IsContentOf level.now) }
-    ensures cause { result ≡ Err DiskFault → Rose (D.state disk.old).faults (D.state disk.new).faults }
-    ensures reads { Reads D.tells (data_bytes level.now.terms) (D.state disk.old) (D.state disk.new) }
+    ensures retrieves { Retrieves D.tells (data_bytes level.now.terms) (D.state disk.old) (D.state disk.new) result }
 {
     segments_read_back();
     let extent = data_extent(level)?;
@@ -117,7 +116,7 @@ fn lists_in(
     ensures first { IfDamaged result (IsFaultInLists level.now.documents level.now.terms bytes.now place) }
     ensures lean { result ≢ Err DiskFault }
 {
-    let mut lists = TermLists::new(alloc);
+    let mut lists = TermLists::made_with(alloc);
     let mut locations = Vec::new(alloc);
     let mut places = Vec::new(alloc);
     let mut rest = bytes;

@@ -1,17 +1,15 @@
 // The contents of several levels.
-ghost use Rattle.std.specs.Prelude.{◌≡◌, All, Err, IfOk};
+ghost use Rattle.std.specs.Prelude.{All, IfOk};
 ghost use Rattle.std.specs.List.{sum_by};
-ghost use Rattle.alta_codec.specs.Faults.{Rose};
 ghost use Rattle.alta_content.specs.Parts.{MayJoin};
 ghost use Rattle.alta_content.specs.Rows.{AreDocuments};
-ghost use Rattle.alta_disk.specs.Calls.{Reads};
+ghost use Rattle.alta_disk.specs.Calls.{Retrieves};
 ghost use Rattle.alta_disk.specs.Disk.{DiskState};
 ghost use Rattle.alta_meaning.specs.Broken.{IsBrokenAmong};
 ghost use Rattle.alta_meaning.specs.Opened.{table_rows};
 ghost use Rattle.alta_disk.specs.Answers.{IfDamaged};
 ghost use Rattle.alta_joins.specs.Contents.{AreContentsOf, StandsOn, data_size};
 ghost use Rattle.alta_joins.specs.Damages.{Tells};
-ghost use Rattle.alta_disk.specs.declared.fault.LoadFault.TheVariants.{Disk as DiskFault};
 
 use crate::level::read_level;
 use alta_content::Content;
@@ -37,8 +35,7 @@ pub fn read_levels<D: Disk>(
     // Whatever the disk tells, what is read keeps the rules of contents, and has these tables.
     ensures kept { IfOk result (λ contents. AreContentsOf levels.now contents.items) }
     ensures joined { AreDocuments (table_rows levels.now) → IfOk result (λ contents. MayJoin contents.items) }
-    ensures cause { result ≡ Err DiskFault → Rose (D.state disk.old).faults (D.state disk.new).faults }
-    ensures reads { Reads D.tells (sum_by data_size levels.now) (D.state disk.old) (D.state disk.new) }
+    ensures retrieves { Retrieves D.tells (sum_by data_size levels.now) (D.state disk.old) (D.state disk.new) result }
 {
     let mut contents = Vec::with_capacity(alloc, levels.len())?;
     for level in levels {

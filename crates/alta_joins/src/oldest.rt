@@ -1,11 +1,10 @@
 // The two oldest levels, whose join begins, and all levels, which are merged.
-ghost use Rattle.std.specs.Prelude.{◌≡◌, ◌≤◌, ◌++◌, ◌∷◌, [], List, All, Err, IfOk, length, take};
+ghost use Rattle.std.specs.Prelude.{◌≡◌, ◌≤◌, ◌++◌, ◌∷◌, [], List, All, IfOk, length, take};
 ghost use Rattle.std.specs.List.{sum_by};
-ghost use Rattle.alta_codec.specs.Faults.{Rose};
 ghost use Rattle.alta_content.specs.Parts.{IsPart};
 ghost use Rattle.alta_content.specs.Rows.{AreDocuments, live_rows};
 ghost use Rattle.alta_content.specs.declared.content.Content.{Content};
-ghost use Rattle.alta_disk.specs.Calls.{Reads};
+ghost use Rattle.alta_disk.specs.Calls.{Retrieves};
 ghost use Rattle.alta_disk.specs.Disk.{DiskState};
 ghost use Rattle.alta_meaning.specs.Broken.{IsBrokenAmong};
 ghost use Rattle.alta_meaning.specs.Opened.{table_rows};
@@ -14,7 +13,6 @@ ghost use Rattle.alta_joins.specs.Contents.{AreContentsOf, AreSegmentsOn, Stands
 ghost use Rattle.alta_joins.specs.Damages.{FindsDamage};
 ghost use Rattle.alta_joins.specs.Jobs.{AreJoinedOn, IsBegun, IsJoining};
 ghost use Rattle.alta_joins.specs.Newest.{IsNewest};
-ghost use Rattle.alta_disk.specs.declared.fault.LoadFault.TheVariants.{Disk as DiskFault};
 ghost use Rattle.alta_memlevel.specs.Added.{Added};
 ghost use Rattle.alta_content.specs.Joining.{joined_in};
 ghost use Rattle.alta_memlevel.specs.Documents.{content_of};
@@ -46,8 +44,7 @@ pub fn begin_oldest<D: Disk>(
     ensures begun { IfOk result (λ job. (joining : IsJoining levels.now gone.now job) × IsBegun joining × (D.tells → AreJoinedOn (D.state disk.old).content joining)) }
     ensures damage { D.tells → FindsDamage (D.state disk.old).content (take 2 levels.now) result }
     ensures broken { D.tells → IfDamaged result (IsBrokenAmong (take 2 levels.now) (D.state disk.old).content) }
-    ensures cause { result ≡ Err DiskFault → Rose (D.state disk.old).faults (D.state disk.new).faults }
-    ensures reads { Reads D.tells (sum_by data_size (take 2 levels.now)) (D.state disk.old) (D.state disk.new) }
+    ensures retrieves { Retrieves D.tells (sum_by data_size (take 2 levels.now)) (D.state disk.old) (D.state disk.new) result }
 {
     let contents = read_levels(alloc, disk, &levels[..2])?;
     Ok(begin_job(alloc, contents, gone)?)
@@ -76,8 +73,7 @@ pub fn merge_levels<D: Disk>(
     ensures rows { IfOk result (λ content. content.documents ≡ live_rows gone.now (table_rows levels.now ++ newest.documents)) }
     ensures damage { D.tells → FindsDamage (D.state disk.old).content levels.now result }
     ensures broken { D.tells → IfDamaged result (IsBrokenAmong levels.now (D.state disk.old).content) }
-    ensures cause { result ≡ Err DiskFault → Rose (D.state disk.old).faults (D.state disk.new).faults }
-    ensures reads { Reads D.tells (sum_by data_size levels.now) (D.state disk.old) (D.state disk.new) }
+    ensures retrieves { Retrieves D.tells (sum_by data_size levels.now) (D.state disk.old) (D.state disk.new) result }
 {
     let mut contents = read_levels(alloc, disk, levels)?;
     contents.push(newest)?;

@@ -1,5 +1,6 @@
 -- What the layers above need of a half, under a root of any version: where its tail lies, and what leaves its entries as they are.
 use Rattle.std.proofs.Common.{◌≡◌, ℕ, ◌+◌, ◌-◌, ◌<◌, ◌≤◌, List, [], ◌∷◌, length, get_or, sym, ◌∙◌, ap, subst, arith}
+use Rattle.alta_layout.specs.declared.places.TheConstants.{GATE_CLOSED, HALF_BYTES, HEAD_BYTES}
 use Rattle.alta_disk.specs.Parts.{part, Clear, Touches}
 use Rattle.alta_disk.specs.Disk.{Holds}
 use Rattle.alta_disk.specs.Writes.{holds_torn}
@@ -8,7 +9,6 @@ use Rattle.alta_journal.specs.Journal.{Begins, EndsAt, Appends}
 use Rattle.alta_journal.specs.Places.{half_at, HasClosedGate}
 use Rattle.alta_journal.specs.Record.{body_of}
 use Rattle.alta_journal.specs.declared.entry.Entry.{Entry}
-use Rattle.alta_journal.specs.declared.places.TheConstants.{GATE_CLOSED, HALF_BYTES, HEAD_BYTES}
 use Rattle.alta_journal.proofs.HalfLaws.{half_stays, half_long, half_byte}
 
 module _ (version : ℕ) where

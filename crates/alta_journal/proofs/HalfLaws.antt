@@ -1,13 +1,14 @@
 -- The bytes of a half as parts of the image.
 use Rattle.std.proofs.Common.{◌≡◌, ℕ, ◌+◌, ◌<◌, ◌≤◌, List, length, get_or, take, drop, sym, ◌∙◌, ap, arith, length-drop}
 use Rattle.std.proofs.lemmas.List.{take-take, drop-take, drop-drop, length-take-le, get_or-take, get_or-drop}
+use Rattle.alta_layout.specs.declared.places.TheConstants.{HALF_BYTES, HEAD_BYTES}
+use Rattle.alta_layout.specs.Places.{half_start}
+use Rattle.alta_layout.specs.declared.slot.Slot.{Slot}
+use Rattle.alta_layout.specs.declared.slot.Slot.TheVariants.{A, B}
 use Rattle.alta_disk.specs.Parts.{part}
-use Rattle.alta_journal.specs.Places.{start_of, half_at}
-use Rattle.alta_journal.specs.declared.half.Half.{Half}
-use Rattle.alta_journal.specs.declared.half.Half.TheVariants.{A, B}
-use Rattle.alta_journal.specs.declared.places.TheConstants.{HALF_BYTES, HEAD_BYTES}
+use Rattle.alta_journal.specs.Places.{half_at}
 
-pub start_fits : (half : Half) → start_of half + HALF_BYTES ≤ HEAD_BYTES
+pub start_fits : (half : Slot) → half_start half + HALF_BYTES ≤ HEAD_BYTES
 start_fits A = omega arith
 start_fits B = omega arith
 

@@ -1,5 +1,6 @@
 -- The images at each moment of an append.
 use Rattle.std.proofs.Common.{ℕ, ◌+◌, ◌≤◌, List, [], ◌∷◌, length, subst, arith}
+use Rattle.alta_layout.specs.declared.places.TheConstants.{GATE_OPEN, HALF_BYTES, HEAD_BYTES}
 use Rattle.alta_disk.specs.Disk.{DiskState, Each, After, Only, Holds, Torn, Passes, IsLawful}
 use Rattle.alta_disk.proofs.Moments.{passes_as, passes_then}
 use Rattle.alta_journal.specs.Entry.{MayBeRecorded}
@@ -8,7 +9,6 @@ use Rattle.alta_journal.specs.Journal.{Appended, Appends}
 use Rattle.alta_journal.specs.Places.{HasClosedGate}
 use Rattle.alta_journal.specs.Record.{record_of, body_of}
 use Rattle.alta_journal.specs.declared.entry.Entry.{Entry}
-use Rattle.alta_journal.specs.declared.places.TheConstants.{GATE_OPEN, HALF_BYTES, HEAD_BYTES}
 use Rattle.alta_journal.proofs.Steps.{body_step, gate_step, byte_written, has_body, next_closed, opened}
 
 module _ (tells : Type 0) (version start place : ℕ) (entry : Entry) (sound : MayBeRecorded version entry) (from : start ≤ place) (to : place + 1 + length (body_of entry) ≤ start + HALF_BYTES) (disk : start + HALF_BYTES ≤ HEAD_BYTES)

@@ -3,6 +3,7 @@ use Rattle.std.proofs.Common.{◌≡◌, inr, ℕ, suc, ◌+◌, ◌-◌, ◌<�
 use Rattle.std.specs.List.{flat_map}
 use Rattle.std.specs.Result.{MatchResult, IfOk, IfErr}
 use Rattle.std.proofs.lemmas.List.{drop_more, drop-drop, take_at, drop_at, length-take-le}
+use Rattle.alta_layout.specs.declared.places.TheConstants.{GATE_OPEN, HEAD_BYTES}
 use Rattle.alta_disk.specs.Parts.{part}
 use Rattle.alta_journal.specs.Entry.{MayBeRecorded, four_bytes, measured, payload_of}
 use Rattle.alta_journal.specs.Found.{IsFound}
@@ -13,7 +14,6 @@ use Rattle.alta_journal.specs.Reading.{of_four, entry_in}
 use Rattle.alta_journal.specs.Record.{record_of}
 use Rattle.alta_journal.specs.declared.entry.Entry.{Entry}
 use Rattle.alta_journal.specs.declared.placed.Placed.{Placed}
-use Rattle.alta_journal.specs.declared.places.TheConstants.{GATE_OPEN, HEAD_BYTES}
 use Rattle.alta_disk.specs.declared.fault.LoadFault.TheVariants as faults
 use Rattle.alta_disk.specs.declared.fault.LoadFault.{LoadFault}
 use Rattle.alta_disk.specs.Answers.{IsNoDamage}

@@ -4,6 +4,7 @@ use Rattle.std.specs.List.{flat_map}
 use Rattle.std.proofs.lemmas.Bool.{cases_eq}
 use Rattle.std.proofs.lemmas.List.{take_at, drop_at, drop_more, take-take, drop-take, flat_map_more, get_or-take, get_or-drop, get_or_at, length-take, length-take-le}
 use Rattle.std.proofs.lemmas.List.Elements.{All-nil, All-push}
+use Rattle.alta_layout.specs.declared.places.TheConstants.{GATE_OPEN, HALF_BYTES, HEAD_BYTES}
 use Rattle.alta_disk.specs.Disk.{Holds, Torn}
 use Rattle.alta_disk.specs.Parts.{part}
 use Rattle.alta_disk.specs.Writes.{holds_torn, take_less, drop_less}
@@ -13,7 +14,6 @@ use Rattle.alta_journal.specs.Journal.{Begins, EndsAt, Appended, Appends}
 use Rattle.alta_journal.specs.Places.{half_at, HasClosedGate}
 use Rattle.alta_journal.specs.Record.{record_of, body_of}
 use Rattle.alta_journal.specs.declared.entry.Entry.{Entry}
-use Rattle.alta_journal.specs.declared.places.TheConstants.{GATE_OPEN, HALF_BYTES, HEAD_BYTES}
 use Rattle.alta_journal.proofs.HalfLaws.{half_long, half_take, half_part, half_byte}
 use Rattle.alta_journal.proofs.Spelling.{record_long, body_long}
 

@@ -7,17 +7,19 @@ use Rattle.std.proofs.lemmas.Bool.{cases_lt, cases_eq}
 use Rattle.std.proofs.lemmas.List.{length-take-le}
 use Rattle.std.proofs.lemmas.List.Elements.{All-nil, All-cons, All-head, All-tail}
 use Rattle.std.proofs.lemmas.Str.{IsUtf8-from_is_utf8, is_utf8-from_IsUtf8}
+use Rattle.alta_layout.specs.declared.places.TheConstants.{GATE_OPEN, HALF_BYTES, HEAD_BYTES}
+use Rattle.alta_layout.specs.Places.{half_start}
+use Rattle.alta_layout.specs.declared.slot.Slot.{Slot}
 use Rattle.alta_disk.specs.Parts.{part}
 use Rattle.alta_codec.specs.Name.{IsGraphic}
 use Rattle.alta_journal.specs.Entry.{KeepTexts, KeepsRules, IsTyped, is_old, MayBeRecorded, Lacks}
 use Rattle.alta_journal.specs.Journal.{Begins, EndsAt, HasBrokenRecord, HasBrokenHalf, LeavesNoRoom, HasNoRecord}
-use Rattle.alta_journal.specs.Places.{start_of, half_at, HasClosedGate}
+use Rattle.alta_journal.specs.Places.{half_at, HasClosedGate}
 use Rattle.alta_journal.specs.Reading.{of_four, or_none, entry_in}
 use Rattle.alta_journal.specs.Record.{record_of}
 use Rattle.alta_journal.specs.declared.entry.Entry.{Entry}
 use Rattle.alta_journal.specs.declared.entry.Entry.TheVariants.{Add, Delete, Replace}
-use Rattle.alta_journal.specs.declared.half.Half.{Half}
-use Rattle.alta_journal.specs.declared.places.TheConstants.{GATE_OPEN, HALF_BYTES, HEAD_BYTES, TEXTS_BYTES}
+use Rattle.alta_journal.specs.declared.places.TheConstants.{TEXTS_BYTES}
 use Rattle.alta_journal.proofs.HalfLaws.{start_fits, half_long}
 use Rattle.alta_journal.proofs.ReadingSteps.{Stands, reads_here}
 use Rattle.alta_journal.proofs.Spelling.{record_long}
@@ -171,10 +173,10 @@ module _ (version : ℕ) where
       (λ shut. inl (record { at = at; entries = entries; begins = begins; closed = (begins.gate, shut) })) (cases_eq (get_or half at 0) GATE_OPEN)
 
   -- the half of a whole image
-  pub read_or_broken : (half : Half) (image : List ℕ) → HEAD_BYTES ≤ length image
-      → ((place : ℕ) × (entries : List Entry) × EndsAt version (start_of half) place entries image) ⊎ ((place : ℕ) × HasBrokenHalf version (start_of half) place image)
+  pub read_or_broken : (half : Slot) (image : List ℕ) → HEAD_BYTES ≤ length image
+      → ((place : ℕ) × (entries : List Entry) × EndsAt version (half_start half) place entries image) ⊎ ((place : ℕ) × HasBrokenHalf version (half_start half) place image)
   read_or_broken half image whole =
-      let start = start_of half in
+      let start = half_start half in
       let bytes = half_at start image in
       let long : length bytes ≡ HALF_BYTES = half_long start image (omega (arith, start_fits half)) in
       let empty : Begins version [] 0 bytes = record { records = refl; sound = All-nil (MayBeRecorded version); gate = omega arith } in
@@ -183,17 +185,17 @@ module _ (version : ℕ) where
       (λ (place, damaged). inr (start + place, broken place damaged))
       (known_from (length bytes) [] 0 bytes empty (omega arith))
     where
-      ends : (ended : IsEnded (half_at (start_of half) image)) → EndsAt version (start_of half) (start_of half + ended.at) ended.entries image
+      ends : (ended : IsEnded (half_at (half_start half) image)) → EndsAt version (half_start half) (half_start half + ended.at) ended.entries image
       ends ended =
-          let at : ended.at ≡ start_of half + ended.at - start_of half = omega arith in
+          let at : ended.at ≡ half_start half + ended.at - half_start half = omega arith in
           record {
             starts = omega arith;
-            begins = subst (λ (k : ℕ). Begins version ended.entries k (half_at (start_of half) image)) at ended.begins;
-            closed = subst (λ (k : ℕ). HasClosedGate k (half_at (start_of half) image)) at ended.closed;
+            begins = subst (λ (k : ℕ). Begins version ended.entries k (half_at (half_start half) image)) at ended.begins;
+            closed = subst (λ (k : ℕ). HasClosedGate k (half_at (half_start half) image)) at ended.closed;
             whole = whole;
           }
 
-      broken : (place : ℕ) → HasBrokenRecord version place (half_at (start_of half) image) → HasBrokenHalf version (start_of half) (start_of half + place) image
+      broken : (place : ℕ) → HasBrokenRecord version place (half_at (half_start half) image) → HasBrokenHalf version (half_start half) (half_start half + place) image
       broken place damaged =
-          let at : place ≡ start_of half + place - start_of half = omega arith in
-          record { starts = omega arith; damaged = subst (λ (k : ℕ). HasBrokenRecord version k (half_at (start_of half) image)) at damaged; whole = whole }
+          let at : place ≡ half_start half + place - half_start half = omega arith in
+          record { starts = omega arith; damaged = subst (λ (k : ℕ). HasBrokenRecord version k (half_at (half_start half) image)) at damaged; whole = whole }

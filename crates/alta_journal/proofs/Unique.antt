@@ -3,6 +3,7 @@ use Rattle.std.proofs.Common.{◌≡◌, ⊎_elim, ℕ, ◌+◌, ◌-◌, ◌<�
 use Rattle.std.specs.List.{All, flat_map}
 use Rattle.std.proofs.lemmas.List.{take_at, drop_more, drop-drop, length-take-le}
 use Rattle.std.proofs.lemmas.List.Elements.{All-head, All-tail}
+use Rattle.alta_layout.specs.declared.places.TheConstants.{GATE_OPEN}
 use Rattle.alta_disk.specs.Parts.{part}
 use Rattle.alta_journal.specs.Entry.{KeepsRules, MayBeRecorded, four_bytes, measured, payload_of}
 use Rattle.alta_journal.specs.Journal.{Begins, EndsAt, HasBrokenRecord, HasBrokenHalf, BreaksAt}
@@ -11,7 +12,6 @@ use Rattle.alta_journal.specs.Reading.{or_none, of_four, text_in, entry_in}
 use Rattle.alta_journal.specs.Record.{record_of}
 use Rattle.alta_journal.specs.declared.entry.Entry.{Entry}
 use Rattle.alta_journal.specs.declared.entry.Entry.TheVariants.{Add, Delete, Replace}
-use Rattle.alta_journal.specs.declared.places.TheConstants.{GATE_OPEN}
 use Rattle.alta_journal.proofs.ReadingLaws.{text_back, entry_back}
 use Rattle.alta_journal.proofs.Spelling.{four_long, add_long, delete_long, replace_long, record_long, of_four-four}
 

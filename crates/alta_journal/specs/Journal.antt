@@ -1,6 +1,7 @@
 -- What the bytes of a half say: entries up to a closed gate, or a first record that breaks a rule.
 use Rattle.std.specs.Prelude.{◌≡◌, ◌≢◌, ◌⊎◌, ℕ, ◌+◌, ◌-◌, ◌≤◌, ◌<◌, List, [], ◌∷◌, ◌++◌, length, take, get_or}
 use Rattle.std.specs.List.{All, flat_map}
+use Rattle.alta_layout.specs.declared.places.TheConstants.{GATE_OPEN, HEAD_BYTES}
 use Rattle.alta_disk.specs.Disk.{Torn}
 use Rattle.alta_disk.specs.Parts.{part}
 use Rattle.alta_journal.specs.Entry.{MayBeRecorded}
@@ -8,13 +9,12 @@ use Rattle.alta_journal.specs.Places.{half_at, HasClosedGate}
 use Rattle.alta_journal.specs.Reading.{of_four}
 use Rattle.alta_journal.specs.Record.{record_of, body_of}
 use Rattle.alta_journal.specs.declared.entry.Entry.{Entry}
-use Rattle.alta_journal.specs.declared.places.TheConstants.{GATE_OPEN, HEAD_BYTES}
 
 -- Under a root of this version the half begins with the records of these entries, one behind the other, and behind them, at `at`, there is a gate.
-pub record Begins (version : ℕ) (entries : List Entry) (at : ℕ) (half : List ℕ) : Type 0 where
-  pub records : take at half ≡ flat_map record_of entries
+pub record Begins (version : ℕ) (entries : List Entry) (at : ℕ) (slot : List ℕ) : Type 0 where
+  pub records : take at slot ≡ flat_map record_of entries
   pub sound : All (MayBeRecorded version) entries
-  pub gate : at < length half
+  pub gate : at < length slot
 
 -- The half that starts at `start` has these entries, and at `place` its first closed gate.
 pub record EndsAt (version start place : ℕ) (entries : List Entry) (image : List ℕ) : Type 0 where
@@ -37,25 +37,25 @@ pub record Appends (version start place : ℕ) (entry : Entry) (old new : List �
 
 -- The length of the record whose gate stands at `at` leaves no room in the half for the next gate.
 abbrev pub LeavesNoRoom : ℕ → List ℕ → Type 0
-LeavesNoRoom at half = length half ≤ at + 5 + of_four (part (at + 1) 4 half)
+LeavesNoRoom at slot = length slot ≤ at + 5 + of_four (part (at + 1) 4 slot)
 
 -- No record of a sound entry stands at `at`.
 abbrev pub HasNoRecord : ℕ → ℕ → List ℕ → Type 0
-HasNoRecord version at half = (entry : Entry) → MayBeRecorded version entry → part at (length (record_of entry)) half ≢ record_of entry
+HasNoRecord version at slot = (entry : Entry) → MayBeRecorded version entry → part at (length (record_of entry)) slot ≢ record_of entry
 
 -- The record whose gate stands at `at` breaks a rule at this place: at its length, where that leaves no room, and else
 -- at its payload.
 abbrev pub BreaksAt : ℕ → ℕ → ℕ → List ℕ → Type 0
-BreaksAt version at place half =
-    (LeavesNoRoom at half × (place ≡ at + 1)) ⊎ ((LeavesNoRoom at half → ⊥) × HasNoRecord version at half × (place ≡ at + 5))
+BreaksAt version at place slot =
+    (LeavesNoRoom at slot × (place ≡ at + 1)) ⊎ ((LeavesNoRoom at slot → ⊥) × HasNoRecord version at slot × (place ≡ at + 5))
 
 -- Behind sound records stands an open gate, and the record there breaks a rule at this place of the half.
-pub record HasBrokenRecord (version place : ℕ) (half : List ℕ) : Type 0 where
+pub record HasBrokenRecord (version place : ℕ) (slot : List ℕ) : Type 0 where
   pub at : ℕ
   pub entries : List Entry
-  pub begins : Begins version entries at half
-  pub is_open : get_or half at 0 ≡ GATE_OPEN
-  pub breaks : BreaksAt version at place half
+  pub begins : Begins version entries at slot
+  pub is_open : get_or slot at 0 ≡ GATE_OPEN
+  pub breaks : BreaksAt version at place slot
 
 -- The half that starts at `start` has a first record that breaks a rule, at `place`.
 pub record HasBrokenHalf (version start place : ℕ) (image : List ℕ) : Type 0 where

@@ -16,4 +16,4 @@ IsReplay version start found tail image = (entries : List Entry) × (found ≡ p
 
 -- These are the entries, with their places, whose records take the first bytes of a half, up to `at`.
 abbrev pub IsReading : ℕ → ℕ → List Placed → ℕ → List ℕ → Type 0
-IsReading version start found at half = (entries : List Entry) × (found ≡ placed start entries) × Begins version entries at half
+IsReading version start found at slot = (entries : List Entry) × (found ≡ placed start entries) × Begins version entries at slot

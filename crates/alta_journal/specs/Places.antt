@@ -1,14 +1,7 @@
 -- Where the halves of the journal stand on a disk.
 use Rattle.std.specs.Prelude.{◌≢◌, ℕ, ◌+◌, ◌-◌, ◌<◌, List, length, get_or}
+use Rattle.alta_layout.specs.declared.places.TheConstants.{GATE_OPEN, HALF_BYTES}
 use Rattle.alta_disk.specs.Parts.{part}
-use Rattle.alta_journal.specs.declared.half.Half.{Half}
-use Rattle.alta_journal.specs.declared.half.Half.TheVariants.{A, B}
-use Rattle.alta_journal.specs.declared.places.TheConstants.{START_A, START_B, HALF_BYTES, GATE_OPEN}
-
--- where a half starts on the disk
-abbrev pub start_of : Half → ℕ
-start_of A = START_A
-start_of B = START_B
 
 -- the bytes of the half that starts there
 unfoldable pub half_at : ℕ → List ℕ → List ℕ

@@ -1,8 +1,8 @@
 -- The bytes of a record.
 use Rattle.std.specs.Prelude.{ℕ, List, [], ◌∷◌, ◌++◌}
+use Rattle.alta_layout.specs.declared.places.TheConstants.{GATE_CLOSED, GATE_OPEN}
 use Rattle.alta_journal.specs.Entry.{measured, payload_of}
 use Rattle.alta_journal.specs.declared.entry.Entry.{Entry}
-use Rattle.alta_journal.specs.declared.places.TheConstants.{GATE_OPEN, GATE_CLOSED}
 
 -- a record with its gate open, up to the next gate
 abbrev pub record_of : Entry → List ℕ

@@ -1,17 +1,19 @@
 // A record is written and synced behind its closed gate, and then the gate is opened and synced.
 ghost use Rattle.std.specs.Prelude.{◌≡◌, ℕ, ◌+◌, ◌<◌, ◌≤◌, [], ◌∷◌, ◌++◌, length, IfOk, IfErr, OnOk, OnErr};
-ghost use Rattle.alta_codec.specs.Faults.{HasCause, Rose};
+ghost use Rattle.alta_layout.specs.Places.{half_start};
+ghost use Rattle.alta_codec.specs.Faults.{Rose};
+ghost use Rattle.alta_disk.specs.Calls.{Costs, Syncs};
 ghost use Rattle.alta_disk.specs.Disk.{DiskState, Holds, Stands, Torn, Only, Passes};
 ghost use Rattle.alta_journal.specs.declared.appending.JournalFault.TheVariants.{Disk as DiskFault};
-ghost use Rattle.alta_journal.specs.Places.{start_of, left_behind, HasClosedGate};
+ghost use Rattle.alta_journal.specs.Places.{left_behind, HasClosedGate};
 ghost use Rattle.alta_journal.specs.Entry.{MayBeRecorded};
 ghost use Rattle.alta_journal.specs.Record.{Record, record_of, body_of};
 ghost use Rattle.alta_journal.specs.Journal.{EndsAt, Appended, Appends};
 
-use crate::places::{GATE_CLOSED, GATE_OPEN, HEAD_BYTES};
-use crate::{Half, Ready, Tail};
+use crate::{Ready, Tail};
 use alta_codec::Failed;
 use alta_disk::{Disk, write_synced};
+use alta_layout::{GATE_CLOSED, GATE_OPEN, HEAD_BYTES, Slot};
 
 /// Why a record was not appended.
 #[derive(Clone, Copy, Debug, PartialEq, Eq)]
@@ -45,24 +47,22 @@ pub fn append<D: Disk>(disk: &mut D, tail: &mut Tail, ready: &Ready) -> Result<(
     requires closed { Stands D.tells (D.state disk.old) (HasClosedGate tail.old.place) }
     requires limit { HEAD_BYTES ≤ (D.state disk.old).limit }
 
-    ensures appended { (version : ℕ) → MayBeRecorded version ready.now.entry → D.tells → OnOk result (Appended version (start_of tail.old.half) tail.old.place ready.now.entry (D.state disk.old).content (D.state disk.new).content) }
+    ensures appended { (version : ℕ) → MayBeRecorded version ready.now.entry → D.tells → OnOk result (Appended version (half_start tail.old.slot) tail.old.place ready.now.entry (D.state disk.old).content (D.state disk.new).content) }
     ensures written { D.tells → OnOk result (Holds (D.state disk.old).content tail.old.place (record_of ready.now.entry ++ GATE_CLOSED ∷ []) (D.state disk.new).content) }
     ensures closed { OnOk result (Stands D.tells (D.state disk.new) (HasClosedGate tail.new.place)) }
     ensures durable { OnOk result (Only (D.state disk.new).content (D.state disk.new).images) }
     ensures tail { OnOk result (tail.new.place ≡ tail.old.place + length (record_of ready.now.entry)) }
     ensures tail_err { OnErr result (tail.new ≡ tail.old) }
-    ensures half { tail.new.half ≡ tail.old.half }
+    ensures slot { tail.new.slot ≡ tail.old.slot }
 
     // At each moment of the call.
-    ensures images { (version : ℕ) → MayBeRecorded version ready.now.entry → Passes (Appends version (start_of tail.old.half) tail.old.place ready.now.entry) (D.state disk.old) (D.state disk.new) }
+    ensures images { (version : ℕ) → MayBeRecorded version ready.now.entry → Passes (Appends version (half_start tail.old.slot) tail.old.place ready.now.entry) (D.state disk.old) (D.state disk.new) }
 
-    ensures full { left_behind (start_of tail.old.half) tail.old.place < length (body_of ready.now.entry)
-        → (result ≡ Err (JournalFault.Full (length (body_of ready.now.entry)) (left_behind (start_of tail.old.half) tail.old.place))) × (disk.new ≡ disk.old) }
-    ensures room { length (body_of ready.now.entry) ≤ left_behind (start_of tail.old.half) tail.old.place → IfErr result (λ e. e ≡ DiskFault) }
+    ensures full { left_behind (half_start tail.old.slot) tail.old.place < length (body_of ready.now.entry)
+        → (result ≡ Err (JournalFault.Full (length (body_of ready.now.entry)) (left_behind (half_start tail.old.slot) tail.old.place))) × (disk.new ≡ disk.old) }
+    ensures room { length (body_of ready.now.entry) ≤ left_behind (half_start tail.old.slot) tail.old.place → IfErr result (λ e. e ≡ DiskFault) }
     ensures cause { result ≡ Err JournalFault.Disk → Rose (D.state disk.old).faults (D.state disk.new).faults }
-    ensures faults { (D.state disk.old).faults ≤ (D.state disk.new).faults }
-    ensures taken { (D.state disk.new).taken ≡ (D.state disk.old).taken }
-    ensures same_limit { (D.state disk.new).limit ≡ (D.state disk.old).limit }
+    ensures costs { Costs 0 (D.state disk.old) (D.state disk.new) }
 {
     let bytes = ready.bytes();
     let need = bytes.len() as u64;
@@ -82,22 +82,18 @@ pub fn append<D: Disk>(disk: &mut D, tail: &mut Tail, ready: &Ready) -> Result<(
 /// # Errors
 ///
 /// `Failed` where a call of the disk failed. A stop may then leave the gate open or closed.
-pub fn close_half<D: Disk>(disk: &mut D, half: Half) -> Result<Tail, Failed>
+pub fn close_half<D: Disk>(disk: &mut D, slot: Slot) -> Result<Tail, Failed>
     requires size { D.tells → HEAD_BYTES ≤ length (D.state disk.old).content }
     requires limit { HEAD_BYTES ≤ (D.state disk.old).limit }
-    ensures written { D.tells → OnOk result (Holds (D.state disk.old).content (start_of half) (GATE_CLOSED ∷ []) (D.state disk.new).content) }
-    ensures empty { (version : ℕ) → D.tells → OnOk result (EndsAt version (start_of half) (start_of half) [] (D.state disk.new).content) }
-    ensures closed { OnOk result (Stands D.tells (D.state disk.new) (HasClosedGate (start_of half))) }
-    ensures durable { OnOk result (Only (D.state disk.new).content (D.state disk.new).images) }
-    ensures tail { IfOk result (λ tail. (tail.half ≡ half) × (tail.place ≡ start_of half)) }
-    ensures images { Passes (Torn (start_of half) 1) (D.state disk.old) (D.state disk.new) }
-    ensures cause { HasCause (D.state disk.old).faults (D.state disk.new).faults result }
-    ensures taken { (D.state disk.new).taken ≡ (D.state disk.old).taken }
-    ensures same_limit { (D.state disk.new).limit ≡ (D.state disk.old).limit }
+    ensures written { D.tells → OnOk result (Holds (D.state disk.old).content (half_start slot) (GATE_CLOSED ∷ []) (D.state disk.new).content) }
+    ensures empty { (version : ℕ) → D.tells → OnOk result (EndsAt version (half_start slot) (half_start slot) [] (D.state disk.new).content) }
+    ensures closed { OnOk result (Stands D.tells (D.state disk.new) (HasClosedGate (half_start slot))) }
+    ensures tail { IfOk result (λ tail. (tail.slot ≡ slot) × (tail.place ≡ half_start slot)) }
+    ensures syncs { Syncs 0 (Torn (half_start slot) 1) (D.state disk.old) (D.state disk.new) result }
 {
-    write_synced(disk, half.start(), &[GATE_CLOSED])?;
+    write_synced(disk, slot.half_start(), &[GATE_CLOSED])?;
     Ok(Tail {
-        half,
-        place: half.start(),
+        slot,
+        place: slot.half_start(),
     })
 }

@@ -4,22 +4,20 @@
 mod appending;
 mod entry;
 mod fields;
-mod half;
 mod laws;
 mod placed;
 mod places;
 mod preparing;
 mod record;
 mod replaying;
+mod tail;
 
 pub use appending::{JournalFault, append, close_half};
 pub use entry::Entry;
-pub use half::{Half, Tail};
 pub use laws::{a_half_is_read_in_one_way, a_half_is_read_or_broken};
 pub use placed::Placed;
-pub use places::{
-    GATE_CLOSED, GATE_OPEN, HALF_BYTES, HEAD_BYTES, PAYLOAD_BYTES, START_A, START_B, TEXTS_BYTES,
-};
+pub use places::{PAYLOAD_BYTES, TEXTS_BYTES};
 pub use preparing::{is_old, ready};
 pub use record::Ready;
 pub use replaying::replay;
+pub use tail::Tail;

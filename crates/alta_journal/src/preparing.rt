@@ -3,9 +3,10 @@ ghost use Rattle.std.specs.Prelude.{◌≡◌, ◌<◌, ◌^◌, ◌++◌, lengt
 ghost use Rattle.alta_journal.specs.Entry.{KeepTexts, KeepsRules, IsTyped, is_old as is_old_entry, payload_of, texts_of, measured};
 ghost use Rattle.alta_journal.specs.Record.{Record, body_of};
 
-use crate::places::{ADD, DELETE, GATE_CLOSED, PAYLOAD_BYTES, REPLACE};
+use crate::places::{ADD, DELETE, PAYLOAD_BYTES, REPLACE};
 use crate::{Entry, Ready};
 use alta_codec::Text;
+use alta_layout::GATE_CLOSED;
 use std::alloc::{AllocError, Global};
 
 /// Makes the record of an entry: all that an append writes, so that the append itself takes no memory. The entry

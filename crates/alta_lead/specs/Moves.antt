@@ -71,3 +71,9 @@ module _ {R : Type 0} (Sound : R → Type 0) (list all : R → List ℕ) (left c
     pub words : AreMoved most old.words new.words of_words
     pub negated : AreMoved most old.negated new.negated of_negated
     pub steps : after ≤ before + of_ends + of_words + of_negated
+
+-- The steps are at most so many moves of each reader, by what one move of each costs: whatever a move of a reader of the ends and of
+-- any other costs by the list that it reads.
+abbrev pub CostsAtMost : {E R : Type 0} → (E → List ℕ) → (E → ℕ) → (R → List ℕ) → (R → ℕ) → ℕ → ((List ℕ → ℕ) → ℕ) → ℕ → ℕ → Type 0
+CostsAtMost {E = E} {R = R} ends_list ends_cost list cost moves each before after =
+    (of : List ℕ → ℕ) → ((e : E) → ends_cost e ≤ of (ends_list e)) → ((r : R) → cost r ≤ of (list r)) → after ≤ before + moves * each of

@@ -2,14 +2,14 @@
 // Each document costs one move of the ends and one of each word that has it, and each list is read once; counting one word and then
 // the other without the first would read one twice. Beyond eight words the tree of the plan is asked, whose heap looks at fewer
 // words a document.
-ghost use Rattle.std.specs.Prelude.{◌≡◌, ℕ, ◌+◌, ◌-◌, ◌*◌, ◌≤◌, true, List, [], map, sum_by, All};
+ghost use Rattle.std.specs.Prelude.{◌≡◌, ◌+◌, ◌-◌, ◌*◌, ◌≤◌, true, [], map, sum_by, All};
 ghost use Rattle.alta_codec.specs.Rising.{IsRising, first_from, pred_of, count_from};
 ghost use Rattle.alta_codec.specs.declared.location.TheConstants.{TOP};
 ghost use Rattle.alta_compound.specs.Union.{union_of};
 ghost use Rattle.alta_docread.specs.Kept.{less};
 ghost use Rattle.alta_docread.specs.Tree.{IsAhead};
 ghost use Rattle.alta_lead.specs.Having.{ends_with_any};
-ghost use Rattle.alta_lead.specs.Moves.{AreAhead, AreMoved};
+ghost use Rattle.alta_lead.specs.Moves.{AreAhead, AreMoved, CostsAtMost};
 ghost use Rattle.alta_lead.specs.Tallying.{IsLedTo};
 
 use crate::chains::{bring, reach};
@@ -73,8 +73,8 @@ pub fn tally_any_of<E: BackReader, R: BackReader, L: Ledger>(
     requires gone { IsRising gone.now }
     ensures count { result ≡ count_from (less (ends_with_any (E.list ends.old.inner) (map R.list words.old)) gone.now) 0 }
     ensures steps { steps.new ≤ steps.old + (E.left ends.old.inner + sum_by R.left words.old) }
-    ensures moves { (of : List ℕ → ℕ) → ((e : E) → E.cost e ≤ of (E.list e)) → ((r : R) → R.cost r ≤ of (R.list r))
-        → steps.new ≤ steps.old + (2 * count_from (union_of (map R.list words.old)) 1 + 2) * (of (E.list ends.old.inner) + sum_by of (map R.list words.old)) }
+    ensures moves { CostsAtMost E.list E.cost R.list R.cost (2 * count_from (union_of (map R.list words.old)) 1 + 2)
+        (λ of. of (E.list ends.old.inner) + sum_by of (map R.list words.old)) steps.old steps.new }
 {
     let mut live = 0;
     let mut from = 1;

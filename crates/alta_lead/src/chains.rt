@@ -1,5 +1,5 @@
 // Readers that are brought to a place.
-ghost use Rattle.std.specs.Prelude.{◌≡◌, ℕ, ◌+◌, ◌-◌, ◌<◌, ◌≤◌, List, [], map, length, slice_index, slice_index_or, slice_set, All};
+ghost use Rattle.std.specs.Prelude.{◌≡◌, ℕ, ◌-◌, ◌<◌, ◌≤◌, List, [], map, length, slice_index_or, All};
 ghost use Rattle.std.specs.Bool.{OnTrue, OnFalse};
 ghost use Rattle.alta_codec.specs.Rising.{first_from};
 ghost use Rattle.alta_codec.specs.declared.location.TheConstants.{TOP};
@@ -34,26 +34,6 @@ pub(crate) fn reach<R: BackReader, L: Ledger>(
     ends.loc()
 }
 
-/// Moves reader `j`, which stands below `to`, to its first place there, and answers that.
-fn advance<R: BackReader, L: Ledger>(
-    readers: &mut [R],
-    j: usize,
-    to: Loc,
-    steps: &mut Steps<L>,
-) -> Loc
-    requires sound { All R.sound readers.old }
-    requires within { j < length readers.old }
-    requires above { slice_index (map R.location readers.old) j < to }
-    requires top { to ≤ TOP }
-    ensures place { result ≡ first_from (slice_index_or (map R.list readers.old) j []) to }
-    ensures places { map R.location readers.new ≡ slice_set (map R.location readers.old) j (first_from (slice_index_or (map R.list readers.old) j []) to) }
-    ensures moved { AreMoved R.sound R.list R.all R.left R.cost 1 readers.old readers.new (steps.new - steps.old) }
-    ensures own { (of : List ℕ → ℕ) → ((r : R) → R.cost r ≤ of (R.list r)) → steps.new - steps.old ≤ of (slice_index_or (map R.list readers.old) j []) }
-{
-    seek_at(readers, j, to, steps);
-    place_at(readers, j)
-}
-
 /// Brings reader `j` to its first place at or above `to`, where it stands below it, and answers where it stands. No
 /// reader has passed an element from there on.
 pub(crate) fn bring<R: BackReader, L: Ledger>(
@@ -73,7 +53,8 @@ pub(crate) fn bring<R: BackReader, L: Ledger>(
 {
     let here = place_at(readers, j);
     if here < to {
-        advance(readers, j, to, steps)
+        seek_at(readers, j, to, steps);
+        place_at(readers, j)
     } else {
         here
     }

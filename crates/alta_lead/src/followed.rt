@@ -1,13 +1,13 @@
 // How many documents in which a word stands before another were not deleted, by one walk that the first word leads.
 // Where any place of the first word in a document has the second behind it, the word's first place has: so one look at the second a
 // document is enough.
-ghost use Rattle.std.specs.Prelude.{◌≡◌, ℕ, ◌+◌, ◌*◌, ◌≤◌, List, [], map, length, slice_index_or, sum_by, All};
+ghost use Rattle.std.specs.Prelude.{◌≡◌, ◌+◌, ◌*◌, ◌≤◌, [], map, length, slice_index_or, sum_by, All};
 ghost use Rattle.alta_codec.specs.Rising.{IsRising, first_from, pred_of, count_from};
 ghost use Rattle.alta_codec.specs.declared.location.TheConstants.{TOP};
 ghost use Rattle.alta_docread.specs.Kept.{less};
 ghost use Rattle.alta_docread.specs.Tree.{IsAhead};
 ghost use Rattle.alta_lead.specs.Followed.{ends_followed};
-ghost use Rattle.alta_lead.specs.Moves.{AreAhead};
+ghost use Rattle.alta_lead.specs.Moves.{AreAhead, CostsAtMost};
 ghost use Rattle.alta_lead.specs.Tallying.{IsLedTo};
 
 use crate::chains::{bring, reach};
@@ -62,8 +62,8 @@ pub fn tally_followed<E: BackReader, R: BackReader, L: Ledger>(
     requires gone { IsRising gone.now }
     ensures count { result ≡ count_from (less (ends_followed (E.list ends.old.inner) (slice_index_or (map R.list words.old) 0 []) (slice_index_or (map R.list words.old) 1 [])) gone.now) 0 }
     ensures steps { steps.new ≤ steps.old + (E.left ends.old.inner + sum_by R.left words.old) }
-    ensures moves { (of : List ℕ → ℕ) → ((e : E) → E.cost e ≤ of (E.list e)) → ((r : R) → R.cost r ≤ of (R.list r))
-        → steps.new ≤ steps.old + (2 * count_from (slice_index_or (map R.list words.old) 0 []) 1 + 2) * (of (E.list ends.old.inner) + sum_by of (map R.list words.old)) }
+    ensures moves { CostsAtMost E.list E.cost R.list R.cost (2 * count_from (slice_index_or (map R.list words.old) 0 []) 1 + 2)
+        (λ of. of (E.list ends.old.inner) + sum_by of (map R.list words.old)) steps.old steps.new }
 {
     let mut live = 0;
     let mut from = 1;

@@ -2,14 +2,14 @@
 // A count holds at no answer, so it need not go to the end of the next document first: it goes on by two moves, of the word behind
 // the document's end and of the ends to where the word stands, and a loop over ends in memory and coded lists asks no reader what
 // kind it is.
-ghost use Rattle.std.specs.Prelude.{◌≡◌, ℕ, ◌+◌, ◌*◌, ◌<◌, ◌≤◌, List, [], map, length, slice_index, slice_index_or, sum_by, All, Contains};
+ghost use Rattle.std.specs.Prelude.{◌≡◌, ℕ, ◌+◌, ◌*◌, ◌<◌, ◌≤◌, [], map, length, slice_index, slice_index_or, sum_by, All, Contains};
 ghost use Rattle.std.specs.Bool.{OnTrue, OnFalse};
 ghost use Rattle.alta_codec.specs.Rising.{IsRising, pred_of, count_from};
 ghost use Rattle.alta_codec.specs.declared.location.TheConstants.{TOP};
 ghost use Rattle.alta_docread.specs.Kept.{less};
 ghost use Rattle.alta_docread.specs.Tree.{IsAhead};
 ghost use Rattle.alta_lead.specs.Having.{ends_having};
-ghost use Rattle.alta_lead.specs.Moves.{AreAhead};
+ghost use Rattle.alta_lead.specs.Moves.{AreAhead, CostsAtMost};
 ghost use Rattle.alta_lead.specs.Tallying.{IsLedTo};
 
 use crate::chains::{bring, reach};
@@ -104,9 +104,8 @@ fn tally_from<E: BackReader, R: BackReader, L: Ledger>(
     requires gone { IsRising gone.now }
     ensures count { result ≡ count_from (less (ends_having (E.list ends.old.inner) (map R.list words.old) (map R.list negated.old)) gone.now) start }
     ensures steps { steps.new ≤ steps.old + (E.left ends.old.inner + sum_by R.left words.old + sum_by R.left negated.old) }
-    ensures moves { (of : List ℕ → ℕ) → ((e : E) → E.cost e ≤ of (E.list e)) → ((r : R) → R.cost r ≤ of (R.list r))
-        → steps.new ≤ steps.old + (2 * count_from (slice_index_or (map R.list words.old) lead []) start + 2)
-        * (of (E.list ends.old.inner) + sum_by of (map R.list words.old) + sum_by of (map R.list negated.old)) }
+    ensures moves { CostsAtMost E.list E.cost R.list R.cost (2 * count_from (slice_index_or (map R.list words.old) lead []) start + 2)
+        (λ of. of (E.list ends.old.inner) + sum_by of (map R.list words.old) + sum_by of (map R.list negated.old)) steps.old steps.new }
 {
     let mut live = 0;
     let mut from = start;
@@ -147,9 +146,8 @@ pub fn tally<E: BackReader, R: BackReader, L: Ledger>(
     requires gone { IsRising gone.now }
     ensures count { result ≡ count_from (less (ends_having (E.list ends.old.inner) (map R.list words.old) (map R.list negated.old)) gone.now) at }
     ensures steps { steps.new ≤ steps.old + (E.left ends.old.inner + sum_by R.left words.old + sum_by R.left negated.old) }
-    ensures moves { (of : List ℕ → ℕ) → ((e : E) → E.cost e ≤ of (E.list e)) → ((r : R) → R.cost r ≤ of (R.list r))
-        → steps.new ≤ steps.old + 2 * count_from (slice_index_or (map R.list words.old) lead []) (pred_of (E.list ends.old.inner) at + 1)
-        * (of (E.list ends.old.inner) + sum_by of (map R.list words.old) + sum_by of (map R.list negated.old)) }
+    ensures moves { CostsAtMost E.list E.cost R.list R.cost (2 * count_from (slice_index_or (map R.list words.old) lead []) (pred_of (E.list ends.old.inner) at + 1))
+        (λ of. of (E.list ends.old.inner) + sum_by of (map R.list words.old) + sum_by of (map R.list negated.old)) steps.old steps.new }
 {
     let (_passed, here) = counted(gone, 0, at, true);
     let behind = tally_from(ends, words, negated, lead, at + 1, gone, steps);

@@ -5,3 +5,5 @@ pub mod Segments
 pub mod Damage
 pub mod Fitting
 pub mod Meeting
+pub mod Walks
+pub mod Whole

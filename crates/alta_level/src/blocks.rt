@@ -1,9 +1,9 @@
 // One block of a stream beside the runs of documents that stand side by side.
-ghost use Rattle.std.specs.Prelude.{◌≡◌, ℕ, ◌<◌, ◌≤◌, List, length, drop, slice_index, Some, None, IfErr, IfOk, IfSome, IsTrue};
+ghost use Rattle.std.specs.Prelude.{◌≡◌, ℕ, ◌<◌, ◌≤◌, List, length, slice_index, Some, None, IfSome, IsTrue};
 ghost use Rattle.alta_codec.specs.declared.location.TheConstants.{TOP};
 ghost use Rattle.alta_content.specs.Runs.{RunsRise};
 ghost use Rattle.alta_level.specs.Meeting.{IsMet};
-ghost use Rattle.alta_postings.specs.Deltas.{fault_from};
+ghost use Rattle.alta_postings.specs.Placed.{ReadsFrom};
 
 use crate::ranges::ranges_from;
 use alta_codec::Loc;
@@ -60,8 +60,7 @@ fn may_end_in(table: &Summary<'_>, block: usize, runs: &Runs, run: usize) -> boo
 fn pass_block(stream: &[u8], read: &Compared) -> Result<Met, StreamFault>
     requires more { read.now.at < length stream.now }
     requires low { read.now.last < TOP }
-    ensures met { (firsts ends : List ℕ) → IfOk result (IsMet stream.now read.now.at read.now.last firsts ends None) }
-    ensures fault { IfErr result (λ fault. fault_from read.now.at 0 read.now.last (drop read.now.at stream.now) ≡ Some fault) }
+    ensures { (firsts ends : List ℕ) → ReadsFrom stream.now read.now.at read.now.last (IsMet stream.now read.now.at read.now.last firsts ends None) result }
 {
     match scan_block(stream, read.at, read.last) {
         Ok(span) => Ok(Met { span, run: None }),
@@ -82,8 +81,7 @@ fn fill_beside(
     requires low { read.now.last < TOP }
     requires within { from ≤ length runs.now.ends.items }
     requires passed { (i : ℕ) → i < from → slice_index runs.now.ends.items i < read.now.last }
-    ensures met { IfOk result (IsMet stream.now read.now.at read.now.last runs.now.firsts.items runs.now.ends.items (Some from)) }
-    ensures fault { IfErr result (λ fault. fault_from read.now.at 0 read.now.last (drop read.now.at stream.now) ≡ Some fault) }
+    ensures { ReadsFrom stream.now read.now.at read.now.last (IsMet stream.now read.now.at read.now.last runs.now.firsts.items runs.now.ends.items (Some from)) result }
 {
     match fill_block(stream, read.at, read.last, block) {
         Ok(span) => {
@@ -107,8 +105,7 @@ fn scan_beside(
     requires low { read.now.last < TOP }
     requires within { from < length runs.now.ends.items }
     requires passed { (i : ℕ) → i < from → slice_index runs.now.ends.items i < read.now.last }
-    ensures met { IfOk result (IsMet stream.now read.now.at read.now.last runs.now.firsts.items runs.now.ends.items (Some from)) }
-    ensures fault { IfErr result (λ fault. fault_from read.now.at 0 read.now.last (drop read.now.at stream.now) ≡ Some fault) }
+    ensures { ReadsFrom stream.now read.now.at read.now.last (IsMet stream.now read.now.at read.now.last runs.now.firsts.items runs.now.ends.items (Some from)) result }
 {
     match scan_block(stream, read.at, read.last) {
         Ok(span) => {
@@ -138,8 +135,7 @@ fn read_beside(
     requires low { read.now.last < TOP }
     requires within { from ≤ length runs.now.ends.items }
     requires passed { (i : ℕ) → i < from → slice_index runs.now.ends.items i < read.now.last }
-    ensures met { IfOk result (IsMet stream.now read.now.at read.now.last runs.now.firsts.items runs.now.ends.items (Some from)) }
-    ensures fault { IfErr result (λ fault. fault_from read.now.at 0 read.now.last (drop read.now.at stream.now) ≡ Some fault) }
+    ensures { ReadsFrom stream.now read.now.at read.now.last (IsMet stream.now read.now.at read.now.last runs.now.firsts.items runs.now.ends.items (Some from)) result }
 {
     if may_end_in(table, read.blocks, runs, from) {
         return scan_beside(stream, runs, read, from, block);
@@ -163,8 +159,7 @@ pub fn next_block(
     requires low { read.now.last < TOP }
     requires within { IfSome run (λ from. from ≤ length runs.now.ends.items) }
     requires passed { IfSome run (λ from. (i : ℕ) → i < from → slice_index runs.now.ends.items i < read.now.last) }
-    ensures met { IfOk result (IsMet stream.now read.now.at read.now.last runs.now.firsts.items runs.now.ends.items run) }
-    ensures fault { IfErr result (λ fault. fault_from read.now.at 0 read.now.last (drop read.now.at stream.now) ≡ Some fault) }
+    ensures { ReadsFrom stream.now read.now.at read.now.last (IsMet stream.now read.now.at read.now.last runs.now.firsts.items runs.now.ends.items run) result }
 {
     match run {
         Some(from) => read_beside(stream, table, runs, read, from, block),

@@ -11,7 +11,7 @@ ghost use Rattle.alta_content.specs.declared.content.Content.{Content};
 ghost use Rattle.alta_level.specs.Segments.{list_bytes, row_of, rows_of, segment_bytes};
 
 use crate::writing::put_list;
-use alta_codec::Loc;
+use alta_codec::{Len, Loc};
 use alta_content::{Content, TermLists};
 use alta_table::{Head, put_documents, put_head, put_term};
 use std::alloc::{AllocError, Global};

@@ -12,6 +12,7 @@ ghost use Rattle.alta_words.specs.Fault.{IsPostingFault};
 ghost use Rattle.alta_words.specs.Word.{HasBounds, IsPosting};
 ghost use Rattle.alta_level.specs.Coded.{IsCoded};
 ghost use Rattle.alta_level.specs.Stored.{AreApart, IsListFault, IsListOf, stored_of};
+ghost use Rattle.alta_level.specs.Whole.{ReadsList};
 
 use crate::comparing::compare;
 use crate::decoding::{DecodeFault, decode};
@@ -74,8 +75,7 @@ fn read_whole(
     requires stream { list.now.stream_place + length list.now.stream.now < 2 ^ 64 }
     requires summary { list.now.summary_place + length list.now.summary.now < 2 ^ 64 }
     requires documents { AreDocuments documents.now }
-    ensures found { IfOk result (λ x. IsListOf documents.now (stored_of list.now) locations.new.items) }
-    ensures first { IfDamaged result (IsListFault documents.now (stored_of list.now)) }
+    ensures { ReadsList documents.now (stored_of list.now) locations.new.items result }
 {
     read_coded(locations, places, list)?;
     if fits(documents, list.term, list.count, locations) {
@@ -97,10 +97,9 @@ fn tested(list: &StoredList<'_>, documents: &LevelRows) -> Result<Bounds, LevelF
     requires stream { list.now.stream_place + length list.now.stream.now < 2 ^ 64 }
     requires summary { list.now.summary_place + length list.now.summary.now < 2 ^ 64 }
     requires documents { AreDocuments documents.now }
-    ensures whole { IfOk result (λ x. IsListOf documents.now (stored_of list.now) (decoded_list list.now.stream.now)) }
+    ensures reads { ReadsList documents.now (stored_of list.now) (decoded_list list.now.stream.now) result }
     ensures posting { IfOk result (λ bounds. IsPosting list.now.stream.now list.now.summary.now bounds.rows) }
     ensures bounds { IfOk result (λ bounds. HasBounds (decoded_list list.now.stream.now) bounds.count bounds.first bounds.last) }
-    ensures first { IfDamaged result (IsListFault documents.now (stored_of list.now)) }
     ensures lean { result ≡ Err LevelFault.Memory → ⊥ }
 {
     let ends = is_end_term(list.term);

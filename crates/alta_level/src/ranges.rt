@@ -10,6 +10,7 @@ ghost use Rattle.alta_level.specs.Fitting.{AreEndsTo, AreFitting, AreInRunsTo, H
 use crate::ends::end_from;
 use alta_codec::Loc;
 use alta_content::{LevelRows, Runs};
+use std::convert::AsSlice;
 
 // The location of the first cell of a document.
 pub(crate) fn first_at(documents: &LevelRows, row: usize) -> Loc

@@ -6,7 +6,8 @@ ghost use Rattle.alta_table.specs.Tables.{AreTables, IsDamage, tables_bytes};
 ghost use Rattle.alta_table.specs.Terms.{data_bytes, data_of};
 ghost use Rattle.alta_level.specs.Damage.{AreListsOf, IsFaultInLists, IsSegmentFault, row_at, stored_at};
 ghost use Rattle.alta_level.specs.Segments.{IsSegment};
-ghost use Rattle.alta_level.specs.Stored.{IsListFault, IsListOf, stored_of};
+ghost use Rattle.alta_level.specs.Stored.{stored_of};
+ghost use Rattle.alta_level.specs.Whole.{ReadsList};
 ghost use Rattle.alta_content.specs.declared.content.Content.{Content};
 
 use crate::checking::read_list;
@@ -16,6 +17,7 @@ use alta_codec::Loc;
 use alta_content::{Content, DocRows, LevelRows, TermLists};
 use alta_table::{LevelFault, OpenLevel, head, tables_in_front, tables_read_back};
 use std::alloc::Global;
+use std::default::MadeWith;
 use std::rc::Rc;
 
 // The tables of a segment, and how many bytes they have.
@@ -80,8 +82,7 @@ fn put_list(
     requires summary { list.now.summary_place + length list.now.summary.now < 2 ^ 64 }
     requires documents { AreDocuments documents.now }
     ensures put { IfOk result (λ x. lists.new ≡ lists.old ++ (record { term = list.now.term.now; locations = locations.new.items }) ∷ []) }
-    ensures found { IfOk result (λ x. IsListOf documents.now (stored_of list.now) locations.new.items) }
-    ensures first { IfDamaged result (IsListFault documents.now (stored_of list.now)) }
+    ensures reads { ReadsList documents.now (stored_of list.now) locations.new.items result }
 {
     match read_list(locations, places, list, documents) {
         Ok(()) => match lists.put(list.term, locations) {
@@ -106,7 +107,7 @@ fn lists_at(
     ensures found { IfOk result (AreListsOf documents.now table.now.terms streams.now place) }
     ensures first { IfDamaged result (IsFaultInLists documents.now table.now.terms streams.now place) }
 {
-    let mut lists = TermLists::new(alloc);
+    let mut lists = TermLists::made_with(alloc);
     let mut locations = Vec::new(alloc);
     let mut places = Vec::new(alloc);
     let mut rest = streams;

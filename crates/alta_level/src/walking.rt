@@ -1,13 +1,13 @@
 // A stream beside the rows of its summary and the ranges of documents, each number read once and none kept.
-ghost use Rattle.std.specs.Prelude.{◌↔◌, List, ℕ, false, true, IfErr, IfOk, IsTrue};
+ghost use Rattle.std.specs.Prelude.{◌↔◌, List, ℕ, false, true, IfOk, IsTrue};
 ghost use Rattle.alta_codec.specs.Rising.{IsRising};
 ghost use Rattle.alta_content.specs.Rows.{AreDocuments, AreJoined};
 ghost use Rattle.alta_content.specs.Runs.{AreInRuns, RunsRise};
 ghost use Rattle.alta_level.specs.Coded.{IsCoded};
 ghost use Rattle.alta_level.specs.Fitting.{AreFitting};
 ghost use Rattle.alta_postings.specs.Deltas.{decoded_list};
-ghost use Rattle.alta_words.specs.Fault.{IsPostingFault};
-ghost use Rattle.alta_words.specs.Word.{HasBounds, IsPosting};
+ghost use Rattle.alta_level.specs.Walks.{Walks};
+ghost use Rattle.alta_words.specs.Word.{HasBounds};
 
 use crate::blocks::next_block;
 use crate::ranges::{are_all_ends, are_all_held, ends_after, first_at};
@@ -32,10 +32,7 @@ fn walk_ends(
     documents: &LevelRows,
 ) -> Result<Walked, PostingFault>
     requires documents { AreDocuments documents.now }
-    ensures posting { IfOk result (λ walked. IsPosting stream.now table.now.bytes walked.bounds.rows) }
-    ensures bounds { IfOk result (λ walked. HasBounds (decoded_list stream.now) walked.bounds.count walked.bounds.first walked.bounds.last) }
-    ensures fits { IfOk result (λ walked. IsTrue walked.fits ↔ AreFitting documents.now true (decoded_list stream.now)) }
-    ensures fault { IfErr result (IsPostingFault stream.now table.now.bytes) }
+    ensures { Walks stream.now table.now.bytes (AreFitting documents.now true (decoded_list stream.now)) result }
 {
     let mut read = Compared::none();
     let mut row = Some(0);
@@ -61,10 +58,7 @@ fn walk_ends(
 // Reads a stream block by block, beside the rows of its summary and the runs of documents.
 fn walk_runs(stream: &[u8], table: &Summary<'_>, runs: &Runs) -> Result<Walked, PostingFault>
     requires { RunsRise runs.now.firsts.items runs.now.ends.items }
-    ensures posting { IfOk result (λ walked. IsPosting stream.now table.now.bytes walked.bounds.rows) }
-    ensures bounds { IfOk result (λ walked. HasBounds (decoded_list stream.now) walked.bounds.count walked.bounds.first walked.bounds.last) }
-    ensures fits { IfOk result (λ walked. IsTrue walked.fits ↔ AreInRuns runs.now.firsts.items runs.now.ends.items (decoded_list stream.now)) }
-    ensures fault { IfErr result (IsPostingFault stream.now table.now.bytes) }
+    ensures { Walks stream.now table.now.bytes (AreInRuns runs.now.firsts.items runs.now.ends.items (decoded_list stream.now)) result }
 {
     let mut read = Compared::none();
     let mut run = Some(0);
@@ -95,10 +89,7 @@ fn walk(
     ends: bool,
 ) -> Result<Walked, PostingFault>
     requires documents { AreDocuments documents.now }
-    ensures posting { IfOk result (λ walked. IsPosting stream.now table.now.bytes walked.bounds.rows) }
-    ensures bounds { IfOk result (λ walked. HasBounds (decoded_list stream.now) walked.bounds.count walked.bounds.first walked.bounds.last) }
-    ensures fits { IfOk result (λ walked. IsTrue walked.fits ↔ AreFitting documents.now ends (decoded_list stream.now)) }
-    ensures fault { IfErr result (IsPostingFault stream.now table.now.bytes) }
+    ensures { Walks stream.now table.now.bytes (AreFitting documents.now ends (decoded_list stream.now)) result }
 {
     if ends {
         return walk_ends(stream, table, documents);
@@ -116,10 +107,7 @@ fn walk_list(
 ) -> Result<Walked, PostingFault>
     requires documents { AreDocuments documents.now }
     ensures coded { IfOk result (λ walked. IsCoded stream.now summary.now (decoded_list stream.now)) }
-    ensures posting { IfOk result (λ walked. IsPosting stream.now summary.now walked.bounds.rows) }
-    ensures bounds { IfOk result (λ walked. HasBounds (decoded_list stream.now) walked.bounds.count walked.bounds.first walked.bounds.last) }
-    ensures fits { IfOk result (λ walked. IsTrue walked.fits ↔ AreFitting documents.now ends (decoded_list stream.now)) }
-    ensures fault { IfErr result (IsPostingFault stream.now summary.now) }
+    ensures walks { Walks stream.now summary.now (AreFitting documents.now ends (decoded_list stream.now)) result }
 {
     match Summary::open(summary) {
         Ok(table) => walk(stream, &table, documents, ends),
@@ -155,10 +143,7 @@ fn walk_joined(stream: &[u8], summary: &[u8], documents: &LevelRows) -> Result<W
     requires documents { AreDocuments documents.now }
     requires joined { AreJoined documents.now }
     ensures coded { IfOk result (λ walked. IsCoded stream.now summary.now (decoded_list stream.now)) }
-    ensures posting { IfOk result (λ walked. IsPosting stream.now summary.now walked.bounds.rows) }
-    ensures bounds { IfOk result (λ walked. HasBounds (decoded_list stream.now) walked.bounds.count walked.bounds.first walked.bounds.last) }
-    ensures fits { IfOk result (λ walked. IsTrue walked.fits ↔ AreFitting documents.now false (decoded_list stream.now)) }
-    ensures fault { IfErr result (IsPostingFault stream.now summary.now) }
+    ensures walks { Walks stream.now summary.now (AreFitting documents.now false (decoded_list stream.now)) result }
 {
     match check(stream, summary) {
         Ok(bounds) => Ok(Walked {
@@ -180,10 +165,7 @@ pub fn test_list(
 ) -> Result<Walked, PostingFault>
     requires documents { AreDocuments documents.now }
     ensures coded { IfOk result (λ walked. IsCoded stream.now summary.now (decoded_list stream.now)) }
-    ensures posting { IfOk result (λ walked. IsPosting stream.now summary.now walked.bounds.rows) }
-    ensures bounds { IfOk result (λ walked. HasBounds (decoded_list stream.now) walked.bounds.count walked.bounds.first walked.bounds.last) }
-    ensures fits { IfOk result (λ walked. IsTrue walked.fits ↔ AreFitting documents.now ends (decoded_list stream.now)) }
-    ensures fault { IfErr result (IsPostingFault stream.now summary.now) }
+    ensures walks { Walks stream.now summary.now (AreFitting documents.now ends (decoded_list stream.now)) result }
 {
     if ends {
         return walk_list(stream, summary, documents, ends);

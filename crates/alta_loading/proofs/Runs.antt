@@ -1,15 +1,15 @@
 -- Loads one after the other.
-use Rattle.std.proofs.Common.{◌≡◌, ◌⊎◌, ⊎_elim, inl, inr, ℕ, zero, suc, ◌+◌, ◌<◌, ◌≤◌, List, [], ◌∷◌, ◌++◌, map, take, drop, length, get_or, refl, sym, subst, ap, ◌∙◌, arith, append-nil, append_assoc}
+use Rattle.std.proofs.Common.{◌≡◌, ◌⊎◌, ⊎_elim, inl, inr, ℕ, zero, suc, ◌+◌, ◌<◌, ◌≤◌, List, [], ◌∷◌, ◌++◌, map, take, drop, length, get_or, refl, sym, subst, ap, ◌∙◌, arith, rules, append-nil, append_assoc}
 use Rattle.std.specs.Prelude.{Result, Ok, Err, All}
 use Rattle.std.proofs.lemmas.List.{map-append}
 use Rattle.std.proofs.lemmas.List.Elements.{All-nil, All-cons, All-head, All-tail}
 use Rattle.std.proofs.lemmas.List.Sums.{sum_by-append}
-use Rattle.alta_disk.specs.Calls.{Reads}
+use Rattle.alta_disk.specs.Calls.{Reads, Retrieves}
 use Rattle.alta_disk.specs.Disk.{DiskState, Same}
 use Rattle.alta_disk.proofs.Moments.{passes_same}
 use Rattle.alta_level.specs.Stored.{IsListFault, IsListOf}
 use Rattle.alta_disk.specs.Answers.{IfDamaged, IsDamaged, IsFound}
-use Rattle.alta_loading.specs.Loads.{IsFirstFault, IsWhole, KeepRows, Load, Tells, list_at, load_in, load_size, load_sizes, loads_from, number_of, stored_by}
+use Rattle.alta_loading.specs.Loads.{IsFirstFault, IsWhole, KeepRows, Load, ReadsLists, Tells, list_at, load_in, load_size, load_sizes, loads_from, number_of, stored_by}
 use Rattle.alta_table.specs.Tables.{Tables}
 use Rattle.alta_words.specs.declared.posting.Posting.{Posting}
 use Rattle.alta_disk.specs.declared.fault.LoadFault.{LoadFault}
@@ -130,6 +130,51 @@ reads_most tells m n a b le one = record {
   };
 }
 
+-- a call that failed, behind another
+retrieves_then : {X Y : Type 0} (tells : Type 0) (m n k : ℕ) (a b c : DiskState) (e : LoadFault) → m + n ≤ k → Reads tells m a b → Retrieves {X = X} tells n b c (Err e) → Retrieves {X = Y} tells k a c (Err e)
+retrieves_then tells m n k a b c faults.Disk le one two = record {
+  reads = reads_most tells (m + n) k a c le (reads_then tells m n (m + n) a b c refl one two.reads);
+  cause = λ _. omega (arith, one.costs.faults, two.cause refl);
+}
+retrieves_then tells m n k a b c faults.Memory le one two = record {
+  reads = reads_most tells (m + n) k a c le (reads_then tells m n (m + n) a b c refl one two.reads);
+  cause = search rules;
+}
+retrieves_then tells m n k a b c (faults.Damaged p) le one two = record {
+  reads = reads_most tells (m + n) k a c le (reads_then tells m n (m + n) a b c refl one two.reads);
+  cause = search rules;
+}
+
+-- a call that failed reads as much, whatever it would have answered
+pub retrieves_fault : {X Y : Type 0} (tells : Type 0) (bytes : ℕ) (old new : DiskState) (e : LoadFault) → Retrieves {X = X} tells bytes old new (Err e) → Retrieves {X = Y} tells bytes old new (Err e)
+retrieves_fault tells bytes old new e h = retrieves_then tells 0 bytes bytes old old new e (omega arith) (reads_none tells old) h
+
+pub loads_fault : {X Y : Type 0} (tells : Type 0) (loads : List Load) (old new : DiskState) (e : LoadFault) → ReadsLists {X = X} tells loads old new (Err e) → ReadsLists {X = Y} tells loads old new (Err e)
+loads_fault tells loads old new e h = record {
+  retrieves = retrieves_fault tells (load_sizes loads) old new e h.retrieves;
+  told = λ t. tells_fault old.content loads e (h.told t);
+}
+
+-- a call that went well reads as much, whatever it answers
+pub loads_value : {X Y : Type 0} (tells : Type 0) (loads : List Load) (old new : DiskState) (x : X) (y : Y) → Reads tells (load_sizes loads) old new → (tells → Tells {X = X} old.content loads (Ok x))
+    → ReadsLists {X = Y} tells loads old new (Ok y)
+loads_value tells loads old new x y reads told = record {
+  retrieves = record { reads = reads; cause = search rules };
+  told = λ t. tells_value old.content loads x y (told t);
+}
+
+-- some lists were loaded, all whole, and a call that loads more ends with a fault, before the rest
+pub loads_ended : {X Y : Type 0} (tells : Type 0) (done more rest all : List Load) (old mid new : DiskState) (e : LoadFault) → (done ++ more) ++ rest ≡ all → Reads tells (load_sizes done) old mid
+    → (tells → Tells {X = Unit {0}} old.content done (Ok tt)) → ReadsLists {X = X} tells more mid new (Err e) → ReadsLists {X = Y} tells all old new (Err e)
+loads_ended {X} {Y} tells done more rest all old mid new e same reads told last = record {
+  retrieves = retrieves_then tells (load_sizes done) (load_sizes more) (load_sizes all) old mid new e
+      (omega (arith, ap load_sizes same, sum_by-append load_size (done ++ more) rest, sum_by-append load_size done more)) reads last.retrieves;
+  told = λ h.
+      subst (λ (l : List Load). Tells {X = Y} old.content l (Err e)) same
+      (tells_ended {X = X} {Y = Y} old.content (done ++ more) rest e
+      (tells_then {X = Unit {0}} {Y = X} old.content done more tt (Err e) (told h) (subst (λ (i : List ℕ). Tells {X = X} i more (Err e)) (reads.content h) (last.told h))));
+}
+
 -- ---- what is kept
 
 pub keep_join : (a b : List Load) (xs ys : List (List ℕ)) → KeepRows a xs → KeepRows b ys → KeepRows (a ++ b) (xs ++ ys)
@@ -220,12 +265,5 @@ module _ (tells : Type 0) (loads : List Load) (numbers : List ℕ) (lists : List
   }
 
   -- it ends with a fault, before the rest
-  pub run_ended : {X : Type 0} (rest all : List Load) (e : LoadFault) → all ≡ (loads ++ more) ++ rest → (tells → Tells {X = Unit {0}} mid.content more (Err e)) → tells → Tells {X = X} old.content all (Err e)
-  run_ended {X} rest all e a t h =
-      subst (λ (l : List Load). Tells {X = X} old.content l (Err e)) (sym a)
-      (tells_ended {X = Unit {0}} {Y = X} old.content (loads ++ more) rest e
-      (tells_then {X = Unit {0}} {Y = Unit {0}} old.content loads more tt (Err e) (run.told h) (subst (λ (i : List ℕ). Tells {X = Unit {0}} i more (Err e)) (run.reads.content h) (t h))))
-
-  pub run_cost : (rest all : List Load) → all ≡ (loads ++ more) ++ rest → Reads tells (load_sizes all) old new
-  run_cost rest all a =
-      reads_most tells (load_sizes (loads ++ more)) (load_sizes all) old new (omega (arith, ap load_sizes a, sum_by-append load_size (loads ++ more) rest)) sizes_both
+  pub run_ended : {X Y : Type 0} (rest all : List Load) (e : LoadFault) → (loads ++ more) ++ rest ≡ all → ReadsLists {X = X} tells more mid new (Err e) → ReadsLists {X = Y} tells all old new (Err e)
+  run_ended rest all e a last = loads_ended tells loads more rest all old mid new e a run.reads run.told last

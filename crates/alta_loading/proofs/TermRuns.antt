@@ -7,8 +7,8 @@ use Rattle.std.proofs.lemmas.Grind.{flat_map-append}
 use Rattle.alta_content.specs.declared.content.Content.{Content}
 use Rattle.alta_disk.specs.Calls.{Reads}
 use Rattle.alta_disk.specs.Disk.{DiskState}
-use Rattle.alta_loading.proofs.Runs.{reads_most, reads_none, reads_then, tells_ended, tells_none, tells_then}
-use Rattle.alta_loading.specs.Loads.{Load, Tells, load_size, load_sizes, loads_from}
+use Rattle.alta_loading.proofs.Runs.{loads_ended, reads_most, reads_none, reads_then, tells_none, tells_then}
+use Rattle.alta_loading.specs.Loads.{Load, ReadsLists, Tells, load_size, load_sizes, loads_from}
 use Rattle.alta_loading.specs.Terms.{KeepTerm, KeepTerms, lists_of_term, loads_of, term_key}
 use Rattle.alta_disk.specs.declared.fault.LoadFault.{LoadFault}
 use Rattle.alta_search.specs.Lists.{TermKey}
@@ -67,13 +67,10 @@ module _ (tells : Type 0) (levels : List Tables) (newest : Content) (done : List
       })
 
   -- it ends with a fault, before the rest
-  pub terms_ended : {X : Type 0} (rest all : List (List ℕ)) (e : LoadFault) → done ++ term ∷ rest ≡ all → (tells → Tells {X = Unit {0}} mid.content (loads_from 0 levels term) (Err e)) → tells
-      → Tells {X = X} old.content (loads_of levels all) (Err e)
-  terms_ended {X} rest all e a t h =
-      subst (λ (l : List Load). Tells {X = X} old.content l (Err e)) (sym (loads_rest rest) ∙ ap (loads_of levels) a)
-      (tells_ended {X = Unit {0}} {Y = X} old.content (loads_of levels done ++ loads_from 0 levels term) (loads_of levels rest) e
-      (tells_then {X = Unit {0}} {Y = Unit {0}} old.content (loads_of levels done) (loads_from 0 levels term) tt (Err e) (run.told h)
-      (subst (λ (i : List ℕ). Tells {X = Unit {0}} i (loads_from 0 levels term) (Err e)) (run.reads.content h) (t h))))
+  pub terms_ended : {X Y : Type 0} (rest all : List (List ℕ)) (e : LoadFault) → done ++ term ∷ rest ≡ all → ReadsLists {X = X} tells (loads_from 0 levels term) mid new (Err e)
+      → ReadsLists {X = Y} tells (loads_of levels all) old new (Err e)
+  terms_ended rest all e a last =
+      loads_ended tells (loads_of levels done) (loads_from 0 levels term) (loads_of levels rest) (loads_of levels all) old mid new e (sym (loads_rest rest) ∙ ap (loads_of levels) a) run.reads run.told last
 
   pub terms_cost : (rest all : List (List ℕ)) → done ++ term ∷ rest ≡ all → Reads tells (load_sizes (loads_of levels all)) old new
   terms_cost rest all a =

@@ -8,8 +8,8 @@ use Rattle.std.proofs.lemmas.Grind.{flat_map-append}
 use Rattle.alta_content.specs.declared.content.Content.{Content}
 use Rattle.alta_disk.specs.Calls.{Reads}
 use Rattle.alta_disk.specs.Disk.{DiskState}
-use Rattle.alta_loading.proofs.Runs.{reads_most, reads_none, reads_then, tells_ended, tells_none, tells_then}
-use Rattle.alta_loading.specs.Loads.{Load, Tells, load_size, load_sizes}
+use Rattle.alta_loading.proofs.Runs.{loads_ended, reads_most, reads_none, reads_then, tells_none, tells_then}
+use Rattle.alta_loading.specs.Loads.{Load, ReadsLists, Tells, load_size, load_sizes}
 use Rattle.alta_loading.specs.Met.{keys_met, lists_met, loads_met, loads_of_tests}
 use Rattle.alta_disk.specs.declared.fault.LoadFault.{LoadFault}
 use Rattle.alta_machine.specs.declared.test.Test.{Test}
@@ -67,13 +67,9 @@ module _ (tells : Type 0) (levels : List Tables) (newest : Content) (done : List
       })
 
   -- it ends with a fault, before the rest
-  pub tests_ended : {X : Type 0} (rest all : List Test) (e : LoadFault) → done ++ test ∷ rest ≡ all → (tells → Tells {X = Unit {0}} mid.content (loads_met levels newest test) (Err e)) → tells
-      → Tells {X = X} old.content (loads_of_tests levels newest all) (Err e)
-  tests_ended {X} rest all e a t h =
-      subst (λ (l : List Load). Tells {X = X} old.content l (Err e)) (sym (loads_rest rest) ∙ ap loads a)
-      (tells_ended {X = Unit {0}} {Y = X} old.content (loads done ++ more) (loads rest) e
-      (tells_then {X = Unit {0}} {Y = Unit {0}} old.content (loads done) more tt (Err e) (run.told h)
-      (subst (λ (i : List ℕ). Tells {X = Unit {0}} i more (Err e)) (run.reads.content h) (t h))))
+  pub tests_ended : {X Y : Type 0} (rest all : List Test) (e : LoadFault) → done ++ test ∷ rest ≡ all → ReadsLists {X = X} tells more mid new (Err e)
+      → ReadsLists {X = Y} tells (loads all) old new (Err e)
+  tests_ended rest all e a last = loads_ended tells (loads done) more (loads rest) (loads all) old mid new e (sym (loads_rest rest) ∙ ap loads a) run.reads run.told last
 
   pub tests_cost : (rest all : List Test) → done ++ test ∷ rest ≡ all → Reads tells (load_sizes (loads_of_tests levels newest all)) old new
   tests_cost rest all a =

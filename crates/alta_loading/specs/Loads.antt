@@ -4,6 +4,8 @@ use Rattle.std.specs.List.{sum_by}
 use Rattle.std.specs.Str.{bytes_eq}
 use Rattle.alta_level.specs.Stored.{Stored, IsListFault, IsListOf}
 use Rattle.alta_disk.specs.Answers.{IfDamaged, IsDamaged}
+use Rattle.alta_disk.specs.Calls.{Retrieves}
+use Rattle.alta_disk.specs.Disk.{DiskState}
 use Rattle.alta_loading.specs.Lists.{KeepsRow, stored_in, stream_size, summary_size}
 use Rattle.alta_disk.specs.declared.fault.LoadFault.{LoadFault}
 use Rattle.alta_postings.specs.Deltas.{decoded_list}
@@ -79,3 +81,10 @@ KeepRows [] [] = Unit {0}
 KeepRows [] (list ∷ lists) = ⊥
 KeepRows (load ∷ loads) [] = ⊥
 KeepRows (load ∷ loads) (list ∷ lists) = KeepsRow load.level load.row list × KeepRows loads lists
+
+-- ---- a call that loads
+
+-- It reads no more than these lists have, and tells which of them are whole.
+pub record ReadsLists {X : Type 0} (tells : Type 0) (loads : List Load) (old new : DiskState) (result : Result X LoadFault) : Type 0 where
+  pub retrieves : Retrieves tells (load_sizes loads) old new result
+  pub told : tells → Tells old.content loads result

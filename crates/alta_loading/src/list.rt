@@ -1,8 +1,7 @@
 // One list of a level.
 ghost use Rattle.std.specs.Prelude.{◌≡◌, ℕ, ◌+◌, ◌<◌, ◌^◌, List, length, Err, IfOk};
-ghost use Rattle.alta_codec.specs.Faults.{Rose};
 ghost use Rattle.alta_content.specs.Rows.{AreDocuments};
-ghost use Rattle.alta_disk.specs.Calls.{Reads};
+ghost use Rattle.alta_disk.specs.Calls.{Retrieves};
 ghost use Rattle.alta_disk.specs.Disk.{DiskState};
 ghost use Rattle.alta_meaning.specs.Broken.{IsBrokenIn};
 ghost use Rattle.alta_level.specs.Stored.{IsListFault, IsListOf, stored_of};
@@ -11,8 +10,7 @@ ghost use Rattle.alta_loading.specs.Lists.{KeepsRow, LiesWithin, stored_as, stor
 ghost use Rattle.alta_disk.specs.declared.fault.LoadFault.TheVariants.{Disk as DiskFault};
 ghost use Rattle.alta_table.specs.Places.{stream_place};
 
-use alta_codec::zeros;
-use alta_disk::{Disk, LoadFault};
+use alta_disk::{Disk, LoadFault, read_part};
 use alta_level::{StoredList, check_list};
 use alta_table::{LevelFault, OpenLevel};
 use alta_words::Posting;
@@ -44,8 +42,7 @@ pub fn load_list<D: Disk>(
     ensures broken { D.tells → IfDamaged result (IsBrokenIn table.now (D.state disk.old).content) }
     // Whatever the disk tells, what is loaded keeps what its row and the documents say.
     ensures kept { IfOk result (λ posting. KeepsRow table.now row posting) }
-    ensures cause { result ≡ Err DiskFault → Rose (D.state disk.old).faults (D.state disk.new).faults }
-    ensures reads { Reads D.tells (stream_size table.now row + summary_size table.now row) (D.state disk.old) (D.state disk.new) }
+    ensures retrieves { Retrieves D.tells (stream_size table.now row + summary_size table.now row) (D.state disk.old) (D.state disk.new) result }
 {
     let (stream, summary) = read_bytes(alloc, disk, table, row)?;
     checked(table, row, stream, summary)
@@ -64,16 +61,14 @@ fn read_bytes<D: Disk>(
     ensures sizes { IfOk result (λ x. (length x.0.items ≡ stream_size table.now row) × (length x.1.items ≡ summary_size table.now row)) }
     ensures below { IfOk result (λ x. stream_place table.now row + stream_size table.now row + summary_size table.now row < 2 ^ 64) }
     ensures undamaged { IfDamaged result (λ p. ⊥) }
-    ensures cause { result ≡ Err DiskFault → Rose (D.state disk.old).faults (D.state disk.new).faults }
-    ensures reads { Reads D.tells (stream_size table.now row + summary_size table.now row) (D.state disk.old) (D.state disk.new) }
+    ensures retrieves { Retrieves D.tells (stream_size table.now row + summary_size table.now row) (D.state disk.old) (D.state disk.new) result }
 {
     let (stream, summary) = table.stream_place(row);
     // A level lies within its disk, so there is always such an end.
     let Some(end) = summary.place.checked_add(summary.bytes) else {
         return Err(LoadFault::Memory);
     };
-    let mut bytes = zeros(alloc, (end - stream.place) as usize)?;
-    disk.read(stream.place, &mut bytes)?;
+    let mut bytes = read_part(alloc, disk, stream.place, end - stream.place)?;
     let behind = bytes.split_off(stream.bytes as usize)?;
     Ok((bytes, behind))
 }

@@ -1,15 +1,12 @@
 // The lists of tests.
 ghost use Rattle.std.specs.Prelude.{◌≡◌, map, All, Err, IfOk};
-ghost use Rattle.alta_codec.specs.Faults.{Rose};
-ghost use Rattle.alta_disk.specs.Calls.{Reads};
 ghost use Rattle.alta_disk.specs.Disk.{DiskState};
 ghost use Rattle.alta_meaning.specs.Ordered.{RowsPrecede};
 ghost use Rattle.alta_loading.specs.Lists.{LiesWithin};
-ghost use Rattle.alta_loading.specs.Loads.{Tells, load_sizes};
+ghost use Rattle.alta_loading.specs.Loads.{ReadsLists};
 ghost use Rattle.alta_loading.specs.Met.{keys_met, lists_met, loads_met, loads_of_tests};
 ghost use Rattle.alta_loading.specs.Snapshots.{all_rows};
 ghost use Rattle.alta_loading.specs.Tested.{AreEndsWhole};
-ghost use Rattle.alta_disk.specs.declared.fault.LoadFault.TheVariants.{Disk as DiskFault};
 ghost use Rattle.alta_search.specs.Lists.{IsCut, test_in, test_keys, test_lists};
 ghost use Rattle.alta_search.specs.Newest.{HasAdded};
 
@@ -43,11 +40,9 @@ pub fn load_test<D: Disk>(
     ensures test { IfOk result (λ loaded. test_in loaded ≡ test) }
     ensures keys { IfOk result (λ loaded. test_keys loaded ≡ keys_met levels.now newest.now.content test) }
     ensures lists { D.tells → IfOk result (λ loaded. test_lists loaded ≡ lists_met levels.now newest.now.content (D.state disk.old).content test) }
-    ensures tells { D.tells → Tells (D.state disk.old).content (loads_met levels.now newest.now.content test) result }
     // Whatever the disk tells, the lists of a term rise one behind the other, and none is empty.
     ensures cut { IfOk result (λ loaded. IsCut (test_lists loaded)) }
-    ensures cause { result ≡ Err DiskFault → Rose (D.state disk.old).faults (D.state disk.new).faults }
-    ensures reads { Reads D.tells (load_sizes (loads_met levels.now newest.now.content test)) (D.state disk.old) (D.state disk.new) }
+    ensures loads { ReadsLists D.tells (loads_met levels.now newest.now.content test) (D.state disk.old) (D.state disk.new) result }
 {
     let met = terms_met(alloc, levels, newest, &test)?;
     match load_terms(alloc, disk, levels, ends, newest, met) {
@@ -76,10 +71,8 @@ pub fn load_tests<D: Disk>(
     ensures tests { IfOk result (λ tests. map test_in tests.items ≡ order.items) }
     ensures keys { IfOk result (λ tests. map test_keys tests.items ≡ map (keys_met levels.now newest.now.content) order.items) }
     ensures lists { D.tells → IfOk result (λ tests. map test_lists tests.items ≡ map (lists_met levels.now newest.now.content (D.state disk.old).content) order.items) }
-    ensures tells { D.tells → Tells (D.state disk.old).content (loads_of_tests levels.now newest.now.content order.items) result }
     ensures cut { IfOk result (λ tests. All IsCut (map test_lists tests.items)) }
-    ensures cause { result ≡ Err DiskFault → Rose (D.state disk.old).faults (D.state disk.new).faults }
-    ensures reads { Reads D.tells (load_sizes (loads_of_tests levels.now newest.now.content order.items)) (D.state disk.old) (D.state disk.new) }
+    ensures loads { ReadsLists D.tells (loads_of_tests levels.now newest.now.content order.items) (D.state disk.old) (D.state disk.new) result }
 {
     let mut tests = Vec::with_capacity(alloc, order.len())?;
     for test in order {

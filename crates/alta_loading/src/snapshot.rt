@@ -1,11 +1,9 @@
 // The snapshot of levels and of the newest documents.
 ghost use Rattle.std.specs.Prelude.{◌≡◌, ◌⊎◌, ◌↔◌, ◌∷◌, ◌++◌, ℕ, List, flat_map, map, All, Contains, Err, IfOk, IsTrue, OnOk};
-ghost use Rattle.alta_codec.specs.Faults.{Rose};
 ghost use Rattle.alta_codec.specs.Rising.{IsRising};
 ghost use Rattle.alta_machine.specs.PlanOf.{plan_of};
 ghost use Rattle.alta_compile.specs.Space.{document_end};
 ghost use Rattle.alta_compile.specs.View.{tree};
-ghost use Rattle.alta_disk.specs.Calls.{Reads};
 ghost use Rattle.alta_disk.specs.Disk.{DiskState};
 ghost use Rattle.alta_meaning.specs.Levels.{Level, documents_of};
 ghost use Rattle.alta_meaning.specs.Opened.{bytes_at};
@@ -14,11 +12,10 @@ ghost use Rattle.alta_meaning.specs.Standing.{tables_by};
 ghost use Rattle.alta_level.specs.Segments.{IsSegment};
 ghost use Rattle.alta_disk.specs.Answers.{IfDamaged};
 ghost use Rattle.alta_loading.specs.Lists.{LiesWithin};
-ghost use Rattle.alta_loading.specs.Loads.{Tells, load_sizes};
+ghost use Rattle.alta_loading.specs.Loads.{ReadsLists};
 ghost use Rattle.alta_loading.specs.Met.{each_once, loads_of_tests};
 ghost use Rattle.alta_loading.specs.Snapshots.{all_rows, loaded_view};
 ghost use Rattle.alta_loading.specs.Tested.{AreEndsWhole};
-ghost use Rattle.alta_disk.specs.declared.fault.LoadFault.TheVariants.{Disk as DiskFault};
 ghost use Rattle.alta_memlevel.specs.Documents.{HasDocuments};
 ghost use Rattle.alta_machine.specs.declared.document.Document.{Document};
 ghost use Rattle.alta_machine.specs.Deciding.{answers};
@@ -73,7 +70,6 @@ pub fn load_snapshot<D: Disk>(
     requires gone { IsRising gone.now }
     ensures tests { IfOk result (λ snapshot. snapshot.tests ≡ tests_of (tree plan.now)) }
     ensures view { D.tells → IfOk result (λ snapshot. snapshot ≡ loaded_view levels.now newest.now.content (D.state disk.old).content (tests_of (tree plan.now)) gone.now) }
-    ensures tells { D.tells → Tells (D.state disk.old).content (loads_of_tests levels.now newest.now.content (each_once (tests_of (tree plan.now)))) result }
     // Levels that are the segments of contents are never damaged.
     ensures undamaged { D.tells → (contents : List Level) → levels.now ≡ map tables_by contents
         → All (λ level. IsSegment (bytes_at level.extent (D.state disk.old).content) level.content) contents → IfDamaged result (λ place. ⊥) }
@@ -81,8 +77,7 @@ pub fn load_snapshot<D: Disk>(
     ensures answers { D.tells → IfOk result (λ snapshot. (contents : List Level) → (behind : List Document) → (q : Shape) → levels.now ≡ map tables_by contents
         → All (λ level. IsSegment (bytes_at level.extent (D.state disk.old).content) level.content) contents → HasDocuments gone.now behind newest.now
         → tree plan.now ≡ plan_of q → AreToCome (tree plan.now) snapshot 0 (answers (flat_map (documents_of gone.now) contents ++ behind) q)) }
-    ensures cause { result ≡ Err DiskFault → Rose (D.state disk.old).faults (D.state disk.new).faults }
-    ensures reads { Reads D.tells (load_sizes (loads_of_tests levels.now newest.now.content (each_once (tests_of (tree plan.now))))) (D.state disk.old) (D.state disk.new) }
+    ensures loads { ReadsLists D.tells (loads_of_tests levels.now newest.now.content (each_once (tests_of (tree plan.now)))) (D.state disk.old) (D.state disk.new) result }
 {
     let order = loading_order(alloc, plan)?;
     let mut ends = Ends::Untested;
@@ -115,7 +110,6 @@ pub fn load_ordered<D: Disk>(
     requires gone { IsRising gone.now }
     ensures tests { IfOk result (λ snapshot. snapshot.tests ≡ used order) }
     ensures view { D.tells → IfOk result (λ snapshot. snapshot ≡ loaded_view levels.now newest.now.content (D.state disk.old).content (used order) gone.now) }
-    ensures tells { D.tells → Tells (D.state disk.old).content (loads_of_tests levels.now newest.now.content (each_once (used order))) result }
     // Levels that are the segments of contents are never damaged.
     ensures undamaged { D.tells → (contents : List Level) → levels.now ≡ map tables_by contents
         → All (λ level. IsSegment (bytes_at level.extent (D.state disk.old).content) level.content) contents → IfDamaged result (λ place. ⊥) }
@@ -133,8 +127,7 @@ pub fn load_ordered<D: Disk>(
         → ShowsDocuments snapshot (flat_map (documents_of gone.now) contents ++ behind)) }
     ensures ends { D.tells → AreEndsWhole ends.new (D.state disk.old).content levels.now }
     ensures tested { (more : List Test) → used order ≡ document_end ∷ more → OnOk result (ends.new ≡ Ends.Tested) }
-    ensures cause { result ≡ Err DiskFault → Rose (D.state disk.old).faults (D.state disk.new).faults }
-    ensures reads { Reads D.tells (load_sizes (loads_of_tests levels.now newest.now.content (each_once (used order)))) (D.state disk.old) (D.state disk.new) }
+    ensures loads { ReadsLists D.tells (loads_of_tests levels.now newest.now.content (each_once (used order))) (D.state disk.old) (D.state disk.new) result }
 {
     levels_and_newest_documents_answer();
     levels_and_newest_documents_are_ranked();

@@ -1,12 +1,9 @@
 // The lists of a term.
 ghost use Rattle.std.specs.Prelude.{◌≡◌, ◌∷◌, ◌++◌, ◌^◌, ℕ, List, [], map, All, Err, IfOk, OnOk, Some, MatchOption, ◌<◌, length, IsTrue};
-ghost use Rattle.alta_codec.specs.Faults.{Rose};
 ghost use Rattle.alta_content.specs.Rows.{ends_of};
-ghost use Rattle.alta_disk.specs.Calls.{Reads};
 ghost use Rattle.alta_disk.specs.Disk.{DiskState};
 ghost use Rattle.alta_loading.specs.Lists.{KeepsRow, LiesWithin, stream_size};
-ghost use Rattle.alta_loading.specs.Loads.{KeepRows, Load, Tells, list_at, load_at, load_in, load_size, load_sizes, loads_from, number_of, row_from};
-ghost use Rattle.alta_disk.specs.declared.fault.LoadFault.TheVariants.{Disk as DiskFault};
+ghost use Rattle.alta_loading.specs.Loads.{KeepRows, Load, ReadsLists, list_at, load_at, load_in, loads_from, number_of, row_from};
 ghost use Rattle.alta_loading.specs.Terms.{KeepTerm, if_some, lists_of_term, number_if_some, term_key};
 ghost use Rattle.alta_loading.specs.Tested.{AreEndsWhole, IsAllEnds};
 ghost use Rattle.alta_search.specs.Lists.{key_of, level_in, level_list, stored_list, term_lists};
@@ -27,39 +24,14 @@ use std::alloc::{AllocError, Global};
 /// Loads the lists of a term: those of the levels, that of the oldest level first, and behind them a copy of that of the newest
 /// documents. A list of a level is kept as it is coded, but that of all documents' ends, once it was tested, as the level's rows
 /// have it; where `ends` says that it was tested before, it is not read. The oldest level is numbered 0, and the newest documents are
-/// numbered behind all levels. A level without the term has no list.
+/// numbered behind all levels. A level without the term has no list. In each level the term is looked up near the place of `nears`
+/// that has the level's index, where there is one, and else by halves; behind it the place is where the next term is looked up.
 ///
 /// # Errors
 ///
-/// Those of [`load_coded`].
+/// `Damaged` exactly where one of the lists has a fault, at the first fault of the first list that has one. `Disk` where a
+/// read failed. `Memory` where there was no memory for the lists.
 pub fn load_term<D: Disk>(
-    alloc: Global,
-    disk: &mut D,
-    levels: &[OpenLevel],
-    ends: Ends,
-    newest: &MemLevel,
-    term: Bytes,
-) -> Result<TermLists, LoadFault>
-    requires within { D.tells → All (λ level. LiesWithin level (D.state disk.old).content) levels.now }
-    requires ends { D.tells → AreEndsWhole ends (D.state disk.old).content levels.now }
-    requires sound { IsTrue newest.now.sound }
-    ensures key { IfOk result (λ lists. key_of lists ≡ term_key levels.now newest.now.content term) }
-    ensures lists { D.tells → IfOk result (λ lists. term_lists lists ≡ lists_of_term levels.now newest.now.content (D.state disk.old).content term) }
-    ensures tells { D.tells → Tells (D.state disk.old).content (loads_from 0 levels.now term) result }
-    ensures kept { IfOk result (λ lists. KeepTerm levels.now newest.now.content term (term_lists lists)) }
-    ensures cause { result ≡ Err DiskFault → Rose (D.state disk.old).faults (D.state disk.new).faults }
-    ensures reads { Reads D.tells (load_sizes (loads_from 0 levels.now term)) (D.state disk.old) (D.state disk.new) }
-{
-    load_term_near(alloc, disk, levels, ends, newest, term, &mut [])
-}
-
-/// Loads the lists of a term, as [`load_term`] does. In each level the term is looked up near the place of `nears` that has the
-/// level's index, where there is one, and behind it the place is where the next term is looked up.
-///
-/// # Errors
-///
-/// Those of [`load_coded`].
-pub fn load_term_near<D: Disk>(
     alloc: Global,
     disk: &mut D,
     levels: &[OpenLevel],
@@ -73,12 +45,10 @@ pub fn load_term_near<D: Disk>(
     requires sound { IsTrue newest.now.sound }
     ensures key { IfOk result (λ lists. key_of lists ≡ term_key levels.now newest.now.content term) }
     ensures lists { D.tells → IfOk result (λ lists. term_lists lists ≡ lists_of_term levels.now newest.now.content (D.state disk.old).content term) }
-    ensures tells { D.tells → Tells (D.state disk.old).content (loads_from 0 levels.now term) result }
     ensures kept { IfOk result (λ lists. KeepTerm levels.now newest.now.content term (term_lists lists)) }
-    ensures cause { result ≡ Err DiskFault → Rose (D.state disk.old).faults (D.state disk.new).faults }
-    ensures reads { Reads D.tells (load_sizes (loads_from 0 levels.now term)) (D.state disk.old) (D.state disk.new) }
+    ensures loads { ReadsLists D.tells (loads_from 0 levels.now term) (D.state disk.old) (D.state disk.new) result }
 {
-    match load_coded_near(alloc, disk, levels, ends, term.as_slice(), nears) {
+    match load_coded(alloc, disk, levels, ends, term.as_slice(), nears) {
         Ok(coded) => {
             let list = newest.get(term.as_slice());
             let levels = with_newest(alloc, coded, levels.len() as u64, list)?;
@@ -110,38 +80,8 @@ fn with_newest(
     Ok(all)
 }
 
-/// Loads the lists of a term in levels, that of the oldest level first, by one read of the disk for each level that has the
-/// term. In each level the term is looked up by halves. The lists of all ends are not read where `ends` says that they were tested.
-///
-/// # Errors
-///
-/// `Damaged` exactly where one of the lists has a fault, at the first fault of the first list that has one. `Disk` where a
-/// read failed. `Memory` where there was no memory for the lists.
-pub fn load_coded<D: Disk>(
-    alloc: Global,
-    disk: &mut D,
-    levels: &[OpenLevel],
-    ends: Ends,
-    term: &[u8],
-) -> Result<Vec<LevelList>, LoadFault>
-    requires within { D.tells → All (λ level. LiesWithin level (D.state disk.old).content) levels.now }
-    requires ends { D.tells → AreEndsWhole ends (D.state disk.old).content levels.now }
-    // One list for each level that has the term.
-    ensures numbers { IfOk result (λ lists. map level_in lists.items ≡ map number_of (loads_from 0 levels.now term.now)) }
-    // They are what stands on the disk.
-    ensures lists { D.tells → IfOk result (λ lists. map level_list lists.items ≡ map (list_at (D.state disk.old).content) (loads_from 0 levels.now term.now)) }
-    ensures tells { D.tells → Tells (D.state disk.old).content (loads_from 0 levels.now term.now) result }
-    // Whatever the disk tells, they keep what their rows and documents say.
-    ensures kept { IfOk result (λ lists. KeepRows (loads_from 0 levels.now term.now) (map level_list lists.items)) }
-    ensures cause { result ≡ Err DiskFault → Rose (D.state disk.old).faults (D.state disk.new).faults }
-    ensures reads { Reads D.tells (load_sizes (loads_from 0 levels.now term.now)) (D.state disk.old) (D.state disk.new) }
-{
-    load_coded_near(alloc, disk, levels, ends, term, &mut [])
-}
-
-// The lists of a term in levels, as `load_coded` loads them. In each level the term is looked up near the place of `nears` that has
-// the level's index, where there is one.
-fn load_coded_near<D: Disk>(
+// The lists of a term in levels, that of the oldest level first, by one read of the disk for each level that has the term.
+fn load_coded<D: Disk>(
     alloc: Global,
     disk: &mut D,
     levels: &[OpenLevel],
@@ -151,12 +91,13 @@ fn load_coded_near<D: Disk>(
 ) -> Result<Vec<LevelList>, LoadFault>
     requires within { D.tells → All (λ level. LiesWithin level (D.state disk.old).content) levels.now }
     requires ends { D.tells → AreEndsWhole ends (D.state disk.old).content levels.now }
+    // One list for each level that has the term.
     ensures numbers { IfOk result (λ lists. map level_in lists.items ≡ map number_of (loads_from 0 levels.now term.now)) }
+    // They are what stands on the disk.
     ensures lists { D.tells → IfOk result (λ lists. map level_list lists.items ≡ map (list_at (D.state disk.old).content) (loads_from 0 levels.now term.now)) }
-    ensures tells { D.tells → Tells (D.state disk.old).content (loads_from 0 levels.now term.now) result }
+    // Whatever the disk tells, they keep what their rows and documents say.
     ensures kept { IfOk result (λ lists. KeepRows (loads_from 0 levels.now term.now) (map level_list lists.items)) }
-    ensures cause { result ≡ Err DiskFault → Rose (D.state disk.old).faults (D.state disk.new).faults }
-    ensures reads { Reads D.tells (load_sizes (loads_from 0 levels.now term.now)) (D.state disk.old) (D.state disk.new) }
+    ensures loads { ReadsLists D.tells (loads_from 0 levels.now term.now) (D.state disk.old) (D.state disk.new) result }
 {
     let mut lists = Vec::new(alloc);
     for number in 0..levels.len() {
@@ -192,10 +133,8 @@ fn load_next<D: Disk>(
     requires ends { D.tells → AreEndsWhole ends (D.state disk.old).content (level.now ∷ []) }
     ensures numbers { OnOk result (map level_in lists.new.items ≡ map level_in lists.old.items ++ map number_of (load_in number level.now term.now)) }
     ensures lists { D.tells → OnOk result (map level_list lists.new.items ≡ map level_list lists.old.items ++ map (list_at (D.state disk.old).content) (load_in number level.now term.now)) }
-    ensures tells { D.tells → Tells (D.state disk.old).content (load_in number level.now term.now) result }
     ensures kept { OnOk result ((before : List Load) → KeepRows before (map level_list lists.old.items) → KeepRows (before ++ load_in number level.now term.now) (map level_list lists.new.items)) }
-    ensures cause { result ≡ Err DiskFault → Rose (D.state disk.old).faults (D.state disk.new).faults }
-    ensures reads { Reads D.tells (load_sizes (load_in number level.now term.now)) (D.state disk.old) (D.state disk.new) }
+    ensures loads { ReadsLists D.tells (load_in number level.now term.now) (D.state disk.old) (D.state disk.new) result }
 {
     match row_of(level, term, number, nears) {
         None => Ok(()),
@@ -236,10 +175,8 @@ fn load_row<D: Disk>(
     requires ends { D.tells → AreEndsWhole ends (D.state disk.old).content (level.now ∷ []) }
     ensures number { IfOk result (λ list. level_in list ≡ number) }
     ensures list { D.tells → IfOk result (λ list. level_list list ≡ list_at (D.state disk.old).content (record { number = number; level = level.now; row = row })) }
-    ensures tells { D.tells → Tells (D.state disk.old).content (load_at number level.now (Some row)) result }
     ensures kept { IfOk result (λ list. KeepsRow level.now row (level_list list)) }
-    ensures cause { result ≡ Err DiskFault → Rose (D.state disk.old).faults (D.state disk.new).faults }
-    ensures reads { Reads D.tells (load_sizes (load_at number level.now (Some row))) (D.state disk.old) (D.state disk.new) }
+    ensures loads { ReadsLists D.tells (load_at number level.now (Some row)) (D.state disk.old) (D.state disk.new) result }
 {
     if is_tested(ends, level, row) {
         let list = all_ends(number, level)?;

@@ -3,18 +3,15 @@
 // level that has the term compares one row, and another two, in place of a look-up by halves. A place is a hint of which no contract
 // speaks: with any other the row is the same.
 ghost use Rattle.std.specs.Prelude.{◌≡◌, ℕ, List, map, All, Err, IfOk, IsTrue};
-ghost use Rattle.alta_codec.specs.Faults.{Rose};
-ghost use Rattle.alta_disk.specs.Calls.{Reads};
 ghost use Rattle.alta_disk.specs.Disk.{DiskState};
 ghost use Rattle.alta_loading.specs.Lists.{LiesWithin};
-ghost use Rattle.alta_loading.specs.Loads.{Tells, load_sizes};
+ghost use Rattle.alta_loading.specs.Loads.{ReadsLists};
 ghost use Rattle.alta_loading.specs.Terms.{KeepTerms, lists_of_term, loads_of, term_key};
 ghost use Rattle.alta_loading.specs.Tested.{AreEndsWhole};
-ghost use Rattle.alta_disk.specs.declared.fault.LoadFault.TheVariants.{Disk as DiskFault};
 ghost use Rattle.alta_search.specs.Lists.{key_of, term_lists};
 
 use crate::mark::Ends;
-use crate::term::load_term_near;
+use crate::term::load_term;
 use alta_codec::Bytes;
 use alta_disk::{Disk, LoadFault};
 use alta_memlevel::MemLevel;
@@ -41,15 +38,13 @@ pub fn load_terms<D: Disk>(
     requires sound { IsTrue newest.now.sound }
     ensures keys { IfOk result (λ loaded. map key_of loaded.items ≡ map (term_key levels.now newest.now.content) terms.items) }
     ensures lists { D.tells → IfOk result (λ loaded. map term_lists loaded.items ≡ map (lists_of_term levels.now newest.now.content (D.state disk.old).content) terms.items) }
-    ensures tells { D.tells → Tells (D.state disk.old).content (loads_of levels.now terms.items) result }
     ensures kept { IfOk result (λ loaded. KeepTerms levels.now newest.now.content terms.items (map term_lists loaded.items)) }
-    ensures cause { result ≡ Err DiskFault → Rose (D.state disk.old).faults (D.state disk.new).faults }
-    ensures reads { Reads D.tells (load_sizes (loads_of levels.now terms.items)) (D.state disk.old) (D.state disk.new) }
+    ensures loads { ReadsLists D.tells (loads_of levels.now terms.items) (D.state disk.old) (D.state disk.new) result }
 {
     let mut loaded = Vec::with_capacity(alloc, terms.len())?;
     let mut nears = vec![in alloc; 0usize; places(terms.len(), levels.len())]?;
     for term in terms {
-        match load_term_near(alloc, disk, levels, ends, newest, term, &mut nears) {
+        match load_term(alloc, disk, levels, ends, newest, term, &mut nears) {
             Ok(lists) => loaded.push(lists)?,
             Err(fault) => return Err(fault),
         }

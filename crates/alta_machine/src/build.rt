@@ -95,14 +95,14 @@ fn cell_of(alloc: Global, written: &str) -> Result<Cell, AllocError>
     ensures { IfOk result (λ cell. cell ≡ word_cell (written.now, folded_of written.now)) }
 {
     if written.len() > WORD_LIMIT {
-        return Ok(Cell::empty());
+        return Ok(Cell::default());
     }
     let folding = folded_term(alloc, written)?;
     let Some((_, folded)) = folding.as_slice().split_first() else {
-        return Ok(Cell::empty());
+        return Ok(Cell::default());
     };
     if folded.len() > WORD_LIMIT {
-        return Ok(Cell::empty());
+        return Ok(Cell::default());
     }
     if written.as_bytes() == folded {
         return match number(written) {

@@ -6,7 +6,7 @@ ghost use Rattle.std.specs.Str.{bytes_eq};
 ghost use Rattle.alta_codec.specs.Order.{Precedes};
 ghost use Rattle.alta_machine.specs.Cells.{IsCell, cell_holds, cell_begins};
 
-use alta_codec::Bytes;
+use alta_codec::{Bytes, Len};
 use std::marker::Model;
 
 /// What stands at one place of a document: at most two terms, or the 34 of a number. Contracts see the rising list of them.
@@ -34,16 +34,31 @@ impl Model for Cell {
     ghost invariant = { λ c. IsCell (terms_of c.terms) };
 }
 
-impl Cell {
+impl Default for Cell {
+    ghost is_default = { λ cell. cell ≡ [] };
+
     /// The cell without terms.
-    pub fn empty() -> Cell
-        ensures { result ≡ [] }
-    {
+    fn default() -> Cell {
         Cell {
             terms: Terms::Empty,
         }
     }
+}
 
+impl Len for Cell {
+    ghost len_of = { length };
+
+    fn len(&self) -> usize {
+        match &self.terms {
+            Terms::Empty => 0,
+            Terms::One(_) => 1,
+            Terms::Two(_, _) => 2,
+            Terms::Many(terms) => terms.len(),
+        }
+    }
+}
+
+impl Cell {
     /// The cell of one term.
     pub fn one(term: Bytes) -> Cell
         ensures { result ≡ term ∷ [] }
@@ -70,18 +85,6 @@ impl Cell {
     {
         Cell {
             terms: Terms::Many(terms),
-        }
-    }
-
-    /// How many terms it has.
-    pub fn len(&self) -> usize
-        ensures { result ≡ length self.now }
-    {
-        match &self.terms {
-            Terms::Empty => 0,
-            Terms::One(_) => 1,
-            Terms::Two(_, _) => 2,
-            Terms::Many(terms) => terms.len(),
         }
     }
 

@@ -2,6 +2,7 @@
 use Rattle.std.proofs.Common.{◌≡◌, ◌⊎◌, ⊎_elim, inl, inr, ℕ, ◌+◌, Bool, true, cond, List, [], ◌∷◌, ◌++◌, length, refl, sym, ap, subst, ◌∙◌, arith, Result, Ok, Err}
 use Rattle.std.specs.List.{All}
 use Rattle.std.proofs.lemmas.List.Elements.{All-head, All-tail}
+use Rattle.alta_layout.specs.Places.{half_start}
 use Rattle.alta_disk.specs.Parts.{Touches}
 use Rattle.alta_journal.specs.Journal.{EndsAt, Appended, Appends}
 use Rattle.alta_journal.specs.Placed.{placed}
@@ -17,7 +18,7 @@ use Rattle.alta_meaning.specs.Views.{state_of, rooted}
 use Rattle.alta_meaning.proofs.Entering.{after_more}
 use Rattle.alta_meaning.proofs.Tests.{by_test}
 use Rattle.alta_meaning.specs.Known.{Known, admits, known_behind, replayed}
-use Rattle.alta_meaning.specs.Opened.{Opened, IsNamed, IsOpened, journal_of, known_at}
+use Rattle.alta_meaning.specs.Opened.{Opened, IsNamed, IsOpened, known_at}
 use Rattle.alta_meaning.specs.Standing.{AreLevels, StandsFor, view_of}
 use Rattle.alta_meaning.specs.Switching.{SparesSlots, with_entry, MayAppend}
 use Rattle.alta_meaning.proofs.SwitchLaws.{journal_within, extents_clear}
@@ -58,18 +59,18 @@ module _ (o : Opened) (entry : Entry) (old new : List ℕ) (sound : IsSound (len
       (extents_clear o.tail (1 + length (body_of entry)) (length old) o.root (omega (arith, half.1, may.fits)) sound)
 
   -- the entry is one more
-  named_more : EndsAt o.root.version (journal_of o.slot) (o.tail + length (record_of entry)) (o.entries ++ entry ∷ []) new → IsNamed (with_entry o entry) new
+  named_more : EndsAt o.root.version (half_start o.slot) (o.tail + length (record_of entry)) (o.entries ++ entry ∷ []) new → IsNamed (with_entry o entry) new
   named_more ends = record {
     list = deleted_same o.root old new (All-head (IsSame old new) o.root.deletions o.root.levels.items same) ∙ named.list;
     tables = levels_same o.root o.deleted [] o.root.levels.items old new (All-tail (IsSame old new) o.root.deletions o.root.levels.items same) ∙ named.tables;
     ends = named.ends;
     journal = ends;
     known = known_behind named.known entry;
-    admitted = placed_more (journal_of o.slot) o.entries entry named.known (known_at o.root o.deleted o.levels) named.admitted may.admitted;
+    admitted = placed_more (half_start o.slot) o.entries entry named.known (known_at o.root o.deleted o.levels) named.admitted may.admitted;
   }
 
   -- or it is not there yet
-  named_still : EndsAt o.root.version (journal_of o.slot) o.tail o.entries new → IsNamed o new
+  named_still : EndsAt o.root.version (half_start o.slot) o.tail o.entries new → IsNamed o new
   named_still ends = record {
     list = deleted_same o.root old new (All-head (IsSame old new) o.root.deletions o.root.levels.items same) ∙ named.list;
     tables = levels_same o.root o.deleted [] o.root.levels.items old new (All-tail (IsSame old new) o.root.deletions o.root.levels.items same) ∙ named.tables;
@@ -90,20 +91,20 @@ module _ (o : Opened) (entry : Entry) (old new : List ℕ) (sound : IsSound (len
   are_more levels are = let still = are_still levels are in record { extents = still.extents; tables = still.tables; segments = still.segments }
 
 -- while an entry is appended, an image is opened as before or with the entry
-pub opened_appending : (o : Opened) (entry : Entry) (old new : List ℕ) (opened : IsOpened o old) → MayAppend entry o opened.named.known → Appends o.root.version (journal_of o.slot) o.tail entry old new → IsOpened o new ⊎ IsOpened (with_entry o entry) new
+pub opened_appending : (o : Opened) (entry : Entry) (old new : List ℕ) (opened : IsOpened o old) → MayAppend entry o opened.named.known → Appends o.root.version (half_start o.slot) o.tail entry old new → IsOpened o new ⊎ IsOpened (with_entry o entry) new
 opened_appending o entry old new opened may appends =
     let sound = counts_sound o.slot o.root old opened.counts in
-    let touches = appends_touch o.root.version (journal_of o.slot) o.tail entry old new appends in
+    let touches = appends_touch o.root.version (half_start o.slot) o.tail entry old new appends in
     let counts = counts_on o.slot o.root ((o.tail, 1 + length (body_of entry)) ∷ []) old new opened.counts touches (slots_spared o entry old new sound opened.named may touches) in
     ⊎_elim (λ still. inl (record { counts = counts; named = named_still o entry old new sound opened.named may touches still }))
     (λ more. inr (record { counts = counts; named = named_more o entry old new sound opened.named may touches more })) (appends.entries o.entries opened.named.journal)
 
 -- and once it is appended, with the entry
-pub opened_appended : (o : Opened) (entry : Entry) (old new : List ℕ) (opened : IsOpened o old) → MayAppend entry o opened.named.known → Appends o.root.version (journal_of o.slot) o.tail entry old new → Appended o.root.version (journal_of o.slot) o.tail entry old new
+pub opened_appended : (o : Opened) (entry : Entry) (old new : List ℕ) (opened : IsOpened o old) → MayAppend entry o opened.named.known → Appends o.root.version (half_start o.slot) o.tail entry old new → Appended o.root.version (half_start o.slot) o.tail entry old new
     → IsOpened (with_entry o entry) new
 opened_appended o entry old new opened may appends appended =
     let sound = counts_sound o.slot o.root old opened.counts in
-    let touches = appends_touch o.root.version (journal_of o.slot) o.tail entry old new appends in
+    let touches = appends_touch o.root.version (half_start o.slot) o.tail entry old new appends in
     record {
       counts = counts_on o.slot o.root ((o.tail, 1 + length (body_of entry)) ∷ []) old new opened.counts touches (slots_spared o entry old new sound opened.named may touches);
       named = named_more o entry old new sound opened.named may touches (appended o.entries opened.named.journal);
@@ -114,7 +115,7 @@ state_more s o entry levels is = after_more (rooted (view_of o levels)) o.entrie
 
 -- The same of states. Which entry is admitted is asked over what opening found.
 stands_more : (s : State) (entry : Entry) (old new : List ℕ) (stands : StandsFor s old) → MayAppend entry stands.opened stands.means.named.known → Touches ((stands.opened.tail, 1 + length (body_of entry)) ∷ []) old new
-    → EndsAt stands.opened.root.version (journal_of stands.opened.slot) (stands.opened.tail + length (record_of entry)) (stands.opened.entries ++ entry ∷ []) new → StandsFor (after_entry s entry) new
+    → EndsAt stands.opened.root.version (half_start stands.opened.slot) (stands.opened.tail + length (record_of entry)) (stands.opened.entries ++ entry ∷ []) new → StandsFor (after_entry s entry) new
 stands_more s entry old new stands may touches more =
     let o = stands.opened in
     let named = stands.means.named in
@@ -130,13 +131,13 @@ stands_more s entry old new stands may touches more =
       };
     }
 
-pub stands_appending : (s : State) (entry : Entry) (old new : List ℕ) (stands : StandsFor s old) → MayAppend entry stands.opened stands.means.named.known → Appends stands.opened.root.version (journal_of stands.opened.slot) stands.opened.tail entry old new
+pub stands_appending : (s : State) (entry : Entry) (old new : List ℕ) (stands : StandsFor s old) → MayAppend entry stands.opened stands.means.named.known → Appends stands.opened.root.version (half_start stands.opened.slot) stands.opened.tail entry old new
     → StandsFor s new ⊎ StandsFor (after_entry s entry) new
 stands_appending s entry old new stands may appends =
     let o = stands.opened in
     let named = stands.means.named in
     let sound = counts_sound o.slot o.root old stands.counts in
-    let touches = appends_touch o.root.version (journal_of o.slot) o.tail entry old new appends in
+    let touches = appends_touch o.root.version (half_start o.slot) o.tail entry old new appends in
     ⊎_elim
     (λ still. inl (record {
       opened = o;
@@ -150,8 +151,8 @@ stands_appending s entry old new stands may appends =
     }))
     (λ more. inr (stands_more s entry old new stands may touches more)) (appends.entries o.entries named.journal)
 
-pub stands_appended : (s : State) (entry : Entry) (old new : List ℕ) (stands : StandsFor s old) → MayAppend entry stands.opened stands.means.named.known → Appends stands.opened.root.version (journal_of stands.opened.slot) stands.opened.tail entry old new
-    → Appended stands.opened.root.version (journal_of stands.opened.slot) stands.opened.tail entry old new → StandsFor (after_entry s entry) new
+pub stands_appended : (s : State) (entry : Entry) (old new : List ℕ) (stands : StandsFor s old) → MayAppend entry stands.opened stands.means.named.known → Appends stands.opened.root.version (half_start stands.opened.slot) stands.opened.tail entry old new
+    → Appended stands.opened.root.version (half_start stands.opened.slot) stands.opened.tail entry old new → StandsFor (after_entry s entry) new
 stands_appended s entry old new stands may appends appended =
     let o = stands.opened in
-    stands_more s entry old new stands may (appends_touch o.root.version (journal_of o.slot) o.tail entry old new appends) (appended o.entries stands.means.named.journal)
+    stands_more s entry old new stands may (appends_touch o.root.version (half_start o.slot) o.tail entry old new appends) (appended o.entries stands.means.named.journal)

@@ -1,6 +1,8 @@
 -- Each image has no root, breaks a rule at a place, or is opened.
 use Rattle.std.proofs.Common.{◌≡◌, ◌⊎◌, ⊎_elim, inl, inr, ℕ, Bool, true, false, List, [], ◌∷◌, ◌++◌, refl, sym, ap, ◌∙◌, Result, Ok, Err, append_assoc}
 use Rattle.std.proofs.lemmas.List.{append-nil}
+use Rattle.alta_layout.specs.Places.{half_start}
+use Rattle.alta_layout.specs.declared.slot.Slot.{Slot}
 use Rattle.alta_codec.specs.declared.extent.Extent.{Extent}
 use Rattle.alta_journal.specs.Journal.{EndsAt}
 use Rattle.alta_journal.specs.Placed.{placed}
@@ -11,12 +13,11 @@ use Rattle.alta_root.specs.declared.fault.RootFault.{RootFault}
 use Rattle.alta_root.specs.declared.fault.RootFault.TheVariants as faults
 use Rattle.alta_root.specs.declared.root.Root.{Root}
 use Rattle.alta_root.specs.declared.root.Roots.{Roots}
-use Rattle.alta_root.specs.declared.slot.Slot.{Slot}
 use Rattle.alta_root.proofs.SlotLaws.{some_answer}
 use Rattle.alta_table.specs.Tables.{Tables}
 use Rattle.alta_meaning.specs.Broken.{ComesTo, HasLevels, IsBrokenAt, in_slots, in_list, in_tables, out_of_order, in_names, without_end, in_records, in_entries}
 use Rattle.alta_meaning.specs.Known.{Named, Known, replayed}
-use Rattle.alta_meaning.specs.Opened.{Opened, IsOpened, half_of, journal_of, deleted_in, tables_at, are_in_order, names_in, with_level, levels_from, levels_in, have_ends, known_at}
+use Rattle.alta_meaning.specs.Opened.{Opened, IsOpened, deleted_in, tables_at, are_in_order, names_in, with_level, levels_from, levels_in, have_ends, known_at}
 use Rattle.alta_meaning.proofs.Steps.{levels_append}
 
 abbrev pub IsShown : List ℕ → Type 0
@@ -36,8 +37,8 @@ module _ (image : List ℕ) (slot : Slot) (root : Root) (counts : Counts slot ro
       has : HasLevels slot root deleted levels image
       has = record { counts = counts; list = list; tables = tables }
 
-      by_entries : have_ends levels deleted ≡ true → (entries : List Entry) (tail : ℕ) → EndsAt root.version (journal_of slot) tail entries image → (r : Result Known ℕ)
-          → replayed (known_at root deleted levels) (placed (journal_of slot) entries) ≡ r → IsShown image
+      by_entries : have_ends levels deleted ≡ true → (entries : List Entry) (tail : ℕ) → EndsAt root.version (half_start slot) tail entries image → (r : Result Known ℕ)
+          → replayed (known_at root deleted levels) (placed (half_start slot) entries) ≡ r → IsShown image
       by_entries ends entries tail journal (Ok known) e =
           inr (inr (
             record { slot = slot; root = root; deleted = deleted; levels = levels; entries = entries; tail = tail },
@@ -47,8 +48,8 @@ module _ (image : List ℕ) (slot : Slot) (root : Root) (counts : Counts slot ro
 
       by_ends : (b : Bool) → have_ends levels deleted ≡ b → IsShown image
       by_ends true ends =
-          ⊎_elim (λ (tail, entries, journal). by_entries ends entries tail journal (replayed (known_at root deleted levels) (placed (journal_of slot) entries)) refl)
-          (λ (place, bad). broken place (in_records slot root deleted levels place has ends bad)) (read_or_broken root.version (half_of slot) image counts.whole)
+          ⊎_elim (λ (tail, entries, journal). by_entries ends entries tail journal (replayed (known_at root deleted levels) (placed (half_start slot) entries)) refl)
+          (λ (place, bad). broken place (in_records slot root deleted levels place has ends bad)) (read_or_broken root.version slot image counts.whole)
       by_ends false ends = broken root.deletions.place (without_end slot root deleted levels has ends)
 
     module _ (before : List Extent) (levels : List Tables) (extent : Extent) (rest : List Extent) (split : root.levels.items ≡ before ++ extent ∷ rest)

@@ -1,6 +1,7 @@
 -- A disk that was formatted stands for the state without documents.
 use Rattle.std.proofs.Common.{inl, ℕ, List, [], length, take, refl, ap, ◌∙◌, arith}
 use Rattle.std.proofs.lemmas.List.Elements.{All-nil, All-cons}
+use Rattle.alta_layout.specs.declared.slot.Slot.TheVariants.{A}
 use Rattle.alta_journal.specs.Entry.{MayBeRecorded}
 use Rattle.alta_level.specs.Segments.{IsSegment}
 use Rattle.alta_postings.specs.Deltas.{fault_from, first_fault, list_from, decoded_list}
@@ -8,7 +9,6 @@ use Rattle.alta_root.specs.Places.{fields_at}
 use Rattle.alta_root.specs.Root.{body_of, IsSound, IsWord, no_extent}
 use Rattle.alta_root.specs.Slots.{Counts}
 use Rattle.alta_root.specs.declared.places.TheConstants.{VERSION}
-use Rattle.alta_root.specs.declared.slot.Slot.TheVariants.{A}
 use Rattle.alta_root.proofs.SpellLaws.{body_says}
 use Rattle.alta_meaning.specs.Levels.{Level}
 use Rattle.alta_machine.specs.States.{empty_state}

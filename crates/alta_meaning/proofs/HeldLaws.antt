@@ -3,6 +3,7 @@ use Rattle.std.proofs.Common.{◌≡◌, ℕ, ◌≤◌, false, List, length, ma
 use Rattle.std.specs.Prelude.{◌==◌, ◌&&◌, nat_le}
 use Rattle.std.specs.List.{All}
 use Rattle.std.proofs.lemmas.List.Elements.{All-tail}
+use Rattle.alta_layout.specs.Places.{half_start}
 use Rattle.alta_disk.specs.Parts.{Touches}
 use Rattle.alta_journal.specs.Journal.{Appended, Appends}
 use Rattle.alta_journal.specs.declared.entry.Entry.{Entry}
@@ -16,7 +17,7 @@ use Rattle.alta_meaning.specs.Views.{View, state_of, with_entry as view_with}
 use Rattle.alta_meaning.specs.Work.{newest, newest_content}
 use Rattle.alta_meaning.specs.Holding.{Holding, IsHeld}
 use Rattle.alta_meaning.specs.Known.{known_of}
-use Rattle.alta_meaning.specs.Opened.{Opened, journal_of}
+use Rattle.alta_meaning.specs.Opened.{Opened}
 use Rattle.alta_meaning.specs.Ordered.{IsOrdered}
 use Rattle.alta_meaning.specs.Standing.{AreLevels, tables_by, view_of}
 use Rattle.alta_meaning.specs.Switching.{InPlace, IsPut, IsWritten, MayAppend, MayStand, with_entry}
@@ -30,14 +31,14 @@ use Rattle.alta_meaning.proofs.SwitchLaws.{opened_switched, slot_spares}
 use Rattle.alta_meaning.proofs.Untouched.{IsSame, extents_same, segments_on}
 use Rattle.alta_meaning.proofs.WrittenLaws.{held_stands}
 
-pub held_appended : (held : Holding) (entry : Entry) (old new : List ℕ) (is : IsHeld held old) → MayAppend entry is.opened is.is.named.known → Appends is.opened.root.version (journal_of is.opened.slot) is.opened.tail entry old new
-    → Appended is.opened.root.version (journal_of is.opened.slot) is.opened.tail entry old new → IsHeld (entered held entry) new
+pub held_appended : (held : Holding) (entry : Entry) (old new : List ℕ) (is : IsHeld held old) → MayAppend entry is.opened is.is.named.known → Appends is.opened.root.version (half_start is.opened.slot) is.opened.tail entry old new
+    → Appended is.opened.root.version (half_start is.opened.slot) is.opened.tail entry old new → IsHeld (entered held entry) new
 held_appended held entry old new is may appends appended =
     let o = is.opened in
     record {
       opened = with_entry o entry;
       is = opened_appended o entry old new is.is may appends appended;
-      are = are_more o entry old new (counts_sound o.slot o.root old is.is.counts) is.is.named may (appends_touch o.root.version (journal_of o.slot) o.tail entry old new appends) held.view.levels is.are;
+      are = are_more o entry old new (counts_sound o.slot o.root old is.is.counts) is.is.named may (appends_touch o.root.version (half_start o.slot) o.tail entry old new appends) held.view.levels is.are;
       view_is = ap (λ (v : View). view_with v entry) is.view_is;
       list_is = is.list_is;
     }

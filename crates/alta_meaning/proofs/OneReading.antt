@@ -1,6 +1,7 @@
 -- An image is read in one way: it has no root, or breaks a rule first at one place, or is opened as one thing.
 use Rattle.std.proofs.Common.{◌≡◌, ◌⊎◌, inl, inr, ℕ, true, false, List, [], ◌∷◌, refl, ap, subst, ◌∙◌, Result, Ok, Err}
 use Rattle.std.specs.Prelude.{if◌then◌else◌}
+use Rattle.alta_layout.specs.Places.{half_start}
 use Rattle.alta_codec.specs.declared.extent.Extent.{Extent}
 use Rattle.alta_journal.specs.Journal.{EndsAt, HasBrokenHalf}
 use Rattle.alta_journal.specs.Placed.{placed}
@@ -17,7 +18,7 @@ use Rattle.alta_table.specs.Tables.{Tables}
 use Rattle.alta_meaning.specs.Broken.{ComesTo, IsBrokenAt, in_slots, in_list, in_tables, out_of_order, in_names, without_end, in_records, in_entries}
 use Rattle.alta_meaning.specs.Chain.{◌>>=◌}
 use Rattle.alta_meaning.specs.Known.{Known, replayed}
-use Rattle.alta_meaning.specs.Opened.{Opened, IsOpened, journal_of, deleted_in, tables_at, are_in_order, names_in, with_level, levels_from, levels_in, have_ends, known_at}
+use Rattle.alta_meaning.specs.Opened.{Opened, IsOpened, deleted_in, tables_at, are_in_order, names_in, with_level, levels_from, levels_in, have_ends, known_at}
 use Rattle.alta_meaning.proofs.Steps.{one_value, one_failure, not_failed, levels_append}
 
 -- ---- the steps between the slots and the journal, as one
@@ -72,8 +73,8 @@ no_names root deleted levels extent image level place found ordered named = rw f
 -- behind what was found, the journal breaks a rule at this place
 abbrev BreaksIn : Roots → Found → List ℕ → ℕ → Type 0
 BreaksIn r found image place =
-    HasBrokenHalf r.root.version (journal_of r.slot) place image
-    ⊎ ((entries : List Entry) × (tail : ℕ) × EndsAt r.root.version (journal_of r.slot) tail entries image × (replayed (known_at r.root found.deleted found.levels) (placed (journal_of r.slot) entries) ≡ Err place))
+    HasBrokenHalf r.root.version (half_start r.slot) place image
+    ⊎ ((entries : List Entry) × (tail : ℕ) × EndsAt r.root.version (half_start r.slot) tail entries image × (replayed (known_at r.root found.deleted found.levels) (placed (half_start r.slot) entries) ≡ Err place))
 
 -- behind the slots, a rule is broken at this place
 abbrev BreaksBehind : Roots → List ℕ → ℕ → Type 0
@@ -104,9 +105,9 @@ breaks image place (in_entries slot root deleted levels entries tail p has ends 
 record Has (r : Roots) (found : Found) (entries : List Entry) (tail : ℕ) (image : List ℕ) : Type 0 where
   counts : CountsAs r image
   is : found_in r.root image ≡ Ok found
-  journal : EndsAt r.root.version (journal_of r.slot) tail entries image
+  journal : EndsAt r.root.version (half_start r.slot) tail entries image
   known : Known
-  admitted : replayed (known_at r.root found.deleted found.levels) (placed (journal_of r.slot) entries) ≡ Ok known
+  admitted : replayed (known_at r.root found.deleted found.levels) (placed (half_start r.slot) entries) ≡ Ok known
 
 has : (image : List ℕ) (o : Opened) → IsOpened o image → Has (in_slot o.slot o.root) (record { deleted = o.deleted; levels = o.levels }) o.entries o.tail image
 has image o is = record {
@@ -125,13 +126,13 @@ one_root image r q a b = one_counts image r.slot q.slot r.root q.root a b
 -- ---- one place
 
 one_in : (image : List ℕ) (r : Roots) (found : Found) (p q : ℕ) → BreaksIn r found image p → BreaksIn r found image q → p ≡ q
-one_in image r found p q (inl a) (inl b) = one_fault r.root.version (journal_of r.slot) p q image a b
-one_in image r found p q (inl a) (inr (entries, tail, journal, refused)) = absurd (not_both r.root.version (journal_of r.slot) tail p entries image journal a)
-one_in image r found p q (inr (entries, tail, journal, refused)) (inl b) = absurd (not_both r.root.version (journal_of r.slot) tail q entries image journal b)
+one_in image r found p q (inl a) (inl b) = one_fault r.root.version (half_start r.slot) p q image a b
+one_in image r found p q (inl a) (inr (entries, tail, journal, refused)) = absurd (not_both r.root.version (half_start r.slot) tail p entries image journal a)
+one_in image r found p q (inr (entries, tail, journal, refused)) (inl b) = absurd (not_both r.root.version (half_start r.slot) tail q entries image journal b)
 one_in image r found p q (inr (entries, tail, journal, refused)) (inr (others, end, too, also)) =
-    let same = (one_reading r.root.version (journal_of r.slot) tail end entries others image journal too).1 in
-    one_failure (replayed (known_at r.root found.deleted found.levels) (placed (journal_of r.slot) others)) p q
-    (subst (λ (es : List Entry). replayed (known_at r.root found.deleted found.levels) (placed (journal_of r.slot) es) ≡ Err p) same refused) also
+    let same = (one_reading r.root.version (half_start r.slot) tail end entries others image journal too).1 in
+    one_failure (replayed (known_at r.root found.deleted found.levels) (placed (half_start r.slot) others)) p q
+    (subst (λ (es : List Entry). replayed (known_at r.root found.deleted found.levels) (placed (half_start r.slot) es) ≡ Err p) same refused) also
 
 one_behind : (image : List ℕ) (r : Roots) (p q : ℕ) → BreaksBehind r image p → BreaksBehind r image q → p ≡ q
 one_behind image r p q (inl a) (inl b) = one_failure (found_in r.root image) p q a b
@@ -160,7 +161,7 @@ opened_as r found entries tail = record { slot = r.slot; root = r.root; deleted 
 
 one_has : (image : List ℕ) (r : Roots) (f g : Found) (xs ys : List Entry) (p q : ℕ) → Has r f xs p image → Has r g ys q image → opened_as r f xs p ≡ opened_as r g ys q
 one_has image r f g xs ys p q a b =
-    let read = one_reading r.root.version (journal_of r.slot) p q xs ys image a.journal b.journal in
+    let read = one_reading r.root.version (half_start r.slot) p q xs ys image a.journal b.journal in
     ap (λ (h : Found). opened_as r h xs p) (one_value (found_in r.root image) f g a.is b.is) ∙ ap (λ (es : List Entry). opened_as r g es p) read.1 ∙ ap (λ (n : ℕ). opened_as r g ys n) read.0
 
 same_has : (image : List ℕ) (r s : Roots) (f g : Found) (xs ys : List Entry) (p q : ℕ) → Has r f xs p image → Has s g ys q image → opened_as r f xs p ≡ opened_as s g ys q
@@ -177,10 +178,10 @@ one_opened image o p a b =
 -- ---- not both
 
 in_has : (image : List ℕ) (r : Roots) (f : Found) (es : List Entry) (p place : ℕ) → Has r f es p image → BreaksIn r f image place → ⊥
-in_has image r f es p place a (inl bad) = not_both r.root.version (journal_of r.slot) p place es image a.journal bad
+in_has image r f es p place a (inl bad) = not_both r.root.version (half_start r.slot) p place es image a.journal bad
 in_has image r f es p place a (inr (entries, tail, journal, refused)) =
-    not_failed (replayed (known_at r.root f.deleted f.levels) (placed (journal_of r.slot) es)) a.known place a.admitted
-    (subst (λ (es : List Entry). replayed (known_at r.root f.deleted f.levels) (placed (journal_of r.slot) es) ≡ Err place) (one_reading r.root.version (journal_of r.slot) tail p entries es image journal a.journal).1 refused)
+    not_failed (replayed (known_at r.root f.deleted f.levels) (placed (half_start r.slot) es)) a.known place a.admitted
+    (subst (λ (es : List Entry). replayed (known_at r.root f.deleted f.levels) (placed (half_start r.slot) es) ≡ Err place) (one_reading r.root.version (half_start r.slot) tail p entries es image journal a.journal).1 refused)
 
 behind_has : (image : List ℕ) (r : Roots) (f : Found) (es : List Entry) (p place : ℕ) → Has r f es p image → BreaksBehind r image place → ⊥
 behind_has image r f es p place a (inl fails) = not_failed (found_in r.root image) f place a.is fails

@@ -5,6 +5,7 @@ use Rattle.std.specs.List.{All, flat_map, list_all}
 use Rattle.std.proofs.lemmas.Grind.{flat_map-append}
 use Rattle.std.proofs.lemmas.List.{map-append, append-nil}
 use Rattle.std.proofs.lemmas.List.Elements.{All-nil, All-cons, All-head, All-tail, All-append, All-map, All-filter, filter-append}
+use Rattle.alta_layout.specs.Places.{half_start}
 use Rattle.alta_codec.specs.declared.extent.Extent.{Extent}
 use Rattle.alta_journal.specs.Placed.{placed}
 use Rattle.alta_level.specs.Segments.{IsSegment}
@@ -25,7 +26,7 @@ use Rattle.alta_table.specs.Tables.{Tables}
 use Rattle.alta_content.specs.declared.document.DocRow.{DocRow}
 use Rattle.alta_meaning.specs.Chain.{◌>>=◌}
 use Rattle.alta_meaning.specs.Known.{Named, Known, named, is_taken, named_of, known_of, replayed}
-use Rattle.alta_meaning.specs.Opened.{Opened, IsNamed, journal_of, bytes_at, tables_at, comes_behind, is_below, are_in_order, names_from, names_in, with_level, levels_from, table_rows, live_in, known_at}
+use Rattle.alta_meaning.specs.Opened.{Opened, IsNamed, bytes_at, tables_at, comes_behind, is_below, are_in_order, names_from, names_in, with_level, levels_from, table_rows, live_in, known_at}
 use Rattle.alta_meaning.specs.Ordered.{IsBefore, AreOrdered, IsOrdered}
 use Rattle.alta_meaning.specs.Standing.{Means, StandsFor, tables_by, view_of}
 use Rattle.alta_meaning.proofs.KnownLaws.{IsWithin, all_weaker, all_both, all_others, ordered_snoc, ordered_all, allows_replayed}
@@ -277,7 +278,7 @@ pub means_known : (s : State) (o : Opened) (image : List ℕ) → (means : Means
 means_known s o image means =
     let e = means.named.admitted in
     let here = rooted_known o means.levels means.are.tables in
-    (allows_replayed (rooted (view_of o means.levels)) _ o.entries means.named.known (subst (λ (k : Known). replayed k (placed (journal_of o.slot) o.entries) ≡ Ok means.named.known) here e)).1
+    (allows_replayed (rooted (view_of o means.levels)) _ o.entries means.named.known (subst (λ (k : Known). replayed k (placed (half_start o.slot) o.entries) ≡ Ok means.named.known) here e)).1
     ∙ ap known_of means.state_is
 
 -- the state that an image stands for has numbers that rise from 1 to below the next, and different names
@@ -286,7 +287,7 @@ means_ordered s o image some means =
     let here = rooted_known o means.levels means.are.tables in
     let first : IsOrdered (known_of (rooted (view_of o means.levels))) =
     subst IsOrdered here (known_ordered o image means.named (subst (All HasDocuments) (sym means.are.tables) (has_documents means.levels image means.are.segments))) in
-    let allows = allows_replayed (rooted (view_of o means.levels)) (journal_of o.slot) o.entries means.named.known (subst (λ (k : Known). replayed k (placed (journal_of o.slot) o.entries) ≡ Ok means.named.known) here means.named.admitted) in
+    let allows = allows_replayed (rooted (view_of o means.levels)) (half_start o.slot) o.entries means.named.known (subst (λ (k : Known). replayed k (placed (half_start o.slot) o.entries) ≡ Ok means.named.known) here means.named.admitted) in
     subst (λ (t : State). IsOrdered (known_of t)) means.state_is (ordered_all (rooted (view_of o means.levels)) o.entries first some allows.0)
 
 pub stands_ordered : (s : State) (image : List ℕ) → StandsFor s image → IsOrdered (known_of s)

@@ -5,6 +5,7 @@ use Rattle.std.specs.List.{All, list_all, list_any}
 use Rattle.std.proofs.lemmas.Bool.{false≢true, eqb-true}
 use Rattle.std.proofs.lemmas.List.Elements.{All-nil, All-cons, All-head, All-tail, All-append, All-map}
 use Rattle.std.proofs.lemmas.List.Folds.{flat_map-map}
+use Rattle.alta_layout.specs.Places.{half_start}
 use Rattle.alta_codec.specs.declared.extent.Extent.{Extent}
 use Rattle.alta_codec.specs.Bytes.{AreBytes}
 use Rattle.alta_journal.specs.Journal.{EndsAt}
@@ -25,7 +26,7 @@ use Rattle.alta_table.specs.Tables.{Tables}
 use Rattle.alta_content.specs.declared.document.DocRow.{DocRow}
 use Rattle.alta_meaning.specs.Holding.{Holding, IsHeld, IsSpaced}
 use Rattle.alta_meaning.specs.Known.{Known, known_of, replayed}
-use Rattle.alta_meaning.specs.Opened.{Opened, IsNamed, journal_of, bytes_at, comes_behind, is_below, are_in_order, with_level, levels_from, table_rows, live_in, have_ends, known_at}
+use Rattle.alta_meaning.specs.Opened.{Opened, IsNamed, bytes_at, comes_behind, is_below, are_in_order, with_level, levels_from, table_rows, live_in, have_ends, known_at}
 use Rattle.alta_meaning.specs.Ordered.{AreBelow, AreOrdered, IsOrdered, Precedes, RowsPrecede}
 use Rattle.alta_meaning.specs.Standing.{AreLevels, tables_by, view_of}
 use Rattle.alta_meaning.specs.Switching.{IsWritten, MayStand}
@@ -170,7 +171,7 @@ rows_spaced o levels image named documents rows known space =
           all_weaker (λ (d : Document). (1 ≤ d.number) × (d.number < o.root.next_number)) (λ (d : Document). d.number < o.root.next_number) (rooted view).documents (λ d both. both.1)
           (all_before (IsWithin o.root.next_number) (rooted view).documents ordered.within);
       space = space;
-      allowed = (allows_replayed (rooted view) (journal_of o.slot) o.entries named.known (subst (λ (k : Known). replayed k (placed (journal_of o.slot) o.entries) ≡ Ok named.known) known named.admitted)).0;
+      allowed = (allows_replayed (rooted view) (half_start o.slot) o.entries named.known (subst (λ (k : Known). replayed k (placed (half_start o.slot) o.entries) ≡ Ok named.known) known named.admitted)).0;
     }
 
 view_spaced : (o : Opened) (levels : List Level) (image : List ℕ) → IsNamed o image → AreLevels o levels image → IsSpace (newest (view_of o levels)) → IsSpaced (view_of o levels)
@@ -208,9 +209,9 @@ written_stands s coming levels image is state_is ordered =
               (subst (λ (ts : List Tables). AreOrdered (live_in coming.deleted (table_rows ts))) is.put.are.tables here.ordered)
               ∙ ap (λ (ts : List Tables). Ok ts) (sym is.put.are.tables);
           ends = is.place.ends;
-          journal = subst (λ (es : List Entry). EndsAt coming.root.version (journal_of coming.slot) coming.tail es image) (sym is.put.empty) is.put.journal;
+          journal = subst (λ (es : List Entry). EndsAt coming.root.version (half_start coming.slot) coming.tail es image) (sym is.put.empty) is.put.journal;
           known = known_at coming.root coming.deleted coming.levels;
-          admitted = ap (λ (es : List Entry). replayed (known_at coming.root coming.deleted coming.levels) (placed (journal_of coming.slot) es)) is.put.empty;
+          admitted = ap (λ (es : List Entry). replayed (known_at coming.root coming.deleted coming.levels) (placed (half_start coming.slot) es)) is.put.empty;
         };
         levels = levels;
         are = is.put.are;

@@ -2,35 +2,34 @@
 use Rattle.std.proofs.Common.{◌≡◌, ◌⊎◌, ⊎_elim, inl, inr, ℕ, ◌+◌, ◌≤◌, List, [], ◌∷◌, ◌++◌, length, sym, ap, subst, arith}
 use Rattle.std.specs.List.{All}
 use Rattle.std.proofs.lemmas.List.Elements.{All-nil, All-cons, All-head, All-tail}
+use Rattle.alta_layout.specs.declared.places.TheConstants.{HALF_BYTES, HEAD_BYTES}
+use Rattle.alta_layout.specs.Places.{half_start, other, slot_start}
+use Rattle.alta_layout.specs.declared.slot.Slot.{Slot}
+use Rattle.alta_layout.specs.declared.slot.Slot.TheVariants.{A, B}
 use Rattle.alta_codec.specs.declared.extent.Extent.{Extent}
 use Rattle.alta_disk.specs.Parts.{Apart, Clear, Touches}
-use Rattle.alta_journal.specs.declared.places.TheConstants.{HALF_BYTES}
 use Rattle.alta_machine.specs.declared.document.State.{State}
 use Rattle.alta_root.specs.Gaps.{IsGap, taken_by}
-use Rattle.alta_root.specs.Places.{slot_start, other}
 use Rattle.alta_root.specs.Root.{extents_of, no_extent, IsExtent, AreExtents, IsSound}
 use Rattle.alta_root.specs.Slots.{Counts}
 use Rattle.alta_root.specs.Switches.{MayFollow, slot_range, Switches, Switched}
-use Rattle.alta_root.specs.declared.places.TheConstants.{HEAD_BYTES}
 use Rattle.alta_root.specs.declared.root.Root.{Root}
 use Rattle.alta_root.specs.declared.root.Roots.{Roots}
-use Rattle.alta_root.specs.declared.slot.Slot.{Slot}
-use Rattle.alta_root.specs.declared.slot.Slot.TheVariants.{A, B}
 use Rattle.alta_root.proofs.Frames.{counts_sound}
 use Rattle.alta_root.proofs.SlotLaws.{one_counts}
 use Rattle.alta_root.proofs.SwitchLaws.{slot_low}
-use Rattle.alta_meaning.specs.Opened.{Opened, IsNamed, IsOpened, journal_of}
+use Rattle.alta_meaning.specs.Opened.{Opened, IsNamed, IsOpened}
 use Rattle.alta_meaning.specs.Standing.{Means, StandsFor}
 use Rattle.alta_meaning.specs.Switching.{Spares, SparesSlots, MayOpen, MayStand}
 use Rattle.alta_meaning.proofs.Untouched.{named_on, means_on}
 
 -- ---- the head is spared by what lies behind it, and the extents by what lies in the head
 
-pub journal_within : (slot : Slot) → (8192 ≤ journal_of slot) × (journal_of slot + HALF_BYTES ≤ HEAD_BYTES)
+pub journal_within : (slot : Slot) → (8192 ≤ half_start slot) × (half_start slot + HALF_BYTES ≤ HEAD_BYTES)
 journal_within A = (omega arith, omega arith)
 journal_within B = (omega arith, omega arith)
 
-halves_apart : (slot : Slot) → Apart (journal_of slot) HALF_BYTES (journal_of (other slot)) HALF_BYTES
+halves_apart : (slot : Slot) → Apart (half_start slot) HALF_BYTES (half_start (other slot)) HALF_BYTES
 halves_apart A = inl (omega arith)
 halves_apart B = inr (omega arith)
 
@@ -76,15 +75,15 @@ slot_spares touched slot root size sound =
     }
 
 -- bytes at the start of the half that a root does not use spare it
-pub half_spares : (n : ℕ) (slot : Slot) (root : Root) (size : ℕ) → n ≤ HALF_BYTES → IsSound size root → Spares ((journal_of (other slot), n) ∷ []) slot root
+pub half_spares : (n : ℕ) (slot : Slot) (root : Root) (size : ℕ) → n ≤ HALF_BYTES → IsSound size root → Spares ((half_start (other slot), n) ∷ []) slot root
 half_spares n slot root size few sound =
     let half = journal_within (other slot) in
     record {
       half = (⊎_elim (λ before. inl before) (λ behind. inr (omega (arith, behind, few))) (halves_apart slot), tt);
-      extents = all_clear (journal_of (other slot)) n (extents_of root) (omega (arith, half.1, few)) (extents_behind size root sound);
+      extents = all_clear (half_start (other slot)) n (extents_of root) (omega (arith, half.1, few)) (extents_behind size root sound);
     }
 
-pub half_spares_slots : (n : ℕ) (slot : Slot) → SparesSlots ((journal_of slot, n) ∷ [])
+pub half_spares_slots : (n : ℕ) (slot : Slot) → SparesSlots ((half_start slot, n) ∷ [])
 half_spares_slots n slot = let half = journal_within slot in (inl (omega (arith, half.0)), tt)
 
 -- a gap beside the extents of a root spares it

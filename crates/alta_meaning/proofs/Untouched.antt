@@ -2,6 +2,9 @@
 use Rattle.std.proofs.Common.{◌≡◌, ⊎_elim, inl, inr, ℕ, ◌+◌, ◌≤◌, List, [], ◌∷◌, map, refl, sym, ap, subst, ◌∙◌, arith, Result, Ok, Err}
 use Rattle.std.specs.List.{All}
 use Rattle.std.proofs.lemmas.List.Elements.{All-nil, All-cons, All-head, All-tail}
+use Rattle.alta_layout.specs.declared.places.TheConstants.{SLOTS_BYTES}
+use Rattle.alta_layout.specs.Places.{half_start}
+use Rattle.alta_layout.specs.declared.slot.Slot.{Slot}
 use Rattle.alta_codec.specs.declared.extent.Extent.{Extent}
 use Rattle.alta_disk.specs.Parts.{Apart, Clear, Touches}
 use Rattle.alta_disk.proofs.PartLaws.{apart_inside}
@@ -11,14 +14,12 @@ use Rattle.alta_machine.specs.declared.document.State.{State}
 use Rattle.alta_postings.specs.Deltas.{first_fault}
 use Rattle.alta_root.specs.Root.{extents_of}
 use Rattle.alta_root.specs.Slots.{Counts}
-use Rattle.alta_root.specs.declared.places.TheConstants.{SLOTS_BYTES}
 use Rattle.alta_root.specs.declared.root.Root.{Root}
-use Rattle.alta_root.specs.declared.slot.Slot.{Slot}
 use Rattle.alta_root.proofs.Frames.{counts_untouched}
 use Rattle.alta_meaning.specs.Levels.{Level}
 use Rattle.alta_table.specs.Tables.{Tables, tables_of}
 use Rattle.alta_meaning.specs.Chain.{◌>>=◌}
-use Rattle.alta_meaning.specs.Opened.{Opened, IsNamed, IsOpened, journal_of, bytes_at, list_at, deleted_in, tables_at, with_level, levels_from}
+use Rattle.alta_meaning.specs.Opened.{Opened, IsNamed, IsOpened, bytes_at, list_at, deleted_in, tables_at, with_level, levels_from}
 use Rattle.alta_meaning.specs.Standing.{Means, StandsFor}
 use Rattle.alta_meaning.specs.Switching.{Spares, SparesSlots}
 
@@ -82,7 +83,7 @@ named_on ranges o old new named touches spares =
       list = deleted_same o.root old new (All-head (IsSame old new) o.root.deletions o.root.levels.items same) ∙ named.list;
       tables = levels_same o.root o.deleted [] o.root.levels.items old new (All-tail (IsSame old new) o.root.deletions o.root.levels.items same) ∙ named.tables;
       ends = named.ends;
-      journal = ends_untouched o.root.version (journal_of o.slot) o.tail o.entries ranges old new named.journal touches spares.half;
+      journal = ends_untouched o.root.version (half_start o.slot) o.tail o.entries ranges old new named.journal touches spares.half;
       known = named.known;
       admitted = named.admitted;
     }

@@ -2,6 +2,8 @@
 -- The place is a case of one data type, one a step of opening in its order; steps are functions that answer a value or a place, so
 -- that one place follows from one chain.
 use Rattle.std.specs.Prelude.{◌≡◌, ◌⊎◌, ℕ, ◌+◌, true, false, List, [], ◌∷◌, ◌++◌, drop, Contains, Ok, Err}
+use Rattle.alta_layout.specs.Places.{half_start}
+use Rattle.alta_layout.specs.declared.slot.Slot.{Slot}
 use Rattle.alta_codec.specs.declared.extent.Extent.{Extent}
 use Rattle.alta_journal.specs.Journal.{EndsAt, HasBrokenHalf}
 use Rattle.alta_journal.specs.Placed.{placed}
@@ -10,13 +12,12 @@ use Rattle.alta_level.specs.Damage.{data_place, stored_at}
 use Rattle.alta_level.specs.Stored.{IsListFault}
 use Rattle.alta_root.specs.Slots.{Counts, HasBrokenSlots}
 use Rattle.alta_root.specs.declared.root.Root.{Root}
-use Rattle.alta_root.specs.declared.slot.Slot.{Slot}
 use Rattle.alta_table.specs.Tables.{Tables}
 use Rattle.alta_table.specs.Terms.{data_of}
 use Rattle.alta_content.specs.declared.document.DocRow.{DocRow}
 use Rattle.alta_table.specs.declared.term.TermRow.{TermRow}
 use Rattle.alta_meaning.specs.Known.{replayed}
-use Rattle.alta_meaning.specs.Opened.{journal_of, deleted_in, tables_at, are_in_order, names_in, levels_from, levels_in, have_ends, known_at}
+use Rattle.alta_meaning.specs.Opened.{deleted_in, tables_at, are_in_order, names_in, levels_from, levels_in, have_ends, known_at}
 
 -- The slots and the deletion list are fine, and so are the levels before this extent.
 pub record ComesTo (root : Root) (deleted : List ℕ) (levels : List Tables) (extent : Extent) (image : List ℕ) : Type 0 where
@@ -54,11 +55,11 @@ pub data IsBrokenAt (image : List ℕ) : ℕ → Type 0 where
       → have_ends levels deleted ≡ false → IsBrokenAt image root.deletions.place
   -- the records of the journal, each by itself
   in_records : (slot : Slot) (root : Root) (deleted : List ℕ) (levels : List Tables) (place : ℕ) → HasLevels slot root deleted levels image
-      → have_ends levels deleted ≡ true → HasBrokenHalf root.version (journal_of slot) place image → IsBrokenAt image place
+      → have_ends levels deleted ≡ true → HasBrokenHalf root.version (half_start slot) place image → IsBrokenAt image place
   -- the entries, each against the documents before it
   in_entries : (slot : Slot) (root : Root) (deleted : List ℕ) (levels : List Tables) (entries : List Entry) (tail place : ℕ) → HasLevels slot root deleted levels image
-      → have_ends levels deleted ≡ true → EndsAt root.version (journal_of slot) tail entries image
-      → replayed (known_at root deleted levels) (placed (journal_of slot) entries) ≡ Err place → IsBrokenAt image place
+      → have_ends levels deleted ≡ true → EndsAt root.version (half_start slot) tail entries image
+      → replayed (known_at root deleted levels) (placed (half_start slot) entries) ≡ Err place → IsBrokenAt image place
 
 -- ---- streams and summaries, which opening does not test
 

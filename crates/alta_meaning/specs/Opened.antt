@@ -1,21 +1,18 @@
 -- What opening finds on a disk, and all rules that it tests. Streams and summaries are not looked at.
 use Rattle.std.specs.Prelude.{◌≡◌, ℕ, ◌+◌, nat_lt, Bool, true, ◌&&◌, if◌then◌else◌, List, [], ◌∷◌, ◌++◌, map, Option, Some, None, Result, Ok, Err}
 use Rattle.std.specs.List.{flat_map, list_all, list_any}
+use Rattle.alta_layout.specs.Places.{half_start}
+use Rattle.alta_layout.specs.declared.slot.Slot.{Slot}
 use Rattle.alta_codec.specs.declared.extent.Extent.{Extent}
 use Rattle.alta_disk.specs.Parts.{part}
 use Rattle.alta_journal.specs.Journal.{EndsAt}
 use Rattle.alta_journal.specs.Placed.{placed}
-use Rattle.alta_journal.specs.Places.{start_of}
 use Rattle.alta_journal.specs.declared.entry.Entry.{Entry}
-use Rattle.alta_journal.specs.declared.half.Half.{Half}
-use Rattle.alta_journal.specs.declared.half.Half.TheVariants as halves
 use Rattle.alta_content.specs.Rows.{end_of, ends_among}
 use Rattle.alta_postings.specs.Deltas.{first_fault, decoded_list}
 use Rattle.alta_postings.specs.declared.fault.StreamFault.{StreamFault}
 use Rattle.alta_root.specs.Slots.{Counts}
 use Rattle.alta_root.specs.declared.root.Root.{Root}
-use Rattle.alta_root.specs.declared.slot.Slot.{Slot}
-use Rattle.alta_root.specs.declared.slot.Slot.TheVariants as slots
 use Rattle.alta_meaning.specs.Levels.{live_rows}
 use Rattle.alta_table.specs.Places.{name_place}
 use Rattle.alta_table.specs.Tables.{Tables, tables_of, total_of}
@@ -32,15 +29,6 @@ pub record Opened : Type 0 where
   pub levels : List Tables
   pub entries : List Entry
   pub tail : ℕ
-
--- the half that a root in this slot uses
-abbrev pub half_of : Slot → Half
-half_of slots.A = halves.A
-half_of slots.B = halves.B
-
--- where the journal of a root in this slot starts
-abbrev pub journal_of : Slot → ℕ
-journal_of slot = start_of (half_of slot)
 
 -- the bytes from a level's place on that its tables, streams and summaries fill
 abbrev pub extent_of : Tables → Extent
@@ -137,9 +125,9 @@ pub record IsNamed (opened : Opened) (image : List ℕ) : Type 0 where
   pub list : deleted_in opened.root image ≡ Ok opened.deleted
   pub tables : levels_in opened.root opened.deleted image ≡ Ok opened.levels
   pub ends : have_ends opened.levels opened.deleted ≡ true
-  pub journal : EndsAt opened.root.version (journal_of opened.slot) opened.tail opened.entries image
+  pub journal : EndsAt opened.root.version (half_start opened.slot) opened.tail opened.entries image
   pub known : Known
-  pub admitted : replayed (known_at opened.root opened.deleted opened.levels) (placed (journal_of opened.slot) opened.entries) ≡ Ok known
+  pub admitted : replayed (known_at opened.root opened.deleted opened.levels) (placed (half_start opened.slot) opened.entries) ≡ Ok known
 
 -- An image is opened as this: the root counts in its slot, and what it names keeps the rules.
 pub record IsOpened (opened : Opened) (image : List ℕ) : Type 0 where

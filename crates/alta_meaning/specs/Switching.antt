@@ -1,6 +1,10 @@
 -- What leaves the meaning of an image as it is, and what a switch of the root makes of it.
 use Rattle.std.specs.Prelude.{◌≡◌, ◌≤◌, ◌<◌, ◌^◌, ℕ, ◌+◌, true, List, [], ◌∷◌, ◌++◌, length, map, take, None}
 use Rattle.std.specs.List.{All}
+use Rattle.alta_layout.specs.declared.places.TheConstants.{HALF_BYTES, HEAD_BYTES, SLOTS_BYTES, START_A}
+use Rattle.alta_layout.specs.Places.{half_start}
+use Rattle.alta_layout.specs.declared.slot.Slot.{Slot}
+use Rattle.alta_layout.specs.declared.slot.Slot.TheVariants.{A, B}
 use Rattle.alta_codec.specs.declared.extent.Extent.{Extent}
 use Rattle.alta_disk.specs.Parts.{Clear}
 use Rattle.alta_codec.specs.Bytes.{AreBytes}
@@ -9,28 +13,25 @@ use Rattle.alta_journal.specs.Journal.{EndsAt}
 use Rattle.alta_journal.specs.Places.{HasClosedGate, half_at}
 use Rattle.alta_journal.specs.Record.{record_of, body_of}
 use Rattle.alta_journal.specs.declared.entry.Entry.{Entry}
-use Rattle.alta_journal.specs.declared.places.TheConstants.{HALF_BYTES, START_A}
 use Rattle.alta_machine.specs.declared.document.State.{State}
 use Rattle.alta_postings.specs.Deltas.{Spells}
 use Rattle.alta_root.specs.Places.{IsOpen, fields_at}
 use Rattle.alta_root.specs.Root.{body_of as slot_body, extents_of, no_extent}
 use Rattle.alta_root.specs.Switches.{MayFollow}
-use Rattle.alta_root.specs.declared.places.TheConstants.{HEAD_BYTES, SLOTS_BYTES, VERSION}
+use Rattle.alta_root.specs.declared.places.TheConstants.{VERSION}
 use Rattle.alta_root.specs.declared.root.Root.{Root}
-use Rattle.alta_root.specs.declared.slot.Slot.{Slot}
-use Rattle.alta_root.specs.declared.slot.Slot.TheVariants.{A, B}
 use Rattle.alta_meaning.specs.Holding.{Holding}
 use Rattle.alta_meaning.specs.Levels.{Level}
 use Rattle.alta_meaning.specs.Views.{View}
 use Rattle.alta_table.specs.Tables.{Tables}
 use Rattle.alta_meaning.specs.Known.{Known, admits}
-use Rattle.alta_meaning.specs.Opened.{Opened, IsNamed, bytes_at, have_ends, journal_of, table_rows}
+use Rattle.alta_meaning.specs.Opened.{Opened, IsNamed, bytes_at, have_ends, table_rows}
 use Rattle.alta_meaning.specs.Ordered.{AreBelow, RowsPrecede}
 use Rattle.alta_meaning.specs.Standing.{AreLevels, Means, tables_by}
 
 -- These ranges meet nothing that a root in this slot names: neither its half of the journal nor one of its extents.
 pub record Spares (ranges : List (ℕ × ℕ)) (slot : Slot) (root : Root) : Type 0 where
-  pub half : Clear (journal_of slot) HALF_BYTES ranges
+  pub half : Clear (half_start slot) HALF_BYTES ranges
   pub extents : All (λ (e : Extent). Clear e.place e.bytes ranges) (extents_of root)
 
 -- These ranges meet neither slot.
@@ -58,7 +59,7 @@ with_entry o entry = record o { entries = o.entries ++ entry ∷ []; tail = o.ta
 pub record MayAppend (entry : Entry) (o : Opened) (known : Known) : Type 0 where
   pub admitted : admits known entry ≡ true
   pub recorded : MayBeRecorded o.root.version entry
-  pub fits : o.tail + (1 + length (body_of entry)) ≤ journal_of o.slot + HALF_BYTES
+  pub fits : o.tail + (1 + length (body_of entry)) ≤ half_start o.slot + HALF_BYTES
 
 -- ---- a disk without documents
 
@@ -102,7 +103,7 @@ pub record IsPut (coming : Opened) (levels : List Level) (image : List ℕ) : Ty
   pub bytes : All (λ (l : Level). AreBytes (bytes_at l.extent image) × (length (bytes_at l.extent image) ≡ l.extent.bytes) × (l.extent.bytes < 2 ^ 64)) levels
   pub list : Spells (bytes_at coming.root.deletions image) coming.deleted
   pub empty : coming.entries ≡ []
-  pub journal : EndsAt coming.root.version (journal_of coming.slot) coming.tail [] image
+  pub journal : EndsAt coming.root.version (half_start coming.slot) coming.tail [] image
 
 -- It was put there, and is in place.
 pub record IsWritten (coming : Opened) (levels : List Level) (image : List ℕ) : Type 0 where

@@ -1,12 +1,12 @@
 -- What the work on levels does to what a store holds.
 use Rattle.std.specs.Prelude.{ℕ, ◌+◌, ◌==◌, nat_le, Bool, false, not, ◌&&◌, ◌||◌, cond, List, [], ◌∷◌, ◌++◌, length, take, drop, map, Option, Some, None}
 use Rattle.std.specs.List.{filter, flat_map, list_any}
+use Rattle.alta_layout.specs.declared.places.TheConstants.{HALF_BYTES}
 use Rattle.alta_codec.specs.declared.extent.Extent.{Extent}
 use Rattle.alta_journal.specs.Entry.{is_old}
 use Rattle.alta_journal.specs.Record.{record_of}
 use Rattle.alta_journal.specs.declared.entry.Entry.{Entry}
 use Rattle.alta_journal.specs.declared.entry.Entry.TheVariants.{Add, Delete, Replace}
-use Rattle.alta_journal.specs.declared.places.TheConstants.{HALF_BYTES}
 use Rattle.alta_content.specs.Rows.{end_of, ends_among}
 use Rattle.alta_content.specs.declared.content.Content.{Content}
 use Rattle.alta_content.specs.declared.document.DocRow.{DocRow}

@@ -4,6 +4,7 @@
 use Rattle.std.specs.Prelude.{◌≡◌, ◌<◌, ◌≤◌, true, ℕ, ◌+◌, ◌==◌, nat_le, ◌&&◌, Bool, cond, List, [], ◌∷◌, ◌++◌, length, take, map, Option, Some, None, Result, Ok, Err}
 use Rattle.std.specs.List.{All, filter, flat_map, sum_by}
 use Rattle.std.specs.Str.{bytes_eq}
+use Rattle.alta_layout.specs.declared.places.TheConstants.{HEAD_BYTES}
 use Rattle.alta_codec.specs.declared.extent.Extent.{Extent}
 use Rattle.alta_journal.specs.declared.entry.Entry.{Entry}
 use Rattle.alta_level.specs.Segments.{segment_bytes}
@@ -15,7 +16,7 @@ use Rattle.alta_machine.specs.declared.document.State.{State}
 use Rattle.alta_postings.specs.Deltas.{stream_bytes}
 use Rattle.alta_root.specs.Gaps.{IsFirstGap, IsLongestGap, first_gap, greatest_gap}
 use Rattle.alta_root.specs.Root.{AreApart, no_extent}
-use Rattle.alta_root.specs.declared.places.TheConstants.{HEAD_BYTES, VERSION}
+use Rattle.alta_root.specs.declared.places.TheConstants.{VERSION}
 use Rattle.alta_meaning.specs.Entries.{after_entry}
 use Rattle.alta_meaning.specs.Levels.{Level, document_of, live_rows}
 use Rattle.alta_meaning.specs.Views.{View, with_entry}

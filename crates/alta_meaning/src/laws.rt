@@ -2,13 +2,16 @@
 // contracts are the laws.
 ghost use Rattle.std.specs.Prelude.{◌≡◌, ◌⊎◌, ◌≤◌, ◌<◌, ◌^◌, ◌==◌, ◌&&◌, nat_le, ℕ, true, false, List, [], ◌∷◌, ◌++◌, length, map, drop, Option, Ok, Err, Some, None};
 ghost use Rattle.std.specs.List.{All};
+ghost use Rattle.alta_layout.specs.declared.places.TheConstants.{HALF_BYTES, HEAD_BYTES};
+ghost use Rattle.alta_layout.specs.Places.{half_start, other};
+ghost use Rattle.alta_layout.specs.declared.slot.Slot.{Slot};
+ghost use Rattle.alta_layout.specs.declared.slot.Slot.TheVariants.{A};
 ghost use Rattle.alta_codec.specs.declared.extent.Extent.{Extent};
 ghost use Rattle.alta_disk.specs.Parts.{Touches};
 ghost use Rattle.alta_codec.specs.Bytes.{AreBytes};
 ghost use Rattle.alta_journal.specs.Journal.{Appended, Appends};
 ghost use Rattle.alta_journal.specs.Placed.{placed};
 ghost use Rattle.alta_journal.specs.declared.entry.Entry.{Entry};
-ghost use Rattle.alta_journal.specs.declared.places.TheConstants.{HALF_BYTES, HEAD_BYTES};
 ghost use Rattle.alta_level.specs.Segments.{IsSegment};
 ghost use Rattle.alta_content.specs.declared.content.Content.{Content};
 ghost use Rattle.alta_memlevel.specs.Added.{IsSpace};
@@ -16,21 +19,18 @@ ghost use Rattle.alta_meaning.specs.Broken.{IsBrokenAt};
 ghost use Rattle.alta_root.specs.Gaps.{first_gap, greatest_gap, IsFirstGap, IsGap, IsLongestGap, taken_by};
 ghost use Rattle.alta_meaning.specs.Holding.{Holding, IsHeld, IsSpaced, IsWell, taken_by_held};
 ghost use Rattle.alta_meaning.specs.Known.{Known, admits, known_behind, known_of, replayed};
-ghost use Rattle.alta_meaning.specs.Opened.{Opened, IsNamed, IsOpened, bytes_at, deleted_in, journal_of, levels_in, live_in, table_rows, tables_at};
+ghost use Rattle.alta_meaning.specs.Opened.{Opened, IsNamed, IsOpened, bytes_at, deleted_in, levels_in, live_in, table_rows, tables_at};
 ghost use Rattle.alta_meaning.specs.Ordered.{AreBelow, AreOrdered, IsOrdered, RowsPrecede};
 ghost use Rattle.alta_meaning.specs.Standing.{AreLevels, Means, StandsFor, tables_by, view_of};
 ghost use Rattle.alta_meaning.specs.Switching.{empty_held, empty_opened, InPlace, IsFormatted, IsInPlace, IsPut, IsWritten, MayAppend, MayOpen, MayStand, Spares, SparesSlots, with_entry};
 ghost use Rattle.alta_meaning.specs.Working.{AllApart, AreJoins, Full, IsJoin, IsWanting, JoinsKeep, LiesWithin, Placed, all_contents, content_to_come, documents_left, entered, flushed, merged, oldest_contents, placed as placed_extent, placed_levels, state_behind, staying, switched, worked, written};
 ghost use Rattle.alta_machine.specs.States.{IsState, empty_state};
 ghost use Rattle.alta_machine.specs.declared.document.State.{State};
-ghost use Rattle.alta_root.specs.Places.{other};
 ghost use Rattle.alta_postings.specs.Deltas.{Spells};
 ghost use Rattle.alta_root.specs.Root.{IsSound, no_extent};
 ghost use Rattle.alta_root.specs.Slots.{HasNoRoot};
 ghost use Rattle.alta_root.specs.Switches.{Switched, Switches, slot_range};
 ghost use Rattle.alta_root.specs.declared.root.Root.{Root};
-ghost use Rattle.alta_root.specs.declared.slot.Slot.{Slot};
-ghost use Rattle.alta_root.specs.declared.slot.Slot.TheVariants.{A};
 ghost use Rattle.alta_meaning.specs.Entries.{Allows, AllowsAll, after_entries, after_entry};
 ghost use Rattle.alta_meaning.specs.Levels.{Level};
 ghost use Rattle.alta_meaning.specs.Views.{View, state_of};
@@ -67,8 +67,8 @@ pub fn an_image_stays()
 /// slots are met by neither of the last two.
 pub fn a_place_spares_a_root()
     ensures slot { (touched slot : Slot) → (root : Root) → (size : ℕ) → IsSound size root → Spares (slot_range touched) slot root }
-    ensures half { (n : ℕ) → (slot : Slot) → (root : Root) → (size : ℕ) → n ≤ HALF_BYTES → IsSound size root → Spares ((journal_of (other slot), n) ∷ []) slot root }
-    ensures half_slots { (n : ℕ) → (slot : Slot) → SparesSlots ((journal_of slot, n) ∷ []) }
+    ensures half { (n : ℕ) → (slot : Slot) → (root : Root) → (size : ℕ) → n ≤ HALF_BYTES → IsSound size root → Spares ((half_start (other slot), n) ∷ []) slot root }
+    ensures half_slots { (n : ℕ) → (slot : Slot) → SparesSlots ((half_start slot, n) ∷ []) }
     ensures gap { (slot : Slot) → (root : Root) → (extra : List Extent) → (bytes limit at : ℕ) → IsGap (taken_by root extra) bytes limit at → Spares ((at, bytes) ∷ []) slot root }
     ensures gap_slots { (extents : List Extent) → (bytes limit at : ℕ) → IsGap extents bytes limit at → SparesSlots ((at, bytes) ∷ []) }
 {}
@@ -129,14 +129,14 @@ pub fn gaps_are_computed()
 /// While an entry that is admitted is appended, an image is opened as before or with the entry, and stands for the state of before
 /// or for the one behind the entry; once it is appended, only the latter.
 pub fn an_append_keeps_or_adds()
-    ensures opened { (o : Opened) → (entry : Entry) → (old new : List ℕ) → (opened : IsOpened o old) → MayAppend entry o opened.named.known → Appends o.root.version (journal_of o.slot) o.tail entry old new
+    ensures opened { (o : Opened) → (entry : Entry) → (old new : List ℕ) → (opened : IsOpened o old) → MayAppend entry o opened.named.known → Appends o.root.version (half_start o.slot) o.tail entry old new
         → IsOpened o new ⊎ IsOpened (with_entry o entry) new }
-    ensures opened_then { (o : Opened) → (entry : Entry) → (old new : List ℕ) → (opened : IsOpened o old) → MayAppend entry o opened.named.known → Appends o.root.version (journal_of o.slot) o.tail entry old new
-        → Appended o.root.version (journal_of o.slot) o.tail entry old new → IsOpened (with_entry o entry) new }
+    ensures opened_then { (o : Opened) → (entry : Entry) → (old new : List ℕ) → (opened : IsOpened o old) → MayAppend entry o opened.named.known → Appends o.root.version (half_start o.slot) o.tail entry old new
+        → Appended o.root.version (half_start o.slot) o.tail entry old new → IsOpened (with_entry o entry) new }
     ensures stands { (s : State) → (entry : Entry) → (old new : List ℕ) → (stands : StandsFor s old) → MayAppend entry stands.opened stands.means.named.known
-        → Appends stands.opened.root.version (journal_of stands.opened.slot) stands.opened.tail entry old new → StandsFor s new ⊎ StandsFor (after_entry s entry) new }
+        → Appends stands.opened.root.version (half_start stands.opened.slot) stands.opened.tail entry old new → StandsFor s new ⊎ StandsFor (after_entry s entry) new }
     ensures stands_then { (s : State) → (entry : Entry) → (old new : List ℕ) → (stands : StandsFor s old) → MayAppend entry stands.opened stands.means.named.known
-        → Appends stands.opened.root.version (journal_of stands.opened.slot) stands.opened.tail entry old new → Appended stands.opened.root.version (journal_of stands.opened.slot) stands.opened.tail entry old new → StandsFor (after_entry s entry) new }
+        → Appends stands.opened.root.version (half_start stands.opened.slot) stands.opened.tail entry old new → Appended stands.opened.root.version (half_start stands.opened.slot) stands.opened.tail entry old new → StandsFor (after_entry s entry) new }
 {}
 
 /// What was written is read: a list in its stream, a level in its segment, and levels whose rows rise, lie below the next ones of
@@ -201,8 +201,8 @@ pub fn work_stays_well()
 
 /// What is held goes on where the image does: by an entry that was appended, and by a root that was written and switched to.
 pub fn what_is_held_goes_on()
-    ensures appended { (held : Holding) → (entry : Entry) → (old new : List ℕ) → (is : IsHeld held old) → MayAppend entry is.opened is.is.named.known → Appends is.opened.root.version (journal_of is.opened.slot) is.opened.tail entry old new
-        → Appended is.opened.root.version (journal_of is.opened.slot) is.opened.tail entry old new → IsHeld (entered held entry) new }
+    ensures appended { (held : Holding) → (entry : Entry) → (old new : List ℕ) → (is : IsHeld held old) → MayAppend entry is.opened is.is.named.known → Appends is.opened.root.version (half_start is.opened.slot) is.opened.tail entry old new
+        → Appended is.opened.root.version (half_start is.opened.slot) is.opened.tail entry old new → IsHeld (entered held entry) new }
     ensures switched { (then : Holding) → (coming : Opened) → (old new : List ℕ) → IsWritten coming then.view.levels old → IsOrdered (known_of (state_of then.view)) → Switched coming.slot coming.root old new
         → then.view ≡ view_of coming then.view.levels → then.list ≡ coming.root.deletions → IsHeld then new }
 {}

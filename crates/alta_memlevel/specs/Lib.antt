@@ -1,4 +1,5 @@
 pub mod Added
 pub mod Documents
+pub mod Taken
 pub mod Laws
 pub mod Lists

@@ -47,6 +47,11 @@ pub record IsIndex (es : Entries) : Type 0 where
   pub apart : IsDistinct same_key (keys_of es)
   pub none_empty : All (λ xs. 0 < length xs.items) (values_of es)
 
+-- each term has these locations more, and the lists are an index again
+pub record Adds (old new : Entries) (more : List ℕ → List ℕ) : Type 0 where
+  pub index : IsIndex new
+  pub added : (other : List ℕ) → list_in new other ≡ list_in old other ++ more other
+
 -- lists that have the location at the terms of the cell before the index, and no more than others had, have it at the term of the index too
 abbrev pub AddsOnce : List (List ℕ) → ℕ → ℕ → Entries → Entries → Type 0
 AddsOnce cell i location es fs =

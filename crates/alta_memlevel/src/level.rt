@@ -11,16 +11,18 @@ ghost use Rattle.alta_codec.specs.declared.location.TheConstants.{TOP};
 ghost use Rattle.alta_content.specs.Lists.{locations_of, terms_of};
 ghost use Rattle.alta_content.specs.Rows.{end_of};
 ghost use Rattle.alta_memlevel.specs.Added.{Added, HasContent, live_of};
+ghost use Rattle.alta_memlevel.specs.Taken.{TakesAll};
 ghost use Rattle.alta_content.specs.All.{rows_of_levels, shared_rows};
 
 use crate::copying::copy_lists;
 use crate::lists::{Lists, list_of, put_cells};
 use crate::terms::terms_from;
-use alta_codec::{Bytes, Loc};
+use alta_codec::{Bytes, Len, Loc};
 use alta_content::{Content, DocRow, DocRows, LevelRows, RowRuns, keep_rows, spans_of};
 use alta_machine::Cell;
 use std::alloc::{AllocError, Global};
 use std::collections::HashMap;
+use std::default::MadeWith;
 use std::marker::Model;
 use std::rc::Rc;
 
@@ -56,7 +58,7 @@ impl MemLevel {
         ensures documents { result.content.documents ≡ [] }
     {
         MemLevel {
-            rows: RowRuns::new(alloc),
+            rows: RowRuns::made_with(alloc),
             lists: HashMap::new(alloc),
             whole: true,
             alloc,
@@ -145,15 +147,13 @@ impl MemLevel {
         ensures sound { IsTrue self.new.sound }
         ensures content { IfOk result (λ content. (added : List Added) → HasContent added self.old.content → HasContent (live_of deleted.now added) content) }
         ensures rising { IfOk result (λ content. (added : List Added) → HasContent added self.old.content → All (λ l. IsRising l.locations) content.lists) }
-        ensures empty { OnOk result (HasContent [] self.new.content) }
-        ensures documents { OnOk result (self.new.content.documents ≡ []) }
-        ensures kept { OnErr result (self.new ≡ self.old) }
+        ensures drained { TakesAll self.old self.new result }
     {
         let mut rows = self.rows.copy()?;
         let spans = spans_of(self.alloc, &rows, deleted)?;
         let lists = copy_lists(self.alloc, &self.lists, &spans)?;
         self.lists = HashMap::new(self.alloc);
-        self.rows = RowRuns::new(self.alloc);
+        self.rows = RowRuns::made_with(self.alloc);
         keep_rows(&mut rows, &spans);
         Ok(Content {
             documents: DocRows::from_vec(rows),

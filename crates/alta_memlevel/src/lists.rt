@@ -8,9 +8,9 @@ ghost use Rattle.std.specs.Str.{bytes_eq};
 ghost use Rattle.alta_codec.specs.declared.location.TheConstants.{TOP};
 ghost use Rattle.alta_machine.specs.Cells.{cell_holds};
 ghost use Rattle.alta_memlevel.specs.Added.{places_of};
-ghost use Rattle.alta_memlevel.specs.Lists.{list_in, IsIndex, AddsOnce};
+ghost use Rattle.alta_memlevel.specs.Lists.{list_in, Adds, AddsOnce, IsIndex};
 
-use alta_codec::Loc;
+use alta_codec::{Len, Loc};
 use alta_machine::Cell;
 use std::alloc::{AllocError, Global};
 use std::collections::HashMap;
@@ -32,8 +32,7 @@ pub fn list_of<'a>(lists: &'a Lists, term: &[u8]) -> &'a [Loc]
 /// Adds a location at the end of the term's.
 pub fn put(alloc: Global, lists: &mut Lists, term: &[u8], location: Loc) -> Result<(), AllocError>
     requires { IsIndex lists.old.entries }
-    ensures index { OnOk result (IsIndex lists.new.entries) }
-    ensures added { OnOk result ((other : List ℕ) → list_in lists.new.entries other ≡ list_in lists.old.entries other ++ (cond (bytes_eq term.now other) (location ∷ []) [])) }
+    ensures { OnOk result (Adds lists.old.entries lists.new.entries (λ other. cond (bytes_eq term.now other) (location ∷ []) [])) }
 {
     if let Some(list) = lists.get_mut(term) {
         list.push(location)?;
@@ -46,8 +45,7 @@ pub fn put(alloc: Global, lists: &mut Lists, term: &[u8], location: Loc) -> Resu
 fn put_first(alloc: Global, lists: &mut Lists, term: &[u8], location: Loc) -> Result<(), AllocError>
     requires index { IsIndex lists.old.entries }
     requires new { list_in lists.old.entries term.now ≡ [] }
-    ensures index { OnOk result (IsIndex lists.new.entries) }
-    ensures added { OnOk result ((other : List ℕ) → list_in lists.new.entries other ≡ list_in lists.old.entries other ++ (cond (bytes_eq term.now other) (location ∷ []) [])) }
+    ensures { OnOk result (Adds lists.old.entries lists.new.entries (λ other. cond (bytes_eq term.now other) (location ∷ []) [])) }
 {
     let key = Vec::from_slice(alloc, term)?;
     let list = vec![in alloc; location]?;
@@ -81,8 +79,7 @@ fn holds_before(cell: &Cell, end: usize, term: &[u8]) -> bool
 /// Adds a location to each term of the cell, once.
 fn put_cell(alloc: Global, lists: &mut Lists, cell: &Cell, location: Loc) -> Result<(), AllocError>
     requires { IsIndex lists.old.entries }
-    ensures index { OnOk result (IsIndex lists.new.entries) }
-    ensures added { OnOk result ((other : List ℕ) → list_in lists.new.entries other ≡ list_in lists.old.entries other ++ (cond (cell_holds other cell.now) (location ∷ []) [])) }
+    ensures { OnOk result (Adds lists.old.entries lists.new.entries (λ other. cond (cell_holds other cell.now) (location ∷ []) [])) }
 {
     for i in 0..cell.len() {
         put_once(alloc, lists, cell, i, location)?;
@@ -122,8 +119,7 @@ pub fn put_cells(
 ) -> Result<(), AllocError>
     requires index { IsIndex lists.old.entries }
     requires below { first + length cells.now < TOP + 1 }
-    ensures index { OnOk result (IsIndex lists.new.entries) }
-    ensures added { OnOk result ((other : List ℕ) → list_in lists.new.entries other ≡ list_in lists.old.entries other ++ places_of first other cells.now) }
+    ensures { OnOk result (Adds lists.old.entries lists.new.entries (λ other. places_of first other cells.now)) }
 {
     let mut location = first;
     for cell in cells {

@@ -7,6 +7,7 @@ use crate::fronts::{merge_next, next_of};
 use alta_codec::Loc;
 use alta_content::{Content, DocRow, DocRows, Span, TermLists, keep_rows, spans_of};
 use std::alloc::{AllocError, Global};
+use std::default::MadeWith;
 use std::marker::Model;
 
 /// A join of contents that stand one behind the other, without the documents that were dead when it began. Contracts see what it
@@ -86,7 +87,7 @@ impl Job {
         keep_rows(&mut rows, &spans);
         Ok(Job {
             rows: DocRows::from_vec(rows),
-            made: TermLists::new(alloc),
+            made: TermLists::made_with(alloc),
             rests: parts.rests,
             spans,
             room: Vec::new(alloc),

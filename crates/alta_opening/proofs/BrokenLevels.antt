@@ -1,9 +1,9 @@
 -- Where levels break a rule, so does the image.
 use Rattle.std.proofs.Common.{◌≡◌, ℕ, Bool, true, false, List, [], ◌∷◌, ◌++◌, refl, sym, ap, subst, ◌∙◌, Result, Ok, Err, append_assoc}
+use Rattle.alta_layout.specs.declared.slot.Slot.{Slot}
 use Rattle.alta_codec.specs.declared.extent.Extent.{Extent}
 use Rattle.alta_root.specs.Slots.{Counts}
 use Rattle.alta_root.specs.declared.root.Root.{Root}
-use Rattle.alta_root.specs.declared.slot.Slot.{Slot}
 use Rattle.alta_table.specs.Tables.{Tables}
 use Rattle.alta_meaning.specs.Broken.{ComesTo, IsBrokenAt, in_tables, out_of_order, in_names}
 use Rattle.alta_meaning.specs.Chain.{◌>>=◌}

@@ -2,12 +2,12 @@
 use Rattle.std.proofs.Common.{◌≡◌, ⊎_elim, ℕ, ◌≤◌, List, [], ◌∷◌, ◌++◌, length, ap, subst, Result, Err, arith}
 use Rattle.std.specs.List.{All}
 use Rattle.std.proofs.lemmas.List.Elements.{All-nil, All-cons}
+use Rattle.alta_layout.specs.declared.slot.Slot.{Slot}
 use Rattle.alta_codec.specs.declared.extent.Extent.{Extent}
 use Rattle.alta_root.specs.Root.{AreExtents}
 use Rattle.alta_root.specs.Slots.{Counts}
 use Rattle.alta_root.specs.declared.places.TheConstants.{LEVEL_BYTES}
 use Rattle.alta_root.specs.declared.root.Root.{Root}
-use Rattle.alta_root.specs.declared.slot.Slot.{Slot}
 use Rattle.alta_root.proofs.Frames.{counts_sound}
 use Rattle.alta_opening.specs.Steps.{Fails, LiesWithin}
 use Rattle.alta_disk.specs.declared.fault.LoadFault.{LoadFault}

@@ -1,9 +1,8 @@
 // The levels of a root, the oldest first.
 ghost use Rattle.std.specs.Prelude.{◌≡◌, ◌≢◌, ◌+◌, ◌++◌, ◌∷◌, ◌≤◌, ℕ, [], length, map, Ok, Err, IfOk, OnOk};
 ghost use Rattle.std.specs.List.{All, sum_by};
-ghost use Rattle.alta_codec.specs.Faults.{Rose};
 ghost use Rattle.alta_codec.specs.Rising.{IsRising};
-ghost use Rattle.alta_disk.specs.Calls.{Reads};
+ghost use Rattle.alta_disk.specs.Calls.{Retrieves};
 ghost use Rattle.alta_disk.specs.Disk.{DiskState};
 ghost use Rattle.alta_meaning.specs.Opened.{levels_in, with_level, extent_of};
 ghost use Rattle.alta_opening.specs.Costs.{level_bytes};
@@ -90,8 +89,7 @@ fn add_level<D: Disk>(
     ensures levels { D.tells → OnOk result (with_level root.now deleted.now found.old.levels.items extent (D.state disk.old).content ≡ Ok found.new.levels.items) }
     ensures extents { OnOk result (map extent_of found.new.levels.items ≡ map extent_of found.old.levels.items ++ extent ∷ []) }
     ensures damaged { D.tells → (place : ℕ) → result ≡ Err (Damaged place) → with_level root.now deleted.now found.old.levels.items extent (D.state disk.old).content ≡ Err place }
-    ensures cause { result ≡ Err DiskFault → Rose (D.state disk.old).faults (D.state disk.new).faults }
-    ensures reads { Reads D.tells extent.bytes (D.state disk.old) (D.state disk.new) }
+    ensures retrieves { Retrieves D.tells extent.bytes (D.state disk.old) (D.state disk.new) result }
     ensures taken { D.tells → (D.state disk.new).taken ≤ (D.state disk.old).taken + level_bytes (D.state disk.old).content extent }
 {
     if extent.bytes < LEVEL_BYTES || !ends_within(extent, limit) {
@@ -114,8 +112,7 @@ pub(crate) fn read_levels<D: Disk>(
     ensures reached { IfOk result (HasReached root.now deleted.now) }
     ensures extents { IfOk result (λ found. map extent_of found.levels.items ≡ root.now.levels.items) }
     ensures exact { D.tells → Answers (λ found. found.levels.items) result (levels_in root.now deleted.now (D.state disk.old).content) }
-    ensures cause { result ≡ Err DiskFault → Rose (D.state disk.old).faults (D.state disk.new).faults }
-    ensures reads { Reads D.tells (sum_by (λ extent. extent.bytes) root.now.levels.items) (D.state disk.old) (D.state disk.new) }
+    ensures retrieves { Retrieves D.tells (sum_by (λ extent. extent.bytes) root.now.levels.items) (D.state disk.old) (D.state disk.new) result }
     ensures taken { D.tells → (D.state disk.new).taken ≤ (D.state disk.old).taken + sum_by (level_bytes (D.state disk.old).content) root.now.levels.items }
 {
     let mut found = no_levels(alloc, root, deleted);

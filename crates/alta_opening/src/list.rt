@@ -1,8 +1,7 @@
 // The deletion list of a root.
 ghost use Rattle.std.specs.Prelude.{◌≡◌, ◌≢◌, ◌↔◌, ◌+◌, ◌<◌, ◌≤◌, ◌^◌, length, true, Err, IsTrue, IfOk};
-ghost use Rattle.alta_codec.specs.Faults.{Rose};
 ghost use Rattle.alta_codec.specs.Rising.{IsRising};
-ghost use Rattle.alta_disk.specs.Calls.{Reads};
+ghost use Rattle.alta_disk.specs.Calls.{Retrieves};
 ghost use Rattle.alta_disk.specs.Disk.{DiskState};
 ghost use Rattle.alta_meaning.specs.Opened.{deleted_in, list_at};
 ghost use Rattle.alta_postings.specs.Deltas.{first_fault};
@@ -33,8 +32,7 @@ pub(crate) fn read_list<D: Disk>(
     requires { D.tells → LiesWithin root.now.deletions (length (D.state disk.old).content) limit }
     ensures exact { D.tells → Answers (λ ends. ends.items) result (deleted_in root.now (D.state disk.old).content) }
     ensures rising { IfOk result (λ ends. IsRising ends.items) }
-    ensures cause { result ≡ Err DiskFault → Rose (D.state disk.old).faults (D.state disk.new).faults }
-    ensures reads { Reads D.tells root.now.deletions.bytes (D.state disk.old) (D.state disk.new) }
+    ensures retrieves { Retrieves D.tells root.now.deletions.bytes (D.state disk.old) (D.state disk.new) result }
 {
     let extent = root.deletions;
     if !ends_within(extent, limit) {

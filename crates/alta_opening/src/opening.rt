@@ -1,18 +1,17 @@
 // What a root names, up to its journal.
 ghost use Rattle.std.specs.Prelude.{◌≡◌, ◌+◌, ◌≤◌, ℕ, true, length, map, Err, IfOk};
-ghost use Rattle.alta_codec.specs.Faults.{Rose};
+ghost use Rattle.alta_layout.specs.declared.slot.Slot.{Slot};
 ghost use Rattle.alta_codec.specs.Rising.{IsRising};
 ghost use Rattle.alta_content.specs.Rows.{AreDocuments};
-ghost use Rattle.alta_disk.specs.Calls.{Reads};
+ghost use Rattle.alta_disk.specs.Calls.{Retrieves};
 ghost use Rattle.alta_disk.specs.Disk.{DiskState};
 ghost use Rattle.alta_meaning.specs.Broken.{HasLevels, IsBrokenAt};
 ghost use Rattle.alta_meaning.specs.Opened.{Opened, IsOpened, have_ends, known_at, live_in, table_rows, extent_of};
 ghost use Rattle.alta_meaning.specs.Ordered.{AreBelow, IsOrdered};
 ghost use Rattle.alta_root.specs.Slots.{Counts};
-ghost use Rattle.alta_root.specs.declared.slot.Slot.{Slot};
 ghost use Rattle.alta_opening.specs.Costs.{named_bytes, whole_bytes};
 ghost use Rattle.alta_meaning.specs.Names.{AreNames};
-ghost use Rattle.alta_disk.specs.declared.fault.LoadFault.TheVariants.{Damaged, Disk as DiskFault};
+ghost use Rattle.alta_disk.specs.declared.fault.LoadFault.TheVariants.{Damaged};
 
 use crate::ends::have_all;
 use crate::levels::read_levels;
@@ -65,8 +64,7 @@ pub fn open_levels<D: Disk>(
     ensures damaged { D.tells → (slot : Slot) → Counts slot root.now (D.state disk.old).content → (place : ℕ) → result ≡ Err (Damaged place)
         → IsBrokenAt (D.state disk.old).content place }
     ensures opened { D.tells → (opened : Opened) → IsOpened opened (D.state disk.old).content → (place : ℕ) → result ≡ Err (Damaged place) → ⊥ }
-    ensures cause { result ≡ Err DiskFault → Rose (D.state disk.old).faults (D.state disk.new).faults }
-    ensures reads { Reads D.tells (whole_bytes root.now) (D.state disk.old) (D.state disk.new) }
+    ensures retrieves { Retrieves D.tells (whole_bytes root.now) (D.state disk.old) (D.state disk.new) result }
     ensures taken { D.tells → (D.state disk.new).taken ≤ (D.state disk.old).taken + named_bytes root.now (D.state disk.old).content }
 {
     let limit = disk.limit();

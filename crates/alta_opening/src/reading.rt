@@ -1,11 +1,10 @@
 // Bytes of a disk, read by one call each.
-ghost use Rattle.std.specs.Prelude.{◌≡◌, ◌++◌, ◌+◌, ◌-◌, ◌<◌, ◌≤◌, ◌^◌, length, take, Err, IfOk, IfErr, OnOk};
-ghost use Rattle.alta_codec.specs.Faults.{Rose, HasCause};
-ghost use Rattle.alta_disk.specs.Calls.{Reads};
+ghost use Rattle.std.specs.Prelude.{◌≡◌, ◌++◌, ◌+◌, ◌-◌, ◌<◌, ◌≤◌, ◌^◌, length, take, IfOk, IfErr, OnOk};
+ghost use Rattle.alta_codec.specs.Faults.{HasCause};
+ghost use Rattle.alta_disk.specs.Calls.{Reads, Retrieves};
 ghost use Rattle.alta_disk.specs.Disk.{DiskState};
 ghost use Rattle.alta_disk.specs.Parts.{part};
 ghost use Rattle.alta_disk.specs.Answers.{IsOutside};
-ghost use Rattle.alta_disk.specs.declared.fault.LoadFault.TheVariants.{Disk as DiskFault};
 
 use alta_codec::Failed;
 use alta_disk::{Disk, LoadFault};
@@ -25,8 +24,7 @@ pub(crate) fn read_behind<D: Disk>(
     ensures front { IfOk result (λ v. take (length front.now) v.items ≡ front.now) }
     ensures long { IfOk result (λ v. length v.items ≡ length front.now + bytes) }
     ensures only { IfErr result IsOutside }
-    ensures cause { result ≡ Err DiskFault → Rose (D.state disk.old).faults (D.state disk.new).faults }
-    ensures reads { Reads D.tells bytes (D.state disk.old) (D.state disk.new) }
+    ensures retrieves { Retrieves D.tells bytes (D.state disk.old) (D.state disk.new) result }
 {
     let mut all = Vec::from_slice(alloc, front)?;
     all.resize(front.len() + bytes as usize, 0)?;

@@ -1,12 +1,10 @@
 // Head and tables of a level.
-ghost use Rattle.std.specs.Prelude.{◌≡◌, ◌+◌, ◌<◌, ◌≤◌, ◌^◌, length, Err, IfOk};
-ghost use Rattle.alta_codec.specs.Faults.{Rose};
-ghost use Rattle.alta_disk.specs.Calls.{Reads};
+ghost use Rattle.std.specs.Prelude.{◌≡◌, ◌+◌, ◌<◌, ◌≤◌, ◌^◌, length, IfOk};
+ghost use Rattle.alta_disk.specs.Calls.{Retrieves};
 ghost use Rattle.alta_disk.specs.Disk.{DiskState};
 ghost use Rattle.alta_meaning.specs.Opened.{tables_at, extent_of};
 ghost use Rattle.alta_opening.specs.Costs.{level_bytes};
 ghost use Rattle.alta_opening.specs.Steps.{Answers, outer};
-ghost use Rattle.alta_disk.specs.declared.fault.LoadFault.TheVariants.{Disk as DiskFault};
 
 use crate::reading::read_behind;
 use alta_codec::Extent;
@@ -39,8 +37,7 @@ pub(crate) fn read_tables<D: Disk>(
     requires inside { D.tells → extent.place + extent.bytes ≤ length (D.state disk.old).content }
     ensures exact { D.tells → Answers (λ table. table) result (tables_at extent (D.state disk.old).content) }
     ensures extent { IfOk result (λ table. extent_of table ≡ extent) }
-    ensures cause { result ≡ Err DiskFault → Rose (D.state disk.old).faults (D.state disk.new).faults }
-    ensures reads { Reads D.tells extent.bytes (D.state disk.old) (D.state disk.new) }
+    ensures retrieves { Retrieves D.tells extent.bytes (D.state disk.old) (D.state disk.new) result }
     ensures taken { D.tells → (D.state disk.new).taken ≤ (D.state disk.old).taken + level_bytes (D.state disk.old).content extent }
 {
     let mut front = [0; HEAD];

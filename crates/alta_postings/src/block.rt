@@ -1,10 +1,11 @@
 // One block of a stream.
 // A block can be read without its locations (`scan_block`): so a stream is compared with its summary in the pass that checks it, and
 // each number is decoded once.
-ghost use Rattle.std.specs.Prelude.{◌≡◌, ◌<◌, ◌≤◌, length, take, drop, slice_index, Some, None, IfOk, IfErr};
+ghost use Rattle.std.specs.Prelude.{◌≡◌, ◌<◌, ◌≤◌, length, take, drop, slice_index, None, IfOk};
 ghost use Rattle.alta_codec.specs.Rising.{IsRising};
 ghost use Rattle.alta_codec.specs.declared.location.TheConstants.{TOP};
-ghost use Rattle.alta_postings.specs.Deltas.{fault_from, list_from, IsBlockRead};
+ghost use Rattle.alta_postings.specs.Deltas.{list_from, IsBlockRead};
+ghost use Rattle.alta_postings.specs.Placed.{ReadsFrom};
 
 use crate::fault::StreamFault;
 use crate::lanes::scan_runs;
@@ -31,8 +32,7 @@ pub struct BlockSpan {
 pub fn scan_block(bytes: &[u8], at: usize, before: u64) -> Result<BlockSpan, StreamFault>
     requires within { at < length bytes.now }
     requires low { before < TOP }
-    ensures read { IfOk result (λ span. IsBlockRead bytes.now at before span.first span.last span.count span.next) }
-    ensures fault { IfErr result (λ fault. fault_from at 0 before (drop at bytes.now) ≡ Some fault) }
+    ensures { ReadsFrom bytes.now at before (λ span. IsBlockRead bytes.now at before span.first span.last span.count span.next) result }
 {
     let first = match read_location(bytes, at, before) {
         Ok((location, _next)) => location,
@@ -66,12 +66,11 @@ pub fn fill_block(
 ) -> Result<BlockSpan, StreamFault>
     requires within { at < length bytes.now }
     requires low { before < TOP }
-    ensures read { IfOk result (λ span. IsBlockRead bytes.now at before span.first span.last span.count span.next) }
+    ensures reads { ReadsFrom bytes.now at before (λ span. IsBlockRead bytes.now at before span.first span.last span.count span.next) result }
     ensures filled { IfOk result (λ span. out.new.items ≡ take span.count (list_from at 0 before (drop at bytes.now))) }
     ensures rising { IfOk result (λ span. IsRising out.new.items) }
     ensures above { IfOk result (λ span. before < slice_index out.new.items 0) }
     ensures counted { IfOk result (λ span. length out.new.items ≡ span.count) }
-    ensures fault { IfErr result (λ fault. fault_from at 0 before (drop at bytes.now) ≡ Some fault) }
 {
     out.clear();
     let (first, second) = match read_location(bytes, at, before) {

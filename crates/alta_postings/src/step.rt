@@ -2,9 +2,10 @@
 // Numbers of one and of two bytes are read here, and longer ones by `get_number` apart from it; both ways have the same contract.
 // Where the gaps of a list are short nearly all numbers have one byte, and where that is foreseen the processor goes on without
 // waiting for it.
-ghost use Rattle.std.specs.Prelude.{◌≡◌, ◌+◌, ◌<◌, ◌≤◌, length, drop, slice_index, Some, None, IsTrue, IfSome, IfOk, IfErr};
+ghost use Rattle.std.specs.Prelude.{◌≡◌, ◌+◌, ◌<◌, ◌≤◌, length, drop, slice_index, Some, None, IsTrue, IfSome};
 ghost use Rattle.alta_codec.specs.declared.location.TheConstants.{TOP};
 ghost use Rattle.alta_postings.specs.Deltas.{fault_from, IsStep};
+ghost use Rattle.alta_postings.specs.Placed.{ReadsFrom};
 ghost use Rattle.alta_postings.specs.Short.{IsShort};
 
 use crate::fault::{StreamCause, StreamFault, cause};
@@ -42,8 +43,7 @@ fn short_number(bytes: &[u8], at: usize) -> Option<(u64, usize)>
 fn slow_location(bytes: &[u8], at: usize, before: u64) -> Result<(u64, usize), StreamFault>
     requires within { at < length bytes.now }
     requires low { before < TOP }
-    ensures read { IfOk result (λ step. IsStep bytes.now at before step.0 step.1) }
-    ensures fault { IfErr result (λ fault. fault_from at 0 before (drop at bytes.now) ≡ Some fault) }
+    ensures { ReadsFrom bytes.now at before (λ step. IsStep bytes.now at before step.0 step.1) result }
 {
     match get_number(bytes, at) {
         Ok((difference, next)) => {
@@ -74,8 +74,7 @@ fn slow_location(bytes: &[u8], at: usize, before: u64) -> Result<(u64, usize), S
 pub fn read_location(bytes: &[u8], at: usize, before: u64) -> Result<(u64, usize), StreamFault>
     requires within { at < length bytes.now }
     requires low { before < TOP }
-    ensures read { IfOk result (λ step. IsStep bytes.now at before step.0 step.1) }
-    ensures fault { IfErr result (λ fault. fault_from at 0 before (drop at bytes.now) ≡ Some fault) }
+    ensures { ReadsFrom bytes.now at before (λ step. IsStep bytes.now at before step.0 step.1) result }
 {
     if at + 1 < bytes.len() {
         if let Some((difference, next)) = short_number(bytes, at) {

@@ -6,6 +6,7 @@ ghost use Rattle.std.specs.List.{prefix_len, take_while, position_or_len, starts
 ghost use Rattle.std.specs.Str.{IsCharBoundary};
 ghost use Rattle.alta_machine.specs.Token.{side_of, atom_weight};
 ghost use Rattle.alta_machine.specs.Spots.{is_blank, is_solid, is_quote, is_run, first_token, first_len, run_token, plain_token, prefix_token, words_token, name_token, near_token, quoted_token, quoted_len, value_token, ordered, is_undotted};
+ghost use Rattle.alta_query.specs.Fronts.{IsFront};
 ghost use Rattle.alta_query.specs.Pieces.{token_of, atom_in, side_in};
 
 use crate::word::{count_words, has_short_words, is_whole_word};
@@ -231,8 +232,7 @@ fn quote_index(rest: &[u8]) -> usize
 
 /// The length of the run at the front.
 fn run_end(rest: &[u8]) -> usize
-    ensures len { result ≡ prefix_len is_run rest.now }
-    ensures within { result ≤ length rest.now }
+    ensures { IsFront is_run rest.now result }
 {
     let mut n = 0;
     while n < rest.len() && runs(rest[n]) {
@@ -250,8 +250,7 @@ fn runs(b: u8) -> bool
 
 /// The length of the bytes at the front that are no blanks.
 fn solid_end(rest: &[u8]) -> usize
-    ensures len { result ≡ prefix_len is_solid rest.now }
-    ensures within { result ≤ length rest.now }
+    ensures { IsFront is_solid rest.now result }
 {
     let mut n = 0;
     while n < rest.len() && !blank(rest[n]) {
@@ -365,8 +364,7 @@ fn undotted_run(rest: &str) -> &str
 
 /// The length of the bytes at the front that are no dots.
 fn undotted_end(rest: &[u8]) -> usize
-    ensures len { result ≡ prefix_len is_undotted rest.now }
-    ensures within { result ≤ length rest.now }
+    ensures { IsFront is_undotted rest.now result }
 {
     let mut n = 0;
     while n < rest.len() && rest[n] != b'.' {

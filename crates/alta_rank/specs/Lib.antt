@@ -1,4 +1,5 @@
 pub mod Counted
 pub mod Kept
 pub mod Locations
+pub mod Reads
 pub mod Scoring

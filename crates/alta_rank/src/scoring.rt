@@ -4,6 +4,7 @@ ghost use Rattle.alta_codec.specs.Rising.{first_from, pred_of};
 ghost use Rattle.alta_codec.specs.declared.location.TheConstants.{TOP};
 ghost use Rattle.alta_machine.specs.Scores as cells;
 ghost use Rattle.alta_rank.specs.Counted.{AreBehind, counted, counted_each};
+ghost use Rattle.alta_rank.specs.Reads.{ReadsOn};
 
 use alta_codec::{Loc, Steps};
 use alta_machine::Use;
@@ -32,11 +33,8 @@ pub(crate) fn last_to<R: BackReader, L: Ledger>(
     requires sound { R.sound reader.old }
     requires behind { pred_of (R.list reader.old) (R.location reader.old) ≤ end }
     requires top { end < TOP }
-    ensures sound { R.sound reader.new }
-    ensures list { R.list reader.new ≡ R.list reader.old }
+    ensures reads { ReadsOn R.sound R.list R.left (λ r. pred_of (R.list r) (R.location r) ≤ end) reader.old reader.new steps.old steps.new }
     ensures last { result ≡ pred_of (R.list reader.old) (end + 1) }
-    ensures behind { pred_of (R.list reader.new) (R.location reader.new) ≤ end }
-    ensures steps { steps.new + R.left reader.new ≤ steps.old + R.left reader.old }
 {
     if reader.loc() <= end {
         reader.seek(end + 1, steps);
@@ -49,10 +47,7 @@ fn reach<R: BackReader, L: Ledger>(reader: &mut R, first: Loc, steps: &mut Steps
     requires sound { R.sound reader.old }
     requires behind { pred_of (R.list reader.old) (R.location reader.old) < first }
     requires top { first ≤ TOP }
-    ensures sound { R.sound reader.new }
-    ensures list { R.list reader.new ≡ R.list reader.old }
-    ensures place { R.location reader.new ≡ first_from (R.list reader.old) first }
-    ensures steps { steps.new + R.left reader.new ≤ steps.old + R.left reader.old }
+    ensures { ReadsOn R.sound R.list R.left (λ r. R.location r ≡ first_from (R.list reader.old) first) reader.old reader.new steps.old steps.new }
 {
     if reader.loc() < first {
         reader.seek(first, steps);
@@ -73,11 +68,8 @@ fn score_list<R: BackReader, L: Ledger>(
     requires order { first ≤ end }
     requires top { end < TOP }
     requires fits { counted title last end (R.list reader.old) first < 2 ^ 64 }
-    ensures sound { R.sound reader.new }
-    ensures list { R.list reader.new ≡ R.list reader.old }
+    ensures reads { ReadsOn R.sound R.list R.left (λ r. pred_of (R.list r) (R.location r) ≤ end) reader.old reader.new steps.old steps.new }
     ensures score { result ≡ counted title last end (R.list reader.old) first }
-    ensures behind { pred_of (R.list reader.new) (R.location reader.new) ≤ end }
-    ensures steps { steps.new + R.left reader.new ≤ steps.old + R.left reader.old }
 {
     reach(reader, first, steps);
     let mut score = 0;

@@ -27,7 +27,7 @@ use Rattle.alta_query.specs.declared.fault.QueryFault.{QueryFault}
 use Rattle.alta_machine.specs.declared.test.Test.{Test}
 use Rattle.alta_search.specs.declared.cursors.OpenCursor.{OpenCursor}
 use Rattle.alta_machine.specs.declared.cursors.TheConstants.{CURSORS}
-use Rattle.alta_replies.specs.Loading.{KeepsMark, Loads, MarkHolds, Queries, loads_of_text, newest_in, open_loads, query_loads, ranked_loads_of_text, ranked_query_loads, search_loads, text_loads, top_loads, top_text_loads}
+use Rattle.alta_replies.specs.Loading.{Loads, LoadsMarked, MarkHolds, Queries, loads_of_text, newest_in, open_loads, query_loads, ranked_loads_of_text, ranked_query_loads, search_loads, text_loads, top_loads, top_text_loads}
 use Rattle.alta_store.specs.Answers.{of_load, AnswersFault, IsOutside}
 use Rattle.alta_machine.specs.Machine.{IsRefusal}
 use Rattle.alta_machine.specs.Searching.{IsNoQuery}
@@ -181,53 +181,44 @@ agrees_read tells bytes d e store lawful agrees reads = record {
   joins = λ tell. subst (λ (image : List ℕ). GoesOnOver image (levels_of store) (gone_of store.catalog) store.job agrees.intact.joining) (sym (reads.content tell)) (agrees.joins tell);
 }
 
--- ---- the mark of the lists of all ends
-
--- behind a call that answers no refusal
-pub mark_loaded : (tells : Type 0) (d : DiskState) (store : Store) (ends ends_now : Ends) (result : Result (List ℕ) StoreFault) → MarkHolds tells d store ends_now → IfOk result (λ reply. IsRefusal reply → ⊥)
-    → KeepsMark tells d store ends ends_now result
-mark_loaded tells d store ends ends_now result holds other = record {
-  holds = holds;
-  refused = IfOk-weaker result (λ reply. IsRefusal reply → ⊥) (λ reply. IsRefusal reply → ends_now ≡ ends) (λ reply no refusal. absurd (no refusal)) other;
-}
-
--- behind a call that loads nothing
-pub mark_still : (tells : Type 0) (d : DiskState) (store : Store) (ends : Ends) (result : Result (List ℕ) StoreFault) → MarkHolds tells d store ends → KeepsMark tells d store ends ends result
-mark_still tells d store ends (Ok reply) holds = record { holds = holds; refused = λ refusal. refl }
-mark_still tells d store ends (Err e) holds = record { holds = holds; refused = tt }
-
 -- ---- calls that answer a text
 
 -- the lists of a query were loaded
-pub loads_same : {X : Type 0} (tells : Type 0) (before after : DiskState) (loads : List Test → List Load) (result : Result X StoreFault) (tests other : List Test) → tests ≡ other
-    → Loads tells (loads tests) before after result → Loads tells (loads other) before after result
-loads_same tells before after loads result tests other same loaded = subst (λ (t : List Test). Loads tells (loads t) before after result) same loaded
+pub loads_same : {X : Type 0} (tells : Type 0) (store : Store) (ends_now : Ends) (before after : DiskState) (loads : List Test → List Load) (result : Result X StoreFault) (tests other : List Test) → tests ≡ other
+    → LoadsMarked tells store ends_now (loads tests) before after result → LoadsMarked tells store ends_now (loads other) before after result
+loads_same tells store ends_now before after loads result tests other same loaded = subst (λ (t : List Test). LoadsMarked tells store ends_now (loads t) before after result) same loaded
 
-pub queries_loaded : {D X : Type 0} (tells : Type 0) (state : D → DiskState) (disk disk_now : D) (loads : List Load) (x : X) (result : Result (List ℕ) StoreFault) → Loads {X = X} tells loads (state disk) (state disk_now) (Ok x)
-    → IfErr result (λ e. e ≡ Memory) → IfOk result (λ reply. IsRefusal reply → ⊥) → Queries tells state disk disk_now loads ⊥ result
-queries_loaded tells state disk disk_now loads x result loaded memory other = record {
-  loaded = loads_then tells loads (state disk) (state disk_now) x result loaded memory;
-  undamaged = λ s tell stands. err_weaker result (λ e. e ≡ Memory) IsOutside (λ e is. inl is) memory;
-  refused = IfOk-weaker result (λ reply. IsRefusal reply → ⊥) (λ reply. IsRefusal reply → disk_now ≡ disk) (λ reply no refusal. absurd (no refusal)) other;
+pub queries_loaded : {D X : Type 0} (tells : Type 0) (state : D → DiskState) (disk disk_now : D) (store : Store) (ends ends_now : Ends) (loads : List Load) (x : X) (result : Result (List ℕ) StoreFault)
+    → LoadsMarked {X = X} tells store ends_now loads (state disk) (state disk_now) (Ok x) → IfErr result (λ e. e ≡ Memory) → IfOk result (λ reply. IsRefusal reply → ⊥) → Queries tells state disk disk_now store ends ends_now loads ⊥ result
+queries_loaded tells state disk disk_now store ends ends_now loads x result one memory other = record {
+  loading = record {
+    loaded = loads_then tells loads (state disk) (state disk_now) x result one.loaded memory;
+    undamaged = λ s tell stands. err_weaker result (λ e. e ≡ Memory) IsOutside (λ e is. inl is) memory;
+    mark = one.mark;
+  };
+  refused = IfOk-weaker result (λ reply. IsRefusal reply → ⊥) (λ reply. IsRefusal reply → (disk_now ≡ disk) × (ends_now ≡ ends)) (λ reply no refusal. absurd (no refusal)) other;
   idles = λ none. absurd none;
 }
 
 -- they were not
-pub queries_failed : {D X : Type 0} (tells : Type 0) (state : D → DiskState) (disk disk_now : D) (loads : List Load) (f : StoreFault) → Loads {X = X} tells loads (state disk) (state disk_now) (Err f)
-    → ((s : State) → tells → StandsFor s (state disk).content → IsOutside f) → Queries tells state disk disk_now loads ⊥ (Err f)
-queries_failed tells state disk disk_now loads f loaded outside = record {
-  loaded = loads_fault tells loads (state disk) (state disk_now) f loaded;
-  undamaged = outside;
+pub queries_failed : {D X : Type 0} (tells : Type 0) (state : D → DiskState) (disk disk_now : D) (store : Store) (ends ends_now : Ends) (loads : List Load) (f : StoreFault)
+    → LoadsMarked {X = X} tells store ends_now loads (state disk) (state disk_now) (Err f) → Queries tells state disk disk_now store ends ends_now loads ⊥ (Err f)
+queries_failed tells state disk disk_now store ends ends_now loads f one = record {
+  loading = record { loaded = loads_fault tells loads (state disk) (state disk_now) f one.loaded; undamaged = one.undamaged; mark = one.mark };
   refused = tt;
   idles = λ none. absurd none;
 }
 
+-- the lists are also written so
+marked_same : {X : Type 0} (tells : Type 0) (store : Store) (ends_now : Ends) (before after : DiskState) (loads now : List Load) (result : Result X StoreFault) → now ≡ loads
+    → LoadsMarked tells store ends_now loads before after result → LoadsMarked tells store ends_now now before after result
+marked_same tells store ends_now before after loads now result is one = subst (λ (l : List Load). LoadsMarked tells store ends_now l before after result) (sym is) one
+
 -- the text is this query
-pub queries_found : {D : Type 0} (tells : Type 0) (state : D → DiskState) (disk disk_now : D) (loads now : List Load) (idle : Type 0) (result : Result (List ℕ) StoreFault) → now ≡ loads → (idle → ⊥)
-    → Queries tells state disk disk_now loads ⊥ result → Queries tells state disk disk_now now idle result
-queries_found tells state disk disk_now loads now idle result is busy one = record {
-  loaded = subst (λ (l : List Load). Loads tells l (state disk) (state disk_now) result) (sym is) one.loaded;
-  undamaged = one.undamaged;
+pub queries_found : {D : Type 0} (tells : Type 0) (state : D → DiskState) (disk disk_now : D) (store : Store) (ends ends_now : Ends) (loads now : List Load) (idle : Type 0) (result : Result (List ℕ) StoreFault) → now ≡ loads → (idle → ⊥)
+    → Queries tells state disk disk_now store ends ends_now loads ⊥ result → Queries tells state disk disk_now store ends ends_now now idle result
+queries_found tells state disk disk_now store ends ends_now loads now idle result is busy one = record {
+  loading = marked_same tells store ends_now (state disk) (state disk_now) loads now result is one.loading;
   refused = one.refused;
   idles = λ none. absurd (busy none);
 }
@@ -240,12 +231,15 @@ idle_loads : {X : Type 0} (tells : Type 0) (d : DiskState) (loads : List Load) (
 idle_loads {X} tells d loads (Ok x) memory none = subst (λ (l : List Load). Loads {X = X} tells l d d (Ok x)) (sym none) (loads_idle tells d (Ok x) tt)
 idle_loads {X} tells d loads (Err e) memory none = subst (λ (f : StoreFault). Loads {X = X} tells loads d d (Err f)) (sym memory) (loads_memory tells loads d)
 
-pub queries_idle : {D : Type 0} (tells : Type 0) (state : D → DiskState) (disk : D) (loads : List Load) (idle : Type 0) (result : Result (List ℕ) StoreFault) → IfErr result (λ e. e ≡ Memory) → IfOk result (λ x. loads ≡ [])
-    → Queries tells state disk disk loads idle result
-queries_idle tells state disk loads idle result memory none = record {
-  loaded = idle_loads tells (state disk) loads result memory none;
-  undamaged = λ s tell stands. err_weaker result (λ e. e ≡ Memory) IsOutside (λ e is. inl is) memory;
-  refused = IfOk-weaker result (λ x. loads ≡ []) (λ reply. IsRefusal reply → disk ≡ disk) (λ x is refusal. refl) none;
+pub queries_idle : {D : Type 0} (tells : Type 0) (state : D → DiskState) (disk : D) (store : Store) (ends : Ends) (loads : List Load) (idle : Type 0) (result : Result (List ℕ) StoreFault) → MarkHolds tells (state disk) store ends
+    → IfErr result (λ e. e ≡ Memory) → IfOk result (λ x. loads ≡ []) → Queries tells state disk disk store ends ends loads idle result
+queries_idle tells state disk store ends loads idle result mark memory none = record {
+  loading = record {
+    loaded = idle_loads tells (state disk) loads result memory none;
+    undamaged = λ s tell stands. err_weaker result (λ e. e ≡ Memory) IsOutside (λ e is. inl is) memory;
+    mark = mark;
+  };
+  refused = IfOk-weaker result (λ x. loads ≡ []) (λ reply. IsRefusal reply → (disk ≡ disk) × (ends ≡ ends)) (λ x is refusal. (refl, refl)) none;
   idles = λ here. (refl, memory);
 }
 
@@ -275,12 +269,11 @@ pub open_none_loads : (store : Store) (cursors : List OpenCursor) (text : List �
 open_none_loads store cursors text result none =
     IfOk-weaker result (λ x. text_loads store text ≡ []) (λ x. open_loads store cursors text ≡ []) (λ x is. none_loads (nat_le CURSORS (length cursors)) (text_loads store text) is) none
 
-pub queries_opened : {D : Type 0} (tells : Type 0) (state : D → DiskState) (disk disk_now : D) (store : Store) (cursors : List OpenCursor) (text : List ℕ) (q : Shape) (result : Result (List ℕ) StoreFault) → query_of text ≡ Ok q
-    → Queries tells state disk disk_now (cond (nat_le CURSORS (length cursors)) [] (search_loads store (plan_of q))) (CURSORS ≤ length cursors) result
-    → Queries tells state disk disk_now (open_loads store cursors text) (IsNoQuery text ⊎ (CURSORS ≤ length cursors)) result
-queries_opened tells state disk disk_now store cursors text q result is one = record {
-  loaded = subst (λ (l : List Load). Loads tells l (state disk) (state disk_now) result) (sym (either_loads (nat_le CURSORS (length cursors)) (text_loads store text) (search_loads store (plan_of q)) (text_found store text q is))) one.loaded;
-  undamaged = one.undamaged;
+pub queries_opened : {D : Type 0} (tells : Type 0) (state : D → DiskState) (disk disk_now : D) (store : Store) (ends ends_now : Ends) (cursors : List OpenCursor) (text : List ℕ) (q : Shape) (result : Result (List ℕ) StoreFault) → query_of text ≡ Ok q
+    → Queries tells state disk disk_now store ends ends_now (cond (nat_le CURSORS (length cursors)) [] (search_loads store (plan_of q))) (CURSORS ≤ length cursors) result
+    → Queries tells state disk disk_now store ends ends_now (open_loads store cursors text) (IsNoQuery text ⊎ (CURSORS ≤ length cursors)) result
+queries_opened tells state disk disk_now store ends ends_now cursors text q result is one = record {
+  loading = marked_same tells store ends_now (state disk) (state disk_now) _ (open_loads store cursors text) result (either_loads (nat_le CURSORS (length cursors)) (text_loads store text) (search_loads store (plan_of q)) (text_found store text q is)) one.loading;
   refused = one.refused;
   idles = λ idle. ⊎_elim (λ none. absurd (is_query text q is none)) one.idles idle;
 }

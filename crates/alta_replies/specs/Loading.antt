@@ -122,11 +122,6 @@ pub record MayLoad (tells : Type 0) (disk : DiskState) (store : Store) (ends : E
   pub agrees : Agrees tells disk store
   pub mark : MarkHolds tells disk store ends
 
--- The mark holds after a call that answers a text, and is as it was where that refuses.
-pub record KeepsMark (tells : Type 0) (disk_now : DiskState) (store : Store) (ends ends_now : Ends) (result : Result (List ℕ) StoreFault) : Type 0 where
-  pub holds : MarkHolds tells disk_now store ends_now
-  pub refused : IfOk result (λ reply. IsRefusal reply → ends_now ≡ ends)
-
 -- ---- a call that loads
 
 -- It writes nothing, and reads no more than these lists have. It answers Ok only where they are whole, and damage exactly at the
@@ -139,10 +134,15 @@ pub record Loads {X : Type 0} (tells : Type 0) (loads : List Load) (before after
   pub damaged : (place : ℕ) → tells → IsFirstFault before.content loads place → AnswersFault result (Damaged place)
   pub cause : result ≡ Err Disk → Rose before.faults after.faults
 
--- A call that answers a text by the lists that it loads. No disk is called for it where it is idle, and for none that it refuses.
-pub record Queries {D : Type 0} (tells : Type 0) (state : D → DiskState) (disk disk_now : D) (loads : List Load) (idle : Type 0) (result : Result (List ℕ) StoreFault) : Type 0 where
-  pub loaded : Loads tells loads (state disk) (state disk_now) result
-  -- damage comes only where the disk stands for no state
-  pub undamaged : (s : State) → tells → StandsFor s (state disk).content → IfErr result IsOutside
-  pub refused : IfOk result (λ reply. IsRefusal reply → disk_now ≡ disk)
+-- Lists are loaded for a store: damage comes only where the disk stands for no state, and the mark holds afterwards.
+pub record LoadsMarked {X : Type 0} (tells : Type 0) (store : Store) (ends_now : Ends) (loads : List Load) (before after : DiskState) (result : Result X StoreFault) : Type 0 where
+  pub loaded : Loads tells loads before after result
+  pub undamaged : (s : State) → tells → StandsFor s before.content → IfErr result IsOutside
+  pub mark : MarkHolds tells after store ends_now
+
+-- A call that answers a text by the lists that it loads for a store. No disk is called for it where it is idle, and for none that it
+-- refuses; then the mark is as it was.
+pub record Queries {D : Type 0} (tells : Type 0) (state : D → DiskState) (disk disk_now : D) (store : Store) (ends ends_now : Ends) (loads : List Load) (idle : Type 0) (result : Result (List ℕ) StoreFault) : Type 0 where
+  pub loading : LoadsMarked tells store ends_now loads (state disk) (state disk_now) result
+  pub refused : IfOk result (λ reply. IsRefusal reply → (disk_now ≡ disk) × (ends_now ≡ ends))
   pub idles : idle → (disk_now ≡ disk) × IfErr result (λ e. e ≡ Memory)

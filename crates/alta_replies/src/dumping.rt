@@ -6,7 +6,7 @@ ghost use Rattle.alta_dump.specs.Shown.{dump_tests};
 ghost use Rattle.alta_meaning.specs.Standing.{StandsFor};
 ghost use Rattle.alta_machine.specs.declared.document.State.{State};
 ghost use Rattle.alta_search.specs.Shown.{ShowsDocuments};
-ghost use Rattle.alta_replies.specs.Loading.{KeepsMark, MayLoad, Queries, order_loads};
+ghost use Rattle.alta_replies.specs.Loading.{MayLoad, Queries, order_loads};
 ghost use Rattle.alta_machine.specs.Machine.{IsRefusal};
 
 use crate::searching::load;
@@ -31,8 +31,7 @@ pub fn dump<D: Disk>(
 ) -> Result<Text, StoreFault>
     requires { MayLoad D.tells (D.state disk.old) store.now ends.old }
     ensures reply { (s : State) → D.tells → StandsFor s (D.state disk.old).content → IfOk result (λ reply. reply ≡ dump_of s) }
-    ensures queries { Queries D.tells D.state disk.old disk.new (order_loads store.now dump_tests) ⊥ result }
-    ensures mark { KeepsMark D.tells (D.state disk.new) store.now ends.old ends.new result }
+    ensures queries { Queries D.tells D.state disk.old disk.new store.now ends.old ends.new (order_loads store.now dump_tests) ⊥ result }
 {
     let Ok(order) = dump_order(alloc) else {
         return Err(StoreFault::Memory);

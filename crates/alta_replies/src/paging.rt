@@ -10,12 +10,11 @@ ghost use Rattle.alta_search.specs.Open.{AreOpen, IsFetch};
 ghost use Rattle.alta_machine.specs.OpenAnswers.{OpenAnswers, least_free, with_opened};
 ghost use Rattle.alta_machine.specs.declared.cursors.TheConstants.{CURSORS};
 ghost use Rattle.alta_replies.specs.Replies.{IsReply};
-ghost use Rattle.alta_replies.specs.Turns.{Turns};
+ghost use Rattle.alta_replies.specs.Turns.{Turns, TurnsCursors};
 ghost use Rattle.alta_machine.specs.Cursors.{closing, fetching, opened_over, opening};
-ghost use Rattle.alta_replies.specs.Loading.{KeepsMark, Loads, MarkHolds, MayLoad, Queries, open_loads, search_loads};
+ghost use Rattle.alta_replies.specs.Loading.{LoadsMarked, MayLoad, Queries, open_loads, search_loads};
 ghost use Rattle.alta_machine.specs.Machine.{IsRefusal};
 ghost use Rattle.alta_machine.specs.Searching.{IsNoQuery, row_lines};
-ghost use Rattle.alta_store.specs.Answers.{IsOutside};
 
 use crate::replying::{put_answers, refused, text, written};
 use crate::searching::plan_and_load;
@@ -42,8 +41,7 @@ pub fn open<D: Disk>(
     requires { MayLoad D.tells (D.state disk.old) store.now ends.old }
     ensures turned { (s : State) (all : List OpenAnswers) → D.tells → StandsFor s (D.state disk.old).content → AreOpen cursors.old all → Turns (opening text.now s.documents all) cursors.new result }
     ensures kept { IfOk result (λ reply. IsRefusal reply → cursors.new ≡ cursors.old) }
-    ensures queries { Queries D.tells D.state disk.old disk.new (open_loads store.now cursors.old text.now) (IsNoQuery text.now ⊎ (CURSORS ≤ length cursors.old)) result }
-    ensures mark { KeepsMark D.tells (D.state disk.new) store.now ends.old ends.new result }
+    ensures queries { Queries D.tells D.state disk.old disk.new store.now ends.old ends.new (open_loads store.now cursors.old text.now) (IsNoQuery text.now ⊎ (CURSORS ≤ length cursors.old)) result }
 {
     let query = match parse(alloc, text) {
         Ok(query) => query,
@@ -67,8 +65,7 @@ fn open_query<D: Disk>(
     ensures turned { (s : State) (all : List OpenAnswers) → D.tells → StandsFor s (D.state disk.old).content → AreOpen cursors.old all
         → Turns (opened_over (answers s.documents (shape query.now)) all) cursors.new result }
     ensures kept { IfOk result (λ reply. IsRefusal reply → cursors.new ≡ cursors.old) }
-    ensures queries { Queries D.tells D.state disk.old disk.new (if nat_le CURSORS (length cursors.old) then [] else search_loads store.now (plan_of (shape query.now))) (CURSORS ≤ length cursors.old) result }
-    ensures mark { KeepsMark D.tells (D.state disk.new) store.now ends.old ends.new result }
+    ensures queries { Queries D.tells D.state disk.old disk.new store.now ends.old ends.new (if nat_le CURSORS (length cursors.old) then [] else search_loads store.now (plan_of (shape query.now))) (CURSORS ≤ length cursors.old) result }
 {
     if cursors.is_full() {
         return text(alloc, "! too many cursors\n");
@@ -93,9 +90,7 @@ fn put_cursor<D: Disk>(
     ensures opened { (s : State) (all : List OpenAnswers) → D.tells → StandsFor s (D.state disk.old).content → AreOpen cursors.old all
         → OnOk result (AreOpen cursors.new (with_opened (answers s.documents (shape query.now)) all)) }
     ensures number { IfOk result (λ number. (all : List OpenAnswers) → AreOpen cursors.old all → number ≡ least_free all) }
-    ensures undamaged { (s : State) → D.tells → StandsFor s (D.state disk.old).content → IfErr result IsOutside }
-    ensures loads { Loads D.tells (search_loads store.now (plan_of (shape query.now))) (D.state disk.old) (D.state disk.new) result }
-    ensures mark { MarkHolds D.tells (D.state disk.new) store.now ends.new }
+    ensures loads { LoadsMarked D.tells store.now ends.new (search_loads store.now (plan_of (shape query.now))) (D.state disk.old) (D.state disk.new) result }
 {
     let (plan, snapshot) = match plan_and_load(alloc, disk, store, ends, query) {
         Ok(planned) => planned,
@@ -128,9 +123,7 @@ pub fn fetch(
     number: u64,
     count: u64,
 ) -> Result<Text, StoreFault>
-    ensures turned { (all : List OpenAnswers) → AreOpen cursors.old all → Turns (fetching number count all) cursors.new result }
-    ensures memory { IfErr result (λ e. e ≡ StoreFault.Memory) }
-    ensures refused { IfOk result (λ reply. IsRefusal reply → cursors.new ≡ cursors.old) }
+    ensures { TurnsCursors (fetching number count) cursors.old cursors.new result }
 {
     match next_page(alloc, cursors, number, count) {
         Ok(Some(page)) => written(listed(alloc, &page)),
@@ -180,9 +173,7 @@ fn listed(alloc: Global, page: &Page) -> Result<String, AllocError>
 
 /// The reply to a close: that the cursor is closed, or that no cursor has the number. It fails for want of memory alone.
 pub fn close(alloc: Global, cursors: &mut Cursors, number: u64) -> Result<Text, StoreFault>
-    ensures turned { (all : List OpenAnswers) → AreOpen cursors.old all → Turns (closing number all) cursors.new result }
-    ensures memory { IfErr result (λ e. e ≡ StoreFault.Memory) }
-    ensures refused { IfOk result (λ reply. IsRefusal reply → cursors.new ≡ cursors.old) }
+    ensures { TurnsCursors (closing number) cursors.old cursors.new result }
 {
     if cursors.close(number) {
         numbered(alloc, "closed", number)

@@ -5,7 +5,7 @@ ghost use Rattle.alta_query.specs.Answer.{fault_in};
 ghost use Rattle.alta_replies.specs.Replies.{IsReply};
 ghost use Rattle.alta_machine.specs.Searching.{row_lines, score_lines, cause_name, found_line, query_refusal};
 
-use alta_codec::Text;
+use alta_codec::{Len, Text};
 use alta_machine::{Cause, Scored};
 use alta_query::QueryFault;
 use alta_search::Answers;
@@ -35,8 +35,7 @@ pub(crate) fn written(reply: Result<String, AllocError>) -> Result<Text, StoreFa
 
 /// The reply to a text that is no query. It fails for want of memory alone.
 pub(crate) fn refused(alloc: Global, fault: QueryFault) -> Result<Text, StoreFault>
-    ensures reply { IfOk result (λ reply. reply ≡ query_refusal (fault_in fault)) }
-    ensures memory { IfErr result (λ e. e ≡ StoreFault.Memory) }
+    ensures reply { IsReply (query_refusal (fault_in fault)) result }
     ensures wanting { IfOk result (λ reply. fault.cause ≡ Cause.Memory → ⊥) }
 {
     if fault.cause == Cause::Memory {

@@ -27,13 +27,12 @@ ghost use Rattle.alta_search.specs.Tops.{AreBest, AreToRank};
 ghost use Rattle.alta_machine.specs.Scores.{scored};
 ghost use Rattle.alta_search.specs.View.{Shows};
 ghost use Rattle.alta_replies.specs.Replies.{IsReply};
-ghost use Rattle.alta_replies.specs.Loading.{KeepsMark, Loads, MarkHolds, MayLoad, Queries, order_loads, search_loads, text_loads, top_loads, top_text_loads};
-ghost use Rattle.alta_store.specs.Answers.{IsOutside};
+ghost use Rattle.alta_replies.specs.Loading.{LoadsMarked, MayLoad, Queries, order_loads, search_loads, text_loads, top_loads, top_text_loads};
 ghost use Rattle.alta_machine.specs.Machine.{IsRefusal};
 ghost use Rattle.alta_machine.specs.Searching.{IsNoQuery, answer_lines, score_lines, found_line, found_by, counted_by, ranked_by, searching, counting, explaining, ranking};
 
 use crate::replying::{put_answers, put_count, put_scores, refused, written};
-use alta_codec::{Steps, Text};
+use alta_codec::{Len, Steps, Text};
 use alta_compile::{Plan, a_plan_is_text, compile};
 use alta_disk::Disk;
 use alta_loading::{Ends, load_ordered};
@@ -55,8 +54,7 @@ pub fn search<D: Disk>(
 ) -> Result<Text, StoreFault>
     requires { MayLoad D.tells (D.state disk.old) store.now ends.old }
     ensures reply { (s : State) → D.tells → StandsFor s (D.state disk.old).content → IfOk result (λ reply. reply ≡ searching text.now s.documents) }
-    ensures queries { Queries D.tells D.state disk.old disk.new (text_loads store.now text.now) (IsNoQuery text.now) result }
-    ensures mark { KeepsMark D.tells (D.state disk.new) store.now ends.old ends.new result }
+    ensures queries { Queries D.tells D.state disk.old disk.new store.now ends.old ends.new (text_loads store.now text.now) (IsNoQuery text.now) result }
 {
     let query = match parse(alloc, text) {
         Ok(query) => query,
@@ -78,8 +76,7 @@ pub fn count<D: Disk>(
 ) -> Result<Text, StoreFault>
     requires { MayLoad D.tells (D.state disk.old) store.now ends.old }
     ensures reply { (s : State) → D.tells → StandsFor s (D.state disk.old).content → IfOk result (λ reply. reply ≡ counting text.now s.documents) }
-    ensures queries { Queries D.tells D.state disk.old disk.new (text_loads store.now text.now) (IsNoQuery text.now) result }
-    ensures mark { KeepsMark D.tells (D.state disk.new) store.now ends.old ends.new result }
+    ensures queries { Queries D.tells D.state disk.old disk.new store.now ends.old ends.new (text_loads store.now text.now) (IsNoQuery text.now) result }
 {
     let query = match parse(alloc, text) {
         Ok(query) => query,
@@ -103,8 +100,7 @@ pub fn rank<D: Disk>(
 ) -> Result<Text, StoreFault>
     requires { MayLoad D.tells (D.state disk.old) store.now ends.old }
     ensures reply { (s : State) → D.tells → StandsFor s (D.state disk.old).content → IfOk result (λ reply. reply ≡ ranking count text.now s.documents) }
-    ensures queries { Queries D.tells D.state disk.old disk.new (top_text_loads store.now text.now) (IsNoQuery text.now) result }
-    ensures mark { KeepsMark D.tells (D.state disk.new) store.now ends.old ends.new result }
+    ensures queries { Queries D.tells D.state disk.old disk.new store.now ends.old ends.new (top_text_loads store.now text.now) (IsNoQuery text.now) result }
 {
     let query = match parse(alloc, text) {
         Ok(query) => query,
@@ -157,8 +153,7 @@ fn search_and_list<D: Disk>(
 ) -> Result<Text, StoreFault>
     requires { MayLoad D.tells (D.state disk.old) store.now ends.old }
     ensures reply { (s : State) → D.tells → StandsFor s (D.state disk.old).content → IfOk result (λ reply. reply ≡ found_by s.documents (Ok (shape query.now))) }
-    ensures queries { Queries D.tells D.state disk.old disk.new (search_loads store.now (plan_of (shape query.now))) ⊥ result }
-    ensures mark { KeepsMark D.tells (D.state disk.new) store.now ends.old ends.new result }
+    ensures queries { Queries D.tells D.state disk.old disk.new store.now ends.old ends.new (search_loads store.now (plan_of (shape query.now))) ⊥ result }
 {
     match plan_and_load(alloc, disk, store, ends, query) {
         Ok((plan, snapshot)) => {
@@ -201,8 +196,7 @@ fn search_and_count<D: Disk>(
 ) -> Result<Text, StoreFault>
     requires { MayLoad D.tells (D.state disk.old) store.now ends.old }
     ensures reply { (s : State) → D.tells → StandsFor s (D.state disk.old).content → IfOk result (λ reply. reply ≡ counted_by s.documents (Ok (shape query.now))) }
-    ensures queries { Queries D.tells D.state disk.old disk.new (search_loads store.now (plan_of (shape query.now))) ⊥ result }
-    ensures mark { KeepsMark D.tells (D.state disk.new) store.now ends.old ends.new result }
+    ensures queries { Queries D.tells D.state disk.old disk.new store.now ends.old ends.new (search_loads store.now (plan_of (shape query.now))) ⊥ result }
 {
     match plan_and_load(alloc, disk, store, ends, query) {
         Ok((plan, snapshot)) => {
@@ -245,8 +239,7 @@ fn search_and_rank<D: Disk>(
     requires may { MayLoad D.tells (D.state disk.old) store.now ends.old }
     requires read { IsWellFormed (shape query.now) }
     ensures reply { (s : State) → D.tells → StandsFor s (D.state disk.old).content → IfOk result (λ reply. reply ≡ ranked_by count s.documents (Ok (shape query.now))) }
-    ensures queries { Queries D.tells D.state disk.old disk.new (top_loads store.now (plan_of (shape query.now))) ⊥ result }
-    ensures mark { KeepsMark D.tells (D.state disk.new) store.now ends.old ends.new result }
+    ensures queries { Queries D.tells D.state disk.old disk.new store.now ends.old ends.new (top_loads store.now (plan_of (shape query.now))) ⊥ result }
 {
     match plan_and_load_for_top(alloc, disk, store, ends, query) {
         Ok((plan, snapshot)) => {
@@ -299,9 +292,7 @@ pub(crate) fn plan_and_load<D: Disk>(
     ensures plan { IfOk result (λ found. tree found.0 ≡ plan_of (shape query.now)) }
     ensures tests { IfOk result (λ found. found.1.tests ≡ tests_of (tree found.0)) }
     ensures answers { (s : State) → D.tells → StandsFor s (D.state disk.old).content → IfOk result (λ found. AreToCome (tree found.0) found.1 0 (answers s.documents (shape query.now))) }
-    ensures undamaged { (s : State) → D.tells → StandsFor s (D.state disk.old).content → IfErr result IsOutside }
-    ensures loads { Loads D.tells (search_loads store.now (plan_of (shape query.now))) (D.state disk.old) (D.state disk.new) result }
-    ensures mark { MarkHolds D.tells (D.state disk.new) store.now ends.new }
+    ensures loads { LoadsMarked D.tells store.now ends.new (search_loads store.now (plan_of (shape query.now))) (D.state disk.old) (D.state disk.new) result }
 {
     let Ok(plan) = compile(alloc, query) else {
         return Err(StoreFault::Memory);
@@ -332,9 +323,7 @@ fn plan_and_load_for_top<D: Disk>(
     ensures tests { IfOk result (λ found. found.1.tests ≡ tests_of (tree found.0) ++ title_end ∷ []) }
     ensures answers { (s : State) → D.tells → StandsFor s (D.state disk.old).content
         → IfOk result (λ found. AreToRank (tree found.0) found.1 (answers s.documents (shape query.now))) }
-    ensures undamaged { (s : State) → D.tells → StandsFor s (D.state disk.old).content → IfErr result IsOutside }
-    ensures loads { Loads D.tells (top_loads store.now (plan_of (shape query.now))) (D.state disk.old) (D.state disk.new) result }
-    ensures mark { MarkHolds D.tells (D.state disk.new) store.now ends.new }
+    ensures loads { LoadsMarked D.tells store.now ends.new (top_loads store.now (plan_of (shape query.now))) (D.state disk.old) (D.state disk.new) result }
 {
     let Ok(plan) = compile(alloc, query) else {
         return Err(StoreFault::Memory);
@@ -366,9 +355,7 @@ pub(crate) fn load<D: Disk>(
     ensures ranked { (s : State) (q : Shape) → D.tells → StandsFor s (D.state disk.old).content
         → IfOk result (λ snapshot. AreToRank (plan_of q) snapshot (answers s.documents q)) }
     ensures shown { (s : State) → D.tells → StandsFor s (D.state disk.old).content → IfOk result (λ snapshot. ShowsDocuments snapshot s.documents) }
-    ensures undamaged { (s : State) → D.tells → StandsFor s (D.state disk.old).content → IfErr result IsOutside }
-    ensures loads { Loads D.tells (order_loads store.now (used order)) (D.state disk.old) (D.state disk.new) result }
-    ensures mark { MarkHolds D.tells (D.state disk.new) store.now ends.new }
+    ensures loads { LoadsMarked D.tells store.now ends.new (order_loads store.now (used order)) (D.state disk.old) (D.state disk.new) result }
 {
     a_search_sees_the_state::<D>();
     let Ok(sources) = store.sources() else {

@@ -4,6 +4,8 @@ use Rattle.std.specs.Prelude.{Option}
 use Rattle.std.specs.List.{All}
 use Rattle.std.proofs.lemmas.List.Elements.{All-tail}
 use Rattle.std.proofs.lemmas.Simd.{map-map}
+use Rattle.alta_layout.specs.Places.{other}
+use Rattle.alta_layout.specs.declared.slot.Slot.{Slot}
 use Rattle.alta_codec.specs.Bytes.{AreBytes}
 use Rattle.alta_codec.specs.Rising.{IsRising}
 use Rattle.alta_codec.specs.declared.extent.Extent.{Extent}
@@ -24,14 +26,12 @@ use Rattle.alta_meaning.specs.Working.{Full, switched}
 use Rattle.alta_machine.specs.declared.document.State.{State}
 use Rattle.alta_root.proofs.Frames.{counts_sound}
 use Rattle.alta_root.proofs.SlotLaws.{one_counts}
-use Rattle.alta_root.specs.Places.{other}
 use Rattle.alta_root.specs.Root.{extents_of}
 use Rattle.alta_root.specs.Slots.{Counts}
 use Rattle.alta_root.specs.Switches.{slot_range}
 use Rattle.alta_root.specs.declared.places.TheConstants.{DOCUMENT_CELLS, LAST_NEXT}
 use Rattle.alta_root.specs.declared.root.Root.{Root}
 use Rattle.alta_root.specs.declared.root.Roots.{Roots}
-use Rattle.alta_root.specs.declared.slot.Slot.{Slot}
 use Rattle.alta_rewrite.specs.Brings.{Brings, Names}
 use Rattle.alta_rewrite.specs.Puts.{MayPut, Puts, ranges_before}
 use Rattle.alta_rewrite.proofs.RunLaws.{spared}

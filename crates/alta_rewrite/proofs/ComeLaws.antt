@@ -4,6 +4,9 @@ use Rattle.std.specs.List.{All}
 use Rattle.std.proofs.lemmas.Bool.{cases_lt}
 use Rattle.std.proofs.lemmas.List.{length-drop, length-take-le}
 use Rattle.std.proofs.lemmas.List.Elements.{All-append, All-cons, All-contains, All-nil, All-weaker}
+use Rattle.alta_layout.specs.declared.places.TheConstants.{HEAD_BYTES}
+use Rattle.alta_layout.specs.Places.{half_start}
+use Rattle.alta_layout.specs.declared.slot.Slot.{Slot}
 use Rattle.alta_codec.proofs.ByteLaws.{AreBytes-drop, AreBytes-take}
 use Rattle.alta_codec.specs.Bytes.{AreBytes}
 use Rattle.alta_codec.specs.declared.extent.Extent.{Extent}
@@ -12,7 +15,7 @@ use Rattle.alta_disk.specs.Parts.{Apart, Clear}
 use Rattle.alta_meaning.proofs.KeptStates.{unmap}
 use Rattle.alta_meaning.specs.Known.{known_of}
 use Rattle.alta_meaning.specs.Levels.{Level}
-use Rattle.alta_meaning.specs.Opened.{Opened, bytes_at, journal_of}
+use Rattle.alta_meaning.specs.Opened.{Opened, bytes_at}
 use Rattle.alta_meaning.specs.Ordered.{IsOrdered}
 use Rattle.alta_meaning.specs.Standing.{view_of}
 use Rattle.alta_meaning.specs.Switching.{InPlace, IsPut, IsWritten}
@@ -25,9 +28,8 @@ use Rattle.alta_root.proofs.NextRoot.{levels_inside}
 use Rattle.alta_root.specs.Gaps.{IsFirstGap, taken_by}
 use Rattle.alta_root.specs.Root.{IsExtent, IsSound, extents_of, no_extent}
 use Rattle.alta_root.specs.Slots.{Counts}
-use Rattle.alta_root.specs.declared.places.TheConstants.{HEAD_BYTES, LEVEL_BYTES}
+use Rattle.alta_root.specs.declared.places.TheConstants.{LEVEL_BYTES}
 use Rattle.alta_root.specs.declared.root.Root.{Root}
-use Rattle.alta_root.specs.declared.slot.Slot.{Slot}
 use Rattle.alta_rewrite.proofs.RunLaws.{follows_as, spared}
 use Rattle.alta_rewrite.specs.Brings.{Brings}
 use Rattle.alta_rewrite.specs.Comes.{Comes, LevelComes, ListComes, WillStand}
@@ -153,8 +155,8 @@ module _ (slot at : Slot) (root earlier : Root) (pieces : List Piece) (limit : �
       list = subst (λ (r : Root). Spells (bytes_at r.deletions new) coming.deleted) (sym comes.root_is) (list_there root.deletions coming.deleted comes.list);
       empty = comes.entries;
       journal =
-          subst (λ (s : Slot). EndsAt coming.root.version (journal_of s) coming.tail [] new) (sym comes.slot_is)
-          (subst (λ (n : ℕ). EndsAt coming.root.version (journal_of slot) n [] new) (sym comes.tail) (puts.journal coming.root.version));
+          subst (λ (s : Slot). EndsAt coming.root.version (half_start s) coming.tail [] new) (sym comes.slot_is)
+          (subst (λ (n : ℕ). EndsAt coming.root.version (half_start slot) n [] new) (sym comes.tail) (puts.journal coming.root.version));
     }
 
     pub is_written : (coming : Opened) (levels : List Level) → Comes slot root pieces coming levels earlier old → InPlace root coming.deleted coming.levels → IsWritten coming levels new

@@ -2,16 +2,16 @@
 use Rattle.std.proofs.Common.{◌≡◌, ℕ, ◌+◌, ◌-◌, ◌*◌, ◌≤◌, ◌<◌, ◌^◌, cond, List, [], ◌∷◌, ◌++◌, drop, length, map, refl, sym, ap, subst, ◌∙◌, arith}
 use Rattle.std.specs.Prelude.{◌==◌, Option, Some, None}
 use Rattle.std.specs.List.{All}
+use Rattle.alta_layout.specs.Places.{other}
+use Rattle.alta_layout.specs.declared.slot.Slot.{Slot}
 use Rattle.alta_codec.specs.declared.extent.Extent.{Extent}
 use Rattle.alta_content.specs.declared.document.DocRow.{DocRow}
 use Rattle.alta_meaning.specs.Opened.{table_rows, extent_of}
 use Rattle.alta_meaning.specs.Work.{anew, coming}
 use Rattle.alta_root.specs.Gaps.{taken_by}
-use Rattle.alta_root.specs.Places.{other}
 use Rattle.alta_root.specs.Slots.{Counts}
 use Rattle.alta_root.specs.declared.places.TheConstants.{DOCUMENT_CELLS, LAST_NEXT}
 use Rattle.alta_root.specs.declared.root.Root.{Root}
-use Rattle.alta_root.specs.declared.slot.Slot.{Slot}
 use Rattle.alta_rewrite.specs.Puts.{Fills, MayPut}
 use Rattle.alta_rewrite.specs.declared.piece.Piece.{Piece}
 use Rattle.alta_table.specs.Tables.{Tables}

@@ -2,17 +2,18 @@
 use Rattle.std.proofs.Common.{◌≡◌, ◌⊎◌, inl, inr, ⊎_elim, ℕ, ◌+◌, ◌≤◌, List, [], ◌∷◌, ◌++◌, length, ap, arith}
 use Rattle.std.specs.List.{All}
 use Rattle.std.proofs.lemmas.List.Elements.{All-cons, All-contains, All-head, All-map, All-nil, All-push, All-tail, All-weaker}
+use Rattle.alta_layout.specs.declared.places.TheConstants.{HEAD_BYTES}
+use Rattle.alta_layout.specs.Places.{other}
+use Rattle.alta_layout.specs.declared.slot.Slot.{Slot}
 use Rattle.alta_codec.specs.declared.extent.Extent.{Extent}
 use Rattle.alta_disk.specs.Images.{end_of}
 use Rattle.alta_meaning.specs.Working.{AllApart}
 use Rattle.alta_root.proofs.Frames.{counts_sound}
 use Rattle.alta_root.proofs.NextRoot.{levels_inside}
-use Rattle.alta_root.specs.Places.{other}
 use Rattle.alta_root.specs.Root.{AreApart, AreExtents, IsExtent, IsSound, extents_of, no_extent}
 use Rattle.alta_root.specs.Slots.{Counts}
-use Rattle.alta_root.specs.declared.places.TheConstants.{HEAD_BYTES, LEVEL_BYTES}
+use Rattle.alta_root.specs.declared.places.TheConstants.{LEVEL_BYTES}
 use Rattle.alta_root.specs.declared.root.Root.{Root}
-use Rattle.alta_root.specs.declared.slot.Slot.{Slot}
 use Rattle.alta_rewrite.proofs.ComeLaws.{EndsIn, end_least, pieces_end, root_ends}
 use Rattle.alta_rewrite.proofs.PutLaws.{laid_behind}
 use Rattle.alta_rewrite.specs.Comes.{IsMade, IsPlaced}

@@ -5,6 +5,8 @@ use Rattle.std.specs.List.{All, sum_by}
 use Rattle.std.specs.Str.{bytes_eq}
 use Rattle.std.proofs.lemmas.List.{drop-map, map-append}
 use Rattle.std.proofs.lemmas.List.Elements.{All-append, All-cons, All-contains_itself, All-drop, All-head, All-nil, All-tail, All-weaker}
+use Rattle.alta_layout.specs.Places.{half_start, other}
+use Rattle.alta_layout.specs.declared.slot.Slot.{Slot}
 use Rattle.alta_codec.proofs.ByteLaws.{AreBytes-drop, AreBytes-take}
 use Rattle.alta_codec.specs.Bytes.{AreBytes}
 use Rattle.alta_codec.specs.Rising.{IsRising}
@@ -19,7 +21,7 @@ use Rattle.alta_meaning.proofs.WrittenLaws.{level_read, list_read}
 use Rattle.alta_meaning.specs.Holding.{Holding}
 use Rattle.alta_meaning.specs.Known.{known_of}
 use Rattle.alta_meaning.specs.Levels.{Level}
-use Rattle.alta_meaning.specs.Opened.{Opened, IsNamed, bytes_at, deleted_in, journal_of, known_at, list_at, tables_at}
+use Rattle.alta_meaning.specs.Opened.{Opened, IsNamed, bytes_at, deleted_in, known_at, list_at, tables_at}
 use Rattle.alta_meaning.specs.Ordered.{IsOrdered}
 use Rattle.alta_meaning.specs.Standing.{AreLevels, tables_by, view_of}
 use Rattle.alta_meaning.specs.Views.{View, state_of}
@@ -31,11 +33,9 @@ use Rattle.alta_postings.proofs.Reading.{reading_spells}
 use Rattle.alta_postings.specs.Deltas.{Spells, first_fault, decoded_list, stream_bytes}
 use Rattle.alta_postings.specs.declared.fault.StreamFault.{StreamFault}
 use Rattle.alta_root.specs.Gaps.{taken_by}
-use Rattle.alta_root.specs.Places.{other}
 use Rattle.alta_root.specs.Root.{extents_of, no_extent}
 use Rattle.alta_root.specs.declared.places.TheConstants.{DOCUMENT_CELLS, LAST_NEXT, VERSION}
 use Rattle.alta_root.specs.declared.root.Root.{Root}
-use Rattle.alta_root.specs.declared.slot.Slot.{Slot}
 use Rattle.alta_rewrite.proofs.ComeLaws.{comes_brings, will_stand, bytes_fit}
 use Rattle.alta_rewrite.specs.Brings.{Brings, Names}
 use Rattle.alta_rewrite.specs.Comes.{Comes, LevelComes, ListComes, WillStand}
@@ -66,7 +66,7 @@ coming_at o levels ends next location places = record {
   deleted = ends.deleted.now;
   levels = come_of levels o.levels places;
   entries = [];
-  tail = journal_of (other o.slot);
+  tail = half_start (other o.slot);
 }
 
 -- what is opened then, by the slot and the root that count, and the levels then
@@ -77,7 +77,7 @@ coming_by slot root levels ends next location places later = record {
   deleted = ends.deleted.now;
   levels = map tables_by later;
   entries = [];
-  tail = journal_of (other slot);
+  tail = half_start (other slot);
 }
 
 abbrev extent_of : Level → Extent

@@ -5,6 +5,7 @@ use Rattle.std.specs.List.{All, flat_map}
 use Rattle.std.proofs.lemmas.List.{drop-map, map-append}
 use Rattle.std.proofs.lemmas.List.Elements.{All-cons, All-head, All-nil, All-tail}
 use Rattle.std.proofs.lemmas.List.Folds.{flat_map-map}
+use Rattle.alta_layout.specs.Places.{half_start}
 use Rattle.alta_codec.specs.Bytes.{AreBytes}
 use Rattle.alta_codec.specs.declared.extent.Extent.{Extent}
 use Rattle.alta_content.specs.declared.content.Content.{Content}
@@ -18,7 +19,7 @@ use Rattle.alta_meaning.specs.Entries.{AllowsAll}
 use Rattle.alta_meaning.specs.Holding.{Holding, taken_by_held}
 use Rattle.alta_meaning.specs.Known.{Known, known_of, replayed}
 use Rattle.alta_meaning.specs.Levels.{Level}
-use Rattle.alta_meaning.specs.Opened.{Opened, IsOpened, bytes_at, have_ends, journal_of, known_at, live_in, table_rows, tables_at}
+use Rattle.alta_meaning.specs.Opened.{Opened, IsOpened, bytes_at, have_ends, known_at, live_in, table_rows, tables_at}
 use Rattle.alta_meaning.specs.Ordered.{AreBelow, AreOrdered, IsOrdered, RowsPrecede}
 use Rattle.alta_meaning.specs.Standing.{tables_by, view_of}
 use Rattle.alta_meaning.specs.Switching.{InPlace}
@@ -137,7 +138,7 @@ module _ (o : Opened) (there : List Level) (levels : NextLevels) (ends : Ends) (
   rooted_ordered = subst IsOrdered known (known_ordered o old may.is.named (opened_documents o old may.is fits))
 
   allowed : AllowsAll (rooted view) o.entries
-  allowed = (allows_replayed (rooted view) (journal_of o.slot) o.entries may.is.named.known (subst (λ (k : Known). replayed k (placed_entries (journal_of o.slot) o.entries) ≡ Ok may.is.named.known) known may.is.named.admitted)).0
+  allowed = (allows_replayed (rooted view) (half_start o.slot) o.entries may.is.named.known (subst (λ (k : Known). replayed k (placed_entries (half_start o.slot) o.entries) ≡ Ok may.is.named.known) known may.is.named.admitted)).0
 
   pub state_ordered : IsOrdered (known_of (state_of view))
   state_ordered = ordered_all (rooted view) o.entries rooted_ordered (counts_sound o.slot o.root old may.is.counts).number.0 allowed

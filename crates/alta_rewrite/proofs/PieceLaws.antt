@@ -4,13 +4,13 @@ use Rattle.std.specs.Prelude.{Contains, Option, Some, None}
 use Rattle.std.specs.List.{All}
 use Rattle.std.proofs.lemmas.List.{append-nil, map-append}
 use Rattle.std.proofs.lemmas.List.Elements.{All-cons, All-contains_itself, All-head, All-map, All-nil}
+use Rattle.alta_layout.specs.declared.places.TheConstants.{HEAD_BYTES}
 use Rattle.alta_codec.specs.declared.extent.Extent.{Extent}
 use Rattle.alta_meaning.proofs.FullLaws.{placed_first}
 use Rattle.alta_meaning.proofs.KnownLaws.{all_weaker}
 use Rattle.alta_meaning.specs.Working.{placed}
 use Rattle.alta_root.specs.Gaps.{IsFirstGap, taken_by}
 use Rattle.alta_root.specs.Root.{IsSound, extents_of}
-use Rattle.alta_root.specs.declared.places.TheConstants.{HEAD_BYTES}
 use Rattle.alta_root.specs.declared.root.Root.{Root}
 use Rattle.alta_rewrite.proofs.ComeLaws.{first_laid}
 use Rattle.alta_rewrite.specs.Puts.{extents_in, AreLaid, Fills, IsLaid}

@@ -2,6 +2,9 @@
 use Rattle.std.proofs.Common.{◌≡◌, inr, ℕ, ◌+◌, ◌≤◌, List, [], ◌∷◌, ◌++◌, length, sym, subst, ◌∙◌, arith}
 use Rattle.std.specs.List.{All}
 use Rattle.std.proofs.lemmas.List.Elements.{All-cons, All-nil, All-weaker}
+use Rattle.alta_layout.specs.declared.places.TheConstants.{GATE_CLOSED, HEAD_BYTES}
+use Rattle.alta_layout.specs.Places.{half_start, other}
+use Rattle.alta_layout.specs.declared.slot.Slot.{Slot}
 use Rattle.alta_codec.specs.Bytes.{AreBytes}
 use Rattle.alta_codec.specs.declared.extent.Extent.{Extent}
 use Rattle.alta_disk.specs.Disk.{DiskState, Holds, Passes, Torn}
@@ -12,20 +15,13 @@ use Rattle.alta_disk.proofs.PartLaws.{touches_as, touches_then, touches_written}
 use Rattle.alta_meaning.proofs.KnownLaws.{all_both}
 use Rattle.alta_meaning.proofs.SwitchLaws.{gap_spares, gap_spares_slots, half_spares, half_spares_slots, journal_within}
 use Rattle.alta_meaning.proofs.Untouched.{counts_on}
-use Rattle.alta_meaning.specs.Opened.{half_of, journal_of}
 use Rattle.alta_meaning.specs.Switching.{Spares, SparesSlots}
 use Rattle.alta_journal.specs.Journal.{EndsAt}
-use Rattle.alta_journal.specs.Places.{start_of}
-use Rattle.alta_journal.specs.declared.half.Half.{Half}
-use Rattle.alta_journal.specs.declared.places.TheConstants.{GATE_CLOSED}
 use Rattle.alta_root.proofs.Frames.{counts_sound}
 use Rattle.alta_root.proofs.SwitchLaws.{other_twice}
-use Rattle.alta_root.specs.Places.{other}
 use Rattle.alta_root.specs.Root.{IsSound, extents_of}
 use Rattle.alta_root.specs.Switches.{MayFollow}
-use Rattle.alta_root.specs.declared.places.TheConstants.{HEAD_BYTES}
 use Rattle.alta_root.specs.declared.root.Root.{Root}
-use Rattle.alta_root.specs.declared.slot.Slot.{Slot}
 use Rattle.alta_rewrite.proofs.WriteLaws.{run_more}
 use Rattle.alta_rewrite.specs.Puts.{extents_in, ranges_before, ranges_in, AreLaid, HasPiece, MayPut, Puts, Writes}
 use Rattle.alta_rewrite.specs.declared.piece.Piece.{Piece}
@@ -45,34 +41,34 @@ pub touches_before : (slot : Slot) (pieces : List Piece) (old new : List ℕ) �
 touches_before slot pieces old new touches = touches_as (ranges_in pieces) (ranges_before slot pieces) old new touches (λ a m clear. clear.1)
 
 -- the writes of pieces, and then of the gate
-pub run_put : (a b c : DiskState) (slot : Slot) (pieces : List Piece) (half : Half) → half ≡ half_of slot → Passes (Touches (ranges_in pieces)) a b → Passes (Torn (start_of half) 1) b c
+pub run_put : (a b c : DiskState) (slot : Slot) (pieces : List Piece) → Passes (Touches (ranges_in pieces)) a b → Passes (Torn (half_start slot) 1) b c
     → Passes (Touches (ranges_before slot pieces)) a c
-run_put a b c slot pieces half half_is so_far next =
-    run_more a b c (ranges_before slot pieces) (journal_of slot) 1
+run_put a b c slot pieces so_far next =
+    run_more a b c (ranges_before slot pieces) (half_start slot) 1
     (passes_as a b (Touches (ranges_in pieces)) (Touches (ranges_before slot pieces)) so_far (λ z (y, here, touches). (y, here, touches_before slot pieces y z touches)))
-    (subst (λ (h : Half). Passes (Torn (start_of h) 1) b c) half_is next) (λ x m clear. clear.0)
+    next (λ x m clear. clear.0)
 
 module _ (slot : Slot) (taken : List Extent) (limit : ℕ) (pieces : List Piece) (old : List ℕ) (whole : HEAD_BYTES ≤ length old) (laid : AreLaid taken limit (length old) [] pieces)
     (now : List ℕ) (wrote : Writes pieces old now) where
-  inside : journal_of slot + 1 ≤ length now
+  inside : half_start slot + 1 ≤ length now
   inside = let half = journal_within slot in omega (arith, half.1, whole, wrote.touches.no_shorter)
 
-  module _ (then : List ℕ) (closed : Holds now (journal_of slot) (GATE_CLOSED ∷ []) then) where
-    gate_only : Touches ((journal_of slot, 1) ∷ []) now then
-    gate_only = touches_written (journal_of slot) (GATE_CLOSED ∷ []) now then (omega (arith, inside)) closed
+  module _ (then : List ℕ) (closed : Holds now (half_start slot) (GATE_CLOSED ∷ []) then) where
+    gate_only : Touches ((half_start slot, 1) ∷ []) now then
+    gate_only = touches_written (half_start slot) (GATE_CLOSED ∷ []) now then (omega (arith, inside)) closed
 
     stays : (p : Piece) → HasPiece now p × IsBehind p → HasPiece then p
     stays p (had, behind) =
         let half = journal_within slot in
         gate_only.parts p.extent.place p.extent.bytes (inr (omega (arith, half.1, behind)), tt) ∙ had
 
-    pub puts_closed : ((version : ℕ) → EndsAt version (journal_of slot) (journal_of slot) [] then) → AreBytes then → Puts slot pieces old then
+    pub puts_closed : ((version : ℕ) → EndsAt version (half_start slot) (half_start slot) [] then) → AreBytes then → Puts slot pieces old then
     puts_closed empty bytes = record {
       touches =
           touches_then (ranges_before slot pieces) old now then (touches_before slot pieces old now wrote.touches)
-          (touches_as ((journal_of slot, 1) ∷ []) (ranges_before slot pieces) now then gate_only (λ a m clear. (clear.0, tt)));
+          (touches_as ((half_start slot, 1) ∷ []) (ranges_before slot pieces) now then gate_only (λ a m clear. (clear.0, tt)));
       size =
-          let long = length-holds now (journal_of slot) (GATE_CLOSED ∷ []) then (omega (arith, inside)) closed in
+          let long = length-holds now (half_start slot) (GATE_CLOSED ∷ []) then (omega (arith, inside)) closed in
           let same : length then ≡ length now = omega (arith, long, inside) in same ∙ wrote.size;
       there = All-weaker (λ (p : Piece). HasPiece now p × IsBehind p) (HasPiece then) stays pieces (all_both (HasPiece now) IsBehind pieces wrote.there (laid_behind taken limit (length old) [] pieces laid));
       journal = empty;
@@ -108,8 +104,8 @@ module _ (slot : Slot) (root : Root) (pieces : List Piece) (limit : ℕ) (old : 
   -- what is written spares the root that counts
   pub earlier_spared : Spares (ranges_before slot pieces) (other slot) may.earlier
   earlier_spared =
-      spares_both (journal_of slot, 1) (ranges_in pieces) (other slot) may.earlier
-      (subst (λ (s : Slot). Spares ((journal_of s, 1) ∷ []) (other slot) may.earlier) (other_twice slot)
+      spares_both (half_start slot, 1) (ranges_in pieces) (other slot) may.earlier
+      (subst (λ (s : Slot). Spares ((half_start s, 1) ∷ []) (other slot) may.earlier) (other_twice slot)
       (half_spares 1 (other slot) may.earlier (length old) (omega arith) (counts_sound (other slot) may.earlier old may.counts)))
       (spares_laid (other slot) may.earlier limit (length old) [] pieces may.laid)
 

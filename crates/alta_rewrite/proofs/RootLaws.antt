@@ -6,6 +6,8 @@ use Rattle.std.specs.Str.{bytes_eq}
 use Rattle.std.proofs.lemmas.Bool.{false≢true}
 use Rattle.std.proofs.lemmas.List.{append-nil, length-append, length-drop}
 use Rattle.std.proofs.lemmas.List.Elements.{All-append, All-cons, All-contains_itself, All-drop, All-head, All-nil, All-push, All-tail, All-weaker}
+use Rattle.alta_layout.specs.Places.{other}
+use Rattle.alta_layout.specs.declared.slot.Slot.{Slot}
 use Rattle.alta_codec.specs.declared.extent.Extent.{Extent}
 use Rattle.alta_content.specs.Lists.{IsContent}
 use Rattle.alta_content.specs.Parts.{IsPart}
@@ -22,12 +24,10 @@ use Rattle.alta_root.proofs.Frames.{counts_sound}
 use Rattle.alta_root.proofs.SwitchLaws.{other_twice}
 use Rattle.alta_root.proofs.NextRoot.{MeetsNone, levels_apart, levels_inside}
 use Rattle.alta_root.specs.Gaps.{taken_by}
-use Rattle.alta_root.specs.Places.{other}
 use Rattle.alta_root.specs.Root.{AreApart, AreExtents, IsExtent, IsSound, extents_of, no_extent}
 use Rattle.alta_root.specs.Slots.{Counts}
 use Rattle.alta_root.specs.declared.places.TheConstants.{DOCUMENT_CELLS, LAST_NEXT, LEVEL_BYTES}
 use Rattle.alta_root.specs.declared.root.Root.{Root}
-use Rattle.alta_root.specs.declared.slot.Slot.{Slot}
 use Rattle.alta_rewrite.proofs.MadeLaws.{may_be_put}
 use Rattle.alta_rewrite.specs.Comes.{IsMade, IsPlaced}
 use Rattle.alta_rewrite.specs.Puts.{extents_in, MayPut}

@@ -1,6 +1,8 @@
 -- The images while a root is put, and what they mean.
 use Rattle.std.proofs.Common.{◌≡◌, inl, inr, ⊎_elim, ℕ, List, Result, Ok, Err, sym, subst}
 use Rattle.std.specs.Prelude.{OnOk}
+use Rattle.alta_layout.specs.Places.{other}
+use Rattle.alta_layout.specs.declared.slot.Slot.{Slot}
 use Rattle.alta_disk.specs.Disk.{DiskState, Only, Passes, LeavesOnly, IsLawful}
 use Rattle.alta_disk.specs.Parts.{Touches}
 use Rattle.alta_disk.proofs.Moments.{leaves_from, passes_first, passes_next}
@@ -16,12 +18,10 @@ use Rattle.alta_meaning.specs.Switching.{MayOpen, MayStand, Spares}
 use Rattle.alta_meaning.specs.Views.{state_of}
 use Rattle.alta_machine.specs.declared.document.State.{State}
 use Rattle.alta_root.proofs.SlotLaws.{one_counts}
-use Rattle.alta_root.specs.Places.{other}
 use Rattle.alta_root.specs.Slots.{Counts}
 use Rattle.alta_root.specs.Switches.{MayFollow, Switched, Switches}
 use Rattle.alta_root.specs.declared.root.Root.{Root}
 use Rattle.alta_root.specs.declared.root.Roots.{Roots}
-use Rattle.alta_root.specs.declared.slot.Slot.{Slot}
 use Rattle.alta_rewrite.proofs.PutLaws.{earlier_spared, put_follows, slots_spared}
 use Rattle.alta_rewrite.specs.Brings.{Brings, IsOpenedEither, Names}
 use Rattle.alta_rewrite.specs.Puts.{ranges_before, MayPut, Puts, Putting}

@@ -1,5 +1,6 @@
 -- What a root that is put means.
 use Rattle.std.specs.Prelude.{◌≡◌, ◌⊎◌, List, ℕ}
+use Rattle.alta_layout.specs.declared.slot.Slot.{Slot}
 use Rattle.alta_meaning.specs.Known.{known_of}
 use Rattle.alta_meaning.specs.Levels.{Level}
 use Rattle.alta_meaning.specs.Opened.{Opened, IsNamed, IsOpened}
@@ -9,7 +10,6 @@ use Rattle.alta_meaning.specs.Switching.{IsWritten}
 use Rattle.alta_meaning.specs.Views.{state_of}
 use Rattle.alta_machine.specs.declared.document.State.{State}
 use Rattle.alta_root.specs.declared.root.Root.{Root}
-use Rattle.alta_root.specs.declared.slot.Slot.{Slot}
 use Rattle.alta_rewrite.specs.Puts.{Puts}
 use Rattle.alta_rewrite.specs.declared.piece.Piece.{Piece}
 

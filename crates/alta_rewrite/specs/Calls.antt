@@ -1,6 +1,9 @@
 -- What the call that switches the root asks, and what it does.
 use Rattle.std.specs.Prelude.{◌≡◌, ◌≤◌, ◌+◌, ◌-◌, ◌*◌, ◌++◌, ⊤, ℕ, List, [], length, map, drop, Option, None, Result, Err, IfOk, OnOk}
 use Rattle.std.specs.List.{All}
+use Rattle.alta_layout.specs.declared.places.TheConstants.{HEAD_BYTES}
+use Rattle.alta_layout.specs.Places.{other}
+use Rattle.alta_layout.specs.declared.slot.Slot.{Slot}
 use Rattle.alta_codec.specs.Faults.{Rose}
 use Rattle.alta_codec.specs.Rising.{IsRising}
 use Rattle.alta_codec.specs.declared.extent.Extent.{Extent}
@@ -14,11 +17,9 @@ use Rattle.alta_meaning.specs.Standing.{StandsFor}
 use Rattle.alta_meaning.specs.Views.{state_of}
 use Rattle.alta_meaning.specs.Work.{Job, coming}
 use Rattle.alta_meaning.specs.Working.{switched}
-use Rattle.alta_root.specs.Places.{other}
 use Rattle.alta_root.specs.Slots.{Counts}
-use Rattle.alta_root.specs.declared.places.TheConstants.{DOCUMENT_CELLS, HEAD_BYTES, LAST_NEXT, VERSION}
+use Rattle.alta_root.specs.declared.places.TheConstants.{DOCUMENT_CELLS, LAST_NEXT, VERSION}
 use Rattle.alta_root.specs.declared.root.Root.{Root}
-use Rattle.alta_root.specs.declared.slot.Slot.{Slot}
 use Rattle.alta_rewrite.specs.Drafts.{rewrite_places}
 use Rattle.alta_rewrite.specs.Rewrites.{IsRewritten, IsRewrittenOpened, MayBecome, MayRewrite, MayRewriteOpened, levels_to_come, tables_in}
 use Rattle.alta_rewrite.specs.declared.ends.Ends.{Ends}

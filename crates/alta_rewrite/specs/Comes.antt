@@ -1,9 +1,11 @@
 -- Where what a root to come names has its bytes from.
 use Rattle.std.specs.Prelude.{◌≡◌, ◌⊎◌, ◌≤◌, ◌+◌, ◌-◌, ◌*◌, Contains, List, [], ℕ, length, map}
 use Rattle.std.specs.List.{All}
+use Rattle.alta_layout.specs.Places.{half_start}
+use Rattle.alta_layout.specs.declared.slot.Slot.{Slot}
 use Rattle.alta_codec.specs.declared.extent.Extent.{Extent}
 use Rattle.alta_meaning.specs.Levels.{Level}
-use Rattle.alta_meaning.specs.Opened.{Opened, bytes_at, journal_of}
+use Rattle.alta_meaning.specs.Opened.{Opened, bytes_at}
 use Rattle.alta_meaning.specs.Standing.{tables_by}
 use Rattle.alta_meaning.specs.Working.{AllApart}
 use Rattle.alta_level.specs.Segments.{IsSegment}
@@ -11,7 +13,6 @@ use Rattle.alta_postings.specs.Deltas.{Spells}
 use Rattle.alta_root.specs.Root.{extents_of, next_sequence, no_extent}
 use Rattle.alta_root.specs.declared.places.TheConstants.{DOCUMENT_CELLS, LAST_NEXT, LEVEL_BYTES, VERSION}
 use Rattle.alta_root.specs.declared.root.Root.{Root}
-use Rattle.alta_root.specs.declared.slot.Slot.{Slot}
 use Rattle.alta_rewrite.specs.Puts.{extents_in}
 use Rattle.alta_rewrite.specs.declared.piece.Piece.{Piece}
 
@@ -37,7 +38,7 @@ pub record Comes (slot : Slot) (root : Root) (pieces : List Piece) (coming : Ope
   pub segments : All (LevelComes earlier pieces old) levels
   pub list : ListComes earlier pieces old root.deletions coming.deleted
   pub entries : coming.entries ≡ []
-  pub tail : coming.tail ≡ journal_of slot
+  pub tail : coming.tail ≡ half_start slot
 
 -- ---- a root that may be put
 

@@ -1,20 +1,20 @@
 -- What is put on a disk before its root is switched: pieces, and a closed gate.
 use Rattle.std.specs.Prelude.{◌≡◌, ◌⊎◌, ◌≤◌, ◌+◌, ℕ, List, [], ◌∷◌, ◌++◌, length, map}
 use Rattle.std.specs.List.{All}
+use Rattle.alta_layout.specs.Places.{half_start, other}
+use Rattle.alta_layout.specs.declared.slot.Slot.{Slot}
 use Rattle.alta_codec.specs.Bytes.{AreBytes}
 use Rattle.alta_codec.specs.declared.extent.Extent.{Extent}
 use Rattle.alta_disk.specs.Images.{end_of}
 use Rattle.alta_disk.specs.Parts.{Touches}
-use Rattle.alta_meaning.specs.Opened.{bytes_at, journal_of}
+use Rattle.alta_meaning.specs.Opened.{bytes_at}
 use Rattle.alta_journal.specs.Journal.{EndsAt}
 use Rattle.alta_root.specs.Gaps.{IsGap}
-use Rattle.alta_root.specs.Places.{other}
 use Rattle.alta_root.specs.Root.{IsSound, extents_of, next_sequence}
 use Rattle.alta_root.specs.Slots.{Counts}
 use Rattle.alta_root.specs.Switches.{Switches}
 use Rattle.alta_root.specs.declared.places.TheConstants.{VERSION}
 use Rattle.alta_root.specs.declared.root.Root.{Root}
-use Rattle.alta_root.specs.declared.slot.Slot.{Slot}
 use Rattle.alta_rewrite.specs.declared.piece.Piece.{Piece}
 
 abbrev pub extents_in : List Piece → List Extent
@@ -25,7 +25,7 @@ ranges_in pieces = map (λ (p : Piece). (p.extent.place, p.extent.bytes)) pieces
 
 -- what is written before a root in this slot counts: the first gate of its half of the journal, and the pieces
 abbrev pub ranges_before : Slot → List Piece → List (ℕ × ℕ)
-ranges_before slot pieces = (journal_of slot, 1) ∷ ranges_in pieces
+ranges_before slot pieces = (half_start slot, 1) ∷ ranges_in pieces
 
 -- ---- where pieces may be put
 
@@ -71,7 +71,7 @@ pub record Puts (slot : Slot) (pieces : List Piece) (old new : List ℕ) : Type 
   pub touches : Touches (ranges_before slot pieces) old new
   pub size : length new ≡ end_of (length old) (ranges_in pieces)
   pub there : All (HasPiece new) pieces
-  pub journal : (version : ℕ) → EndsAt version (journal_of slot) (journal_of slot) [] new
+  pub journal : (version : ℕ) → EndsAt version (half_start slot) (half_start slot) [] new
   pub bytes : AreBytes new
 
 -- What a stop may leave while a root is put: pieces and gate in part, and else all of both, and a switch of the root in part.

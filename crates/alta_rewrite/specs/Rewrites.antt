@@ -1,12 +1,14 @@
 -- What a rewrite is of what is held, and of what is opened.
 use Rattle.std.specs.Prelude.{◌≡◌, ◌⊎◌, ◌+◌, ◌<◌, ◌++◌, ℕ, List, [], ◌∷◌, length, drop, map, Option, Some, None, Ok}
 use Rattle.std.specs.List.{All, sum_by}
+use Rattle.alta_layout.specs.Places.{half_start, other}
+use Rattle.alta_layout.specs.declared.slot.Slot.{Slot}
 use Rattle.alta_content.specs.Rows.{end_of}
 use Rattle.alta_content.specs.declared.content.Content.{Content}
 use Rattle.alta_content.specs.declared.document.DocRow.{DocRow}
 use Rattle.alta_meaning.specs.Holding.{Holding, IsHeld}
 use Rattle.alta_meaning.specs.Levels.{Level}
-use Rattle.alta_meaning.specs.Opened.{Opened, IsOpened, journal_of}
+use Rattle.alta_meaning.specs.Opened.{Opened, IsOpened}
 use Rattle.alta_meaning.specs.Ordered.{RowsPrecede}
 use Rattle.alta_meaning.specs.Standing.{tables_by, view_of}
 use Rattle.alta_meaning.specs.Views.{View, state_of}
@@ -14,9 +16,7 @@ use Rattle.alta_meaning.specs.Work.{Coming, Job, coming, gone_among, newest, sta
 use Rattle.alta_meaning.specs.Working.{content_to_come, documents_left, switched}
 use Rattle.alta_content.specs.Joining.{rows_in}
 use Rattle.alta_memlevel.specs.Added.{Added}
-use Rattle.alta_root.specs.Places.{other}
 use Rattle.alta_root.specs.Slots.{Counts}
-use Rattle.alta_root.specs.declared.slot.Slot.{Slot}
 use Rattle.alta_table.specs.Tables.{Tables}
 use Rattle.alta_rewrite.specs.Drafts.{rewrite_places, root_to_come, table_to_come}
 use Rattle.alta_rewrite.specs.declared.ends.Ends.{Ends}
@@ -108,7 +108,7 @@ pub record IsComing (limit : ℕ) (o coming : Opened) (levels : NextLevels) (end
   pub deleted_are : coming.deleted ≡ ends.deleted.now
   pub levels_are : coming.levels ≡ tables_between (table_to_come places.oldest levels.oldest) levels.stay_from o.levels (table_to_come places.newest levels.newest)
   pub entries_are : coming.entries ≡ []
-  pub tail_is : coming.tail ≡ journal_of coming.slot
+  pub tail_is : coming.tail ≡ half_start coming.slot
 
 -- the image is opened as before, or as once the rewrite is done
 abbrev pub MayBecome : ℕ → Opened → NextLevels → Ends → ℕ → ℕ → List ℕ → Type 0

@@ -29,5 +29,4 @@ pub use laws::{
     work_is_a_rewrite,
 };
 pub use levels::NextLevels;
-pub use putting::half_of;
 pub use rewriting::{Rewritten, rewrite};

@@ -3,26 +3,26 @@
 // opened as before.
 ghost use Rattle.std.specs.Prelude.{◌≡◌, ◌≤◌, ◌+◌, [], List, ℕ, length, OnOk};
 ghost use Rattle.std.specs.List.{All};
-ghost use Rattle.alta_codec.specs.Faults.{HasCause};
+ghost use Rattle.alta_layout.specs.declared.places.TheConstants.{HEAD_BYTES};
 ghost use Rattle.alta_codec.specs.declared.extent.Extent.{Extent};
-ghost use Rattle.alta_disk.specs.Calls.{Costs};
+ghost use Rattle.alta_disk.specs.Calls.{Charges, Syncs};
 ghost use Rattle.alta_disk.specs.Disk.{DiskState, LeavesOnly, Only, Passes};
 ghost use Rattle.alta_disk.specs.Parts.{Touches};
 ghost use Rattle.alta_meaning.specs.Holding.{Holding, IsHeld};
 ghost use Rattle.alta_meaning.specs.Levels.{Level};
-ghost use Rattle.alta_meaning.specs.Opened.{Opened, IsOpened, half_of};
+ghost use Rattle.alta_meaning.specs.Opened.{Opened, IsOpened};
 ghost use Rattle.alta_meaning.specs.Standing.{StandsFor, StandsForEither, view_of};
 ghost use Rattle.alta_meaning.specs.Views.{state_of};
 ghost use Rattle.alta_machine.specs.declared.document.State.{State};
 ghost use Rattle.alta_root.specs.Switches.{Switched};
-ghost use Rattle.alta_root.specs.declared.places.TheConstants.{HEAD_BYTES};
 ghost use Rattle.alta_rewrite.specs.Brings.{Brings, IsOpenedEither, Names};
 ghost use Rattle.alta_rewrite.specs.Puts.{AreLaid, Fills, MayPut, Puts, Putting, Writes, ranges_before, ranges_in};
 
 use crate::piece::Piece;
 use alta_disk::{Disk, Failed};
-use alta_journal::{Half, close_half};
-use alta_root::{Root, Slot, switch};
+use alta_journal::close_half;
+use alta_layout::Slot;
+use alta_root::{Root, switch};
 
 /// Writes pieces into gaps beside what the root that counts names, and makes `root` the one that counts, in the slot that does
 /// not count now. Nothing is pending at the start.
@@ -50,10 +50,9 @@ pub(crate) fn put_root<D: Disk>(
     requires limit { HEAD_BYTES ≤ (D.state disk.old).limit }
 
     ensures put { D.tells → OnOk result ((middle : List ℕ) × Puts slot pieces.now (D.state disk.old).content middle × Switched slot root.now middle (D.state disk.new).content) }
-    ensures durable { OnOk result (Only (D.state disk.new).content (D.state disk.new).images) }
 
     // At each moment of the call.
-    ensures images { Passes (Putting slot root.now pieces.now) (D.state disk.old) (D.state disk.new) }
+    ensures syncs { Syncs 1 (Putting slot root.now pieces.now) (D.state disk.old) (D.state disk.new) result }
 
     // What an image is opened as then, and what it stands for.
     ensures opened { (o coming : Opened) → (D.tells → IsOpened o (D.state disk.old).content) → (D.tells → Names slot root.now pieces.now coming (D.state disk.old).content)
@@ -65,9 +64,6 @@ pub(crate) fn put_root<D: Disk>(
         → OnOk result (StandsFor t (D.state disk.new).content) }
     ensures held { (then : Holding) → (coming : Opened) → D.tells → Brings slot root.now pieces.now coming then.view.levels (state_of then.view) (D.state disk.old).content
         → then.view ≡ view_of coming then.view.levels → then.list ≡ coming.root.deletions → OnOk result (IsHeld then (D.state disk.new).content) }
-
-    ensures cause { HasCause (D.state disk.old).faults (D.state disk.new).faults result }
-    ensures costs { Costs 1 (D.state disk.old) (D.state disk.new) }
 {
     put(disk, slot, pieces)?;
     switch(disk, slot, root)
@@ -80,24 +76,11 @@ fn put<D: Disk>(disk: &mut D, slot: Slot, pieces: &[Piece<'_>]) -> Result<(), Fa
     requires fits { All (Fills (D.state disk.old).limit) pieces.now }
     requires limit { HEAD_BYTES ≤ (D.state disk.old).limit }
     ensures put { D.tells → OnOk result (Puts slot pieces.now (D.state disk.old).content (D.state disk.new).content) }
-    ensures durable { OnOk result (Only (D.state disk.new).content (D.state disk.new).images) }
-    ensures images { Passes (Touches (ranges_before slot pieces.now)) (D.state disk.old) (D.state disk.new) }
-    ensures cause { HasCause (D.state disk.old).faults (D.state disk.new).faults result }
-    ensures costs { Costs 0 (D.state disk.old) (D.state disk.new) }
+    ensures syncs { Syncs 0 (Touches (ranges_before slot pieces.now)) (D.state disk.old) (D.state disk.new) result }
 {
     write_pieces(disk, pieces)?;
-    close_half(disk, half_of(slot))?;
+    close_half(disk, slot)?;
     Ok(())
-}
-
-/// The half of the journal that a root in this slot uses.
-pub fn half_of(slot: Slot) -> Half
-    ensures { result ≡ half_of slot }
-{
-    match slot {
-        Slot::A => Half::A,
-        Slot::B => Half::B,
-    }
 }
 
 // Writes each piece at its extent.
@@ -106,8 +89,7 @@ fn write_pieces<D: Disk>(disk: &mut D, pieces: &[Piece<'_>]) -> Result<(), Faile
     requires fits { All (Fills (D.state disk.old).limit) pieces.now }
     ensures written { D.tells → OnOk result (Writes pieces.now (D.state disk.old).content (D.state disk.new).content) }
     ensures images { Passes (Touches (ranges_in pieces.now)) (D.state disk.old) (D.state disk.new) }
-    ensures cause { HasCause (D.state disk.old).faults (D.state disk.new).faults result }
-    ensures costs { Costs 0 (D.state disk.old) (D.state disk.new) }
+    ensures charges { Charges 0 (D.state disk.old) (D.state disk.new) result }
 {
     for piece in pieces {
         disk.write(piece.extent.place, piece.bytes)?;

@@ -8,8 +8,9 @@ use crate::putting::put_root;
 use crate::{Ends, NextLevels, RewriteFault};
 use alta_codec::{DocNumber, Loc};
 use alta_disk::Disk;
+use alta_layout::Slot;
 use alta_level::OpenLevel;
-use alta_root::{Root, Slot};
+use alta_root::Root;
 use std::alloc::Global;
 
 /// What counts behind a rewrite.

@@ -4,11 +4,11 @@ use Rattle.std.specs.Prelude.{Option, Some, None, IfSome, IfNone, nat_le, ◌&&�
 use Rattle.std.specs.List.{All, filter, list_all}
 use Rattle.std.proofs.lemmas.Bool.{cases_lt, false≢true, le-leb, lt-leb}
 use Rattle.std.proofs.lemmas.List.Elements.{All-nil, All-cons, All-head, All-tail, filter_passes}
+use Rattle.alta_layout.specs.declared.places.TheConstants.{HEAD_BYTES}
 use Rattle.alta_codec.specs.declared.extent.Extent.{Extent}
 use Rattle.alta_disk.specs.Parts.{Apart}
 use Rattle.alta_root.specs.Gaps.{IsGap, IsFirstGap, IsLongestGap, starts_beside, is_beside, is_gap, least, least_with, first_gap, room_before, room_beside, room_at, greatest, greatest_gap}
 use Rattle.alta_root.specs.Meeting.{AreClear, IsRoom, Bounds, IsRoomAt, IsThere}
-use Rattle.alta_root.specs.declared.places.TheConstants.{HEAD_BYTES}
 use Rattle.alta_root.proofs.GapLaws as laws
 
 -- ---- tests

@@ -4,11 +4,12 @@ use Rattle.std.specs.Prelude.{Result, IfOk}
 use Rattle.std.proofs.Math.Seq.{take-append_seam, drop-append_seam, drop-append-add}
 use Rattle.std.proofs.lemmas.List.{length-append, length-replicate}
 use Rattle.std.proofs.lemmas.Result.{IfOk-weaker}
+use Rattle.alta_layout.specs.declared.places.TheConstants.{SLOTS_BYTES, SLOT_BYTES}
 use Rattle.alta_root.specs.Answers.{AreRead}
 use Rattle.alta_root.specs.Root.{IsSound}
 use Rattle.alta_root.specs.Slots.{Shows}
 use Rattle.alta_root.specs.declared.fault.RootFault.{RootFault}
-use Rattle.alta_root.specs.declared.places.TheConstants.{READ_BYTES, SLOT_BYTES, SLOTS_BYTES}
+use Rattle.alta_root.specs.declared.places.TheConstants.{READ_BYTES}
 use Rattle.alta_root.specs.declared.root.Roots.{Roots}
 use Rattle.alta_root.proofs.Frames.{answered_sound}
 

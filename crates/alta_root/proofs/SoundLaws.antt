@@ -5,12 +5,13 @@ use Rattle.std.specs.List.{All, list_all}
 use Rattle.std.proofs.lemmas.Bool.{leb-true, le-leb, eqb-true}
 use Rattle.std.proofs.lemmas.List.{append-nil}
 use Rattle.std.proofs.lemmas.List.Elements.{All-nil, All-cons}
+use Rattle.alta_layout.specs.declared.places.TheConstants.{HEAD_BYTES}
 use Rattle.alta_codec.specs.declared.extent.Extent.{Extent}
 use Rattle.alta_format.specs.Format.{Format, ends, number_field, text_field, byte, wide, read, placed}
 use Rattle.alta_format.proofs.FormatLaws.{ok_is, number_kept, text_kept, number_passes, text_passes}
 use Rattle.alta_root.specs.Root.{extents_of, no_extent, AreApart, IsExtent, AreExtents, IsSound, extent_in, are_apart, is_extent, is_list, is_version, is_next_number, is_next_location, with_level, levels_format, root_format}
 use Rattle.alta_root.specs.Slots.{root_in}
-use Rattle.alta_root.specs.declared.places.TheConstants.{HEAD_BYTES, VERSION, LEVELS, LEVEL_BYTES, LAST_NEXT, DOCUMENT_CELLS}
+use Rattle.alta_root.specs.declared.places.TheConstants.{VERSION, LEVELS, LEVEL_BYTES, LAST_NEXT, DOCUMENT_CELLS}
 use Rattle.alta_root.specs.declared.root.Root.{Root}
 
 -- ---- rules as facts
@@ -153,11 +154,11 @@ levels_longer size longer le (suc n) before bytes y e =
 
 -- ---- the fields of a root, from each on
 
-abbrev start_of : ℕ → ℕ → ℕ → ℕ → Extent → Root
-start_of version sequence number location list = record { version = version; sequence = sequence; next_number = number; next_location = location; levels = record { items = [] }; deletions = list }
+abbrev half_start : ℕ → ℕ → ℕ → ℕ → Extent → Root
+half_start version sequence number location list = record { version = version; sequence = sequence; next_number = number; next_location = location; levels = record { items = [] }; deletions = list }
 
 abbrev from_list : ℕ → ℕ → ℕ → ℕ → ℕ → ℕ → Format Root
-from_list size version sequence count number location = text_field 16 (λ bytes. is_list size (extent_in bytes)) (λ bytes. levels_format size (start_of version sequence number location (extent_in bytes)) count)
+from_list size version sequence count number location = text_field 16 (λ bytes. is_list size (extent_in bytes)) (λ bytes. levels_format size (half_start version sequence number location (extent_in bytes)) count)
 
 abbrev from_location : ℕ → ℕ → ℕ → ℕ → ℕ → Format Root
 from_location size version sequence count number = number_field wide (is_next_location number) (λ location. from_list size version sequence count number location)
@@ -174,7 +175,7 @@ from_count size version sequence = number_field byte (λ levels. nat_le levels L
 abbrev from_sequence : ℕ → ℕ → Format Root
 from_sequence size version = number_field byte (λ sequence. true) (λ sequence. from_count size version sequence)
 
-made_sound : (size count version sequence number location : ℕ) (list : Extent) (after : Root) → LevelsRead size count (start_of version sequence number location list) after → IsTrue (is_version version) → IsTrue (nat_le count LEVELS) → IsTrue (is_next_number number)
+made_sound : (size count version sequence number location : ℕ) (list : Extent) (after : Root) → LevelsRead size count (half_start version sequence number location list) after → IsTrue (is_version version) → IsTrue (nat_le count LEVELS) → IsTrue (is_next_number number)
     → IsTrue (is_next_location number location) → IsTrue (is_list size list) → IsSound size after
 made_sound size count version sequence number location list after levels version_holds few number_holds location_holds list_is =
     subst (IsSound size) (sym levels.is) (record {
@@ -198,8 +199,8 @@ root_sound size bytes y e =
     let z = text_kept 4 (λ zeros. list_all (λ b. b == 0) zeros) (λ zeros. from_number size v.value s.value c.value) c.rest y c.more in
     let n = number_kept wide is_next_number (λ number. from_location size v.value s.value c.value number) z.rest y z.more in
     let l = number_kept wide (is_next_location n.value) (λ location. from_list size v.value s.value c.value n.value location) n.rest y n.more in
-    let d = text_kept 16 (λ bytes. is_list size (extent_in bytes)) (λ bytes. levels_format size (start_of v.value s.value n.value l.value (extent_in bytes)) c.value) l.rest y l.more in
-    made_sound size c.value v.value s.value n.value l.value (extent_in d.value) y.0 (levels_read size c.value (start_of v.value s.value n.value l.value (extent_in d.value)) d.rest y d.more) v.holds c.holds n.holds l.holds d.holds
+    let d = text_kept 16 (λ bytes. is_list size (extent_in bytes)) (λ bytes. levels_format size (half_start v.value s.value n.value l.value (extent_in bytes)) c.value) l.rest y l.more in
+    made_sound size c.value v.value s.value n.value l.value (extent_in d.value) y.0 (levels_read size c.value (half_start v.value s.value n.value l.value (extent_in d.value)) d.rest y d.more) v.holds c.holds n.holds l.holds d.holds
 
 root_longer : (size longer : ℕ) → size ≤ longer → (bytes : List ℕ) (y : Root × List ℕ) → read (root_format size) bytes ≡ Ok y → read (root_format longer) bytes ≡ Ok y
 unfolding root_format
@@ -210,16 +211,16 @@ root_longer size longer le bytes y e =
     let z = text_kept 4 (λ zeros. list_all (λ b. b == 0) zeros) (λ zeros. from_number size v.value s.value c.value) c.rest y c.more in
     let n = number_kept wide is_next_number (λ number. from_location size v.value s.value c.value number) z.rest y z.more in
     let l = number_kept wide (is_next_location n.value) (λ location. from_list size v.value s.value c.value n.value location) n.rest y n.more in
-    let d = text_kept 16 (λ bytes. is_list size (extent_in bytes)) (λ bytes. levels_format size (start_of v.value s.value n.value l.value (extent_in bytes)) c.value) l.rest y l.more in
+    let d = text_kept 16 (λ bytes. is_list size (extent_in bytes)) (λ bytes. levels_format size (half_start v.value s.value n.value l.value (extent_in bytes)) c.value) l.rest y l.more in
     number_passes byte is_version (λ version. from_sequence longer version) bytes v.value v.rest y v.was v.holds
     (number_passes byte (λ sequence. true) (λ sequence. from_count longer v.value sequence) v.rest s.value s.rest y s.was s.holds
     (number_passes byte (λ levels. nat_le levels LEVELS) (λ levels. from_zeros longer v.value s.value levels) s.rest c.value c.rest y c.was c.holds
     (text_passes 4 (λ zeros. list_all (λ b. b == 0) zeros) (λ zeros. from_number longer v.value s.value c.value) c.rest z.value z.rest y z.was z.holds
     (number_passes wide is_next_number (λ number. from_location longer v.value s.value c.value number) z.rest n.value n.rest y n.was n.holds
     (number_passes wide (is_next_location n.value) (λ location. from_list longer v.value s.value c.value n.value location) n.rest l.value l.rest y l.was l.holds
-    (text_passes 16 (λ bytes. is_list longer (extent_in bytes)) (λ bytes. levels_format longer (start_of v.value s.value n.value l.value (extent_in bytes)) c.value) l.rest d.value d.rest y d.was
+    (text_passes 16 (λ bytes. is_list longer (extent_in bytes)) (λ bytes. levels_format longer (half_start v.value s.value n.value l.value (extent_in bytes)) c.value) l.rest d.value d.rest y d.was
     (list_longer size longer le (extent_in d.value) d.holds)
-    (levels_longer size longer le c.value (start_of v.value s.value n.value l.value (extent_in d.value)) d.rest y d.more)))))))
+    (levels_longer size longer le c.value (half_start v.value s.value n.value l.value (extent_in d.value)) d.rest y d.more)))))))
 
 -- ---- what fields say
 

@@ -8,12 +8,13 @@ use Rattle.std.proofs.lemmas.List.{append-nil, flat_map_more, take_more, take_at
 use Rattle.std.proofs.Math.Seq.{take-append-add}
 use Rattle.std.proofs.lemmas.List.Elements.{All-nil, All-cons, All-head, All-tail}
 use Rattle.std.proofs.lemmas.Nat.{be_bytes_8, from_be_bytes-to_be_bytes_8}
+use Rattle.alta_layout.specs.declared.places.TheConstants.{HEAD_BYTES}
 use Rattle.alta_codec.specs.declared.extent.Extent.{Extent}
 use Rattle.alta_format.specs.Format.{HasText, Spells, AreBytes}
 use Rattle.alta_format.proofs.FormatLaws.{AreBytes-take, AreBytes-drop, AreBytes-rest, part_found, part_reads}
 use Rattle.alta_root.specs.Slots.{root_in}
 use Rattle.alta_root.specs.Root.{extents_of, no_extent, AreApart, IsExtent, AreExtents, IsWord, IsSound, number_in, extent_in, are_apart, is_extent, is_list, with_level, levels_format, root_format, wide_bytes, extent_bytes, fields_of, body_of}
-use Rattle.alta_root.specs.declared.places.TheConstants.{HEAD_BYTES, BODY_BYTES, FIELDS_BYTES, VERSION, LEVELS, LEVEL_BYTES, LAST_NEXT, DOCUMENT_CELLS}
+use Rattle.alta_root.specs.declared.places.TheConstants.{BODY_BYTES, FIELDS_BYTES, VERSION, LEVELS, LEVEL_BYTES, LAST_NEXT, DOCUMENT_CELLS}
 use Rattle.alta_root.specs.declared.root.Root.{Root}
 
 pub padded : (root : Root) (fields padding : List ℕ) (len : ℕ) (body : List ℕ) → fields ≡ fields_of root → len ≡ length fields → padding ≡ drop len (replicate BODY_BYTES 0) → body ≡ fields ++ padding → body ≡ body_of root
@@ -305,15 +306,15 @@ four_zeros (a ∷ b ∷ c ∷ d ∷ []) long holds =
     ap (λ (n : ℕ). n ∷ b ∷ c ∷ d ∷ []) (zero_is a a_rest.0) ∙ ap (λ (n : ℕ). 0 ∷ n ∷ c ∷ d ∷ []) (zero_is b b_rest.0) ∙ ap (λ (n : ℕ). 0 ∷ 0 ∷ n ∷ d ∷ []) (zero_is c c_rest.0) ∙ ap (λ (n : ℕ). 0 ∷ 0 ∷ 0 ∷ n ∷ []) (zero_is d d_rest.0)
 four_zeros (a ∷ b ∷ c ∷ d ∷ e ∷ more) long holds = absurd (omega (arith, long))
 
-abbrev start_of : ℕ → ℕ → ℕ → ℕ → Extent → Root
-start_of version sequence number location list = record { version = version; sequence = sequence; next_number = number; next_location = location; levels = record { items = [] }; deletions = list }
+abbrev half_start : ℕ → ℕ → ℕ → ℕ → Extent → Root
+half_start version sequence number location list = record { version = version; sequence = sequence; next_number = number; next_location = location; levels = record { items = [] }; deletions = list }
 
 -- the parts of bytes that spell a root, one behind the other
-parts_spelled : (v s c n l : ℕ) (list : Extent) (levels : List Extent) (root : Root) (bytes rest b1 b2 b3 b4 b5 b6 b7 : List ℕ) → root ≡ with_levels (start_of v s n l list) levels → length levels ≡ c
+parts_spelled : (v s c n l : ℕ) (list : Extent) (levels : List Extent) (root : Root) (bytes rest b1 b2 b3 b4 b5 b6 b7 : List ℕ) → root ≡ with_levels (half_start v s n l list) levels → length levels ≡ c
     → bytes ≡ v ∷ b1 → b1 ≡ s ∷ b2 → b2 ≡ c ∷ b3 → b3 ≡ 0 ∷ 0 ∷ 0 ∷ 0 ∷ b4 → b4 ≡ wide_bytes n ++ b5 → b5 ≡ wide_bytes l ++ b6 → b6 ≡ extent_bytes list ++ b7 → b7 ≡ flat_map extent_bytes levels ++ rest
     → bytes ≡ fields_of root ++ rest
 parts_spelled v s c n l list levels root bytes rest b1 b2 b3 b4 b5 b6 b7 root_is count p0 p1 p2 p3 p4 p5 p6 p7 =
-    let made = with_levels (start_of v s n l list) levels in
+    let made = with_levels (half_start v s n l list) levels in
     p0 ∙ ap (λ (t : List ℕ). v ∷ t) (p1 ∙ ap (λ (t : List ℕ). s ∷ t) (p2 ∙ ap (λ (k : ℕ). k ∷ b3) (sym count) ∙ ap (λ (t : List ℕ). length levels ∷ t) (p3 ∙ ap (λ (t : List ℕ). 0 ∷ 0 ∷ 0 ∷ 0 ∷ t)
     (p4 ∙ ap (λ (t : List ℕ). wide_bytes n ++ t) (p5 ∙ ap (λ (t : List ℕ). wide_bytes l ++ t) (p6 ∙ ap (λ (t : List ℕ). extent_bytes list ++ t) p7))))))
     ∙ sym (fields_behind made rest) ∙ ap (λ (r : Root). fields_of r ++ rest) (sym root_is)
@@ -329,7 +330,7 @@ spells_bytes size root bytes rest fits (v, b1, hv, kv, (s, b2, hs, ks, (c, b3, h
     let f6 = AreBytes-rest b5 (to_be_bytes w64 l) b6 f5 hl.parts in
     let f7 = AreBytes-rest b6 d b7 f6 hd.parts in
     let list = extent_in d in
-    let start : Root = start_of v s n l list in
+    let start : Root = half_start v s n l list in
     let levels = levels_spelled size c start root b7 rest f7 more in
     let zeros = four_zeros z hz.len_is kz in
     let list_text : extent_bytes list ≡ d = extent_spelled d hd.len_is (front_bytes 16 b6 d b7 f6 hd) in

@@ -7,10 +7,11 @@ ghost use Rattle.alta_root.specs.Root.{root_format, levels_format, number_in, ex
 ghost use Rattle.alta_root.specs.Slots.{root_in};
 ghost use Rattle.alta_root.specs.Answers.{Says};
 
-use crate::places::{DOCUMENT_CELLS, HEAD_BYTES, LAST_NEXT, LEVEL_BYTES, LEVELS, VERSION};
+use crate::places::{DOCUMENT_CELLS, LAST_NEXT, LEVEL_BYTES, LEVELS, VERSION};
 use crate::{Root, RootFault};
 use alta_codec::Extent;
 use alta_format::{ReadFault, byte_at, text_at, wide_at};
+use alta_layout::HEAD_BYTES;
 use arrayvec::ArrayVec;
 
 // The root that fields say which begin at a place of a disk of this size.

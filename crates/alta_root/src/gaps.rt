@@ -7,8 +7,8 @@ ghost use Rattle.alta_root.specs.Gaps.{IsFirstGap, IsGap, IsLongestGap, first_ga
 ghost use Rattle.alta_root.specs.Meeting.{AreClear, IsLonger, IsRoom, IsRoomAt, Meets};
 
 use crate::Root;
-use crate::places::HEAD_BYTES;
 use alta_codec::Extent;
+use alta_layout::HEAD_BYTES;
 
 /// The first place behind the head where so many bytes meet no extent of the root and none of the others, and end at the
 /// limit or before. None exactly where there is no such place. It takes no memory.

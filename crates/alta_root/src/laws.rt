@@ -1,17 +1,18 @@
 // What follows from the definitions alone. The functions are empty: their contracts are the laws.
 ghost use Rattle.std.specs.Prelude.{◌≡◌, ℕ, ◌+◌, ◌<◌, ◌≤◌, ◌^◌, ◌↔◌, ◌++◌, List, length, take, Option, Some, None, Result, Ok, Err};
+ghost use Rattle.alta_layout.specs.declared.places.TheConstants.{SLOTS_BYTES, SLOT_BYTES};
+ghost use Rattle.alta_layout.specs.Places.{other, slot_start};
+ghost use Rattle.alta_layout.specs.declared.slot.Slot.{Slot};
 ghost use Rattle.alta_codec.specs.declared.extent.Extent.{Extent};
 ghost use Rattle.alta_disk.specs.Parts.{Clear, Touches};
 ghost use Rattle.alta_format.specs.Format.{AreBytes, FirstBroken};
 ghost use Rattle.alta_root.specs.Gaps.{IsFirstGap, IsGap, IsLongestGap, first_gap, greatest_gap};
-ghost use Rattle.alta_root.specs.Places.{slot_start, other};
 ghost use Rattle.alta_root.specs.Root.{IsSound, root_format, fields_of, body_of};
 ghost use Rattle.alta_root.specs.Slots.{root_in, Counts, Shows};
 ghost use Rattle.alta_root.specs.declared.fault.RootFault.{RootFault};
-ghost use Rattle.alta_root.specs.declared.places.TheConstants.{BODY_BYTES, FIELDS_BYTES, SLOT_BYTES, SLOTS_BYTES};
+ghost use Rattle.alta_root.specs.declared.places.TheConstants.{BODY_BYTES, FIELDS_BYTES};
 ghost use Rattle.alta_root.specs.declared.root.Root.{Root};
 ghost use Rattle.alta_root.specs.declared.root.Roots.{Roots};
-ghost use Rattle.alta_root.specs.declared.slot.Slot.{Slot};
 
 /// An image says one thing at opening: that one root counts, in one slot, or that there is none, or where it is damaged
 /// first.

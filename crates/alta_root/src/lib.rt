@@ -8,7 +8,6 @@ mod laws;
 mod places;
 mod reading;
 mod root;
-mod slot;
 mod spelling;
 mod switching;
 
@@ -18,11 +17,7 @@ pub use laws::{
     a_root_counts_on, a_root_reads_back, an_image_says_one_thing,
     gaps_are_the_first_and_the_longest, slots_are_two,
 };
-pub use places::{
-    DOCUMENT_CELLS, FIELDS_BYTES, GATE_CLOSED, GATE_OPEN, HEAD_BYTES, LAST_NEXT, LEVEL_BYTES,
-    SLOT_BYTES, SLOTS_BYTES, VERSION,
-};
+pub use places::{DOCUMENT_CELLS, FIELDS_BYTES, LAST_NEXT, LEVEL_BYTES, LEVELS, VERSION};
 pub use reading::read_roots;
 pub use root::{Root, Roots};
-pub use slot::Slot;
 pub use switching::switch;

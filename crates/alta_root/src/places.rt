@@ -1,19 +1,4 @@
-// Where the slots stand on a disk, and the numbers in their rules.
-
-/// The gate of a slot that says a root. Each other value is a closed gate.
-pub const GATE_OPEN: u8 = 0xA5;
-
-/// The value by which a closed gate is written.
-pub const GATE_CLOSED: u8 = 0;
-
-/// The bytes of both slots.
-pub const SLOTS_BYTES: u64 = 8_192;
-
-/// The bytes of a disk's head: of both slots and of both halves of the journal. Extents lie behind it.
-pub const HEAD_BYTES: u64 = 2_105_344;
-
-/// The bytes of a slot. Slot B stands behind slot A.
-pub const SLOT_BYTES: u64 = 4_096;
+// The sizes in bytes of a root slot, and the numbers in its rules.
 
 // The bytes of a slot behind its gate.
 pub(crate) const BODY_BYTES: usize = 4_095;
@@ -30,8 +15,8 @@ pub(crate) const SECOND_SEQUENCE: u64 = 4_098;
 /// The version with which roots are written, the last that is read.
 pub const VERSION: u8 = 2;
 
-// The most levels of a root.
-pub(crate) const LEVELS: usize = 16;
+/// The most levels of a root.
+pub const LEVELS: usize = 16;
 
 /// The fewest bytes of a level.
 pub const LEVEL_BYTES: u64 = 32;

@@ -1,21 +1,23 @@
 // Which of the two slots counts.
 ghost use Rattle.std.specs.Prelude.{◌≡◌, ◌≢◌, ◌⊎◌, ◌↔◌, ℕ, List, ◌+◌, ◌≤◌, ◌<◌, ◌*◌, true, length, take, drop, get_or, Result, Ok, Err, IsTrue, IfOk, OnOk};
+ghost use Rattle.alta_layout.specs.declared.places.TheConstants.{HEAD_BYTES, SLOTS_BYTES};
+ghost use Rattle.alta_layout.specs.Places.{slot_start};
 ghost use Rattle.alta_codec.specs.Faults.{Rose};
 ghost use Rattle.alta_disk.specs.Disk.{DiskState};
 ghost use Rattle.alta_disk.specs.Calls.{Reads};
-ghost use Rattle.alta_root.specs.Places.{slot_start};
 ghost use Rattle.alta_root.specs.Root.{IsSound, next_sequence};
 ghost use Rattle.alta_root.specs.Slots.{Counts, Shows};
 ghost use Rattle.alta_root.specs.Answers.{AreRead, Says, SaysIfOpen, slot_bytes, chosen_of};
 ghost use Rattle.alta_root.specs.declared.fault.RootFault.TheVariants.{Disk as DiskFault};
-ghost use Rattle.alta_root.specs.declared.places.TheConstants.{HEAD_BYTES, READ_BYTES, SLOTS_BYTES};
+ghost use Rattle.alta_root.specs.declared.places.TheConstants.{READ_BYTES};
 ghost use Rattle.alta_root.specs.declared.root.Roots.{Roots};
 ghost use Rattle.alta_root.specs.declared.fault.RootFault.{RootFault};
 
 use crate::fields::root_at;
-use crate::places::{GATE_OPEN, HEAD_BYTES, READ_BYTES, SECOND_SEQUENCE, SLOTS_BYTES};
-use crate::{Root, RootFault, Roots, Slot};
+use crate::places::{READ_BYTES, SECOND_SEQUENCE};
+use crate::{Root, RootFault, Roots};
 use alta_disk::Disk;
+use alta_layout::{GATE_OPEN, HEAD_BYTES, SLOTS_BYTES, Slot};
 
 /// Reads both slots, and answers the one that counts, with its root, which keeps the rules on slots, also where the disk does
 /// not tell what it holds; the disk may then be as long as a head. It takes no memory, and reads 592 bytes at most: what stands behind the fields of a slot is not

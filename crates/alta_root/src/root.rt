@@ -1,7 +1,7 @@
 // What a slot says.
 
-use crate::Slot;
 use alta_codec::{DocNumber, Extent, Loc};
+use alta_layout::Slot;
 use arrayvec::ArrayVec;
 
 /// A root: where its levels and its deletion list stand on the disk, and what the next document is.

@@ -2,20 +2,19 @@
 // A closed gate is left alone. A pending write over it may leave it open, over an old or empty body, and such an image would stand
 // for nothing. So the gate is read first, one byte, and the write and its sync are skipped where it is closed.
 ghost use Rattle.std.specs.Prelude.{◌≡◌, ◌+◌, ◌≤◌, ◌∷◌, length, OnOk};
-ghost use Rattle.alta_codec.specs.Faults.{HasCause};
-ghost use Rattle.alta_disk.specs.Disk.{DiskState, Only, Passes, Stands};
-ghost use Rattle.alta_disk.specs.Calls.{Costs};
+ghost use Rattle.alta_layout.specs.declared.places.TheConstants.{HEAD_BYTES, SLOT_BYTES};
+ghost use Rattle.alta_layout.specs.Places.{slot_start};
+ghost use Rattle.alta_disk.specs.Disk.{DiskState, Only, Stands};
+ghost use Rattle.alta_disk.specs.Calls.{Syncs};
 ghost use Rattle.alta_disk.specs.Parts.{part};
-ghost use Rattle.alta_root.specs.Places.{slot_start};
 ghost use Rattle.alta_root.specs.Root.{body_of};
 ghost use Rattle.alta_root.specs.Slots.{Counts};
 ghost use Rattle.alta_root.specs.Switches.{MayFollow, Switches, Switched, Closes, Closed};
-ghost use Rattle.alta_root.specs.declared.places.TheConstants.{HEAD_BYTES, SLOT_BYTES};
 
-use crate::places::{GATE_CLOSED, GATE_OPEN, HEAD_BYTES};
+use crate::Root;
 use crate::spelling::spell;
-use crate::{Root, Slot};
 use alta_disk::{Disk, Failed, write_synced};
+use alta_layout::{GATE_CLOSED, GATE_OPEN, HEAD_BYTES, Slot};
 
 /// Makes this root the one that counts, in the slot that does not count now. Nothing is pending at the start; all that the
 /// root names stands on the disk, and the first gate of its half of the journal is closed.
@@ -35,14 +34,10 @@ pub fn switch<D: Disk>(disk: &mut D, slot: Slot, root: &Root) -> Result<(), Fail
 
     ensures switched { D.tells → OnOk result (Switched slot root.now (D.state disk.old).content (D.state disk.new).content) }
     ensures written { D.tells → OnOk result (part (slot_start slot) SLOT_BYTES (D.state disk.new).content ≡ GATE_OPEN ∷ body_of root.now) }
-    ensures durable { OnOk result (Only (D.state disk.new).content (D.state disk.new).images) }
     ensures counts { OnOk result (Stands D.tells (D.state disk.new) (Counts slot root.now)) }
 
     // At each moment of the call.
-    ensures images { Passes (Switches slot root.now) (D.state disk.old) (D.state disk.new) }
-
-    ensures cause { HasCause (D.state disk.old).faults (D.state disk.new).faults result }
-    ensures costs { Costs 1 (D.state disk.old) (D.state disk.new) }
+    ensures syncs { Syncs 1 (Switches slot root.now) (D.state disk.old) (D.state disk.new) result }
 {
     let body = spell(root);
     close(disk, slot)?;
@@ -58,10 +53,7 @@ fn close<D: Disk>(disk: &mut D, slot: Slot) -> Result<(), Failed>
     requires size { D.tells → HEAD_BYTES ≤ length (D.state disk.old).content }
     requires limit { HEAD_BYTES ≤ (D.state disk.old).limit }
     ensures closed { D.tells → OnOk result (Closed slot (D.state disk.old).content (D.state disk.new).content) }
-    ensures durable { OnOk result (Only (D.state disk.new).content (D.state disk.new).images) }
-    ensures images { Passes (Closes slot) (D.state disk.old) (D.state disk.new) }
-    ensures cause { HasCause (D.state disk.old).faults (D.state disk.new).faults result }
-    ensures costs { Costs 1 (D.state disk.old) (D.state disk.new) }
+    ensures syncs { Syncs 1 (Closes slot) (D.state disk.old) (D.state disk.new) result }
 {
     let mut gate = [0; 1];
     disk.read(slot.start(), &mut gate)?;

@@ -15,6 +15,7 @@ ghost use Rattle.alta_search.specs.Plans.{lists, locations};
 ghost use Rattle.alta_search.specs.View.{Shows};
 ghost use Rattle.alta_search.specs.Words.{IsSoundSingle, single_list, single_left, IsUnmovedSingle, IsCoded};
 ghost use Rattle.alta_search.specs.declared.single_reader.SingleReader.TheVariants.{Plain};
+ghost use Rattle.alta_search.specs.Walked.{WalksOver};
 
 use crate::leading::{word_reader, word_readers};
 use crate::led_walk::{all_coded, are_coded};
@@ -231,9 +232,8 @@ pub(crate) fn count_either<L: Ledger>(
 ) -> Result<u64, AllocError>
     requires some { 0 < length snapshot.now.tests }
     requires exact { All IsExact snapshot.now.tests }
-    ensures count { IfOk result (λ n. (space : List Placed) (words : List Test) → Shows space snapshot.now → snapshot.now.tests ≡ either_tests words
+    ensures { WalksOver snapshot.now steps.old steps.new result (λ n. (space : List Placed) (words : List Test) → Shows space snapshot.now → snapshot.now.tests ≡ either_tests words
         → n ≡ count_live (ends_with_any (ends_of space) (map (list_of space) words)) snapshot.now.gone 0) }
-    ensures most { steps.new ≤ steps.old + locations snapshot.now.cuts + lists snapshot.now.cuts }
 {
     let (tests, uses) = snapshot.uses();
     let live = any_of_uses(alloc, tests, uses, snapshot.gone(), steps)?;
@@ -271,9 +271,8 @@ pub(crate) fn count_titled<L: Ledger>(
 ) -> Result<u64, AllocError>
     requires three { length snapshot.now.tests ≡ 3 }
     requires exact { All IsExact snapshot.now.tests }
-    ensures count { IfOk result (λ n. (space : List Placed) (word : Test) → Shows space snapshot.now → snapshot.now.tests ≡ document_end ∷ word ∷ title_end ∷ []
+    ensures { WalksOver snapshot.now steps.old steps.new result (λ n. (space : List Placed) (word : Test) → Shows space snapshot.now → snapshot.now.tests ≡ document_end ∷ word ∷ title_end ∷ []
         → n ≡ count_live (ends_followed (ends_of space) (list_of space word) (list_of space title_end)) snapshot.now.gone 0) }
-    ensures most { steps.new ≤ steps.old + locations snapshot.now.cuts + lists snapshot.now.cuts }
 {
     let (tests, uses) = snapshot.uses();
     let live = followed_uses(alloc, tests, uses, snapshot.gone(), steps)?;

@@ -12,6 +12,7 @@ ghost use Rattle.alta_search.specs.Met.{IsExact, IsSingle};
 ghost use Rattle.alta_search.specs.Plans.{lists};
 ghost use Rattle.alta_search.specs.Readers.{Each, IsAtStart, IsFresh};
 ghost use Rattle.alta_search.specs.Words.{IsSoundSingle, single_list, single_place, single_left};
+ghost use Rattle.alta_search.specs.Made.{IsMadeReader, MakesReaders};
 
 use crate::lists::{LevelList, Stored, TermLists, TestLists, terms_at};
 use crate::plan_reader::PlanReader;
@@ -103,9 +104,7 @@ fn rarest(tests: &[TestLists], words: &[usize]) -> usize
 /// A reader of the locations of a list, at the first. It adds one step.
 fn list_reader<'a, L: Ledger>(list: &'a LevelList, steps: &mut Steps<L>) -> SingleReader<'a>
     requires { IsRising (level_list list.now) }
-    ensures sound { IsSoundSingle result }
-    ensures start { IsAtStart single_list single_list single_place single_left (level_list list.now) result }
-    ensures steps { steps.new ≡ steps.old + 1 }
+    ensures { IsMadeReader steps.old steps.new result IsSoundSingle (IsAtStart single_list single_list single_place single_left (level_list list.now)) }
 {
     match &list.stored {
         Stored::Coded(posting) => SingleReader::Coded(posting.reader(steps)),
@@ -121,10 +120,8 @@ fn chain_reader<'a, L: Ledger>(
     steps: &mut Steps<L>,
 ) -> Result<SingleReader<'a>, AllocError>
     requires { IsRising (concat (map level_list levels.now)) }
-    ensures sound { IfOk result IsSoundSingle }
-    ensures start { IfOk result (IsAtStart single_list single_list single_place single_left (concat (map level_list levels.now))) }
-    ensures exact { IfOk result (λ _. steps.new ≡ steps.old + length levels.now) }
-    ensures most { steps.new ≤ steps.old + length levels.now }
+    ensures { MakesReaders (length levels.now) steps.old steps.new result IsSoundSingle
+        (IsAtStart single_list single_list single_place single_left (concat (map level_list levels.now))) }
 {
     let reader = chain(alloc, levels, steps)?;
     Ok(SingleReader::Chain(reader))
@@ -138,10 +135,8 @@ pub(crate) fn word_reader<'a, L: Ledger>(
 ) -> Result<SingleReader<'a>, AllocError>
     requires cut { IsCut (map term_lists terms.now) }
     requires single { IsSingle (map term_lists terms.now) }
-    ensures sound { IfOk result IsSoundSingle }
-    ensures fresh { IfOk result (IsFresh single_list single_list single_place single_left (map term_lists terms.now)) }
-    ensures exact { IfOk result (λ _. steps.new ≡ steps.old + count_lists (map term_lists terms.now)) }
-    ensures most { steps.new ≤ steps.old + count_lists (map term_lists terms.now) }
+    ensures { MakesReaders (count_lists (map term_lists terms.now)) steps.old steps.new result IsSoundSingle
+        (IsFresh single_list single_list single_place single_left (map term_lists terms.now)) }
 {
     if let Some(list) = lone(terms) {
         return Ok(list_reader(list, steps));
@@ -167,10 +162,8 @@ pub(crate) fn word_readers<'a, L: Ledger>(
 ) -> Result<Vec<SingleReader<'a>>, AllocError>
     requires cut { All IsCut (map (lists_at tests.now) uses.now) }
     requires single { All IsSingle (map (lists_at tests.now) uses.now) }
-    ensures sound { IfOk result (λ rs. All IsSoundSingle rs.items) }
-    ensures fresh { IfOk result (λ rs. Each (IsFresh single_list single_list single_place single_left) (map (lists_at tests.now) uses.now) rs.items) }
-    ensures exact { IfOk result (λ _. steps.new ≡ steps.old + lists (map (lists_at tests.now) uses.now)) }
-    ensures most { steps.new ≤ steps.old + lists (map (lists_at tests.now) uses.now) }
+    ensures { MakesReaders (lists (map (lists_at tests.now) uses.now)) steps.old steps.new result (λ rs. All IsSoundSingle rs.items)
+        (λ rs. Each (IsFresh single_list single_list single_place single_left) (map (lists_at tests.now) uses.now) rs.items) }
 {
     let mut readers = Vec::with_capacity(alloc, uses.len())?;
     for index in uses {

@@ -20,6 +20,7 @@ ghost use Rattle.alta_search.specs.Scoring.{HasScored, AreScorable, last_lists, 
 ghost use Rattle.alta_search.specs.Told.{rows_at};
 ghost use Rattle.alta_search.specs.Tops.{AreBest, AreToRank, AreTopSteps};
 ghost use Rattle.alta_search.specs.View.{Shows};
+ghost use Rattle.alta_search.specs.Walked.{WalksOver};
 
 use crate::cursor::{asked, picked};
 use crate::page::Top;
@@ -47,8 +48,8 @@ fn answered<L: Ledger>(
     requires tests { snapshot.now.tests ≡ tests_of (tree plan.now) }
     requires found { IfSome found.now (IsConjunction (tree plan.now)) }
     ensures inside { IfOk result (λ picks. All (λ i. i < length snapshot.now.rows) picks.items) }
-    ensures answers { IfOk result (λ picks. (space : List Placed) → Shows space snapshot.now → rows_at snapshot.now.rows picks.items ≡ coming space (tree plan.now) snapshot.now 0) }
-    ensures most { steps.new ≤ steps.old + locations snapshot.now.cuts + lists snapshot.now.cuts }
+    ensures walks { WalksOver snapshot.now steps.old steps.new result
+        (λ picks. (space : List Placed) → Shows space snapshot.now → rows_at snapshot.now.rows picks.items ≡ coming space (tree plan.now) snapshot.now 0) }
 {
     let (picked, _) = picked(alloc, plan, found, snapshot, 0, TOP, steps)?;
     Ok(picked.picks)

@@ -2,6 +2,7 @@
 ghost use Rattle.std.specs.Prelude.{◌≡◌, map, All};
 ghost use Rattle.alta_codec.specs.Rising.{IsRising};
 ghost use Rattle.alta_content.specs.Rows.{end_of};
+ghost use Rattle.alta_content.specs.Ends.{ShowsRising};
 ghost use Rattle.alta_search.specs.Lists.{IsCut, test_at, lists_at, keys_at};
 ghost use Rattle.alta_search.specs.Met.{IsExact, IsSingle};
 ghost use Rattle.alta_search.specs.View.{IsView};
@@ -71,8 +72,7 @@ impl<'a> Section<'a> {
 
     /// The deleted ends.
     pub(crate) fn gone(&self) -> &'a [Loc]
-        ensures value { result.now ≡ self.now.gone }
-        ensures rising { IsRising result.now }
+        ensures { ShowsRising self.now.gone result.now }
     {
         self.gone
     }

@@ -10,6 +10,7 @@ ghost use Rattle.alta_search.specs.Plans.{lists, locations};
 ghost use Rattle.alta_search.specs.View.{Shows};
 ghost use Rattle.alta_search.specs.Words.{IsSoundReader, reader_list, reader_left, IsUnmovedReader};
 ghost use Rattle.alta_search.specs.declared.test_reader.TestReader.TheVariants.{Plain};
+ghost use Rattle.alta_search.specs.Walked.{WalksOver};
 
 use crate::lists::{TestLists, terms_at};
 use crate::readers::{reader, readers};
@@ -113,9 +114,8 @@ pub(crate) fn count_stem<L: Ledger>(
     steps: &mut Steps<L>,
 ) -> Result<u64, AllocError>
     requires some { 0 < length snapshot.now.tests }
-    ensures count { IfOk result (λ n. (space : List Placed) (stem : Test) → Shows space snapshot.now → snapshot.now.tests ≡ document_end ∷ stem ∷ []
+    ensures { WalksOver snapshot.now steps.old steps.new result (λ n. (space : List Placed) (stem : Test) → Shows space snapshot.now → snapshot.now.tests ≡ document_end ∷ stem ∷ []
         → n ≡ count_live (ends_with_any (ends_of space) (list_of space stem ∷ [])) snapshot.now.gone 0) }
-    ensures most { steps.new ≤ steps.old + locations snapshot.now.cuts + lists snapshot.now.cuts }
 {
     let (tests, uses) = snapshot.uses();
     let live = stem_uses(alloc, tests, uses, snapshot.gone(), steps)?;

@@ -13,19 +13,18 @@ rose_later a b c le rose = omega (arith, le, rose)
 module _ {C : Type 0} (take_faults give_faults : C → ℕ) where
   -- nothing was called
   pub counts_none : (c : C) (d : DiskState) → KeepsCounts take_faults give_faults c c d d
-  counts_none c d = record { takes = omega arith; gives = omega arith; faults = omega arith; limit = refl }
+  counts_none c d = record { takes = omega arith; gives = omega arith; kept = record { faults = omega arith; limit = refl } }
 
   -- the disk alone was called
   pub counts_disk : (c : C) (d e : DiskState) → d.faults ≤ e.faults → e.limit ≡ d.limit → KeepsCounts take_faults give_faults c c d e
-  counts_disk c d e faults limit = record { takes = omega arith; gives = omega arith; faults = faults; limit = limit }
+  counts_disk c d e faults limit = record { takes = omega arith; gives = omega arith; kept = record { faults = faults; limit = limit } }
 
   -- then more was
   pub counts_on : (a b c : C) (d e f : DiskState) → KeepsCounts take_faults give_faults a b d e → KeepsCounts take_faults give_faults b c e f → KeepsCounts take_faults give_faults a c d f
   counts_on a b c d e f one two = record {
     takes = omega (arith, one.takes, two.takes);
     gives = omega (arith, one.gives, two.gives);
-    faults = omega (arith, one.faults, two.faults);
-    limit = two.limit ∙ one.limit;
+    kept = record { faults = omega (arith, one.kept.faults, two.kept.faults); limit = two.kept.limit ∙ one.kept.limit };
   }
 
   -- it ended behind calls that went well
@@ -33,7 +32,7 @@ module _ {C : Type 0} (take_faults give_faults : C → ℕ) where
   caused_on tells a b c d e f status one two = record {
     full = two.full;
     give_fault = λ is. rose_later (give_faults a) (give_faults b) (give_faults c) one.gives (two.give_fault is);
-    disk_fault = λ is. rose_later d.faults e.faults f.faults one.faults (two.disk_fault is);
+    disk_fault = λ is. rose_later d.faults e.faults f.faults one.kept.faults (two.disk_fault is);
   }
 
 -- want of memory has no cause, and that of an input that failed is another

@@ -25,7 +25,7 @@ use Rattle.alta_search.proofs.CursorAnswers.{same_length}
 use Rattle.alta_session.specs.Answering.{Answers, CanAnswer}
 use Rattle.alta_machine.specs.Cursors.{Turn, opening, opened_by}
 use Rattle.alta_replies.specs.Turns.{Turns}
-use Rattle.alta_replies.specs.Loading.{KeepsMark, Queries}
+use Rattle.alta_replies.specs.Loading.{Queries}
 use Rattle.alta_machine.specs.Machine.{IsRefusal, Machine, turned_by}
 use Rattle.alta_machine.specs.Searching.{IsNoQuery, answer_lines, counted_by, counting, found_by, found_line, ranked_by, ranking, score_lines, searching}
 use Rattle.alta_session.specs.Tasks.{IsBy}
@@ -69,12 +69,12 @@ only_so (Err e) (inr damaged) = inr (inr damaged)
 -- ---- a call that answers a query, with this turn of the machine
 pub queried : {D : Type 0} (tells : Type 0) (state : D → DiskState) (disk disk_now : D) (session : Session) (ends : Ends) (cursors : List OpenCursor) (loads : List Load) (idle : Type 0) (result : Result (List ℕ) StoreFault)
     (steps : Machine → Machine × List ℕ) (tasks : Machine → Option Task) (turn : State → List OpenAnswers → Turn) → IsLawful tells (state disk) → CanAnswer tells (state disk) session
-    → Queries tells state disk disk_now loads idle result → KeepsMark tells (state disk_now) session.store session.ends ends result → IfOk result (λ reply. IsRefusal reply → cursors ≡ session.cursors)
+    → Queries tells state disk disk_now session.store session.ends ends loads idle result → IfOk result (λ reply. IsRefusal reply → cursors ≡ session.cursors)
     → ((s : State) (all : List OpenAnswers) → tells → StandsFor s (state disk).content → AreOpen session.cursors all → Turns (turn s all) cursors result)
     → ((s : State) (all : List OpenAnswers) → AreOpen session.cursors all → IsRefusal (turn s all).1 → idle)
     → ((m : Machine) → steps m ≡ turned_by m (turn m.state m.cursors)) → ((m : Machine) → tasks m ≡ None) → Answers tells state disk disk_now session (with_mark session ends cursors) result steps tasks
-queried tells state disk disk_now session ends cursors loads idle result steps tasks turn lawful can queries mark kept turns idles is none =
-    let reads = queries.loaded.reads in
+queried tells state disk disk_now session ends cursors loads idle result steps tasks turn lawful can queries kept turns idles is none =
+    let reads = queries.loading.loaded.reads in
     let agrees_now : Agrees tells (state disk_now) session.store = agrees_read tells (load_sizes loads) (state disk) (state disk_now) session.store lawful can.agrees reads in
     answers_by tells state disk disk_now session (with_mark session ends cursors) result (λ m. turned_by m (turn m.state m.cursors)) steps (λ m. None) tasks (λ m. sym (is m)) (λ m. sym (none m)) (record {
       from = λ m tell agrees.
@@ -87,19 +87,17 @@ queried tells state disk disk_now session ends cursors loads idle result steps t
             images = leaves_by tells (state disk) (state disk_now) (StandsForEither m.state m.state) Same lawful reads.images before (λ x z here same. subst (StandsForEither m.state m.state) (sym same) (before x here));
             refused = λ refusal. queries.idles (idles m.state m.cursors agrees.cursors refusal);
             works = λ held here. if_so result _ (worked_none (state disk).limit held None (IsBy session (state disk_now).content) refl (subst (λ (image : List ℕ). IsBy session image held) (sym (reads.content tell)) here));
-            full = λ held need gap here failed. absurd (not_full result need gap queries.loaded.only failed);
-            undamaged = λ place failed. not_damaged result place (queries.undamaged m.state tell (agrees.stands tell)) failed;
+            full = λ held need gap here failed. absurd (not_full result need gap queries.loading.loaded.only failed);
+            undamaged = λ place failed. not_damaged result place (queries.loading.undamaged m.state tell (agrees.stands tell)) failed;
           };
-      can = if_so result (CanAnswer tells (state disk_now) (with_mark session ends cursors)) (record { sound = can.sound; agrees = agrees_now; mark = mark.holds; limit = omega (arith, can.limit, reads.costs.limit) });
-      unchanged = ok_both result (λ reply. IsRefusal reply → disk_now ≡ disk) (λ reply. IsRefusal reply → with_mark session ends cursors ≡ session) _
-          (λ reply same_disk same_session refusal. (same_disk refusal, same_session refusal)) queries.refused
-          (ok_both result (λ reply. IsRefusal reply → ends ≡ session.ends) (λ reply. IsRefusal reply → cursors ≡ session.cursors) _
-          (λ reply same_ends same_cursors refusal. ap (λ (e : Ends). with_mark session e cursors) (same_ends refusal) ∙ ap (with_mark session session.ends) (same_cursors refusal)) mark.refused kept);
-      only = only_so result queries.loaded.only;
-      full = λ need gap tell failed. absurd (not_full result need gap queries.loaded.only failed);
+      can = if_so result (CanAnswer tells (state disk_now) (with_mark session ends cursors)) (record { sound = can.sound; agrees = agrees_now; mark = queries.loading.mark; limit = omega (arith, can.limit, reads.costs.limit) });
+      unchanged = ok_both result (λ reply. IsRefusal reply → (disk_now ≡ disk) × (ends ≡ session.ends)) (λ reply. IsRefusal reply → cursors ≡ session.cursors) _
+          (λ reply same same_cursors refusal. ((same refusal).0, ap (λ (e : Ends). with_mark session e cursors) (same refusal).1 ∙ ap (with_mark session session.ends) (same_cursors refusal))) queries.refused kept;
+      only = only_so result queries.loading.loaded.only;
+      full = λ need gap tell failed. absurd (not_full result need gap queries.loading.loaded.only failed);
       still = λ place tell failed. reads.content tell;
       unwritten = λ need gap tell failed. reads.content tell;
-      cause = queries.loaded.cause;
+      cause = queries.loading.loaded.cause;
       faults = reads.costs.faults;
       same_limit = reads.costs.limit;
     })

@@ -1,6 +1,7 @@
 -- Laws of runs that open what is on the disk.
 use Rattle.std.proofs.Common.{◌≡◌, ◌⊎◌, ◌+◌, ◌≤◌, ℕ, inl, inr, ⊎_elim, List, [], Option, None, refl, sym, subst, ◌∙◌, arith}
 use Rattle.std.specs.List.{All}
+use Rattle.alta_layout.specs.declared.slot.Slot.{Slot}
 use Rattle.alta_console.specs.Transcript.{given_in, lines_in}
 use Rattle.alta_console.specs.declared.event.Event.{Event}
 use Rattle.alta_console.proofs.Laws.{grows_none, consumes_none}
@@ -31,7 +32,6 @@ use Rattle.alta_meaning.specs.Opened.{Opened, IsOpened}
 use Rattle.alta_memlevel.proofs.One.{one_content}
 use Rattle.alta_root.specs.Slots.{Counts}
 use Rattle.alta_root.specs.declared.root.Root.{Root}
-use Rattle.alta_root.specs.declared.slot.Slot.{Slot}
 use Rattle.alta_store.specs.Agreement.{IsJobIn, Keeps as StoreKeeps}
 use Rattle.alta_table.specs.Tables.{Tables}
 use Rattle.alta_store.proofs.Agreements.{opened_of}

@@ -1,8 +1,8 @@
 -- What the calls of a session do: one word for those that answer by a step of the machine, and one for those that only look.
 use Rattle.std.specs.Prelude.{◌≡◌, ◌⊎◌, ◌≤◌, ℕ, List, Option, Result, Err, IfOk, IfErr, OnOk}
+use Rattle.alta_layout.specs.declared.places.TheConstants.{HEAD_BYTES}
 use Rattle.alta_codec.specs.Faults.{Rose}
 use Rattle.alta_disk.specs.Disk.{DiskState, LeavesOnly}
-use Rattle.alta_journal.specs.declared.places.TheConstants.{HEAD_BYTES}
 use Rattle.alta_session.specs.Agreement.{AgreesOn, HasNotFailed}
 use Rattle.alta_session.specs.Fullness.{IsFull}
 use Rattle.alta_replies.specs.Loading.{MarkHolds}

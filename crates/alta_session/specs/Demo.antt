@@ -1,5 +1,6 @@
 -- A demo: an index is made, lines are answered without giving their replies, and then others whose replies are given.
 use Rattle.std.specs.Prelude.{◌≡◌, ◌⊎◌, ◌<◌, ◌≤◌, ℕ, List, [], ◌∷◌, ◌++◌, Option, None, Result, length, take, drop, codes, decimal}
+use Rattle.alta_layout.specs.declared.places.TheConstants.{HEAD_BYTES}
 use Rattle.alta_console.specs.Giving.{Gives}
 use Rattle.std.specs.List.{concat}
 use Rattle.alta_console.specs.Replies.{IsPrefix}
@@ -79,10 +80,10 @@ pub record Demonstrates (tells : Type 0) (lines asked : List (List ℕ)) (told t
   -- where there is an index already, or the disk is too small for one
   pub exists : tells → status ≡ Exists → HasNoRoot disk.content → ⊥
   pub found : tells → (HasNoRoot disk.content → ⊥) → (status ≡ Exists) ⊎ (status ≡ DiskFault)
-  pub small : disk.limit < 2105344 → (status ≡ Exists) ⊎ ((status ≡ Full 2105344 disk.limit) ⊎ (status ≡ DiskFault))
-  pub unmade : (status ≡ Exists) ⊎ ((disk.limit < 2105344) × IsUnmade status) → KeepsDisk tells disk disk_now × (given ≡ [])
+  pub small : disk.limit < HEAD_BYTES → (status ≡ Exists) ⊎ ((status ≡ Full HEAD_BYTES disk.limit) ⊎ (status ≡ DiskFault))
+  pub unmade : (status ≡ Exists) ⊎ ((disk.limit < HEAD_BYTES) × IsUnmade status) → KeepsDisk tells disk disk_now × (given ≡ [])
   -- where there is none, and the disk may have one: from what a new index holds on
-  pub reports : tells → HasNoRoot disk.content → 2105344 ≤ disk.limit
+  pub reports : tells → HasNoRoot disk.content → HEAD_BYTES ≤ disk.limit
       → ReportsFrom disk.limit empty_held (started_at empty_state) lines asked given disk_now status
-  pub narrow : (need gap : ℕ) → tells → 2105344 ≤ disk.limit → status ≡ Full need gap → IsFull disk_now need gap
+  pub narrow : (need gap : ℕ) → tells → HEAD_BYTES ≤ disk.limit → status ≡ Full need gap → IsFull disk_now need gap
   pub stands : status ≡ Done → Stands tells disk_now (StandsFor (machine_after (started_at empty_state) (lines ++ asked)).state)

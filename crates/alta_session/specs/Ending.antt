@@ -18,8 +18,7 @@ pub record KeepsDiskCounts (disk disk_now : DiskState) : Type 0 where
 pub record KeepsCounts {C : Type 0} (take_faults give_faults : C → ℕ) (console console_now : C) (disk disk_now : DiskState) : Type 0 where
   pub takes : take_faults console ≤ take_faults console_now
   pub gives : give_faults console ≤ give_faults console_now
-  pub faults : disk.faults ≤ disk_now.faults
-  pub limit : disk_now.limit ≡ disk.limit
+  pub kept : KeepsDiskCounts disk disk_now
 
 -- The status has its cause: a count that rose, or a place that is wanting.
 pub record IsCaused {C : Type 0} (tells : Type 0) (give_faults : C → ℕ) (console console_now : C) (disk disk_now : DiskState) (status : Status) : Type 0 where

@@ -1,10 +1,10 @@
 pub mod Agreement
 pub mod Answering
-pub mod Asking
 pub mod Damage
 pub mod Demo
 pub mod Ending
 pub mod Fed
+pub mod Feeding
 pub mod Found
 pub mod Fullness
 pub mod Going

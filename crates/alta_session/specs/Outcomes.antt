@@ -1,5 +1,6 @@
 -- How the calls of the program come out, by the status that they end with.
 use Rattle.std.specs.Prelude.{◌≡◌, ◌≢◌, ◌⊎◌, ◌<◌, ℕ, List, [], Option, IfSome}
+use Rattle.alta_layout.specs.declared.places.TheConstants.{HEAD_BYTES}
 use Rattle.alta_codec.specs.Faults.{Rose}
 use Rattle.alta_disk.specs.Disk.{DiskState, Stands}
 use Rattle.alta_machine.specs.States.{empty_state}
@@ -20,9 +21,9 @@ pub record MakesIndex (tells : Type 0) (disk disk_now : DiskState) (status : Sta
   pub made : status ≡ Done → Stands tells disk_now (StandsFor empty_state)
   pub exists : tells → status ≡ Exists → ¬ (HasNoRoot disk.content)
   pub found : tells → ¬ (HasNoRoot disk.content) → (status ≡ Exists) ⊎ (status ≡ DiskFault)
-  pub too_small : (need gap : ℕ) → status ≡ Full need gap → (need ≡ 2105344) × (gap ≡ disk.limit) × (disk.limit < 2105344)
+  pub too_small : (need gap : ℕ) → status ≡ Full need gap → (need ≡ HEAD_BYTES) × (gap ≡ disk.limit) × (disk.limit < HEAD_BYTES)
   pub kept : IsUnmade status → KeepsDisk tells disk disk_now
-  pub small : disk.limit < 2105344 → (status ≡ Exists) ⊎ ((status ≡ Full 2105344 disk.limit) ⊎ (status ≡ DiskFault))
+  pub small : disk.limit < HEAD_BYTES → (status ≡ Exists) ⊎ ((status ≡ Full HEAD_BYTES disk.limit) ⊎ (status ≡ DiskFault))
 
 -- A run over a disk without an index, or with a broken one, says so, and leaves console and disk as they were. That yields only to want of
 -- memory and to a fault of the disk.

@@ -1,10 +1,10 @@
 -- How many bytes lines read that change no index.
 use Rattle.std.specs.Prelude.{ℕ, ◌+◌, ◌≤◌, ◌≡◌, List, [], ◌∷◌, length, All}
+use Rattle.alta_layout.specs.declared.places.TheConstants.{HALF_BYTES}
 use Rattle.alta_catalog.specs.Knowing.{newest_of}
 use Rattle.alta_content.specs.declared.content.Content.{Content}
 use Rattle.alta_disk.specs.Disk.{DiskState}
 use Rattle.alta_meaning.specs.Opened.{Opened}
-use Rattle.alta_journal.specs.declared.places.TheConstants.{HALF_BYTES}
 use Rattle.alta_loading.specs.Loads.{Load, load_sizes}
 use Rattle.alta_machine.specs.Command.{Command, adds, deletes, searches, counts, explains, opens, fetches, closes, ranks, flushes, merges, steps, asks_stats, dumps}
 use Rattle.alta_machine.specs.Lines.{Reading, asks, refuses, reading_of}

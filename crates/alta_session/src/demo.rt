@@ -6,8 +6,8 @@ ghost use Rattle.alta_disk.specs.Disk.{DiskState};
 ghost use Rattle.alta_make.specs.Script.{script, report as asked};
 ghost use Rattle.alta_session.specs.Answering.{CanAnswer};
 ghost use Rattle.alta_session.specs.Demo.{AsksDemo, Obeys, Demonstrates};
-ghost use Rattle.alta_session.specs.Ending.{Accounts, AccountsSilently};
-ghost use Rattle.alta_session.specs.Fed.{Feeds};
+ghost use Rattle.alta_session.specs.Ending.{AccountsSilently};
+ghost use Rattle.alta_session.specs.Feeding.{AnswersLines};
 
 use crate::serving::answer;
 use crate::status::status_of;
@@ -91,8 +91,7 @@ fn report<C: Console, D: Disk>(
     disk: &mut D,
 ) -> Result<(), Status>
     requires { CanAnswer D.tells (D.state disk.old) session.old }
-    ensures feeds { Feeds D.tells (C.told console.old) (C.told console.new) (D.state disk.old) (D.state disk.new) session.old session.new asked result }
-    ensures accounts { Accounts D.tells C.left C.take_faults C.give_faults console.old console.new (D.state disk.old) (D.state disk.new) result }
+    ensures { AnswersLines D.tells C.told C.left C.take_faults C.give_faults console.old console.new (D.state disk.old) (D.state disk.new) session.old session.new asked result }
 {
     let mut index = 0;
     'lines: loop {

@@ -7,7 +7,8 @@ ghost use Rattle.alta_console.specs.Lines.{whole_from, begun_from, last_piece};
 ghost use Rattle.alta_disk.specs.Disk.{DiskState};
 ghost use Rattle.alta_session.specs.Answering.{CanAnswer};
 ghost use Rattle.alta_session.specs.Ending.{Accounts, AccountsForInput, KeepsCounts};
-ghost use Rattle.alta_session.specs.Fed.{Fed, Feeds};
+ghost use Rattle.alta_session.specs.Fed.{Fed};
+ghost use Rattle.alta_session.specs.Feeding.{AnswersLines};
 ghost use Rattle.alta_machine.specs.declared.line.TheConstants.{LINE_LIMIT};
 ghost use Rattle.alta_session.specs.Keeping.{clip};
 ghost use Rattle.alta_session.specs.Outcomes.{Finishes, HasReason, RefusesDisk};
@@ -39,9 +40,7 @@ pub(crate) fn answer<C: Console, D: Disk>(
 ) -> Result<(), Status>
     requires one_line { Lacks 10 line.now }
     requires can { CanAnswer D.tells (D.state disk.old) session.old }
-    ensures feeds { Feeds D.tells (C.told console.old) (C.told console.new) (D.state disk.old) (D.state disk.new) session.old session.new (line.now ∷ []) result }
-    ensures can { OnOk result (CanAnswer D.tells (D.state disk.new) session.new) }
-    ensures accounts { Accounts D.tells C.left C.take_faults C.give_faults console.old console.new (D.state disk.old) (D.state disk.new) result }
+    ensures { AnswersLines D.tells C.told C.left C.take_faults C.give_faults console.old console.new (D.state disk.old) (D.state disk.new) session.old session.new (line.now ∷ []) result }
 {
     let reply = match session.line(alloc, disk, line) {
         Ok(reply) => reply,
@@ -79,10 +78,8 @@ fn end_line<C: Console, D: Disk>(
     requires begun_free { Lacks 10 begun.old.items }
     requires rest_free { Lacks 10 rest.now }
     requires can { CanAnswer D.tells (D.state disk.old) session.old }
-    ensures feeds { Feeds D.tells (C.told console.old) (C.told console.new) (D.state disk.old) (D.state disk.new) session.old session.new ((begun.old.items ++ rest.now) ∷ []) result }
+    ensures answers { AnswersLines D.tells C.told C.left C.take_faults C.give_faults console.old console.new (D.state disk.old) (D.state disk.new) session.old session.new ((begun.old.items ++ rest.now) ∷ []) result }
     ensures none_begun { OnOk result (begun.new.items ≡ []) }
-    ensures can { OnOk result (CanAnswer D.tells (D.state disk.new) session.new) }
-    ensures accounts { Accounts D.tells C.left C.take_faults C.give_faults console.old console.new (D.state disk.old) (D.state disk.new) result }
 {
     if begun.is_empty() {
         return answer(alloc, session, console, disk, rest);
@@ -148,12 +145,10 @@ fn feed<C: Console, D: Disk>(
     requires short { length begun.old.items ≤ LINE_LIMIT + 1 }
     requires free { Lacks 10 begun.old.items }
     requires can { CanAnswer D.tells (D.state disk.old) session.old }
-    ensures feeds { Feeds D.tells (C.told console.old) (C.told console.new) (D.state disk.old) (D.state disk.new) session.old session.new (whole_from begun.old.items piece.now) result }
+    ensures answers { AnswersLines D.tells C.told C.left C.take_faults C.give_faults console.old console.new (D.state disk.old) (D.state disk.new) session.old session.new (whole_from begun.old.items piece.now) result }
     ensures begun { OnOk result (clip begun.new.items ≡ clip (begun_from begun.old.items piece.now)) }
     ensures short { OnOk result (length begun.new.items ≤ LINE_LIMIT + 1) }
     ensures free { OnOk result (Lacks 10 begun.new.items) }
-    ensures can { OnOk result (CanAnswer D.tells (D.state disk.new) session.new) }
-    ensures accounts { Accounts D.tells C.left C.take_faults C.give_faults console.old console.new (D.state disk.old) (D.state disk.new) result }
 {
     let mut at = 0;
     'lines: while at < piece.len() {
@@ -175,8 +170,7 @@ fn finish<C: Console, D: Disk>(
 ) -> Result<(), Status>
     requires free { Lacks 10 begun.now }
     requires can { CanAnswer D.tells (D.state disk.old) session.old }
-    ensures feeds { Feeds D.tells (C.told console.old) (C.told console.new) (D.state disk.old) (D.state disk.new) session.old session.new (last_piece begun.now) result }
-    ensures accounts { Accounts D.tells C.left C.take_faults C.give_faults console.old console.new (D.state disk.old) (D.state disk.new) result }
+    ensures { AnswersLines D.tells C.told C.left C.take_faults C.give_faults console.old console.new (D.state disk.old) (D.state disk.new) session.old session.new (last_piece begun.now) result }
 {
     if begun.is_empty() {
         return Ok(());

@@ -7,13 +7,12 @@ ghost use Rattle.alta_machine.specs.declared.document.State.{State};
 ghost use Rattle.alta_session.specs.Agreement.{AgreesOn, HasNotFailed};
 ghost use Rattle.alta_session.specs.Answering.{Answers, CanAnswer};
 ghost use Rattle.alta_replies.specs.Replies.{IsReply};
-ghost use Rattle.alta_session.specs.Asking.{Asks};
 ghost use Rattle.alta_machine.specs.Command.{adds, deletes, flushes as asks_flush, merges as asks_merge, steps as asks_step};
 ghost use Rattle.alta_machine.specs.Lines.{asks, reading_of};
 ghost use Rattle.alta_session.specs.Joining.{Works};
 ghost use Rattle.alta_replies.specs.Loading.{Loads};
 ghost use Rattle.alta_session.specs.Spending.{session_loads};
-ghost use Rattle.alta_machine.specs.Machine.{Machine, started_at, step, changed_by, adding, deleting, Looks, Searches};
+ghost use Rattle.alta_machine.specs.Machine.{Machine, started_at, step, changed_by, adding, deleting, refusal, Looks, Searches};
 ghost use Rattle.alta_session.specs.Spending.{OnlyReads};
 ghost use Rattle.alta_session.specs.Tasks.{task_of, task_of_add, task_of_delete};
 ghost use Rattle.alta_store.specs.Agreement.{Keeps, Knows};
@@ -129,13 +128,17 @@ impl Session {
         ensures kept { OnlyReads line.now → self.new.store ≡ self.old.store }
         ensures works { Works D.tells D.state disk.old disk.new self.old.store (reading_of line.now) result }
     {
-        match asked(line) {
-            Ask::Add { name, title, body } => self.add(alloc, disk, name, title, body),
-            Ask::Delete(name) => self.delete(alloc, disk, name),
-            Ask::Search(text) => search(alloc, disk, &self.store, &mut self.ends, text),
-            Ask::Count(text) => count(alloc, disk, &self.store, &mut self.ends, text),
-            Ask::Explain(text) => explain(alloc, text),
-            Ask::Open(text) => open(
+        let asked = match read_line(line) {
+            Ok(asked) => asked,
+            Err(fault) => return text(alloc, refusal_of(fault)),
+        };
+        match asked {
+            Line::Add { name, title, body } => self.add(alloc, disk, name, title, body),
+            Line::Delete { name } => self.delete(alloc, disk, name),
+            Line::Search { text } => search(alloc, disk, &self.store, &mut self.ends, text),
+            Line::Count { text } => count(alloc, disk, &self.store, &mut self.ends, text),
+            Line::Explain { text } => explain(alloc, text),
+            Line::OpenCursor { text } => open(
                 alloc,
                 disk,
                 &self.store,
@@ -143,15 +146,16 @@ impl Session {
                 &mut self.cursors,
                 text,
             ),
-            Ask::Fetch { cursor, count } => fetch(alloc, &mut self.cursors, cursor, count),
-            Ask::Close(cursor) => close(alloc, &mut self.cursors, cursor),
-            Ask::Top { count, text } => rank(alloc, disk, &self.store, &mut self.ends, count, text),
-            Ask::Flush => self.flush(alloc, disk),
-            Ask::Merge => self.merge(alloc, disk),
-            Ask::Step(count) => self.step(alloc, disk, count),
-            Ask::Stats => stats(alloc, self.store.counts()),
-            Ask::Dump => dump(alloc, disk, &self.store, &mut self.ends),
-            Ask::Refused(reply) => text(alloc, reply),
+            Line::Fetch { cursor, count } => fetch(alloc, &mut self.cursors, cursor, count),
+            Line::Close { cursor } => close(alloc, &mut self.cursors, cursor),
+            Line::Top { count, text } => {
+                rank(alloc, disk, &self.store, &mut self.ends, count, text)
+            }
+            Line::Flush => self.flush(alloc, disk),
+            Line::Merge => self.merge(alloc, disk),
+            Line::Step { count } => self.step(alloc, disk, count),
+            Line::Stats => stats(alloc, self.store.counts()),
+            Line::Dump => dump(alloc, disk, &self.store, &mut self.ends),
         }
     }
 
@@ -284,63 +288,15 @@ impl Session {
     }
 }
 
-// What a line asks for: a document to be added or deleted, a query to be answered or explained, a cursor to be opened, read or
-// closed, a query whose best answers are given, a flush, a merge, a step of so many terms, the counts, a
-// dump, or a reply that refuses it.
-enum Ask<'a> {
-    Add {
-        name: &'a str,
-        title: &'a str,
-        body: &'a str,
-    },
-    Delete(&'a str),
-    Search(&'a str),
-    Count(&'a str),
-    Explain(&'a str),
-    Open(&'a str),
-    Fetch {
-        cursor: u64,
-        count: u64,
-    },
-    Close(u64),
-    Top {
-        count: u64,
-        text: &'a str,
-    },
-    Flush,
-    Merge,
-    Step(u64),
-    Stats,
-    Dump,
-    Refused(&'static str),
-}
-
-// Reads a line.
-fn asked(bytes: &[u8]) -> Ask<'_>
-    requires { Lacks 10 bytes.now }
-    ensures { Asks bytes.now result }
+// The reply to a line that is refused.
+fn refusal_of(fault: LineFault) -> &'static str
+    ensures { result.now ≡ refusal fault }
 {
-    match read_line(bytes) {
-        Ok(line) => match line {
-            Line::Add { name, title, body } => Ask::Add { name, title, body },
-            Line::Delete { name } => Ask::Delete(name),
-            Line::Search { text } => Ask::Search(text),
-            Line::Count { text } => Ask::Count(text),
-            Line::Explain { text } => Ask::Explain(text),
-            Line::OpenCursor { text } => Ask::Open(text),
-            Line::Fetch { cursor, count } => Ask::Fetch { cursor, count },
-            Line::Close { cursor } => Ask::Close(cursor),
-            Line::Top { count, text } => Ask::Top { count, text },
-            Line::Flush => Ask::Flush,
-            Line::Merge => Ask::Merge,
-            Line::Step { count } => Ask::Step(count),
-            Line::Stats => Ask::Stats,
-            Line::Dump => Ask::Dump,
-        },
-        Err(LineFault::TooLong) => Ask::Refused("! line too long\n"),
-        Err(LineFault::NotUtf8) => Ask::Refused("! not UTF-8\n"),
-        Err(LineFault::Unknown) => Ask::Refused("! unknown command\n"),
-        Err(LineFault::Bad) => Ask::Refused("! bad line\n"),
+    match fault {
+        LineFault::TooLong => "! line too long\n",
+        LineFault::NotUtf8 => "! not UTF-8\n",
+        LineFault::Unknown => "! unknown command\n",
+        LineFault::Bad => "! bad line\n",
     }
 }
 
@@ -377,8 +333,7 @@ fn deleted(alloc: Global, number: u64) -> Result<Text, StoreFault>
 
 // The reply with the counts of documents and words, and the next number.
 fn stats(alloc: Global, counts: (u64, u64, u64)) -> Result<Text, StoreFault>
-    ensures reply { IfOk result (λ reply. reply ≡ codes "documents " ++ decimal counts.0 ++ codes " words " ++ decimal counts.1 ++ codes " next " ++ decimal counts.2 ++ codes "\n") }
-    ensures memory { IfErr result (λ e. e ≡ StoreFault.Memory) }
+    ensures { IsReply (codes "documents " ++ decimal counts.0 ++ codes " words " ++ decimal counts.1 ++ codes " next " ++ decimal counts.2 ++ codes "\n") result }
 {
     let (documents, words, next) = counts;
     match format!(in alloc; "documents {documents} words {words} next {next}\n") {

@@ -1,5 +1,6 @@
 // The top call.
 ghost use Rattle.std.specs.Prelude.{◌≡◌, ◌≢◌, ◌↔◌, ◌^◌, ◌≤◌, [], ◌∷◌, ℕ, codes, IsTrue};
+ghost use Rattle.alta_layout.specs.declared.places.TheConstants.{HEAD_BYTES};
 ghost use Rattle.alta_codec.specs.Faults.{Rose};
 ghost use Rattle.alta_disk.specs.Disk.{DiskState, Stands};
 ghost use Rattle.alta_make.specs.Script.{script, report};
@@ -54,7 +55,7 @@ pub fn alta<C: Console, D: Disk>(
     ensures refuses { words.now ≡ codes "run" ∷ [] → RefusesDisk D.tells console.old console.new (D.state disk.old) (D.state disk.new) result }
 
     ensures demo { (n : ℕ) → AsksDemo words.now n → Demonstrates D.tells (script n) report (C.told console.old) (C.told console.new) (D.state disk.old) (D.state disk.new) result × (C.left console.new ≡ C.left console.old) }
-    ensures shown { (n : ℕ) → AsksDemo words.now n → D.tells → HasNoRoot (D.state disk.old).content → 2105344 ≤ (D.state disk.old).limit → ¬ (Rose (C.give_faults console.old) (C.give_faults console.new)) → ¬ (Rose (D.state disk.old).faults (D.state disk.new).faults) → Completes result }
+    ensures shown { (n : ℕ) → AsksDemo words.now n → D.tells → HasNoRoot (D.state disk.old).content → HEAD_BYTES ≤ (D.state disk.old).limit → ¬ (Rose (C.give_faults console.old) (C.give_faults console.new)) → ¬ (Rose (D.state disk.old).faults (D.state disk.new).faults) → Completes result }
 
     ensures reason { HasReason D.tells C.take_faults C.give_faults console.old console.new (D.state disk.old) (D.state disk.new) result }
 {

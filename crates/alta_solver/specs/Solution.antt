@@ -1,7 +1,7 @@
 -- What it is for a place in each list to satisfy bounds, and to be the least that does.
-use Rattle.std.specs.Prelude.{◌≡◌, ◌≢◌, ℕ, ◌+◌, ◌<◌, ◌≤◌, List, [], length, slice_index, slice_index_or, All, Bool, false, IsTrue}
+use Rattle.std.specs.Prelude.{◌≡◌, ◌≢◌, ◌↔◌, ℕ, ◌+◌, ◌<◌, ◌≤◌, List, [], length, slice_index, slice_index_or, slice_set, All, Bool, false, IsTrue}
 use Rattle.alta_codec.specs.declared.location.TheConstants.{TOP}
-use Rattle.alta_codec.specs.Rising.{IsPlace, pred_of}
+use Rattle.alta_codec.specs.Rising.{IsPlace, first_from, pred_of}
 use Rattle.alta_codec.specs.Inequality.{Inequality}
 use Rattle.alta_codec.specs.declared.form.Form.{Form}
 use Rattle.alta_codec.specs.declared.form.Form.TheVariants.{LocLoc, PrevLoc, LocPrev, PrevPrev}
@@ -57,3 +57,10 @@ pub record IsRaised (list : List ℕ) (form : Form) (need : ℕ) (old : List ℕ
   pub others : (k : ℕ) → k ≢ j → slice_index new k ≡ slice_index old k
   pub reaches : IsTrue found → need ≤ high_side form list (slice_index new j)
   pub none : found ≡ false → (q : ℕ) → IsPlace list q → need ≤ high_side form list q → ⊥
+
+-- Of a reader whose element before is to be at least a goal: its place went behind the first element there; or, at `false`, to
+-- TOP, where there is no such element. The others stay.
+pub record IsRaisedPast (list : List ℕ) (to : ℕ) (old : List ℕ) (j : ℕ) (new : List ℕ) (found : Bool) : Type 0 where
+  pub raised : IsTrue found → new ≡ slice_set old j (first_from list (first_from list to + 1))
+  pub none : found ≡ false → new ≡ slice_set old j TOP
+  pub which : IsTrue found ↔ (first_from list to < TOP)

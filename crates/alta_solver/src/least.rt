@@ -1,13 +1,14 @@
 // The search for the least solution, over a slice of readers.
-ghost use Rattle.std.specs.Prelude.{◌≡◌, ◌≢◌, ◌↔◌, ℕ, ◌+◌, ◌<◌, ◌≤◌, ◌*◌, ◌⊎◌, List, [], map, length, slice_index, slice_index_or, slice_set, All, sum_by, IsTrue, IfSome, false};
-ghost use Rattle.alta_codec.specs.Rising.{IsRising, IsPlace, first_from, pred_of};
+ghost use Rattle.std.specs.Prelude.{◌≡◌, ℕ, ◌+◌, ◌<◌, ◌≤◌, ◌*◌, List, map, length, slice_index, slice_index_or, slice_set, All, sum_by, IsTrue, false};
+ghost use Rattle.alta_codec.specs.Rising.{first_from, pred_of};
 ghost use Rattle.alta_codec.specs.declared.location.TheConstants.{TOP};
-ghost use Rattle.alta_solver.specs.Solution.{low_side, high_side, list_at, MeetsBound, IsSolution, IsAtLeast, IsLeast, IsRaised};
+ghost use Rattle.alta_solver.specs.Solution.{low_side, high_side, list_at, IsSolution, IsAtLeast, IsRaised, IsRaisedPast};
 ghost use Rattle.alta_codec.specs.Inequality.{Inequality};
 ghost use Rattle.alta_solver.specs.Bounds.{IsBetween, IsBehindBounds, IsPair, IsPaired};
 ghost use Rattle.alta_solver.specs.Moves.{AreReady, AreKept, IsTested};
 ghost use Rattle.alta_solver.specs.Repair.{IsRepaired};
 ghost use Rattle.alta_solver.specs.Settling.{IsSettling};
+ghost use Rattle.alta_reader.specs.Places.{IsLocation};
 
 use crate::bound::Bound;
 use alta_codec::{Form, Loc, Steps, TOP};
@@ -31,8 +32,7 @@ enum Outcome {
 fn low_at<R: BackReader>(readers: &[R], i: usize, form: Form) -> Loc
     requires sound { All R.sound readers.now }
     requires within { i < length readers.now }
-    ensures value { result ≡ low_side form (list_at (map R.list readers.now) i) (slice_index (map R.location readers.now) i) }
-    ensures top { result ≤ TOP }
+    ensures { IsLocation (low_side form (list_at (map R.list readers.now) i) (slice_index (map R.location readers.now) i)) result }
 {
     match form {
         Form::LocLoc | Form::LocPrev => place_at(readers, i),
@@ -45,8 +45,7 @@ fn low_at<R: BackReader>(readers: &[R], i: usize, form: Form) -> Loc
 fn high_at<R: BackReader>(readers: &[R], j: usize, form: Form) -> Loc
     requires sound { All R.sound readers.now }
     requires within { j < length readers.now }
-    ensures value { result ≡ high_side form (list_at (map R.list readers.now) j) (slice_index (map R.location readers.now) j) }
-    ensures top { result ≤ TOP }
+    ensures { IsLocation (high_side form (list_at (map R.list readers.now) j) (slice_index (map R.location readers.now) j)) result }
 {
     match form {
         Form::LocLoc | Form::PrevLoc => place_at(readers, j),
@@ -60,8 +59,7 @@ fn reach<R: BackReader, L: Ledger>(readers: &mut [R], j: usize, to: Loc, steps: 
     requires within { j < length readers.old }
     requires short { pred_of (list_at (map R.list readers.old) j) (slice_index (map R.location readers.old) j) < to }
     requires top { to ≤ TOP }
-    ensures kept { AreKept R.sound R.list R.all R.left readers.old readers.new steps.old steps.new }
-    ensures places { map R.location readers.new ≡ slice_set (map R.location readers.old) j (first_from (list_at (map R.list readers.old) j) to) }
+    ensures { AreKept R.sound R.list R.all R.location R.left (λ places. places ≡ slice_set (map R.location readers.old) j (first_from (list_at (map R.list readers.old) j) to)) readers.old readers.new steps.old steps.new }
 {
     if place_at(readers, j) < to {
         seek_at(readers, j, to, steps);
@@ -80,10 +78,7 @@ fn raise_past<R: BackReader, L: Ledger>(
     requires within { j < length readers.old }
     requires short { pred_of (list_at (map R.list readers.old) j) (slice_index (map R.location readers.old) j) < to }
     requires top { to ≤ TOP }
-    ensures kept { AreKept R.sound R.list R.all R.left readers.old readers.new steps.old steps.new }
-    ensures raised { IsTrue result → map R.location readers.new ≡ slice_set (map R.location readers.old) j (first_from (list_at (map R.list readers.old) j) (first_from (list_at (map R.list readers.old) j) to + 1)) }
-    ensures none { result ≡ false → map R.location readers.new ≡ slice_set (map R.location readers.old) j TOP }
-    ensures which { IsTrue result ↔ (first_from (list_at (map R.list readers.old) j) to < TOP) }
+    ensures kept { AreKept R.sound R.list R.all R.location R.left (λ places. IsRaisedPast (list_at (map R.list readers.old) j) to (map R.location readers.old) j places result) readers.old readers.new steps.old steps.new }
     ensures falls { IsTrue result → sum_by R.left readers.new < sum_by R.left readers.old }
 {
     reach(readers, j, to, steps);
@@ -107,8 +102,7 @@ fn raise_side<R: BackReader, L: Ledger>(
     requires sound { All R.sound readers.old }
     requires within { j < length readers.old }
     requires short { high_side form (list_at (map R.list readers.old) j) (slice_index (map R.location readers.old) j) < need }
-    ensures kept { AreKept R.sound R.list R.all R.left readers.old readers.new steps.old steps.new }
-    ensures raised { IsRaised (list_at (map R.list readers.old) j) form need (map R.location readers.old) j (map R.location readers.new) result }
+    ensures kept { AreKept R.sound R.list R.all R.location R.left (λ places. IsRaised (list_at (map R.list readers.old) j) form need (map R.location readers.old) j places result) readers.old readers.new steps.old steps.new }
     ensures falls { IsTrue result → sum_by R.left readers.new < sum_by R.left readers.old }
 {
     if need > TOP {
@@ -136,8 +130,7 @@ fn repair<R: BackReader, L: Ledger>(
 ) -> Outcome
     requires sound { All R.sound readers.old }
     requires between { IsBetween (length readers.old) (record { form = form; i = i; j = j; plus = plus; minus = minus }) }
-    ensures kept { AreKept R.sound R.list R.all R.left readers.old readers.new steps.old steps.new }
-    ensures repaired { IsRepaired (map R.list readers.old) (record { form = form; i = i; j = j; plus = plus; minus = minus }) (map R.location readers.old) (map R.location readers.new) result }
+    ensures kept { AreKept R.sound R.list R.all R.location R.left (λ places. IsRepaired (map R.list readers.old) (record { form = form; i = i; j = j; plus = plus; minus = minus }) (map R.location readers.old) places result) readers.old readers.new steps.old steps.new }
     ensures falls { result ≡ Outcome.Moved → sum_by R.left readers.new < sum_by R.left readers.old }
 {
     let low = low_at(readers, i, form) + minus;
@@ -184,7 +177,7 @@ fn try_at<R: BackReader, L: Ledger>(
     requires bound { (d : Inequality) → slice_index_or bounds.now at d ≡ record { form = form; i = i; j = j; plus = plus; minus = minus } }
     requires plus_within { plus ≤ 1000000 }
     requires minus_within { minus ≤ 1000000 }
-    ensures { IsTested R.sound R.list R.all R.left R.location bounds.now (at + 1) result readers.old readers.new steps.old steps.new }
+    ensures { IsTested R.sound R.list R.all R.location R.left bounds.now (at + 1) result readers.old readers.new steps.old steps.new }
 {
     match repair(readers, form, i, j, plus, minus, steps) {
         Outcome::Settled => Some(at),
@@ -210,7 +203,7 @@ fn lead<R: BackReader, L: Ledger>(
     requires there { slice_index (map R.location readers.old) (m + 1) ≡ to }
     requires short { slice_index (map R.location readers.old) 0 < to }
     requires top { to ≤ TOP }
-    ensures { IsTested R.sound R.list R.all R.left R.location bounds.now (2 * m + 2) (Some result) readers.old readers.new steps.old steps.new }
+    ensures { IsTested R.sound R.list R.all R.location R.left bounds.now (2 * m + 2) (Some result) readers.old readers.new steps.old steps.new }
 {
     seek_at(readers, 0, to, steps);
     if behind_first == 2 * m + 2 {
@@ -235,7 +228,7 @@ fn follow<R: BackReader, L: Ledger>(
     requires there { pred_of (list_at (map R.list readers.old) 0) (slice_index (map R.location readers.old) 0) + 1 ≡ to }
     requires short { slice_index (map R.location readers.old) (m + 1) < to }
     requires top { to ≤ TOP }
-    ensures { IsTested R.sound R.list R.all R.left R.location bounds.now (2 * m + 2) (Some result) readers.old readers.new steps.old steps.new }
+    ensures { IsTested R.sound R.list R.all R.location R.left bounds.now (2 * m + 2) (Some result) readers.old readers.new steps.old steps.new }
 {
     seek_at(readers, m + 1, to, steps);
     let next = behind_bounded(bounds, 2 * m + 2, m + 1);
@@ -258,7 +251,7 @@ fn try_pair<R: BackReader, L: Ledger>(
     requires ready { AreReady R.sound bounds.now readers.old }
     requires behind { IsBehindBounds 0 bounds.now behind_first }
     requires pair { IsPair bounds.now m }
-    ensures { IsTested R.sound R.list R.all R.left R.location bounds.now (2 * m + 2) (Some result) readers.old readers.new steps.old steps.new }
+    ensures { IsTested R.sound R.list R.all R.location R.left bounds.now (2 * m + 2) (Some result) readers.old readers.new steps.old steps.new }
 {
     let at = place_at(readers, m + 1);
     if place_at(readers, 0) < at {
@@ -285,7 +278,7 @@ fn try_before<R: BackReader, L: Ledger>(
     requires behind { IsBehindBounds 0 bounds.now behind_first }
     requires some_left { 0 < at }
     requires within { at ≤ length bounds.now }
-    ensures { IsTested R.sound R.list R.all R.left R.location bounds.now at result readers.old readers.new steps.old steps.new }
+    ensures { IsTested R.sound R.list R.all R.location R.left bounds.now at result readers.old readers.new steps.old steps.new }
 {
     if at <= 2 * pairs && at % 2 == 0 {
         return Some(try_pair(readers, bounds, behind_first, at / 2 - 1, steps));
@@ -320,8 +313,7 @@ pub(crate) fn settle<R: BackReader, L: Ledger>(
     requires ready { AreReady R.sound bounds.now readers.old }
     requires paired { IsPaired pairs bounds.now }
     requires behind { IsBehindBounds 0 bounds.now behind_first }
-    ensures kept { AreKept R.sound R.list R.all R.left readers.old readers.new steps.old steps.new }
-    ensures above { IsAtLeast (map R.location readers.old) (map R.location readers.new) }
+    ensures kept { AreKept R.sound R.list R.all R.location R.left (λ places. IsAtLeast (map R.location readers.old) places) readers.old readers.new steps.old steps.new }
     ensures settled { IsTrue result → IsSettling (map R.list readers.old) bounds.now (map R.location readers.old) (map R.location readers.new) 0 }
     ensures none { result ≡ false → (x : List ℕ) → IsSolution (map R.list readers.old) bounds.now x → IsAtLeast (map R.location readers.old) x → ⊥ }
 {

@@ -96,14 +96,14 @@ impl<R: BackReader> Solver<R> {
         ensures err { IfErr result (λ e. (e.0 ≡ readers) × (e.1 ≡ system)) }
         ensures which { IsOk result ↔ ((0 < length readers.items) × IsNamed (length readers.items) system) }
     {
-        if readers.is_empty() || !is_named(system.bounds(), readers.len()) {
+        if readers.is_empty() || !is_named(&system, readers.len()) {
             return Err((readers, system));
         }
-        let pairs = leading_pairs(system.bounds());
-        let behind_first = least::behind_bounded(system.bounds(), 0, 0);
+        let pairs = leading_pairs(&system);
+        let behind_first = least::behind_bounded(&system, 0, 0);
         Ok(Solver {
             readers,
-            bounds: system.into_bounds(),
+            bounds: Vec::from(system),
             pairs,
             behind_first,
         })

@@ -4,6 +4,7 @@ ghost use Rattle.std.specs.Prelude.{◌≡◌, IfOk};
 use crate::bound::Bound;
 use std::alloc::AllocError;
 use std::marker::Model;
+use std::ops::DerefSlice;
 
 /// Bounds between readers, which hold together.
 #[derive(Drop)]
@@ -36,19 +37,25 @@ impl System {
             bounds: self.bounds.clone()?,
         })
     }
+}
+
+impl DerefSlice for System {
+    type Elem = Bound;
+
+    ghost deref_gives = { λ system bounds. bounds ≡ system };
 
     /// Its bounds, in order.
-    pub fn bounds(&self) -> &[Bound]
-        ensures { result.now ≡ self.now }
-    {
+    fn deref(&self) -> &[Bound] {
         &self.bounds
     }
+}
+
+impl From<System> for Vec<Bound> {
+    ghost from_gives = { λ system bounds. bounds.items ≡ system };
 
     /// Its bounds, in order, by value.
-    pub(crate) fn into_bounds(self) -> Vec<Bound>
-        ensures { result.items ≡ self }
-    {
-        let System { bounds } = self;
+    fn from(system: System) -> Vec<Bound> {
+        let System { bounds } = system;
         bounds
     }
 }

@@ -77,16 +77,13 @@ damaged_as refuses refuses' may place e why = ⊎_elim (λ is. inl is) (λ rest.
 pub costs_none : (bytes : ℕ) (a : DiskState) → Costs bytes a a
 costs_none bytes a = record { faults = omega arith; taken_up = omega arith; taken = omega arith; limit = refl }
 
--- what an append costs
-pub costs_appended : (a b : DiskState) → a.faults ≤ b.faults → b.taken ≡ a.taken → b.limit ≡ a.limit → Costs 0 a b
-costs_appended a b faults taken limit = record { faults = faults; taken_up = omega (arith, taken); taken = omega (arith, taken); limit = limit }
-
 -- nothing was to be done
 pub changes_idle : (tells : Type 0) (work : Work) (turns : Turns) (bytes : ℕ) (joins : List Tables) (a : DiskState) (store : Store) (u : Unit {0})
     → IsLawful tells a → Agrees tells a store → (tells → joins ≡ []) → ((held : Holding) → tells → Has store held a.content → work a.limit held ≡ Ok held)
     → ((o : Opened) → tells → IsOpened o a.content → turns a.limit o (Ok o) × Keeps store o) → Changes tells work turns (λ s. s) NoRefusal bytes joins a a store store (Ok u)
 changes_idle tells work turns bytes joins a store u lawful agrees none same still = record {
   agrees = agrees;
+  sound = refl;
   knows = λ s knows. knows;
   works = λ held told has. (held, same held told has, has);
   full = λ held need gap told has e. absurd (not_ok (faults.Full need gap) e);
@@ -115,6 +112,7 @@ pub changes_as : {T : Type 0} (tells : Type 0) (work work' : Work) (turns turns'
     → Changes tells work turns step refuses bytes joins a b store later result → Changes tells work' turns' step refuses' bytes joins a b store later result
 changes_as {T} tells work work' turns turns' step refuses refuses' bytes joins a b store later (Ok x) same leads may c = record {
   agrees = c.agrees;
+  sound = c.sound;
   knows = c.knows;
   works = λ held told has. let w = c.works held told has in (w.0, sym (same held told has) ∙ w.1, w.2);
   full = λ held need gap told has e. sym (same held told has) ∙ c.full held need gap told has e;
@@ -134,6 +132,7 @@ changes_as {T} tells work work' turns turns' step refuses refuses' bytes joins a
 }
 changes_as {T} tells work work' turns turns' step refuses refuses' bytes joins a b store later (Err fault) same leads may c = record {
   agrees = tt;
+  sound = tt;
   knows = λ s knows. tt;
   works = λ held told has. tt;
   full = λ held need gap told has e. sym (same held told has) ∙ c.full held need gap told has e;
@@ -157,6 +156,7 @@ pub changes_ok : {T X : Type 0} (tells : Type 0) (work : Work) (turns : Turns) (
     → Changes tells work turns step refuses bytes joins a b store later (Ok x) → Changes tells work turns step refuses' bytes joins a b store later (Ok y)
 changes_ok {T} {X} tells work turns step refuses refuses' bytes joins a b store later x y c = record {
   agrees = c.agrees;
+  sound = c.sound;
   knows = c.knows;
   works = c.works;
   full = λ held need gap told has e. absurd (not_ok (faults.Full need gap) e);
@@ -190,6 +190,7 @@ pub changes_fault : {T X : Type 0} (tells : Type 0) (work : Work) (turns : Turns
     → other ≡ fault → ((e : StoreFault) → refuses e → refuses' e) → Changes {T = T} tells work turns step refuses bytes joins a b store later (Err fault) → Changes {T = X} tells work turns step refuses' bytes joins a b store last (Err other)
 changes_fault {T} {X} tells work turns step refuses refuses' bytes joins a b store later last fault other is may c = record {
   agrees = tt;
+  sound = tt;
   knows = λ s knows. tt;
   works = λ held told has. tt;
   full = λ held need gap told has e. c.full held need gap told has (carried (faults.Full need gap) e);
@@ -259,6 +260,7 @@ pub changes_failed : {T : Type 0} (tells : Type 0) (work then : Work) (turns nex
     → Changes {T = T} tells (λ limit held. work limit held >>= then limit) (through turns next) step refuses (m + n) joins a b store middle (Err fault)
 changes_failed {T} tells work then turns next step refuses m n joins a b store middle fault c = record {
   agrees = tt;
+  sound = tt;
   knows = λ s knows. tt;
   works = λ held told has. tt;
   full = λ held need gap told has e. chain_err work then a.limit held (record { need = need; gap = gap }) (c.full held need gap told has (carried (faults.Full need gap) e));
@@ -319,6 +321,7 @@ module _ (tells : Type 0) (work then : Work) (turns next : Turns) (step : State 
   pub changes_then : {T : Type 0} (result : Result T StoreFault) → Changes tells then next step refuses n [] b c middle later result → Changes tells both (through turns next) step refuses (m + n) joins a c store later result
   changes_then (Ok x) two = record {
     agrees = two.agrees;
+    sound = two.sound ∙ one.sound;
     knows = λ s knows. two.knows s (one.knows s knows);
     works = λ held told has.
         let w = one.works held told has in
@@ -344,6 +347,7 @@ module _ (tells : Type 0) (work then : Work) (turns next : Turns) (step : State 
   }
   changes_then (Err fault) two = record {
     agrees = tt;
+    sound = tt;
     knows = λ s knows. tt;
     works = λ held told has. tt;
     full = λ held need gap told has e. let w = one.works held told has in chain_ok work then a.limit held w.0 w.1 ∙ ap (λ (limit : ℕ). then limit w.0) (sym one.costs.limit) ∙ two.full w.0 need gap told w.2 e;

@@ -3,6 +3,8 @@ use Rattle.std.proofs.Common.{◌≡◌, ℕ, ◌+◌, ◌<◌, ◌≤◌, true,
 use Rattle.std.specs.Prelude.{Option, Some, Result, Ok, Err}
 use Rattle.std.specs.List.{All}
 use Rattle.std.proofs.lemmas.List.Elements.{All-tail}
+use Rattle.alta_layout.specs.Places.{half_start}
+use Rattle.alta_layout.specs.declared.slot.Slot.{Slot}
 use Rattle.alta_catalog.specs.Knowing.{Follows, KnowsBy, gone_of}
 use Rattle.alta_catalog.proofs.MayLaws.{may_be}
 use Rattle.alta_catalog.proofs.ReplaceLaws.{is_number, named_is}
@@ -15,7 +17,7 @@ use Rattle.alta_disk.specs.Disk.{DiskState, IsLawful, Only, Passes, Stands, Leav
 use Rattle.alta_disk.proofs.Moments.{stands_only, leaves_from}
 use Rattle.alta_meaning.specs.Entries.{Allows, after_entries, after_entry, IsDocument}
 use Rattle.alta_meaning.specs.Holding.{Holding, IsHeld}
-use Rattle.alta_meaning.specs.Opened.{Opened, IsOpened, journal_of, table_rows, extent_of}
+use Rattle.alta_meaning.specs.Opened.{Opened, IsOpened, table_rows, extent_of}
 use Rattle.alta_meaning.specs.Standing.{StandsFor, StandsForEither}
 use Rattle.alta_machine.specs.Changes.{number_of, with_added, with_deleted, with_replaced, without}
 use Rattle.alta_meaning.specs.Switching.{MayAppend, with_entry}
@@ -34,11 +36,10 @@ use Rattle.alta_journal.specs.declared.appending.JournalFault.{JournalFault}
 use Rattle.alta_journal.specs.declared.appending.JournalFault.TheVariants.{Disk as JournalDisk, Full as JournalFull}
 use Rattle.alta_journal.specs.Entry.{IsTyped, KeepTexts, KeepsRules, MayBeRecorded}
 use Rattle.alta_journal.specs.Journal.{Appended, Appends}
-use Rattle.alta_journal.specs.Places.{start_of, HasClosedGate}
+use Rattle.alta_journal.specs.Places.{HasClosedGate}
 use Rattle.alta_journal.specs.Record.{body_of, record_of}
 use Rattle.alta_journal.specs.declared.entry.Entry.{Entry}
 use Rattle.alta_journal.specs.declared.entry.Entry.TheVariants.{Add, Delete, Replace}
-use Rattle.alta_journal.specs.declared.half.Half.{Half}
 use Rattle.alta_journal.proofs.Frames.{appends_touch, ends_closed}
 use Rattle.alta_merge.specs.Merging.{Merging}
 use Rattle.alta_machine.specs.declared.document.State.{State}
@@ -84,7 +85,7 @@ module _ (tells : Type 0) (a : DiskState) (lawful : IsLawful tells a) (store : S
   closed = stands_only tells a (HasClosedGate store.tail.place) lawful agrees.settled (λ told.
       let held = agrees.content told in
       subst (λ (place : ℕ). HasClosedGate place a.content) (sym held.keeps.place)
-      (ends_closed held.opened.root.version (journal_of held.opened.slot) held.opened.tail held.opened.entries a.content (journal_fits held.opened.slot) held.is.named.journal))
+      (ends_closed held.opened.root.version (half_start held.opened.slot) held.opened.tail held.opened.entries a.content (journal_fits held.opened.slot) held.is.named.journal))
 
   -- one entry more, which each state that the store knows allows, and for which there is room
   module _ (entry : Entry) (keeps_rules : KeepsRules entry) (typed : IsTyped entry) (allowed : (s : State) → Knows store s → Allows s entry) (room : needs_room store entry ≡ false) where
@@ -109,21 +110,21 @@ module _ (tells : Type 0) (a : DiskState) (lawful : IsLawful tells a) (store : S
     may told o is =
         let keeps = kept store a.content (agrees.content told) o is in
         let s = may_be o in
-        may_append o a.content is s.0 s.1 entry (allowed s.0 (keeps.knows s.0 s.1).0) (subst (λ (root : Root). MayBeRecorded root.version entry) keeps.root recorded) (omega (arith, short, ap start_of keeps.half, keeps.place, store.tail.starts, store.tail.ends))
+        may_append o a.content is s.0 s.1 entry (allowed s.0 (keeps.knows s.0 s.1).0) (subst (λ (root : Root). MayBeRecorded root.version entry) keeps.root recorded) (omega (arith, short, ap half_start keeps.half, keeps.place, store.tail.starts, store.tail.ends))
 
-    module _ (b : DiskState) (run : Passes (Appends store.root.version (start_of store.tail.half) store.tail.place entry) a b) where
-      here : (told : tells) (o : Opened) → IsOpened o a.content → (z : List ℕ) → Appends store.root.version (start_of store.tail.half) store.tail.place entry a.content z → Appends o.root.version (journal_of o.slot) o.tail entry a.content z
+    module _ (b : DiskState) (run : Passes (Appends store.root.version (half_start store.tail.slot) store.tail.place entry) a b) where
+      here : (told : tells) (o : Opened) → IsOpened o a.content → (z : List ℕ) → Appends store.root.version (half_start store.tail.slot) store.tail.place entry a.content z → Appends o.root.version (half_start o.slot) o.tail entry a.content z
       here told o is z step =
           let keeps = kept store a.content (agrees.content told) o is in
-          subst (λ (root : Root). Appends root.version (journal_of o.slot) o.tail entry a.content z) keeps.root
-          (subst (λ (place : ℕ). Appends store.root.version (journal_of o.slot) place entry a.content z) keeps.place
-          (subst (λ (h : Half). Appends store.root.version (start_of h) store.tail.place entry a.content z) keeps.half step))
+          subst (λ (root : Root). Appends root.version (half_start o.slot) o.tail entry a.content z) keeps.root
+          (subst (λ (place : ℕ). Appends store.root.version (half_start o.slot) place entry a.content z) keeps.place
+          (subst (λ (h : Slot). Appends store.root.version (half_start h) store.tail.place entry a.content z) keeps.half step))
 
       -- at each moment the image stands for the state before or after
       pub either : (s t : State) → (tells → StandsFor s a.content) → (tells → after_entry s entry ≡ t) → LeavesOnly (StandsForEither s t) a b
       either s t stands after_is =
           leaves_from tells a lawful agrees.settled (StandsForEither s t)
-          (λ told. inl (stands told)) b (Appends store.root.version (start_of store.tail.half) store.tail.place entry) run
+          (λ told. inl (stands told)) b (Appends store.root.version (half_start store.tail.slot) store.tail.place entry) run
           (λ told z step.
           let was = stands told in
           let is = opened_of s a.content was in
@@ -135,6 +136,7 @@ module _ (tells : Type 0) (a : DiskState) (lawful : IsLawful tells a) (store : S
           → Enters {T = T} tells entry turn a b store later (Err fault)
       enters_failed {T} later turn turns fault is rose costs = record {
         agrees = tt;
+        sound = tt;
         knows = λ s k. tt;
         works = λ held told has. tt;
         full = λ held need gap told has failed. absurd (not_full need gap failed);
@@ -157,18 +159,18 @@ module _ (tells : Type 0) (a : DiskState) (lawful : IsLawful tells a) (store : S
           not_full need gap failed = absurd cc
 
       module _ (lawful_b : IsLawful tells b) (durable : Only b.content b.images)
-          (appended : tells → Appended store.root.version (start_of store.tail.half) store.tail.place entry a.content b.content) where
-        step : tells → Appends store.root.version (start_of store.tail.half) store.tail.place entry a.content b.content
+          (appended : tells → Appended store.root.version (half_start store.tail.slot) store.tail.place entry a.content b.content) where
+        step : tells → Appends store.root.version (half_start store.tail.slot) store.tail.place entry a.content b.content
         step told =
             let after = run.now b.content (lawful_b.present told) in
-            subst (λ (d : List ℕ). Appends store.root.version (start_of store.tail.half) store.tail.place entry d b.content) (agrees.settled after.0 after.1) after.2
+            subst (λ (d : List ℕ). Appends store.root.version (half_start store.tail.slot) store.tail.place entry d b.content) (agrees.settled after.0 after.1) after.2
 
-        done : (told : tells) (o : Opened) → IsOpened o a.content → Appended o.root.version (journal_of o.slot) o.tail entry a.content b.content
+        done : (told : tells) (o : Opened) → IsOpened o a.content → Appended o.root.version (half_start o.slot) o.tail entry a.content b.content
         done told o is =
             let keeps = kept store a.content (agrees.content told) o is in
-            subst (λ (root : Root). Appended root.version (journal_of o.slot) o.tail entry a.content b.content) keeps.root
-            (subst (λ (place : ℕ). Appended store.root.version (journal_of o.slot) place entry a.content b.content) keeps.place
-            (subst (λ (h : Half). Appended store.root.version (start_of h) store.tail.place entry a.content b.content) keeps.half (appended told)))
+            subst (λ (root : Root). Appended root.version (half_start o.slot) o.tail entry a.content b.content) keeps.root
+            (subst (λ (place : ℕ). Appended store.root.version (half_start o.slot) place entry a.content b.content) keeps.place
+            (subst (λ (h : Slot). Appended store.root.version (half_start h) store.tail.place entry a.content b.content) keeps.half (appended told)))
 
         -- the content is opened with the entry as its last
         opened_more : (told : tells) (o : Opened) → IsOpened o a.content → IsOpened (with_entry o entry) b.content
@@ -187,7 +189,7 @@ module _ (tells : Type 0) (a : DiskState) (lawful : IsLawful tells a) (store : S
             held_appended held entry a.content b.content is (may told is.opened is.is) (here told is.opened is.is b.content (step told)) (done told is.opened is.is)
 
         module _ (later : Store) (slot_is : later.slot ≡ store.slot) (root_is : later.root ≡ store.root) (listed_is : later.listed ≡ store.listed) (place_is : later.tail.place ≡ store.tail.place + length (record_of entry))
-            (half_is : later.tail.half ≡ store.tail.half) (job_is : later.job ≡ store.job) (levels_are : levels_of later ≡ levels_of store)
+            (half_is : later.tail.slot ≡ store.tail.slot) (job_is : later.job ≡ store.job) (sound_is : later.sound ≡ store.sound) (levels_are : levels_of later ≡ levels_of store)
             (still : (row : DocRow) → ends_among (gone_of store.catalog) row ≡ true → ends_among (gone_of later.catalog) row ≡ true)
             (follows : (root : Root) (entries : List Entry) → Follows store.catalog root entries → Follows later.catalog root (entries ++ entry ∷ []))
             (knows : (s : State) → (k : Knows store s) → KnowsBy later.catalog k.olds (after_entry s entry)) where
@@ -216,7 +218,7 @@ module _ (tells : Type 0) (a : DiskState) (lawful : IsLawful tells a) (store : S
               let holds = agrees.content told in
               let o = holds.opened in
               let range : List (ℕ × ℕ) = (o.tail, 1 + length (body_of entry)) ∷ [] in
-              let touches = appends_touch o.root.version (journal_of o.slot) o.tail entry a.content b.content (here told o holds.is b.content (step told)) in
+              let touches = appends_touch o.root.version (half_start o.slot) o.tail entry a.content b.content (here told o holds.is b.content (step told)) in
               let clear = extents_clear o.tail (1 + length (body_of entry)) (length a.content) o.root (omega (arith, journal_fits o.slot, (may told o holds.is).fits)) (counts_sound o.slot o.root a.content holds.is.counts) in
               subst (λ (levels : List Tables). All (IsSame a.content b.content) (map extent_of levels)) (sym holds.keeps.levels)
               (subst (All (IsSame a.content b.content)) (sym holds.keeps.extents)
@@ -265,6 +267,7 @@ module _ (tells : Type 0) (a : DiskState) (lawful : IsLawful tells a) (store : S
           pub enters_ok : {T : Type 0} (turn : State → State) → IsStepOf entry turn store → (x : T) → Costs 0 a b → Enters tells entry turn a b store later (Ok x)
           enters_ok turn turns x costs = record {
             agrees = agrees_after;
+            sound = sound_is;
             knows = λ s k. subst (Knows later) (turns s k) (knows s k).0;
             works = λ held told has. (entered held entry, refl, has_more told held has);
             full = λ held need gap told has failed. absurd (ok_fails x (StoreFull need gap) failed);

@@ -3,17 +3,17 @@ use Rattle.std.proofs.Common.{◌≡◌, inr, ℕ, ◌+◌, ◌<◌, ◌≤◌, 
 use Rattle.std.proofs.Math.Seq.{take-append-add}
 use Rattle.std.proofs.lemmas.List.{get_or-take, get_or-drop, drop_at, take_at, take-append-drop, take-take, drop-take, drop-drop, length-take-le, length-drop, take-replicate}
 use Rattle.std.proofs.lemmas.List.Elements.{All-cons, All-head, All-tail, All-take, All-drop, All-get_or}
+use Rattle.alta_layout.specs.declared.places.TheConstants.{HEAD_BYTES, START_A}
+use Rattle.alta_layout.specs.declared.slot.Slot.TheVariants.{A}
 use Rattle.alta_disk.specs.Disk.{Holds}
 use Rattle.alta_disk.specs.Parts.{part}
 use Rattle.alta_disk.specs.Writes.{drop_less, holds_torn, length-holds}
 use Rattle.alta_disk.proofs.PartLaws.{part_torn, part_written}
-use Rattle.alta_journal.specs.declared.places.TheConstants.{START_A, HEAD_BYTES}
 use Rattle.alta_journal.proofs.HalfLaws.{half_long, half_byte}
 use Rattle.alta_meaning.specs.Switching.{empty_root, IsFormatted}
 use Rattle.alta_root.specs.Places.{fields_at, gate_of}
 use Rattle.alta_root.specs.Root.{body_of, fields_of, wide_bytes}
 use Rattle.alta_root.specs.declared.places.TheConstants.{VERSION}
-use Rattle.alta_root.specs.declared.slot.Slot.TheVariants.{A}
 use Rattle.alta_store.specs.Clearing.{AreZero, IsClear, empty_head}
 use Rattle.alta_journal.proofs.Steps.{take_sum}
 

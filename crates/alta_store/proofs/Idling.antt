@@ -3,6 +3,7 @@ use Rattle.std.proofs.Common.{◌≡◌, inl, inr, ℕ, ◌<◌, Bool, true, fal
 use Rattle.std.specs.Prelude.{◌==◌, ◌&&◌, nat_le, Option, None, Some}
 use Rattle.std.proofs.lemmas.Bool.{false≢true}
 use Rattle.std.proofs.lemmas.List.{length-map}
+use Rattle.alta_layout.specs.Places.{half_start}
 use Rattle.alta_catalog.specs.Knowing.{gone_of, memory_of, newest_of}
 use Rattle.alta_content.specs.Rows.{live_rows}
 use Rattle.alta_content.specs.declared.document.DocRow.{DocRow}
@@ -17,7 +18,6 @@ use Rattle.alta_meaning.specs.Working.{moved, written}
 use Rattle.alta_meaning.proofs.KeptStates.{by_entries}
 use Rattle.alta_meaning.proofs.Tests.{by_test, equal_from, equal_test}
 use Rattle.alta_meaning.proofs.WellLaws.{by_merged}
-use Rattle.alta_journal.specs.Places.{start_of}
 use Rattle.alta_journal.specs.declared.entry.Entry.{Entry}
 use Rattle.alta_memlevel.specs.Added.{Added}
 use Rattle.alta_merge.specs.Merging.{Merging}
@@ -44,11 +44,11 @@ one_opened store o image keeps is =
     ∙ ap (λ (es : List ℕ). nat_le (length (levels_of store)) 1 && length es == 0 && length o.entries == 0) (sym keeps.listed)
     ∙ ap (λ (b : Bool). nat_le (length (levels_of store)) 1 && length store.listed.items == 0 && b) entries
   where
-    entries : (length o.entries == 0) ≡ (store.tail.place == start_of store.tail.half)
+    entries : (length o.entries == 0) ≡ (store.tail.place == half_start store.tail.slot)
     entries =
-        by_test (store.tail.place == start_of store.tail.half)
-        (λ none. ap (λ (es : List Entry). length es == 0) (none_kept store o image keeps is (equal_from store.tail.place (start_of store.tail.half) none)) ∙ sym none)
-        (λ some. some_kept store o image keeps is (λ none. absurd (false≢true (sym some ∙ equal_test store.tail.place (start_of store.tail.half) none))) ∙ sym some)
+        by_test (store.tail.place == half_start store.tail.slot)
+        (λ none. ap (λ (es : List Entry). length es == 0) (none_kept store o image keeps is (equal_from store.tail.place (half_start store.tail.slot) none)) ∙ sym none)
+        (λ some. some_kept store o image keeps is (λ none. absurd (false≢true (sym some ∙ equal_test store.tail.place (half_start store.tail.slot) none))) ∙ sym some)
 
 module _ (tells : Type 0) (a : DiskState) (lawful : IsLawful tells a) (store : Store) (agrees : Agrees tells a store) where
   -- as what is held does

@@ -4,6 +4,9 @@ use Rattle.std.specs.Prelude.{Result, Ok, Err, IfOk, IfErr, OnOk}
 use Rattle.std.specs.List.{All, flat_map}
 use Rattle.std.proofs.lemmas.List.{length-take-le}
 use Rattle.std.proofs.lemmas.Result.{IfOk-at_ok, IfErr-at_err}
+use Rattle.alta_layout.specs.declared.places.TheConstants.{HALF_BYTES, HEAD_BYTES}
+use Rattle.alta_layout.specs.Places.{half_start}
+use Rattle.alta_layout.specs.declared.slot.Slot.{Slot}
 use Rattle.alta_catalog.specs.Rows.{MayStart}
 use Rattle.alta_catalog.specs.declared.catalog.Catalog.{Catalog}
 use Rattle.alta_catalog.specs.declared.fault.CatalogFault.{CatalogFault}
@@ -13,7 +16,7 @@ use Rattle.alta_disk.specs.Disk.{DiskState, IsLawful, Only, Passes, Same}
 use Rattle.alta_meaning.specs.Broken.{HasLevels, IsBrokenAt, in_records, in_entries}
 use Rattle.alta_meaning.specs.Entries.{AllowsAll, after_entries, entries_in, IsRefusedAt}
 use Rattle.alta_meaning.specs.Known.{Known, known_of, replayed}
-use Rattle.alta_meaning.specs.Opened.{Opened, IsOpened, half_of, have_ends, journal_of, known_at, extent_of}
+use Rattle.alta_meaning.specs.Opened.{Opened, IsOpened, have_ends, known_at, extent_of}
 use Rattle.alta_meaning.proofs.KnownLaws.{replayed_allows}
 use Rattle.alta_meaning.proofs.OneReading.{one_place, opened_unbroken, opened_rooted, broken_rooted}
 use Rattle.alta_journal.specs.Journal.{HasBrokenHalf}
@@ -22,7 +25,6 @@ use Rattle.alta_journal.specs.Places.{half_at}
 use Rattle.alta_journal.specs.Record.{record_of}
 use Rattle.alta_journal.specs.declared.entry.Entry.{Entry}
 use Rattle.alta_journal.specs.declared.placed.Placed.{Placed}
-use Rattle.alta_journal.specs.declared.places.TheConstants.{HALF_BYTES, HEAD_BYTES}
 use Rattle.alta_disk.specs.declared.fault.LoadFault.{LoadFault}
 use Rattle.alta_disk.specs.declared.fault.LoadFault.TheVariants.{Disk as JournalDisk, Memory as JournalMemory, Damaged as JournalDamaged, Disk as LevelsDisk, Memory as LevelsMemory, Damaged as LevelsDamaged}
 use Rattle.alta_journal.proofs.Frames.{ends_inside}
@@ -31,7 +33,6 @@ use Rattle.alta_root.specs.Slots.{HasNoRoot, Counts}
 use Rattle.alta_root.specs.declared.fault.RootFault.{RootFault}
 use Rattle.alta_root.specs.declared.fault.RootFault.TheVariants.{Disk as RootDisk, NoRoot as RootNone, Damaged as RootDamaged}
 use Rattle.alta_root.specs.declared.root.Root.{Root}
-use Rattle.alta_root.specs.declared.slot.Slot.{Slot}
 use Rattle.alta_catalog.specs.Knowing.{Follows, KnowsBy}
 use Rattle.alta_store.specs.Agreement.{KeepsOpened, levels_of}
 use Rattle.alta_store.specs.Answers.{IsOutside, AnswersFault, of_catalog, of_load, of_root}
@@ -58,9 +59,9 @@ placed_below place limit (entry ∷ entries) fits zero d inside = omega (arith, 
 placed_below place limit (entry ∷ entries) fits (suc k) d inside =
     placed_below (place + length (record_of entry)) limit entries (omega (arith, fits, length-append (record_of entry) (flat_map record_of entries))) k d (omega (arith, inside))
 
-pub small_places : (version : ℕ) (slot : Slot) (found : List Placed) (tail : ℕ) (content : List ℕ) → IsReplay version (journal_of slot) found tail content → All (λ p. p.place < 4294967296) found
+pub small_places : (version : ℕ) (slot : Slot) (found : List Placed) (tail : ℕ) (content : List ℕ) → IsReplay version (half_start slot) found tail content → All (λ p. p.place < 4294967296) found
 small_places version slot found tail content (entries, is, ends) =
-    let start = journal_of slot in
+    let start = half_start slot in
     let far = journal_fits slot in
     let inside = ends_inside version start tail entries content far ends in
     let bytes : length (flat_map record_of entries) ≤ HALF_BYTES =
@@ -83,10 +84,10 @@ module _ (content : List ℕ) (slot : Slot) (root : Root) (deleted : List ℕ) (
   replays : (s : State) → MayStart s root deleted levels → (found : List Placed) (r : Result Known ℕ) → replayed (known_of s) found ≡ r → replayed (known_at root deleted levels) found ≡ r
   replays s starts found r is = ap (λ (k : Known). replayed k found) (sym (start_known root deleted levels s starts)) ∙ is
 
-  pub loads : (store : Store) (found : List Placed) → store.slot ≡ slot → store.root ≡ root → store.listed.items ≡ deleted → Follows store.catalog root (entries_in found) → store.tail.half ≡ half_of slot → levels_of store ≡ levels → map extent_of levels ≡ root.levels.items → IsReplay root.version (journal_of slot) found store.tail.place content
+  pub loads : (store : Store) (found : List Placed) → store.slot ≡ slot → store.root ≡ root → store.listed.items ≡ deleted → Follows store.catalog root (entries_in found) → store.tail.slot ≡ slot → levels_of store ≡ levels → map extent_of levels ≡ root.levels.items → IsReplay root.version (half_start slot) found store.tail.place content
       → KnowsAll store.catalog root levels found deleted → KeepsOpened store content
   loads store found slot_is root_is listed follows half levels_are extents (entries, is, ends) applied =
-      let same : entries_in found ≡ entries = ap entries_in is ∙ entries_in-placed (journal_of slot) entries in
+      let same : entries_in found ≡ entries = ap entries_in is ∙ entries_in-placed (half_start slot) entries in
       let some = may_start root deleted levels in
       record {
         opened = opened_with entries store.tail.place;
@@ -98,8 +99,8 @@ module _ (content : List ℕ) (slot : Slot) (root : Root) (deleted : List ℕ) (
             ends = ends_there;
             journal = ends;
             known = known_of (after_entries some.0 entries);
-            admitted = replays some.0 some.1 (placed (journal_of slot) entries) (Ok (known_of (after_entries some.0 entries)))
-                (replayed_allows some.0 (journal_of slot) entries (subst (AllowsAll some.0) same (applied some.0 some.1).0));
+            admitted = replays some.0 some.1 (placed (half_start slot) entries) (Ok (known_of (after_entries some.0 entries)))
+                (replayed_allows some.0 (half_start slot) entries (subst (AllowsAll some.0) same (applied some.0 some.1).0));
           };
         };
         keeps = record {
@@ -115,13 +116,13 @@ module _ (content : List ℕ) (slot : Slot) (root : Root) (deleted : List ℕ) (
         };
       }
 
-  pub damaged_record : (place : ℕ) → HasBrokenHalf root.version (journal_of slot) place content → IsBrokenAt content place
+  pub damaged_record : (place : ℕ) → HasBrokenHalf root.version (half_start slot) place content → IsBrokenAt content place
   damaged_record place broken = in_records slot root deleted levels place has ends_there broken
 
-  pub refused_entry : (found : List Placed) (place tail : ℕ) → IsReplay root.version (journal_of slot) found tail content → (s : State) → MayStart s root deleted levels → IsRefusedAt s found place → IsBrokenAt content place
+  pub refused_entry : (found : List Placed) (place tail : ℕ) → IsReplay root.version (half_start slot) found tail content → (s : State) → MayStart s root deleted levels → IsRefusedAt s found place → IsBrokenAt content place
   refused_entry found place tail (entries, is, ends) s starts refused =
       in_entries slot root deleted levels entries tail place has ends_there ends
-      (replays s starts (placed (journal_of slot) entries) (Err place) (subst (λ (ps : List Placed). replayed (known_of s) ps ≡ Err place) is (refused_is s found place refused)))
+      (replays s starts (placed (half_start slot) entries) (Err place) (subst (λ (ps : List Placed). replayed (known_of s) ps ≡ Err place) is (refused_is s found place refused)))
 
 is_damaged : LoadFault → StoreFault → Type 0
 is_damaged f (Damaged place) = f ≡ JournalDamaged place

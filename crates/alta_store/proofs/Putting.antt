@@ -6,6 +6,7 @@ use Rattle.std.proofs.lemmas.Bool.{false≢true}
 use Rattle.std.proofs.lemmas.Grind.{flat_map-append}
 use Rattle.std.proofs.lemmas.List.{drop-map, map-append}
 use Rattle.std.proofs.lemmas.List.Elements.{All-contains_itself, All-filter, All-map, All-weaker}
+use Rattle.alta_layout.specs.Places.{half_start}
 use Rattle.alta_catalog.specs.Knowing.{Follows, Knows as CatalogKnows, KnowsBy, gone_of, levels_of as levels_in, location_of, memory_of, next_of}
 use Rattle.alta_catalog.specs.Replacing.{IsEmptied, IsPrepared, MayReplace, deleted_of, ends_in, level_in, rows_between, stay_from_of, tables_between}
 use Rattle.alta_catalog.specs.Rows.{AreRowsOf, MayBe, documents_left}
@@ -27,7 +28,7 @@ use Rattle.alta_disk.specs.Disk.{DiskState, IsLawful, LeavesOnly, Only, Passes}
 use Rattle.alta_meaning.specs.Entries.{after_entries}
 use Rattle.alta_meaning.specs.Holding.{Holding, IsHeld}
 use Rattle.alta_meaning.specs.Levels.{Level}
-use Rattle.alta_meaning.specs.Opened.{Opened, IsOpened, half_of, journal_of, table_rows, extent_of}
+use Rattle.alta_meaning.specs.Opened.{Opened, IsOpened, table_rows, extent_of}
 use Rattle.alta_meaning.proofs.WrittenLaws.{held_stands}
 use Rattle.alta_meaning.specs.Standing.{StandsFor, tables_by, view_of}
 use Rattle.alta_meaning.specs.Views.{View, state_of}
@@ -214,6 +215,7 @@ module _ (tells : Type 0) (a b : DiskState) (before now : Store) (levels : NextL
     pub put_failed : {T : Type 0} (later : Store) (other : StoreFault) → other ≡ of_rewrite fault → Puts {T = T} tells levels a b before later (Err other)
     put_failed {T} later other is = record {
       agrees = tt;
+      sound = tt;
       knows = λ s knows. tt;
       works = λ held job told has given. tt;
       full = λ held job need gap told has given e.
@@ -240,6 +242,7 @@ pub put_nothing : (tells : Type 0) (a : DiskState) → IsLawful tells a → (bef
     → Puts {T = Unit {0}} tells levels a a before later (Err store_faults.Memory)
 put_nothing tells a lawful before now levels may later = record {
   agrees = tt;
+  sound = tt;
   knows = λ s knows. tt;
   works = λ held job told has given. tt;
   full = λ held job need gap told has given e. absurd (not_full need gap e);
@@ -312,8 +315,8 @@ module _ (tells : Type 0) (a b : DiskState) (lawful_a : IsLawful tells a) (lawfu
     (is_prepared : IsPrepared now.catalog levels.oldest.documents levels.stay_from levels.newest.documents prepared) (ends : Ends) (listed_is : ends.listed.now ≡ now.listed.items)
     (deleted_is : ends.deleted.now ≡ deleted_of prepared) (next location : ℕ) (next_is : next ≡ next_of now.catalog) (location_is : location ≡ location_of now.catalog)
     (all_documents : AreDocuments (rows_of before)) (done : Rewritten) (later : Store)
-    (slot_later : later.slot ≡ done.slot) (root_later : later.root ≡ done.root) (listed_later : later.listed.items ≡ ends.deleted.now) (half_later : later.tail.half ≡ half_of done.slot)
-    (place_later : later.tail.place ≡ journal_of done.slot) (job_later : later.job ≡ now.job)
+    (slot_later : later.slot ≡ done.slot) (root_later : later.root ≡ done.root) (listed_later : later.listed.items ≡ ends.deleted.now) (half_later : later.tail.slot ≡ done.slot)
+    (place_later : later.tail.place ≡ half_start done.slot) (job_later : later.job ≡ now.job) (sound_later : later.sound ≡ now.sound)
     (number_done : done.root.next_number ≡ next) (location_done : done.root.next_location ≡ location)
     (rows_done : (table_rows (tables_in done.oldest) ≡ levels.oldest.documents) × (table_rows (tables_in done.newest) ≡ levels.newest.documents))
     (extents_done : done.root.levels.items ≡ map extent_of (tables_in done.oldest) ++ (drop levels.stay_from now.root.levels.items ++ map extent_of (tables_in done.newest)))
@@ -417,8 +420,8 @@ module _ (tells : Type 0) (a b : DiskState) (lawful_a : IsLawful tells a) (lawfu
           slot = slot_is;
           root = root_is;
           listed = listed_later ∙ sym become.coming_is.deleted_are;
-          half = half_later ∙ ap half_of become.slot_is;
-          place = place_later ∙ ap journal_of become.slot_is ∙ sym become.coming_is.tail_is;
+          half = half_later ∙ become.slot_is;
+          place = place_later ∙ ap half_start become.slot_is ∙ sym become.coming_is.tail_is;
           levels = levels_come;
           extents = ap (map extent_of) (sym levels_come) ∙ extents_then ∙ ap (λ (r : Root). r.levels.items) root_is;
           follows = subst (λ (es : List Entry). Follows later.catalog coming.root es) (sym become.coming_is.entries_are) (subst (λ (r : Root). Follows later.catalog r []) root_is follows_then);
@@ -459,6 +462,7 @@ module _ (tells : Type 0) (a b : DiskState) (lawful_a : IsLawful tells a) (lawfu
       pub put_done : (u : Unit {0}) → Puts tells levels a b before later (Ok u)
       put_done u = record {
         agrees = agrees_then;
+        sound = sound_later ∙ may.drained.sound;
         knows = knows_then;
         works = λ held job told has given.
             let found = works held job told (may_rewrite tells a before now levels may prepared is_prepared ends listed_is deleted_is next location next_is location_is told held has given) in

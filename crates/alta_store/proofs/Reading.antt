@@ -2,6 +2,7 @@
 use Rattle.std.proofs.Common.{◌≡◌, ◌⊎◌, inl, inr, ℕ, List, refl, sym, subst, true, false, ◌↔◌}
 use Rattle.std.specs.Prelude.{Result, Ok, Err}
 use Rattle.std.proofs.lemmas.Bool.{false≢true}
+use Rattle.alta_layout.specs.declared.slot.Slot.{Slot}
 use Rattle.alta_meaning.specs.Broken.{IsBrokenAt, in_slots}
 use Rattle.alta_meaning.proofs.OneReading.{broken_rooted}
 use Rattle.alta_root.specs.Slots.{Counts, HasNoRoot, Shows}
@@ -9,7 +10,6 @@ use Rattle.alta_root.specs.declared.fault.RootFault.{RootFault}
 use Rattle.alta_root.specs.declared.fault.RootFault.TheVariants as faults
 use Rattle.alta_root.specs.declared.root.Root.{Root}
 use Rattle.alta_root.specs.declared.root.Roots.{Roots}
-use Rattle.alta_root.specs.declared.slot.Slot.{Slot}
 use Rattle.alta_root.proofs.SlotLaws.{one_answer}
 
 -- where a root counts there is one

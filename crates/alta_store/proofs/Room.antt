@@ -4,29 +4,30 @@ use Rattle.std.specs.Prelude.{◌==◌, ◌||◌, nat_le, not, OnOk, Result, Ok,
 use Rattle.std.specs.List.{flat_map}
 use Rattle.std.proofs.lemmas.Bool.{cases_lt, false≢true}
 use Rattle.std.proofs.lemmas.List.{length-take-le}
-use Rattle.alta_meaning.specs.Opened.{Opened, IsOpened, journal_of}
+use Rattle.alta_layout.specs.declared.places.TheConstants.{HALF_BYTES, HEAD_BYTES}
+use Rattle.alta_layout.specs.Places.{half_start}
+use Rattle.alta_layout.specs.declared.slot.Slot.{Slot}
+use Rattle.alta_layout.specs.declared.slot.Slot.TheVariants.{A, B}
+use Rattle.alta_meaning.specs.Opened.{Opened, IsOpened}
 use Rattle.alta_meaning.specs.Work.{fits, needs_raise}
 use Rattle.alta_meaning.proofs.Tests.{and_both, apart_test, by_test, equal_from, equal_test, or_both, or_neither}
 use Rattle.alta_journal.specs.Entry.{IsTyped, KeepsRules, MayBeRecorded, is_old}
 use Rattle.alta_journal.specs.Journal.{EndsAt}
-use Rattle.alta_journal.specs.Places.{half_at, start_of}
+use Rattle.alta_journal.specs.Places.{half_at}
 use Rattle.alta_journal.specs.Record.{body_of, record_of}
 use Rattle.alta_journal.specs.declared.entry.Entry.{Entry}
 use Rattle.alta_journal.specs.declared.entry.Entry.TheVariants.{Add, Delete, Replace}
-use Rattle.alta_journal.specs.declared.places.TheConstants.{HALF_BYTES, HEAD_BYTES}
 use Rattle.alta_journal.proofs.Frames.{ends_inside}
 use Rattle.alta_journal.proofs.Spelling.{add_long, body_long, delete_long, record_long, replace_long}
 use Rattle.alta_root.specs.declared.places.TheConstants.{VERSION}
 use Rattle.alta_root.specs.declared.root.Root.{Root}
-use Rattle.alta_root.specs.declared.slot.Slot.{Slot}
-use Rattle.alta_root.specs.declared.slot.Slot.TheVariants.{A, B}
 use Rattle.alta_store.specs.Agreement.{HasNoEntry, Keeps, room_of}
 use Rattle.alta_store.specs.Calls.{lacks_room, needs_room}
 use Rattle.alta_store.specs.declared.fault.StoreFault.{StoreFault}
 use Rattle.alta_store.specs.declared.store.Store.{Store}
 
 -- the halves end in the head
-pub journal_fits : (slot : Slot) → journal_of slot + HALF_BYTES ≤ HEAD_BYTES
+pub journal_fits : (slot : Slot) → half_start slot + HALF_BYTES ≤ HEAD_BYTES
 journal_fits A = omega arith
 journal_fits B = omega arith
 
@@ -103,15 +104,15 @@ some_before entry keeps [] none = absurd (false≢true (sym none ∙ le_true (0 
 some_before entry keeps (first ∷ entries) none = apart_test (length (first ∷ entries)) 0 (λ is. absurd (omega (arith, is)))
 
 module _ (store : Store) (o : Opened) (image : List ℕ) (keeps : Keeps store o) (is : IsOpened o image) where
-  ends : EndsAt o.root.version (journal_of o.slot) o.tail o.entries image
+  ends : EndsAt o.root.version (half_start o.slot) o.tail o.entries image
   ends = is.named.journal
 
   -- the journal has no entry exactly where what is opened has none
   pub no_entry_kept : o.entries ≡ [] → HasNoEntry store
-  no_entry_kept none = keeps.place ∙ no_entry o.root.version (journal_of o.slot) o.tail o.entries image ends none ∙ ap start_of (sym keeps.half)
+  no_entry_kept none = keeps.place ∙ no_entry o.root.version (half_start o.slot) o.tail o.entries image ends none ∙ ap half_start (sym keeps.half)
 
   pub none_kept : HasNoEntry store → o.entries ≡ []
-  none_kept none = none_at_start o.root.version (journal_of o.slot) o.tail o.entries image ends (sym keeps.place ∙ none ∙ ap start_of keeps.half)
+  none_kept none = none_at_start o.root.version (half_start o.slot) o.tail o.entries image ends (sym keeps.place ∙ none ∙ ap half_start keeps.half)
 
   pub some_kept : (HasNoEntry store → ⊥) → (length o.entries == 0) ≡ false
   some_kept some = by_test (length o.entries == 0) (λ none. absurd (some (no_entry_kept (none_is o.entries none)))) (λ other. other)
@@ -119,9 +120,9 @@ module _ (store : Store) (o : Opened) (image : List ℕ) (keeps : Keeps store o)
   -- an entry fits where the store has room for its record
   pub fits_room : (entry : Entry) → fits o.entries entry ≡ nat_le (length (body_of entry)) (room_of store)
   fits_room entry =
-      let taken = bytes_taken o.root.version (journal_of o.slot) o.tail o.entries image ends in
-      let inside = ends_inside o.root.version (journal_of o.slot) o.tail o.entries image (journal_fits o.slot) ends in
-      let starts : start_of store.tail.half ≡ journal_of o.slot = ap start_of keeps.half in
+      let taken = bytes_taken o.root.version (half_start o.slot) o.tail o.entries image ends in
+      let inside = ends_inside o.root.version (half_start o.slot) o.tail o.entries image (journal_fits o.slot) ends in
+      let starts : half_start store.tail.slot ≡ half_start o.slot = ap half_start keeps.half in
       le_test (length (flat_map record_of o.entries) + length (record_of entry) + 1) HALF_BYTES (length (body_of entry)) (room_of store)
       (λ fit. omega (arith, fit, taken, inside, starts, keeps.place, record_long entry, body_long entry))
       (λ fit. omega (arith, fit, taken, inside, starts, keeps.place, record_long entry, body_long entry))

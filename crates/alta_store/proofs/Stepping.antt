@@ -141,6 +141,7 @@ module _ (tells : Type 0) (a : DiskState) (lawful : IsLawful tells a) (store : S
   changes_join : (u : Unit {0}) → ObeysOver tells (steps n) [] a a store later (Ok u)
   changes_join u = record {
     agrees = agrees_join;
+    sound = refl;
     knows = λ s knows. knows;
     works = works_join;
     full = λ held need gap told has e. absurd (not_ok (faults.Full need gap) e);

@@ -90,6 +90,7 @@ module _ (tells : Type 0) (a b : DiskState) (lawful_a : IsLawful tells a) (lawfu
       → Changes tells work turns (λ s. s) NoRefusal 1 [] a b store later u
   changes_put (Ok x) job puts = record {
     agrees = puts.agrees;
+    sound = puts.sound;
     knows = puts.knows;
     works = λ held told has.
         let to = switches held told has in
@@ -129,6 +130,7 @@ module _ (tells : Type 0) (a b : DiskState) (lawful_a : IsLawful tells a) (lawfu
       not_ok fault e = absurd cc
   changes_put (Err fault) job puts = record {
     agrees = tt;
+    sound = tt;
     knows = λ s knows. tt;
     works = λ held told has. tt;
     full = λ held need gap told has e. let to = switches held told has in to.is ∙ puts.full held to.job need gap told has.is to.given e;
@@ -175,6 +177,7 @@ pub changes_read : {T : Type 0} (tells : Type 0) (work : Work) (turns : Turns) (
     → Changes tells work turns (λ s. s) NoRefusal bytes joins a c store later result
 changes_read {T} tells work turns bytes joins a b c lawful_a lawful_b store later result agrees reads whole change = record {
   agrees = change.agrees;
+  sound = change.sound;
   knows = change.knows;
   works = by_result_works result change;
   full = λ held need gap told has e. ap (λ (limit : ℕ). work limit held) (sym limit) ∙ change.full held need gap told (read_has told held has) e;
@@ -230,6 +233,7 @@ pub changes_unread : {T X : Type 0} (tells : Type 0) (work : Work) (turns : Turn
     → Changes {T = T} tells work turns (λ s. s) NoRefusal bytes joins a b store later (Err fault)
 changes_unread {T} {X} tells work turns bytes joins a b lawful_a lawful_b store later fault agrees segments read = record {
   agrees = tt;
+  sound = tt;
   knows = λ s knows. tt;
   works = λ held told has. tt;
   full = λ held need gap told has e. absurd (no_full need gap e);

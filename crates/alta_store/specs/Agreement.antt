@@ -1,16 +1,17 @@
 -- A store and its disk.
 use Rattle.std.specs.Prelude.{◌≡◌, ℕ, ◌≤◌, ◌<◌, true, List, Bool, map, Option, Some, None}
 use Rattle.std.specs.List.{All}
+use Rattle.alta_layout.specs.declared.places.TheConstants.{HEAD_BYTES}
+use Rattle.alta_layout.specs.Places.{half_start}
 use Rattle.alta_content.specs.Rows.{AreDocuments, end_of}
 use Rattle.alta_content.specs.declared.document.DocRow.{DocRow}
 use Rattle.alta_disk.specs.Disk.{DiskState, Only}
 use Rattle.alta_meaning.specs.Holding.{Holding, IsHeld, IsWell}
-use Rattle.alta_meaning.specs.Opened.{Opened, IsOpened, half_of, table_rows, extent_of}
+use Rattle.alta_meaning.specs.Opened.{Opened, IsOpened, table_rows, extent_of}
 use Rattle.alta_meaning.specs.Work.{Job}
 use Rattle.alta_joins.specs.Jobs.{AreJoinedOn, IsJoining, IsMerging}
-use Rattle.alta_journal.specs.Places.{left_behind, start_of}
+use Rattle.alta_journal.specs.Places.{left_behind}
 use Rattle.alta_journal.specs.declared.entry.Entry.{Entry}
-use Rattle.alta_journal.specs.declared.places.TheConstants.{HEAD_BYTES}
 use Rattle.alta_merge.specs.Merging.{Merging}
 use Rattle.alta_machine.specs.declared.document.State.{State}
 use Rattle.alta_catalog.specs.Knowing.{Follows, Knows as CatalogKnows, KnowsBy, gone_of, levels_of as levels_in}
@@ -32,7 +33,7 @@ pub record Keeps (store : Store) (opened : Opened) : Type 0 where
   pub slot : store.slot ≡ opened.slot
   pub root : store.root ≡ opened.root
   pub listed : store.listed.items ≡ opened.deleted
-  pub half : store.tail.half ≡ half_of opened.slot
+  pub half : store.tail.slot ≡ opened.slot
   pub place : store.tail.place ≡ opened.tail
   pub levels : levels_of store ≡ opened.levels
   pub extents : map extent_of opened.levels ≡ opened.root.levels.items
@@ -91,11 +92,11 @@ pub record Has (store : Store) (held : Holding) (image : List ℕ) : Type 0 wher
 
 -- how many bytes are left in the journal behind the gate of the next record
 abbrev pub room_of : Store → ℕ
-room_of store = left_behind (start_of store.tail.half) store.tail.place
+room_of store = left_behind (half_start store.tail.slot) store.tail.place
 
 -- the journal has no entry
 abbrev pub HasNoEntry : Store → Type 0
-HasNoEntry store = store.tail.place ≡ start_of store.tail.half
+HasNoEntry store = store.tail.place ≡ half_start store.tail.slot
 
 -- whether the store may be used
 abbrev pub is_sound : Store → Bool

@@ -1,6 +1,7 @@
 -- What a call that changes a store does, in one word.
 use Rattle.std.specs.Prelude.{◌≡◌, ◌⊎◌, ◌<◌, ◌+◌, ◌==◌, ◌&&◌, ◌||◌, nat_le, not, ℕ, Bool, cond, true, false, List, [], length, map, take, Option, Some, None, Result, Ok, Err, OnOk, IfOk, IfErr}
 use Rattle.std.specs.List.{sum_by}
+use Rattle.alta_layout.specs.Places.{half_start}
 use Rattle.alta_catalog.specs.Knowing.{gone_of, memory_of}
 use Rattle.alta_codec.specs.Faults.{Rose}
 use Rattle.alta_codec.specs.declared.extent.Extent.{Extent}
@@ -21,7 +22,6 @@ use Rattle.alta_meaning.specs.Work.{Task, enters, fits, flushes, gone, merges, n
 use Rattle.alta_meaning.specs.Working.{AreFirstGaps, Full, IsJoin, all_contents, entered, worked, written}
 use Rattle.alta_joins.specs.Contents.{data_size}
 use Rattle.alta_joins.specs.Damages.{IsFirstDamage}
-use Rattle.alta_journal.specs.Places.{start_of}
 use Rattle.alta_journal.specs.Record.{body_of}
 use Rattle.alta_journal.specs.declared.entry.Entry.{Entry}
 use Rattle.alta_merge.specs.Merging.{Merging}
@@ -32,7 +32,7 @@ use Rattle.alta_rewrite.specs.declared.ends.Ends.{Ends}
 use Rattle.alta_rewrite.specs.declared.levels.NextLevels.{NextLevels}
 use Rattle.alta_root.specs.Gaps.{IsLongestGap, taken_by}
 use Rattle.alta_root.specs.Root.{extents_of}
-use Rattle.alta_store.specs.Agreement.{Agrees, Has, Keeps, Knows, levels_of, room_of}
+use Rattle.alta_store.specs.Agreement.{Agrees, Has, Keeps, Knows, is_sound, levels_of, room_of}
 use Rattle.alta_store.specs.Answers.{IsOutside}
 use Rattle.alta_store.specs.declared.fault.StoreFault.{StoreFault}
 use Rattle.alta_store.specs.declared.fault.StoreFault.TheVariants as faults
@@ -67,7 +67,7 @@ flush_joins store = cond (length (levels_of store) == 16 && has_live store) (unl
 
 -- There is nothing to merge: at most one level, no deletion list, and no entry in the journal.
 abbrev pub is_one : Store → Bool
-is_one store = nat_le (length (levels_of store)) 1 && length store.listed.items == 0 && store.tail.place == start_of store.tail.half
+is_one store = nat_le (length (levels_of store)) 1 && length store.listed.items == 0 && store.tail.place == half_start store.tail.slot
 
 -- those of a merge: all, where there is something to merge
 abbrev pub merge_joins : Store → List Tables
@@ -188,8 +188,9 @@ pub record FindsFirstDamage {T : Type 0} (refuses : StoreFault → Type 0) (imag
 -- By this work, which turns what is opened so, and makes this of a state. It refuses by these faults; it reads the lists of these levels,
 -- and at most so many bytes beside them.
 pub record Changes {T : Type 0} (tells : Type 0) (work : ℕ → Holding → Result Holding Full) (turns : ℕ → Opened → Result Opened Full → Type 0) (step : State → State) (refuses : StoreFault → Type 0) (bytes : ℕ) (joins : List Tables) (before after : DiskState) (store later : Store) (result : Result T StoreFault) : Type 0 where
-  -- once it is done, store and disk agree, and the store knows the state after
+  -- once it is done, store and disk agree, the store may be used if it could be before, and it knows the state after
   pub agrees : OnOk result (Agrees tells after later)
+  pub sound : OnOk result (is_sound later ≡ is_sound store)
   pub knows : (s : State) → Knows store s → OnOk result (Knows later (step s))
   -- what is held then is what the work makes of it; and a place that is wanting is one that the work wants
   pub works : (held : Holding) → tells → Has store held before.content → OnOk result ((then : Holding) × (work before.limit held ≡ Ok then) × Has later then after.content)

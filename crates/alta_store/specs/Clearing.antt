@@ -1,9 +1,9 @@
 -- A disk without documents: zeros over the head, and the fields of the first slot.
 use Rattle.std.specs.Prelude.{◌≡◌, ℕ, ◌≤◌, ◌-◌, List, ◌∷◌, ◌++◌, length, take, drop, replicate, Result, OnOk}
 use Rattle.std.specs.List.{All}
+use Rattle.alta_layout.specs.declared.places.TheConstants.{GATE_OPEN, HEAD_BYTES}
 use Rattle.alta_codec.specs.Faults.{HasCause}
 use Rattle.alta_disk.specs.Disk.{DiskState}
-use Rattle.alta_journal.specs.declared.places.TheConstants.{GATE_OPEN, HEAD_BYTES}
 use Rattle.alta_meaning.specs.Switching.{empty_root}
 use Rattle.alta_root.specs.Root.{fields_of}
 

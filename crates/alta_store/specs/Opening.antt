@@ -1,14 +1,14 @@
 -- What a call that opens an index does, in one word.
 use Rattle.std.specs.Prelude.{◌≡◌, ◌⊎◌, ◌+◌, ◌≤◌, ℕ, Result, Err, OnOk, IfErr}
+use Rattle.alta_layout.specs.declared.places.TheConstants.{HALF_BYTES, HEAD_BYTES}
+use Rattle.alta_layout.specs.declared.slot.Slot.{Slot}
 use Rattle.alta_codec.specs.Faults.{Rose}
 use Rattle.alta_disk.specs.Disk.{DiskState, Passes, Same}
 use Rattle.alta_meaning.specs.Broken.{IsBrokenAt}
 use Rattle.alta_meaning.specs.Opened.{IsOpened, Opened}
-use Rattle.alta_journal.specs.declared.places.TheConstants.{HALF_BYTES, HEAD_BYTES}
 use Rattle.alta_opening.specs.Costs.{named_bytes}
 use Rattle.alta_root.specs.Slots.{Counts, HasNoRoot}
 use Rattle.alta_root.specs.declared.root.Root.{Root}
-use Rattle.alta_root.specs.declared.slot.Slot.{Slot}
 use Rattle.alta_store.specs.Answers.{AnswersFault, IsOutside}
 use Rattle.alta_store.specs.declared.fault.StoreFault.{StoreFault}
 use Rattle.alta_store.specs.declared.fault.StoreFault.TheVariants.{Damaged, Disk, NoRoot}

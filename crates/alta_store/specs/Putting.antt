@@ -22,7 +22,7 @@ use Rattle.alta_machine.specs.declared.document.State.{State}
 use Rattle.alta_rewrite.specs.Rewrites.{AgreesWith, HaveRows, IsGiven, levels_to_come}
 use Rattle.alta_rewrite.specs.declared.ends.Ends.{Ends}
 use Rattle.alta_rewrite.specs.declared.levels.NextLevels.{NextLevels}
-use Rattle.alta_store.specs.Agreement.{Agrees, Keeps, Knows, levels_of}
+use Rattle.alta_store.specs.Agreement.{Agrees, Keeps, Knows, is_sound, levels_of}
 use Rattle.alta_store.specs.Answers.{IsOutside}
 use Rattle.alta_store.specs.Calls.{ComesTo, FindsFirstDamage, NoRefusal}
 use Rattle.alta_store.specs.declared.fault.StoreFault.{StoreFault}
@@ -85,6 +85,7 @@ pub record IsPut (limit : ℕ) (levels : NextLevels) (view : View) (o : Opened) 
 -- The levels were put in place of those of before, and the journal is empty.
 pub record Puts {T : Type 0} (tells : Type 0) (levels : NextLevels) (before after : DiskState) (store later : Store) (result : Result T StoreFault) : Type 0 where
   pub agrees : OnOk result (Agrees tells after later)
+  pub sound : OnOk result (is_sound later ≡ is_sound store)
   pub knows : (s : State) → Knows store s → OnOk result (Knows later s)
   pub works : (held : Holding) (job : Option Job) → tells → IsHeld held before.content → IsGivenBy held.view levels
       → OnOk result ((then : Holding) × (switched before.limit held (levels_to_come levels held.view) job ≡ Ok then) × IsHeld then after.content)

@@ -1,11 +1,11 @@
 // Documents that are added, replaced and deleted, each by one record in the journal.
 ghost use Rattle.std.specs.Prelude.{◌≡◌, ◌⊎◌, ◌↔◌, ◌<◌, ◌≤◌, ℕ, true, false, Err, Some, IfOk, IfErr, OnOk};
+ghost use Rattle.alta_layout.specs.declared.places.TheConstants.{HEAD_BYTES};
 ghost use Rattle.alta_meaning.specs.Entries.{Allows, IsDocument};
 ghost use Rattle.alta_machine.specs.Changes.{has_name, number_of, with_added, with_deleted, with_replaced};
 ghost use Rattle.alta_meaning.specs.Work.{enters};
 ghost use Rattle.alta_journal.specs.Entry.{IsTyped, KeepsRules};
 ghost use Rattle.alta_journal.specs.declared.entry.Entry.TheVariants.{Add, Delete, Replace};
-ghost use Rattle.alta_journal.specs.declared.places.TheConstants.{HEAD_BYTES};
 ghost use Rattle.alta_machine.specs.declared.document.State.{State};
 ghost use Rattle.alta_store.specs.Agreement.{Agrees, Knows, is_sound};
 ghost use Rattle.alta_store.specs.Calls.{Enters, IsStepFrom, IsStepOf, MakesRoom, NoRefusal, Obeys, RefusesAdd, RefusesReplace, needs_room};
@@ -46,7 +46,6 @@ impl Store {
         ensures taken { (s : State) → Knows self.old s → (result ≡ Err Taken) ↔ (has_name name.now s ≡ true) }
         ensures numbers { (s : State) → Knows self.old s → (result ≡ Err Numbers) ↔ ((has_name name.now s ≡ false) × (4294967296 ≤ s.next)) }
         ensures refused { (result ≡ Err Taken) ⊎ (result ≡ Err Numbers) → (disk.new ≡ disk.old) × (self.new ≡ self.old) }
-        ensures sound { OnOk result (is_sound self.new ≡ true) }
         ensures unsound { IfErr result (λ e. RefusesAdd e ⊎ (is_sound self.new ≡ false)) }
     {
         if self.catalog.number_of(name).is_some() {
@@ -76,8 +75,7 @@ impl Store {
         requires number { (s : State) → Knows self.old s → s.next < 4294967296 }
         requires limit { HEAD_BYTES ≤ (D.state disk.old).limit }
 
-        ensures obeys { Obeys D.tells (enters (Add name.now title.now body.now)) (with_added name.now title.now body.now) NoRefusal (D.state disk.old) (D.state disk.new) self.old self.new result }
-        ensures sound { OnOk result (is_sound self.new ≡ is_sound self.old) }
+        ensures { Obeys D.tells (enters (Add name.now title.now body.now)) (with_added name.now title.now body.now) NoRefusal (D.state disk.old) (D.state disk.new) self.old self.new result }
     {
         match entry_of_add(self.alloc, name, title, body) {
             Ok(entry) => self.enter(disk, &entry),
@@ -113,7 +111,6 @@ impl Store {
         ensures missing { (s : State) → Knows self.old s → (result ≡ Err Missing) ↔ (has_name name.now s ≡ false) }
         ensures numbers { (s : State) → Knows self.old s → (result ≡ Err Numbers) ↔ ((has_name name.now s ≡ true) × (4294967296 ≤ s.next)) }
         ensures refused { (result ≡ Err Missing) ⊎ (result ≡ Err Numbers) → (disk.new ≡ disk.old) × (self.new ≡ self.old) }
-        ensures sound { OnOk result (is_sound self.new ≡ true) }
         ensures unsound { IfErr result (λ e. RefusesReplace e ⊎ (is_sound self.new ≡ false)) }
     {
         let Some(old) = self.catalog.number_of(name) else {
@@ -144,8 +141,7 @@ impl Store {
         requires left { (s : State) → Knows self.old s → s.next < 4294967296 }
         requires limit { HEAD_BYTES ≤ (D.state disk.old).limit }
 
-        ensures obeys { Obeys D.tells (enters (Replace number name.now title.now body.now)) (with_replaced name.now title.now body.now) NoRefusal (D.state disk.old) (D.state disk.new) self.old self.new result }
-        ensures sound { OnOk result (is_sound self.new ≡ is_sound self.old) }
+        ensures { Obeys D.tells (enters (Replace number name.now title.now body.now)) (with_replaced name.now title.now body.now) NoRefusal (D.state disk.old) (D.state disk.new) self.old self.new result }
     {
         match entry_of_replace(self.alloc, number, name, title, body) {
             Ok(entry) => self.enter(disk, &entry),
@@ -172,7 +168,6 @@ impl Store {
         ensures number { (s : State) → Knows self.old s → IfOk result (λ n. number_of name.now s ≡ Some n) }
         ensures missing { (s : State) → Knows self.old s → (result ≡ Err Missing) ↔ (has_name name.now s ≡ false) }
         ensures refused { result ≡ Err Missing → (disk.new ≡ disk.old) × (self.new ≡ self.old) }
-        ensures sound { OnOk result (is_sound self.new ≡ true) }
         ensures unsound { IfErr result (λ e. (e ≡ Missing) ⊎ (is_sound self.new ≡ false)) }
     {
         let Some(number) = self.catalog.number_of(name) else {
@@ -195,8 +190,7 @@ impl Store {
         requires named { (s : State) → Knows self.old s → number_of name.now s ≡ Some number }
         requires limit { HEAD_BYTES ≤ (D.state disk.old).limit }
 
-        ensures obeys { Obeys D.tells (enters (Delete number)) (with_deleted name.now) NoRefusal (D.state disk.old) (D.state disk.new) self.old self.new result }
-        ensures sound { OnOk result (is_sound self.new ≡ is_sound self.old) }
+        ensures { Obeys D.tells (enters (Delete number)) (with_deleted name.now) NoRefusal (D.state disk.old) (D.state disk.new) self.old self.new result }
     {
         self.enter(disk, &Entry::Delete { number })
     }
@@ -210,8 +204,7 @@ impl Store {
         requires allowed { (s : State) → Knows self.old s → Allows s entry.now }
         requires limit { HEAD_BYTES ≤ (D.state disk.old).limit }
 
-        ensures obeys { (step : State → State) → IsStepFrom entry.now step self.old → Obeys D.tells (enters entry.now) step NoRefusal (D.state disk.old) (D.state disk.new) self.old self.new result }
-        ensures sound { OnOk result (is_sound self.new ≡ is_sound self.old) }
+        ensures { (step : State → State) → IsStepFrom entry.now step self.old → Obeys D.tells (enters entry.now) step NoRefusal (D.state disk.old) (D.state disk.new) self.old self.new result }
     {
         let Ok(ready) = ready(self.alloc, entry) else {
             return Err(StoreFault::Memory);
@@ -236,7 +229,6 @@ impl Store {
 
         ensures makes { MakesRoom D.tells entry.now (D.state disk.old) (D.state disk.new) self.old self.new result }
         ensures room { OnOk result (needs_room self.new entry.now ≡ false) }
-        ensures sound { OnOk result (is_sound self.new ≡ is_sound self.old) }
     {
         if !self.needs_room(entry, ready) {
             return Ok(());

@@ -1,8 +1,8 @@
 // A disk without documents.
 ghost use Rattle.std.specs.Prelude.{◌≡◌, ◌≤◌, ◌+◌, ◌++◌, ◌↔◌, true, drop, length, IfOk, OnOk};
+ghost use Rattle.alta_layout.specs.declared.places.TheConstants.{HEAD_BYTES};
 ghost use Rattle.alta_codec.specs.Faults.{HasCause};
 ghost use Rattle.alta_disk.specs.Disk.{DiskState, Same, Passes, Stands};
-ghost use Rattle.alta_journal.specs.declared.places.TheConstants.{HEAD_BYTES};
 ghost use Rattle.alta_meaning.specs.Holding.{IsHeld};
 ghost use Rattle.alta_meaning.specs.Opened.{IsOpened};
 ghost use Rattle.alta_meaning.specs.Standing.{StandsFor};
@@ -12,7 +12,7 @@ ghost use Rattle.alta_machine.specs.States.{empty_state};
 
 use alta_codec::Failed;
 use alta_disk::{Disk, write_synced};
-use alta_journal::{GATE_OPEN, HEAD_BYTES};
+use alta_layout::{GATE_OPEN, HEAD_BYTES};
 use alta_root::VERSION;
 
 /// The fields behind the gate of a root without documents: the last version, sequence 0, no levels, next number 1, next

@@ -1,5 +1,7 @@
 // The store, and how it is opened.
 ghost use Rattle.std.specs.Prelude.{◌≡◌, ◌⊎◌, ◌+◌, ◌<◌, ◌≤◌, ℕ, true, false, length, Err, None, IfOk, IfErr, OnOk, All};
+ghost use Rattle.alta_layout.specs.declared.places.TheConstants.{HALF_BYTES, HEAD_BYTES};
+ghost use Rattle.alta_layout.specs.declared.slot.Slot.{Slot};
 ghost use Rattle.alta_catalog.specs.Knowing.{Follows, KnowsBy, levels_of as levels_in};
 ghost use Rattle.alta_meaning.specs.Names.{AreNames};
 ghost use Rattle.alta_catalog.specs.Names.{AreNamesOf};
@@ -15,13 +17,11 @@ ghost use Rattle.alta_meaning.specs.Opened.{Opened, IsOpened, have_ends, known_a
 ghost use Rattle.alta_meaning.specs.Ordered.{AreBelow, IsOrdered};
 ghost use Rattle.alta_machine.specs.Changes.{words_in};
 ghost use Rattle.alta_journal.specs.Entry.{MayBeRecorded};
-ghost use Rattle.alta_journal.specs.declared.places.TheConstants.{HALF_BYTES, HEAD_BYTES};
 ghost use Rattle.alta_machine.specs.declared.document.State.{State};
 ghost use Rattle.alta_opening.specs.Costs.{named_bytes};
 ghost use Rattle.alta_root.specs.Root.{IsSound};
 ghost use Rattle.alta_root.specs.Slots.{Counts, HasNoRoot};
 ghost use Rattle.alta_root.specs.declared.root.Root.{Root};
-ghost use Rattle.alta_root.specs.declared.slot.Slot.{Slot};
 ghost use Rattle.alta_store.specs.Agreement.{Agrees, KeepsOpened, IsIntact, Keeps, Knows, is_sound};
 ghost use Rattle.alta_store.specs.Answers.{IsOutside};
 ghost use Rattle.alta_store.specs.Opening.{Opens};
@@ -36,10 +36,10 @@ use alta_content::AllRows;
 use alta_disk::Disk;
 use alta_joins::Job;
 use alta_journal::{Placed, Tail, replay};
+use alta_layout::Slot;
 use alta_memlevel::MemLevel;
 use alta_opening::{OpenLevels, open_levels};
-use alta_rewrite::half_of;
-use alta_root::{Root, Slot, read_roots};
+use alta_root::{Root, read_roots};
 use alta_table::OpenLevel;
 use std::alloc::{AllocError, Global};
 use std::collections::HashMap;
@@ -179,7 +179,7 @@ fn load<D: Disk>(alloc: Global, disk: &mut D) -> Result<Store, StoreFault>
         names,
     } = opened;
     let version = roots.root.version;
-    let (found, tail) = match replay(alloc, disk, half_of(roots.slot), version) {
+    let (found, tail) = match replay(alloc, disk, roots.slot, version) {
         Ok(read) => read,
         Err(fault) => return Err(load_fault(fault)),
     };

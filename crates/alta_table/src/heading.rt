@@ -2,7 +2,7 @@
 // `head` also reads a segment that is too short for one, and names the field that is cut or missing: so reading a whole segment asks
 // nothing of its length.
 ghost use Rattle.std.specs.Prelude.{◌≡◌, ℕ, ◌+◌, ◌<◌, ◌≤◌, ◌^◌, length, nat_le, IfOk};
-ghost use Rattle.alta_format.specs.Gives.{Gives, NeverMemory};
+ghost use Rattle.alta_format.specs.Gives.{AlwaysGives};
 ghost use Rattle.alta_format.specs.Format.{FirstBroken, read};
 ghost use Rattle.alta_table.specs.Answers.{AlwaysAnswers, IfDamaged};
 ghost use Rattle.alta_table.specs.Tables.{HasHead, head_format, head_part, read_head};
@@ -20,8 +20,7 @@ fn has_room(before: u64, bytes: u64, total: u64) -> bool
 
 #[tactic(auto, unfolding(alta_format::specs::Format::read, crate::specs::Tables::head_format))]
 fn head_at(bytes: &[u8], total: u64) -> Result<(Head, &[u8]), ReadFault>
-    ensures gives { Gives (λ x. (x.0, x.1.now)) result (read (head_format total) bytes.now) }
-    ensures lean { NeverMemory result }
+    ensures reads { AlwaysGives (λ x. (x.0, x.1.now)) result (read (head_format total) bytes.now) }
     ensures fits { IfOk result (λ x. 32 + x.0.document_bytes + x.0.term_bytes ≤ total) }
 {
     let (documents, behind_documents) = wide_at(bytes)?;

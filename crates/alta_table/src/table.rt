@@ -20,6 +20,7 @@ use crate::terms::read_terms;
 use alta_codec::Extent;
 use alta_content::{DocRow, LevelRows};
 use std::alloc::{AllocError, Global};
+use std::convert::AsSlice;
 use std::marker::Model;
 use std::rc::Rc;
 

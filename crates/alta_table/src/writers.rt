@@ -1,11 +1,12 @@
 // Writers of head and tables.
-ghost use Rattle.std.specs.Prelude.{◌≡◌, ℕ, ◌++◌, List, length, take, nat_eq, OnOk, OnErr};
+ghost use Rattle.std.specs.Prelude.{◌≡◌, ℕ, ◌++◌, List, nat_eq, OnOk, OnErr};
 ghost use Rattle.std.specs.List.{common_prefix_len};
 ghost use Rattle.std.specs.Int.{w64, to_be_bytes};
 ghost use Rattle.alta_table.specs.Documents.{documents_bytes, row_bytes};
 ghost use Rattle.alta_content.specs.Rows.{AreDocuments, MayFollow};
 ghost use Rattle.alta_table.specs.Terms.{entry_bytes, shared_len};
 ghost use Rattle.alta_table.specs.Tables.{head_bytes};
+ghost use Rattle.alta_table.specs.Writing.{PutsBytes};
 
 use crate::sizes::Head;
 use alta_codec::{DocNumber, Loc, put_number};
@@ -27,8 +28,7 @@ pub fn put_head(out: &mut Vec<u8>, head: &Head) -> Result<(), AllocError>
 }
 
 fn put_sizes(out: &mut Vec<u8>, head: &Head) -> Result<(), AllocError>
-    ensures ok { OnOk result (out.new.items ≡ out.old.items ++ head_bytes head.now) }
-    ensures grown { take (length out.old.items) out.new.items ≡ out.old.items }
+    ensures { PutsBytes (head_bytes head.now) out.old.items out.new.items result }
 {
     out.extend_from_slice(&head.documents.to_be_bytes())?;
     out.extend_from_slice(&head.terms.to_be_bytes())?;
@@ -38,8 +38,7 @@ fn put_sizes(out: &mut Vec<u8>, head: &Head) -> Result<(), AllocError>
 
 fn put_row(out: &mut Vec<u8>, number: DocNumber, end: Loc, row: &DocRow) -> Result<(), AllocError>
     requires { MayFollow (record { number = number; end = end }) row.now }
-    ensures ok { OnOk result (out.new.items ≡ out.old.items ++ row_bytes (record { number = number; end = end }) row.now) }
-    ensures grown { take (length out.old.items) out.new.items ≡ out.old.items }
+    ensures { PutsBytes (row_bytes (record { number = number; end = end }) row.now) out.old.items out.new.items result }
 {
     let name = row.name.as_str().as_bytes();
     put_number(out, row.number - number)?;
@@ -51,8 +50,7 @@ fn put_row(out: &mut Vec<u8>, number: DocNumber, end: Loc, row: &DocRow) -> Resu
 
 fn put_rows(out: &mut Vec<u8>, rows: &[DocRow]) -> Result<(), AllocError>
     requires { AreDocuments rows.now }
-    ensures ok { OnOk result (out.new.items ≡ out.old.items ++ documents_bytes rows.now) }
-    ensures grown { take (length out.old.items) out.new.items ≡ out.old.items }
+    ensures { PutsBytes (documents_bytes rows.now) out.old.items out.new.items result }
 {
     let mut number: DocNumber = 0;
     let mut end: Loc = 0;
@@ -97,8 +95,7 @@ fn put_entry(
     stream: u64,
     summary: u64,
 ) -> Result<(), AllocError>
-    ensures ok { OnOk result (out.new.items ≡ out.old.items ++ entry_bytes before.now (record { term = term.now; count = count; stream = stream; summary = summary })) }
-    ensures grown { take (length out.old.items) out.new.items ≡ out.old.items }
+    ensures { PutsBytes (entry_bytes before.now (record { term = term.now; count = count; stream = stream; summary = summary })) out.old.items out.new.items result }
 {
     let (front, rest) = term.split_at(shared(before, term));
     put_number(out, front.len() as u64)?;

@@ -2,7 +2,7 @@
 use Rattle.std.specs.Prelude.{◌≡◌, ℕ, List}
 use Rattle.std.proofs.Common.{sym, subst}
 use Rattle.alta_codec.specs.declared.location.TheConstants.{TOP}
-use Rattle.alta_codec.specs.Rising.{IsRising, IsPlace, pred_of}
+use Rattle.alta_codec.specs.Rising.{IsRising, IsPlace, pred_of, count_from}
 use Rattle.alta_codec.proofs.ByIndex.{at_place}
 use Rattle.alta_postings.specs.Deltas.{decoded_list}
 use Rattle.alta_words.specs.declared.word.WordReader.{WordReader}
@@ -13,6 +13,10 @@ word_list s = decoded_list s.stream
 
 abbrev pub word_place : WordReader → ℕ
 word_place s = s.standing.at
+
+-- what is left of it: the locations from its place on
+abbrev pub word_left : WordReader → ℕ
+word_left s = count_from (word_list s) (word_place s)
 
 -- the reader stands somewhere in its list, and keeps how far the block of a row reaches and the list's last location
 pub record IsSoundWord (s : WordReader) : Type 0 where

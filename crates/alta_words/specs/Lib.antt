@@ -2,6 +2,8 @@ pub mod Chain
 pub mod Fault
 pub mod Held
 pub mod Leaf
+pub mod Leaps
 pub mod Leaves
+pub mod Plain
 pub mod Word
 pub mod Compared

@@ -1,8 +1,9 @@
 // A leaf in one of its forms.
-ghost use Rattle.std.specs.Prelude.{◌≡◌, refl, ℕ, ◌+◌, ◌<◌, ◌≤◌};
+ghost use Rattle.std.specs.Prelude.{◌≡◌, refl, ◌+◌, ◌<◌, ◌≤◌};
 ghost use Rattle.alta_codec.specs.Rising.{first_from, pred_of, count_from};
 ghost use Rattle.alta_codec.specs.declared.location.TheConstants.{TOP};
 ghost use Rattle.alta_words.specs.Leaf.{leaf_list, leaf_place, IsSoundLeaf, leaf_rises, leaf_stands};
+ghost use Rattle.alta_words.specs.Leaps.{Leaps};
 
 use crate::plain::PlainReader;
 use crate::word::WordReader;
@@ -56,14 +57,7 @@ impl<'a> Reader for Leaf<'a> {
     fn next<L: Ledger>(&mut self, steps: &mut Steps<L>)
         requires sound { IsSoundLeaf self.old }
         requires below { leaf_place self.old < TOP }
-        ensures sound { IsSoundLeaf self.new }
-        ensures list { leaf_list self.new ≡ leaf_list self.old }
-        ensures all { leaf_list self.new ≡ leaf_list self.old }
-        ensures location { leaf_place self.new ≡ first_from (leaf_list self.old) (leaf_place self.old + 1) }
-        ensures falls { count_from (leaf_list self.new) (leaf_place self.new) < count_from (leaf_list self.old) (leaf_place self.old) }
-        ensures steps { steps.new + count_from (leaf_list self.new) (leaf_place self.new) ≤ steps.old + count_from (leaf_list self.old) (leaf_place self.old) }
-        ensures cost { steps.new ≤ steps.old + 1 }
-        ensures one { steps.new ≡ steps.old + 1 }
+        ensures { Leaps IsSoundLeaf leaf_list leaf_place self.old self.new (first_from (leaf_list self.old) (leaf_place self.old + 1)) steps.old steps.new }
     {
         match self {
             Leaf::Coded(reader) => reader.next(steps),
@@ -76,14 +70,7 @@ impl<'a> Reader for Leaf<'a> {
         requires sound { IsSoundLeaf self.old }
         requires above { leaf_place self.old < to }
         requires top { to ≤ TOP }
-        ensures sound { IsSoundLeaf self.new }
-        ensures list { leaf_list self.new ≡ leaf_list self.old }
-        ensures all { leaf_list self.new ≡ leaf_list self.old }
-        ensures location { leaf_place self.new ≡ first_from (leaf_list self.old) to }
-        ensures falls { count_from (leaf_list self.new) (leaf_place self.new) < count_from (leaf_list self.old) (leaf_place self.old) }
-        ensures steps { steps.new + count_from (leaf_list self.new) (leaf_place self.new) ≤ steps.old + count_from (leaf_list self.old) (leaf_place self.old) }
-        ensures cost { steps.new ≤ steps.old + 1 }
-        ensures one { steps.new ≡ steps.old + 1 }
+        ensures { Leaps IsSoundLeaf leaf_list leaf_place self.old self.new (first_from (leaf_list self.old) to) steps.old steps.new }
     {
         match self {
             Leaf::Coded(reader) => reader.seek(to, steps),

@@ -1,8 +1,11 @@
 // A reader of a plain list of locations.
-ghost use Rattle.std.specs.Prelude.{◌≡◌, refl, ℕ, ◌+◌, ◌<◌, ◌≤◌, length, slice_index, slice_index_or};
-ghost use Rattle.alta_codec.specs.Rising.{IsRising, first_from, pred_of, count_from};
+ghost use Rattle.std.specs.Prelude.{◌≡◌, refl, ◌+◌, ◌<◌, ◌≤◌};
+ghost use Rattle.alta_codec.specs.Rising.{IsRising, first_from, pred_of};
 ghost use Rattle.alta_codec.proofs.ByIndex.{at_place};
 ghost use Rattle.alta_codec.specs.declared.location.TheConstants.{TOP};
+ghost use Rattle.alta_reader.specs.Moves.{IsNewReader};
+ghost use Rattle.alta_words.specs.Leaps.{Leaps};
+ghost use Rattle.alta_words.specs.Plain.{IsSoundPlain, plain_list, plain_place, plain_left};
 
 use alta_codec::{Loc, Steps, TOP, index_from};
 use alta_reader::{BackReader, Reader};
@@ -19,12 +22,7 @@ impl<'a> PlainReader<'a> {
     /// A reader of `list`, which stands at its first location, or at `TOP` where it is empty. It adds one step.
     pub fn new<L: Ledger>(list: &'a [u64], steps: &mut Steps<L>) -> PlainReader<'a>
         requires { IsRising list.now }
-        ensures sound { ⟦<PlainReader<'a> as Reader>⟧.sound result }
-        ensures list { ⟦<PlainReader<'a> as Reader>⟧.list result ≡ list.now }
-        ensures all { ⟦<PlainReader<'a> as Reader>⟧.all result ≡ list.now }
-        ensures unmoved { ⟦<PlainReader<'a> as Reader>⟧.location result ≡ first_from list.now 0 }
-        ensures left { ⟦<PlainReader<'a> as Reader>⟧.left result ≡ length list.now }
-        ensures steps { steps.new ≡ steps.old + 1 }
+        ensures { IsNewReader IsSoundPlain plain_list plain_list plain_place plain_left list.now steps.old steps.new result }
     {
         steps.tick();
         PlainReader { list, at: 0 }
@@ -32,8 +30,8 @@ impl<'a> PlainReader<'a> {
 
     /// The greatest location of the list, 0 where it is empty.
     pub fn last(&self) -> Loc
-        requires { ⟦<PlainReader<'a> as Reader>⟧.sound self.now }
-        ensures { result ≡ pred_of (⟦<PlainReader<'a> as Reader>⟧.list self.now) TOP }
+        requires { IsSoundPlain self.now }
+        ensures { result ≡ pred_of (plain_list self.now) TOP }
     {
         if self.list.is_empty() {
             0
@@ -44,15 +42,15 @@ impl<'a> PlainReader<'a> {
 }
 
 impl<'a> Reader for PlainReader<'a> {
-    ghost sound = { λ s. IsRising s.list.now × (s.at ≤ length s.list.now) };
+    ghost sound = { IsSoundPlain };
 
-    ghost list = { λ s. s.list.now };
+    ghost list = { plain_list };
 
-    ghost location = { λ s. slice_index_or s.list.now s.at TOP };
+    ghost location = { plain_place };
 
-    ghost all = { λ s. s.list.now };
+    ghost all = { plain_list };
 
-    ghost left = { λ s. count_from s.list.now (slice_index_or s.list.now s.at TOP) };
+    ghost left = { plain_left };
 
     ghost cost = { λ s. 1 };
 
@@ -66,16 +64,9 @@ impl<'a> Reader for PlainReader<'a> {
 
     /// Goes to the next location, or to `TOP` past the last. It adds exactly one step.
     fn next<L: Ledger>(&mut self, steps: &mut Steps<L>)
-        requires sound { ⟦<PlainReader<'a> as Reader>⟧.sound self.old }
-        requires below { ⟦<PlainReader<'a> as Reader>⟧.location self.old < TOP }
-        ensures sound { ⟦<PlainReader<'a> as Reader>⟧.sound self.new }
-        ensures list { ⟦<PlainReader<'a> as Reader>⟧.list self.new ≡ ⟦<PlainReader<'a> as Reader>⟧.list self.old }
-        ensures all { ⟦<PlainReader<'a> as Reader>⟧.all self.new ≡ ⟦<PlainReader<'a> as Reader>⟧.all self.old }
-        ensures location { ⟦<PlainReader<'a> as Reader>⟧.location self.new ≡ first_from (⟦<PlainReader<'a> as Reader>⟧.list self.old) (⟦<PlainReader<'a> as Reader>⟧.location self.old + 1) }
-        ensures falls { ⟦<PlainReader<'a> as Reader>⟧.left self.new < ⟦<PlainReader<'a> as Reader>⟧.left self.old }
-        ensures steps { steps.new + ⟦<PlainReader<'a> as Reader>⟧.left self.new ≤ steps.old + ⟦<PlainReader<'a> as Reader>⟧.left self.old }
-        ensures cost { steps.new ≤ steps.old + 1 }
-        ensures one { steps.new ≡ steps.old + 1 }
+        requires sound { IsSoundPlain self.old }
+        requires below { plain_place self.old < TOP }
+        ensures { Leaps IsSoundPlain plain_list plain_place self.old self.new (first_from (plain_list self.old) (plain_place self.old + 1)) steps.old steps.new }
     {
         steps.tick();
         self.at += 1;
@@ -84,17 +75,10 @@ impl<'a> Reader for PlainReader<'a> {
     /// Goes to the least location at or above `to`, or to `TOP` past the last. It adds exactly one step, and looks at
     /// about 2 log n locations to pass n of them.
     fn seek<L: Ledger>(&mut self, to: Loc, steps: &mut Steps<L>)
-        requires sound { ⟦<PlainReader<'a> as Reader>⟧.sound self.old }
-        requires above { ⟦<PlainReader<'a> as Reader>⟧.location self.old < to }
+        requires sound { IsSoundPlain self.old }
+        requires above { plain_place self.old < to }
         requires top { to ≤ TOP }
-        ensures sound { ⟦<PlainReader<'a> as Reader>⟧.sound self.new }
-        ensures list { ⟦<PlainReader<'a> as Reader>⟧.list self.new ≡ ⟦<PlainReader<'a> as Reader>⟧.list self.old }
-        ensures all { ⟦<PlainReader<'a> as Reader>⟧.all self.new ≡ ⟦<PlainReader<'a> as Reader>⟧.all self.old }
-        ensures location { ⟦<PlainReader<'a> as Reader>⟧.location self.new ≡ first_from (⟦<PlainReader<'a> as Reader>⟧.list self.old) to }
-        ensures falls { ⟦<PlainReader<'a> as Reader>⟧.left self.new < ⟦<PlainReader<'a> as Reader>⟧.left self.old }
-        ensures steps { steps.new + ⟦<PlainReader<'a> as Reader>⟧.left self.new ≤ steps.old + ⟦<PlainReader<'a> as Reader>⟧.left self.old }
-        ensures cost { steps.new ≤ steps.old + 1 }
-        ensures one { steps.new ≡ steps.old + 1 }
+        ensures { Leaps IsSoundPlain plain_list plain_place self.old self.new (first_from (plain_list self.old) to) steps.old steps.new }
     {
         steps.tick();
         self.at = index_from(self.list, self.at, to);

@@ -1,17 +1,18 @@
 // A coded list that readers may borrow.
 // Length, first and last location are kept as the check found them, so that to ask for them reads nothing.
-ghost use Rattle.std.specs.Prelude.{◌≡◌, ℕ, ◌+◌, List, length, slice_index, IfOk, IfErr, IsOk};
-ghost use Rattle.alta_codec.specs.Rising.{first_from, pred_of};
+ghost use Rattle.std.specs.Prelude.{◌≡◌, ℕ, List, length, slice_index, IfOk, IfErr, IsOk};
+ghost use Rattle.alta_codec.specs.Rising.{pred_of};
 ghost use Rattle.alta_codec.specs.declared.location.TheConstants.{TOP};
 ghost use Rattle.alta_postings.specs.Deltas.{decoded_list};
+ghost use Rattle.alta_reader.specs.Moves.{IsNewReader};
 ghost use Rattle.alta_words.specs.Fault.{IsPostingFault};
+ghost use Rattle.alta_words.specs.Held.{IsSoundWord, word_list, word_place, word_left};
 ghost use Rattle.alta_words.specs.Word.{IsPosting, HasBounds};
 
 use crate::checking::{Bounds, PostingFault, check};
 use crate::word::WordReader;
 use alta_codec::{Steps, TOP};
 use alta_postings::{Stream, Summary};
-use alta_reader::Reader;
 use std::marker::Model;
 use std::sync::ledger::Ledger;
 
@@ -93,12 +94,7 @@ impl Posting {
     /// one step.
     #[inline(always)]
     pub fn reader<'a, L: Ledger>(&'a self, steps: &mut Steps<L>) -> WordReader<'a>
-        ensures sound { ⟦<WordReader<'a> as Reader>⟧.sound result }
-        ensures list { ⟦<WordReader<'a> as Reader>⟧.list result ≡ self.now }
-        ensures all { ⟦<WordReader<'a> as Reader>⟧.all result ≡ self.now }
-        ensures unmoved { ⟦<WordReader<'a> as Reader>⟧.location result ≡ first_from self.now 0 }
-        ensures left { ⟦<WordReader<'a> as Reader>⟧.left result ≡ length self.now }
-        ensures steps { steps.new ≡ steps.old + 1 }
+        ensures { IsNewReader IsSoundWord word_list word_list word_place word_left self.now steps.old steps.new result }
     {
         let stream = Stream::of(&self.stream);
         let summary = Summary::of(&self.summary);

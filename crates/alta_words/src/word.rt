@@ -1,13 +1,15 @@
 // A reader of a coded list, which reads number after number.
 // Blocks of 64 that were read ahead made a reader half a kilobyte large, and took a quarter to a third of a walk. The last location
 // of the list is kept, since a chain and a union ask for it several times a move.
-ghost use Rattle.std.specs.Prelude.{◌≡◌, refl, ℕ, ◌+◌, ◌*◌, ◌<◌, ◌≤◌, length};
-ghost use Rattle.alta_codec.specs.Rising.{first_from, pred_of, count_from};
+ghost use Rattle.std.specs.Prelude.{◌≡◌, refl, ℕ, ◌+◌, ◌*◌, ◌<◌, ◌≤◌};
+ghost use Rattle.alta_codec.specs.Rising.{first_from, pred_of};
 ghost use Rattle.alta_codec.specs.declared.location.TheConstants.{TOP};
 ghost use Rattle.alta_postings.specs.Deltas.{IsBehind, decoded_list};
 ghost use Rattle.alta_postings.specs.Table.{field_at};
-ghost use Rattle.alta_words.specs.Held.{IsSoundWord, word_list, word_place, word_rises, word_stands};
-ghost use Rattle.alta_words.specs.Word.{IsPosting, StandsAt, ReachesTo};
+ghost use Rattle.alta_reader.specs.Moves.{IsNewReader};
+ghost use Rattle.alta_words.specs.Held.{IsSoundWord, word_list, word_place, word_left, word_rises, word_stands};
+ghost use Rattle.alta_words.specs.Leaps.{Leaps};
+ghost use Rattle.alta_words.specs.Word.{IsPosting, ReachesTo};
 
 use crate::standing::{Standing, behind, first, first_at};
 use alta_codec::{Loc, Steps, TOP};
@@ -49,12 +51,7 @@ impl<'a> WordReader<'a> {
     ) -> WordReader<'a>
         requires posting { IsPosting stream summary.bytes summary.count }
         requires end { end ≡ pred_of (decoded_list stream) TOP }
-        ensures sound { ⟦<WordReader<'a> as Reader>⟧.sound result }
-        ensures list { ⟦<WordReader<'a> as Reader>⟧.list result ≡ decoded_list stream.entry }
-        ensures all { ⟦<WordReader<'a> as Reader>⟧.all result ≡ decoded_list stream.entry }
-        ensures unmoved { ⟦<WordReader<'a> as Reader>⟧.location result ≡ first_from (decoded_list stream.entry) 0 }
-        ensures left { ⟦<WordReader<'a> as Reader>⟧.left result ≡ length (decoded_list stream.entry) }
-        ensures steps { steps.new ≡ steps.old + 1 }
+        ensures { IsNewReader IsSoundWord word_list word_list word_place word_left (decoded_list stream.entry) steps.old steps.new result }
     {
         steps.tick();
         let reach = first_reach(&summary, end);
@@ -148,7 +145,7 @@ impl<'a> Reader for WordReader<'a> {
 
     ghost all = { word_list };
 
-    ghost left = { λ s. count_from (word_list s) (word_place s) };
+    ghost left = { word_left };
 
     ghost cost = { λ s. 1 };
 
@@ -159,16 +156,9 @@ impl<'a> Reader for WordReader<'a> {
     /// Goes to the next location, or to `TOP` past the last. It adds exactly one step, and reads one number.
     #[inline(always)]
     fn next<L: Ledger>(&mut self, steps: &mut Steps<L>)
-        requires sound { ⟦<WordReader<'a> as Reader>⟧.sound self.old }
-        requires below { ⟦<WordReader<'a> as Reader>⟧.location self.old < TOP }
-        ensures sound { ⟦<WordReader<'a> as Reader>⟧.sound self.new }
-        ensures list { ⟦<WordReader<'a> as Reader>⟧.list self.new ≡ ⟦<WordReader<'a> as Reader>⟧.list self.old }
-        ensures all { ⟦<WordReader<'a> as Reader>⟧.all self.new ≡ ⟦<WordReader<'a> as Reader>⟧.all self.old }
-        ensures location { ⟦<WordReader<'a> as Reader>⟧.location self.new ≡ first_from (⟦<WordReader<'a> as Reader>⟧.list self.old) (⟦<WordReader<'a> as Reader>⟧.location self.old + 1) }
-        ensures falls { ⟦<WordReader<'a> as Reader>⟧.left self.new < ⟦<WordReader<'a> as Reader>⟧.left self.old }
-        ensures steps { steps.new + ⟦<WordReader<'a> as Reader>⟧.left self.new ≤ steps.old + ⟦<WordReader<'a> as Reader>⟧.left self.old }
-        ensures cost { steps.new ≤ steps.old + 1 }
-        ensures one { steps.new ≡ steps.old + 1 }
+        requires sound { IsSoundWord self.old }
+        requires below { word_place self.old < TOP }
+        ensures { Leaps IsSoundWord word_list word_place self.old self.new (first_from (word_list self.old) (word_place self.old + 1)) steps.old steps.new }
     {
         steps.tick();
         self.standing = behind(&self.stream, self.standing);
@@ -179,17 +169,10 @@ impl<'a> Reader for WordReader<'a> {
     /// rows. It reads numbers of that row's block alone.
     #[inline(always)]
     fn seek<L: Ledger>(&mut self, to: Loc, steps: &mut Steps<L>)
-        requires sound { ⟦<WordReader<'a> as Reader>⟧.sound self.old }
-        requires above { ⟦<WordReader<'a> as Reader>⟧.location self.old < to }
+        requires sound { IsSoundWord self.old }
+        requires above { word_place self.old < to }
         requires top { to ≤ TOP }
-        ensures sound { ⟦<WordReader<'a> as Reader>⟧.sound self.new }
-        ensures list { ⟦<WordReader<'a> as Reader>⟧.list self.new ≡ ⟦<WordReader<'a> as Reader>⟧.list self.old }
-        ensures all { ⟦<WordReader<'a> as Reader>⟧.all self.new ≡ ⟦<WordReader<'a> as Reader>⟧.all self.old }
-        ensures location { ⟦<WordReader<'a> as Reader>⟧.location self.new ≡ first_from (⟦<WordReader<'a> as Reader>⟧.list self.old) to }
-        ensures falls { ⟦<WordReader<'a> as Reader>⟧.left self.new < ⟦<WordReader<'a> as Reader>⟧.left self.old }
-        ensures steps { steps.new + ⟦<WordReader<'a> as Reader>⟧.left self.new ≤ steps.old + ⟦<WordReader<'a> as Reader>⟧.left self.old }
-        ensures cost { steps.new ≤ steps.old + 1 }
-        ensures one { steps.new ≡ steps.old + 1 }
+        ensures { Leaps IsSoundWord word_list word_place self.old self.new (first_from (word_list self.old) to) steps.old steps.new }
     {
         steps.tick();
         self.go_seek(to);

@@ -8,7 +8,7 @@
 ghost use Rattle.std.specs.Prelude.{◌≤◌, length, IfOk};
 ghost use Rattle.alta_content.specs.Parts.{IsPart};
 
-use alta_codec::Loc;
+use alta_codec::{Len, Loc};
 use alta_content::{Content, DocRow};
 use alta_level::read_content;
 use alta_merge::{Job, may_join};

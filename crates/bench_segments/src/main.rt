@@ -6,6 +6,7 @@
 
 ghost use Rattle.std.specs.Prelude.{◌≤◌, length};
 
+use alta_codec::Len;
 use alta_level::{LevelFault, OpenLevel, build, head, read_content};
 use std::alloc::{AllocError, Global};
 use std::process::ExitCode;

@@ -6,7 +6,7 @@ ghost use Rattle.alta_query.specs.View.{shape};
 ghost use Rattle.alta_search.specs.Plans.{tests_of};
 
 use crate::lists::ListFiles;
-use alta_codec::Steps;
+use alta_codec::{Len, Steps};
 use alta_compile::Plan;
 use alta_query::Query;
 use alta_search::{Page, Snapshot, count, search};

@@ -1,7 +1,8 @@
 // Each list type at its members.
-use alta_codec::Text;
+use alta_codec::{Len, Text};
 use alta_content::*;
 use std::alloc::{AllocError, Global};
+use std::default::MadeWith;
 use std::process::Abort;
 use std::test::Fail;
 
@@ -33,7 +34,7 @@ pub(crate) fn term_lists_are_read_from_the_front(
     rt: &impl Abort,
     alloc: Global,
 ) -> Result<(), Fail> {
-    let mut lists = TermLists::new(alloc);
+    let mut lists = TermLists::made_with(alloc);
     lists.put(b"Wred", &[5, 6])?;
     lists.put(b"Wthe", &[7])?;
     let mut locations = Vec::new(alloc);
@@ -51,7 +52,7 @@ pub(crate) fn term_lists_are_read_from_the_front(
 
 pub(crate) fn any_numbers_are_packed(rt: &impl Abort, alloc: Global) -> Result<(), Fail> {
     let numbers = [9, 3, u64::MAX, 0, 128];
-    let mut lists = TermLists::new(alloc);
+    let mut lists = TermLists::made_with(alloc);
     lists.put(b"", &[])?;
     lists.put(b"Wfox", &numbers)?;
     lists.skip();

@@ -103,11 +103,14 @@ fn catalog_of(alloc: Global, root: &Root, level: OpenLevel) -> Result<Option<Cat
     Ok(Some(Catalog::new(alloc, root, levels, &[], names)?))
 }
 
-// Adds a document, and answers whether that may be.
-fn add_one(alloc: Global, catalog: &mut Catalog, name: &str) -> Result<bool, MetaFault>
+// Adds a document of this name, or where there is a number deletes the document of that number, and answers whether that was done.
+fn act(alloc: Global, catalog: &mut Catalog, number: u64, name: &str) -> Result<bool, MetaFault>
     requires { (s : State) × Knows catalog.old s }
     ensures { OnOk result ((s : State) × Knows catalog.new s) }
 {
+    if number > 0 {
+        return Ok(catalog.delete(number)?);
+    }
     if !name_ok(name.as_bytes()) {
         return Ok(false);
     }
@@ -119,29 +122,6 @@ fn add_one(alloc: Global, catalog: &mut Catalog, name: &str) -> Result<bool, Met
     }
     catalog.add(alloc, name, "Red Fox", "the quick red fox")?;
     Ok(true)
-}
-
-// Deletes a document, and answers whether there was one.
-fn delete_one(catalog: &mut Catalog, number: u64) -> Result<bool, AllocError>
-    requires { (s : State) × Knows catalog.old s }
-    ensures { OnOk result ((s : State) × Knows catalog.new s) }
-{
-    match catalog.delete(number) {
-        Ok(true) => Ok(true),
-        Ok(false) => Ok(false),
-        Err(fault) => Err(fault),
-    }
-}
-
-// Adds a document of this name, or where there is a number deletes the document of that number.
-fn act(alloc: Global, catalog: &mut Catalog, number: u64, name: &str) -> Result<bool, MetaFault>
-    requires { (s : State) × Knows catalog.old s }
-    ensures { OnOk result ((s : State) × Knows catalog.new s) }
-{
-    if number == 0 {
-        return add_one(alloc, catalog, name);
-    }
-    Ok(delete_one(catalog, number)?)
 }
 
 // A number to delete, or 0 and a name to add; whether that was done, and the counts then.

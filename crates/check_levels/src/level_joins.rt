@@ -17,6 +17,7 @@ use alta_level::build;
 use alta_opening::{OpenLevels, open_levels};
 use alta_root::{Root, read_roots};
 use std::alloc::{AllocError, Global};
+use std::default::MadeWith;
 use std::process::Abort;
 use std::test::Fail;
 
@@ -163,7 +164,7 @@ fn merged(alloc: Global, dead: &[u64]) -> Result<Vec<u8>, LoadFault> {
     let mut opening = opened(alloc, image, Vec::new(alloc))?;
     let newest = Content {
         documents: DocRows::new(alloc),
-        lists: TermLists::new(alloc),
+        lists: TermLists::made_with(alloc),
     };
     let content = merge_levels(
         alloc,

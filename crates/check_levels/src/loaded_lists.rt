@@ -111,6 +111,7 @@ fn loaded(
         Ends::Untested,
         &MemLevel::new(alloc),
         term,
+        &mut [],
     )?;
     Ok(lists.levels.len())
 }

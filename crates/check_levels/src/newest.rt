@@ -1,7 +1,7 @@
 // The content of two documents from outside, and each public call once.
 ghost use Rattle.std.specs.Prelude.{◌≡◌, length, IfOk, IsTrue};
 
-use alta_codec::Text;
+use alta_codec::{Len, Text};
 use alta_content::{Content, DocRow, TermLists};
 use alta_machine::{Cell, cells};
 use alta_memlevel::MemLevel;

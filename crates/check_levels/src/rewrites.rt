@@ -1,18 +1,20 @@
 // Where levels and a deletion list are written, and what each stop leaves.
 ghost use Rattle.std.specs.Prelude.{◌≡◌, ◌≤◌, ◌+◌, length, IfOk, IfSome};
+ghost use Rattle.alta_layout.specs.declared.places.TheConstants.{HEAD_BYTES};
 ghost use Rattle.alta_codec.specs.Rising.{IsRising};
 ghost use Rattle.alta_content.specs.Parts.{IsPart};
 ghost use Rattle.alta_disk.specs.Disk.{Only};
 ghost use Rattle.alta_disk.specs.Memory.{memory_state};
-ghost use Rattle.alta_root.specs.declared.places.TheConstants.{HEAD_BYTES};
 
 use crate::first_line::{SEGMENT, content_of};
 use crate::segments::number;
 use alta_content::{Content, DocRows, TermLists};
 use alta_disk::MemoryDisk;
+use alta_layout::{HEAD_BYTES, Slot};
 use alta_rewrite::{Ends, NextLevels, RewriteFault, Rewritten, rewrite};
-use alta_root::{HEAD_BYTES, Root, Roots, Slot, read_roots};
+use alta_root::{Root, Roots, read_roots};
 use std::alloc::{AllocError, Global};
+use std::default::MadeWith;
 use std::process::Abort;
 use std::test::Fail;
 
@@ -63,7 +65,7 @@ fn nothing(alloc: Global) -> Content
 {
     Content {
         documents: DocRows::new(alloc),
-        lists: TermLists::new(alloc),
+        lists: TermLists::made_with(alloc),
     }
 }
 

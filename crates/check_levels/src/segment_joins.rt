@@ -2,11 +2,12 @@
 ghost use Rattle.std.specs.Prelude.{◌<◌, length, IfOk};
 ghost use Rattle.alta_content.specs.Parts.{IsPart};
 
-use alta_codec::Loc;
+use alta_codec::{Len, Loc};
 use alta_content::{Content, DocRows, TermLists};
 use alta_level::read_content;
 use alta_merge::{Job, may_join};
 use std::alloc::{AllocError, Global};
+use std::default::MadeWith;
 use std::process::Abort;
 use std::test::Fail;
 
@@ -46,7 +47,7 @@ fn part(alloc: Global, bytes: &[u8]) -> Result<Content, AllocError>
     if bytes.is_empty() {
         return Ok(Content {
             documents: DocRows::new(alloc),
-            lists: TermLists::new(alloc),
+            lists: TermLists::made_with(alloc),
         });
     }
     match read_content(alloc, bytes, 0) {

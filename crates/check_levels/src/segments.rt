@@ -3,6 +3,7 @@ ghost use Rattle.std.specs.Prelude.{◌<◌, length};
 ghost use Rattle.alta_content.specs.Rows.{AreDocuments};
 
 use crate::first_line::SEGMENT;
+use alta_codec::Len;
 use alta_content::{LevelRows, TermLists};
 use alta_level::{LevelFault, StoredList, build, check_list, read_content, read_list};
 use std::alloc::{AllocError, Global};

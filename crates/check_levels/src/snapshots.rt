@@ -1,6 +1,5 @@
 // What levels and the newest documents answer, and which of their terms meet a test.
 ghost use Rattle.std.specs.Prelude.{◌≡◌, ◌++◌, ◌+◌, ◌<◌, ◌≤◌, ◌^◌, ℕ, List, All, IfOk, IsTrue, OnOk, length, map};
-ghost use Rattle.alta_codec.specs.Rising.{IsRising};
 ghost use Rattle.alta_compile.specs.View.{tree};
 ghost use Rattle.alta_compound.specs.Unions.{RisesAbove};
 ghost use Rattle.alta_content.specs.Rows.{end_of};
@@ -11,7 +10,7 @@ ghost use Rattle.alta_search.specs.Newest.{HasAdded};
 ghost use Rattle.alta_search.specs.Plans.{tests_of};
 
 use crate::loaded_lists::{changes_of, image_of, tables_of};
-use alta_codec::{Bytes, Loc, Steps, TOP, Text};
+use alta_codec::{Bytes, Len, Steps, TOP, Text};
 use alta_compile::{Plan, compile};
 use alta_content::{AllRows, DocRow, LevelRows};
 use alta_disk::{LoadFault, MemoryDisk};
@@ -146,13 +145,6 @@ fn shared(alloc: Global, rows: Vec<DocRow>) -> Result<AllRows, Fail>
     Ok(all)
 }
 
-// The ends of the documents that are deleted: that of the second.
-fn deleted() -> &'static [Loc]
-    ensures { IsRising result.now }
-{
-    &[16]
-}
-
 // The tables of both segments.
 fn levels(alloc: Global) -> Result<Vec<OpenLevel>, Fail>
     ensures { IfOk result (λ levels. (image : List ℕ) → length image ≡ 243 → All (λ level. LiesWithin level image) levels.items) }
@@ -163,7 +155,7 @@ fn levels(alloc: Global) -> Result<Vec<OpenLevel>, Fail>
     }
 }
 
-// The snapshot for a plan, of levels with these bytes changed.
+// The snapshot for a plan, of levels with these bytes changed. The second document is deleted.
 fn load(
     alloc: Global,
     plan: &Plan,
@@ -176,8 +168,7 @@ fn load(
     let rows = shared(alloc, rows_of(alloc, &levels, &newest)?)?;
     let image = image_of(alloc, OLD, NEW, changes)?;
     let mut disk = MemoryDisk::new(alloc, image, 1000, Vec::new(alloc));
-    let gone = deleted();
-    Ok(load_snapshot(alloc, &mut disk, plan, &levels, &newest, rows, gone))
+    Ok(load_snapshot(alloc, &mut disk, plan, &levels, &newest, rows, &[16]))
 }
 
 // The names on a page.

@@ -1,7 +1,7 @@
 // Images of disks in memory, the fuse, and the file.
 use alta_codec::Text;
 use alta_disk::{
-    Disk, Failed, FileDisk, FuseDisk, MemoryDisk, images_keep_the_firm_bytes, write_in_order,
+    Disk, Failed, FileDisk, FuseDisk, MemoryDisk, images_keep_the_firm_bytes, write_synced,
 };
 use std::alloc::{AllocError, Global};
 use std::fs::File;
@@ -136,8 +136,11 @@ fn is_image(alloc: Global, disk: &MemoryDisk, pick: u64, want: &[u8]) -> Result<
 fn fused(alloc: Global) -> Result<MemoryDisk, Fail> {
     let content = b"abcdef".to_vec(alloc)?;
     let mut disk = MemoryDisk::new(alloc, content, 16, Vec::new(alloc));
-    let Ok(()) = write_in_order(&mut disk, 6, b"gh", 0, b"A") else {
-        return Err("two writes in order fail".into());
+    let Ok(()) = write_synced(&mut disk, 6, b"gh") else {
+        return Err("a write with its sync fails".into());
+    };
+    let Ok(()) = write_synced(&mut disk, 0, b"A") else {
+        return Err("a second one fails".into());
     };
     images_keep_the_firm_bytes(&disk);
     let mut fuse = FuseDisk::new(disk, 3);

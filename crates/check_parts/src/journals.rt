@@ -7,9 +7,10 @@ use crate::images::{BLUE, LONGEST, RED_FOX, put, put_bytes};
 use alta_codec::{Text, name_ok, zeros};
 use alta_disk::{LoadFault, MemoryDisk};
 use alta_journal::{
-    Entry, GATE_OPEN, HALF_BYTES, HEAD_BYTES, Half, JournalFault, Tail, a_half_is_read_in_one_way,
-    a_half_is_read_or_broken, append, close_half, is_old, ready, replay,
+    Entry, JournalFault, Tail, a_half_is_read_in_one_way, a_half_is_read_or_broken, append,
+    close_half, is_old, ready, replay,
 };
+use alta_layout::{GATE_OPEN, HALF_BYTES, HEAD_BYTES, Slot};
 use std::alloc::{AllocError, Global};
 use std::process::Abort;
 use std::test::Fail;
@@ -93,7 +94,7 @@ fn head_with(alloc: Global, text: &str) -> Result<Vec<u8>, Fail> {
 fn replayed(
     alloc: Global,
     image: Vec<u8>,
-    half: Half,
+    slot: Slot,
     version: u8,
 ) -> Result<(usize, u64), LoadFault>
     requires { (1 ≤ version) × (version ≤ 2) }
@@ -103,19 +104,19 @@ fn replayed(
         return Err(LoadFault::Memory);
     }
     let mut disk = MemoryDisk::new(alloc, image, limit, Vec::new(alloc));
-    match replay(alloc, &mut disk, half, version) {
+    match replay(alloc, &mut disk, slot, version) {
         Ok((entries, tail)) => Ok((entries.len(), tail.place)),
         Err(fault) => Err(fault),
     }
 }
 
 // The same in words, of a half under a root of a version.
-fn answer(alloc: Global, image: Vec<u8>, half: &str) -> Result<String, AllocError> {
-    let found = match half {
-        "A1" => replayed(alloc, image, Half::A, 1),
-        "A2" => replayed(alloc, image, Half::A, 2),
-        "B1" => replayed(alloc, image, Half::B, 1),
-        _ => replayed(alloc, image, Half::B, 2),
+fn answer(alloc: Global, image: Vec<u8>, slot: &str) -> Result<String, AllocError> {
+    let found = match slot {
+        "A1" => replayed(alloc, image, Slot::A, 1),
+        "A2" => replayed(alloc, image, Slot::A, 2),
+        "B1" => replayed(alloc, image, Slot::B, 1),
+        _ => replayed(alloc, image, Slot::B, 2),
     };
     match found {
         Ok((entries, place)) => format!(in alloc; "{entries} {place}"),
@@ -156,10 +157,10 @@ body beyond ASCII | A1 | 8192 a5 00 00 00 0d 01 01 61 00 00 00 00 00 00 00 02 c3
 the second, no room | A1 | 8192 a5 00 00 00 09 02 00 00 00 00 00 00 00 01 a5 ff ff ff ff => damaged 8207
 the second, kind 4 | A1 | 8192 a5 00 00 00 09 02 00 00 00 00 00 00 00 01 a5 00 00 00 01 04 => damaged 8211
 behind a closed gate | A1 | 8192 a5 00 00 00 09 02 00 00 00 00 00 00 00 01 00 ff ff ff ff => 1 8206
-half B | A1 | 1056768 a5 ff ff ff ff => 0 8192
+slot B | A1 | 1056768 a5 ff ff ff ff => 0 8192
 slots | A1 | 0 a5 ff ff ff ff => 0 8192
-in front of the half | A1 | 8191 a5 00 => 0 8192
-the other half | B1 | 1056768 a5 ff ff ff ff => damaged 1056769
+in front of the slot | A1 | 8191 a5 00 => 0 8192
+the other slot | B1 | 1056768 a5 ff ff ff ff => damaged 1056769
 the longest | A1 | 8192 a5 00 01 00 40 01 01 61 00 00 00 00 00 01 00 35 => 1 73797
 a byte longer | A1 | 8192 a5 00 01 00 41 01 01 61 00 00 00 00 00 01 00 36 => damaged 8197
 full but for a body of 64479 | A1 | full, 992267 a5 00 00 fb ea 01 01 61 00 00 00 00 00 00 fb df, 1056762 a5 => damaged 1056767
@@ -178,8 +179,8 @@ pub(crate) fn a_half_is_read_or_damaged(rt: &impl Abort, alloc: Global) -> Resul
     for row in HALVES.split('\n') {
         let (asked, want) = row.split_once(" => ").unwrap_or((row, ""));
         let (_, asked) = asked.split_once(" | ").unwrap_or((asked, ""));
-        let (half, text) = asked.split_once(" | ").unwrap_or((asked, ""));
-        let found = answer(alloc, head_with(alloc, text)?, half)?;
+        let (slot, text) = asked.split_once(" | ").unwrap_or((asked, ""));
+        let found = answer(alloc, head_with(alloc, text)?, slot)?;
         assert_eq!(rt; found.as_str(), want, "{row}");
     }
     a_half_is_read_in_one_way();
@@ -212,11 +213,11 @@ fn told(alloc: Global, entry: &Entry) -> Result<String, AllocError> {
 }
 
 // The entries of a half that has these bytes at its start, with their places, and the place of the tail.
-fn read_back(alloc: Global, half: Half, bytes: &[u8]) -> Result<String, Fail> {
+fn read_back(alloc: Global, slot: Slot, bytes: &[u8]) -> Result<String, Fail> {
     let mut head = zeros(alloc, HEAD_BYTES as usize)?;
-    put_bytes(&mut head, half.start() as usize, bytes);
+    put_bytes(&mut head, slot.half_start() as usize, bytes);
     let mut disk = MemoryDisk::new(alloc, head, 3_000_000, Vec::new(alloc));
-    let Ok((entries, tail)) = replay(alloc, &mut disk, half, 2) else {
+    let Ok((entries, tail)) = replay(alloc, &mut disk, slot, 2) else {
         return Err("no replay".into());
     };
     let mut out = String::new(alloc);
@@ -230,12 +231,12 @@ fn read_back(alloc: Global, half: Half, bytes: &[u8]) -> Result<String, Fail> {
 
 // The places of the tail of a half before and behind a record that is written to it, and what the half begins with once a delete of
 // document 258 is written behind that.
-fn written(alloc: Global, half: Half, entry: &Entry) -> Result<(u64, u64, Vec<u8>), Fail>
+fn written(alloc: Global, slot: Slot, entry: &Entry) -> Result<(u64, u64, Vec<u8>), Fail>
     requires { KeepsRules entry.now }
 {
     let content = zeros(alloc, HEAD_BYTES as usize)?;
     let mut disk = MemoryDisk::new(alloc, content, HEAD_BYTES, Vec::new(alloc));
-    let Ok(mut tail) = close_half(&mut disk, half) else {
+    let Ok(mut tail) = close_half(&mut disk, slot) else {
         return Err("no format".into());
     };
     let before = tail.place;
@@ -260,12 +261,12 @@ fn written(alloc: Global, half: Half, entry: &Entry) -> Result<(u64, u64, Vec<u8
 const DELETE: &[u8] = b"\xa5\0\0\0\x09\x02\0\0\0\0\0\0\x01\x02\0";
 
 // Whether a record of so many bytes up to its next gate, and that delete behind it, are written from the half's start on.
-fn is_written(alloc: Global, half: Half, entry: &Entry, record: &[u8]) -> Result<bool, Fail>
+fn is_written(alloc: Global, slot: Slot, entry: &Entry, record: &[u8]) -> Result<bool, Fail>
     requires { KeepsRules entry.now }
 {
     let len = record.len().saturating_sub(1);
-    let (before, behind, bytes) = written(alloc, half, entry)?;
-    let is_placed = before == half.start() && behind.wrapping_sub(before) == len as u64;
+    let (before, behind, bytes) = written(alloc, slot, entry)?;
+    let is_placed = before == slot.half_start() && behind.wrapping_sub(before) == len as u64;
     Ok(is_placed && bytes.get(..len) == record.get(..len) && bytes.get(len..) == Some(DELETE))
 }
 
@@ -282,8 +283,8 @@ fn are_written(alloc: Global) -> Result<bool, Fail> {
         return Ok(false);
     }
     let old = is_old(&red_fox) && !is_old(&blue);
-    let first = is_written(alloc, Half::A, &red_fox, RED_FOX)?;
-    let second = is_written(alloc, Half::B, &blue, BLUE)?;
+    let first = is_written(alloc, Slot::A, &red_fox, RED_FOX)?;
+    let second = is_written(alloc, Slot::B, &blue, BLUE)?;
     Ok(old && first && second)
 }
 
@@ -294,14 +295,14 @@ pub(crate) fn records_are_written_and_read_back(
     assert!(rt; are_written(alloc)?);
     let rows = [
         (
-            Half::A,
+            Slot::A,
             RED_FOX,
             "8192 add a, Red Fox, the quick red fox; 8232",
         ),
-        (Half::B, BLUE, "1056768 replace 1, a, , blue; 1056796"),
+        (Slot::B, BLUE, "1056768 replace 1, a, , blue; 1056796"),
     ];
-    for (half, bytes, want) in rows {
-        assert_eq!(rt; read_back(alloc, half, bytes)?.as_str(), want);
+    for (slot, bytes, want) in rows {
+        assert_eq!(rt; read_back(alloc, slot, bytes)?.as_str(), want);
     }
     Ok(())
 }
@@ -311,19 +312,19 @@ pub(crate) fn records_are_written_and_read_back(
 fn appended_at_end(
     rt: &impl Abort,
     alloc: Global,
-    half: Half,
+    slot: Slot,
     back: u64,
 ) -> Result<(Result<(), JournalFault>, u64), AllocError> {
     if back < 1 || back > 20 {
         return Err(AllocError);
     }
     let record = ready(alloc, &Entry::Delete { number: 1 })?;
-    let place = half.start() + HALF_BYTES - back;
+    let place = slot.half_start() + HALF_BYTES - back;
     let content = zeros(alloc, HEAD_BYTES as usize)?;
     let gate = content[place as usize];
     assert!(rt; gate != GATE_OPEN);
     let mut disk = MemoryDisk::new(alloc, content, HEAD_BYTES, Vec::new(alloc));
-    let mut tail = Tail { half, place };
+    let mut tail = Tail { slot, place };
     let answer = append(&mut disk, &mut tail, &record);
     Ok((answer, tail.place))
 }
@@ -339,7 +340,7 @@ fn entries_left(
     let _ = fail.push(call);
     let content = zeros(alloc, HEAD_BYTES as usize)?;
     let mut disk = MemoryDisk::new(alloc, content, HEAD_BYTES, fail);
-    let mut tail = close_half(&mut disk, Half::B).expect(rt, "a format");
+    let mut tail = close_half(&mut disk, Slot::B).expect(rt, "a format");
     let first = ready(alloc, &Entry::Delete { number: 1 })?;
     append(&mut disk, &mut tail, &first).expect(rt, "an append");
     let second = ready(alloc, &Entry::Delete { number: 2 })?;
@@ -347,7 +348,7 @@ fn entries_left(
     let mut left = [0; 4];
     for (pick, count) in left.iter_mut().enumerate() {
         let image = disk.image(alloc, pick as u64)?;
-        let (entries, _tail) = replayed(alloc, image, Half::B, 1).expect(rt, "a replay");
+        let (entries, _tail) = replayed(alloc, image, Slot::B, 1).expect(rt, "a replay");
         *count = entries;
     }
     Ok((answer, left))
@@ -358,9 +359,9 @@ pub(crate) fn a_half_is_filled_and_stopped(rt: &impl Abort, alloc: Global) -> Re
         Err(JournalFault::Full { need: 14, left: 13 }),
         Err(JournalFault::Full { need: 14, left: 0 }),
     );
-    for (half, end) in [(Half::A, 1_056_768u64), (Half::B, 2_105_344)] {
+    for (slot, end) in [(Slot::A, 1_056_768u64), (Slot::B, 2_105_344)] {
         for (back, want, behind) in [(15, Ok(()), 1u64), (14, short, 14), (1, none, 1)] {
-            let found = appended_at_end(rt, alloc, half, back)?;
+            let found = appended_at_end(rt, alloc, slot, back)?;
             assert_eq!(rt; found, (want, end.wrapping_sub(behind)), "{back}");
         }
     }

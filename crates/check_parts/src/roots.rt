@@ -8,10 +8,10 @@ ghost use Rattle.alta_root.specs.Switches.{MayFollow};
 use crate::images::{number, put};
 use alta_codec::{Extent, Failed};
 use alta_disk::MemoryDisk;
+use alta_layout::{HEAD_BYTES, Slot};
 use alta_root::{
-    HEAD_BYTES, Root, RootFault, Roots, Slot, VERSION, a_root_counts_on, a_root_reads_back,
-    an_image_says_one_thing, first_gap, gaps_are_the_first_and_the_longest, greatest_gap,
-    read_roots, slots_are_two, switch,
+    Root, RootFault, Roots, VERSION, a_root_counts_on, a_root_reads_back, an_image_says_one_thing,
+    first_gap, gaps_are_the_first_and_the_longest, greatest_gap, read_roots, slots_are_two, switch,
 };
 use arrayvec::ArrayVec;
 use std::alloc::{AllocError, Global};

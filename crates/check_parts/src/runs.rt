@@ -1,9 +1,10 @@
 // Rows past two full runs, each public call of them once.
 ghost use Rattle.std.specs.Prelude.{◌≡◌, ◌+◌, ◌<◌, length, IfOk};
 
-use alta_codec::Text;
+use alta_codec::{Len, Text};
 use alta_content::{AllRows, DocRow, RowRuns};
 use std::alloc::{AllocError, Global};
+use std::default::MadeWith;
 use std::process::Abort;
 use std::test::Fail;
 
@@ -25,7 +26,7 @@ fn row(alloc: Global, place: u64) -> Result<DocRow, AllocError>
 fn filled(alloc: Global) -> Result<RowRuns, AllocError>
     ensures { IfOk result (λ rows. length rows ≡ 2100) }
 {
-    let mut rows = RowRuns::new(alloc);
+    let mut rows = RowRuns::made_with(alloc);
     for i in 0..2100u64 {
         let next = row(alloc, i + 1)?;
         rows.push(next)?;

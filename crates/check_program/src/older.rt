@@ -12,11 +12,11 @@ const SLOT_A: &[u8] =
 const SLOT_B: &[u8] =
     b"\xa5\x01\x01\x01\0\0\0\0\0\0\0\0\0\0\0\x03\0\0\0\0\0\0\0\x10\0\0\0\0\0\0\0\0\0\0\0\0\0\0\0\0\0\0\0\0\0  \0\0\0\0\0\0\0\0\xab";
 
-// Half A: an add, a delete and a closed gate, and what is left of a longer half.
+// Slot A: an add, a delete and a closed gate, and what is left of a longer half.
 const HALF_A: &[u8] =
     b"\xa5\0\0\0\x13\x01\x01d\0\0\0\0\0\0\0\x08new moon\xa5\0\0\0\t\x02\0\0\0\0\0\0\0\x02\0x\xa5\0\0\0\x17\x01\x01b\0\0\0\x04Blue\0\0\0\x08blue sea";
 
-// Half B, which the slot before used.
+// Slot B, which the slot before used.
 const HALF_B: &[u8] =
     b"\xa5\0\0\0\x19\x01\x01c\0\0\0\x03Old\0\0\0\x0ban old tale\xa5\0\0\0\t\x02\0\0\0\0\0\0\0\x01\0";
 

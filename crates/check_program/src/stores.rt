@@ -1,9 +1,8 @@
 // Disks that are opened, damaged, added to and stopped.
-ghost use Rattle.std.specs.Prelude.{◌≡◌, ◌≤◌, true, OnOk, IsTrue};
+ghost use Rattle.std.specs.Prelude.{OnOk, IsTrue};
 ghost use Rattle.alta_codec.specs.Name.{IsName};
 ghost use Rattle.alta_disk.specs.Disk.{DiskState};
-ghost use Rattle.alta_journal.specs.declared.places.TheConstants.{HEAD_BYTES};
-ghost use Rattle.alta_store.specs.Agreement.{Agrees, CanAdd, is_sound};
+ghost use Rattle.alta_store.specs.Agreement.{CanAdd};
 
 use alta_codec::name_ok;
 use alta_disk::{Disk, FuseDisk, MemoryDisk};
@@ -80,90 +79,6 @@ pub(crate) fn put(content: &mut [u8], at: usize, bytes: &[u8]) {
     }
 }
 
-// Adds a document, or nothing where it is refused.
-fn add_one<D: Disk>(
-    store: &mut Store,
-    disk: &mut D,
-    name: &str,
-) -> Result<Option<Numbers>, StoreFault>
-    requires name { IsName name.now }
-    requires sound { is_sound store.old ≡ true }
-    requires agrees { Agrees D.tells (D.state disk.old) store.old }
-    requires limit { HEAD_BYTES ≤ (D.state disk.old).limit }
-    ensures { OnOk result (CanAdd D.tells (D.state disk.new) store.new) }
-{
-    match store.add(disk, name, "Red Fox", "the quick red fox") {
-        Ok(number) => Ok(Some((0, number))),
-        Err(StoreFault::Taken) => Ok(None),
-        Err(StoreFault::Numbers) => Ok(None),
-        Err(fault) => Err(fault),
-    }
-}
-
-// Deletes a document, or nothing where it is refused.
-fn delete_one<D: Disk>(
-    store: &mut Store,
-    disk: &mut D,
-    name: &str,
-) -> Result<Option<Numbers>, StoreFault>
-    requires sound { is_sound store.old ≡ true }
-    requires agrees { Agrees D.tells (D.state disk.old) store.old }
-    requires limit { HEAD_BYTES ≤ (D.state disk.old).limit }
-    ensures { OnOk result (CanAdd D.tells (D.state disk.new) store.new) }
-{
-    match store.delete(disk, name) {
-        Ok(number) => Ok(Some((number, 0))),
-        Err(StoreFault::Missing) => Ok(None),
-        Err(fault) => Err(fault),
-    }
-}
-
-// Replaces a document, or nothing where it is refused.
-fn replace_one<D: Disk>(
-    store: &mut Store,
-    disk: &mut D,
-    name: &str,
-) -> Result<Option<Numbers>, StoreFault>
-    requires name { IsName name.now }
-    requires sound { is_sound store.old ≡ true }
-    requires agrees { Agrees D.tells (D.state disk.old) store.old }
-    requires limit { HEAD_BYTES ≤ (D.state disk.old).limit }
-    ensures { OnOk result (CanAdd D.tells (D.state disk.new) store.new) }
-{
-    match store.replace(disk, name, "", "blue") {
-        Ok(numbers) => Ok(Some(numbers)),
-        Err(StoreFault::Missing) => Ok(None),
-        Err(StoreFault::Numbers) => Ok(None),
-        Err(fault) => Err(fault),
-    }
-}
-
-// Flushes the journal.
-fn flush_all<D: Disk>(store: &mut Store, disk: &mut D) -> Result<Option<Numbers>, StoreFault>
-    requires sound { is_sound store.old ≡ true }
-    requires agrees { Agrees D.tells (D.state disk.old) store.old }
-    requires limit { HEAD_BYTES ≤ (D.state disk.old).limit }
-    ensures { OnOk result (CanAdd D.tells (D.state disk.new) store.new) }
-{
-    match store.flush(disk) {
-        Ok(()) => Ok(None),
-        Err(fault) => Err(fault),
-    }
-}
-
-// Merges all levels and the journal.
-fn merge_all<D: Disk>(store: &mut Store, disk: &mut D) -> Result<Option<Numbers>, StoreFault>
-    requires sound { is_sound store.old ≡ true }
-    requires agrees { Agrees D.tells (D.state disk.old) store.old }
-    requires limit { HEAD_BYTES ≤ (D.state disk.old).limit }
-    ensures { OnOk result (CanAdd D.tells (D.state disk.new) store.new) }
-{
-    match store.merge(disk) {
-        Ok(()) => Ok(None),
-        Err(fault) => Err(fault),
-    }
-}
-
 // How many documents and words there are, and the next number.
 type Counts = (u64, u64, u64);
 
@@ -199,6 +114,7 @@ fn answers<D: Disk>(
     Ok((numbers, store.counts()))
 }
 
+// Does this with the document of a name or with the levels, and answers the numbers, or nothing where there are none or it is refused.
 fn done<D: Disk>(
     store: &mut Store,
     disk: &mut D,
@@ -206,17 +122,35 @@ fn done<D: Disk>(
     name: &str,
 ) -> Result<Option<Numbers>, StoreFault>
     requires name { IsName name.now }
-    requires sound { is_sound store.old ≡ true }
-    requires agrees { Agrees D.tells (D.state disk.old) store.old }
-    requires limit { HEAD_BYTES ≤ (D.state disk.old).limit }
+    requires can { CanAdd D.tells (D.state disk.old) store.old }
     ensures { OnOk result (CanAdd D.tells (D.state disk.new) store.new) }
 {
     match act {
-        Act::Add => add_one(store, disk, name),
-        Act::Delete => delete_one(store, disk, name),
-        Act::Replace => replace_one(store, disk, name),
-        Act::Flush => flush_all(store, disk),
-        Act::Merge => merge_all(store, disk),
+        Act::Add => match store.add(disk, name, "Red Fox", "the quick red fox") {
+            Ok(number) => Ok(Some((0, number))),
+            Err(StoreFault::Taken) => Ok(None),
+            Err(StoreFault::Numbers) => Ok(None),
+            Err(fault) => Err(fault),
+        },
+        Act::Delete => match store.delete(disk, name) {
+            Ok(number) => Ok(Some((number, 0))),
+            Err(StoreFault::Missing) => Ok(None),
+            Err(fault) => Err(fault),
+        },
+        Act::Replace => match store.replace(disk, name, "", "blue") {
+            Ok(numbers) => Ok(Some(numbers)),
+            Err(StoreFault::Missing) => Ok(None),
+            Err(StoreFault::Numbers) => Ok(None),
+            Err(fault) => Err(fault),
+        },
+        Act::Flush => match store.flush(disk) {
+            Ok(()) => Ok(None),
+            Err(fault) => Err(fault),
+        },
+        Act::Merge => match store.merge(disk) {
+            Ok(()) => Ok(None),
+            Err(fault) => Err(fault),
+        },
     }
 }
 

@@ -1,5 +1,5 @@
 // What is read of a text, in words.
-use alta_codec::Text;
+use alta_codec::{Len, Text};
 use alta_compile::{Conjunction, compile, conjunction, explain};
 use alta_machine::{Cause, Cell, Cells, Document, MetaFault, Test, cells};
 use alta_model::{matches, read_line};

@@ -5,7 +5,7 @@ use crate::reading::{
 use crate::rows::{
     CELLS, CONJUNCTIONS, DOCUMENTS, FOLDED, LIMITS, LINES, MATCHES, PLANS, QUERIES, WORDS,
 };
-use alta_codec::{Bytes, Text};
+use alta_codec::{Bytes, Len, Text};
 use alta_machine::{Cell, Cells, Document, Documents, State, Test, Tests, kinds};
 use alta_model::read_line;
 use alta_query::{Atom, Query, Side, a_query_has_members, parse};
@@ -208,7 +208,7 @@ pub(crate) fn queries_of_no_text_have_plans(rt: &impl Abort, alloc: Global) -> R
 }
 
 pub(crate) fn cells_have_their_terms(rt: &impl Abort, alloc: Global) -> Result<(), Fail> {
-    let empty = Cell::empty();
+    let empty = Cell::default();
     let one = Cell::one(bytes_of(alloc, b"Wred")?);
     assert!(rt; empty.len() == 0 && one.len() == 1);
     assert!(rt; empty.get(0).is_none() && one.get(0).is_some() && one.get(1).is_none());

@@ -2,6 +2,7 @@
 ghost use Rattle.std.specs.Prelude.{◌≡◌, ◌+◌, ◌<◌, ◌≤◌, [], ◌++◌};
 ghost use Rattle.alta_codec.specs.Rising.{IsRising};
 
+use crate::moves::{after_next, after_seek};
 use alta_codec::{Steps, TOP};
 use alta_reader::many::{place_at, prev_at, seek_at};
 use alta_reader::{BackReader, Reader};
@@ -11,28 +12,6 @@ use std::marker::Brand;
 use std::process::Abort;
 use std::sync::ledger::{Blank, Ledger};
 use std::test::Fail;
-
-/// Where a reader stands after it went on to `to`, and the element before.
-fn after_seek<R: BackReader, L: Ledger>(reader: &mut R, to: u64, steps: &mut Steps<L>) -> (u64, u64)
-    requires { R.sound reader.old }
-    ensures { R.sound reader.new }
-{
-    if reader.loc() < to && to <= TOP {
-        reader.seek(to, steps);
-    }
-    (reader.loc(), reader.prev())
-}
-
-/// Where a reader stands after one move to the next element, and the element before.
-fn after_next<R: BackReader, L: Ledger>(reader: &mut R, steps: &mut Steps<L>) -> (u64, u64)
-    requires { R.sound reader.old }
-    ensures { R.sound reader.new }
-{
-    if reader.loc() < TOP {
-        reader.next(steps);
-    }
-    (reader.loc(), reader.prev())
-}
 
 /// A making and a seek of a plain reader: two steps.
 fn plain_row<L: Ledger>(list: &[u64], to: u64, steps: &mut Steps<L>) -> (u64, u64)

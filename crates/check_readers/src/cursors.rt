@@ -1,19 +1,20 @@
 // Open cursors over three documents, of which each is an answer.
-ghost use Rattle.std.specs.Prelude.{◌≡◌, ◌<◌, [], ◌∷◌, length, IfOk};
+ghost use Rattle.std.specs.Prelude.{◌≡◌, ◌<◌, [], ◌∷◌, map, length, IfOk};
 ghost use Rattle.alta_codec.specs.Rising.{IsRising};
 ghost use Rattle.alta_machine.specs.PlanOf.{plan_of};
 ghost use Rattle.alta_compile.specs.Space.{document_end};
 ghost use Rattle.alta_compile.specs.View.{tree};
-ghost use Rattle.alta_content.specs.Rows.{ends_of};
+ghost use Rattle.alta_content.specs.Rows.{end_of};
 ghost use Rattle.alta_search.specs.Lists.{test_in, test_lists, test_keys, IsCut, AreKeys};
 ghost use Rattle.alta_search.specs.Met.{MeetsTest};
 ghost use Rattle.alta_search.specs.Plans.{tests_of};
 ghost use Rattle.alta_machine.specs.Shape.{any, negated, none};
 ghost use Rattle.alta_query.specs.View.{shape};
 
-use alta_codec::{Bytes, Loc, Steps, Text};
+use crate::small_snapshots::{document, in_one_level};
+use alta_codec::{Bytes, Len, Loc, Steps};
 use alta_compile::{Plan, compile};
-use alta_content::{AllRows, DocRow, LevelRows};
+use alta_content::DocRow;
 use alta_machine::kinds::DOCUMENT_END;
 use alta_machine::{CURSORS, Test};
 use alta_query::Query;
@@ -21,7 +22,6 @@ use alta_search::{Cursor, Cursors, LevelList, Page, Snapshot, Stored, TermLists,
 use std::alloc::{AllocError, Global};
 use std::marker::Brand;
 use std::process::Abort;
-use std::rc::Rc;
 use std::sync::ledger::{Blank, Ledger};
 use std::test::Fail;
 
@@ -67,33 +67,15 @@ fn lists(alloc: Global) -> Result<TestLists, AllocError>
     Ok(TestLists { test, terms })
 }
 
-/// A row of a document of two cells.
-fn row(alloc: Global, number: u64, first: Loc, name: &str) -> Result<DocRow, AllocError>
-    ensures first { IfOk result (λ r. r.first ≡ first) }
-    ensures cells { IfOk result (λ r. r.cells ≡ 2) }
-{
-    Ok(DocRow {
-        number,
-        first,
-        cells: 2,
-        name: Text::of(alloc, name)?,
-    })
-}
-
 /// The rows of the documents.
-fn rows(alloc: Global) -> Result<AllRows, AllocError>
-    ensures { IfOk result (λ rows. IsRising (ends_of rows)) }
+fn documents(alloc: Global) -> Result<Vec<DocRow>, AllocError>
+    ensures { IfOk result (λ rows. IsRising (map end_of rows.items)) }
 {
     let mut rows = Vec::new(alloc);
-    rows.push(row(alloc, 1, 1, "a")?)?;
-    rows.push(row(alloc, 2, 3, "b")?)?;
-    rows.push(row(alloc, 3, 5, "c")?)?;
-    let Ok(level) = Rc::new(alloc, LevelRows::new(alloc, rows)?) else {
-        return Err(AllocError);
-    };
-    let mut levels = Vec::new(alloc);
-    levels.push(level)?;
-    AllRows::new(alloc, levels)
+    rows.push(document(alloc, 1, 1, 2, "a")?)?;
+    rows.push(document(alloc, 2, 3, 2, "b")?)?;
+    rows.push(document(alloc, 3, 5, 2, "c")?)?;
+    Ok(rows)
 }
 
 /// A cursor over the documents.
@@ -102,7 +84,8 @@ fn cursor(alloc: Global) -> Result<Cursor, AllocError> {
     tests.push(lists(alloc)?)?;
     let mut uses = Vec::new(alloc);
     uses.push(0)?;
-    let snapshot = Snapshot::new(tests, uses, rows(alloc)?, Vec::new(alloc));
+    let rows = in_one_level(alloc, documents(alloc)?)?;
+    let snapshot = Snapshot::new(tests, uses, rows, Vec::new(alloc));
     let query = query(alloc)?;
     let plan = plan(alloc, &query)?;
     Cursor::new(alloc, plan, &query, snapshot)

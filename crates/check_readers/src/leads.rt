@@ -2,45 +2,16 @@
 ghost use Rattle.std.specs.Prelude.{◌≡◌, ◌<◌, [], ◌∷◌, length, IfOk, All};
 ghost use Rattle.alta_codec.specs.Rising.{IsRising, first_from};
 
+use crate::words::{ENDS, locations, reader};
 use alta_codec::{Steps, TOP};
 use alta_compound::EndReader;
 use alta_lead::{LeadReader, tally_any_of, tally_followed};
 use alta_reader::{BackReader, Reader};
-use alta_words::PlainReader;
 use std::alloc::{AllocError, Global};
 use std::marker::Brand;
 use std::process::Abort;
 use std::sync::ledger::{Blank, Ledger};
 use std::test::Fail;
-
-/// The ends of four documents.
-fn ends() -> &'static [u64]
-    ensures { IsRising result.now }
-{
-    &[4, 8, 12, 16]
-}
-
-/// One of six words: the first stands once, the second in each document, the fourth at ends alone.
-fn word(k: u8) -> &'static [u64]
-    ensures { IsRising result.now }
-{
-    match k {
-        0 => &[6],
-        1 => &[2, 5, 9, 13],
-        2 => &[3, 11],
-        3 => &[8, 16],
-        4 => &[],
-        _ => &[1, 2, 3, 5, 6, 7, 13],
-    }
-}
-
-/// The reader of a word.
-fn reader<L: Ledger>(k: u8, steps: &mut Steps<L>) -> PlainReader<'static>
-    ensures sound { ⟦<PlainReader<'static> as Reader>⟧.sound result }
-    ensures unmoved { ⟦<PlainReader<'static> as Reader>⟧.location result ≡ first_from (⟦<PlainReader<'static> as Reader>⟧.list result) 0 }
-{
-    PlainReader::new(word(k), steps)
-}
 
 /// Two readers.
 fn pair<R: BackReader + Drop>(alloc: Global, first: R, second: R) -> Result<Vec<R>, AllocError>
@@ -113,7 +84,7 @@ fn row<L: Ledger>(
 {
     let readers = pair(alloc, reader(words.0, steps), reader(words.1, steps))?;
     let negated = single(alloc, reader(without, steps))?;
-    let documents = PlainReader::new(ends(), steps);
+    let documents = reader(ENDS, steps);
     walk(alloc, documents, readers, negated, lead, to, steps)
 }
 
@@ -147,15 +118,15 @@ fn uncounted(
 
 pub(crate) fn worked_rows(rt: &impl Abort, alloc: Global) -> Result<(), Fail> {
     let rows: [((u8, u8), u8, u64, &[u64]); 9] = [
-        ((0, 1), 4, 1, &[8]),
-        ((1, 1), 4, 1, &[4, 8, 12, 16]),
-        ((1, 2), 4, 1, &[4, 12]),
-        ((2, 3), 4, 1, &[]),
-        ((3, 1), 4, 1, &[8, 16]),
-        ((1, 1), 3, 1, &[4, 12]),
-        ((1, 1), 2, 5, &[8, 16]),
-        ((1, 5), 4, 9, &[16]),
-        ((4, 1), 4, 1, &[]),
+        ((7, 8), 0, 1, &[8]),
+        ((8, 8), 0, 1, &[4, 8, 12, 16]),
+        ((8, 9), 0, 1, &[4, 12]),
+        ((9, 10), 0, 1, &[]),
+        ((10, 8), 0, 1, &[8, 16]),
+        ((8, 8), 10, 1, &[4, 12]),
+        ((8, 8), 9, 5, &[8, 16]),
+        ((8, 11), 0, 9, &[16]),
+        ((0, 8), 0, 1, &[]),
     ];
     for (words, without, to, want) in rows {
         let (first, second) = uncounted(alloc, words, without, to)?;
@@ -182,15 +153,15 @@ fn counts<L: Ledger>(
         reader(words.0, &mut steps),
         reader(words.1, &mut steps),
     )?;
-    let mut documents = EndReader::new(PlainReader::new(ends(), &mut steps));
-    let either = tally_any_of(&mut documents, &mut readers, word(deleted), &mut steps);
+    let mut documents = EndReader::new(reader(ENDS, &mut steps));
+    let either = tally_any_of(&mut documents, &mut readers, locations(deleted), &mut steps);
     let mut readers = pair(
         alloc,
         reader(words.0, &mut steps),
         reader(words.1, &mut steps),
     )?;
-    let mut documents = EndReader::new(PlainReader::new(ends(), &mut steps));
-    let followed = tally_followed(&mut documents, &mut readers, word(deleted), &mut steps);
+    let mut documents = EndReader::new(reader(ENDS, &mut steps));
+    let followed = tally_followed(&mut documents, &mut readers, locations(deleted), &mut steps);
     Ok((either, followed))
 }
 
@@ -201,16 +172,16 @@ fn uncounted_counts(alloc: Global, words: (u8, u8), deleted: u8) -> Result<(u64,
 
 pub(crate) fn worked_counts(rt: &impl Abort, alloc: Global) -> Result<(), Fail> {
     let rows: [((u8, u8), u8, u64, u64); 10] = [
-        ((0, 1), 4, 4, 0),
-        ((0, 3), 4, 2, 1),
-        ((0, 3), 3, 0, 0),
-        ((0, 2), 4, 3, 0),
-        ((1, 2), 4, 4, 2),
-        ((2, 1), 3, 2, 0),
-        ((1, 3), 4, 4, 2),
-        ((3, 3), 4, 2, 0),
-        ((5, 5), 3, 1, 1),
-        ((4, 4), 4, 0, 0),
+        ((7, 8), 0, 4, 0),
+        ((7, 10), 0, 2, 1),
+        ((7, 10), 10, 0, 0),
+        ((7, 9), 0, 3, 0),
+        ((8, 9), 0, 4, 2),
+        ((9, 8), 10, 2, 0),
+        ((8, 10), 0, 4, 2),
+        ((10, 10), 0, 2, 0),
+        ((11, 11), 10, 1, 1),
+        ((0, 0), 0, 0, 0),
     ];
     for (words, deleted, either, followed) in rows {
         let (found, found_followed) = uncounted_counts(alloc, words, deleted)?;

@@ -17,6 +17,8 @@ mod figures;
 #[cfg(test)]
 mod leads;
 #[cfg(test)]
+mod moves;
+#[cfg(test)]
 mod plain_search;
 #[cfg(test)]
 mod ranks;
@@ -28,3 +30,5 @@ mod small_snapshots;
 mod solutions;
 #[cfg(test)]
 mod trees;
+#[cfg(test)]
+mod words;

@@ -3,7 +3,7 @@ ghost use Rattle.std.specs.Prelude.{◌≡◌, ◌<◌};
 
 use crate::figures::{one_without_another, rare_and_common};
 use crate::small_snapshots::{deleted, many, snapshot};
-use alta_codec::{Steps, Text};
+use alta_codec::{Len, Steps, Text};
 use alta_compile::compile;
 use alta_machine::{Cells, Document, cells};
 use alta_model::matches;

@@ -248,7 +248,7 @@ fn put_term(alloc: Global, terms: &mut Vec<TermLists>, test: &Test, k: u8) -> Re
 }
 
 /// A row of a document.
-fn document(
+pub(crate) fn document(
     alloc: Global,
     number: u64,
     first: Loc,
@@ -335,17 +335,25 @@ fn documents(alloc: Global) -> Result<AllRows, AllocError>
     AllRows::new(alloc, levels)
 }
 
-/// The rows of the thousand and one documents, in one level.
-fn many_documents(alloc: Global) -> Result<AllRows, AllocError>
+/// These rows, in one level.
+pub(crate) fn in_one_level(alloc: Global, rows: Vec<DocRow>) -> Result<AllRows, AllocError>
+    requires { IsRising (map end_of rows.items) }
     ensures { IfOk result (λ rows. IsRising (ends_of rows)) }
+{
+    let mut levels = Vec::new(alloc);
+    levels.push(level_of(alloc, rows)?)?;
+    AllRows::new(alloc, levels)
+}
+
+/// The rows of the thousand and one documents.
+fn many_documents(alloc: Global) -> Result<Vec<DocRow>, AllocError>
+    ensures { IfOk result (λ rows. IsRising (map end_of rows.items)) }
 {
     let mut rows = Vec::new(alloc);
     for k in 0..1001u64 {
         rows.push(document(alloc, k + 1, 5 * k + 1, 5, "x")?)?;
     }
-    let mut levels = Vec::new(alloc);
-    levels.push(level_of(alloc, rows)?)?;
-    AllRows::new(alloc, levels)
+    Ok(rows)
 }
 
 /// The snapshot of the thousand and one documents for a plan.
@@ -354,7 +362,7 @@ pub(crate) fn many(alloc: Global, plan: &Plan) -> Result<Snapshot, AllocError>
 {
     let (tests, uses) = loading_order(alloc, plan)?.into_parts();
     let tests = tested(alloc, tests.into_vec(), true)?;
-    let rows = many_documents(alloc)?;
+    let rows = in_one_level(alloc, many_documents(alloc)?)?;
     Ok(Snapshot::new(tests, uses, rows, Vec::new(alloc)))
 }
 

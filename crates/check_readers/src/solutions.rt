@@ -3,6 +3,7 @@ ghost use Rattle.std.specs.Prelude.{◌≡◌, ◌<◌, All};
 ghost use Rattle.alta_codec.specs.Rising.{IsRising};
 
 use crate::counted::Counted;
+use crate::moves::{after_next, after_seek};
 use crate::plain_search::least;
 use alta_codec::{Form, Steps, TOP};
 use alta_compound::{AnyReader, EndReader};
@@ -15,28 +16,6 @@ use std::marker::Brand;
 use std::process::Abort;
 use std::sync::ledger::{Blank, Ledger};
 use std::test::Fail;
-
-/// Where a reader stands after a seek, and the element before.
-fn after_seek<R: BackReader, L: Ledger>(reader: &mut R, to: u64, steps: &mut Steps<L>) -> (u64, u64)
-    requires { R.sound reader.old }
-    ensures { R.sound reader.new }
-{
-    if reader.loc() < to && to <= TOP {
-        reader.seek(to, steps);
-    }
-    (reader.loc(), reader.prev())
-}
-
-/// Where a reader stands after one move, and the element before.
-fn after_next<R: BackReader, L: Ledger>(reader: &mut R, steps: &mut Steps<L>) -> (u64, u64)
-    requires { R.sound reader.old }
-    ensures { R.sound reader.new }
-{
-    if reader.loc() < TOP {
-        reader.next(steps);
-    }
-    (reader.loc(), reader.prev())
-}
 
 /// The union of the two lists after a seek to 4, and how many moves of its readers that took.
 fn union_row<L: Ledger>(
@@ -156,7 +135,10 @@ fn back_of<R: BackReader + Drop>(readers: Vec<R>, system: System) -> (usize, usi
 {
     match Solver::new(readers, system) {
         Ok(_) => (9, 9),
-        Err((readers, system)) => (readers.len(), system.bounds().len()),
+        Err((readers, system)) => {
+            let bounds: &[Bound] = &system;
+            (readers.len(), bounds.len())
+        }
     }
 }
 

@@ -5,6 +5,7 @@ ghost use Rattle.alta_docread.specs.Solutions.{IsUpper, IsLower};
 ghost use Rattle.alta_docread.specs.Tree.{IsUnmoved};
 ghost use Rattle.alta_docread.specs.View.{tree_of};
 
+use crate::words::{ENDS, locations, reader};
 use alta_codec::{Form, Steps, TOP};
 use alta_compound::EndReader;
 use alta_docread::{DocReader, Found, Node, Without};
@@ -134,28 +135,6 @@ fn first_at<R: BackReader + Drop, L: Ledger>(node: Node<R>, to: u64, steps: &mut
     reader.loc()
 }
 
-/// The ends of four documents.
-fn ends() -> &'static [u64]
-    ensures { IsRising result.now }
-{
-    &[4, 8, 12, 16]
-}
-
-/// One of seven words.
-fn word(k: u8) -> &'static [u64]
-    ensures { IsRising result.now }
-{
-    match k {
-        0 => &[],
-        1 => &[1],
-        2 => &[6, 7],
-        3 => &[2, 3, 13],
-        4 => &[5, 9, 15],
-        5 => &[1, 5, 9],
-        _ => &[3, 7, 11, 14, 15],
-    }
-}
-
 /// Whether the word stands in the document of this end.
 fn stands(list: &[u64], end: u64) -> bool {
     list.iter().any(|x| *x < end && x.saturating_add(4) > end)
@@ -193,8 +172,8 @@ fn leaf<L: Ledger>(
     requires lower { IsLower 1 bounds.1 }
     ensures { IfOk result (λ o. IfSome o (λ n. IsUnmoved (tree_of ⟦<PlainReader<'static> as Reader>⟧.list ⟦<PlainReader<'static> as Reader>⟧.all ⟦<PlainReader<'static> as Reader>⟧.location ⟦<PlainReader<'static> as Reader>⟧.left n))) }
 {
-    let documents = PlainReader::new(ends(), steps);
-    let word = PlainReader::new(word(k), steps);
+    let documents = reader(ENDS, steps);
+    let word = reader(k, steps);
     found(alloc, documents, word, bounds.0, bounds.1)
 }
 
@@ -224,10 +203,10 @@ fn tree<L: Ledger>(
         Shape::Either => Ok(Some(either(alloc, first, second)?)),
         Shape::Neither => {
             let some = either(alloc, first, second)?;
-            Ok(Some(except(alloc, PlainReader::new(ends(), steps), some)?))
+            Ok(Some(except(alloc, reader(ENDS, steps), some)?))
         }
         Shape::FirstAlone => {
-            let others = except(alloc, PlainReader::new(ends(), steps), second)?;
+            let others = except(alloc, reader(ENDS, steps), second)?;
             Ok(Some(both(alloc, first, others)?))
         }
     }
@@ -270,11 +249,11 @@ fn exactly_one<L: Ledger>(
 /// The ends of the documents that are wanted.
 fn wanted(alloc: Global, shape: Shape, words: (u8, u8)) -> Result<Vec<u64>, AllocError> {
     let mut list = Vec::new(alloc);
-    for end in ends() {
+    for end in locations(ENDS) {
         if is_wanted(
             shape,
-            stands(word(words.0), *end),
-            stands(word(words.1), *end),
+            stands(locations(words.0), *end),
+            stands(locations(words.1), *end),
         ) {
             list.push(*end)?;
         }
@@ -285,8 +264,8 @@ fn wanted(alloc: Global, shape: Shape, words: (u8, u8)) -> Result<Vec<u64>, Allo
 /// The ends of the documents that have exactly one of the words.
 fn wanted_once(alloc: Global, words: (u8, u8)) -> Result<Vec<u64>, AllocError> {
     let mut list = Vec::new(alloc);
-    for end in ends() {
-        if stands(word(words.0), *end) != stands(word(words.1), *end) {
+    for end in locations(ENDS) {
+        if stands(locations(words.0), *end) != stands(locations(words.1), *end) {
             list.push(*end)?;
         }
     }
@@ -469,14 +448,6 @@ fn led<R: BackReader + Drop, L: Ledger>(
     Ok(places)
 }
 
-/// A reader of one of the words.
-fn reader<L: Ledger>(k: u8, steps: &mut Steps<L>) -> PlainReader<'static>
-    ensures sound { ⟦<PlainReader<'static> as Reader>⟧.sound result }
-    ensures unmoved { ⟦<PlainReader<'static> as Reader>⟧.location result ≡ first_from (⟦<PlainReader<'static> as Reader>⟧.list result) 0 }
-{
-    PlainReader::new(word(k), steps)
-}
-
 /// The documents that have both words.
 fn led_by_second<L: Ledger>(
     alloc: Global,
@@ -484,7 +455,7 @@ fn led_by_second<L: Ledger>(
     steps: &mut Steps<L>,
 ) -> Result<Vec<u64>, AllocError> {
     let readers = listed(alloc, reader(words.0, steps), Some(reader(words.1, steps)))?;
-    let documents = PlainReader::new(ends(), steps);
+    let documents = reader(ENDS, steps);
     led(alloc, documents, readers, Vec::new(alloc), steps)
 }
 
@@ -496,7 +467,7 @@ fn led_without_second<L: Ledger>(
 ) -> Result<Vec<u64>, AllocError> {
     let readers = listed(alloc, reader(words.0, steps), None)?;
     let negated = listed(alloc, reader(words.1, steps), None)?;
-    let documents = PlainReader::new(ends(), steps);
+    let documents = reader(ENDS, steps);
     led(alloc, documents, readers, negated, steps)
 }
 

@@ -5,14 +5,18 @@ use Rattle.alta_meaning.proofs.OrderLaws.{is_state}
 use Rattle.alta_meaning.proofs.StateLaws.{named_free}
 use Rattle.alta_machine.specs.Changes.{has_named, without}
 use Rattle.alta_content.specs.Rows.{ends_among}
+use Rattle.alta_journal.specs.declared.entry.Entry.TheVariants.{Replace}
+use Rattle.alta_catalog.proofs.EntryLaws.{applied, not_applied}
 use Rattle.alta_catalog.proofs.FollowLaws.{follows_replaced}
 use Rattle.alta_catalog.proofs.replaying.replace.Goals as goal
 
-pub returns-then-not-has_room-clause-refused : goal.returns-then-not-has_room-clause-refused
-returns-then-not-has_room-clause-refused c = λ s knows e both. false≢true ((c.if-not-has_room.ensures s knows).1 both.1)
+pub returns-then-not-has_room : goal.returns-then-not-has_room
+returns-then-not-has_room c =
+    not_applied (Replace c.args.number c.args.name.now c.args.title.now c.args.body.now) c.args.catalog.now (λ s knows both. false≢true ((c.if-not-has_room.ensures s knows).1 both.1))
 
-pub returns-then-not-has_name_with-clause-refused : goal.returns-then-not-has_name_with-clause-refused
-returns-then-not-has_name_with-clause-refused c = λ s knows e both. false≢true (c.if-not-has_name_with.ensures s knows ∙ both.0)
+pub returns-then-not-has_name_with : goal.returns-then-not-has_name_with
+returns-then-not-has_name_with c =
+    not_applied (Replace c.args.number c.args.name.now c.args.title.now c.args.body.now) c.args.catalog.now (λ s knows both. false≢true (c.if-not-has_name_with.ensures s knows ∙ both.0))
 
 pub remove-requires : goal.remove-requires
 remove-requires c =
@@ -42,19 +46,18 @@ add-requires-clause-knows c =
 pub add-requires-clause-short : goal.add-requires-clause-short
 add-requires-clause-short c = omega (arith, c.requires.sound.4)
 
-pub returns-clause-allowed : goal.returns-clause-allowed
-returns-clause-allowed c = λ s knows e.
+-- what was gone is gone still, since an add changes nothing of that
+pub returns : goal.returns
+returns c =
+    applied (Replace c.args.number c.args.name.now c.args.title.now c.args.body.now) c.args.catalog.now c.add.new.self
+    (λ s knows.
     let named : has_named c.args.name.now c.args.number s ≡ true = sym (c.if-not-has_name_with.ensures s knows) in
     let left : s.next < 4294967296 = (c.if-not-has_room.ensures s knows).0 refl in
     let then = c.in_ok-remove.ensures.removed s knows in
     let more = c.in_ok-add.ensures.added (without c.args.number s) then.0 in
-    ((named, left), (more.0, more.1 ∙ then.1))
-
-pub returns-clause-follows : goal.returns-clause-follows
-returns-clause-follows c = λ root entries follows e.
+    ((named, left), (more.0, more.1 ∙ then.1)))
+    (λ row gone. subst (λ (ends : List ℕ). ends_among ends row ≡ true) (sym c.in_ok-add.ensures.gone) (c.in_ok-remove.ensures.still row gone))
+    (c.in_ok-add.ensures.levels ∙ c.in_ok-remove.ensures.levels)
+    (λ root entries follows.
     follows_replaced _ root entries c.args.number c.args.name.now c.args.title.now c.args.body.now
-    (c.in_ok-add.ensures.follows root _ (c.in_ok-remove.ensures.follows root entries follows))
-
--- what was gone is gone still, and an add changes nothing of that
-pub returns-clause-still : goal.returns-clause-still
-returns-clause-still c = λ row gone. subst (λ (ends : List ℕ). ends_among ends row ≡ true) (sym c.in_ok-add.ensures.gone) (c.in_ok-remove.ensures.still row gone)
+    (c.in_ok-add.ensures.follows root _ (c.in_ok-remove.ensures.follows root entries follows)))

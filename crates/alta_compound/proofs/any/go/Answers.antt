@@ -16,8 +16,8 @@ same_union g c =
     let f = g.R.Reader.list in let old = c.args.readers.now in let new = c.seek_before-before.new.readers in
     union_of-permutation (map f old) (map f new)
     (union_of-rises f old (λ k d l. g.met.R.Reader.rises (get_or old k d) (c.requires.sound k d l)))
-    (union_of-rises f new (λ k d l. g.met.R.Reader.rises (get_or new k d) (c.seek_before-before.ensures.sound k d l)))
-    (moved_map f g.R.Reader.all g.R.Reader.location c.args.to old new c.seek_before-before.ensures.moved f (λ a b t. t.same_list))
+    (union_of-rises f new (λ k d l. g.met.R.Reader.rises (get_or new k d) (c.seek_before-before.ensures.moves.sound k d l)))
+    (moved_map f g.R.Reader.all g.R.Reader.location c.args.to old new c.seek_before-before.ensures.moves.moved f (λ a b t. t.same_list))
 
 after : (g : Over) (c : After-least_place g)
     → IsInStep g.R.Reader.list g.R.Reader.location c.seek_before-before.new.readers c.least_place.result
@@ -25,7 +25,7 @@ after : (g : Over) (c : After-least_place g)
 after g c =
     let f = g.R.Reader.list in let h = g.R.Reader.location in let old = c.args.readers.now in let new = c.seek_before-before.new.readers in
     in_step_after f h new c.args.to c.least_place.result c.requires.top
-    (moved_first f g.R.Reader.all h c.args.to old new c.seek_before-before.ensures.moved (in_step_first f h old c.args.at c.args.to c.requires.in_step c.requires.above))
+    (moved_first f g.R.Reader.all h c.args.to old new c.seek_before-before.ensures.moves.moved (in_step_first f h old c.args.at c.args.to c.requires.in_step c.requires.above))
     c.least_place.ensures.least
 
 pub returns-clause-list : goal.returns-clause-list
@@ -35,7 +35,7 @@ pub returns-clause-all : goal.returns-clause-all
 returns-clause-all g c =
     let a = g.R.Reader.all in let old = c.args.readers.now in let new = c.seek_before-before.new.readers in
     gathered-permutation (map a old) (map a new)
-    (moved_map g.R.Reader.list a g.R.Reader.location c.args.to old new c.seek_before-before.ensures.moved a (λ x y t. t.same_all))
+    (moved_map g.R.Reader.list a g.R.Reader.location c.args.to old new c.seek_before-before.ensures.moves.moved a (λ x y t. t.same_all))
 
 pub returns-clause-place : goal.returns-clause-place
 returns-clause-place g c =

@@ -4,7 +4,7 @@ use Rattle.std.proofs.lemmas.List.{get_or-map, get_or_default, length-map}
 use Rattle.alta_codec.specs.Rising.{pred_of}
 use Rattle.alta_codec.specs.declared.location.TheConstants.{TOP}
 use Rattle.alta_codec.proofs.Places.{pred_of-below}
-use Rattle.alta_compound.specs.Union.{union_of}
+use Rattle.alta_compound.specs.Union.{union_of, least_of}
 use Rattle.alta_compound.proofs.Moving.{moving_in_step, moving_more, moving_done, moving_last, first_element, first_before, all_from_least, max_cases}
 use Rattle.alta_compound.proofs.any.seek_before.Goals as goal
 
@@ -39,23 +39,29 @@ moves-preserved g c =
     (λ e. subst (λ v. Contains (union_of (map f old)) v ⊎ (v ≡ 0)) (sym e)
     (first_element f a h to old rs c.moves.last inv.moving some found c.move_first.ensures.last)) m.2 in
     record {
-      sound = c.move_first.ensures.sound;
+      sound = c.move_first.ensures.moves.sound;
       heap = c.move_first.ensures.heap;
       moving = moving_more f a h to old rs new c.moves.last next c.requires.top inv.moving some
-          (λ d. omega (arith, root, get_or-map h rs 0 d 0 some)) c.move_first.ensures.moved m.0
+          (λ d. omega (arith, root, get_or-map h rs 0 d 0 some)) c.move_first.ensures.moves.moved m.0
           (λ d. omega (arith, m.1, c.move_first.ensures.last, ap (λ l. pred_of l to) (get_or-map f rs 0 d [] some)))
           element (⊎_elim (λ e. omega (arith, e, inv.moving.short)) (λ e. omega (arith, e, below)) m.2);
       low = omega (arith, inv.low, m.0);
-      falls = inr (⊎_elim (λ e. omega (arith, c.move_first.ensures.falls, ap (λ l. sum_by g.R.Reader.left l) e))
-          (λ l. omega (arith, c.move_first.ensures.falls, l)) inv.falls);
-      steps = omega (arith, c.move_first.ensures.steps, inv.steps);
+      falls = inr (⊎_elim (λ e. omega (arith, c.move_first.ensures.moves.falls, ap (λ l. sum_by g.R.Reader.left l) e))
+          (λ l. omega (arith, c.move_first.ensures.moves.falls, l)) inv.falls);
+      steps = omega (arith, c.move_first.ensures.moves.steps, inv.steps);
       cost = omega (arith, c.move_first.ensures.cost, inv.cost);
     }
 
-pub returns-clause-moved : goal.returns-clause-moved
-returns-clause-moved g c =
-    moving_done g.R.Reader.list g.R.Reader.all g.R.Reader.location c.args.to c.args.readers.now c.moves.readers c.moves.last c.requires.top
-    c.moves.invariant.moving (all_from_least g.R.Reader.location c.moves.readers c.args.to (omega arith))
+pub returns-clause-moves : goal.returns-clause-moves
+returns-clause-moves g c =
+    let h = g.R.Reader.location in let inv = c.moves.invariant in
+    record {
+      sound = inv.sound;
+      moved = moving_done g.R.Reader.list g.R.Reader.all h c.args.to c.args.readers.now c.moves.readers c.moves.last c.requires.top
+          inv.moving (all_from_least h c.moves.readers c.args.to (omega arith));
+      falls = ⊎_elim (λ e. absurd (omega (arith, c.requires.in_step.least, c.requires.above, ap (λ rs. least_of (map h rs)) e))) (λ l. l) inv.falls;
+      steps = inv.steps;
+    }
 
 pub returns-clause-last : goal.returns-clause-last
 returns-clause-last g c =

@@ -9,8 +9,8 @@ ranges_from-run-requires-clause-passed c =
     passed_each c.args.runs.now.ends.items c.as_slice.result.now c.args.from c.args.read.now.last c.requires.passed
     (subst (λ (l : List ℕ). IsRising l) (sym c.as_slice.ensures.value) c.in-Ok.ensures.rising) (omega (arith, c.in-Ok.ensures.above, ap (λ l. get_or l 0 0) c.as_slice.ensures.value))
 
-pub returns-in-Ok-clause-met : goal.returns-in-Ok-clause-met
-returns-in-Ok-clause-met c =
+pub returns-in-Ok : goal.returns-in-Ok
+returns-in-Ok c =
     let stream = c.args.stream.now in
     let read = c.args.read.now in
     let runs = c.args.runs.now in
@@ -20,9 +20,12 @@ returns-in-Ok-clause-met c =
     let size = ap length c.as_slice.ensures.value ∙ c.in-Ok.ensures.counted in
     let block = block_at stream read.at read.last span.count in
     record {
-      read = c.in-Ok.ensures.read;
-      within = met_within runs.firsts.items runs.ends.items out block filled c.ranges_from-run.result c.ranges_from-run.ensures;
-      passed = met_passed runs.firsts.items runs.ends.items out block filled c.ranges_from-run.result span.last (omega (arith, size, c.in-Ok.ensures.read.some))
-          (block_end stream out read.at read.last span.first span.last span.count span.next c.in-Ok.ensures.read filled size) c.ranges_from-run.ensures;
-      held = λ rises. met_held runs.firsts.items runs.ends.items out block filled c.ranges_from-run.result c.ranges_from-run.ensures;
+      read = record {
+        read = c.in-Ok.ensures.reads.read;
+        within = met_within runs.firsts.items runs.ends.items out block filled c.ranges_from-run.result c.ranges_from-run.ensures;
+        passed = met_passed runs.firsts.items runs.ends.items out block filled c.ranges_from-run.result span.last (omega (arith, size, c.in-Ok.ensures.reads.read.some))
+            (block_end stream out read.at read.last span.first span.last span.count span.next c.in-Ok.ensures.reads.read filled size) c.ranges_from-run.ensures;
+        held = λ rises. met_held runs.firsts.items runs.ends.items out block filled c.ranges_from-run.result c.ranges_from-run.ensures;
+      };
+      fault = tt;
     }

@@ -10,12 +10,12 @@ pub returns-clause-only : goal.returns-clause-only
 returns-clause-only c =
     let documents = c.args.documents.now in
     let s = stored_of c.args.list.now in
-    only_of {X = Bounds} (λ x. decoded_list s.stream) (IsListOf documents s) (IsListFault documents s) c.tested.result c.tested.ensures.whole c.tested.ensures.first
+    only_of {X = Bounds} (λ x. decoded_list s.stream) (IsListOf documents s) (IsListFault documents s) c.tested.result c.tested.ensures.reads.found c.tested.ensures.reads.first
     (list_once documents s) (λ x p. list_or_fault documents s x p (omega (arith, c.requires.stream)))
 
 pub returns-clause-broken : goal.returns-clause-broken
 returns-clause-broken c =
     let documents = c.args.documents.now in
     let s = stored_of c.args.list.now in
-    broken_of {X = Bounds} (λ x. decoded_list s.stream) (IsListOf documents s) (IsListFault documents s) c.tested.result c.tested.ensures.whole c.tested.ensures.first
+    broken_of {X = Bounds} (λ x. decoded_list s.stream) (IsListOf documents s) (IsListFault documents s) c.tested.result c.tested.ensures.reads.found c.tested.ensures.reads.first
     (list_fault_once documents s) (λ x p. list_or_fault documents s x p (omega (arith, c.requires.stream)))

@@ -20,7 +20,7 @@ returns-in-Err-clause-first c =
     let reads = subst (λ (x : List TermRow). Progress documents terms c.args.streams.now c.args.place lists x rest at) (next_row terms i (omega arith)) c.loop-row.invariant in
     fault_goes Unit (List TermList) c.in-Err.fault (IsListFault documents (stored_of c.list_at.result.0)) (IsFaultInLists documents terms c.args.streams.now c.args.place)
     (λ p f. faulty documents terms c.args.streams.now c.args.place lists (row_at terms i) (drop (i + 1) terms) rest at reads p (subst (λ (s : Stored). IsListFault documents s p) c.list_at.ensures.list f))
-    c.in-Err.ensures.first
+    c.in-Err.ensures.reads.first
 
 pub loop-row-preserved : goal.loop-row-preserved
 loop-row-preserved c =
@@ -36,7 +36,7 @@ loop-row-preserved c =
     let room = fits documents terms c.args.streams.now c.args.place lists (row_at terms i) (drop (i + 1) terms) rest at reads in
     goes_on documents terms c.args.streams.now c.args.place lists (row_at terms i) (drop (i + 1) terms) rest at reads
     (record { term = c.list_at.result.0.term.now; locations = locations }) c.put_list.new.lists behind _ (ap (λ (s : Stored). s.term) c.list_at.ensures.list)
-    (subst (λ (s : Stored). IsListOf documents s locations) c.list_at.ensures.list c.in-Ok.ensures.found) c.in-Ok.ensures.put c.list_at.ensures.behind
+    (subst (λ (s : Stored). IsListOf documents s locations) c.list_at.ensures.list c.in-Ok.ensures.reads.found) c.in-Ok.ensures.put c.list_at.ensures.behind
     (omega (arith, room, ap length c.list_at.ensures.behind, length-drop (data_of (row_at terms i)) rest))
 
 pub returns-clause-found : goal.returns-clause-found

@@ -24,15 +24,20 @@ whole-preserved c =
     let span = c.in-Ok.span in
     record {
       read = c.with-read.ensures.read;
-      ends = block_ends c.args.stream.now c.as_slice.result.now read.at read.last span.first span.last span.count span.next c.in-Ok.ensures.read (c.as_slice.ensures.value ∙ c.in-Ok.ensures.filled)
+      ends = block_ends c.args.stream.now c.as_slice.result.now read.at read.last span.first span.last span.count span.next c.in-Ok.ensures.reads.read (c.as_slice.ensures.value ∙ c.in-Ok.ensures.filled)
           (ap length c.as_slice.ensures.value ∙ c.in-Ok.ensures.counted) (decoded_list c.args.stream.now) read.count w.list w.counted
           c.args.documents.now c.whole.row c.ends_after-row.result c.with-read.result.count c.with-read.ensures.count c.whole.invariant.ends c.ends_after-row.ensures.none c.ends_after-row.ensures.ends;
     }
 
-pub returns-in-Ok-end-clause-fits : goal.returns-in-Ok-end-clause-fits
-returns-in-Ok-end-clause-fits c =
+pub returns-in-Ok-end : goal.returns-in-Ok-end
+returns-in-Ok-end c =
     let s = c.whole.read in
     let table = c.args.table.now in
-    ends_fit c.args.documents.now (decoded_list c.args.stream.now) s.count c.are_all_ends.result c.requires.documents
-    (all_read c.args.stream.now table.bytes table.count s.at s.last s.first s.count s.blocks s.same c.whole.invariant.read (omega (arith, c.whole-test.false)))
-    c.whole.row c.whole.invariant.ends c.are_all_ends.ensures
+    record {
+      posting = c.in-Ok-end.ensures.posting;
+      bounds = c.in-Ok-end.ensures.bounds;
+      fits = ends_fit c.args.documents.now (decoded_list c.args.stream.now) s.count c.are_all_ends.result c.requires.documents
+          (all_read c.args.stream.now table.bytes table.count s.at s.last s.first s.count s.blocks s.same c.whole.invariant.read (omega (arith, c.whole-test.false)))
+          c.whole.row c.whole.invariant.ends c.are_all_ends.ensures;
+      fault = tt;
+    }

@@ -21,7 +21,7 @@ pub next_block-requires-clause-passed : goal.next_block-requires-clause-passed
 next_block-requires-clause-passed c = c.whole.invariant.passed
 
 pub with-read-requires-clause-block : goal.with-read-requires-clause-block
-with-read-requires-clause-block c = c.in-Ok.ensures.met.read
+with-read-requires-clause-block c = c.in-Ok.ensures.read.read
 
 pub whole-preserved : goal.whole-preserved
 whole-preserved c =
@@ -31,7 +31,7 @@ whole-preserved c =
     let w = c.whole.invariant.read in
     let run = c.in-Ok.met.run in
     let span = c.in-Ok.met.span in
-    let is = c.in-Ok.ensures.met in
+    let is = c.in-Ok.ensures.read in
     record {
       read = c.with-read.ensures.read;
       within = is.within;
@@ -42,14 +42,19 @@ whole-preserved c =
           runs.firsts.items runs.ends.items c.whole.run run c.with-read.result.count c.with-read.ensures.count rises (c.whole.invariant.held rises) is.held;
     }
 
-pub returns-in-Ok-end-clause-fits : goal.returns-in-Ok-end-clause-fits
-returns-in-Ok-end-clause-fits c =
+pub returns-in-Ok-end : goal.returns-in-Ok-end
+returns-in-Ok-end c =
     let s = c.whole.read in
     let table = c.args.table.now in
     let runs = c.args.runs.now in
-    runs_are runs.firsts.items runs.ends.items (decoded_list c.args.stream.now) s.count c.are_all_held.result
-    (all_read c.args.stream.now table.bytes table.count s.at s.last s.first s.count s.blocks s.same c.whole.invariant.read (omega (arith, c.whole-test.false)))
-    c.whole.run (c.whole.invariant.held c.in-Ok-end.ensures.posting.spelled.rising) c.are_all_held.ensures
+    record {
+      posting = c.in-Ok-end.ensures.posting;
+      bounds = c.in-Ok-end.ensures.bounds;
+      fits = runs_are runs.firsts.items runs.ends.items (decoded_list c.args.stream.now) s.count c.are_all_held.result
+          (all_read c.args.stream.now table.bytes table.count s.at s.last s.first s.count s.blocks s.same c.whole.invariant.read (omega (arith, c.whole-test.false)))
+          c.whole.run (c.whole.invariant.held c.in-Ok-end.ensures.posting.spelled.rising) c.are_all_held.ensures;
+      fault = tt;
+    }
 
 pub whole-smaller : goal.whole-smaller
-whole-smaller c = let read = c.in-Ok.ensures.met.read in omega (arith, read.long, read.some, c.with-read.ensures.at, c.whole-test.true)
+whole-smaller c = let read = c.in-Ok.ensures.read.read in omega (arith, read.long, read.some, c.with-read.ensures.at, c.whole-test.true)

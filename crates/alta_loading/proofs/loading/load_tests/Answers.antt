@@ -1,8 +1,8 @@
 use Rattle.std.proofs.Common.{◌≡◌, List, [], ◌∷◌, ◌++◌, Vec, Global, Ok, length, map, refl, sym, subst, ap, ◌∙◌, arith, rules}
 use Rattle.std.proofs.lemmas.List.{map_push}
-use Rattle.alta_loading.proofs.Runs.{tells_fault, tells_value}
+use Rattle.alta_loading.proofs.Runs.{loads_value, tells_value}
 use Rattle.alta_loading.proofs.TestRuns.{tests_cost, tests_ended, tests_on}
-use Rattle.alta_loading.specs.Loads.{Tells}
+use Rattle.alta_loading.specs.Loads.{ReadsLists}
 use Rattle.alta_loading.specs.Met.{loads_met, loads_of_tests}
 use Rattle.alta_machine.specs.declared.test.Test.{Test}
 use Rattle.alta_search.proofs.Loads.{front-all, front-more}
@@ -24,43 +24,40 @@ loop-test-preserved g c =
     let now : map test_in ys ≡ map test_in xs ++ test ∷ [] =
     ap (map test_in) pushed ∙ map_push test_in xs l ∙ ap (λ (t : Test). map test_in xs ++ t ∷ []) is.test in record {
       split = front-more test_in xs ys l pushed test left rest c.args.order.items here is.test inv.split;
-      run = tests_on g.D.Disk.tells levels newest (map test_in xs) (map test_keys xs) (map test_lists xs) (g.D.Disk.state c.args.disk.now) (g.D.Disk.state c.loop-test.disk) inv.run test (g.D.Disk.state c.load_test.new.disk) c.load_test.ensures.reads
+      run = tests_on g.D.Disk.tells levels newest (map test_in xs) (map test_keys xs) (map test_lists xs) (g.D.Disk.state c.args.disk.now) (g.D.Disk.state c.loop-test.disk) inv.run test (g.D.Disk.state c.load_test.new.disk) c.load_test.ensures.loads.retrieves.reads
           (map test_keys ys) (map test_lists ys) (map test_in ys) (test_keys l) (test_lists l) now (ap (map test_keys) pushed ∙ map_push test_keys xs l) (ap (map test_lists) pushed ∙ map_push test_lists xs l)
-          is.keys is.lists (λ h. tells_value {X = TestLists} {Y = Unit {0}} (g.D.Disk.state c.loop-test.disk).content (loads_met levels newest test) l tt (is.tells h)) is.cut;
+          is.keys is.lists (λ h. tells_value {X = TestLists} {Y = Unit {0}} (g.D.Disk.state c.loop-test.disk).content (loads_met levels newest test) l tt (is.loads.told h)) is.cut;
     }
 
-pub returns-in-Err-clause-tells : goal.returns-in-Err-clause-tells
-returns-in-Err-clause-tells g c =
+pub returns-in-Err-clause-loads : goal.returns-in-Err-clause-loads
+returns-in-Err-clause-loads g c =
     let inv = c.loop-test.invariant in let levels = c.args.levels.now in let newest = c.args.newest.now.content in let test = c.in-Some.test in let xs = c.loop-test.tests.items in
     let left = c.loop-test.test-iterator.rest.items in let rest = c.next.new.self.rest.items in
     let here : left ≡ test ∷ rest = search rules in
-    tests_ended g.D.Disk.tells levels newest (map test_in xs) (map test_keys xs) (map test_lists xs) (g.D.Disk.state c.args.disk.now) (g.D.Disk.state c.loop-test.disk) inv.run test (g.D.Disk.state c.load_test.new.disk) c.load_test.ensures.reads
-    {X = Vec TestLists Global} rest c.args.order.items c.in-Err.fault (ap (λ (l : List Test). map test_in xs ++ l) (sym here) ∙ inv.split)
-    (λ h. tells_fault {X = TestLists} {Y = Unit {0}} (g.D.Disk.state c.loop-test.disk).content (loads_met levels newest test) c.in-Err.fault (c.in-Err.ensures.tells h))
+    tests_ended g.D.Disk.tells levels newest (map test_in xs) (map test_keys xs) (map test_lists xs) (g.D.Disk.state c.args.disk.now) (g.D.Disk.state c.loop-test.disk) inv.run test (g.D.Disk.state c.load_test.new.disk) c.load_test.ensures.loads.retrieves.reads
+    {Y = Vec TestLists Global} rest c.args.order.items c.in-Err.fault (ap (λ (l : List Test). map test_in xs ++ l) (sym here) ∙ inv.split) c.in-Err.ensures.loads
 
-pub returns-in-Err-clause-reads : goal.returns-in-Err-clause-reads
-returns-in-Err-clause-reads g c =
+pub returns-in_err-push-in-Ok-clause-loads : goal.returns-in_err-push-in-Ok-clause-loads
+returns-in_err-push-in-Ok-clause-loads g c =
     let inv = c.loop-test.invariant in let levels = c.args.levels.now in let newest = c.args.newest.now.content in let test = c.in-Some.test in let xs = c.loop-test.tests.items in
     let left = c.loop-test.test-iterator.rest.items in let rest = c.next.new.self.rest.items in
-    let here : left ≡ test ∷ rest = search rules in
-    tests_cost g.D.Disk.tells levels newest (map test_in xs) (map test_keys xs) (map test_lists xs) (g.D.Disk.state c.args.disk.now) (g.D.Disk.state c.loop-test.disk) inv.run test (g.D.Disk.state c.load_test.new.disk) c.load_test.ensures.reads
-    rest c.args.order.items (ap (λ (l : List Test). map test_in xs ++ l) (sym here) ∙ inv.split)
+    let here : left ≡ test ∷ rest = search rules in record {
+      retrieves = record {
+        reads =
+            tests_cost g.D.Disk.tells levels newest (map test_in xs) (map test_keys xs) (map test_lists xs) (g.D.Disk.state c.args.disk.now) (g.D.Disk.state c.loop-test.disk) inv.run test (g.D.Disk.state c.load_test.new.disk) c.load_test.ensures.loads.retrieves.reads
+            rest c.args.order.items (ap (λ (l : List Test). map test_in xs ++ l) (sym here) ∙ inv.split);
+        cause = search rules;
+      };
+      told = search rules;
+    }
 
-pub returns-in_err-push-in-Ok-clause-reads : goal.returns-in_err-push-in-Ok-clause-reads
-returns-in_err-push-in-Ok-clause-reads g c =
-    let inv = c.loop-test.invariant in let levels = c.args.levels.now in let newest = c.args.newest.now.content in let test = c.in-Some.test in let xs = c.loop-test.tests.items in
-    let left = c.loop-test.test-iterator.rest.items in let rest = c.next.new.self.rest.items in
-    let here : left ≡ test ∷ rest = search rules in
-    tests_cost g.D.Disk.tells levels newest (map test_in xs) (map test_keys xs) (map test_lists xs) (g.D.Disk.state c.args.disk.now) (g.D.Disk.state c.loop-test.disk) inv.run test (g.D.Disk.state c.load_test.new.disk) c.load_test.ensures.reads
-    rest c.args.order.items (ap (λ (l : List Test). map test_in xs ++ l) (sym here) ∙ inv.split)
-
-pub returns-clause-tells : goal.returns-clause-tells
-returns-clause-tells g c = λ told.
-    let inv = c.loop-test.invariant in let xs = c.loop-test.tests.items in let image = (g.D.Disk.state c.args.disk.now).content in
+pub returns-clause-loads : goal.returns-clause-loads
+returns-clause-loads g c =
+    let inv = c.loop-test.invariant in let xs = c.loop-test.tests.items in let old = g.D.Disk.state c.args.disk.now in let new = g.D.Disk.state c.loop-test.disk in
     let levels = c.args.levels.now in let newest = c.args.newest.now.content in
     let h = c.in-None.ensures.steps in let left = c.loop-test.test-iterator.rest in
     let none : left.items ≡ [] = none_left left.items (omega (arith, left.ok, h.0)) in
     let done = map test_in xs in
     let all : done ≡ c.args.order.items = front-all done left.items c.args.order.items none inv.split in
-    subst (λ (ts : List Test). Tells {X = Vec TestLists Global} image (loads_of_tests levels newest ts) (Ok c.loop-test.tests)) all
-    (tells_value {X = Unit {0}} {Y = Vec TestLists Global} image (loads_of_tests levels newest done) tt c.loop-test.tests (inv.run.told told))
+    subst (λ (ts : List Test). ReadsLists {X = Vec TestLists Global} g.D.Disk.tells (loads_of_tests levels newest ts) old new (Ok c.loop-test.tests)) all
+    (loads_value {X = Unit {0}} {Y = Vec TestLists Global} g.D.Disk.tells (loads_of_tests levels newest done) old new tt c.loop-test.tests inv.run.reads inv.run.told)

@@ -1,15 +1,15 @@
-use Rattle.std.proofs.Common.{◌≡◌, ◌++◌, refl, List, Err, Ok, Vec, Global, map, sym, subst, ap, ◌∙◌}
+use Rattle.std.proofs.Common.{◌≡◌, ◌++◌, refl, List, Err, Ok, Vec, Global, map, sym, subst, ap, ◌∙◌, rules}
 use Rattle.std.specs.Prelude.{All, flat_map}
 use Rattle.alta_machine.specs.PlanOf.{plan_of}
 use Rattle.alta_disk.specs.Calls.{Reads}
 use Rattle.alta_meaning.specs.Levels.{documents_of}
 use Rattle.alta_meaning.specs.Ordered.{RowsPrecede}
-use Rattle.alta_loading.specs.Loads.{IsWhole, Tells, load_sizes}
+use Rattle.alta_loading.specs.Loads.{IsWhole, ReadsLists, load_sizes}
 use Rattle.alta_loading.specs.Met.{each_once, keys_met, loads_of_tests, lists_met}
 use Rattle.alta_loading.specs.Snapshots.{all_rows, loaded_view}
 use Rattle.alta_loading.proofs.Cuts.{all_keyed, all_meet}
 use Rattle.alta_loading.proofs.Loaded.{once_loaded, tests_whole, view_is}
-use Rattle.alta_loading.proofs.Runs.{tells_fault, tells_value}
+use Rattle.alta_loading.proofs.Runs.{loads_fault, loads_value, tells_fault}
 use Rattle.alta_loading.proofs.TestedEnds.{mark_right}
 use Rattle.alta_machine.specs.Deciding.{answers}
 use Rattle.alta_machine.specs.declared.test.Test.{Test}
@@ -72,27 +72,27 @@ returns-in_ok-gone-in-Ok-clause-shown g c = λ told contents behind same written
     (c.levels_and_newest_documents_are_shown.ensures contents image gone behind c.args.newest.now tests written has
     (subst (λ (levels : List Tables). RowsPrecede (all_rows levels newest)) same c.requires.rise)))
 
-pub returns-in_ok-gone-in-Ok-clause-tells : goal.returns-in_ok-gone-in-Ok-clause-tells
-returns-in_ok-gone-in-Ok-clause-tells g c = λ told.
+pub returns-in_ok-gone-in-Ok-clause-loads : goal.returns-in_ok-gone-in-Ok-clause-loads
+returns-in_ok-gone-in-Ok-clause-loads g c =
     let order = c.args.order in let levels = c.args.levels.now in let newest = c.args.newest.now.content in
-    let image = (g.D.Disk.state c.args.disk.now).content in let all = used order in
-    subst (λ (ts : List Test). Tells {X = Snapshot} image (loads_of_tests levels newest ts) (Ok c.new.result))
-    (once_loaded order c.into_vec.result.items all (c.into_vec.ensures ∙ c.into_parts-tests.ensures.tests) c.into_parts-tests.ensures.order refl)
-    (tells_value {X = Vec TestLists Global} {Y = Snapshot} image (loads_of_tests levels newest c.into_vec.result.items) c.in-Ok.tests c.new.result (c.in-Ok.ensures.tells told))
+    let old = g.D.Disk.state c.args.disk.now in let new = g.D.Disk.state c.load_tests.new.disk in
+    subst (λ (ts : List Test). ReadsLists {X = Snapshot} g.D.Disk.tells (loads_of_tests levels newest ts) old new (Ok c.new.result))
+    (once_loaded order c.into_vec.result.items (used order) (c.into_vec.ensures ∙ c.into_parts-tests.ensures.tests) c.into_parts-tests.ensures.order refl)
+    (loads_value {X = Vec TestLists Global} {Y = Snapshot} g.D.Disk.tells (loads_of_tests levels newest c.into_vec.result.items) old new c.in-Ok.tests c.new.result c.in-Ok.ensures.loads.retrieves.reads c.in-Ok.ensures.loads.told)
 
-pub returns-in-Err-clause-tells : goal.returns-in-Err-clause-tells
-returns-in-Err-clause-tells g c = λ told.
+pub returns-in-Err-clause-loads : goal.returns-in-Err-clause-loads
+returns-in-Err-clause-loads g c =
     let order = c.args.order in let levels = c.args.levels.now in let newest = c.args.newest.now.content in
-    let image = (g.D.Disk.state c.args.disk.now).content in let all = used order in
-    subst (λ (ts : List Test). Tells {X = Snapshot} image (loads_of_tests levels newest ts) (Err c.in-Err.fault))
-    (once_loaded order c.into_vec.result.items all (c.into_vec.ensures ∙ c.into_parts-tests.ensures.tests) c.into_parts-tests.ensures.order refl)
-    (tells_fault {X = Vec TestLists Global} {Y = Snapshot} image (loads_of_tests levels newest c.into_vec.result.items) c.in-Err.fault (c.in-Err.ensures.tells told))
+    let old = g.D.Disk.state c.args.disk.now in let new = g.D.Disk.state c.load_tests.new.disk in
+    subst (λ (ts : List Test). ReadsLists {X = Snapshot} g.D.Disk.tells (loads_of_tests levels newest ts) old new (Err c.in-Err.fault))
+    (once_loaded order c.into_vec.result.items (used order) (c.into_vec.ensures ∙ c.into_parts-tests.ensures.tests) c.into_parts-tests.ensures.order refl)
+    (loads_fault {X = Vec TestLists Global} {Y = Snapshot} g.D.Disk.tells (loads_of_tests levels newest c.into_vec.result.items) old new c.in-Err.fault c.in-Err.ensures.loads)
 
 pub returns-in_ok-gone-in-Ok-clause-ends : goal.returns-in_ok-gone-in-Ok-clause-ends
 returns-in_ok-gone-in-Ok-clause-ends g c = λ told.
     let levels = c.args.levels.now in let newest = c.args.newest.now.content in let image = (g.D.Disk.state c.args.disk.now).content in
     mark_right image levels newest c.as_slice.result.now c.args.ends.now c.marked-mark.result c.marked-mark.ensures.only (c.requires.ends told)
-    (subst (λ (ts : List Test). All (IsWhole image) (loads_of_tests levels newest ts)) (c.into_vec.ensures ∙ sym c.as_slice.ensures) (c.in-Ok.ensures.tells told).whole)
+    (subst (λ (ts : List Test). All (IsWhole image) (loads_of_tests levels newest ts)) (c.into_vec.ensures ∙ sym c.as_slice.ensures) (c.in-Ok.ensures.loads.told told).whole)
 
 pub returns-in_ok-gone-in-Ok-clause-tested : goal.returns-in_ok-gone-in-Ok-clause-tested
 returns-in_ok-gone-in-Ok-clause-tested g c = λ more is.
@@ -103,26 +103,20 @@ pub returns-in-Err-clause-undamaged : goal.returns-in-Err-clause-undamaged
 returns-in-Err-clause-undamaged g c = λ told contents same written.
     let newest = c.args.newest.now.content in
     let image = (g.D.Disk.state c.args.disk.now).content in let tests = c.into_vec.result.items in
-    (tells_fault {X = Vec TestLists Global} {Y = Snapshot} image (loads_of_tests c.args.levels.now newest tests) c.in-Err.fault (c.in-Err.ensures.tells told)).only
+    (tells_fault {X = Vec TestLists Global} {Y = Snapshot} image (loads_of_tests c.args.levels.now newest tests) c.in-Err.fault (c.in-Err.ensures.loads.told told)).only
     (subst (λ (levels : List Tables). All (IsWhole image) (loads_of_tests levels newest tests)) (sym same) (tests_whole contents image written newest tests))
 
-pub returns-in_ok-gone-in-Ok-clause-reads : goal.returns-in_ok-gone-in-Ok-clause-reads
-returns-in_ok-gone-in-Ok-clause-reads g c =
-    let order = c.args.order in
-    subst (λ (ts : List Test). Reads g.D.Disk.tells (load_sizes (loads_of_tests c.args.levels.now c.args.newest.now.content ts)) (g.D.Disk.state c.args.disk.now) (g.D.Disk.state c.load_tests.new.disk))
-    (once_loaded order c.into_vec.result.items (used c.args.order) (c.into_vec.ensures ∙ c.into_parts-tests.ensures.tests) c.into_parts-tests.ensures.order refl)
-    c.load_tests.ensures.reads
-
-pub returns-in_err-gone-in-Ok-clause-reads : goal.returns-in_err-gone-in-Ok-clause-reads
-returns-in_err-gone-in-Ok-clause-reads g c =
-    let order = c.args.order in
-    subst (λ (ts : List Test). Reads g.D.Disk.tells (load_sizes (loads_of_tests c.args.levels.now c.args.newest.now.content ts)) (g.D.Disk.state c.args.disk.now) (g.D.Disk.state c.load_tests.new.disk))
-    (once_loaded order c.into_vec.result.items (used c.args.order) (c.into_vec.ensures ∙ c.into_parts-tests.ensures.tests) c.into_parts-tests.ensures.order refl)
-    c.load_tests.ensures.reads
-
-pub returns-in-Err-clause-reads : goal.returns-in-Err-clause-reads
-returns-in-Err-clause-reads g c =
-    let order = c.args.order in
-    subst (λ (ts : List Test). Reads g.D.Disk.tells (load_sizes (loads_of_tests c.args.levels.now c.args.newest.now.content ts)) (g.D.Disk.state c.args.disk.now) (g.D.Disk.state c.load_tests.new.disk))
-    (once_loaded order c.into_vec.result.items (used c.args.order) (c.into_vec.ensures ∙ c.into_parts-tests.ensures.tests) c.into_parts-tests.ensures.order refl)
-    c.load_tests.ensures.reads
+pub returns-in_err-gone-in-Ok-clause-loads : goal.returns-in_err-gone-in-Ok-clause-loads
+returns-in_err-gone-in-Ok-clause-loads g c =
+    let order = c.args.order in let levels = c.args.levels.now in let newest = c.args.newest.now.content in
+    let old = g.D.Disk.state c.args.disk.now in let new = g.D.Disk.state c.load_tests.new.disk in
+    record {
+      retrieves = record {
+        reads =
+            subst (λ (ts : List Test). Reads g.D.Disk.tells (load_sizes (loads_of_tests levels newest ts)) old new)
+            (once_loaded order c.into_vec.result.items (used order) (c.into_vec.ensures ∙ c.into_parts-tests.ensures.tests) c.into_parts-tests.ensures.order refl)
+            c.load_tests.ensures.loads.retrieves.reads;
+        cause = search rules;
+      };
+      told = search rules;
+    }

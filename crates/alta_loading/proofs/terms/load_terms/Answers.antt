@@ -1,8 +1,8 @@
 use Rattle.std.proofs.Common.{◌≡◌, ℕ, List, [], ◌∷◌, ◌++◌, Vec, Global, Ok, length, map, refl, sym, subst, ap, ◌∙◌, arith, rules}
 use Rattle.std.proofs.lemmas.List.{map_push}
-use Rattle.alta_loading.proofs.Runs.{tells_fault, tells_value}
+use Rattle.alta_loading.proofs.Runs.{loads_value, tells_value}
 use Rattle.alta_loading.proofs.TermRuns.{terms_cost, terms_ended, terms_on}
-use Rattle.alta_loading.specs.Loads.{Tells, loads_from}
+use Rattle.alta_loading.specs.Loads.{ReadsLists, loads_from}
 use Rattle.alta_loading.specs.Terms.{loads_of}
 use Rattle.alta_search.proofs.Loads.{front-all, front-more}
 use Rattle.alta_search.specs.Lists.{TermKey, key_of, term_lists}
@@ -25,45 +25,41 @@ loop-term-preserved g c =
     let now : map (λ (t : TermLists). t.term) ys ≡ done ++ term ∷ [] =
     ap (map (λ (t : TermLists). t.term)) pushed ∙ map_push (λ (t : TermLists). t.term) xs l ∙ ap (λ (t : List ℕ). done ++ t ∷ []) same in record {
       split = front-more (λ (t : TermLists). t.term) xs ys l pushed term left rest c.args.terms.items here same inv.split;
-      run = terms_on g.D.Disk.tells levels newest done (map key_of xs) (map term_lists xs) (g.D.Disk.state c.args.disk.now) (g.D.Disk.state c.loop-term.disk) inv.run term (g.D.Disk.state c.load_term_near.new.disk) c.load_term_near.ensures.reads
+      run = terms_on g.D.Disk.tells levels newest done (map key_of xs) (map term_lists xs) (g.D.Disk.state c.args.disk.now) (g.D.Disk.state c.loop-term.disk) inv.run term (g.D.Disk.state c.load_term.new.disk) c.load_term.ensures.loads.retrieves.reads
           (map key_of ys) (map term_lists ys) (map (λ (t : TermLists). t.term) ys) (key_of l) (term_lists l) now (ap (map key_of) pushed ∙ map_push key_of xs l) (ap (map term_lists) pushed ∙ map_push term_lists xs l)
-          is.key is.lists (λ h. tells_value {X = TermLists} {Y = Unit {0}} (g.D.Disk.state c.loop-term.disk).content (loads_from 0 levels term) l tt (is.tells h)) is.kept;
+          is.key is.lists (λ h. tells_value {X = TermLists} {Y = Unit {0}} (g.D.Disk.state c.loop-term.disk).content (loads_from 0 levels term) l tt (is.loads.told h)) is.kept;
     }
 
-pub returns-in-Err-clause-tells : goal.returns-in-Err-clause-tells
-returns-in-Err-clause-tells g c =
+pub returns-in-Err-clause-loads : goal.returns-in-Err-clause-loads
+returns-in-Err-clause-loads g c =
     let inv = c.loop-term.invariant in let levels = c.args.levels.now in let term = c.in-Some.term in let xs = c.loop-term.loaded.items in
     let left = c.loop-term.term-iterator.rest.items in let rest = c.next.new.self.rest.items in
     let here : left ≡ term ∷ rest = search rules in
     let done = map (λ (t : TermLists). t.term) xs in
-    terms_ended g.D.Disk.tells levels c.args.newest.now.content done (map key_of xs) (map term_lists xs) (g.D.Disk.state c.args.disk.now) (g.D.Disk.state c.loop-term.disk) inv.run term (g.D.Disk.state c.load_term_near.new.disk) c.load_term_near.ensures.reads
-    {X = Vec TermLists Global} rest c.args.terms.items c.in-Err.fault (ap (λ (l : List (List ℕ)). done ++ l) (sym here) ∙ inv.split)
-    (λ h. tells_fault {X = TermLists} {Y = Unit {0}} (g.D.Disk.state c.loop-term.disk).content (loads_from 0 levels term) c.in-Err.fault (c.in-Err.ensures.tells h))
+    terms_ended g.D.Disk.tells levels c.args.newest.now.content done (map key_of xs) (map term_lists xs) (g.D.Disk.state c.args.disk.now) (g.D.Disk.state c.loop-term.disk) inv.run term (g.D.Disk.state c.load_term.new.disk) c.load_term.ensures.loads.retrieves.reads
+    {Y = Vec TermLists Global} rest c.args.terms.items c.in-Err.fault (ap (λ (l : List (List ℕ)). done ++ l) (sym here) ∙ inv.split) c.in-Err.ensures.loads
 
-pub returns-in-Err-clause-reads : goal.returns-in-Err-clause-reads
-returns-in-Err-clause-reads g c =
+pub returns-in_err-push-in-Ok-clause-loads : goal.returns-in_err-push-in-Ok-clause-loads
+returns-in_err-push-in-Ok-clause-loads g c =
     let inv = c.loop-term.invariant in let levels = c.args.levels.now in let term = c.in-Some.term in let xs = c.loop-term.loaded.items in
     let left = c.loop-term.term-iterator.rest.items in let rest = c.next.new.self.rest.items in
     let here : left ≡ term ∷ rest = search rules in
-    let done = map (λ (t : TermLists). t.term) xs in
-    terms_cost g.D.Disk.tells levels c.args.newest.now.content done (map key_of xs) (map term_lists xs) (g.D.Disk.state c.args.disk.now) (g.D.Disk.state c.loop-term.disk) inv.run term (g.D.Disk.state c.load_term_near.new.disk) c.load_term_near.ensures.reads
-    rest c.args.terms.items (ap (λ (l : List (List ℕ)). done ++ l) (sym here) ∙ inv.split)
+    let done = map (λ (t : TermLists). t.term) xs in record {
+      retrieves = record {
+        reads =
+            terms_cost g.D.Disk.tells levels c.args.newest.now.content done (map key_of xs) (map term_lists xs) (g.D.Disk.state c.args.disk.now) (g.D.Disk.state c.loop-term.disk) inv.run term (g.D.Disk.state c.load_term.new.disk) c.load_term.ensures.loads.retrieves.reads
+            rest c.args.terms.items (ap (λ (l : List (List ℕ)). done ++ l) (sym here) ∙ inv.split);
+        cause = search rules;
+      };
+      told = search rules;
+    }
 
-pub returns-in_err-push-in-Ok-clause-reads : goal.returns-in_err-push-in-Ok-clause-reads
-returns-in_err-push-in-Ok-clause-reads g c =
-    let inv = c.loop-term.invariant in let levels = c.args.levels.now in let term = c.in-Some.term in let xs = c.loop-term.loaded.items in
-    let left = c.loop-term.term-iterator.rest.items in let rest = c.next.new.self.rest.items in
-    let here : left ≡ term ∷ rest = search rules in
-    let done = map (λ (t : TermLists). t.term) xs in
-    terms_cost g.D.Disk.tells levels c.args.newest.now.content done (map key_of xs) (map term_lists xs) (g.D.Disk.state c.args.disk.now) (g.D.Disk.state c.loop-term.disk) inv.run term (g.D.Disk.state c.load_term_near.new.disk) c.load_term_near.ensures.reads
-    rest c.args.terms.items (ap (λ (l : List (List ℕ)). done ++ l) (sym here) ∙ inv.split)
-
-pub returns-clause-tells : goal.returns-clause-tells
-returns-clause-tells g c = λ told.
-    let inv = c.loop-term.invariant in let xs = c.loop-term.loaded.items in let image = (g.D.Disk.state c.args.disk.now).content in
+pub returns-clause-loads : goal.returns-clause-loads
+returns-clause-loads g c =
+    let inv = c.loop-term.invariant in let xs = c.loop-term.loaded.items in let old = g.D.Disk.state c.args.disk.now in let new = g.D.Disk.state c.loop-term.disk in
     let h = c.in-None.ensures.steps in let left = c.loop-term.term-iterator.rest in
     let none : left.items ≡ [] = none_left left.items (omega (arith, left.ok, h.0)) in
     let done = map (λ (t : TermLists). t.term) xs in
     let all : done ≡ c.args.terms.items = front-all done c.loop-term.term-iterator.rest.items c.args.terms.items none inv.split in
-    subst (λ (ts : List (List ℕ)). Tells {X = Vec TermLists Global} image (loads_of c.args.levels.now ts) (Ok c.loop-term.loaded)) all
-    (tells_value {X = Unit {0}} {Y = Vec TermLists Global} image (loads_of c.args.levels.now done) tt c.loop-term.loaded (inv.run.told told))
+    subst (λ (ts : List (List ℕ)). ReadsLists {X = Vec TermLists Global} g.D.Disk.tells (loads_of c.args.levels.now ts) old new (Ok c.loop-term.loaded)) all
+    (loads_value {X = Unit {0}} {Y = Vec TermLists Global} g.D.Disk.tells (loads_of c.args.levels.now done) old new tt c.loop-term.loaded inv.run.reads inv.run.told)

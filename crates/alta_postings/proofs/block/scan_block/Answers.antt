@@ -11,10 +11,13 @@ numbers-preserved c = record {
   few = omega arith;
 }
 
-pub returns-after-numbers-clause-read : goal.returns-after-numbers-clause-read
-returns-after-numbers-clause-read c =
+pub returns-after-numbers : goal.returns-after-numbers
+returns-after-numbers c =
     let x = c.in-Ok.ensures.read in
     let read = c.numbers.invariant.read in
     let some = read_some c.args.bytes.now c.args.at c.args.before c.numbers.last c.numbers.count c.numbers.next c.in-Ok.location c.in-Ok._next read x (λ l. omega (arith, read.within)) in
-    read_done c.args.bytes.now c.args.at c.args.before c.in-Ok.location c.numbers.last c.numbers.count c.numbers.next read some c.numbers.invariant.few (λ l. omega (arith, read.within))
-    (sym (ap (λ l. get_or l 0 0) x.list))
+    record {
+      read = read_done c.args.bytes.now c.args.at c.args.before c.in-Ok.location c.numbers.last c.numbers.count c.numbers.next read some c.numbers.invariant.few (λ l. omega (arith, read.within))
+          (sym (ap (λ l. get_or l 0 0) x.list));
+      fault = tt;
+    }

@@ -9,8 +9,8 @@ loop-n-preserved c = record {
   same = passed is_run c.args.rest.now c.loop-n.n c.loop-n-test.true (sym c.runs.ensures ∙ c.if-runs.true) c.loop-n.invariant.same;
 }
 
-pub returns-else-runs-clause-len : goal.returns-else-runs-clause-len
-returns-else-runs-clause-len c = stopped is_run c.args.rest.now c.loop-n.n c.loop-n-test.true (sym c.runs.ensures ∙ c.if-runs.false) c.loop-n.invariant.same
+pub returns-else-runs : goal.returns-else-runs
+returns-else-runs c = record { len = stopped is_run c.args.rest.now c.loop-n.n c.loop-n-test.true (sym c.runs.ensures ∙ c.if-runs.false) c.loop-n.invariant.same; within = c.loop-n.invariant.within }
 
-pub returns-after-loop-n-clause-len : goal.returns-after-loop-n-clause-len
-returns-after-loop-n-clause-len c = ended is_run c.args.rest.now c.loop-n.n c.loop-n-test.false c.loop-n.invariant.same
+pub returns-after-loop-n : goal.returns-after-loop-n
+returns-after-loop-n c = record { len = ended is_run c.args.rest.now c.loop-n.n c.loop-n-test.false c.loop-n.invariant.same; within = c.loop-n.invariant.within }

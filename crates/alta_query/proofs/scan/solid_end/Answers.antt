@@ -10,8 +10,8 @@ loop-n-preserved c = record {
   same = passed is_solid c.args.rest.now c.loop-n.n c.loop-n-test.true (ap not (sym c.blank.ensures ∙ c.if-not-blank.true)) c.loop-n.invariant.same;
 }
 
-pub returns-else-not-blank-clause-len : goal.returns-else-not-blank-clause-len
-returns-else-not-blank-clause-len c = stopped is_solid c.args.rest.now c.loop-n.n c.loop-n-test.true (ap not (sym c.blank.ensures ∙ c.if-not-blank.false)) c.loop-n.invariant.same
+pub returns-else-not-blank : goal.returns-else-not-blank
+returns-else-not-blank c = record { len = stopped is_solid c.args.rest.now c.loop-n.n c.loop-n-test.true (ap not (sym c.blank.ensures ∙ c.if-not-blank.false)) c.loop-n.invariant.same; within = c.loop-n.invariant.within }
 
-pub returns-after-loop-n-clause-len : goal.returns-after-loop-n-clause-len
-returns-after-loop-n-clause-len c = ended is_solid c.args.rest.now c.loop-n.n c.loop-n-test.false c.loop-n.invariant.same
+pub returns-after-loop-n : goal.returns-after-loop-n
+returns-after-loop-n c = record { len = ended is_solid c.args.rest.now c.loop-n.n c.loop-n-test.false c.loop-n.invariant.same; within = c.loop-n.invariant.within }

@@ -11,8 +11,8 @@ loop-n-preserved c = record {
   same = passed is_undotted c.args.rest.now c.loop-n.n c.loop-n-test.true (ap not (other_byte _ 46 c.if-rest-n-ne46.true)) c.loop-n.invariant.same;
 }
 
-pub returns-else-rest-n-ne46-clause-len : goal.returns-else-rest-n-ne46-clause-len
-returns-else-rest-n-ne46-clause-len c = stopped is_undotted c.args.rest.now c.loop-n.n c.loop-n-test.true (ap is_undotted c.if-rest-n-ne46.false) c.loop-n.invariant.same
+pub returns-else-rest-n-ne46 : goal.returns-else-rest-n-ne46
+returns-else-rest-n-ne46 c = record { len = stopped is_undotted c.args.rest.now c.loop-n.n c.loop-n-test.true (ap is_undotted c.if-rest-n-ne46.false) c.loop-n.invariant.same; within = c.loop-n.invariant.within }
 
-pub returns-after-loop-n-clause-len : goal.returns-after-loop-n-clause-len
-returns-after-loop-n-clause-len c = ended is_undotted c.args.rest.now c.loop-n.n c.loop-n-test.false c.loop-n.invariant.same
+pub returns-after-loop-n : goal.returns-after-loop-n
+returns-after-loop-n c = record { len = ended is_undotted c.args.rest.now c.loop-n.n c.loop-n-test.false c.loop-n.invariant.same; within = c.loop-n.invariant.within }

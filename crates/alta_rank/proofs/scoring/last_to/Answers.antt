@@ -1,4 +1,4 @@
-use Rattle.std.proofs.Common.{◌≡◌, ◌+◌, ap, ◌∙◌, arith}
+use Rattle.std.proofs.Common.{◌≡◌, ◌+◌, ap, ◌∙◌, arith, rules}
 use Rattle.alta_codec.specs.Rising.{pred_of}
 use Rattle.alta_codec.proofs.Places.{pred_of-below}
 use Rattle.alta_rank.proofs.Passed.{pred_of-past, pred_of-first}
@@ -25,5 +25,11 @@ before g c =
 pub returns-clause-last : goal.returns-clause-last
 returns-clause-last g c = c.prev.ensures ∙ before g c
 
-pub returns-clause-behind : goal.returns-clause-behind
-returns-clause-behind g c = omega (arith, before g c, pred_of-below (g.R.Reader.list c.args.reader.now) (c.args.end + 1) (omega arith))
+pub returns-clause-reads : goal.returns-clause-reads
+returns-clause-reads g c =
+    record {
+      sound = search rules;
+      same_list = search rules;
+      is = omega (arith, before g c, pred_of-below (g.R.Reader.list c.args.reader.now) (c.args.end + 1) (omega arith));
+      steps = search rules;
+    }

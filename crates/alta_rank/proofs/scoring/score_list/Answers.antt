@@ -12,15 +12,15 @@ locations-init g c =
     let list = g.R.Reader.list c.args.reader.now in
     record {
       sound = c.reach.ensures.sound;
-      list = c.reach.ensures.list;
+      list = c.reach.ensures.same_list;
       total = omega (
         arith,
-        ap (λ x. counted c.args.title c.args.last c.args.end list x) c.reach.ensures.place,
+        ap (λ x. counted c.args.title c.args.last c.args.end list x) c.reach.ensures.is,
         counted-first c.args.title c.args.last c.args.end list c.args.first (omega (arith, c.requires.order, c.requires.top)),
       );
       behind = omega (
         arith,
-        ap (λ x. pred_of list x) c.reach.ensures.place,
+        ap (λ x. pred_of list x) c.reach.ensures.is,
         pred_of-first list c.args.first (omega (arith, c.requires.behind)) (omega (arith, c.requires.order, c.requires.top)),
         pred_of-below list c.args.first (omega (arith, c.requires.behind)),
         c.requires.order,
@@ -71,12 +71,6 @@ locations-preserved g c =
       steps = omega (arith, c.next.ensures.steps, inv.steps);
     }
 
-pub returns-clause-sound : goal.returns-clause-sound
-returns-clause-sound g c = c.locations.invariant.sound
-
-pub returns-clause-list : goal.returns-clause-list
-returns-clause-list g c = c.locations.invariant.list
-
 pub returns-clause-score : goal.returns-clause-score
 returns-clause-score g c =
     let at = g.R.Reader.location c.locations.reader in
@@ -86,9 +80,12 @@ returns-clause-score g c =
       counted-past c.args.title c.args.last c.args.end (g.R.Reader.list c.args.reader.now) at (omega (arith, c.locations-test.false, c.loc.ensures.location)),
     )
 
-pub returns-clause-behind : goal.returns-clause-behind
-returns-clause-behind g c =
-    omega (arith, ap (λ l. pred_of l (g.R.Reader.location c.locations.reader)) c.locations.invariant.list, c.locations.invariant.behind)
-
-pub returns-clause-steps : goal.returns-clause-steps
-returns-clause-steps g c = c.locations.invariant.steps
+pub returns-clause-reads : goal.returns-clause-reads
+returns-clause-reads g c =
+    let inv = c.locations.invariant in
+    record {
+      sound = inv.sound;
+      same_list = inv.list;
+      is = omega (arith, ap (λ l. pred_of l (g.R.Reader.location c.locations.reader)) inv.list, inv.behind);
+      steps = inv.steps;
+    }

@@ -1,24 +1,27 @@
 use Rattle.std.proofs.Common.{◌≡◌, [], map, get_or, set, sym, ap, ◌∙◌, arith}
-use Rattle.std.proofs.lemmas.List.{map-set, get_or-map}
+use Rattle.std.proofs.lemmas.List.{map-set, get_or-map, get_or-set_other}
+use Rattle.std.proofs.lemmas.List.Elements.{All-set}
+use Rattle.std.proofs.lemmas.List.Sums.{sum_by-set}
 use Rattle.std.proofs.Math.Seq.{map-set_same}
 use Rattle.alta_codec.specs.Rising.{first_from, count_from}
 use Rattle.alta_reader.proofs.many.seek_at.Goals as goal
 
-pub returns-clause-lists : goal.returns-clause-lists
-returns-clause-lists g c =
-    map-set_same g.R.Reader.list c.args.readers.now c.args.j c.seek.new.self c.index-readers-j.result c.seek.ensures.list
-
-pub returns-clause-alls : goal.returns-clause-alls
-returns-clause-alls g c =
-    map-set_same g.R.Reader.all c.args.readers.now c.args.j c.seek.new.self c.index-readers-j.result c.seek.ensures.all
-
-pub returns-clause-places : goal.returns-clause-places
-returns-clause-places g c =
-    map-set g.R.Reader.location c.args.readers.now c.args.j c.seek.new.self
-    ∙ ap (λ p. set (map g.R.Reader.location c.args.readers.now) c.args.j p)
-    (c.seek.ensures.location
-    ∙ ap (λ l. first_from l c.args.to)
-    (sym (get_or-map g.R.Reader.list c.args.readers.now c.args.j c.index-readers-j.result [] c.requires.within)))
+pub returns-clause-moves : goal.returns-clause-moves
+returns-clause-moves g c =
+    let R = g.R.Reader in let rs = c.args.readers.now in let j = c.args.j in let d = c.index-readers-j.result in let new = c.seek.new.self in
+    let within = c.requires.within in let left = sum_by-set R.left rs j new d within in
+    record {
+      sound = All-set R.sound rs j new c.seek.ensures.sound c.requires.sound;
+      moved = record {
+        lists = map-set_same R.list rs j new d c.seek.ensures.list;
+        alls = map-set_same R.all rs j new d c.seek.ensures.all;
+        places = map-set R.location rs j new
+            ∙ ap (λ p. set (map R.location rs) j p) (c.seek.ensures.location ∙ ap (λ l. first_from l c.args.to) (sym (get_or-map R.list rs j d [] within)));
+        others = λ k e n. get_or-set_other rs j k new e n;
+      };
+      falls = omega (arith, left, c.seek.ensures.falls);
+      steps = omega (arith, left, c.seek.ensures.steps);
+    }
 
 pub returns-clause-own : goal.returns-clause-own
 returns-clause-own g c =

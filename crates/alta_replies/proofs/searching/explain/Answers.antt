@@ -11,6 +11,6 @@ returns c = record {
 
 pub returns-in-Err : goal.returns-in-Err
 returns-in-Err c = record {
-  reply = explain_refused c.refused.result c.args.text.now c.in-Err.fault (not_parsed c.parse.result c.in-Err.fault c.args.text.now c.in-Err.is c.parse.ensures.reading) c.refused.ensures.reply c.refused.ensures.wanting;
-  memory = c.refused.ensures.memory;
+  reply = explain_refused c.refused.result c.args.text.now c.in-Err.fault (not_parsed c.parse.result c.in-Err.fault c.args.text.now c.in-Err.is c.parse.ensures.reading) c.refused.ensures.reply.reply c.refused.ensures.wanting;
+  memory = c.refused.ensures.reply.memory;
 }

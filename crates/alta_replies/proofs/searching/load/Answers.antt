@@ -1,4 +1,4 @@
-use Rattle.std.proofs.Common.{List, ℕ, sym, subst}
+use Rattle.std.proofs.Common.{List, ℕ, sym, subst, rules}
 use Rattle.alta_machine.specs.PlanOf.{plan_of}
 use Rattle.alta_loading.specs.Tested.{AreEndsWhole}
 use Rattle.alta_machine.specs.declared.document.Document.{Document}
@@ -29,21 +29,26 @@ returns-in-Ok-load_ordered-clause-shown g c = λ s tell stands.
     subst (λ (l : List Document). ShowsDocuments c.in-Ok-load_ordered.snapshot l) (sym finds.documents)
     (c.in-Ok-load_ordered.ensures.shown tell finds.contents finds.behind finds.tables finds.segments finds.has)
 
-pub returns-in-Err-clause-undamaged : goal.returns-in-Err-clause-undamaged
-returns-in-Err-clause-undamaged g c = λ s tell stands.
-    let finds = c.a_search_sees_the_state.ensures.finds c.args.disk.now c.args.store.now c.requires.agrees s tell stands _ _ _ _ c.in-Ok.ensures in
-    subst IsOutside (sym c.load_fault.ensures) (outside_of c.load_ordered.result c.in-Err.fault c.in-Err.is (c.load_ordered.ensures.undamaged tell finds.contents finds.tables finds.segments))
-
 pub load_ordered-requires-clause-ends : goal.load_ordered-requires-clause-ends
 load_ordered-requires-clause-ends g c = λ told.
     subst (AreEndsWhole c.args.ends.now (g.D.Disk.state c.args.disk.now).content) (sym c.in-Ok.ensures.levels_are) (c.requires.mark told)
 
-pub returns-in-Ok-load_ordered-clause-mark : goal.returns-in-Ok-load_ordered-clause-mark
-returns-in-Ok-load_ordered-clause-mark g c = λ told.
-    subst (λ (image : List ℕ). AreEndsWhole c.load_ordered.new.ends image (levels_of c.args.store.now)) (sym (c.load_ordered.ensures.reads.content told))
-    (subst (AreEndsWhole c.load_ordered.new.ends (g.D.Disk.state c.args.disk.now).content) c.in-Ok.ensures.levels_are (c.load_ordered.ensures.ends told))
+pub returns-in-Ok-load_ordered-clause-loads : goal.returns-in-Ok-load_ordered-clause-loads
+returns-in-Ok-load_ordered-clause-loads g c = record {
+  loaded = search rules;
+  undamaged = λ s tell stands. tt;
+  mark = λ told.
+      subst (λ (image : List ℕ). AreEndsWhole c.load_ordered.new.ends image (levels_of c.args.store.now)) (sym (c.load_ordered.ensures.loads.retrieves.reads.content told))
+      (subst (AreEndsWhole c.load_ordered.new.ends (g.D.Disk.state c.args.disk.now).content) c.in-Ok.ensures.levels_are (c.load_ordered.ensures.ends told));
+}
 
-pub returns-in-Err-clause-mark : goal.returns-in-Err-clause-mark
-returns-in-Err-clause-mark g c = λ told.
-    subst (λ (image : List ℕ). AreEndsWhole c.load_ordered.new.ends image (levels_of c.args.store.now)) (sym (c.load_ordered.ensures.reads.content told))
-    (subst (AreEndsWhole c.load_ordered.new.ends (g.D.Disk.state c.args.disk.now).content) c.in-Ok.ensures.levels_are (c.load_ordered.ensures.ends told))
+pub returns-in-Err-clause-loads : goal.returns-in-Err-clause-loads
+returns-in-Err-clause-loads g c = record {
+  loaded = search rules;
+  undamaged = λ s tell stands.
+      let finds = c.a_search_sees_the_state.ensures.finds c.args.disk.now c.args.store.now c.requires.agrees s tell stands _ _ _ _ c.in-Ok.ensures in
+      subst IsOutside (sym c.load_fault.ensures) (outside_of c.load_ordered.result c.in-Err.fault c.in-Err.is (c.load_ordered.ensures.undamaged tell finds.contents finds.tables finds.segments));
+  mark = λ told.
+      subst (λ (image : List ℕ). AreEndsWhole c.load_ordered.new.ends image (levels_of c.args.store.now)) (sym (c.load_ordered.ensures.loads.retrieves.reads.content told))
+      (subst (AreEndsWhole c.load_ordered.new.ends (g.D.Disk.state c.args.disk.now).content) c.in-Ok.ensures.levels_are (c.load_ordered.ensures.ends told));
+}

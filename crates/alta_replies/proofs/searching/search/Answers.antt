@@ -2,7 +2,7 @@ use Rattle.alta_machine.specs.PlanOf.{plan_of}
 use Rattle.alta_query.specs.View.{shape}
 use Rattle.alta_replies.specs.Loading.{search_loads, text_loads}
 use Rattle.alta_machine.specs.Searching.{IsNoQuery}
-use Rattle.alta_replies.proofs.LoadingLaws.{is_query, mark_still, none_loaded, queries_found, queries_idle, text_found}
+use Rattle.alta_replies.proofs.LoadingLaws.{is_query, none_loaded, queries_found, queries_idle, text_found}
 use Rattle.alta_replies.proofs.SearchLaws.{parsed, not_parsed, search_found, search_refused}
 use Rattle.alta_replies.proofs.searching.search.Goals as goal
 
@@ -13,17 +13,14 @@ returns-clause-reply g c = λ s tell stands.
 pub returns-clause-queries : goal.returns-clause-queries
 returns-clause-queries g c =
     let is = parsed c.parse.result c.in-Ok.query c.args.text.now c.in-Ok.is c.parse.ensures.reading in
-    queries_found g.D.Disk.tells g.D.Disk.state c.args.disk.now c.search_and_list-reply.new.disk (search_loads c.args.store.now (plan_of (shape c.in-Ok.query))) (text_loads c.args.store.now c.args.text.now) (IsNoQuery c.args.text.now) c.search_and_list-reply.result
+    queries_found g.D.Disk.tells g.D.Disk.state c.args.disk.now c.search_and_list-reply.new.disk c.args.store.now c.args.ends.now c.search_and_list-reply.new.ends (search_loads c.args.store.now (plan_of (shape c.in-Ok.query))) (text_loads c.args.store.now c.args.text.now) (IsNoQuery c.args.text.now) c.search_and_list-reply.result
     (text_found c.args.store.now c.args.text.now (shape c.in-Ok.query) is) (is_query c.args.text.now (shape c.in-Ok.query) is) c.search_and_list-reply.ensures.queries
 
 pub returns-in-Err-clause-reply : goal.returns-in-Err-clause-reply
 returns-in-Err-clause-reply g c = λ s tell stands.
-    search_refused c.refused.result c.args.text.now s.documents c.in-Err.fault (not_parsed c.parse.result c.in-Err.fault c.args.text.now c.in-Err.is c.parse.ensures.reading) c.refused.ensures.reply c.refused.ensures.wanting
+    search_refused c.refused.result c.args.text.now s.documents c.in-Err.fault (not_parsed c.parse.result c.in-Err.fault c.args.text.now c.in-Err.is c.parse.ensures.reading) c.refused.ensures.reply.reply c.refused.ensures.wanting
 
 pub returns-in-Err-clause-queries : goal.returns-in-Err-clause-queries
 returns-in-Err-clause-queries g c =
-    queries_idle g.D.Disk.tells g.D.Disk.state c.args.disk.now (text_loads c.args.store.now c.args.text.now) (IsNoQuery c.args.text.now) c.refused.result c.refused.ensures.memory
+    queries_idle g.D.Disk.tells g.D.Disk.state c.args.disk.now c.args.store.now c.args.ends.now (text_loads c.args.store.now c.args.text.now) (IsNoQuery c.args.text.now) c.refused.result c.requires.mark c.refused.ensures.reply.memory
     (none_loaded c.args.store.now c.args.text.now c.in-Err.fault c.refused.result (not_parsed c.parse.result c.in-Err.fault c.args.text.now c.in-Err.is c.parse.ensures.reading) c.refused.ensures.wanting)
-
-pub returns-in-Err-clause-mark : goal.returns-in-Err-clause-mark
-returns-in-Err-clause-mark g c = mark_still g.D.Disk.tells (g.D.Disk.state c.args.disk.now) c.args.store.now c.args.ends.now c.refused.result c.requires.mark

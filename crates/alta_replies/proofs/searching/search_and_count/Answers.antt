@@ -7,7 +7,7 @@ use Rattle.alta_query.specs.View.{shape}
 use Rattle.alta_search.specs.Documents.{AreToCome}
 use Rattle.alta_replies.specs.Loading.{search_loads}
 use Rattle.alta_machine.specs.Searching.{found_line}
-use Rattle.alta_replies.proofs.LoadingLaws.{mark_loaded, queries_failed, queries_loaded}
+use Rattle.alta_replies.proofs.LoadingLaws.{queries_failed, queries_loaded}
 use Rattle.alta_replies.proofs.SearchLaws.{is_written_for, other_written}
 use Rattle.alta_replies.proofs.searching.search_and_count.Goals as goal
 
@@ -18,14 +18,9 @@ returns-in-Ok-clause-reply g c = λ s tell stands.
 
 pub returns-in-Ok-clause-queries : goal.returns-in-Ok-clause-queries
 returns-in-Ok-clause-queries g c =
-    queries_loaded g.D.Disk.tells g.D.Disk.state c.args.disk.now c.plan_and_load.new.disk (search_loads c.args.store.now (plan_of (shape c.args.query.now))) _ c.written-reply.result c.in-Ok.ensures.loads c.written-reply.ensures.memory
+    queries_loaded g.D.Disk.tells g.D.Disk.state c.args.disk.now c.plan_and_load.new.disk c.args.store.now c.args.ends.now c.plan_and_load.new.ends (search_loads c.args.store.now (plan_of (shape c.args.query.now))) _ c.written-reply.result c.in-Ok.ensures.loads c.written-reply.ensures.memory
     (other_written c.written-reply.result c.all_counted.result c.written-reply.ensures.reply c.all_counted.ensures.other)
 
 pub returns-in-Err-clause-queries : goal.returns-in-Err-clause-queries
 returns-in-Err-clause-queries g c =
-    queries_failed g.D.Disk.tells g.D.Disk.state c.args.disk.now c.plan_and_load.new.disk (search_loads c.args.store.now (plan_of (shape c.args.query.now))) c.in-Err.fault c.in-Err.ensures.loads c.in-Err.ensures.undamaged
-
-pub returns-in-Ok-clause-mark : goal.returns-in-Ok-clause-mark
-returns-in-Ok-clause-mark g c =
-    mark_loaded g.D.Disk.tells (g.D.Disk.state c.plan_and_load.new.disk) c.args.store.now c.args.ends.now c.plan_and_load.new.ends c.written-reply.result c.plan_and_load.ensures.mark
-    (other_written c.written-reply.result c.all_counted.result c.written-reply.ensures.reply c.all_counted.ensures.other)
+    queries_failed g.D.Disk.tells g.D.Disk.state c.args.disk.now c.plan_and_load.new.disk c.args.store.now c.args.ends.now c.plan_and_load.new.ends (search_loads c.args.store.now (plan_of (shape c.args.query.now))) c.in-Err.fault c.in-Err.ensures.loads

@@ -10,7 +10,7 @@ use Rattle.alta_search.specs.Tops.{AreToRank}
 use Rattle.alta_machine.specs.Scores.{scored}
 use Rattle.alta_replies.specs.Loading.{top_loads}
 use Rattle.alta_machine.specs.Searching.{score_lines, found_line}
-use Rattle.alta_replies.proofs.LoadingLaws.{mark_loaded, queries_failed, queries_loaded}
+use Rattle.alta_replies.proofs.LoadingLaws.{queries_failed, queries_loaded}
 use Rattle.alta_replies.proofs.SearchLaws.{is_written_for, other_written}
 use Rattle.alta_replies.proofs.searching.search_and_rank.Goals as goal
 
@@ -22,14 +22,9 @@ returns-in-Ok-clause-reply g c = λ s tell stands.
 
 pub returns-in-Ok-clause-queries : goal.returns-in-Ok-clause-queries
 returns-in-Ok-clause-queries g c =
-    queries_loaded g.D.Disk.tells g.D.Disk.state c.args.disk.now c.plan_and_load_for_top.new.disk (top_loads c.args.store.now (plan_of (shape c.args.query.now))) _ c.written-reply.result c.in-Ok.ensures.loads c.written-reply.ensures.memory
+    queries_loaded g.D.Disk.tells g.D.Disk.state c.args.disk.now c.plan_and_load_for_top.new.disk c.args.store.now c.args.ends.now c.plan_and_load_for_top.new.ends (top_loads c.args.store.now (plan_of (shape c.args.query.now))) _ c.written-reply.result c.in-Ok.ensures.loads c.written-reply.ensures.memory
     (other_written c.written-reply.result c.all_ranked.result c.written-reply.ensures.reply c.all_ranked.ensures.other)
 
 pub returns-in-Err-clause-queries : goal.returns-in-Err-clause-queries
 returns-in-Err-clause-queries g c =
-    queries_failed g.D.Disk.tells g.D.Disk.state c.args.disk.now c.plan_and_load_for_top.new.disk (top_loads c.args.store.now (plan_of (shape c.args.query.now))) c.in-Err.fault c.in-Err.ensures.loads c.in-Err.ensures.undamaged
-
-pub returns-in-Ok-clause-mark : goal.returns-in-Ok-clause-mark
-returns-in-Ok-clause-mark g c =
-    mark_loaded g.D.Disk.tells (g.D.Disk.state c.plan_and_load_for_top.new.disk) c.args.store.now c.args.ends.now c.plan_and_load_for_top.new.ends c.written-reply.result c.plan_and_load_for_top.ensures.mark
-    (other_written c.written-reply.result c.all_ranked.result c.written-reply.ensures.reply c.all_ranked.ensures.other)
+    queries_failed g.D.Disk.tells g.D.Disk.state c.args.disk.now c.plan_and_load_for_top.new.disk c.args.store.now c.args.ends.now c.plan_and_load_for_top.new.ends (top_loads c.args.store.now (plan_of (shape c.args.query.now))) c.in-Err.fault c.in-Err.ensures.loads

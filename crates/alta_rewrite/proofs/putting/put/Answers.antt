@@ -1,14 +1,14 @@
-use Rattle.std.proofs.Common.{[], ◌∷◌, subst, arith}
-use Rattle.alta_disk.specs.Disk.{Holds}
-use Rattle.alta_journal.specs.Journal.{EndsAt}
-use Rattle.alta_journal.specs.Places.{start_of}
-use Rattle.alta_journal.specs.declared.half.Half.{Half}
-use Rattle.alta_journal.specs.declared.places.TheConstants.{GATE_CLOSED}
+use Rattle.std.proofs.Common.{rules, arith}
 use Rattle.alta_rewrite.proofs.PutLaws.{puts_closed, run_put}
 use Rattle.alta_rewrite.proofs.putting.put.Goals as goal
 
-pub returns-in_err-close_half-clause-images : goal.returns-in_err-close_half-clause-images
-returns-in_err-close_half-clause-images g c = run_put _ _ _ c.args.slot c.args.pieces.now c.half_of.result c.half_of.ensures c.write_pieces.ensures.images c.close_half.ensures.images
+pub returns-in_err-close_half-clause-syncs : goal.returns-in_err-close_half-clause-syncs
+returns-in_err-close_half-clause-syncs g c = record {
+  images =
+      run_put _ _ _ c.args.slot c.args.pieces.now c.write_pieces.ensures.images c.close_half.ensures.syncs.images;
+  durable = search rules;
+  charges = search rules;
+}
 
 pub returns-clause-put : goal.returns-clause-put
 returns-clause-put g c = λ told.
@@ -18,9 +18,14 @@ returns-clause-put g c = λ told.
     let then = g.D.Disk.state c.close_half.new.disk in
     let lawful = g.met.D.Disk.lawful c.close_half.new.disk in
     puts_closed c.args.slot taken _ c.args.pieces.now _ (c.requires.whole told) laid _ (c.in_ok-write_pieces.ensures.written told) _
-    (subst (λ (h : Half). Holds now.content (start_of h) (GATE_CLOSED ∷ []) then.content) c.half_of.ensures (c.in_ok-close_half.ensures.written told))
-    (λ version. subst (λ (h : Half). EndsAt version (start_of h) (start_of h) [] then.content) c.half_of.ensures (c.in_ok-close_half.ensures.empty version told))
+    (c.in_ok-close_half.ensures.written told)
+    (λ version. c.in_ok-close_half.ensures.empty version told)
     (lawful.bytes then.clock then.content (lawful.counts_now then.clock then.content (omega arith) (lawful.present told)))
 
-pub returns-clause-images : goal.returns-clause-images
-returns-clause-images g c = run_put _ _ _ c.args.slot c.args.pieces.now c.half_of.result c.half_of.ensures c.write_pieces.ensures.images c.close_half.ensures.images
+pub returns-clause-syncs : goal.returns-clause-syncs
+returns-clause-syncs g c = record {
+  images =
+      run_put _ _ _ c.args.slot c.args.pieces.now c.write_pieces.ensures.images c.close_half.ensures.syncs.images;
+  durable = c.in_ok-close_half.ensures.syncs.durable;
+  charges = search rules;
+}

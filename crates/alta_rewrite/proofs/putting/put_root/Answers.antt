@@ -1,28 +1,41 @@
+use Rattle.std.proofs.Common.{rules}
 use Rattle.alta_rewrite.proofs.PutLaws.{put_follows}
 use Rattle.alta_rewrite.proofs.RunLaws.{done_as, held_put, leaves_opened, leaves_stands, opened_put, run_all, run_first, stands_put}
 use Rattle.alta_rewrite.proofs.putting.put_root.Goals as goal
 
+pub returns-in_err-put-clause-syncs : goal.returns-in_err-put-clause-syncs
+returns-in_err-put-clause-syncs g c = record {
+  images =
+      run_first g.D.Disk.tells c.args.slot c.args.root.now c.args.pieces.now _ (g.met.D.Disk.lawful c.args.disk.now) c.requires.settled _ c.put.ensures.syncs.images;
+  durable = search rules;
+  charges = search rules;
+}
+
 pub returns-in_err-put-clause-opened : goal.returns-in_err-put-clause-opened
 returns-in_err-put-clause-opened g c =
     leaves_opened g.D.Disk.tells c.args.slot c.args.root.now c.args.pieces.now _ (g.met.D.Disk.lawful c.args.disk.now) c.requires.settled c.requires.follows _
-    (run_first g.D.Disk.tells c.args.slot c.args.root.now c.args.pieces.now _ (g.met.D.Disk.lawful c.args.disk.now) c.requires.settled _ c.put.ensures.images)
+    (returns-in_err-put-clause-syncs g c).images
 
 pub returns-in_err-put-clause-stands : goal.returns-in_err-put-clause-stands
 returns-in_err-put-clause-stands g c =
     leaves_stands g.D.Disk.tells c.args.slot c.args.root.now c.args.pieces.now _ (g.met.D.Disk.lawful c.args.disk.now) c.requires.settled c.requires.follows _
-    (run_first g.D.Disk.tells c.args.slot c.args.root.now c.args.pieces.now _ (g.met.D.Disk.lawful c.args.disk.now) c.requires.settled _ c.put.ensures.images)
+    (returns-in_err-put-clause-syncs g c).images
 
 pub switch-requires-clause-follows : goal.switch-requires-clause-follows
 switch-requires-clause-follows g c = λ told. put_follows c.args.slot c.args.root.now c.args.pieces.now _ _ (c.requires.follows told) _ (c.in_ok-put.ensures.put told)
 
-pub returns-clause-images : goal.returns-clause-images
-returns-clause-images g c =
-    run_all g.D.Disk.tells c.args.slot c.args.root.now c.args.pieces.now _ (g.met.D.Disk.lawful c.args.disk.now) c.requires.settled _ _ c.put.ensures.images c.in_ok-put.ensures.durable c.in_ok-put.ensures.put
-    c.switch.ensures.images
+pub returns-clause-syncs : goal.returns-clause-syncs
+returns-clause-syncs g c = record {
+  images =
+      run_all g.D.Disk.tells c.args.slot c.args.root.now c.args.pieces.now _ (g.met.D.Disk.lawful c.args.disk.now) c.requires.settled _ _ c.put.ensures.syncs.images c.in_ok-put.ensures.syncs.durable c.in_ok-put.ensures.put
+      c.switch.ensures.syncs.images;
+  durable = c.switch.ensures.syncs.durable;
+  charges = search rules;
+}
 
 pub returns-clause-opened : goal.returns-clause-opened
 returns-clause-opened g c =
-    leaves_opened g.D.Disk.tells c.args.slot c.args.root.now c.args.pieces.now _ (g.met.D.Disk.lawful c.args.disk.now) c.requires.settled c.requires.follows _ (returns-clause-images g c)
+    leaves_opened g.D.Disk.tells c.args.slot c.args.root.now c.args.pieces.now _ (g.met.D.Disk.lawful c.args.disk.now) c.requires.settled c.requires.follows _ (returns-clause-syncs g c).images
 
 pub returns-clause-opened_then : goal.returns-clause-opened_then
 returns-clause-opened_then g c = λ coming told names.
@@ -30,7 +43,7 @@ returns-clause-opened_then g c = λ coming told names.
 
 pub returns-clause-stands : goal.returns-clause-stands
 returns-clause-stands g c =
-    leaves_stands g.D.Disk.tells c.args.slot c.args.root.now c.args.pieces.now _ (g.met.D.Disk.lawful c.args.disk.now) c.requires.settled c.requires.follows _ (returns-clause-images g c)
+    leaves_stands g.D.Disk.tells c.args.slot c.args.root.now c.args.pieces.now _ (g.met.D.Disk.lawful c.args.disk.now) c.requires.settled c.requires.follows _ (returns-clause-syncs g c).images
 
 pub returns-clause-stands_then : goal.returns-clause-stands_then
 returns-clause-stands_then g c = λ t coming levels told brings.

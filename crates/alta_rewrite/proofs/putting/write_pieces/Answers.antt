@@ -17,7 +17,10 @@ loop-piece-preserved g c = record {
       write_more taken _ _ c.args.pieces.now laid c.loop-piece.piece-index _ c.loop-piece-test.true _ (c.loop-piece.invariant.wrote told)
       (c.requires.fits c.loop-piece.piece-index _ c.loop-piece-test.true).0 _ (c.in_ok-write.ensures.written told);
   images = run_more _ _ _ _ _ _ c.loop-piece.invariant.images c.write.ensures.images (inside_all c.args.pieces.now c.loop-piece.piece-index _ _ c.loop-piece-test.true c.requires.fits);
-  faults = omega (arith, c.loop-piece.invariant.faults, c.write.ensures.cause.later);
-  taken = c.write.ensures.taken ∙ c.loop-piece.invariant.taken;
-  same_limit = c.write.ensures.limit ∙ c.loop-piece.invariant.same_limit;
+  costs = record {
+    faults = omega (arith, c.loop-piece.invariant.costs.faults, c.write.ensures.charges.costs.faults);
+    taken_up = omega (arith, c.loop-piece.invariant.costs.taken_up, c.write.ensures.charges.costs.taken_up);
+    taken = omega (arith, c.loop-piece.invariant.costs.taken, c.write.ensures.charges.costs.taken);
+    limit = c.write.ensures.charges.costs.limit ∙ c.loop-piece.invariant.costs.limit;
+  };
 }

@@ -1,4 +1,5 @@
-use Rattle.std.proofs.Common.{◌≡◌, ◌≤◌, take}
+use Rattle.std.proofs.Common.{take}
+use Rattle.alta_disk.specs.Calls.{Costs}
 use Rattle.alta_disk.specs.Disk.{Passes}
 use Rattle.alta_disk.specs.Parts.{Touches}
 use Rattle.alta_rewrite.specs.Puts.{Writes, ranges_in}
@@ -8,7 +9,5 @@ abbrev pub invariant-loop-piece : goal.invariant-loop-piece
 invariant-loop-piece g l = record {
   wrote : g.D.Disk.tells → Writes (take l.piece-index l.pieces) (g.D.Disk.state l.fn.disk).content (g.D.Disk.state l.disk).content;
   images : Passes (Touches (ranges_in l.pieces)) (g.D.Disk.state l.fn.disk) (g.D.Disk.state l.disk);
-  faults : (g.D.Disk.state l.fn.disk).faults ≤ (g.D.Disk.state l.disk).faults;
-  taken : (g.D.Disk.state l.disk).taken ≡ (g.D.Disk.state l.fn.disk).taken;
-  same_limit : (g.D.Disk.state l.disk).limit ≡ (g.D.Disk.state l.fn.disk).limit;
+  costs : Costs 0 (g.D.Disk.state l.fn.disk) (g.D.Disk.state l.disk);
 }

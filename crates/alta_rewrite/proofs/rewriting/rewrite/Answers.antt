@@ -1,15 +1,15 @@
 use Rattle.std.proofs.Common.{⊎_elim, inl, inr, ap, rules, List, Ok, Err, refl, subst, sym, ◌∙◌, arith}
 use Rattle.std.specs.Prelude.{⊤}
 use Rattle.std.specs.List.{All}
+use Rattle.alta_layout.specs.Places.{other}
+use Rattle.alta_layout.specs.declared.slot.Slot.{Slot}
 use Rattle.alta_disk.specs.Parts.{Touches}
 use Rattle.alta_disk.proofs.Moments.{leaves_start, passes_as, passes_start}
 use Rattle.alta_meaning.specs.Opened.{IsOpened}
 use Rattle.alta_meaning.specs.Views.{state_of}
-use Rattle.alta_root.specs.Places.{other}
 use Rattle.alta_root.specs.Slots.{Counts}
 use Rattle.alta_root.specs.Switches.{slot_range}
 use Rattle.alta_root.specs.declared.root.Root.{Root}
-use Rattle.alta_root.specs.declared.slot.Slot.{Slot}
 use Rattle.alta_rewrite.specs.Brings.{IsOpenedEither}
 use Rattle.alta_rewrite.specs.Puts.{Fills, MayPut, Puts, Putting}
 use Rattle.alta_rewrite.specs.declared.piece.Piece.{Piece}
@@ -160,7 +160,7 @@ returns-in_err-put_root-clause-opened g c = record {
       (drafts_as c.args.levels c.args.ends c.args.next c.args.location now.limit c.limit-limit.result c.limit-limit.ensures c.args.root.now (Ok c.in-Ok.draft) c.in-Ok.ensures) c.requires.names.few
       c.in_ok-pieces.pieces.items c.in_ok-pieces.ensures c.requires.names.number_is c.requires.names.location_is c.requires.names.rising (omega (arith, c.limit-limit.type_inv, c.limit-limit.ensures)) o there (may told) in
       leaves_told g.D.Disk.tells now (g.D.Disk.state c.put_root.new.disk) (IsOpenedEither o coming) (MayBecome now.limit o c.args.levels c.args.ends c.args.next c.args.location)
-      (Putting c.other.result c.in-Ok.draft.root c.deref.result.now) (g.met.D.Disk.lawful c.args.disk.now) c.put_root.ensures.images
+      (Putting c.other.result c.in-Ok.draft.root c.deref.result.now) (g.met.D.Disk.lawful c.args.disk.now) c.put_root.ensures.syncs.images
       (c.put_root.ensures.opened o coming (λ told. (may told).is)
       (λ told. names_as (other c.args.slot) c.other.result c.other.ensures c.in-Ok.draft.root c.in_ok-pieces.pieces.items c.deref.result.now c.deref.ensures.value coming now.content (naming_is told).names))
       (λ told z either. ⊎_elim (λ before. inl before) (λ later. inr (coming, (naming_is told).coming_is, later)) either);
@@ -171,7 +171,7 @@ returns-in_err-put_root-clause-opened g c = record {
 pub returns-in_err-put_root-clause-disk : goal.returns-in_err-put_root-clause-disk
 returns-in_err-put_root-clause-disk g c = record {
   images =
-      passes_as (g.D.Disk.state c.args.disk.now) (g.D.Disk.state c.put_root.new.disk) (Putting c.other.result c.in-Ok.draft.root c.deref.result.now) (λ old new. ⊤) c.put_root.ensures.images
+      passes_as (g.D.Disk.state c.args.disk.now) (g.D.Disk.state c.put_root.new.disk) (Putting c.other.result c.in-Ok.draft.root c.deref.result.now) (λ old new. ⊤) c.put_root.ensures.syncs.images
       (λ z left. (left.0, left.1, tt));
   durable =
       search rules;
@@ -234,7 +234,7 @@ returns-clause-opened g c = record {
       (drafts_as c.args.levels c.args.ends c.args.next c.args.location now.limit c.limit-limit.result c.limit-limit.ensures c.args.root.now (Ok c.in-Ok.draft) c.in-Ok.ensures) c.requires.names.few
       c.in_ok-pieces.pieces.items c.in_ok-pieces.ensures c.requires.names.number_is c.requires.names.location_is c.requires.names.rising (omega (arith, c.limit-limit.type_inv, c.limit-limit.ensures)) o there (may told) in
       leaves_told g.D.Disk.tells now (g.D.Disk.state c.put_root.new.disk) (IsOpenedEither o coming) (MayBecome now.limit o c.args.levels c.args.ends c.args.next c.args.location)
-      (Putting c.other.result c.in-Ok.draft.root c.deref.result.now) (g.met.D.Disk.lawful c.args.disk.now) c.put_root.ensures.images
+      (Putting c.other.result c.in-Ok.draft.root c.deref.result.now) (g.met.D.Disk.lawful c.args.disk.now) c.put_root.ensures.syncs.images
       (c.put_root.ensures.opened o coming (λ told. (may told).is)
       (λ told. names_as (other c.args.slot) c.other.result c.other.ensures c.in-Ok.draft.root c.in_ok-pieces.pieces.items c.deref.result.now c.deref.ensures.value coming now.content (naming_is told).names))
       (λ told z either. ⊎_elim (λ before. inl before) (λ later. inr (coming, (naming_is told).coming_is, later)) either);
@@ -284,7 +284,7 @@ returns-clause-answers g c = record {
 pub returns-clause-disk : goal.returns-clause-disk
 returns-clause-disk g c = record {
   images =
-      passes_as (g.D.Disk.state c.args.disk.now) (g.D.Disk.state c.put_root.new.disk) (Putting c.other.result c.in-Ok.draft.root c.deref.result.now) (λ old new. ⊤) c.put_root.ensures.images
+      passes_as (g.D.Disk.state c.args.disk.now) (g.D.Disk.state c.put_root.new.disk) (Putting c.other.result c.in-Ok.draft.root c.deref.result.now) (λ old new. ⊤) c.put_root.ensures.syncs.images
       (λ z left. (left.0, left.1, tt));
   durable =
       search rules;

@@ -1,6 +1,6 @@
 use Rattle.std.proofs.Common.{◌≤◌, ◌-◌, ◌+◌, ℕ}
+use Rattle.alta_layout.specs.declared.places.TheConstants.{HEAD_BYTES}
 use Rattle.alta_root.specs.Gaps.{IsGap, taken_by}
-use Rattle.alta_root.specs.declared.places.TheConstants.{HEAD_BYTES}
 use Rattle.alta_root.proofs.gaps.first_gap.Given as goal
 
 abbrev pub invariant-loop-at : goal.invariant-loop-at

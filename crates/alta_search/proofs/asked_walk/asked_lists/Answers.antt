@@ -32,30 +32,30 @@ asked_by_kind-requires-clause-pair g c = λ yes.
     omega (
       arith,
       c.requires.pair yes,
-      fresh_sized single_list single_list single_place single_left (map f c.args.words.now) c.in_ok-words.words.items c.in_ok-words.ensures.fresh,
+      fresh_sized single_list single_list single_place single_left (map f c.args.words.now) c.in_ok-words.words.items c.in_ok-words.ensures.start,
       length-map c.args.words.now f,
     )
 
 pub asked_by_kind-requires-clause-ends_unmoved : goal.asked_by_kind-requires-clause-ends_unmoved
-asked_by_kind-requires-clause-ends_unmoved g c = let f = c.in_ok-ends.ensures.fresh in f.unmoved ∙ ap (λ l. first_from l 0) (sym f.reads)
+asked_by_kind-requires-clause-ends_unmoved g c = let f = c.in_ok-ends.ensures.start in f.unmoved ∙ ap (λ l. first_from l 0) (sym f.reads)
 
 pub asked_by_kind-requires-clause-words_unmoved : goal.asked_by_kind-requires-clause-words_unmoved
 asked_by_kind-requires-clause-words_unmoved g c =
-    fresh_unmoved single_list single_list single_place single_left (map (lists_at c.args.tests.now) c.args.words.now) c.in_ok-words.words.items c.in_ok-words.ensures.fresh
+    fresh_unmoved single_list single_list single_place single_left (map (lists_at c.args.tests.now) c.args.words.now) c.in_ok-words.words.items c.in_ok-words.ensures.start
 
 pub returns-clause-count : goal.returns-clause-count
 returns-clause-count g c =
     let f = lists_at c.args.tests.now in let e = c.in_ok-ends.ends in let ws = c.in_ok-words.words.items in
     let fresh : IsFresh single_list single_list single_place single_left (f c.args.ends) e =
-    subst (λ ls. IsFresh single_list single_list single_place single_left ls e) c.terms_at.ensures c.in_ok-ends.ensures.fresh in
+    subst (λ ls. IsFresh single_list single_list single_place single_left ls e) c.terms_at.ensures c.in_ok-ends.ensures.start in
     c.in_ok-live.ensures.count
     ∙ ap (λ es. count_live (ends_asked c.args.followed es (map single_list ws)) c.args.gone.now 0) fresh.reads
     ∙ ap (λ ls. count_live (ends_asked c.args.followed (test_list (f c.args.ends)) ls) c.args.gone.now 0)
-    (fresh_lists single_list single_list single_place single_left (map f c.args.words.now) ws c.in_ok-words.ensures.fresh)
+    (fresh_lists single_list single_list single_place single_left (map f c.args.words.now) ws c.in_ok-words.ensures.start)
 
 pub returns-clause-most : goal.returns-clause-most
 returns-clause-most g c =
-    let f = lists_at c.args.tests.now in let fresh = c.in_ok-ends.ensures.fresh in
+    let f = lists_at c.args.tests.now in let fresh = c.in_ok-ends.ensures.start in
     omega (
       arith,
       c.in_ok-ends.ensures.exact,
@@ -64,14 +64,14 @@ returns-clause-most g c =
       c.asked_by_kind.ensures.steps,
       fresh.rest,
       ap count_locations c.terms_at.ensures,
-      fresh_left single_list single_list single_place single_left (map f c.args.words.now) c.in_ok-words.words.items c.in_ok-words.ensures.fresh,
+      fresh_left single_list single_list single_place single_left (map f c.args.words.now) c.in_ok-words.words.items c.in_ok-words.ensures.start,
       sum_by-cons count_lists (f c.args.ends) (map f c.args.words.now),
       sum_by-cons count_locations (f c.args.ends) (map f c.args.words.now),
     )
 
 pub returns-in_err-live-clause-most : goal.returns-in_err-live-clause-most
 returns-in_err-live-clause-most g c =
-    let f = lists_at c.args.tests.now in let fresh = c.in_ok-ends.ensures.fresh in
+    let f = lists_at c.args.tests.now in let fresh = c.in_ok-ends.ensures.start in
     omega (
       arith,
       c.in_ok-ends.ensures.exact,
@@ -80,7 +80,7 @@ returns-in_err-live-clause-most g c =
       c.asked_by_kind.ensures.steps,
       fresh.rest,
       ap count_locations c.terms_at.ensures,
-      fresh_left single_list single_list single_place single_left (map f c.args.words.now) c.in_ok-words.words.items c.in_ok-words.ensures.fresh,
+      fresh_left single_list single_list single_place single_left (map f c.args.words.now) c.in_ok-words.words.items c.in_ok-words.ensures.start,
       sum_by-cons count_lists (f c.args.ends) (map f c.args.words.now),
       sum_by-cons count_locations (f c.args.ends) (map f c.args.words.now),
     )

@@ -1,17 +1,14 @@
-use Rattle.std.proofs.Common.{◌+◌, sym, subst}
-use Rattle.alta_search.specs.Leads.{AreByRarest}
-use Rattle.alta_search.proofs.Paging.{rarest_none}
+use Rattle.std.proofs.Common.{sym, subst}
+use Rattle.std.specs.Prelude.{Option}
+use Rattle.alta_compile.specs.View.{tree}
+use Rattle.alta_compile.specs.declared.asked.Conjunction.{Conjunction}
 use Rattle.alta_search.proofs.cursor.begin.Goals as goal
+use Rattle.alta_search.specs.Walked.{BeginsReader}
 
-pub returns-in_ok-reader-in-None-clause-moves : goal.returns-in_ok-reader-in-None-clause-moves
-returns-in_ok-reader-in-None-clause-moves g c =
-    let moved = c.by_tree.new.steps + c.in_ok-reader-in-None.reader.moves in
-    subst (λ o. AreByRarest o c.args.snapshot.now c.args.steps.now moved) (sym c.in-None.is) (rarest_none c.args.snapshot.now c.args.steps.now moved)
+pub returns-in-Some : goal.returns-in-Some
+returns-in-Some g c =
+    subst (λ (o : Option Conjunction). BeginsReader (tree c.args.plan.now) o c.args.snapshot.now c.args.from c.args.steps.now c.by_word.new.steps c.by_word.result) (sym c.in-Some.is) c.by_word.ensures
 
-pub returns-in_ok-reader-in-None-clause-rarest : goal.returns-in_ok-reader-in-None-clause-rarest
-returns-in_ok-reader-in-None-clause-rarest g c =
-    subst (λ o. AreByRarest o c.args.snapshot.now c.args.steps.now c.by_tree.new.steps) (sym c.in-None.is) (rarest_none c.args.snapshot.now c.args.steps.now c.by_tree.new.steps)
-
-pub returns-in_err-reader-in-None-clause-rarest : goal.returns-in_err-reader-in-None-clause-rarest
-returns-in_err-reader-in-None-clause-rarest g c =
-    subst (λ o. AreByRarest o c.args.snapshot.now c.args.steps.now c.by_tree.new.steps) (sym c.in-None.is) (rarest_none c.args.snapshot.now c.args.steps.now c.by_tree.new.steps)
+pub returns-in-None : goal.returns-in-None
+returns-in-None g c =
+    subst (λ (o : Option Conjunction). BeginsReader (tree c.args.plan.now) o c.args.snapshot.now c.args.from c.args.steps.now c.by_tree.new.steps c.by_tree.result) (sym c.in-None.is) c.by_tree.ensures

@@ -1,4 +1,4 @@
-use Rattle.std.proofs.Common.{◌+◌, ◌∙◌, sym, subst, arith}
+use Rattle.std.proofs.Common.{◌+◌, ◌∙◌, sym, subst, arith, rules}
 use Rattle.std.specs.Prelude.{All, Some}
 use Rattle.alta_compile.specs.View.{tree}
 use Rattle.alta_search.specs.Met.{IsExact}
@@ -11,22 +11,22 @@ by_rarest-requires-clause-tests g c = c.requires.tests ∙ c.requires.found.test
 pub by_rarest-requires-clause-exact : goal.by_rarest-requires-clause-exact
 by_rarest-requires-clause-exact g c = subst (All IsExact) (sym c.requires.tests) c.requires.found.exact
 
-pub returns-clause-begun : goal.returns-clause-begun
-returns-clause-begun g c =
-    begun_by_word (tree c.args.plan.now) c.args.found.now c.args.snapshot.now c.in_ok-reader.reader c.args.from c.args.steps.now c.by_rarest.new.steps
-    c.requires.found c.in_ok-reader.ensures.led
+pub returns : goal.returns
+returns g c =
+    let found = c.args.found.now in let v = c.args.snapshot.now in let r = c.in_ok-reader.reader in let before = c.args.steps.now in let after = c.by_rarest.new.steps in
+    let led = c.in_ok-reader.ensures.led in let moves = rarest_moves found v r c.args.from before after led in
+    record {
+      begun = begun_by_word (tree c.args.plan.now) found v r c.args.from before after c.requires.found led;
+      moves = moves;
+      steps = record { most = omega (arith, led.steps); rarest = rarest_less (Some found) v before after (after + r.moves) (omega arith) moves };
+    }
 
-pub returns-clause-moves : goal.returns-clause-moves
-returns-clause-moves g c = rarest_moves c.args.found.now c.args.snapshot.now c.in_ok-reader.reader c.args.from c.args.steps.now c.by_rarest.new.steps c.in_ok-reader.ensures.led
-
-pub returns-clause-rarest : goal.returns-clause-rarest
-returns-clause-rarest g c =
-    rarest_less (Some c.args.found.now) c.args.snapshot.now c.args.steps.now c.by_rarest.new.steps (c.by_rarest.new.steps + c.in_ok-reader.reader.moves) (omega arith)
-    (rarest_moves c.args.found.now c.args.snapshot.now c.in_ok-reader.reader c.args.from c.args.steps.now c.by_rarest.new.steps c.in_ok-reader.ensures.led)
-
-pub returns-clause-most : goal.returns-clause-most
-returns-clause-most g c = let led = c.in_ok-reader.ensures.led in omega (arith, led.steps)
-
-pub returns-in_err-reader-clause-rarest : goal.returns-in_err-reader-clause-rarest
-returns-in_err-reader-clause-rarest g c =
-    rarest_failed (Some c.args.found.now) c.args.snapshot.now c.args.steps.now c.by_rarest.new.steps (omega (arith, c.in_err-reader.ensures.failed))
+pub returns-in_err-reader : goal.returns-in_err-reader
+returns-in_err-reader g c = record {
+  begun = search rules;
+  moves = search rules;
+  steps = record {
+    most = omega (arith, c.in_err-reader.ensures.failed);
+    rarest = rarest_failed (Some c.args.found.now) c.args.snapshot.now c.args.steps.now c.by_rarest.new.steps (omega (arith, c.in_err-reader.ensures.failed));
+  };
+}

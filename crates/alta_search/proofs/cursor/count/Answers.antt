@@ -1,42 +1,49 @@
-use Rattle.std.proofs.Common.{◌≡◌, ℕ, List, length, subst, ap, arith}
-use Rattle.std.specs.Prelude.{IfSome}
+use Rattle.std.proofs.Common.{subst, ap, ◌∙◌}
 use Rattle.alta_compile.specs.Conjoined.{conjunction_of}
-use Rattle.alta_compile.specs.Space.{Placed}
 use Rattle.alta_compile.specs.View.{tree}
 use Rattle.alta_query.specs.View.{shape}
-use Rattle.alta_search.specs.Answers.{coming}
-use Rattle.alta_search.specs.Leads.{AreByRarest}
-use Rattle.alta_search.specs.Plans.{lists, locations}
-use Rattle.alta_search.specs.View.{View, Shows}
-use Rattle.alta_search.proofs.Either.{at_once}
+use Rattle.alta_search.specs.View.{View}
+use Rattle.alta_search.specs.Walked.{CountsAnswers}
+use Rattle.alta_search.proofs.Counted.{title_three, title_exact, title_counts, stem_some, stem_counts, either_exact, either_counts}
 use Rattle.alta_search.proofs.cursor.count.Goals as goal
 
-pub returns-in-Some-clause-count : goal.returns-in-Some-clause-count
-returns-in-Some-clause-count g c = λ space shows.
-    let P : View → ℕ → Type 0 = λ v n. (space : List Placed) → Shows space v → n ≡ length (coming space (tree c.args.plan.now) v 0) in
-    at_once c.in_ok-at_once.at_once c.in-Some.live (P c.args.snapshot.now) c.in-Some.is
-    (subst (λ (v : View). IfSome c.in_ok-at_once.at_once (P v)) c.whole.ensures c.in_ok-at_once.ensures.count) space shows
+pub count_titled-requires-clause-three : goal.count_titled-requires-clause-three
+count_titled-requires-clause-three g c =
+    title_three (shape c.args.query.now) (tree c.args.plan.now) c.whole-section.result c.requires.query (ap (λ (v : View). v.tests) c.whole-section.ensures ∙ c.requires.tests) c.in-Title.ensures
 
-pub returns-in-Some-clause-most : goal.returns-in-Some-clause-most
-returns-in-Some-clause-most g c =
-    omega (arith, c.count_at_once.ensures.most, ap (λ (v : View). locations v.cuts) c.whole.ensures, ap (λ (v : View). lists v.cuts) c.whole.ensures)
+pub count_titled-requires-clause-exact : goal.count_titled-requires-clause-exact
+count_titled-requires-clause-exact g c =
+    title_exact (shape c.args.query.now) (tree c.args.plan.now) c.whole-section.result c.requires.query (ap (λ (v : View). v.tests) c.whole-section.ensures ∙ c.requires.tests) c.in-Title.ensures
 
-pub returns-in-Some-clause-rarest : goal.returns-in-Some-clause-rarest
-returns-in-Some-clause-rarest g c =
-    subst (λ (v : View). AreByRarest (conjunction_of (shape c.args.query.now)) v c.args.steps.now c.count_at_once.new.steps) c.whole.ensures c.count_at_once.ensures.rarest
+pub count_stem-requires : goal.count_stem-requires
+count_stem-requires g c = record {
+  some = stem_some (shape c.args.query.now) (tree c.args.plan.now) c.whole-section.result c.requires.query (ap (λ (v : View). v.tests) c.whole-section.ensures ∙ c.requires.tests) c.in-Stem.ensures;
+}
 
-pub returns-in-None-clause-most : goal.returns-in-None-clause-most
-returns-in-None-clause-most g c = omega (arith, c.count_by_reader.ensures.most, c.in_ok-at_once.ensures.none c.in-None.is)
+pub count_either-requires-clause-some : goal.count_either-requires-clause-some
+count_either-requires-clause-some g c = c.in-Either.ensures.1
 
-pub returns-in-None-clause-rarest : goal.returns-in-None-clause-rarest
-returns-in-None-clause-rarest g c =
-    subst (λ before. AreByRarest (conjunction_of (shape c.args.query.now)) c.args.snapshot.now before c.count_by_reader.new.steps)
-    (c.in_ok-at_once.ensures.none c.in-None.is) c.count_by_reader.ensures.rarest
+pub count_either-requires-clause-exact : goal.count_either-requires-clause-exact
+count_either-requires-clause-exact g c =
+    either_exact (shape c.args.query.now) (tree c.args.plan.now) c.whole-section.result c.requires.query (ap (λ (v : View). v.tests) c.whole-section.ensures ∙ c.requires.tests) c.in-Either.ensures.0
 
-pub returns-in_err-at_once-clause-most : goal.returns-in_err-at_once-clause-most
-returns-in_err-at_once-clause-most g c =
-    omega (arith, c.count_at_once.ensures.most, ap (λ (v : View). locations v.cuts) c.whole.ensures, ap (λ (v : View). lists v.cuts) c.whole.ensures)
+pub returns-in-Title : goal.returns-in-Title
+returns-in-Title g c =
+    let q = shape c.args.query.now in let p = tree c.args.plan.now in
+    subst (λ (v : View). CountsAnswers p (conjunction_of q) v c.args.steps.now c.count_titled.new.steps c.count_titled.result) c.whole-section.ensures
+    (title_counts q p c.whole-section.result c.requires.query (ap (λ (v : View). v.tests) c.whole-section.ensures ∙ c.requires.tests) c.in-Title.ensures
+    c.args.steps.now c.count_titled.new.steps c.count_titled.result c.count_titled.ensures)
 
-pub returns-in_err-at_once-clause-rarest : goal.returns-in_err-at_once-clause-rarest
-returns-in_err-at_once-clause-rarest g c =
-    subst (λ (v : View). AreByRarest (conjunction_of (shape c.args.query.now)) v c.args.steps.now c.count_at_once.new.steps) c.whole.ensures c.count_at_once.ensures.rarest
+pub returns-in-Stem : goal.returns-in-Stem
+returns-in-Stem g c =
+    let q = shape c.args.query.now in let p = tree c.args.plan.now in
+    subst (λ (v : View). CountsAnswers p (conjunction_of q) v c.args.steps.now c.count_stem.new.steps c.count_stem.result) c.whole-section.ensures
+    (stem_counts q p c.whole-section.result c.requires.query (ap (λ (v : View). v.tests) c.whole-section.ensures ∙ c.requires.tests) c.in-Stem.ensures
+    c.args.steps.now c.count_stem.new.steps c.count_stem.result c.count_stem.ensures)
+
+pub returns-in-Either : goal.returns-in-Either
+returns-in-Either g c =
+    let q = shape c.args.query.now in let p = tree c.args.plan.now in
+    subst (λ (v : View). CountsAnswers p (conjunction_of q) v c.args.steps.now c.count_either.new.steps c.count_either.result) c.whole-section.ensures
+    (either_counts q p c.whole-section.result c.requires.query (ap (λ (v : View). v.tests) c.whole-section.ensures ∙ c.requires.tests) c.in-Either.ensures.0
+    c.args.steps.now c.count_either.new.steps c.count_either.result c.count_either.ensures)

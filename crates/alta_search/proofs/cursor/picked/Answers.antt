@@ -26,9 +26,9 @@ returns-clause-part g c =
     (λ (r : Picked × ℕ). r.1 ≡ v.place) (λ (r : Picked × ℕ). r.1 ≡ v.place)
     (λ (r : Picked × ℕ). (space : List Placed) → Shows space s → IsPart (coming space p s c.args.from) (coming space p s r.1) c.args.count (rows_at s.rows r.0.picks.items) r.0.more r.1)
     (λ r part here _. λ space shows.
-    part_is p s u v c.args.from c.args.steps.now c.begin.new.steps c.next_picks-picks.new.steps c.in_ok-reader.ensures.begun c.next_picks-picks.ensures.onward c.requires.top space shows
+    part_is p s u v c.args.from c.args.steps.now c.begin.new.steps c.next_picks-picks.new.steps c.in_ok-reader.ensures.begun c.next_picks-picks.ensures.picks.onward c.requires.top space shows
     c.args.count (rows_at s.rows r.0.picks.items) r.0.more r.1 here part)
-    c.next_picks-picks.ensures.part c.next_picks-picks.ensures.place c.next_picks-picks.ensures.place
+    c.next_picks-picks.ensures.picks.part c.next_picks-picks.ensures.place c.next_picks-picks.ensures.place
 
 pub returns-clause-lazy : goal.returns-clause-lazy
 returns-clause-lazy g c =
@@ -39,14 +39,13 @@ returns-clause-lazy g c =
     (λ (r : Picked × ℕ). IsOneFound p → IsTrue r.0.more → c.next_picks-picks.new.steps ≤ c.args.steps.now + lists s.cuts + locations_below r.1 s.cuts)
     (λ r part here unpassed. λ found some.
     subst (λ (n : ℕ). c.next_picks-picks.new.steps ≤ c.args.steps.now + lists s.cuts + locations_below n s.cuts) (sym here)
-    (page_lazy p s u v c.args.from c.args.steps.now c.begin.new.steps c.next_picks-picks.new.steps c.in_ok-reader.ensures.begun c.next_picks-picks.ensures.onward c.requires.top unpassed found (part.below some)))
-    c.next_picks-picks.ensures.part c.next_picks-picks.ensures.place c.next_picks-picks.ensures.unpassed
+    (page_lazy p s u v c.args.from c.args.steps.now c.begin.new.steps c.next_picks-picks.new.steps c.in_ok-reader.ensures.begun c.next_picks-picks.ensures.picks.onward c.requires.top unpassed found (part.below some)))
+    c.next_picks-picks.ensures.picks.part c.next_picks-picks.ensures.place c.next_picks-picks.ensures.unpassed
 
-pub returns-clause-rarest : goal.returns-clause-rarest
-returns-clause-rarest g c =
-    rarest_onward c.args.found.now c.args.section.now c.in_ok-reader.reader c.next_picks-picks.new.reader c.args.steps.now c.begin.new.steps c.next_picks-picks.new.steps c.in_ok-reader.ensures.moves c.next_picks-picks.ensures.onward
-
-pub returns-clause-most : goal.returns-clause-most
-returns-clause-most g c =
-    page_most (tree c.args.plan.now) c.args.section.now c.in_ok-reader.reader c.next_picks-picks.new.reader c.args.from c.args.steps.now c.begin.new.steps c.next_picks-picks.new.steps
-    c.in_ok-reader.ensures.begun c.next_picks-picks.ensures.onward c.requires.top
+pub returns-clause-steps : goal.returns-clause-steps
+returns-clause-steps g c =
+    let v = c.args.section.now in let u = c.in_ok-reader.reader in let w = c.next_picks-picks.new.reader in let before = c.args.steps.now in let begun = c.begin.new.steps in let after = c.next_picks-picks.new.steps in
+    record {
+      most = page_most (tree c.args.plan.now) v u w c.args.from before begun after c.in_ok-reader.ensures.begun c.next_picks-picks.ensures.picks.onward c.requires.top;
+      rarest = rarest_onward c.args.found.now v u w before begun after c.in_ok-reader.ensures.moves c.next_picks-picks.ensures.picks.onward;
+    }

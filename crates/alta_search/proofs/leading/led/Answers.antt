@@ -30,28 +30,28 @@ by_lead-requires-clause-lead g c =
     omega (
       arith,
       c.requires.within,
-      fresh_sized single_list single_list single_place single_left (map (lists_at c.args.tests.now) c.args.words.now) c.in_ok-words.words.items c.in_ok-words.ensures.fresh,
+      fresh_sized single_list single_list single_place single_left (map (lists_at c.args.tests.now) c.args.words.now) c.in_ok-words.words.items c.in_ok-words.ensures.start,
       length-map c.args.words.now (lists_at c.args.tests.now),
     )
 
 pub by_lead-requires-clause-ends_unmoved : goal.by_lead-requires-clause-ends_unmoved
-by_lead-requires-clause-ends_unmoved g c = let f = c.in_ok-ends.ensures.fresh in f.unmoved ∙ ap (λ l. first_from l 0) (sym f.reads)
+by_lead-requires-clause-ends_unmoved g c = let f = c.in_ok-ends.ensures.start in f.unmoved ∙ ap (λ l. first_from l 0) (sym f.reads)
 
 pub by_lead-requires-clause-words_unmoved : goal.by_lead-requires-clause-words_unmoved
 by_lead-requires-clause-words_unmoved g c =
-    fresh_unmoved single_list single_list single_place single_left (map (lists_at c.args.tests.now) c.args.words.now) c.in_ok-words.words.items c.in_ok-words.ensures.fresh
+    fresh_unmoved single_list single_list single_place single_left (map (lists_at c.args.tests.now) c.args.words.now) c.in_ok-words.words.items c.in_ok-words.ensures.start
 
 pub by_lead-requires-clause-negated_unmoved : goal.by_lead-requires-clause-negated_unmoved
 by_lead-requires-clause-negated_unmoved g c =
-    fresh_unmoved single_list single_list single_place single_left (map (lists_at c.args.tests.now) c.args.negated.now) c.in_ok-negated.negated.items c.in_ok-negated.ensures.fresh
+    fresh_unmoved single_list single_list single_place single_left (map (lists_at c.args.tests.now) c.args.negated.now) c.in_ok-negated.negated.items c.in_ok-negated.ensures.start
 
 pub returns-clause-led : goal.returns-clause-led
 returns-clause-led g c =
     let e = c.in_ok-ends.ensures in
     led_is (lists_at c.args.tests.now) c.args.ends c.args.words.now c.args.negated.now c.args.lead c.requires.within c.requires.cut c.requires.single
     c.in_ok-ends.ends c.in_ok-words.words.items c.in_ok-negated.negated.items c.by_lead.result c.args.from c.args.steps.now c.word_readers-2.new.steps c.by_lead.new.steps
-    (subst (λ ls. IsFresh single_list single_list single_place single_left ls c.in_ok-ends.ends) c.terms_at.ensures e.fresh)
-    c.in_ok-words.ensures.fresh c.in_ok-negated.ensures.fresh c.by_lead.ensures
+    (subst (λ ls. IsFresh single_list single_list single_place single_left ls c.in_ok-ends.ends) c.terms_at.ensures e.start)
+    c.in_ok-words.ensures.start c.in_ok-negated.ensures.start c.by_lead.ensures
     (omega (arith, e.exact, ap count_lists c.terms_at.ensures, c.in_ok-words.ensures.exact, c.in_ok-negated.ensures.exact))
     c.requires.least c.requires.some_ends c.requires.some_words
 

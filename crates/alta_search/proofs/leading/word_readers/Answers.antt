@@ -1,4 +1,4 @@
-use Rattle.std.proofs.Common.{◌≡◌, ℕ, ◌<◌, List, [], map, take_all, length, get_or, sym, subst, ap, arith}
+use Rattle.std.proofs.Common.{◌≡◌, ℕ, ◌<◌, List, [], map, take_all, length, get_or, sym, subst, ap, arith, rules}
 use Rattle.std.specs.Prelude.{sum_by}
 use Rattle.std.proofs.lemmas.Grind.{get_or_default_zero}
 use Rattle.alta_search.specs.Lists.{lists_at, count_lists, IsCut}
@@ -41,32 +41,42 @@ word_reader-requires-clause-single g c =
     subst IsSingle (sym c.terms_at.ensures)
     (at_item IsSingle (lists_at c.args.tests.now) c.args.uses.now c.loop-index.index-index (get_or c.args.uses.now c.loop-index.index-index 0) c.loop-index-test.true (item c.args.uses.now c.loop-index.index-index c.loop-index-test.true) c.requires.single)
 
-pub returns-in_err-reader-clause-most : goal.returns-in_err-reader-clause-most
-returns-in_err-reader-clause-most g c =
-    omega (
-      arith,
-      c.word_reader.ensures.most,
-      c.loop-index.invariant.1,
-      sizes c.args.tests.now c.args.uses.now,
-      ap count_lists c.terms_at.ensures,
-      most_of (size c.args.tests.now) c.args.uses.now c.loop-index.index-index (get_or c.args.uses.now c.loop-index.index-index 0) c.loop-index-test.true (item c.args.uses.now c.loop-index.index-index c.loop-index-test.true),
-    )
+pub returns-in_err-reader : goal.returns-in_err-reader
+returns-in_err-reader g c =
+    record {
+      sound = search rules;
+      start = search rules;
+      exact = search rules;
+      most = omega (
+        arith,
+        c.word_reader.ensures.most,
+        c.loop-index.invariant.1,
+        sizes c.args.tests.now c.args.uses.now,
+        ap count_lists c.terms_at.ensures,
+        most_of (size c.args.tests.now) c.args.uses.now c.loop-index.index-index (get_or c.args.uses.now c.loop-index.index-index 0) c.loop-index-test.true (item c.args.uses.now c.loop-index.index-index c.loop-index-test.true),
+      );
+    }
 
-pub returns-in_err-push-clause-most : goal.returns-in_err-push-clause-most
-returns-in_err-push-clause-most g c =
-    omega (
-      arith,
-      c.word_reader.ensures.most,
-      c.loop-index.invariant.1,
-      sizes c.args.tests.now c.args.uses.now,
-      ap count_lists c.terms_at.ensures,
-      most_of (size c.args.tests.now) c.args.uses.now c.loop-index.index-index (get_or c.args.uses.now c.loop-index.index-index 0) c.loop-index-test.true (item c.args.uses.now c.loop-index.index-index c.loop-index-test.true),
-    )
+pub returns-in_err-push : goal.returns-in_err-push
+returns-in_err-push g c =
+    record {
+      sound = search rules;
+      start = search rules;
+      exact = search rules;
+      most = omega (
+        arith,
+        c.word_reader.ensures.most,
+        c.loop-index.invariant.1,
+        sizes c.args.tests.now c.args.uses.now,
+        ap count_lists c.terms_at.ensures,
+        most_of (size c.args.tests.now) c.args.uses.now c.loop-index.index-index (get_or c.args.uses.now c.loop-index.index-index 0) c.loop-index-test.true (item c.args.uses.now c.loop-index.index-index c.loop-index-test.true),
+      );
+    }
 
 pub loop-index-preserved : goal.loop-index-preserved
 loop-index-preserved g c =
     let e = c.in_ok-reader.ensures in
-    let fresh = subst (λ ls. IsFresh single_list single_list single_place single_left ls c.in_ok-reader.reader) c.terms_at.ensures e.fresh in (
+    let fresh = subst (λ ls. IsFresh single_list single_list single_place single_left ls c.in_ok-reader.reader) c.terms_at.ensures e.start in (
       each_more (Stands c.args.tests.now) c.args.uses.now c.loop-index.index-index c.loop-index.readers.items c.push.new.self.items (get_or c.args.uses.now c.loop-index.index-index 0) c.in_ok-reader.reader
           c.loop-index-test.true (item c.args.uses.now c.loop-index.index-index c.loop-index-test.true) c.in_ok-push.ensures.items c.loop-index.invariant.0 (e.sound, fresh),
       omega (
@@ -78,21 +88,14 @@ loop-index-preserved g c =
       ),
     )
 
-pub returns-clause-sound : goal.returns-clause-sound
-returns-clause-sound g c =
-    each_first IsSoundSingle (Fits c.args.tests.now) c.args.uses.now c.loop-index.readers.items
-    (each_all (Stands c.args.tests.now) c.args.uses.now c.loop-index.index-index c.loop-index.readers.items c.loop-index-test.false c.loop-index.invariant.0)
-
-pub returns-clause-fresh : goal.returns-clause-fresh
-returns-clause-fresh g c =
-    each_map (IsFresh single_list single_list single_place single_left) (lists_at c.args.tests.now) c.args.uses.now c.loop-index.readers.items
-    (each_second IsSoundSingle (Fits c.args.tests.now) c.args.uses.now c.loop-index.readers.items
-    (each_all (Stands c.args.tests.now) c.args.uses.now c.loop-index.index-index c.loop-index.readers.items c.loop-index-test.false c.loop-index.invariant.0))
-
-pub returns-clause-exact : goal.returns-clause-exact
-returns-clause-exact g c =
-    omega (arith, c.loop-index.invariant.1, ap (sum_by (size c.args.tests.now)) (take_all c.loop-index.index-index c.args.uses.now c.loop-index-test.false), sizes c.args.tests.now c.args.uses.now)
-
-pub returns-clause-most : goal.returns-clause-most
-returns-clause-most g c =
-    omega (arith, c.loop-index.invariant.1, ap (sum_by (size c.args.tests.now)) (take_all c.loop-index.index-index c.args.uses.now c.loop-index-test.false), sizes c.args.tests.now c.args.uses.now)
+pub returns : goal.returns
+returns g c =
+    record {
+      sound = each_first IsSoundSingle (Fits c.args.tests.now) c.args.uses.now c.loop-index.readers.items
+          (each_all (Stands c.args.tests.now) c.args.uses.now c.loop-index.index-index c.loop-index.readers.items c.loop-index-test.false c.loop-index.invariant.0);
+      start = each_map (IsFresh single_list single_list single_place single_left) (lists_at c.args.tests.now) c.args.uses.now c.loop-index.readers.items
+          (each_second IsSoundSingle (Fits c.args.tests.now) c.args.uses.now c.loop-index.readers.items
+          (each_all (Stands c.args.tests.now) c.args.uses.now c.loop-index.index-index c.loop-index.readers.items c.loop-index-test.false c.loop-index.invariant.0));
+      exact = omega (arith, c.loop-index.invariant.1, ap (sum_by (size c.args.tests.now)) (take_all c.loop-index.index-index c.args.uses.now c.loop-index-test.false), sizes c.args.tests.now c.args.uses.now);
+      most = omega (arith, c.loop-index.invariant.1, ap (sum_by (size c.args.tests.now)) (take_all c.loop-index.index-index c.args.uses.now c.loop-index-test.false), sizes c.args.tests.now c.args.uses.now);
+    }

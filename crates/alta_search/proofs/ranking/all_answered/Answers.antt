@@ -37,14 +37,14 @@ returns-clause-answers g c =
     (λ picks answers. λ space shows.
     subst (λ (x : View). (space : List Placed) → Shows space x → rows_at x.rows picks.items ≡ coming space p x 0) c.first-section.ensures answers space
     (first_shows (c.len.result - 1) space v shows))
-    c.answered-picks.ensures.answers
+    c.answered-picks.ensures.walks.answer
 
 pub returns-clause-most : goal.returns-clause-most
 returns-clause-most g c =
     let v = c.args.snapshot.now in
     walk_steps v (c.len.result - 1) c.args.steps.now c.answered-picks.new.steps
     (one_less c.len.result (length v.cuts) v.tests (tests_of (tree c.args.plan.now)) title_end c.requires.tests c.len.ensures.tests c.len.ensures.cuts)
-    (subst (λ (x : View). c.answered-picks.new.steps ≤ c.args.steps.now + locations x.cuts + lists x.cuts) c.first-section.ensures c.answered-picks.ensures.most)
+    (subst (λ (x : View). c.answered-picks.new.steps ≤ c.args.steps.now + locations x.cuts + lists x.cuts) c.first-section.ensures c.answered-picks.ensures.walks.most)
 
 pub returns-in_err-found-clause-most : goal.returns-in_err-found-clause-most
 returns-in_err-found-clause-most g c =

@@ -5,7 +5,11 @@ use Rattle.alta_search.specs.Told.{rows_at}
 use Rattle.alta_search.proofs.Paging.{all_picked}
 use Rattle.alta_search.proofs.ranking.answered.Goals as goal
 
-pub returns-clause-answers : goal.returns-clause-answers
-returns-clause-answers g c = λ space shows.
+pub returns-clause-walks : goal.returns-clause-walks
+returns-clause-walks g c =
     let s = c.args.snapshot.now in
-    all_picked space (tree c.args.plan.now) s TOP (rows_at s.rows c.in_ok-picked.picked.picks.items) (omega (arith, c.in_ok-picked.ensures.few)) (c.in_ok-picked.ensures.part space shows).answers
+    record {
+      answer = λ space shows.
+          all_picked space (tree c.args.plan.now) s TOP (rows_at s.rows c.in_ok-picked.picked.picks.items) (omega (arith, c.in_ok-picked.ensures.few)) (c.in_ok-picked.ensures.part space shows).answers;
+      most = c.picked.ensures.steps.most;
+    }

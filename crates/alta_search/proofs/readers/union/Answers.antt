@@ -1,4 +1,4 @@
-use Rattle.std.proofs.Common.{◌≡◌, ◌+◌, ◌<◌, ℕ, List, [], map, take_all, length, sym, subst, ap, ◌∙◌, arith}
+use Rattle.std.proofs.Common.{◌≡◌, ◌+◌, ◌<◌, ℕ, List, [], map, take_all, length, sym, subst, ap, ◌∙◌, arith, rules}
 use Rattle.std.specs.Prelude.{All, sum_by}
 use Rattle.std.specs.List.{concat}
 use Rattle.std.proofs.lemmas.List.{length-map}
@@ -27,27 +27,37 @@ chain-requires g c =
     subst (λ ls. IsRising (concat (map level_list ls))) (sym c.deref.ensures.value)
     (at_item (λ levels. All (λ (l : List ℕ). 0 < length l) levels × IsRising (concat levels)) term_lists c.args.terms.now c.loop-term.term-index c.term-item.result c.loop-term-test.true c.term-item.is c.requires).1
 
-pub returns-in_err-reader-clause-most : goal.returns-in_err-reader-clause-most
-returns-in_err-reader-clause-most g c =
-    omega (
-      arith,
-      c.chain.ensures.most,
-      c.loop-term.invariant.1,
-      sizes c.args.terms.now,
-      ap length c.deref.ensures.value ∙ sym (length-map c.term-item.result.levels.items level_list),
-      most_of size c.args.terms.now c.loop-term.term-index c.term-item.result c.loop-term-test.true c.term-item.is,
-    )
+pub returns-in_err-reader : goal.returns-in_err-reader
+returns-in_err-reader g c =
+    record {
+      sound = search rules;
+      start = search rules;
+      exact = search rules;
+      most = omega (
+        arith,
+        c.chain.ensures.most,
+        c.loop-term.invariant.1,
+        sizes c.args.terms.now,
+        ap length c.deref.ensures.value ∙ sym (length-map c.term-item.result.levels.items level_list),
+        most_of size c.args.terms.now c.loop-term.term-index c.term-item.result c.loop-term-test.true c.term-item.is,
+      );
+    }
 
-pub returns-in_err-push-clause-most : goal.returns-in_err-push-clause-most
-returns-in_err-push-clause-most g c =
-    omega (
-      arith,
-      c.chain.ensures.most,
-      c.loop-term.invariant.1,
-      sizes c.args.terms.now,
-      ap length c.deref.ensures.value ∙ sym (length-map c.term-item.result.levels.items level_list),
-      most_of size c.args.terms.now c.loop-term.term-index c.term-item.result c.loop-term-test.true c.term-item.is,
-    )
+pub returns-in_err-push : goal.returns-in_err-push
+returns-in_err-push g c =
+    record {
+      sound = search rules;
+      start = search rules;
+      exact = search rules;
+      most = omega (
+        arith,
+        c.chain.ensures.most,
+        c.loop-term.invariant.1,
+        sizes c.args.terms.now,
+        ap length c.deref.ensures.value ∙ sym (length-map c.term-item.result.levels.items level_list),
+        most_of size c.args.terms.now c.loop-term.term-index c.term-item.result c.loop-term-test.true c.term-item.is,
+      );
+    }
 
 pub loop-term-preserved : goal.loop-term-preserved
 loop-term-preserved g c =
@@ -75,22 +85,19 @@ new-requires-clause-unmoved g c =
     terms_unmoved term_lists IsSoundTerm term_list term_list term_place term_left c.args.terms.now c.loop-term.readers.items
     (each_all (IsTermReader term_lists IsSoundTerm term_list term_list term_place term_left) c.args.terms.now c.loop-term.term-index c.loop-term.readers.items c.loop-term-test.false c.loop-term.invariant.0)
 
-pub returns-clause-fresh : goal.returns-clause-fresh
-returns-clause-fresh g c =
-    let xs = c.args.terms.now in let rs = c.loop-term.readers.items in let e = c.new.ensures in
-    let each = each_all (IsTermReader term_lists IsSoundTerm term_list term_list term_place term_left) xs c.loop-term.term-index rs c.loop-term-test.false c.loop-term.invariant.0 in
-    let same = terms_lists term_lists IsSoundTerm term_list term_list term_place term_left xs rs each in
+pub returns : goal.returns
+returns g c =
     record {
-      reads = e.list ∙ ap union_of same;
-      counts = λ place. ap (λ l. count_from l place + count_below place (map term_lists xs)) e.all ∙ terms_counts term_lists IsSoundTerm term_list term_list term_place term_left xs rs place each;
-      unmoved = e.unmoved ∙ ap (λ ls. first_from (union_of ls) 0) same;
-      rest = e.left ∙ terms_left term_lists IsSoundTerm term_list term_list term_place term_left xs rs each;
+      sound = c.new.ensures.sound;
+      start = let xs = c.args.terms.now in let rs = c.loop-term.readers.items in let e = c.new.ensures in
+          let each = each_all (IsTermReader term_lists IsSoundTerm term_list term_list term_place term_left) xs c.loop-term.term-index rs c.loop-term-test.false c.loop-term.invariant.0 in
+          let same = terms_lists term_lists IsSoundTerm term_list term_list term_place term_left xs rs each in
+          record {
+            reads = e.list ∙ ap union_of same;
+            counts = λ place. ap (λ l. count_from l place + count_below place (map term_lists xs)) e.all ∙ terms_counts term_lists IsSoundTerm term_list term_list term_place term_left xs rs place each;
+            unmoved = e.unmoved ∙ ap (λ ls. first_from (union_of ls) 0) same;
+            rest = e.left ∙ terms_left term_lists IsSoundTerm term_list term_list term_place term_left xs rs each;
+          };
+      exact = omega (arith, c.loop-term.invariant.1, ap (sum_by size) (take_all c.loop-term.term-index c.args.terms.now c.loop-term-test.false), sizes c.args.terms.now);
+      most = omega (arith, c.loop-term.invariant.1, ap (sum_by size) (take_all c.loop-term.term-index c.args.terms.now c.loop-term-test.false), sizes c.args.terms.now);
     }
-
-pub returns-clause-exact : goal.returns-clause-exact
-returns-clause-exact g c =
-    omega (arith, c.loop-term.invariant.1, ap (sum_by size) (take_all c.loop-term.term-index c.args.terms.now c.loop-term-test.false), sizes c.args.terms.now)
-
-pub returns-clause-most : goal.returns-clause-most
-returns-clause-most g c =
-    omega (arith, c.loop-term.invariant.1, ap (sum_by size) (take_all c.loop-term.term-index c.args.terms.now c.loop-term-test.false), sizes c.args.terms.now)

@@ -49,7 +49,7 @@ reader-requires g c =
 
 pub new-requires-clause-unmoved : goal.new-requires-clause-unmoved
 new-requires-clause-unmoved g c =
-    fresh_unmoved reader_list reader_all reader_place reader_left (map (lists_at c.uses.result.0.now) c.deref.result.now) c.in_ok-readers.readers.items c.in_ok-readers.ensures.fresh
+    fresh_unmoved reader_list reader_all reader_place reader_left (map (lists_at c.uses.result.0.now) c.deref.result.now) c.in_ok-readers.readers.items c.in_ok-readers.ensures.start
 
 pub unreachable-requires : goal.unreachable-requires
 unreachable-requires g c =
@@ -59,7 +59,7 @@ unreachable-requires g c =
     c.uses.ensures.used c.uses.ensures.cuts c.as_slice.ensures c.deref.ensures.value c.in_ok-indexes.ensures in
     false≢true (c.in-Err.ensures.which.1 (omega (
       arith,
-      fresh_sized reader_list reader_all reader_place reader_left (map (lists_at c.uses.result.0.now) c.deref.result.now) c.in_ok-readers.readers.items c.in_ok-readers.ensures.fresh,
+      fresh_sized reader_list reader_all reader_place reader_left (map (lists_at c.uses.result.0.now) c.deref.result.now) c.in_ok-readers.readers.items c.in_ok-readers.ensures.start,
       ap length cuts,
       scoring_size c.args.uses v,
     )))
@@ -107,7 +107,7 @@ returns-clause-scorer g c =
     let last = c.terms_at.ensures ∙ last_is tests used v c.uses.ensures.cuts (some_used tests used v c.uses.ensures.used c.requires) in
     subst (λ (s : Scoring TestReader). IsScorerOf c.args.uses v s c.args.steps.now c.reader.new.steps) (sym c.in-Ok.ensures.ok)
     (scorer_is c.args.uses v c.in_ok-readers.readers.items c.in_ok-titles.titles c.args.steps.now c.readers.new.steps c.reader.new.steps
-    (subst (λ cs. Each (IsFresh reader_list reader_all reader_place reader_left) cs c.in_ok-readers.readers.items) cuts c.in_ok-readers.ensures.fresh)
-    (subst (λ ls. IsFresh reader_list reader_all reader_place reader_left ls c.in_ok-titles.titles) last c.in_ok-titles.ensures.fresh)
+    (subst (λ cs. Each (IsFresh reader_list reader_all reader_place reader_left) cs c.in_ok-readers.readers.items) cuts c.in_ok-readers.ensures.start)
+    (subst (λ ls. IsFresh reader_list reader_all reader_place reader_left ls c.in_ok-titles.titles) last c.in_ok-titles.ensures.start)
     (omega (arith, c.in_ok-readers.ensures.exact, ap lists cuts))
     (omega (arith, c.in_ok-titles.ensures.exact, ap count_lists last)))

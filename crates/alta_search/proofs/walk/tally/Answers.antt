@@ -21,7 +21,7 @@ pub returns-in-Err-clause-count : goal.returns-in-Err-clause-count
 returns-in-Err-clause-count g c = c.tally_each.ensures.count ∙ ap (λ (v : PlanView). count_live v.list c.args.gone.now v.place) c.in-Err.ensures.other
 
 pub returns-in-Err-clause-steps : goal.returns-in-Err-clause-steps
-returns-in-Err-clause-steps g c = omega (arith, c.tally_each.ensures.onward.steps, ap (λ (v : PlanView). v.left) c.in-Err.ensures.other)
+returns-in-Err-clause-steps g c = omega (arith, c.tally_each.ensures.steps, ap (λ (v : PlanView). v.left) c.in-Err.ensures.other)
 
 pub returns-in-Err-clause-moves : goal.returns-in-Err-clause-moves
-returns-in-Err-clause-moves g c = omega (arith, c.tally_each.ensures.onward.moves, ap (λ (v : PlanView). v.moves) c.in-Err.ensures.other)
+returns-in-Err-clause-moves g c = omega (arith, c.tally_each.ensures.moves, ap (λ (v : PlanView). v.moves) c.in-Err.ensures.other)

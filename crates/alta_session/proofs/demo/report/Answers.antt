@@ -33,28 +33,30 @@ lines-preserved g c =
     }
 
 -- behind the last line
-pub returns-in-None-clause-feeds : goal.returns-in-None-clause-feeds
-returns-in-None-clause-feeds g c = record {
-  ok = fed_all g.D.Disk.tells _ _ _ _ _ _ report c.lines.index (sym c.in-None.ensures) c.lines.invariant.fed;
-  err = tt;
+pub returns-in-None : goal.returns-in-None
+returns-in-None g c = record {
+  feeds = record {
+    ok = fed_all g.D.Disk.tells _ _ _ _ _ _ report c.lines.index (sym c.in-None.ensures) c.lines.invariant.fed;
+    err = tt;
+  };
+  can = c.lines.invariant.can;
+  accounts = record { ends = tt; caused = tt; input_kept = c.lines.invariant.input_kept; counts = c.lines.invariant.counts };
 }
 
 -- a line was not answered
-pub returns-in-Err-clause-feeds : goal.returns-in-Err-clause-feeds
-returns-in-Err-clause-feeds g c = record {
-  ok = tt;
-  err = let at : slice_get report c.lines.index ≡ Some c.in-Some.line.now = sym c.in-Some.ensures in
-      stops_next g.D.Disk.tells _ _ _ _ _ _ _ _ report c.lines.index c.in-Some.line.now c.in-Err.status at c.lines.invariant.fed
-      (subst (λ (l : List ℕ). StopsWithin g.D.Disk.tells (g.C.Console.told c.lines.console) (g.C.Console.told c.answer.new.console) (g.D.Disk.state c.lines.disk) (g.D.Disk.state c.answer.new.disk) c.lines.session (l ∷ []) c.in-Err.status) c.as_bytes.ensures.value c.in-Err.ensures.feeds.err);
+pub returns-in-Err : goal.returns-in-Err
+returns-in-Err g c = record {
+  feeds = record {
+    ok = tt;
+    err = let at : slice_get report c.lines.index ≡ Some c.in-Some.line.now = sym c.in-Some.ensures in
+        stops_next g.D.Disk.tells _ _ _ _ _ _ _ _ report c.lines.index c.in-Some.line.now c.in-Err.status at c.lines.invariant.fed
+        (subst (λ (l : List ℕ). StopsWithin g.D.Disk.tells (g.C.Console.told c.lines.console) (g.C.Console.told c.answer.new.console) (g.D.Disk.state c.lines.disk) (g.D.Disk.state c.answer.new.disk) c.lines.session (l ∷ []) c.in-Err.status) c.as_bytes.ensures.value c.in-Err.ensures.feeds.err);
+  };
+  can = tt;
+  accounts =
+      accounts_on g.D.Disk.tells g.C.Console.left g.C.Console.take_faults g.C.Console.give_faults c.args.console.now c.lines.console c.answer.new.console (g.D.Disk.state c.args.disk.now) (g.D.Disk.state c.lines.disk) (g.D.Disk.state c.answer.new.disk) (Err c.in-Err.status) c.lines.invariant.input_kept c.lines.invariant.counts
+      c.in-Err.ensures.accounts;
 }
 
 pub answer-requires-clause-one_line : goal.answer-requires-clause-one_line
 answer-requires-clause-one_line g c = subst (Lacks 10) (sym c.as_bytes.ensures.value) (report_line_free c.lines.index c.in-Some.line.now (sym c.in-Some.ensures))
-
-pub returns-in-Err-clause-accounts : goal.returns-in-Err-clause-accounts
-returns-in-Err-clause-accounts g c =
-    accounts_on g.D.Disk.tells g.C.Console.left g.C.Console.take_faults g.C.Console.give_faults c.args.console.now c.lines.console c.answer.new.console (g.D.Disk.state c.args.disk.now) (g.D.Disk.state c.lines.disk) (g.D.Disk.state c.answer.new.disk) (Err c.in-Err.status) c.lines.invariant.input_kept c.lines.invariant.counts
-    c.in-Err.ensures.accounts
-
-pub returns-in-None-clause-accounts : goal.returns-in-None-clause-accounts
-returns-in-None-clause-accounts g c = record { ends = tt; caused = tt; input_kept = c.lines.invariant.input_kept; counts = c.lines.invariant.counts }

@@ -18,76 +18,75 @@ pub status_of-requires : goal.status_of-requires
 status_of-requires g c =
     line_ends_run c.in-Err.fault (subst (λ (r : Result (List ℕ) StoreFault). Answers g.D.Disk.tells g.D.Disk.state c.args.disk.now c.line.new.disk c.args.session.now c.line.new.self r (λ m. step m c.args.line.now) (λ m. task_of m c.args.line.now)) c.in-Err.is c.line.ensures.answers).only
 
-pub returns-in-Err-clause-feeds : goal.returns-in-Err-clause-feeds
-returns-in-Err-clause-feeds g c = record {
-  ok = tt;
-  err = stops_unanswered g.D.Disk.tells (g.C.Console.told c.args.console.now) (g.D.Disk.state c.args.disk.now) (g.D.Disk.state c.line.new.disk) c.args.session.now c.args.line.now c.status_of.result (g.met.D.Disk.lawful c.line.new.disk)
-      (λ m tell agrees. (c.line.ensures.answers.from m tell agrees).images)
-      (λ m held need gap tell agrees here is.
-      (c.line.ensures.answers.from m tell agrees).full held need gap here (c.in-Err.is ∙ ap Err (status_full _ c.in-Err.fault need gap c.status_of.ensures is)))
-      (λ m place tell agrees is. (c.line.ensures.answers.from m tell agrees).undamaged place (c.in-Err.is ∙ ap Err (status_damaged _ c.in-Err.fault place c.status_of.ensures is)))
-      (λ place tell is. line_finds g.D.Disk.tells g.D.Disk.state c.args.disk.now c.line.new.disk c.args.session.now c.args.line.now c.line.result place c.requires.can c.line.ensures.loads c.line.ensures.works c.line.ensures.answers.still tell
-      (c.in-Err.is ∙ ap Err (status_damaged _ c.in-Err.fault place c.status_of.ensures is)))
-      (λ need gap tell is. line_wants g.D.Disk.tells g.D.Disk.state c.args.disk.now c.line.new.disk c.args.session.now c.args.line.now c.line.result need gap c.requires.can c.line.ensures.works c.line.ensures.answers.unwritten c.line.ensures.answers.same_limit tell
-      (c.in-Err.is ∙ ap Err (status_full _ c.in-Err.fault need gap c.status_of.ensures is)))
-      (λ m tell agrees. spends_line g.D.Disk.tells g.D.Disk.state c.args.disk.now c.line.new.disk c.args.session.now m c.args.line.now c.line.result agrees.cursors c.line.ensures.no_disk c.line.ensures.loads);
-}
-
-pub returns-in-Err-clause-accounts : goal.returns-in-Err-clause-accounts
-returns-in-Err-clause-accounts g c = record {
-  ends = line_ends c.status_of.result c.in-Err.fault c.status_of.ensures (subst (λ (r : Result (List ℕ) StoreFault). Answers g.D.Disk.tells g.D.Disk.state c.args.disk.now c.line.new.disk c.args.session.now c.line.new.self r (λ m. step m c.args.line.now) (λ m. task_of m c.args.line.now)) c.in-Err.is c.line.ensures.answers).only;
-  caused = record {
-    full = λ need gap tell is. c.line.ensures.answers.full need gap tell (c.in-Err.is ∙ ap Err (status_full _ c.in-Err.fault need gap c.status_of.ensures is));
-    give_fault = λ is. absurd (status_not c.status_of.result c.in-Err.fault c.status_of.ensures GiveFault tt is);
-    disk_fault = λ is. c.line.ensures.answers.cause (c.in-Err.is ∙ ap Err (status_disk _ c.in-Err.fault c.status_of.ensures is));
+pub returns-in-Err : goal.returns-in-Err
+returns-in-Err g c = record {
+  feeds = record {
+    ok = tt;
+    err = stops_unanswered g.D.Disk.tells (g.C.Console.told c.args.console.now) (g.D.Disk.state c.args.disk.now) (g.D.Disk.state c.line.new.disk) c.args.session.now c.args.line.now c.status_of.result (g.met.D.Disk.lawful c.line.new.disk)
+        (λ m tell agrees. (c.line.ensures.answers.from m tell agrees).images)
+        (λ m held need gap tell agrees here is.
+        (c.line.ensures.answers.from m tell agrees).full held need gap here (c.in-Err.is ∙ ap Err (status_full _ c.in-Err.fault need gap c.status_of.ensures is)))
+        (λ m place tell agrees is. (c.line.ensures.answers.from m tell agrees).undamaged place (c.in-Err.is ∙ ap Err (status_damaged _ c.in-Err.fault place c.status_of.ensures is)))
+        (λ place tell is. line_finds g.D.Disk.tells g.D.Disk.state c.args.disk.now c.line.new.disk c.args.session.now c.args.line.now c.line.result place c.requires.can c.line.ensures.loads c.line.ensures.works c.line.ensures.answers.still tell
+        (c.in-Err.is ∙ ap Err (status_damaged _ c.in-Err.fault place c.status_of.ensures is)))
+        (λ need gap tell is. line_wants g.D.Disk.tells g.D.Disk.state c.args.disk.now c.line.new.disk c.args.session.now c.args.line.now c.line.result need gap c.requires.can c.line.ensures.works c.line.ensures.answers.unwritten c.line.ensures.answers.same_limit tell
+        (c.in-Err.is ∙ ap Err (status_full _ c.in-Err.fault need gap c.status_of.ensures is)))
+        (λ m tell agrees. spends_line g.D.Disk.tells g.D.Disk.state c.args.disk.now c.line.new.disk c.args.session.now m c.args.line.now c.line.result agrees.cursors c.line.ensures.no_disk c.line.ensures.loads);
   };
-  input_kept = refl;
-  counts = counts_disk g.C.Console.take_faults g.C.Console.give_faults c.args.console.now (g.D.Disk.state c.args.disk.now) (g.D.Disk.state c.line.new.disk) c.line.ensures.answers.faults c.line.ensures.answers.same_limit;
+  can = tt;
+  accounts = record {
+    ends = line_ends c.status_of.result c.in-Err.fault c.status_of.ensures (subst (λ (r : Result (List ℕ) StoreFault). Answers g.D.Disk.tells g.D.Disk.state c.args.disk.now c.line.new.disk c.args.session.now c.line.new.self r (λ m. step m c.args.line.now) (λ m. task_of m c.args.line.now)) c.in-Err.is c.line.ensures.answers).only;
+    caused = record {
+      full = λ need gap tell is. c.line.ensures.answers.full need gap tell (c.in-Err.is ∙ ap Err (status_full _ c.in-Err.fault need gap c.status_of.ensures is));
+      give_fault = λ is. absurd (status_not c.status_of.result c.in-Err.fault c.status_of.ensures GiveFault tt is);
+      disk_fault = λ is. c.line.ensures.answers.cause (c.in-Err.is ∙ ap Err (status_disk _ c.in-Err.fault c.status_of.ensures is));
+    };
+    input_kept = refl;
+    counts = counts_disk g.C.Console.take_faults g.C.Console.give_faults c.args.console.now (g.D.Disk.state c.args.disk.now) (g.D.Disk.state c.line.new.disk) c.line.ensures.answers.faults c.line.ensures.answers.same_limit;
+  };
 }
 
 -- it was
-pub returns-in-Ok-give_all-clause-accounts : goal.returns-in-Ok-give_all-clause-accounts
-returns-in-Ok-give_all-clause-accounts g c = record {
-  ends = tt;
-  caused = tt;
-  input_kept = c.give_all.ensures.input_kept;
-  counts = record { takes = c.give_all.ensures.take_count; gives = c.give_all.ensures.give_count; faults = c.line.ensures.answers.faults; limit = c.line.ensures.answers.same_limit };
+pub returns-in-Ok-give_all : goal.returns-in-Ok-give_all
+returns-in-Ok-give_all g c = record {
+  feeds = record {
+    ok = let answers : Answers g.D.Disk.tells g.D.Disk.state c.args.disk.now c.line.new.disk c.args.session.now c.line.new.self (Ok c.in-Ok.reply) (λ m. step m c.args.line.now) (λ m. task_of m c.args.line.now) =
+        subst (λ (r : Result (List ℕ) StoreFault). Answers g.D.Disk.tells g.D.Disk.state c.args.disk.now c.line.new.disk c.args.session.now c.line.new.self r (λ m. step m c.args.line.now) (λ m. task_of m c.args.line.now)) c.in-Ok.is c.line.ensures.answers in
+        fed_line g.D.Disk.tells (g.C.Console.told c.args.console.now) (g.C.Console.told c.give_all.new.console) (g.D.Disk.state c.args.disk.now) (g.D.Disk.state c.line.new.disk) c.args.session.now c.line.new.self c.args.line.now c.as_bytes.result.now
+        c.in-Ok-give_all.ensures.ok (λ m tell agrees. c.as_bytes.ensures.value ∙ c.as_str.ensures ∙ (answers.from m tell agrees).reply) (λ m tell agrees. (answers.from m tell agrees).agrees) (λ m tell agrees. (answers.from m tell agrees).images)
+        (λ m held tell agrees here. (answers.from m tell agrees).works held here) c.line.ensures.answers.same_limit
+        (λ all. c.line.ensures.kept (All-head OnlyReads c.args.line.now [] all))
+        (λ m tell agrees. spends_line g.D.Disk.tells g.D.Disk.state c.args.disk.now c.line.new.disk c.args.session.now m c.args.line.now c.line.result agrees.cursors c.line.ensures.no_disk c.line.ensures.loads);
+    err = tt;
+  };
+  can = (subst (λ (r : Result (List ℕ) StoreFault). Answers g.D.Disk.tells g.D.Disk.state c.args.disk.now c.line.new.disk c.args.session.now c.line.new.self r (λ m. step m c.args.line.now) (λ m. task_of m c.args.line.now)) c.in-Ok.is c.line.ensures.answers).can;
+  accounts = record {
+    ends = tt;
+    caused = tt;
+    input_kept = c.give_all.ensures.input_kept;
+    counts = record { takes = c.give_all.ensures.take_count; gives = c.give_all.ensures.give_count; kept = record { faults = c.line.ensures.answers.faults; limit = c.line.ensures.answers.same_limit } };
+  };
 }
-
-pub returns-in-Ok-give_all-clause-feeds : goal.returns-in-Ok-give_all-clause-feeds
-returns-in-Ok-give_all-clause-feeds g c = record {
-  ok = let answers : Answers g.D.Disk.tells g.D.Disk.state c.args.disk.now c.line.new.disk c.args.session.now c.line.new.self (Ok c.in-Ok.reply) (λ m. step m c.args.line.now) (λ m. task_of m c.args.line.now) =
-      subst (λ (r : Result (List ℕ) StoreFault). Answers g.D.Disk.tells g.D.Disk.state c.args.disk.now c.line.new.disk c.args.session.now c.line.new.self r (λ m. step m c.args.line.now) (λ m. task_of m c.args.line.now)) c.in-Ok.is c.line.ensures.answers in
-      fed_line g.D.Disk.tells (g.C.Console.told c.args.console.now) (g.C.Console.told c.give_all.new.console) (g.D.Disk.state c.args.disk.now) (g.D.Disk.state c.line.new.disk) c.args.session.now c.line.new.self c.args.line.now c.as_bytes.result.now
-      c.in-Ok-give_all.ensures.ok (λ m tell agrees. c.as_bytes.ensures.value ∙ c.as_str.ensures ∙ (answers.from m tell agrees).reply) (λ m tell agrees. (answers.from m tell agrees).agrees) (λ m tell agrees. (answers.from m tell agrees).images)
-      (λ m held tell agrees here. (answers.from m tell agrees).works held here) c.line.ensures.answers.same_limit
-      (λ all. c.line.ensures.kept (All-head OnlyReads c.args.line.now [] all))
-      (λ m tell agrees. spends_line g.D.Disk.tells g.D.Disk.state c.args.disk.now c.line.new.disk c.args.session.now m c.args.line.now c.line.result agrees.cursors c.line.ensures.no_disk c.line.ensures.loads);
-  err = tt;
-}
-
-pub returns-in-Ok-give_all-clause-can : goal.returns-in-Ok-give_all-clause-can
-returns-in-Ok-give_all-clause-can g c =
-    (subst (λ (r : Result (List ℕ) StoreFault). Answers g.D.Disk.tells g.D.Disk.state c.args.disk.now c.line.new.disk c.args.session.now c.line.new.self r (λ m. step m c.args.line.now) (λ m. task_of m c.args.line.now)) c.in-Ok.is c.line.ensures.answers).can
 
 -- some of the reply was given
-pub returns-clause-feeds : goal.returns-clause-feeds
-returns-clause-feeds g c = record {
-  ok = tt;
-  err = let answers : Answers g.D.Disk.tells g.D.Disk.state c.args.disk.now c.line.new.disk c.args.session.now c.line.new.self (Ok c.in-Ok.reply) (λ m. step m c.args.line.now) (λ m. task_of m c.args.line.now) =
-      subst (λ (r : Result (List ℕ) StoreFault). Answers g.D.Disk.tells g.D.Disk.state c.args.disk.now c.line.new.disk c.args.session.now c.line.new.self r (λ m. step m c.args.line.now) (λ m. task_of m c.args.line.now)) c.in-Ok.is c.line.ensures.answers in
-      let part = c.in-Err-give_all.ensures.err in
-      stops_line g.D.Disk.tells (g.C.Console.told c.args.console.now) (g.C.Console.told c.give_all.new.console) (g.D.Disk.state c.args.disk.now) (g.D.Disk.state c.line.new.disk) c.args.session.now c.args.line.now part.0 GiveFault
-      (g.met.D.Disk.lawful c.line.new.disk) part.4
-      (λ m tell agrees. (part.1, sym (c.as_bytes.ensures.value ∙ c.as_str.ensures ∙ (answers.from m tell agrees).reply) ∙ part.2, part.3))
-      (λ m tell agrees. (answers.from m tell agrees).images) (λ m held tell agrees here need gap is. absurd cc) (λ m place tell agrees is. absurd cc) (λ place tell is. absurd cc) (λ need gap tell is. absurd cc)
-      (λ m tell agrees. spends_line g.D.Disk.tells g.D.Disk.state c.args.disk.now c.line.new.disk c.args.session.now m c.args.line.now c.line.result agrees.cursors c.line.ensures.no_disk c.line.ensures.loads);
-}
-
-pub returns-clause-accounts : goal.returns-clause-accounts
-returns-clause-accounts g c = record {
-  ends = inl (inr (inr (inl refl)));
-  caused = record { full = λ need gap tell is. absurd cc; give_fault = λ is. c.in-Err-give_all.ensures.failed; disk_fault = λ is. absurd cc };
-  input_kept = c.give_all.ensures.input_kept;
-  counts = record { takes = c.give_all.ensures.take_count; gives = c.give_all.ensures.give_count; faults = c.line.ensures.answers.faults; limit = c.line.ensures.answers.same_limit };
+pub returns : goal.returns
+returns g c = record {
+  feeds = record {
+    ok = tt;
+    err = let answers : Answers g.D.Disk.tells g.D.Disk.state c.args.disk.now c.line.new.disk c.args.session.now c.line.new.self (Ok c.in-Ok.reply) (λ m. step m c.args.line.now) (λ m. task_of m c.args.line.now) =
+        subst (λ (r : Result (List ℕ) StoreFault). Answers g.D.Disk.tells g.D.Disk.state c.args.disk.now c.line.new.disk c.args.session.now c.line.new.self r (λ m. step m c.args.line.now) (λ m. task_of m c.args.line.now)) c.in-Ok.is c.line.ensures.answers in
+        let part = c.in-Err-give_all.ensures.err in
+        stops_line g.D.Disk.tells (g.C.Console.told c.args.console.now) (g.C.Console.told c.give_all.new.console) (g.D.Disk.state c.args.disk.now) (g.D.Disk.state c.line.new.disk) c.args.session.now c.args.line.now part.0 GiveFault
+        (g.met.D.Disk.lawful c.line.new.disk) part.4
+        (λ m tell agrees. (part.1, sym (c.as_bytes.ensures.value ∙ c.as_str.ensures ∙ (answers.from m tell agrees).reply) ∙ part.2, part.3))
+        (λ m tell agrees. (answers.from m tell agrees).images) (λ m held tell agrees here need gap is. absurd cc) (λ m place tell agrees is. absurd cc) (λ place tell is. absurd cc) (λ need gap tell is. absurd cc)
+        (λ m tell agrees. spends_line g.D.Disk.tells g.D.Disk.state c.args.disk.now c.line.new.disk c.args.session.now m c.args.line.now c.line.result agrees.cursors c.line.ensures.no_disk c.line.ensures.loads);
+  };
+  can = tt;
+  accounts = record {
+    ends = inl (inr (inr (inl refl)));
+    caused = record { full = λ need gap tell is. absurd cc; give_fault = λ is. c.in-Err-give_all.ensures.failed; disk_fault = λ is. absurd cc };
+    input_kept = c.give_all.ensures.input_kept;
+    counts = record { takes = c.give_all.ensures.take_count; gives = c.give_all.ensures.give_count; kept = record { faults = c.line.ensures.answers.faults; limit = c.line.ensures.answers.same_limit } };
+  };
 }

@@ -24,7 +24,7 @@ none a b n bytes is read = let P : ℕ → Type 0 = λ k. Consumes a b (take k b
 
 -- a take behind calls that went well
 took : {C : Type 0} (take_faults give_faults : C → ℕ) (a b c : C) (d e : DiskState) → KeepsCounts take_faults give_faults a b d e → take_faults b ≤ take_faults c → give_faults b ≤ give_faults c → KeepsCounts take_faults give_faults a c d e
-took take_faults give_faults a b c d e counts takes gives = record { takes = omega (arith, counts.takes, takes); gives = omega (arith, counts.gives, gives); faults = counts.faults; limit = counts.limit }
+took take_faults give_faults a b c d e counts takes gives = record { takes = omega (arith, counts.takes, takes); gives = omega (arith, counts.gives, gives); kept = counts.kept }
 
 -- lines behind it were not all answered
 stopped : {C T : Type 0} (tells : Type 0) (left : C → Option (List ℕ)) (take_faults give_faults : C → ℕ) (a b c : C) (d e f : DiskState) (status : Status) → KeepsCounts take_faults give_faults a b d e → Accounts {T = T} tells left take_faults give_faults b c e f (Err status)
@@ -80,12 +80,12 @@ takes-preserved g c =
     let Q : ℕ → Type 0 = λ n. Goes g.D.Disk.tells c.args.limit (g.C.Console.told c.args.console.now) (g.C.Console.told c.feed.new.console) (g.C.Console.left c.args.console.now) (g.C.Console.left c.feed.new.console) (g.D.Disk.state c.args.disk.now) (g.D.Disk.state c.feed.new.disk) c.args.session.now c.feed.new.session c.feed.new.begun.items (c.takes.taken + n) in
     record {
       goes = subst Q is (goes_on g.D.Disk.tells c.args.limit _ _ _ _ _ _ _ _ _ _ _ _ c.takes.session c.feed.new.session c.takes.begun.items c.feed.new.begun.items c.takes.taken piece c.takes.invariant.goes (c.in-Ok.ensures.taken (omega arith)) c.in-Ok.ensures.input
-          c.in-Ok-feed.ensures.feeds.ok c.feed.ensures.accounts.input_kept c.in-Ok-feed.ensures.begun (omega arith));
+          c.in-Ok-feed.ensures.answers.feeds.ok c.feed.ensures.answers.accounts.input_kept c.in-Ok-feed.ensures.begun (omega arith));
       short = c.in-Ok-feed.ensures.short;
       free = c.in-Ok-feed.ensures.free;
-      can = c.in-Ok-feed.ensures.can;
+      can = c.in-Ok-feed.ensures.answers.can;
       within = omega arith;
-      counts = counts_on g.C.Console.take_faults g.C.Console.give_faults c.args.console.now c.take.new.self c.feed.new.console (g.D.Disk.state c.args.disk.now) (g.D.Disk.state c.takes.disk) (g.D.Disk.state c.feed.new.disk) (took g.C.Console.take_faults g.C.Console.give_faults c.args.console.now c.takes.console c.take.new.self (g.D.Disk.state c.args.disk.now) (g.D.Disk.state c.takes.disk) c.takes.invariant.counts c.take.ensures.take_count c.take.ensures.give_count) c.feed.ensures.accounts.counts;
+      counts = counts_on g.C.Console.take_faults g.C.Console.give_faults c.args.console.now c.take.new.self c.feed.new.console (g.D.Disk.state c.args.disk.now) (g.D.Disk.state c.takes.disk) (g.D.Disk.state c.feed.new.disk) (took g.C.Console.take_faults g.C.Console.give_faults c.args.console.now c.takes.console c.take.new.self (g.D.Disk.state c.args.disk.now) (g.D.Disk.state c.takes.disk) c.takes.invariant.counts c.take.ensures.take_count c.take.ensures.give_count) c.feed.ensures.answers.accounts.counts;
     }
 
 pub returns-in-Err-feed-clause-run : goal.returns-in-Err-feed-clause-run
@@ -94,7 +94,7 @@ returns-in-Err-feed-clause-run g c =
     let piece : List ℕ = take c.in-Ok.n buffer in
     let is : length piece ≡ c.in-Ok.n = long c.in-Ok.n buffer c.in-Ok.ensures.within in
     runs_stopped g.D.Disk.tells c.args.limit _ _ _ _ _ _ _ _ _ _ _ _ c.takes.session c.takes.begun.items c.takes.taken piece c.in-Err-feed.status c.takes.invariant.goes (c.in-Ok.ensures.taken (omega arith)) c.in-Ok.ensures.input
-    c.in-Err-feed.ensures.feeds.err c.feed.ensures.accounts.input_kept (omega arith) c.in-Err-feed.ensures.accounts.ends
+    c.in-Err-feed.ensures.answers.feeds.err c.feed.ensures.answers.accounts.input_kept (omega arith) c.in-Err-feed.ensures.answers.accounts.ends
 
 pub returns-in-Err-clause-accounts : goal.returns-in-Err-clause-accounts
 returns-in-Err-clause-accounts g c = record {
@@ -120,7 +120,7 @@ returns-in-Err-finish-clause-accounts g c =
 
 pub returns-in-Err-feed-clause-accounts : goal.returns-in-Err-feed-clause-accounts
 returns-in-Err-feed-clause-accounts g c =
-    stopped g.D.Disk.tells g.C.Console.left g.C.Console.take_faults g.C.Console.give_faults c.args.console.now c.take.new.self c.feed.new.console (g.D.Disk.state c.args.disk.now) (g.D.Disk.state c.takes.disk) (g.D.Disk.state c.feed.new.disk) c.in-Err-feed.status (took g.C.Console.take_faults g.C.Console.give_faults c.args.console.now c.takes.console c.take.new.self (g.D.Disk.state c.args.disk.now) (g.D.Disk.state c.takes.disk) c.takes.invariant.counts c.take.ensures.take_count c.take.ensures.give_count) c.in-Err-feed.ensures.accounts
+    stopped g.D.Disk.tells g.C.Console.left g.C.Console.take_faults g.C.Console.give_faults c.args.console.now c.take.new.self c.feed.new.console (g.D.Disk.state c.args.disk.now) (g.D.Disk.state c.takes.disk) (g.D.Disk.state c.feed.new.disk) c.in-Err-feed.status (took g.C.Console.take_faults g.C.Console.give_faults c.args.console.now c.takes.console c.take.new.self (g.D.Disk.state c.args.disk.now) (g.D.Disk.state c.takes.disk) c.takes.invariant.counts c.take.ensures.take_count c.take.ensures.give_count) c.in-Err-feed.ensures.answers.accounts
 
 pub returns-then-n-limit-clause-accounts : goal.returns-then-n-limit-clause-accounts
 returns-then-n-limit-clause-accounts g c = record {

@@ -1,4 +1,7 @@
-use Rattle.std.proofs.Common.{refl, ◌∙◌, rules, arith}
+use Rattle.std.proofs.Common.{refl, ◌∙◌, ℕ, List, subst, rules, arith}
+use Rattle.std.proofs.lemmas.List.{take_all}
+use Rattle.alta_console.specs.Lines.{whole_from}
+use Rattle.alta_session.specs.Fed.{Fed}
 use Rattle.alta_session.proofs.EndingLaws.{caused_on, counts_none, counts_on}
 use Rattle.alta_session.proofs.FedLaws.{fed_none}
 use Rattle.alta_session.proofs.FeedLaws.{feed_on, kept_on, feed_stops}
@@ -28,19 +31,29 @@ lines-preserved g c = record {
   counts = counts_on g.C.Console.take_faults g.C.Console.give_faults c.args.console.now c.lines.console c.feed_line.new.console (g.D.Disk.state c.args.disk.now) (g.D.Disk.state c.lines.disk) (g.D.Disk.state c.feed_line.new.disk) c.lines.invariant.counts c.feed_line.ensures.accounts.counts;
 }
 
-pub returns-in-Err-clause-feeds : goal.returns-in-Err-clause-feeds
-returns-in-Err-clause-feeds g c = record {
-  ok = tt;
-  err = feed_stops g.D.Disk.tells _ _ _ _ _ _ _ _ c.args.begun.now.items c.lines.begun.items c.args.piece.now c.lines.at c.in-Err.status c.lines.invariant.fed c.lines.invariant.begun c.in-Err.ensures.err;
+pub returns-in-Err-clause-answers : goal.returns-in-Err-clause-answers
+returns-in-Err-clause-answers g c = record {
+  feeds = record {
+    ok = tt;
+    err = feed_stops g.D.Disk.tells _ _ _ _ _ _ _ _ c.args.begun.now.items c.lines.begun.items c.args.piece.now c.lines.at c.in-Err.status c.lines.invariant.fed c.lines.invariant.begun c.in-Err.ensures.err;
+  };
+  can = tt;
+  accounts = record {
+    ends = c.in-Err.ensures.accounts.ends;
+    caused = caused_on g.C.Console.take_faults g.C.Console.give_faults g.D.Disk.tells c.args.console.now c.lines.console c.feed_line.new.console (g.D.Disk.state c.args.disk.now) (g.D.Disk.state c.lines.disk) (g.D.Disk.state c.feed_line.new.disk) c.in-Err.status c.lines.invariant.counts c.in-Err.ensures.accounts.caused;
+    input_kept = c.feed_line.ensures.accounts.input_kept ∙ c.lines.invariant.input_kept;
+    counts = counts_on g.C.Console.take_faults g.C.Console.give_faults c.args.console.now c.lines.console c.feed_line.new.console (g.D.Disk.state c.args.disk.now) (g.D.Disk.state c.lines.disk) (g.D.Disk.state c.feed_line.new.disk) c.lines.invariant.counts c.feed_line.ensures.accounts.counts;
+  };
 }
 
-pub returns-in-Err-clause-accounts : goal.returns-in-Err-clause-accounts
-returns-in-Err-clause-accounts g c = record {
-  ends = c.in-Err.ensures.accounts.ends;
-  caused = caused_on g.C.Console.take_faults g.C.Console.give_faults g.D.Disk.tells c.args.console.now c.lines.console c.feed_line.new.console (g.D.Disk.state c.args.disk.now) (g.D.Disk.state c.lines.disk) (g.D.Disk.state c.feed_line.new.disk) c.in-Err.status c.lines.invariant.counts c.in-Err.ensures.accounts.caused;
-  input_kept = c.feed_line.ensures.accounts.input_kept ∙ c.lines.invariant.input_kept;
-  counts = counts_on g.C.Console.take_faults g.C.Console.give_faults c.args.console.now c.lines.console c.feed_line.new.console (g.D.Disk.state c.args.disk.now) (g.D.Disk.state c.lines.disk) (g.D.Disk.state c.feed_line.new.disk) c.lines.invariant.counts c.feed_line.ensures.accounts.counts;
+pub returns-clause-answers : goal.returns-clause-answers
+returns-clause-answers g c = record {
+  feeds = record {
+    ok = subst
+        (λ (l : List ℕ). Fed g.D.Disk.tells (g.C.Console.told c.args.console.now) (g.C.Console.told c.lines.console) (g.D.Disk.state c.args.disk.now) (g.D.Disk.state c.lines.disk) c.args.session.now c.lines.session (whole_from c.args.begun.now.items l))
+        (take_all c.lines.at c.args.piece.now (omega (arith, c.lines-test.false))) c.lines.invariant.fed;
+    err = tt;
+  };
+  can = c.lines.invariant.can;
+  accounts = record { ends = tt; caused = tt; input_kept = c.lines.invariant.input_kept; counts = c.lines.invariant.counts };
 }
-
-pub returns-clause-accounts : goal.returns-clause-accounts
-returns-clause-accounts g c = record { ends = tt; caused = tt; input_kept = c.lines.invariant.input_kept; counts = c.lines.invariant.counts }

@@ -28,13 +28,13 @@ returns-in-Err-clause-err g c = stops_none g.D.Disk.tells (g.C.Console.told c.ar
     (λ place is. let memory : c.in-Err.status ≡ Memory = c.in-Err.ensures.memory in cc)
 
 pub returns-in-Ok-end_line-clause-ok : goal.returns-in-Ok-end_line-clause-ok
-returns-in-Ok-end_line-clause-ok g c = fed_ended g.D.Disk.tells _ _ _ _ _ _ c.args.begun.now.items c.args.bytes.now c.in-Some.n (newline_found c.in-Some.n c.args.bytes.now c.in-Some.ensures) c.in-Ok-end_line.ensures.feeds.ok
+returns-in-Ok-end_line-clause-ok g c = fed_ended g.D.Disk.tells _ _ _ _ _ _ c.args.begun.now.items c.args.bytes.now c.in-Some.n (newline_found c.in-Some.n c.args.bytes.now c.in-Some.ensures) c.in-Ok-end_line.ensures.answers.feeds.ok
 
 pub returns-in-Ok-end_line-clause-begun : goal.returns-in-Ok-end_line-clause-begun
 returns-in-Ok-end_line-clause-begun g c = kept_ended c.args.begun.now.items c.end_line.new.begun.items c.args.bytes.now c.in-Some.n c.in-Ok-end_line.ensures.none_begun (newline_found c.in-Some.n c.args.bytes.now c.in-Some.ensures)
 
 pub returns-in-Err-end_line-clause-err : goal.returns-in-Err-end_line-clause-err
-returns-in-Err-end_line-clause-err g c = stops_ended g.D.Disk.tells _ _ _ _ _ c.args.begun.now.items c.args.bytes.now c.in-Some.n c.in-Err-end_line.status (newline_found c.in-Some.n c.args.bytes.now c.in-Some.ensures) c.in-Err-end_line.ensures.feeds.err
+returns-in-Err-end_line-clause-err g c = stops_ended g.D.Disk.tells _ _ _ _ _ c.args.begun.now.items c.args.bytes.now c.in-Some.n c.in-Err-end_line.status (newline_found c.in-Some.n c.args.bytes.now c.in-Some.ensures) c.in-Err-end_line.ensures.answers.feeds.err
 
 pub returns-in-Ok-clause-accounts : goal.returns-in-Ok-clause-accounts
 returns-in-Ok-clause-accounts g c = record { ends = tt; caused = tt; input_kept = refl; counts = counts_none g.C.Console.take_faults g.C.Console.give_faults c.args.console.now (g.D.Disk.state c.args.disk.now) }
@@ -43,12 +43,12 @@ pub returns-in-Err-clause-accounts : goal.returns-in-Err-clause-accounts
 returns-in-Err-clause-accounts g c = accounts_memory g.D.Disk.tells g.C.Console.left g.C.Console.take_faults g.C.Console.give_faults c.args.console.now (g.D.Disk.state c.args.disk.now) c.in-Err.status c.in-Err.ensures.memory
 
 pub returns-in-Ok-end_line-clause-accounts : goal.returns-in-Ok-end_line-clause-accounts
-returns-in-Ok-end_line-clause-accounts g c = record { ends = tt; caused = tt; input_kept = c.end_line.ensures.accounts.input_kept; counts = c.end_line.ensures.accounts.counts }
+returns-in-Ok-end_line-clause-accounts g c = record { ends = tt; caused = tt; input_kept = c.end_line.ensures.answers.accounts.input_kept; counts = c.end_line.ensures.answers.accounts.counts }
 
 pub returns-in-Err-end_line-clause-accounts : goal.returns-in-Err-end_line-clause-accounts
 returns-in-Err-end_line-clause-accounts g c = record {
-  ends = c.in-Err-end_line.ensures.accounts.ends;
-  caused = c.in-Err-end_line.ensures.accounts.caused;
-  input_kept = c.end_line.ensures.accounts.input_kept;
-  counts = c.end_line.ensures.accounts.counts;
+  ends = c.in-Err-end_line.ensures.answers.accounts.ends;
+  caused = c.in-Err-end_line.ensures.answers.accounts.caused;
+  input_kept = c.end_line.ensures.answers.accounts.input_kept;
+  counts = c.end_line.ensures.answers.accounts.counts;
 }

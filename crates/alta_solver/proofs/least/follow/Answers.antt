@@ -42,7 +42,7 @@ module _ (g : Over) (c : After-seek_at g) where
   unfolding lists old new
   repaired =
       followed_repaired (map g.R.Reader.list c.args.readers.now) (map g.R.Reader.location c.args.readers.now) (map g.R.Reader.location c.seek_at.new.readers) c.args.m c.args.to
-      within c.requires.there c.requires.short c.requires.top c.seek_at.ensures.places
+      within c.requires.there c.requires.short c.requires.top c.seek_at.ensures.moves.moved.places
 
   below : MeetsBound lists new (lower (c.args.m + 1))
   below = repaired.moved refl (λ e. omega (arith, e))
@@ -68,25 +68,37 @@ pub place_at-requires-clause-within : goal.place_at-requires-clause-within
 unfolding old
 place_at-requires-clause-within g c =
     let w = within g (goal.at.place_at-requires-clause-within g c).After-seek_at in
-    omega (arith, w, length-map c.args.readers.now g.R.Reader.location, length-map c.args.readers.now g.R.Reader.list, length-map c.seek_at.new.readers g.R.Reader.list, ap length c.seek_at.ensures.lists)
+    omega (arith, w, length-map c.args.readers.now g.R.Reader.location, length-map c.args.readers.now g.R.Reader.list, length-map c.seek_at.new.readers g.R.Reader.list, ap length c.seek_at.ensures.moves.moved.lists)
 
 pub returns-then-place_at : goal.returns-then-place_at
 unfolding lists old new
 returns-then-place_at g c =
-    let a = (goal.at.returns-then-place_at g c).After-seek_at in let e = c.behind_bounded-next.ensures in
+    let a = (goal.at.returns-then-place_at g c).After-seek_at in let m = c.seek_at.ensures.moves in let e = c.behind_bounded-next.ensures in
     record {
-      kept = search rules;
-      tried = tried g a c.behind_bounded-next.result (2 * c.args.m) e.behind.within e.after (omega (arith, e.after)) e.behind.free
-          (both g a c.behind_bounded-next.result c.if-next-m.true (omega (arith, c.place_at.ensures.value, c.place_at-then-next-m.ensures.value, c.if-place_at.true)));
+      kept = record {
+        sound = m.sound;
+        lists = m.moved.lists;
+        alls = m.moved.alls;
+        placed = tried g a c.behind_bounded-next.result (2 * c.args.m) e.behind.within e.after (omega (arith, e.after)) e.behind.free
+            (both g a c.behind_bounded-next.result c.if-next-m.true (omega (arith, c.place_at.ensures.value, c.place_at-then-next-m.ensures.value, c.if-place_at.true)));
+        keeps = omega (arith, m.falls);
+        steps = m.steps;
+      };
       falls = search rules;
     }
 
 pub returns-else-next-m : goal.returns-else-next-m
 unfolding lists old new
 returns-else-next-m g c =
-    let a = (goal.at.returns-else-next-m g c).After-seek_at in let e = c.behind_bounded-next.ensures in
+    let a = (goal.at.returns-else-next-m g c).After-seek_at in let m = c.seek_at.ensures.moves in let e = c.behind_bounded-next.ensures in
     record {
-      kept = search rules;
-      tried = tried g a c.behind_bounded-next.result c.behind_bounded-next.result e.behind.within e.after (omega arith) e.behind.free (λ k d l w. absurd (omega (arith, l, w)));
+      kept = record {
+        sound = m.sound;
+        lists = m.moved.lists;
+        alls = m.moved.alls;
+        placed = tried g a c.behind_bounded-next.result c.behind_bounded-next.result e.behind.within e.after (omega arith) e.behind.free (λ k d l w. absurd (omega (arith, l, w)));
+        keeps = omega (arith, m.falls);
+        steps = m.steps;
+      };
       falls = search rules;
     }

@@ -42,13 +42,13 @@ module _ (g : Over) (c : After-seek_at g) where
   unfolding lists old new
   repaired =
       led_repaired (map g.R.Reader.list c.args.readers.now) (map g.R.Reader.location c.args.readers.now) (map g.R.Reader.location c.seek_at.new.readers) c.args.m c.args.to
-      within c.requires.there c.requires.short c.requires.top c.seek_at.ensures.places
+      within c.requires.there c.requires.short c.requires.top c.seek_at.ensures.moves.moved.places
 
   below : MeetsBound lists new (lower (c.args.m + 1))
   unfolding lists old new
   below =
       led_lower (map g.R.Reader.list c.args.readers.now) (map g.R.Reader.location c.args.readers.now) (map g.R.Reader.location c.seek_at.new.readers) c.args.m c.args.to
-      within c.requires.there c.requires.short c.requires.top c.seek_at.ensures.places
+      within c.requires.there c.requires.short c.requires.top c.seek_at.ensures.moves.moved.places
 
   above : MeetsBound lists new (upper (c.args.m + 1))
   above = repaired.moved refl (λ e. omega (arith, e))
@@ -66,20 +66,32 @@ module _ (g : Over) (c : After-seek_at g) where
 pub returns-then-behind_first-m : goal.returns-then-behind_first-m
 unfolding lists old new
 returns-then-behind_first-m g c =
-    let a = (goal.at.returns-then-behind_first-m g c).After-seek_at in
+    let a = (goal.at.returns-then-behind_first-m g c).After-seek_at in let m = c.seek_at.ensures.moves in
     record {
-      kept = search rules;
-      tried = tried g a (2 * c.args.m) (omega (arith, after g a))
-          (pair_holds (lists g a) c.args.bounds.now (new g a) c.args.m c.args.behind_first c.if-behind_first-m.true c.requires.pair (above g a) (below g a));
+      kept = record {
+        sound = m.sound;
+        lists = m.moved.lists;
+        alls = m.moved.alls;
+        placed = tried g a (2 * c.args.m) (omega (arith, after g a))
+            (pair_holds (lists g a) c.args.bounds.now (new g a) c.args.m c.args.behind_first c.if-behind_first-m.true c.requires.pair (above g a) (below g a));
+        keeps = omega (arith, m.falls);
+        steps = m.steps;
+      };
       falls = search rules;
     }
 
 pub returns-else-behind_first-m : goal.returns-else-behind_first-m
 unfolding lists old new
 returns-else-behind_first-m g c =
-    let a = (goal.at.returns-else-behind_first-m g c).After-seek_at in
+    let a = (goal.at.returns-else-behind_first-m g c).After-seek_at in let m = c.seek_at.ensures.moves in
     record {
-      kept = search rules;
-      tried = tried g a c.args.behind_first (omega arith) (λ k d l w. absurd (omega (arith, l, w)));
+      kept = record {
+        sound = m.sound;
+        lists = m.moved.lists;
+        alls = m.moved.alls;
+        placed = tried g a c.args.behind_first (omega arith) (λ k d l w. absurd (omega (arith, l, w)));
+        keeps = omega (arith, m.falls);
+        steps = m.steps;
+      };
       falls = search rules;
     }

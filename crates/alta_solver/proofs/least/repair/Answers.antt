@@ -6,8 +6,8 @@ use Rattle.alta_solver.specs.Solution.{list_at, low_side}
 use Rattle.alta_solver.proofs.Repaired.{repaired_moved, repaired_stuck}
 use Rattle.alta_solver.proofs.least.repair.Goals as goal
 
-pub returns-then-raise_side-clause-repaired : goal.returns-then-raise_side-clause-repaired
-returns-then-raise_side-clause-repaired g c =
+pub returns-then-raise_side-clause-kept : goal.returns-then-raise_side-clause-kept
+returns-then-raise_side-clause-kept g c =
     let ls = map g.R.Reader.list c.args.readers.now in let xs = map g.R.Reader.location c.args.readers.now in
     let b : Inequality = record { form = c.args.form; i = c.args.i; j = c.args.j; plus = c.args.plus; minus = c.args.minus } in
     let within : b.i < length xs = rw length-map c.requires.between.i in
@@ -15,10 +15,18 @@ returns-then-raise_side-clause-repaired g c =
     omega (arith, c.low_at.ensures.value) in
     let enough : low_side b.form (list_at ls b.i) (slice_index xs b.i) + b.minus ≤ (c.low_at.result + b.minus - b.plus) + b.plus =
     omega (arith, c.low_at.ensures.value) in
-    repaired_moved ls b xs _ (c.low_at.result + b.minus - b.plus) within short enough c.if-raise_side.ensures.raised
+    let e = c.if-raise_side.ensures.kept in
+    record {
+      sound = e.sound;
+      lists = e.lists;
+      alls = e.alls;
+      placed = repaired_moved ls b xs _ (c.low_at.result + b.minus - b.plus) within short enough e.placed;
+      keeps = e.keeps;
+      steps = e.steps;
+    }
 
-pub returns-else-raise_side-clause-repaired : goal.returns-else-raise_side-clause-repaired
-returns-else-raise_side-clause-repaired g c =
+pub returns-else-raise_side-clause-kept : goal.returns-else-raise_side-clause-kept
+returns-else-raise_side-clause-kept g c =
     let ls = map g.R.Reader.list c.args.readers.now in let xs = map g.R.Reader.location c.args.readers.now in
     let b : Inequality = record { form = c.args.form; i = c.args.i; j = c.args.j; plus = c.args.plus; minus = c.args.minus } in
     let within : b.i < length xs = rw length-map c.requires.between.i in
@@ -26,4 +34,12 @@ returns-else-raise_side-clause-repaired g c =
     omega (arith, c.low_at.ensures.value) in
     let enough : low_side b.form (list_at ls b.i) (slice_index xs b.i) + b.minus ≤ (c.low_at.result + b.minus - b.plus) + b.plus =
     omega (arith, c.low_at.ensures.value) in
-    repaired_stuck ls b xs _ (c.low_at.result + b.minus - b.plus) within short enough c.if-raise_side.ensures.raised
+    let e = c.if-raise_side.ensures.kept in
+    record {
+      sound = e.sound;
+      lists = e.lists;
+      alls = e.alls;
+      placed = repaired_stuck ls b xs _ (c.low_at.result + b.minus - b.plus) within short enough e.placed;
+      keeps = e.keeps;
+      steps = e.steps;
+    }

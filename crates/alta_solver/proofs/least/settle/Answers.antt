@@ -8,5 +8,5 @@ settle-smaller g c =
     let left = g.R.Reader.left in let n = length c.args.bounds.now in let e = c.in-Some.ensures in
     ⊎_elim
     (λ l. fewer_to_test (sum_by left c.settle.readers) (sum_by left c.try_before.new.readers) n c.settle.at c.in-Some.next e.kept.keeps l)
-    (λ l. less_to_move (sum_by left c.settle.readers) (sum_by left c.try_before.new.readers) n c.settle.at c.in-Some.next l e.tried.within)
+    (λ l. less_to_move (sum_by left c.settle.readers) (sum_by left c.try_before.new.readers) n c.settle.at c.in-Some.next l e.kept.placed.within)
     e.falls

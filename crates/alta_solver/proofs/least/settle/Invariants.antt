@@ -7,8 +7,9 @@ use Rattle.alta_solver.proofs.least.settle.Given as goal
 abbrev pub invariant-settle : goal.invariant-settle
 invariant-settle g l =
     record {
-      kept : AreKept g.R.Reader.sound g.R.Reader.list g.R.Reader.all g.R.Reader.left l.initial.readers l.readers l.initial.steps l.steps;
-      settling : IsSettling (map g.R.Reader.list l.initial.readers) l.bounds (map g.R.Reader.location l.initial.readers) (map g.R.Reader.location l.readers) l.at;
+      kept : AreKept g.R.Reader.sound g.R.Reader.list g.R.Reader.all g.R.Reader.location g.R.Reader.left
+          (λ places. IsSettling (map g.R.Reader.list l.initial.readers) l.bounds (map g.R.Reader.location l.initial.readers) places l.at)
+          l.initial.readers l.readers l.initial.steps l.steps;
       inside : l.at ≤ length l.bounds;
     }
 

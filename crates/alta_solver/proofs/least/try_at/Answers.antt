@@ -32,30 +32,48 @@ module _ (g : Over) (c : After-repair g) where
 pub returns-in-Settled : goal.returns-in-Settled
 unfolding tested
 returns-in-Settled g c =
-    let m = (goal.at.returns-in-Settled g c).After-repair in
+    let m = (goal.at.returns-in-Settled g c).After-repair in let e = c.in-Settled.ensures.kept in
     record {
-      kept = search rules;
-      tried = tried_settled _ _ _ _ c.args.at (tested g m) c.requires.within c.requires.bound (named g m) (sized g m) c.in-Settled.ensures.repaired;
+      kept = record {
+        sound = e.sound;
+        lists = e.lists;
+        alls = e.alls;
+        placed = tried_settled _ _ _ _ c.args.at (tested g m) c.requires.within c.requires.bound (named g m) (sized g m) e.placed;
+        keeps = e.keeps;
+        steps = e.steps;
+      };
       falls = search rules;
     }
 
 pub returns-in-Moved : goal.returns-in-Moved
 unfolding tested
 returns-in-Moved g c =
-    let m = (goal.at.returns-in-Moved g c).After-repair in
+    let m = (goal.at.returns-in-Moved g c).After-repair in let e = c.in-Moved.ensures.kept in
     record {
-      kept = search rules;
-      tried = tried_moved _ _ _ _ c.args.at (tested g m) c.requires.within c.requires.bound (named g m) (sized g m)
-          c.behind_bounded.result c.behind_bounded.ensures.after c.behind_bounded.ensures.behind.within c.behind_bounded.ensures.behind.free c.in-Moved.ensures.repaired;
+      kept = record {
+        sound = e.sound;
+        lists = e.lists;
+        alls = e.alls;
+        placed = tried_moved _ _ _ _ c.args.at (tested g m) c.requires.within c.requires.bound (named g m) (sized g m)
+            c.behind_bounded.result c.behind_bounded.ensures.after c.behind_bounded.ensures.behind.within c.behind_bounded.ensures.behind.free e.placed;
+        keeps = e.keeps;
+        steps = e.steps;
+      };
       falls = search rules;
     }
 
 pub returns-in-Stuck : goal.returns-in-Stuck
 unfolding tested
 returns-in-Stuck g c =
-    let m = (goal.at.returns-in-Stuck g c).After-repair in
+    let m = (goal.at.returns-in-Stuck g c).After-repair in let e = c.in-Stuck.ensures.kept in
     record {
-      kept = search rules;
-      tried = tried_stuck _ _ _ _ c.args.at (tested g m) c.requires.within c.requires.bound (named g m) (sized g m) c.in-Stuck.ensures.repaired;
+      kept = record {
+        sound = e.sound;
+        lists = e.lists;
+        alls = e.alls;
+        placed = tried_stuck _ _ _ _ c.args.at (tested g m) c.requires.within c.requires.bound (named g m) (sized g m) e.placed;
+        keeps = e.keeps;
+        steps = e.steps;
+      };
       falls = search rules;
     }

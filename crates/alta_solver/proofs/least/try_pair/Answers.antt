@@ -1,4 +1,4 @@
-use Rattle.std.proofs.Common.{◌+◌, ◌*◌, ◌<◌, map, length, subst, arith, rules}
+use Rattle.std.proofs.Common.{◌+◌, ◌*◌, ◌<◌, map, length, refl, subst, arith, rules}
 use Rattle.std.specs.Prelude.{slice_index}
 use Rattle.alta_codec.proofs.Places.{pred_of-below_top}
 use Rattle.alta_codec.specs.Inequality.{Inequality, upper}
@@ -22,9 +22,15 @@ follow-requires-clause-top g c =
 pub returns-then-before-at : goal.returns-then-before-at
 returns-then-before-at g c =
     record {
-      kept = search rules;
-      tried = pair_settled (map g.R.Reader.list c.args.readers.now) c.args.bounds.now (map g.R.Reader.location c.args.readers.now) c.args.m c.requires.pair
-          (omega (arith, c.place_at-at.ensures.value, c.place_at.ensures.value, c.if-place_at-at.false))
-          (omega (arith, c.place_at-at.ensures.value, c.prev_at-before.ensures.value, c.if-before-at.true));
+      kept = record {
+        sound = c.requires.ready.sound;
+        lists = refl;
+        alls = refl;
+        placed = pair_settled (map g.R.Reader.list c.args.readers.now) c.args.bounds.now (map g.R.Reader.location c.args.readers.now) c.args.m c.requires.pair
+            (omega (arith, c.place_at-at.ensures.value, c.place_at.ensures.value, c.if-place_at-at.false))
+            (omega (arith, c.place_at-at.ensures.value, c.prev_at-before.ensures.value, c.if-before-at.true));
+        keeps = omega arith;
+        steps = omega arith;
+      };
       falls = search rules;
     }

@@ -1,5 +1,5 @@
 use Rattle.std.proofs.Common.{rules}
-use Rattle.alta_journal.specs.declared.places.TheConstants.{HEAD_BYTES}
+use Rattle.alta_layout.specs.declared.places.TheConstants.{HEAD_BYTES}
 use Rattle.alta_store.proofs.Formatted.{behind_write, clear_write}
 use Rattle.alta_store.proofs.formatting.put_part.Goals as goal
 

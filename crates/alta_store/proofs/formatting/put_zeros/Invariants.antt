@@ -1,5 +1,5 @@
 use Rattle.std.proofs.Common.{◌≡◌, ◌≤◌, ◌-◌, drop}
-use Rattle.alta_journal.specs.declared.places.TheConstants.{HEAD_BYTES}
+use Rattle.alta_layout.specs.declared.places.TheConstants.{HEAD_BYTES}
 use Rattle.alta_store.specs.Clearing.{IsClear}
 use Rattle.alta_store.proofs.formatting.put_zeros.Given as goal
 

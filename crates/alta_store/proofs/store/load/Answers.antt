@@ -1,5 +1,7 @@
 use Rattle.std.proofs.Common.{arith, ◌≡◌, ◌<◌, List, ℕ, ap, map, refl, subst, ◌∙◌, sym}
 use Rattle.std.specs.List.{All}
+use Rattle.alta_layout.specs.Places.{half_start}
+use Rattle.alta_layout.specs.declared.slot.Slot.{Slot}
 use Rattle.alta_catalog.specs.Rows.{MayStart}
 use Rattle.alta_content.specs.Rows.{AreDocuments, end_of}
 use Rattle.alta_content.specs.declared.document.DocRow.{DocRow}
@@ -8,11 +10,9 @@ use Rattle.alta_table.specs.Tables.{Tables}
 use Rattle.std.specs.Prelude.{Err}
 use Rattle.alta_catalog.proofs.MayLaws.{may_start}
 use Rattle.alta_meaning.specs.Broken.{IsBrokenAt}
-use Rattle.alta_meaning.specs.Opened.{journal_of, table_rows, extent_of}
+use Rattle.alta_meaning.specs.Opened.{table_rows, extent_of}
 use Rattle.alta_journal.specs.Journal.{HasBrokenHalf}
 use Rattle.alta_journal.specs.Placed.{IsReplay}
-use Rattle.alta_journal.specs.Places.{start_of}
-use Rattle.alta_journal.specs.declared.half.Half.{Half}
 use Rattle.alta_journal.specs.declared.placed.Placed.{Placed}
 use Rattle.alta_root.specs.Slots.{Counts}
 use Rattle.alta_store.specs.Agreement.{KeepsOpened}
@@ -44,9 +44,8 @@ returns-in-Err-replay-clause-damaged g c = λ told place e.
     let has = c.in-Ok-open_levels.ensures.levels told slot counts in
     subst (λ (image : List ℕ). IsBrokenAt image place) (c.read_roots.ensures.reads.content told)
     (damaged_record middle slot root _ _ has c.in-Ok-open_levels.ensures.ends place
-    (subst (λ (image : List ℕ). HasBrokenHalf root.version (journal_of slot) place image) (c.open_levels.ensures.reads.content told)
-    (subst (λ (h : Half). HasBrokenHalf root.version (start_of h) place (g.D.Disk.state c.open_levels.new.disk).content) c.half_of.ensures
-    (c.in-Err-replay.ensures.damaged told place (of_damaged c.in-Err-replay.fault place (sym c.load_fault-in-Err-replay.ensures ∙ same_error _ _ e))))))
+    (subst (λ (image : List ℕ). HasBrokenHalf root.version (half_start slot) place image) (c.open_levels.ensures.retrieves.reads.content told)
+    (c.in-Err-replay.ensures.damaged told place (of_damaged c.in-Err-replay.fault place (sym c.load_fault-in-Err-replay.ensures ∙ same_error _ _ e)))))
 
 pub returns-in-Ok-catalog_of-clause-loaded : goal.returns-in-Ok-catalog_of-clause-loaded
 returns-in-Ok-catalog_of-clause-loaded g c = λ told.
@@ -57,11 +56,10 @@ returns-in-Ok-catalog_of-clause-loaded g c = λ told.
     let counts = subst (Counts slot root) (sym (c.read_roots.ensures.reads.content told)) (c.in-Ok.ensures.counts told) in
     let has = c.in-Ok-open_levels.ensures.levels told slot counts in
     subst (KeepsOpened _) (c.read_roots.ensures.reads.content told)
-    (loads middle slot root _ _ has c.in-Ok-open_levels.ensures.ends _ found refl refl refl c.in-Ok-catalog_of.ensures.follows (c.in-Ok-replay.ensures.half ∙ c.half_of.ensures) c.in-Ok-catalog_of.ensures.levels
+    (loads middle slot root _ _ has c.in-Ok-open_levels.ensures.ends _ found refl refl refl c.in-Ok-catalog_of.ensures.follows c.in-Ok-replay.ensures.slot c.in-Ok-catalog_of.ensures.levels
     c.in-Ok-open_levels.ensures.extents
-    (subst (λ (image : List ℕ). IsReplay root.version (journal_of slot) found c.in-Ok-replay.read.1.place image) (c.open_levels.ensures.reads.content told)
-    (subst (λ (h : Half). IsReplay root.version (start_of h) found c.in-Ok-replay.read.1.place (g.D.Disk.state c.open_levels.new.disk).content) c.half_of.ensures
-    (subst (λ (xs : List Placed). IsReplay root.version (start_of c.half_of.result) xs c.in-Ok-replay.read.1.place (g.D.Disk.state c.open_levels.new.disk).content) (sym c.deref-2.ensures.value) (c.in-Ok-replay.ensures.read told))))
+    (subst (λ (image : List ℕ). IsReplay root.version (half_start slot) found c.in-Ok-replay.read.1.place image) (c.open_levels.ensures.retrieves.reads.content told)
+    (subst (λ (xs : List Placed). IsReplay root.version (half_start slot) xs c.in-Ok-replay.read.1.place (g.D.Disk.state c.open_levels.new.disk).content) (sym c.deref-2.ensures.value) (c.in-Ok-replay.ensures.read told)))
     (subst (KnowsAll _ root c.in-Ok-open_levels.opened.levels.items found) c.deref.ensures.value c.in-Ok-catalog_of.ensures.knows))
 
 pub returns-in-Ok-catalog_of-clause-intact : goal.returns-in-Ok-catalog_of-clause-intact
@@ -88,10 +86,9 @@ returns-in-Err-catalog_of-clause-damaged g c = λ told place e.
     let middle = (g.D.Disk.state c.read_roots.new.disk).content in
     let counts = subst (Counts slot root) (sym (c.read_roots.ensures.reads.content told)) (c.in-Ok.ensures.counts told) in
     let has = c.in-Ok-open_levels.ensures.levels told slot counts in
-    let replay : IsReplay root.version (journal_of slot) found c.in-Ok-replay.read.1.place middle =
-    subst (λ (image : List ℕ). IsReplay root.version (journal_of slot) found c.in-Ok-replay.read.1.place image) (c.open_levels.ensures.reads.content told)
-    (subst (λ (h : Half). IsReplay root.version (start_of h) found c.in-Ok-replay.read.1.place (g.D.Disk.state c.open_levels.new.disk).content) c.half_of.ensures
-    (subst (λ (xs : List Placed). IsReplay root.version (start_of c.half_of.result) xs c.in-Ok-replay.read.1.place (g.D.Disk.state c.open_levels.new.disk).content) (sym c.deref-2.ensures.value) (c.in-Ok-replay.ensures.read told))) in
+    let replay : IsReplay root.version (half_start slot) found c.in-Ok-replay.read.1.place middle =
+    subst (λ (image : List ℕ). IsReplay root.version (half_start slot) found c.in-Ok-replay.read.1.place image) (c.open_levels.ensures.retrieves.reads.content told)
+    (subst (λ (xs : List Placed). IsReplay root.version (half_start slot) xs c.in-Ok-replay.read.1.place (g.D.Disk.state c.open_levels.new.disk).content) (sym c.deref-2.ensures.value) (c.in-Ok-replay.ensures.read told)) in
     let some = may_start root c.in-Ok-open_levels.opened.deleted.items c.in-Ok-open_levels.opened.levels.items in
     subst (λ (image : List ℕ). IsBrokenAt image place) (c.read_roots.ensures.reads.content told)
     (refused_entry middle slot root _ _ has c.in-Ok-open_levels.ensures.ends found place c.in-Ok-replay.read.1.place replay some.0 some.1
@@ -109,7 +106,7 @@ returns-in-Ok-catalog_of-clause-read g c = λ told slot root counts.
       arith,
       c.read_roots.ensures.reads.costs.taken,
       c.open_levels.ensures.taken told,
-      c.replay.ensures.taken.1,
+      c.replay.ensures.retrieves.reads.costs.taken,
       ap (λ (image : List ℕ). named_bytes found image) (c.read_roots.ensures.reads.content told),
       ap (λ (r : Root). named_bytes r before) same,
     )
@@ -123,7 +120,7 @@ returns-in-Err-catalog_of-clause-read g c = λ told slot root counts.
       arith,
       c.read_roots.ensures.reads.costs.taken,
       c.open_levels.ensures.taken told,
-      c.replay.ensures.taken.1,
+      c.replay.ensures.retrieves.reads.costs.taken,
       ap (λ (image : List ℕ). named_bytes found image) (c.read_roots.ensures.reads.content told),
       ap (λ (r : Root). named_bytes r before) same,
     )

@@ -34,5 +34,8 @@ loop-row-preserved c = record {
   grown = grown_more _ _ _ c.loop-row.invariant.grown c.in_ok-put_row.ensures.grown;
 }
 
-pub returns-clause-ok : goal.returns-clause-ok
-returns-clause-ok c = put_all documents_table row_bytes (record { number = c.loop-row.number; end = c.loop-row.end }) c.loop-row.row-index c.args.rows.now _ _ c.loop-row-test.false c.loop-row.invariant.spells
+pub returns : goal.returns
+returns c = record {
+  ok = put_all documents_table row_bytes (record { number = c.loop-row.number; end = c.loop-row.end }) c.loop-row.row-index c.args.rows.now _ _ c.loop-row-test.false c.loop-row.invariant.spells;
+  grown = c.loop-row.invariant.grown;
+}

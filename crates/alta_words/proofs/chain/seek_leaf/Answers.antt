@@ -7,13 +7,13 @@ use Rattle.alta_words.proofs.chain.seek_leaf.Goals as goal
 
 pub returns-clause-lists : goal.returns-clause-lists
 returns-clause-lists g c =
-    map-set_same leaf_list c.args.leaves.now c.args.j c.seek.new.self _ c.seek.ensures.list
+    map-set_same leaf_list c.args.leaves.now c.args.j c.seek.new.self _ c.seek.ensures.same_list
 
 pub returns-clause-places : goal.returns-clause-places
 returns-clause-places g c =
     map-set leaf_place c.args.leaves.now c.args.j c.seek.new.self
     ∙ ap (λ p. set (map leaf_place c.args.leaves.now) c.args.j p)
-    (c.seek.ensures.location
+    (c.seek.ensures.stands
     ∙ ap (λ l. first_from l c.args.to)
     (sym (get_or-map leaf_list c.args.leaves.now c.args.j _ [] c.requires.within)))
 

@@ -25,6 +25,6 @@ merge_levels-requires-clause-newest c =
         located = c.in_ok-opening.ensures.positive.1;
         behind = subst (λ (levels : List Tables). All (IsBefore root.next_number root.next_location) (table_rows levels)) (sym c.deref.ensures.value) c.in_ok-opening.ensures.below;
         are_added = record { space = tt; made = All-nil IsMade; behind = All-nil (IsFrom root.next_number root.next_location) };
-        content_is = ap₂ content_with c.new-2.ensures c.new-3.ensures;
+        content_is = ap₂ content_with c.new-2.ensures c.made_with.ensures;
       },
     )

@@ -14,4 +14,4 @@ returns-in-Ok-open_levels-clause-stand c =
     let counts = subst (λ (image : List ℕ). Counts c.in-Ok.roots.slot c.in-Ok.roots.root image) (sym (c.in-Ok.ensures.reads.content tt)) (c.in-Ok.ensures.counts tt) in
     let stand = c.read_levels_are_opened.ensures.found c.in-Ok.roots.slot c.in-Ok.roots.root c.in-Ok-open_levels.found.deleted.items c.in-Ok-open_levels.found.levels.items before.content bytes
     (c.in-Ok-open_levels.ensures.levels tt c.in-Ok.roots.slot counts) in
-    subst (λ (image : List ℕ). All (StandsOn image) c.in-Ok-open_levels.found.levels.items) (sym (c.in-Ok-open_levels.ensures.reads.content tt)) stand
+    subst (λ (image : List ℕ). All (StandsOn image) c.in-Ok-open_levels.found.levels.items) (sym (c.in-Ok-open_levels.ensures.retrieves.reads.content tt)) stand

@@ -1,11 +1,11 @@
 use Rattle.std.proofs.Common.{◌≡◌, ⊎_elim, ℕ, List, refl, arith}
-use Rattle.alta_root.specs.Places.{other}
+use Rattle.alta_layout.specs.Places.{other}
+use Rattle.alta_layout.specs.declared.slot.Slot.{Slot}
 use Rattle.alta_root.specs.Root.{next_sequence}
 use Rattle.alta_root.specs.Slots.{Counts}
 use Rattle.alta_root.specs.Switches.{MayFollow}
 use Rattle.alta_root.specs.declared.places.TheConstants.{VERSION}
 use Rattle.alta_root.specs.declared.root.Root.{Root}
-use Rattle.alta_root.specs.declared.slot.Slot.{Slot}
 use Rattle.alta_root.proofs.Frames.{may_follow, counts_sound}
 use Rattle.check_parts.proofs.roots.next_root.Goals as goal
 

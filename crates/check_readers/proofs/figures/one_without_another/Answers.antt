@@ -9,5 +9,5 @@ returns g c = λ space word other shows found five two.
     omega (
       arith,
       in_figures c.search.new.steps c.args.steps.now (lists c.args.snapshot.now.cuts) (length (list_of space word)) 5 2 five two
-          (c.search.ensures.rarest space _ shows found 0 word (omega arith)),
+          (c.search.ensures.steps.rarest space _ shows found 0 word (omega arith)),
     )

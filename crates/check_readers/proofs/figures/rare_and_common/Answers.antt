@@ -9,7 +9,7 @@ returns-clause-rare_first g c = λ space rare common shows found three one.
     omega (
       arith,
       in_figures c.search.new.steps c.args.steps.now (lists c.args.snapshot.now.cuts) (length (list_of space rare)) 3 1 three one
-          (c.search.ensures.rarest space _ shows found 0 rare (omega arith)),
+          (c.search.ensures.steps.rarest space _ shows found 0 rare (omega arith)),
     )
 
 pub returns-clause-common_first : goal.returns-clause-common_first
@@ -17,5 +17,5 @@ returns-clause-common_first g c = λ space rare common shows found three one.
     omega (
       arith,
       in_figures c.search.new.steps c.args.steps.now (lists c.args.snapshot.now.cuts) (length (list_of space rare)) 3 1 three one
-          (c.search.ensures.rarest space _ shows found 1 rare (omega arith)),
+          (c.search.ensures.steps.rarest space _ shows found 1 rare (omega arith)),
     )

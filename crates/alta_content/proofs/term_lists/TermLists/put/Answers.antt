@@ -47,8 +47,11 @@ invariant_of-self-2 c =
     let s = c.self.inside in
     (put_behind s.count s.row s.gap s.rows.items c.put_row.new.rows.items s.gaps.items c.put_gaps.new.gaps.items (list c) c.self.invariant.0 c.self.invariant.1 c.self.invariant.2 (rows_then c) (gaps_then c) (fits c)).1
 
-pub returns-clause-put : goal.returns-clause-put
-returns-clause-put c =
+pub returns : goal.returns
+returns c =
     let s = c.self.inside in
-    (put_behind s.count s.row s.gap s.rows.items c.put_row.new.rows.items s.gaps.items c.put_gaps.new.gaps.items (list c) c.self.invariant.0 c.self.invariant.1 c.self.invariant.2 (rows_then c) (gaps_then c) (fits c)).0
-    ∙ ap (λ (ls : List TermList). ls ++ list c ∷ []) c.self.view_is
+    record {
+      pushed = (put_behind s.count s.row s.gap s.rows.items c.put_row.new.rows.items s.gaps.items c.put_gaps.new.gaps.items (list c) c.self.invariant.0 c.self.invariant.1 c.self.invariant.2 (rows_then c) (gaps_then c) (fits c)).0
+          ∙ ap (λ (ls : List TermList). ls ++ list c ∷ []) c.self.view_is;
+      kept = tt;
+    }

@@ -1,4 +1,4 @@
-use Rattle.std.proofs.Common.{◌≡◌, [], ◌∷◌, ◌++◌, ap, ◌∙◌}
+use Rattle.std.proofs.Common.{rules, ◌≡◌, [], ◌∷◌, ◌++◌, ap, ◌∙◌}
 use Rattle.alta_disk.specs.Disk.{Same}
 use Rattle.alta_disk.specs.declared.event.Event.TheVariants.{Synced}
 use Rattle.alta_disk.specs.declared.memory.MemoryDisk.{MemoryDisk}
@@ -24,9 +24,13 @@ returns-in-Ok-clause-durable c =
     let events : c.sync.new.self.events.items ≡ old.events.items ++ Synced ∷ [] = cc (c.in-Ok.ensures.ok, c.fails_now.ensures.new) in
     synced_only old.first.items _ old.events.items _ first events
 
-pub returns-in-Ok-clause-images : goal.returns-in-Ok-clause-images
-returns-in-Ok-clause-images c =
+pub returns-in-Ok-clause-call : goal.returns-in-Ok-clause-call
+returns-in-Ok-clause-call c =
     let old = c.args.self.now.written in
     let first : c.sync.new.self.first.items ≡ old.first.items = cc (c.sync.ensures.first, c.fails_now.ensures.new) in
     let events : c.sync.new.self.events.items ≡ old.events.items ++ Synced ∷ [] = cc (c.in-Ok.ensures.ok, c.fails_now.ensures.new) in
-    passes_pushed old.first.items _ old.events.items _ Synced Same _ _ _ _ _ _ first events (synced_moves old.first.items old.events.items old.kept.sound old.kept.bytes)
+    record {
+      images = passes_pushed old.first.items _ old.events.items _ Synced Same _ _ _ _ _ _ first events (synced_moves old.first.items old.events.items old.kept.sound old.kept.bytes);
+      charges = search rules;
+      faults = search rules;
+    }

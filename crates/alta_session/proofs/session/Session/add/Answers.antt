@@ -32,7 +32,7 @@ pub returns-in-Ok-clause-answers : goal.returns-in-Ok-clause-answers
 returns-in-Ok-clause-answers g c =
     changed g.D.Disk.tells g.D.Disk.state c.args.disk.now c.add.new.disk c.args.self.now _ c.added.result (adding c.args.name.now c.args.title.now c.args.body.now) (λ m. task_of_add c.args.name.now c.args.title.now c.args.body.now m.state) _ c.added.ensures (added_is_none c.in-Ok.number) refl
     (record {
-      sound = search rules;
+      sound = (c.requires.can.sound.0, c.in-Ok.ensures.obeys.sound ∙ c.requires.can.sound.1);
       agrees = c.in-Ok.ensures.obeys.agrees;
       mark = λ told. tt;
       limit = omega (arith, c.requires.can.limit, c.add.ensures.obeys.costs.limit);

@@ -34,7 +34,7 @@ returns-in-Ok-clause-answers g c =
     let obeys = c.in-Ok.ensures.obeys intact.state c.in-Ok.number intact.knows (c.in-Ok.ensures.number intact.state intact.knows) in
     changed g.D.Disk.tells g.D.Disk.state c.args.disk.now c.delete.new.disk c.args.self.now _ c.deleted.result (deleting c.args.name.now) (λ m. task_of_delete c.args.name.now m.state) _ c.deleted.ensures (deleted_is_none c.in-Ok.number) refl
     (record {
-      sound = search rules;
+      sound = (c.requires.sound.0, obeys.sound ∙ c.requires.sound.1);
       agrees = obeys.agrees;
       mark = λ told. tt;
       limit = omega (arith, c.requires.limit, obeys.costs.limit);

@@ -1,4 +1,4 @@
-use Rattle.std.proofs.Common.{refl, ◌≡◌, ap, codes, Err, rules, arith}
+use Rattle.std.proofs.Common.{refl, ◌≡◌, ◌∙◌, ap, codes, Err, arith}
 use Rattle.std.specs.Prelude.{Some}
 use Rattle.alta_meaning.specs.Work.{flushes}
 use Rattle.alta_machine.specs.declared.document.State.{State}
@@ -23,7 +23,7 @@ returns-in-Ok-clause-answers g c =
     let obeys = c.in-Ok.ensures.obeys in
     changed g.D.Disk.tells g.D.Disk.state c.args.disk.now c.flush.new.disk c.args.self.now _ c.text.result (λ (s : State). (s, codes "ok\n")) (λ m. Some flushes) _ c.text.ensures ok_is_none refl
     (record {
-      sound = search rules;
+      sound = (c.requires.sound.0, obeys.sound ∙ c.requires.sound.1);
       agrees = obeys.agrees;
       mark = λ told. tt;
       limit = omega (arith, c.requires.limit, obeys.costs.limit);

@@ -1,4 +1,4 @@
-use Rattle.std.proofs.Common.{refl, ◌≡◌, ◌≤◌, ℕ, true, List, ◌++◌, inr, ap, sym, subst, ◌∙◌, codes, decimal, Err, rules, arith}
+use Rattle.std.proofs.Common.{refl, ◌≡◌, ◌≤◌, ℕ, true, List, ◌++◌, inr, ap, sym, subst, ◌∙◌, codes, decimal, Err, arith}
 use Rattle.std.proofs.lemmas.Bool.{false≢true}
 use Rattle.alta_disk.specs.Disk.{LeavesOnly}
 use Rattle.alta_meaning.specs.Standing.{StandsFor, StandsForEither}
@@ -30,7 +30,7 @@ returns-in-Ok-clause-answers g c =
     changed g.D.Disk.tells g.D.Disk.state c.args.disk.now c.replace.new.disk c.args.self.now _ c.replaced.result (adding c.args.name.now c.args.title.now c.args.body.now) (λ m. task_of_add c.args.name.now c.args.title.now c.args.body.now m.state) _ c.replaced.ensures
     (replaced_is_none c.in-Ok.numbers.0 c.in-Ok.numbers.1) refl
     (record {
-      sound = search rules;
+      sound = (c.requires.can.sound.0, obeys.sound ∙ c.requires.can.sound.1);
       agrees = obeys.agrees;
       mark = λ told. tt;
       limit = omega (arith, c.requires.can.limit, obeys.costs.limit);

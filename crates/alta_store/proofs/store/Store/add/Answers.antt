@@ -16,7 +16,7 @@ enter_add-requires-clause-number g c = λ s knows. (c.if-not-has_room.ensures s 
 pub returns-in-Ok-clause-obeys : goal.returns-in-Ok-clause-obeys
 returns-in-Ok-clause-obeys g c =
     changes_ok g.D.Disk.tells _ _ (with_added c.args.name.now c.args.title.now c.args.body.now) NoRefusal RefusesAdd 1 _ (g.D.Disk.state c.args.disk.now) (g.D.Disk.state c.enter_add.new.disk) c.args.self.now c.enter_add.new.self _ _
-    c.in-Ok.ensures.obeys
+    c.in-Ok.ensures
 
 pub returns-in-Ok-clause-number : goal.returns-in-Ok-clause-number
 returns-in-Ok-clause-number g c = λ s knows.
@@ -26,4 +26,4 @@ returns-in-Ok-clause-number g c = λ s knows.
 pub returns-in-Err-clause-obeys : goal.returns-in-Err-clause-obeys
 returns-in-Err-clause-obeys g c =
     changes_fault g.D.Disk.tells _ _ (with_added c.args.name.now c.args.title.now c.args.body.now) NoRefusal RefusesAdd 1 _ (g.D.Disk.state c.args.disk.now) (g.D.Disk.state c.enter_add.new.disk) c.args.self.now c.enter_add.new.self
-    c.failed.new.self _ _ c.failed.ensures.fault (λ e refused. absurd refused) c.in-Err.ensures.obeys
+    c.failed.new.self _ _ c.failed.ensures.fault (λ e refused. absurd refused) c.in-Err.ensures

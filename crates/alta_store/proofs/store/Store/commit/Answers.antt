@@ -1,12 +1,11 @@
 use Rattle.std.proofs.Common.{◌≡◌, ◌+◌, ◌≤◌, length, refl, sym, subst}
+use Rattle.alta_layout.specs.Places.{half_start}
 use Rattle.alta_disk.specs.Disk.{Passes}
 use Rattle.alta_journal.specs.Entry.{MayBeRecorded}
 use Rattle.alta_journal.specs.Journal.{Appended, Appends}
-use Rattle.alta_journal.specs.Places.{start_of}
 use Rattle.alta_journal.specs.Record.{body_of, record_of}
 use Rattle.alta_journal.specs.declared.entry.Entry.{Entry}
 use Rattle.alta_store.specs.Agreement.{room_of}
-use Rattle.alta_store.proofs.Changing.{costs_appended}
 use Rattle.alta_store.proofs.Commits.{ap_err, closed, enters_failed, enters_ok, never_full}
 use Rattle.alta_store.proofs.Room.{may_record, raised_not, short_of}
 use Rattle.alta_store.proofs.store.Store.commit.Goals as goal
@@ -37,15 +36,15 @@ returns-in-Ok-clause-enters g c = λ step steps.
     let b = g.D.Disk.state c.append.new.disk in
     let version = store.root.version in
     let may = may_record version entry c.requires.rules c.requires.typed (raised_not store entry c.requires.room) in
-    let start = start_of store.tail.half in
+    let start = half_start store.tail.slot in
     let place = store.tail.place in
     let is = c.requires.ready in
     enters_ok g.D.Disk.tells a (g.met.D.Disk.lawful c.args.disk.now) store c.requires.agrees entry c.requires.rules c.requires.typed c.requires.allowed c.requires.room
     b (subst (λ (e : Entry). Passes (Appends version start place e) a b) is (c.in-Ok.ensures.images version (subst (MayBeRecorded version) (sym is) may))) (g.met.D.Disk.lawful c.append.new.disk) c.in-Ok.ensures.durable
     (λ told. subst (λ (e : Entry). Appended version start place e a.content b.content) is (c.in-Ok.ensures.appended version (subst (MayBeRecorded version) (sym is) may) told))
-    _ refl refl refl (subst (λ (e : Entry). c.append.new.tail.place ≡ place + length (record_of e)) is c.in-Ok.ensures.tail) c.in-Ok.ensures.half refl c.apply_entry.ensures.levels c.in-Ok-true.ensures.still
+    _ refl refl refl (subst (λ (e : Entry). c.append.new.tail.place ≡ place + length (record_of e)) is c.in-Ok.ensures.tail) c.in-Ok.ensures.slot refl refl c.apply_entry.ensures.levels c.in-Ok-true.ensures.still
     (λ root entries follows. c.in-Ok-true.ensures.follows root entries follows c.in-Ok-true.field-0-test) (λ s knows. (c.in-Ok-true.ensures.allowed s knows c.in-Ok-true.field-0-test).1)
-    step steps _ (costs_appended _ _ c.in-Ok.ensures.faults c.in-Ok.ensures.taken c.in-Ok.ensures.same_limit)
+    step steps _ c.in-Ok.ensures.costs
 
 pub unreachable-requires-in-Err-Full : goal.unreachable-requires-in-Err-Full
 unreachable-requires-in-Err-Full g c =
@@ -60,10 +59,10 @@ returns-in-Err-Disk-clause-enters g c = λ step steps.
     let b = g.D.Disk.state c.append.new.disk in
     let version = store.root.version in
     let may = may_record version entry c.requires.rules c.requires.typed (raised_not store entry c.requires.room) in
-    let start = start_of store.tail.half in
+    let start = half_start store.tail.slot in
     let place = store.tail.place in
     let is = c.requires.ready in
     enters_failed g.D.Disk.tells a (g.met.D.Disk.lawful c.args.disk.now) store c.requires.agrees entry c.requires.rules c.requires.typed c.requires.allowed c.requires.room
     b (subst (λ (e : Entry). Passes (Appends version start place e) a b) is (c.in-Err-Disk.ensures.images version (subst (MayBeRecorded version) (sym is) may)))
     _ step steps _ refl (c.in-Err-Disk.ensures.cause (ap_err c.in-Err-Disk.field-0-is))
-    (costs_appended _ _ c.in-Err-Disk.ensures.faults c.in-Err-Disk.ensures.taken c.in-Err-Disk.ensures.same_limit)
+    c.in-Err-Disk.ensures.costs

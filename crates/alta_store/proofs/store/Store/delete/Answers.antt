@@ -12,11 +12,11 @@ pub returns-in-Ok-clause-obeys : goal.returns-in-Ok-clause-obeys
 returns-in-Ok-clause-obeys g c = λ s number knows named.
     obeys_as g.D.Disk.tells (Delete c.in-Some.number) (Delete number) (with_deleted c.args.name.now) NoRefusal (g.D.Disk.state c.args.disk.now) (g.D.Disk.state c.enter_delete.new.disk) c.args.self.now c.enter_delete.new.self _
     (ap (λ (n : ℕ). Delete n) (some_is c.in-Some.number number (c.in-Some.ensures.value s knows ∙ named)))
-    (changes_ok g.D.Disk.tells _ _ (with_deleted c.args.name.now) NoRefusal NoRefusal 1 _ (g.D.Disk.state c.args.disk.now) (g.D.Disk.state c.enter_delete.new.disk) c.args.self.now c.enter_delete.new.self _ _ c.in-Ok.ensures.obeys)
+    (changes_ok g.D.Disk.tells _ _ (with_deleted c.args.name.now) NoRefusal NoRefusal 1 _ (g.D.Disk.state c.args.disk.now) (g.D.Disk.state c.enter_delete.new.disk) c.args.self.now c.enter_delete.new.self _ _ c.in-Ok.ensures)
 
 pub returns-in-Err-clause-obeys : goal.returns-in-Err-clause-obeys
 returns-in-Err-clause-obeys g c = λ s number knows named.
     obeys_as g.D.Disk.tells (Delete c.in-Some.number) (Delete number) (with_deleted c.args.name.now) NoRefusal (g.D.Disk.state c.args.disk.now) (g.D.Disk.state c.enter_delete.new.disk) c.args.self.now c.failed.new.self _
     (ap (λ (n : ℕ). Delete n) (some_is c.in-Some.number number (c.in-Some.ensures.value s knows ∙ named)))
     (changes_fault g.D.Disk.tells _ _ (with_deleted c.args.name.now) NoRefusal NoRefusal 1 _ (g.D.Disk.state c.args.disk.now) (g.D.Disk.state c.enter_delete.new.disk) c.args.self.now c.enter_delete.new.self c.failed.new.self _ _
-    c.failed.ensures.fault (λ e refused. refused) c.in-Err.ensures.obeys)
+    c.failed.ensures.fault (λ e refused. refused) c.in-Err.ensures)

@@ -15,8 +15,8 @@ commit-requires-clause-allowed g c = λ s knows.
 pub commit-requires-clause-limit : goal.commit-requires-clause-limit
 commit-requires-clause-limit g c = omega (arith, c.in-Ok-make_room.ensures.makes.costs.limit, c.requires.limit)
 
-pub returns-in-Ok-make_room-clause-obeys : goal.returns-in-Ok-make_room-clause-obeys
-returns-in-Ok-make_room-clause-obeys g c = λ step steps.
+pub returns-in-Ok-make_room : goal.returns-in-Ok-make_room
+returns-in-Ok-make_room g c = λ step steps.
     let entry = c.args.entry.now in
     let intact = c.requires.agrees.intact in
     let makes = c.in-Ok-make_room.ensures.makes in
@@ -24,8 +24,8 @@ returns-in-Ok-make_room-clause-obeys g c = λ step steps.
     (changes_then g.D.Disk.tells _ _ _ _ step NoRefusal 1 0 _ (g.D.Disk.state c.args.disk.now) (g.D.Disk.state c.make_room.new.disk) (g.D.Disk.state c.commit.new.disk)
     c.args.self.now c.make_room.new.self c.commit.new.self _ makes (enters_finds entry) _ (c.commit.ensures.enters step (steps c.make_room.new.self intact.state intact.knows (makes.knows intact.state intact.knows))))
 
-pub returns-clause-obeys : goal.returns-clause-obeys
-returns-clause-obeys g c = λ step steps.
+pub returns : goal.returns
+returns g c = λ step steps.
     let entry = c.args.entry.now in
     obeys_entry g.D.Disk.tells entry c.requires.rules step (g.D.Disk.state c.args.disk.now) (g.D.Disk.state c.make_room.new.disk) c.args.self.now c.make_room.new.self _
     (changes_failed g.D.Disk.tells _ _ _ _ step NoRefusal 1 0 _ (g.D.Disk.state c.args.disk.now) (g.D.Disk.state c.make_room.new.disk) c.args.self.now c.make_room.new.self c.in-Err.fault c.in-Err.ensures.makes)

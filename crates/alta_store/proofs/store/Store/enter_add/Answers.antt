@@ -16,9 +16,9 @@ enter-requires-clause-rules g c = subst KeepsRules (sym c.in-Ok.ensures) (keeps_
 pub enter-requires-clause-allowed : goal.enter-requires-clause-allowed
 enter-requires-clause-allowed g c = λ s knows. subst (Allows s) (sym c.in-Ok.ensures) (c.requires.free s knows, c.requires.number s knows)
 
-pub returns-in-Ok-clause-obeys : goal.returns-in-Ok-clause-obeys
-returns-in-Ok-clause-obeys g c =
+pub returns-in-Ok : goal.returns-in-Ok
+returns-in-Ok g c =
     let step : State → State = with_added c.args.name.now c.args.title.now c.args.body.now in
     let entry : Entry = Add c.args.name.now c.args.title.now c.args.body.now in
     obeys_as g.D.Disk.tells c.in-Ok.entry entry step NoRefusal (g.D.Disk.state c.args.disk.now) (g.D.Disk.state c.enter.new.disk) c.args.self.now c.enter.new.self _ c.in-Ok.ensures
-    (c.enter.ensures.obeys step (subst (λ (e : Entry). IsStepFrom e step c.args.self.now) (sym c.in-Ok.ensures) (add_steps c.args.self.now c.args.name.now c.args.title.now c.args.body.now)))
+    (c.enter.ensures step (subst (λ (e : Entry). IsStepFrom e step c.args.self.now) (sym c.in-Ok.ensures) (add_steps c.args.self.now c.args.name.now c.args.title.now c.args.body.now)))

@@ -17,10 +17,10 @@ pub enter-requires-clause-allowed : goal.enter-requires-clause-allowed
 enter-requires-clause-allowed g c = λ s knows.
     subst (Allows s) (sym c.in-Ok.ensures) (replace_allowed c.args.self.now c.args.name.now c.args.number c.requires.named c.args.title.now c.args.body.now c.requires.left s knows)
 
-pub returns-in-Ok-clause-obeys : goal.returns-in-Ok-clause-obeys
-returns-in-Ok-clause-obeys g c =
+pub returns-in-Ok : goal.returns-in-Ok
+returns-in-Ok g c =
     let step : State → State = with_replaced c.args.name.now c.args.title.now c.args.body.now in
     let entry : Entry = Replace c.args.number c.args.name.now c.args.title.now c.args.body.now in
     obeys_as g.D.Disk.tells c.in-Ok.entry entry step NoRefusal (g.D.Disk.state c.args.disk.now) (g.D.Disk.state c.enter.new.disk) c.args.self.now c.enter.new.self _ c.in-Ok.ensures
-    (c.enter.ensures.obeys step (subst (λ (e : Entry). IsStepFrom e step c.args.self.now) (sym c.in-Ok.ensures)
+    (c.enter.ensures step (subst (λ (e : Entry). IsStepFrom e step c.args.self.now) (sym c.in-Ok.ensures)
     (replace_steps c.args.self.now c.args.name.now c.args.number c.requires.named c.args.title.now c.args.body.now)))

@@ -10,4 +10,4 @@ returns-then-is_one-clause-obeys g c = idle_merge g.D.Disk.tells (g.D.Disk.state
 pub returns-in-Err-clause-obeys : goal.returns-in-Err-clause-obeys
 returns-in-Err-clause-obeys g c =
     changes_fault g.D.Disk.tells _ _ (λ s. s) NoRefusal NoRefusal 1 _ (g.D.Disk.state c.args.disk.now) (g.D.Disk.state c.put_merged.new.disk) c.args.self.now c.put_merged.new.self c.failed.new.self _ _ c.failed.ensures.fault
-    (λ e refused. refused) c.in-Err.ensures.obeys
+    (λ e refused. refused) c.in-Err.ensures

@@ -16,8 +16,8 @@ use Rattle.alta_store.proofs.store.Store.move_join.Goals as goal
 pub take_join-requires-clause-stands : goal.take_join-requires-clause-stands
 take_join-requires-clause-stands g c = λ told. levels_stand g.D.Disk.tells (g.D.Disk.state c.args.disk.now) (g.met.D.Disk.lawful c.args.disk.now) c.args.self.now c.requires.agrees told
 
-pub returns-in-Err-clause-obeys : goal.returns-in-Err-clause-obeys
-returns-in-Err-clause-obeys g c =
+pub returns-in-Err : goal.returns-in-Err
+returns-in-Err g c =
     let tells = g.D.Disk.tells in
     let a = g.D.Disk.state c.args.disk.now in
     let b = g.D.Disk.state c.take_join.new.disk in
@@ -27,8 +27,8 @@ returns-in-Err-clause-obeys g c =
     (changes_unread tells _ _ 1 (two_of store) a b (g.met.D.Disk.lawful c.args.disk.now) (g.met.D.Disk.lawful c.take_join.new.disk) store c.take_join.new.self c.in-Err.fault c.requires.agrees
     (segments_read tells a (g.met.D.Disk.lawful c.args.disk.now) store c.requires.agrees store.job) c.in-Err.ensures.reads)
 
-pub returns-in-Ok-false-clause-obeys : goal.returns-in-Ok-false-clause-obeys
-returns-in-Ok-false-clause-obeys g c =
+pub returns-in-Ok-false : goal.returns-in-Ok-false
+returns-in-Ok-false g c =
     let tells = g.D.Disk.tells in
     let a = g.D.Disk.state c.args.disk.now in
     let b = g.D.Disk.state c.take_join.new.disk in
@@ -40,8 +40,8 @@ returns-in-Ok-false-clause-obeys g c =
     (undamaged_read tells (two_of store) a b c.in-Ok.job c.in-Ok.ensures.reads) c.requires.two c.in-Ok.job join c.args.n c.step_job.new.job c.in-Ok-false.ensures.moved
     (λ j is. sym (c.in-Ok-false.ensures.done j is) ∙ c.in-Ok-false.field-0-test) tt)
 
-pub returns-in-Err-drain-clause-obeys : goal.returns-in-Err-drain-clause-obeys
-returns-in-Err-drain-clause-obeys g c =
+pub returns-in-Err-drain : goal.returns-in-Err-drain
+returns-in-Err-drain g c =
     let tells = g.D.Disk.tells in
     let a = g.D.Disk.state c.args.disk.now in
     let b = g.D.Disk.state c.take_join.new.disk in
@@ -68,8 +68,8 @@ put-requires-clause-may g c =
           (subst (λ (s : Store). HasNewest s c.in-Ok-drain.newest) taken drain.content) drain.part _ (record { stay_from_is = refl; oldest_is = refl; newest_is = refl }) c.requires.few,
     )
 
-pub returns-clause-obeys : goal.returns-clause-obeys
-returns-clause-obeys g c =
+pub returns : goal.returns
+returns g c =
     let tells = g.D.Disk.tells in
     let a = g.D.Disk.state c.args.disk.now in
     let b = g.D.Disk.state c.take_join.new.disk in

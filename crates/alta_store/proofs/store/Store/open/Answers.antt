@@ -1,4 +1,5 @@
 use Rattle.std.proofs.Common.{◌≡◌, None, List, ℕ, inr, subst, sym, ap, arith, ◌∙◌, ◌≤◌}
+use Rattle.alta_layout.specs.declared.places.TheConstants.{HEAD_BYTES}
 use Rattle.alta_catalog.specs.Knowing.{gone_of}
 use Rattle.alta_opening.specs.Costs.{named_bytes}
 use Rattle.alta_root.specs.Slots.{Counts}
@@ -12,7 +13,6 @@ use Rattle.alta_store.proofs.GoingOn.{none_goes_on}
 use Rattle.alta_store.proofs.Loads.{if_ok, if_err, only_synced, held, opens_by}
 use Rattle.alta_rewrite.proofs.RunLaws.{done_as}
 use Rattle.alta_disk.specs.Disk.{Same}
-use Rattle.alta_journal.specs.declared.places.TheConstants.{HEAD_BYTES}
 use Rattle.alta_store.proofs.store.Store.open.Goals as goal
 
 pub returns-clause-agrees : goal.returns-clause-agrees
@@ -49,9 +49,9 @@ returns-clause-opens g c =
     let after = g.D.Disk.state c.load.new.disk in
     opens_by g.D.Disk.tells middle.content c.load.result c.load.ensures.loaded c.load.ensures.no_root c.load.ensures.damaged c.load.ensures.only before after c.sync.ensures.content
     (done_as c.load.result (HEAD_BYTES ≤ middle.limit) (HEAD_BYTES ≤ after.limit) (λ le. omega (arith, le, c.load.ensures.same_limit)) c.load.ensures.limit) (λ told. c.load.ensures.content told ∙ c.sync.ensures.content told) (passes_same before middle after Same c.sync.ensures.images c.load.ensures.images)
-    (λ e. omega (arith, c.load.ensures.cause e, c.sync.ensures.cause.later)) (omega (arith, c.sync.ensures.cause.later, c.load.ensures.faults))
+    (λ e. omega (arith, c.load.ensures.cause e, c.sync.ensures.charges.cause.later)) (omega (arith, c.sync.ensures.charges.cause.later, c.load.ensures.faults))
     (λ told slot root counts.
     let same = c.sync.ensures.content told in
     let read = c.load.ensures.read told slot root (subst (Counts slot root) (sym same) counts) in
-    omega (arith, read, ap (λ (image : List ℕ). named_bytes root image) same, c.sync.ensures.taken))
-    (c.load.ensures.same_limit ∙ c.sync.ensures.limit)
+    omega (arith, read, ap (λ (image : List ℕ). named_bytes root image) same, c.sync.ensures.charges.costs.taken))
+    (c.load.ensures.same_limit ∙ c.sync.ensures.charges.costs.limit)

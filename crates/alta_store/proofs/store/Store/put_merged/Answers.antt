@@ -38,8 +38,8 @@ merge_levels-requires-clause-newest g c =
           (sym drained.catalog.gone ∙ sym c.gone-gone.ensures.value) (newest_behind_levels store intact intact.entries intact.follows.content intact.follows.made c.in-Ok.newest c.in-Ok.ensures.content),
     )
 
-pub returns-in-Err-merge_levels-clause-obeys : goal.returns-in-Err-merge_levels-clause-obeys
-returns-in-Err-merge_levels-clause-obeys g c =
+pub returns-in-Err-merge_levels : goal.returns-in-Err-merge_levels
+returns-in-Err-merge_levels g c =
     let tells = g.D.Disk.tells in
     let a = g.D.Disk.state c.args.disk.now in
     let b = g.D.Disk.state c.merge_levels.new.disk in
@@ -47,7 +47,7 @@ returns-in-Err-merge_levels-clause-obeys g c =
     let drained = given_up store c.drain.new.self c.in-Ok.ensures.drained in
     let same = c.levels-levels.ensures ∙ sym (levels_now store c.drain.new.self drained) in
     let clauses = c.in-Err-merge_levels.ensures in
-    let read = read_failed {X = Content} tells c.levels-levels.result.now a b c.in-Err-merge_levels.fault c.load_fault.result c.load_fault.ensures clauses.damage clauses.broken clauses.cause clauses.reads in
+    let read = read_failed {X = Content} tells c.levels-levels.result.now a b c.in-Err-merge_levels.fault c.load_fault.result c.load_fault.ensures clauses.damage clauses.broken clauses.retrieves.cause clauses.retrieves.reads in
     let result : Result (Unit {0}) StoreFault = Err c.load_fault.result in
     subst (λ (joins : List Tables). ObeysOver tells merges joins a b store c.drain.new.self result) (sym (ap (λ (x : Bool). cond x [] (levels_of store)) c.requires.some))
     (changes_unread tells _ _ 1 (levels_of store) a b (g.met.D.Disk.lawful c.args.disk.now) (g.met.D.Disk.lawful c.merge_levels.new.disk) store c.drain.new.self c.load_fault.result c.requires.agrees
@@ -63,7 +63,7 @@ put-requires-clause-may g c =
     let same = c.levels-levels.ensures ∙ sym (levels_now store c.drain.new.self drained) in
     let still = c.gone-gone.ensures.value ∙ drained.catalog.gone in
     let clauses = c.in-Ok-merge_levels.ensures in
-    let read = subst (λ (levels : List Tables). ReadsLevels {T = Content} tells levels a b (Ok c.in-Ok-merge_levels.oldest)) same (read_done tells c.levels-levels.result.now a b c.in-Ok-merge_levels.oldest clauses.damage clauses.reads) in (
+    let read = subst (λ (levels : List Tables). ReadsLevels {T = Content} tells levels a b (Ok c.in-Ok-merge_levels.oldest)) same (read_done tells c.levels-levels.result.now a b c.in-Ok-merge_levels.oldest clauses.damage clauses.retrieves.reads) in (
       store,
       all_put tells a b b (g.met.D.Disk.lawful c.args.disk.now) (g.met.D.Disk.lawful c.merge_levels.new.disk) (g.met.D.Disk.lawful c.merge_levels.new.disk) store c.requires.agrees read.reads
           (undamaged_read tells (levels_of store) a b c.in-Ok-merge_levels.oldest read) c.drain.new.self drained c.in-Ok.ensures.job c.in-Ok-merge_levels.oldest c.in-Ok.newest c.in-Ok.ensures.content clauses.part no_part
@@ -72,8 +72,8 @@ put-requires-clause-may g c =
           (merged_as tells a.content store c.levels-levels.result.now c.gone-gone.result.now c.in-Ok-merge_levels.oldest c.in-Ok.newest same still clauses.merged),
     )
 
-pub returns-clause-obeys : goal.returns-clause-obeys
-returns-clause-obeys g c =
+pub returns : goal.returns
+returns g c =
     let tells = g.D.Disk.tells in
     let a = g.D.Disk.state c.args.disk.now in
     let b = g.D.Disk.state c.merge_levels.new.disk in
@@ -82,7 +82,7 @@ returns-clause-obeys g c =
     let same = c.levels-levels.ensures ∙ sym (levels_now store c.drain.new.self drained) in
     let still = c.gone-gone.ensures.value ∙ drained.catalog.gone in
     let clauses = c.in-Ok-merge_levels.ensures in
-    let read = subst (λ (levels : List Tables). ReadsLevels {T = Content} tells levels a b (Ok c.in-Ok-merge_levels.oldest)) same (read_done tells c.levels-levels.result.now a b c.in-Ok-merge_levels.oldest clauses.damage clauses.reads) in
+    let read = subst (λ (levels : List Tables). ReadsLevels {T = Content} tells levels a b (Ok c.in-Ok-merge_levels.oldest)) same (read_done tells c.levels-levels.result.now a b c.in-Ok-merge_levels.oldest clauses.damage clauses.retrieves.reads) in
     let whole = undamaged_read tells (levels_of store) a b c.in-Ok-merge_levels.oldest read in
     let rows = clauses.rows ∙ ap₂ (λ (gone : List ℕ) (levels : List Tables). live_rows gone (table_rows levels ++ c.in-Ok.newest.documents)) still same in
     let merged = merged_as tells a.content store c.levels-levels.result.now c.gone-gone.result.now c.in-Ok-merge_levels.oldest c.in-Ok.newest same still clauses.merged in

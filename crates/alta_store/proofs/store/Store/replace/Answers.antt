@@ -22,7 +22,7 @@ returns-in-Ok-clause-obeys g c = λ s number knows named.
     (g.D.Disk.state c.args.disk.now) (g.D.Disk.state c.enter_replace.new.disk) c.args.self.now c.enter_replace.new.self _
     (ap (λ (n : ℕ). Replace n c.args.name.now c.args.title.now c.args.body.now) (some_is c.in-Some.old number (c.in-Some.ensures.value s knows ∙ named)))
     (changes_ok g.D.Disk.tells _ _ (with_replaced c.args.name.now c.args.title.now c.args.body.now) NoRefusal RefusesReplace 1 _ (g.D.Disk.state c.args.disk.now) (g.D.Disk.state c.enter_replace.new.disk) c.args.self.now c.enter_replace.new.self _ _
-    c.in-Ok.ensures.obeys)
+    c.in-Ok.ensures)
 
 pub returns-in-Ok-clause-numbers_of : goal.returns-in-Ok-clause-numbers_of
 returns-in-Ok-clause-numbers_of g c = λ s knows.
@@ -34,4 +34,4 @@ returns-in-Err-clause-obeys g c = λ s number knows named.
     (g.D.Disk.state c.args.disk.now) (g.D.Disk.state c.enter_replace.new.disk) c.args.self.now c.failed.new.self _
     (ap (λ (n : ℕ). Replace n c.args.name.now c.args.title.now c.args.body.now) (some_is c.in-Some.old number (c.in-Some.ensures.value s knows ∙ named)))
     (changes_fault g.D.Disk.tells _ _ (with_replaced c.args.name.now c.args.title.now c.args.body.now) NoRefusal RefusesReplace 1 _ (g.D.Disk.state c.args.disk.now) (g.D.Disk.state c.enter_replace.new.disk) c.args.self.now c.enter_replace.new.self
-    c.failed.new.self _ _ c.failed.ensures.fault (λ e refused. absurd refused) c.in-Err.ensures.obeys)
+    c.failed.new.self _ _ c.failed.ensures.fault (λ e refused. absurd refused) c.in-Err.ensures)

@@ -23,7 +23,7 @@ move_join-requires-clause-few g c =
 pub returns-in-Err-clause-obeys : goal.returns-in-Err-clause-obeys
 returns-in-Err-clause-obeys g c =
     changes_fault g.D.Disk.tells _ _ (λ s. s) NoRefusal NoRefusal 1 _ (g.D.Disk.state c.args.disk.now) (g.D.Disk.state c.move_join.new.disk) c.args.self.now c.move_join.new.self c.failed.new.self _ _ c.failed.ensures.fault
-    (λ e refused. refused) c.in-Err.ensures.obeys
+    (λ e refused. refused) c.in-Err.ensures
 
 pub returns-in-Err-clause-idle : goal.returns-in-Err-clause-idle
 returns-in-Err-clause-idle g c = λ few.

@@ -1,4 +1,4 @@
-use Rattle.std.proofs.Common.{◌≡◌, ℕ, List, ◌<◌, ◌≤◌, get_or, arith}
+use Rattle.std.proofs.Common.{◌≡◌, ℕ, List, ◌<◌, ◌≤◌, get_or, refl, arith}
 use Rattle.alta_codec.specs.Rising.{IsRising, count_from, first_from}
 use Rattle.alta_codec.specs.declared.location.TheConstants.{TOP}
 use Rattle.alta_codec.proofs.ByIndex.{first_from-at, before_at, at_place}
@@ -13,13 +13,17 @@ pub index_from-self-requires-clause-passed : goal.index_from-self-requires-claus
 index_from-self-requires-clause-passed g c =
     λ k h. omega (arith, before_at c.args.self.now.list.now c.args.self.now.at k c.requires.sound.0 h (omega arith), c.requires.above)
 
-pub returns-clause-location : goal.returns-clause-location
-returns-clause-location g c =
-    first_from-at c.args.self.now.list.now c.index_from-self.result c.args.to c.requires.sound.0 c.requires.top c.index_from-self.ensures.before c.index_from-self.ensures.found
-
-pub returns-clause-falls : goal.returns-clause-falls
-returns-clause-falls g c =
-    falls c.args.self.now.list.now c.args.self.now.at c.index_from-self.result c.args.to c.requires.sound.0 c.requires.above c.requires.top (returns-clause-location g c)
-
-pub returns-clause-steps : goal.returns-clause-steps
-returns-clause-steps g c = omega (arith, c.tick.ensures, returns-clause-falls g c)
+pub returns : goal.returns
+returns g c =
+    let xs = c.args.self.now.list.now in let rising = c.requires.sound.0 in
+    let at = first_from-at xs c.index_from-self.result c.args.to rising c.requires.top c.index_from-self.ensures.before c.index_from-self.ensures.found in
+    let less = falls xs c.args.self.now.at c.index_from-self.result c.args.to rising c.requires.above c.requires.top at in
+    record {
+      sound = (rising, c.index_from-self.ensures.within);
+      same_list = refl;
+      stands = at;
+      falls = less;
+      steps = omega (arith, c.tick.ensures, less);
+      cost = omega (arith, c.tick.ensures);
+      one = c.tick.ensures;
+    }
