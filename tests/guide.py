@@ -5,7 +5,7 @@ usage: tests/guide.py [--program PATH] [FILE ..]
 
 The blocks of one file run in one new folder, in their order: `sh` blocks by a shell that stops at the first command that
 fails, `python` blocks by Python. A `text` block holds all that the block before it printed. Any other kind of block, or one
-that is not closed, is a fault, so that none is passed over. `rt ci` is left out, since it runs this check.
+that is not closed, is a fault, so that none is passed over. `.ci/run` is left out, since it runs this check.
 """
 
 import argparse
@@ -75,7 +75,7 @@ def prepare(folder, program):
 
 def commands(text):
     """The commands of a block, without the gate."""
-    kept = [line for line in text.split("\n") if not re.fullmatch(r"rt ci\s*(#.*)?", line)]
+    kept = [line for line in text.split("\n") if not re.fullmatch(r"\.ci/run\s*(#.*)?", line)]
     text = "\n".join(kept)
     status = "/var/lib/dpkg/status"
     if status in text and not os.path.exists(status):

@@ -344,9 +344,9 @@ class InputTooLong(Ended):
 
 
 class IndexExists(Ended):
-    """Status 10: the file that was to be made is an index already."""
+    """Status 10: the file that was to be made is an index already; or, by the launcher, it holds something else."""
 
-    advice = "an index is never written over"
+    advice = "no file that holds something is ever made an index"
     stored = ""
 
 
@@ -1256,7 +1256,7 @@ class _Said:
 
     status_line = re.compile(
         "alta: (usage: .*|(disk|input|output) fault|out of memory|damaged at [0-9]+|no index|"
-        "full, need [0-9]+, greatest gap [0-9]+|input too long|index exists)"
+        "full, need [0-9]+, greatest gap [0-9]+|input too long|index exists|not empty, and no index)"
     )
 
     def __init__(self, file):
